@@ -11,7 +11,7 @@
  * - malloc, realloc and free come from one allocator. A call allocates with them, and has freed all when it returns.
  *   So none is made from a signal handler, or in the forked child of a process with threads.
  *
- * Nothing is global, and nothing stays behind a call: calls from several threads need no lock.
+ * Nothing is global, and nothing stays after a call: calls from several threads need no lock.
  *
  * A memory of `size` bytes is given by its bytes, that of address 0 first, and a bitmap of those that are there: bit
  * n % 8 (the lowest is 0) of octet n / 8 is 1 where address n holds a byte.
@@ -41,7 +41,7 @@ enum {
 /* Faults. Those of a line come with its number. */
 enum {
     AVR_RECORDS_BAD_MARK = 1,      /* the line begins neither with ':', nor with 'S' and a decimal digit */
-    AVR_RECORDS_BAD_DIGIT = 2,     /* behind the mark stands something else than hexadecimal digits */
+    AVR_RECORDS_BAD_DIGIT = 2,     /* after the mark stands something else than hexadecimal digits */
     AVR_RECORDS_BAD_LENGTH = 3,    /* another number of digits than the record says, or than its type wants */
     AVR_RECORDS_BAD_SUM = 4,       /* the checksum isn't that of the record's other bytes */
     AVR_RECORDS_BAD_TYPE = 5,      /* there is no record of this type */
@@ -67,17 +67,29 @@ struct avr_records_outcome {
     bool ended;       /* whether the end record came; a file cut short at a line's end reads well but for this */
 };
 
+/* Where a file that is written stands; only avr_records_write changes these numbers. */
+struct avr_records_cursor {
+    uint32_t address;     /* the bytes below this address are in lines that went out */
+    uint32_t gone;        /* how many bytes of the next line went out */
+    uint16_t upper;       /* of Intel HEX: the upper half of the address that is in force */
+    uint8_t address_size; /* of S-records: how many bytes an address has, 2 to 4; 0 at the beginning */
+    uint8_t ended;        /* whether the end record went out: 1, or 0 */
+};
+
+/* A cursor at a file's beginning: struct avr_records_cursor cursor = AVR_RECORDS_START; */
+#define AVR_RECORDS_START {0, 0, 0, 0, 0}
+
 /* How much of a file was put, all that the room takes, or how long it is; where `fault` is 0. */
 struct avr_records_piece {
-    size_t length; /* in bytes; 0 behind the file's end */
+    size_t length; /* in bytes; less than the room takes, or 0, at the file's end */
     uint8_t fault; /* 0, or the number of the fault */
 };
 
 /*
- * Tells the format of a file (AVR_RECORDS_RAW, _IHEX, _SREC or _ELF) from its front, of which the first 1,024 bytes are
+ * Tells the format of a file (AVR_RECORDS_RAW, _IHEX, _SREC or _ELF) from its first bytes, of which 1,024 are
  * looked at.
  */
-uint8_t avr_records_detect(const uint8_t *front, size_t length);
+uint8_t avr_records_detect(const uint8_t *first, size_t length);
 
 /*
  * Reads a whole file of a format (AVR_RECORDS_IHEX or _SREC) into the bytes of a memory, FF where the file has none,
@@ -92,22 +104,29 @@ struct avr_records_outcome avr_records_read(uint8_t format, const uint8_t *file,
                                             uint8_t *bytes, size_t size, uint8_t *present, size_t octets);
 
 /*
- * Puts a piece of the file of a memory, in a format (AVR_RECORDS_IHEX or _SREC), into a room: the file's bytes from the
- * one numbered `from` on (the first is 0), as many as the room takes. The file has the bytes that the bitmap says, in
- * records of at most 32 bytes, and the end record; no header, and no start address (0 in the end record of S-records).
- * After a fault the room is as it was.
+ * Puts the next piece of the file of a memory, in a format (AVR_RECORDS_IHEX or _SREC), into a room: as many bytes as
+ * the room takes, or as are left. The cursor says where the file stands, and then where the next call goes on; at the
+ * file's beginning it is AVR_RECORDS_START. So the pieces of calls with one cursor, joined, are the file, whatever
+ * rooms they got; a piece shorter than its room is the last one. A call takes no memory, and its time is that of the
+ * bytes that it puts, of the gap before them, and of a line, which is made again where a room cut it. (At the beginning
+ * S-records ask where the last byte of the memory is.)
  *
- * Each call makes the whole file anew in memory of its own: ask avr_records_length once, and take a room for all of it.
+ * The file has the bytes that the bitmap says, in records of at most 32 bytes, and the end record; no header, and no
+ * start address (0 in the end record of S-records).
+ *
  * AVR_RECORDS_MISFIT: another format; a memory of 2 to the power 32 bytes or more; a bitmap that doesn't have
- * AVR_RECORDS_BITMAP(size) octets.
+ * AVR_RECORDS_BITMAP(size) octets; a cursor with `ended` above 1, or for AVR_RECORDS_SREC with an `address_size` of 1
+ * or above 4. Then room and cursor are as they were. A cursor that was changed otherwise, or one of another memory or
+ * format, is taken at its word: what comes may be no file, and all else that is said here holds.
  */
 struct avr_records_piece avr_records_write(uint8_t format, const uint8_t *bytes, size_t size,
-                                           const uint8_t *present, size_t octets, size_t from,
-                                           uint8_t *room, size_t length);
+                                           const uint8_t *present, size_t octets,
+                                           struct avr_records_cursor *cursor, uint8_t *room, size_t length);
 
 /*
- * Tells how many bytes the file of a memory has, in a format (AVR_RECORDS_IHEX or _SREC). It makes the file for that,
- * as avr_records_write does, and has the same faults, with which the length is 0.
+ * Tells how many bytes the file of a memory has, in a format (AVR_RECORDS_IHEX or _SREC), for a room that is to take
+ * all of it. It makes the file for that, in memory of its own, and has the faults of arguments that don't fit one
+ * another and of memory, with which the length is 0.
  */
 struct avr_records_piece avr_records_length(uint8_t format, const uint8_t *bytes, size_t size,
                                             const uint8_t *present, size_t octets);

@@ -30,9 +30,10 @@ PROVED = TOP / "crates/avrstk/out/avrstk"
 # the scripts beside this one, and one that counts calls of the system
 SCRIPTS = (
     *("avrdude", "build", "chips", "claims", "cuts_and_stalls", "examples", "faults", "from_c", "hostile", "lines"),
-    *("made_frames", "manual", "mega", "others", "parts", "programmer", "runs", "serial", "vendor", "why", "calls"),
+    *("made_frames", "manual", "measure", "mega", "others", "parts", "programmer", "runs", "serial", "vendor", "why"),
+    "calls",
 )
-COMMANDS = {"calls": [TOP / "bench/run.py", "--calls"]}
+COMMANDS = {"calls": [TOP / "bench/run.py", "--calls"], "measure": [TOP / "tests/measure.py", "--check"]}
 
 # those that need what rt ci alone leaves, or take long
 PROVED_ONLY = ("cuts_and_stalls", "examples", "faults", "from_c", "mega", "others")

@@ -5,18 +5,23 @@ damaged files; is left out where there is no C compiler.
     tests/from_c.py [CASE ..]
 """
 
+import importlib.util
 import os
 import random
 import shutil
 import subprocess
 import sys
 import tempfile
+import time
 from pathlib import Path
 
 from cases import leave_out, named, run_cases, same
 
 ROOT = Path(__file__).resolve().parent.parent
 IMAGES = 60
+CURSORS = 2000
+SECONDS = 20
+USAGE = "records FILE SIZE ihex|srec [ROOM]"
 
 
 def checksum(fields):
@@ -87,8 +92,9 @@ class Library:
         words += [ROOT / "examples/c/records.c", folder / "libavr_records.a", "-o", self.program]
         subprocess.run(words, check=True)
 
-    def written(self, file, size, kind):
-        return subprocess.run([self.program, file, str(size), kind], capture_output=True, check=True).stdout
+    def written(self, file, size, kind, *room):
+        words = [self.program, file, str(size), kind, *map(str, room)]
+        return subprocess.run(words, capture_output=True, check=True).stdout
 
     def refused(self, *words):
         done = subprocess.run([self.program, *words], capture_output=True, text=True)
@@ -101,6 +107,14 @@ class Library:
 
     def printed(self, file, size):
         return self.by_python(file, str(size), check=True).stdout.decode().splitlines()
+
+    def in_python(self):
+        """examples/python/records.py as a module, and the library as it loads it."""
+        spec = importlib.util.spec_from_file_location("records", ROOT / "examples/python/records.py")
+        records = importlib.util.module_from_spec(spec)
+        spec.loader.exec_module(records)
+        os.environ["AVR_RECORDS_LIBRARY"] = str(self.folder / "libavr_records.so")
+        return records, records.load()
 
     def by_python(self, *words, check=False):
         environment = os.environ | {"AVR_RECORDS_LIBRARY": str(self.folder / "libavr_records.so")}
@@ -136,6 +150,85 @@ def images_come_back(library):
             same(f"seed {seed} printed", library.printed(file, size), shown(image))
 
 
+def pieces_join(library):
+    """However small the room, the pieces are the file."""
+    for seed in range(IMAGES):
+        image, size = drawn(seed)
+        if size > 65_537:
+            continue
+        file = library.folder / f"pieces {seed}"
+        file.write_bytes(ihex_of(image))
+        for kind in ("ihex", "srec"):
+            text = library.written(file, size, kind, 1 << 20)
+            for room in (1, 7, 80, len(text), len(text) + 1):
+                same(f"seed {seed} as {kind} by {room}", library.written(file, size, kind, room), text)
+
+
+def lengths_are_told(library):
+    records, loaded = library.in_python()
+    for seed in range(IMAGES):
+        image, size = drawn(seed)
+        if size > 65_537:
+            continue
+        data, present = bytearray(size), bytearray((size + 7) // 8)
+        for address, byte in image.items():
+            data[address] = byte
+            present[address // 8] |= 1 << address % 8
+        for kind in (1, 2):
+            told = loaded.avr_records_length(kind, *records.lent(data), *records.lent(present))
+            text = b"".join(records.pieces(loaded, kind, data, present, 80))
+            same(f"seed {seed}, the length of {kind}", (told.length, told.fault), (len(text), 0))
+
+
+def time_is_linear(library):
+    """A file of some 11 MB comes in small rooms in seconds."""
+    size = 4 << 20
+    file = library.folder / "large"
+    rows = (b"\x10" + (n & 0xFFF0).to_bytes(2, "big") + b"\0" + bytes(16) for n in range(0, size, 16))
+    lines = []
+    for n, row in enumerate(rows):
+        if n % 4096 == 0:
+            upper = b"\x02\0\0\x04" + (n // 4096).to_bytes(2, "big")
+            lines.append(":" + (upper + bytes([checksum(upper)])).hex())
+        lines.append(":" + (row + bytes([checksum(row)])).hex())
+    file.write_text("\n".join(lines + [":00000001ff", ""]))
+    for kind in ("ihex", "srec"):
+        text = library.written(file, size, kind, 16 << 20)
+        begun = time.monotonic()
+        same(f"{kind} by 4096", library.written(file, size, kind, 4096) == text, True)
+        same(f"{kind} by 80", library.written(file, size, kind, 80) == text, True)
+        taken = time.monotonic() - begun
+        same(f"{kind} took {taken:.1f} of {SECONDS} s", taken < SECONDS, True)
+
+
+def cursors_are_judged(library):
+    """A cursor of any numbers is taken or refused by these, and nothing beside room and cursor is changed."""
+    records, loaded = library.in_python()
+    draw = random.Random(0)
+    data, present = bytearray(draw.randbytes(70_000)), bytearray(draw.randbytes(8750))
+    for _ in range(CURSORS):
+        kind = draw.choice((1, 2))
+        numbers = (
+            draw.choice((0, 1, 69_999, 70_000, 65_536, draw.randrange(1 << 32))),
+            draw.choice((0, 1, 79, 80, 5000, draw.randrange(1 << 32))),
+            draw.randrange(1 << 16),
+            draw.randrange(7),
+            draw.choice((0, 0, 0, 1, 2, 255)),
+        )
+        room = bytearray(draw.choice((0, 1, 79, 300)))
+        guarded = bytearray(b"\xa5" * 16) + room + bytearray(b"\xa5" * 16)
+        cursor = records.Cursor(*numbers)
+        part = (records.ctypes.c_uint8 * len(room)).from_buffer(guarded, 16)
+        piece = loaded.avr_records_write(kind, *records.lent(data), *records.lent(present), cursor, part, len(room))
+        bad = numbers[4] > 1 or kind == 2 and numbers[3] in (1, 5, 6)
+        same(f"{kind} {numbers}", piece.fault, 11 if bad else 0)
+        del part
+        same(f"beside {numbers}", (guarded[:16], guarded[-16:]), (b"\xa5" * 16, b"\xa5" * 16))
+        if bad:
+            after = tuple(getattr(cursor, name) for name, _ in records.Cursor._fields_)
+            same(f"behind {numbers}", (piece.length, after, guarded[16:-16]), (0, numbers, room))
+
+
 def faults_are_told(library):
     file = library.folder / "damaged"
     for text, size, told in (
@@ -158,7 +251,7 @@ def faults_are_told(library):
 def sizes_are_judged(library):
     file = ROOT / "examples/blink.hex"
     for size in ("", "-1", " 5", "5x", "4294967296", "18446744073709551616"):
-        same(f"size '{size}'", library.refused(file, size, "ihex"), (2, "", "usage: records FILE SIZE ihex|srec\n"))
+        same(f"size '{size}'", library.refused(file, size, "ihex"), (2, "", f"usage: {USAGE}\n"))
 
 
 def only_its_calls_are_seen(library):
@@ -177,7 +270,17 @@ def only_its_calls_are_seen(library):
 
 
 def main():
-    looks = named(files_come_back, images_come_back, faults_are_told, sizes_are_judged, only_its_calls_are_seen)
+    looks = named(
+        files_come_back,
+        images_come_back,
+        pieces_join,
+        lengths_are_told,
+        time_is_linear,
+        cursors_are_judged,
+        faults_are_told,
+        sizes_are_judged,
+        only_its_calls_are_seen,
+    )
     if shutil.which(os.environ.get("CC", "cc")) is None:
         return run_cases({name: lambda name=name: leave_out(name, "there is no C compiler") for name in looks}, __doc__)
     with tempfile.TemporaryDirectory() as folder:

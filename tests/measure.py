@@ -1,8 +1,10 @@
 #!/usr/bin/env python3
 """How large the project is and how it reads: what can be counted in its sources.
 
-    tests/measure.py         the tables (docs/ARCHITECTURE has those of the last change that was measured)
-    tests/measure.py -v      also the places: lines over 120 columns, the widest definitions, names with several meanings
+    tests/measure.py            the table, which docs/ARCHITECTURE has too
+    tests/measure.py -v         also the places: lines over 120 columns, the widest definitions, names with several meanings
+    tests/measure.py --write    puts it into docs/ARCHITECTURE
+    tests/measure.py --check    whether it stands there
 
 Only files that git knows of are read. Lines of code are those of src/ without tests, blank lines, comments and contracts;
 contracts are the clauses of functions, definitions specs/, proofs proofs/, each without blank lines, comments and `use`
@@ -17,11 +19,16 @@ from collections import defaultdict
 from pathlib import Path
 
 TOP = Path(__file__).resolve().parent.parent
+PAGE = TOP / "docs/ARCHITECTURE.md"
 WIDEST = 120
+SHARED = "Types of data that several crates have under one name: "
+SEVERAL = "Names that are defined in more than one file of specs/ with another meaning in each: "
 
 CLAUSE = re.compile(r"^\s*(?:requires|ensures)\b")
 FUNCTION = re.compile(r"^\s*(pub |pub\(crate\) )?(?:const |unsafe )?fn (\w+)")
 HEADER = re.compile(r"^\s*(?:(?:abbrev|unfoldable) pub|pub (record|data)) (\S+)(.*)")
+TYPE = re.compile(r"(?:pub(?:\(crate\))? )?(?:struct|enum|trait|type) (\w+)")
+DATA = re.compile(r"(?:pub (?:record|data)|abbrev pub(?= [A-Z]\w* : Type 0$)) ([A-Z]\w*)")
 TEST = re.compile(r"/src/(?:.*/)?(?:\w*tests?|examples)(?:/|\.rt)")
 
 
@@ -163,21 +170,55 @@ def meanings():
     return {defined: sorted(where.values()) for defined, where in texts.items() if len(where) > 1}
 
 
-def main():
+def types():
+    """Names of types, of the sources or of definitions, that more than one crate has; a definition and a type of one
+    crate that have a name in common are taken to be one."""
+    places = defaultdict(set)
+    for name, files in CRATES.items():
+        for file in files:
+            pattern = TYPE if "/src/" in file and not TEST.search(file) else DATA if "/specs/" in file else None
+            for line in lines_of(file) if pattern else ():
+                if found := pattern.match(line):
+                    places[found.group(1)].add(name)
+    return {defined: sorted(where) for defined, where in places.items() if len(where) > 1}
+
+
+def figures():
+    """The table, a line for each crate, and how many names have several meanings."""
     titles = ["Crate", "Code", "Contracts", "Definitions", "Proofs", "Wide lines", "in proofs", "Longest clause line",
               "Clauses, mean", "Clauses, most", "Widest definition"]
-    print("| " + " | ".join(titles) + " |")
-    print("| --- |" + " ---: |" * (len(titles) - 1))
     rows = {name: measured(name) for name in CRATES}
+    table = ["| " + " | ".join(titles) + " |", "| --- |" + " ---: |" * (len(titles) - 1)]
     for name, row in rows.items():
-        print(f"| {name} | " + " | ".join(f"{x:.1f}" if isinstance(x, float) else str(x) for x in row) + " |")
+        table.append(f"| {name} | " + " | ".join(f"{x:.1f}" if isinstance(x, float) else str(x) for x in row) + " |")
     sums = [str(sum(row[i] for row in rows.values())) for i in range(6)]
     most = [max(row[i] for row in rows.values()) for i in (6, 8, 9)]
-    print("| in all | " + " | ".join(sums) + f" | {most[0]} | | {most[1]} | {most[2]} |")
-    several = meanings()
-    print(f"\nNames that are defined in more than one file of specs/ with another meaning in each: {len(several)}")
+    table.append("| in all | " + " | ".join(sums) + f" | {most[0]} | | {most[1]} | {most[2]} |")
+    return "\n".join(table), f"{SEVERAL}{len(meanings())}", f"{SHARED}{len(types())}"
+
+
+def with_figures(page):
+    """The page with the table and the count in their places."""
+    table, several, shared = figures()
+    head, rest = page.split("| Crate | Code |", 1)
+    behind = rest.split("\n\n", 1)[1]
+    page = re.sub(rf"{SEVERAL}\d+", several, f"{head}{table}\n\n{behind}")
+    return re.sub(rf"{SHARED}\d+", shared, page)
+
+
+def main():
+    page = PAGE.read_text()
+    if "--check" in sys.argv:
+        same = with_figures(page) == page
+        print("1 passed, 0 failed" if same else f"{PAGE.name} has other figures: tests/measure.py --write\n0 passed, 1 failed")
+        sys.exit(0 if same else 1)
+    if "--write" in sys.argv:
+        PAGE.write_text(with_figures(page))
+        return
+    print("\n\n".join(figures()))
     if "-v" in sys.argv:
-        print("\n".join(f"  {name}: {', '.join(where)}" for name, where in sorted(several.items())))
+        print("\n".join(f"  {name}: {', '.join(where)}" for name, where in sorted(meanings().items())))
+        print("\n".join(f"  {name}: {', '.join(where)}" for name, where in sorted(types().items())))
         print("\nThe widest definitions:")
         print("\n".join(f"  {size} {where}" for size, where in sorted(ARGUMENTS, reverse=True)[:20]))
         print("\nLines over 120 columns, imports and proofs aside:")

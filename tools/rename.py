@@ -16,6 +16,7 @@ import sys
 from pathlib import Path
 
 TOP = Path(__file__).resolve().parent.parent
+IMPORT = re.compile(r"\s*(?:pub |ghost )*use ")
 # what may stand in a name
 PART = r"[\w'◌]"
 
@@ -63,7 +64,11 @@ class Renaming:
         return "\n".join(self.renamed_line(line, names) for line in text.split("\n"))
 
     def renamed_line(self, line, names):
-        """In a comment it is the definition only where it is marked as code."""
+        """In a comment it is the definition only where it is marked as code, and in an import among what is imported
+        from its module."""
+        if IMPORT.match(line):
+            path, brace, listed = line.partition("{")
+            return path + brace + word(self.old).sub(self.new, listed) if f"{self.module}." in path else line
         for name in names:
             new = name[: -len(self.old)] + self.new
             if line.lstrip().startswith(("--", "//")):

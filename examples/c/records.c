@@ -1,5 +1,6 @@
-/* Writes a record file anew, as Intel HEX or as S-records: records FILE SIZE ihex|srec >OUT
- * SIZE is the memory's, in bytes. cc -I../../include records.c libavr_records.a, or where the library is installed
+/* Writes a record file anew, as Intel HEX or as S-records: records FILE SIZE ihex|srec [ROOM] >OUT
+ * SIZE is the memory's, in bytes; ROOM is how many bytes are written at a time (4096).
+ * cc -I../../include records.c libavr_records.a, or where the library is installed
  * cc records.c $(pkg-config --cflags --libs avr_records) */
 #include "avr_records.h"
 
@@ -39,16 +40,17 @@ static bool is_size(const char *word, size_t *size) {
     return word[0] >= '0' && word[0] <= '9' && *end == '\0' && errno == 0 && told <= UINT32_MAX;
 }
 
-/* Prints the memory's file; the number of the fault, or 0. */
-static uint8_t print(uint8_t format, const uint8_t *bytes, size_t size, const uint8_t *present) {
-    size_t octets = AVR_RECORDS_BITMAP(size);
-    struct avr_records_piece all = avr_records_length(format, bytes, size, present, octets);
-    if (all.fault != 0) return all.fault;
-    uint8_t *room = malloc(all.length);
+/* Prints the memory's file, piece by piece, as a device would get it; the number of the fault, or 0. */
+static uint8_t print(uint8_t format, const uint8_t *bytes, size_t size, const uint8_t *present, size_t length) {
+    struct avr_records_cursor cursor = AVR_RECORDS_START;
+    struct avr_records_piece piece;
+    uint8_t *room = malloc(length);
     if (room == NULL) return AVR_RECORDS_NO_MEMORY;
-    struct avr_records_piece piece = avr_records_write(format, bytes, size, present, octets, 0, room, all.length);
-    /* (what stdout refuses, main sees) */
-    fwrite(room, 1, piece.length, stdout);
+    do {
+        piece = avr_records_write(format, bytes, size, present, AVR_RECORDS_BITMAP(size), &cursor, room, length);
+        /* (what stdout refuses, main sees) */
+        fwrite(room, 1, piece.length, stdout);
+    } while (piece.fault == 0 && piece.length == length);
     free(room);
     return piece.fault;
 }
@@ -66,9 +68,9 @@ static void complain(const char *name, struct avr_records_outcome read) {
 }
 
 int main(int argc, char **argv) {
-    size_t length, size;
-    if (argc != 4 || !is_size(argv[2], &size)) {
-        fprintf(stderr, "usage: records FILE SIZE ihex|srec\n");
+    size_t length, size, room = 4096;
+    if (argc < 4 || argc > 5 || !is_size(argv[2], &size) || (argc == 5 && (!is_size(argv[4], &room) || room == 0))) {
+        fprintf(stderr, "usage: records FILE SIZE ihex|srec [ROOM]\n");
         return 2;
     }
     uint8_t *file = load(argv[1], &length);
@@ -84,7 +86,8 @@ int main(int argc, char **argv) {
         return 1;
     }
     if (!read.ended) fprintf(stderr, "%s: no end record\n", argv[1]);
-    uint8_t fault = print(strcmp(argv[3], "srec") == 0 ? AVR_RECORDS_SREC : AVR_RECORDS_IHEX, bytes, size, present);
+    uint8_t format = strcmp(argv[3], "srec") == 0 ? AVR_RECORDS_SREC : AVR_RECORDS_IHEX;
+    uint8_t fault = print(format, bytes, size, present, room);
     free(file);
     free(bytes);
     free(present);

@@ -3,7 +3,7 @@
 //! are bytes and a `Vec`, so what the host sent can be looked at.
 //!
 //! What it prints, and the answers that it reads, were worked out by hand from AVR068 and the ATtiny85's data sheet
-//! (signature 1E 93 0B, pages of 64 bytes): a line is a frame's number and the front of its body.
+//! (signature 1E 93 0B, pages of 64 bytes): a line is a frame's number and the prefix of its body.
 //= signature: 1E 93 0B
 //= 1: 01
 //= 2: 10 C8 64 19 20 00 53 03 AC 53 00 00

@@ -39,6 +39,18 @@ class Outcome(ctypes.Structure):
     ]
 
 
+class Cursor(ctypes.Structure):
+    """Where a file that is written stands; all 0 at the beginning."""
+
+    _fields_ = [
+        ("address", ctypes.c_uint32),
+        ("gone", ctypes.c_uint32),
+        ("upper", ctypes.c_uint16),
+        ("address_size", ctypes.c_uint8),
+        ("ended", ctypes.c_uint8),
+    ]
+
+
 class Piece(ctypes.Structure):
     _fields_ = [("length", ctypes.c_size_t), ("fault", ctypes.c_uint8)]
 
@@ -51,7 +63,7 @@ def load():
         ("detect", slice_of, octet),
         ("read", [octet] + 3 * slice_of, Outcome),
         ("length", [octet] + 2 * slice_of, Piece),
-        ("write", [octet] + 2 * slice_of + [ctypes.c_size_t] + slice_of, Piece),
+        ("write", [octet] + 2 * slice_of + [ctypes.POINTER(Cursor)] + slice_of, Piece),
     ):
         function = getattr(library, f"avr_records_{name}")
         function.argtypes, function.restype = arguments, result
@@ -78,15 +90,16 @@ def read(library, text, size):
     return data, present, outcome.ended
 
 
-def write(library, kind, data, present):
-    """The record file of a memory."""
-    told = library.avr_records_length(kind, *lent(data), *lent(present))
-    text = bytearray(told.length)
-    if not told.fault:
-        told = library.avr_records_write(kind, *lent(data), *lent(present), 0, *lent(text))
-    if told.fault:
-        raise ValueError(fault_text(told.fault))
-    return text
+def pieces(library, kind, data, present, length=4096):
+    """The record file of a memory, as many bytes at a time."""
+    cursor, room = Cursor(), bytearray(length)
+    while True:
+        piece = library.avr_records_write(kind, *lent(data), *lent(present), cursor, *lent(room))
+        if piece.fault:
+            raise ValueError(fault_text(piece.fault))
+        yield room[: piece.length]
+        if piece.length < length:
+            return
 
 
 def runs(data, present):
@@ -101,7 +114,8 @@ def main(file, size, kind=None):
     library = load()
     data, present, _ = read(library, Path(file).read_bytes(), int(size))
     if kind is not None:
-        sys.stdout.buffer.write(write(library, FORMATS[kind], data, present))
+        for piece in pieces(library, FORMATS[kind], data, present):
+            sys.stdout.buffer.write(piece)
         return
     for address, run in runs(data, present):
         print(f"{address:08X}: {run.hex()}")

@@ -14,10 +14,11 @@ use Rattle.avr_part.specs.PartFile.{GivesOrMemory}
 use Rattle.avr_part.specs.State.{ChipState, fresh_state}
 use Rattle.avr_part.specs.declared.fault.PartFault.{PartFault}
 use Rattle.avr_part.specs.declared.fault.PartFault.TheVariants.{BadChipFile}
-use Rattle.avr_desk.proofs.Openings.{goes_opened, goes_judged}
-use Rattle.avr_desk.proofs.Played.{went_settled, goes_unsettled}
+use Rattle.avr_desk.proofs.Stages.Openings.{goes_opened, goes_judged}
+use Rattle.avr_desk.proofs.Stages.Played.{went_settled, goes_unsettled}
 use Rattle.avr_desk.specs.Playing.{Goes, Went}
 use Rattle.avr_desk.specs.Stage.{Made, verdict_stage}
+use Rattle.avr_chip.specs.declared.loading.TheConstants.{LARGEST_CHIP_FILE}
 use Rattle.avr_chip.specs.Lines.{length_line}
 use Rattle.avr_chip.specs.Loading.{chip_or_line, judged_chip, chip_given, chip_stage}
 
@@ -77,35 +78,35 @@ goes_wrong_length part file bytes n old new status (inr memory) one told = cc
 
 -- the judgment of what the file gave
 goes_whole : (part : Part) (file bytes : Bytes) (ended : Bool) (old mid new : DeskView) (result : Result ChipState ℕ)
-    → Passes (with_read file bytes ended) old mid → IsWhole 4194304 (record { bytes = bytes; ended = ended })
+    → Passes (with_read file bytes ended) old mid → IsWhole LARGEST_CHIP_FILE (record { bytes = bytes; ended = ended })
     → HasSameCounts old mid
     → Goes (verdict_stage (judged_chip part file bytes)) mid new result → Goes (chip_stage part file) old new result
 goes_whole part file bytes ended old mid new result kept whole rose goes =
     let reading : Reading = record { name = file; bytes = bytes; ended = ended } in
     goes_opened file (chip_given part file) (Found reading) old mid new result refl kept rose
-    (goes_judged file 4194304 (judged_chip part file) reading mid new result whole goes)
+    (goes_judged file LARGEST_CHIP_FILE (judged_chip part file) reading mid new result whole goes)
 
 -- to its end
 pub goes_ended : (part : Part) (file bytes : Bytes) (ended : Bool) (old mid new : DeskView)
     (result : Result ChipState ℕ)
-    → Passes (with_read file bytes ended) old mid → IsWhole 4194304 (record { bytes = bytes; ended = ended })
+    → Passes (with_read file bytes ended) old mid → IsWhole LARGEST_CHIP_FILE (record { bytes = bytes; ended = ended })
     → ended ≡ true → HasSameCounts old mid
     → Goes (verdict_stage (chip_or_line part file bytes)) mid new result → Goes (chip_stage part file) old new result
 goes_ended part file bytes false old mid new result kept whole is rose goes = cc
 goes_ended part file bytes true old mid new result kept whole is rose goes =
-    let fits : nat_le (length bytes) 4194304 ≡ true = grind (arith, nat_tests, whole) in
+    let fits : nat_le (length bytes) LARGEST_CHIP_FILE ≡ true = grind (arith, nat_tests, whole) in
     goes_whole part file bytes true old mid new result kept whole rose (rw fits goes)
 
 -- or past the limit
 pub goes_past : (part : Part) (file bytes : Bytes) (ended : Bool) (old mid new : DeskView) (status : ℕ)
-    → Passes (with_read file bytes ended) old mid → IsWhole 4194304 (record { bytes = bytes; ended = ended })
+    → Passes (with_read file bytes ended) old mid → IsWhole LARGEST_CHIP_FILE (record { bytes = bytes; ended = ended })
     → ended ≡ false → HasSameCounts old mid
-    → status ≡ 1 → Tells mid new (too_long_line file 4194304)
+    → status ≡ 1 → Tells mid new (too_long_line file LARGEST_CHIP_FILE)
     → Goes (chip_stage part file) old new (Err status)
 goes_past part file bytes true old mid new status kept whole is rose one told = cc
 goes_past part file bytes false old mid new status kept whole is rose one told =
     let more = whole.0 in
-    let long : nat_le (length bytes) 4194304 ≡ false = grind (arith, nat_tests, more) in
-    let given : judged_chip part file bytes ≡ Err (too_long_line file 4194304) = rw long refl in
+    let long : nat_le (length bytes) LARGEST_CHIP_FILE ≡ false = grind (arith, nat_tests, more) in
+    let given : judged_chip part file bytes ≡ Err (too_long_line file LARGEST_CHIP_FILE) = rw long refl in
     goes_whole part file bytes false old mid new (Err status) kept whole rose
-    (goes_unsettled (judged_chip part file bytes) (too_long_line file 4194304) mid new status given one told)
+    (goes_unsettled (judged_chip part file bytes) (too_long_line file LARGEST_CHIP_FILE) mid new status given one told)

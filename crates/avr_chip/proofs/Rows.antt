@@ -23,7 +23,7 @@ denials r = length r.denied
 abbrev file_count : Record → ℕ
 file_count r = length r.uses
 
--- that a file is in use, told of a desk that was not asked
+-- that a file is in use, reported of a desk that was not asked
 unasked : (file told : Bytes) (trouble : holding.HoldingTrouble) (after : DeskView)
     → after ≡ now (after_err (in_use_line file) nothing_kept) 0
     → holding.TellsHoldingTrouble file trouble told begun after
@@ -44,7 +44,7 @@ no_denial_unasked file holds = unasked file holds.1.told holds.1.trouble _ refl 
 pub no_hold_behind_a_failure : (file : Bytes) → HoldsFile begun (now (with_held file nothing_kept) 1) file (Ok tt) → ⊥
 no_hold_behind_a_failure file holds = let e : 1 ≡ 0 = holds.1.0 in omega (arith, e)
 
--- a save that failed, and left an empty file behind
+-- a save that failed, and left an empty file after
 pub no_empty_file : (file bytes line : Bytes)
     → Saves begun (now (after_err line (with_replaced file [] nothing_kept)) 1) file bytes (Err 1) → ⊥
 no_empty_file file bytes line saves = let e : 1 ≡ 0 = ap file_count saves.1.kept in omega (arith, e)

@@ -6,7 +6,7 @@ use Rattle.avr_desk.specs.Record.{DeskView, Record, Passes, after_replace, after
 use Rattle.avr_desk.specs.declared.desk.DeskFault.{DeskFault}
 use Rattle.avr_desk.specs.declared.desk.DeskFault.TheVariants.{NotFound, Failed}
 use Rattle.avr_desk.specs.declared.stream.Stream.TheVariants.{File}
-use Rattle.avr_desk.proofs.Telling.{failure_told}
+use Rattle.avr_desk.proofs.Lines.Told.{failure_told}
 use Rattle.avr_desk.specs.Lines.{memory_line, not_written_line}
 use Rattle.avr_desk.specs.Said.{Tells}
 use Rattle.avr_chip.specs.Saving.{NoMemory, NotReplaced, Saves}

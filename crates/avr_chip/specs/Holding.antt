@@ -21,12 +21,12 @@ abbrev pub denied_by : Bytes → HoldingTrouble → Record → Record
 denied_by file InUse r = with_denied file r
 denied_by file NotReplaceable r = r
 
--- The line of that was told; or the desk failed at the file, and from then on the line of that was.
+-- The line of that was reported; or the desk failed at the file, and from then on the line of that was.
 abbrev pub TellsHoldingTrouble : Bytes → HoldingTrouble → Bytes → DeskView → DeskView → Type 0
 TellsHoldingTrouble file InUse told old new = TellsLine (in_use_line file) told old new
 TellsHoldingTrouble file NotReplaceable told old new = TellsFailure (not_written_line file) told old new
 
--- Something stood in the way, and that was told; nothing else was done.
+-- Something stood in the way, and that was reported; nothing else was done.
 pub record Unheld (old new : DeskView) (file : Bytes) : Type 0 where
   pub trouble : HoldingTrouble
   pub told : Bytes

@@ -8,6 +8,7 @@ use Rattle.avr_part.specs.ChipFile.{chip_file_size, state_in}
 use Rattle.avr_part.specs.Part.{Part}
 use Rattle.avr_part.specs.State.{ChipState, fresh_state}
 use Rattle.avr_desk.specs.Stage.{Stage, ◌>>=◌, verdict_stage, open_stage, content_stage}
+use Rattle.avr_chip.specs.declared.loading.TheConstants.{LARGEST_CHIP_FILE}
 use Rattle.avr_chip.specs.Lines.{length_line}
 
 -- the chip of these bytes; another length than the part's is refused
@@ -19,12 +20,13 @@ chip_or_line part file bytes =
 -- a file past the limit is refused, whatever the part
 abbrev pub judged_chip : Part → Bytes → Bytes → Result ChipState Bytes
 judged_chip part file bytes =
-    if nat_le (length bytes) 4194304 then chip_or_line part file bytes else Err (too_long_line file 4194304)
+    if nat_le (length bytes) LARGEST_CHIP_FILE then chip_or_line part file bytes
+    else Err (too_long_line file LARGEST_CHIP_FILE)
 
 -- where there is no such file the chip is fresh
 abbrev pub chip_given : Part → Bytes → Opening → Stage ChipState
 chip_given part file (Absent name) = verdict_stage (Ok (fresh_state part))
-chip_given part file (Found reading) = content_stage file 4194304 (judged_chip part file) (Found reading)
+chip_given part file (Found reading) = content_stage file LARGEST_CHIP_FILE (judged_chip part file) (Found reading)
 
 -- the chip of this part that its file holds
 abbrev pub chip_stage : Part → Bytes → Stage ChipState

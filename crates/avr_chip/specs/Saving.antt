@@ -10,12 +10,12 @@ pub data SavingTrouble : Type 0 where
   NoMemory : SavingTrouble
   NotReplaced : SavingTrouble
 
--- The line of memory was told; or the desk failed at the file, and from then on the line of that was told.
+-- The line of memory was reported; or the desk failed at the file, and from then on the line of that was reported.
 abbrev pub TellsSavingTrouble : Bytes → SavingTrouble → Bytes → DeskView → DeskView → Type 0
 TellsSavingTrouble file NoMemory told old new = TellsLine memory_line told old new
 TellsSavingTrouble file NotReplaced told old new = TellsFailure (not_written_line file) told old new
 
--- Something stood in the way, and that was told; nothing else was done, and nothing is held.
+-- Something stood in the way, and that was reported; nothing else was done, and nothing is held.
 pub record Unsaved (old new : DeskView) (file : Bytes) : Type 0 where
   pub trouble : SavingTrouble
   pub told : Bytes

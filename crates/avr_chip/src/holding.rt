@@ -10,7 +10,6 @@ use avr_desk::{Desk, not_written_message, refuse};
 use avr_part::{Chip, Part};
 use std::alloc::Global;
 
-/// Holds the file of this name.
 fn hold_file<D: Desk>(file: &str, desk: &mut D) -> Result<(), u8>
     ensures holds { HoldsFile (D.view desk.old) (D.view desk.new) file.now result }
     ensures rises { Follows (D.view desk.old) (D.view desk.new) }

@@ -18,7 +18,7 @@ use avr_part::{Chip, Mem, Part, PartFault};
 use std::alloc::Global;
 
 /// The most bytes that are read of a file.
-const LIMIT: usize = 4_194_304;
+const LARGEST_CHIP_FILE: usize = 4_194_304;
 
 /// The length of a chip file of this part: flash, EEPROM, three fuses and the lock.
 fn file_size(part: &Part) -> u32
@@ -47,7 +47,7 @@ fn chip_of<D: Desk>(
     bytes: &[u8],
     desk: &mut D,
 ) -> Result<Chip, u8>
-    requires { length bytes.now ≤ 4194304 }
+    requires { length bytes.now ≤ LARGEST_CHIP_FILE }
     ensures goes { Goes (verdict_stage (chip_or_line part.now file.now bytes.now)) (D.view desk.old) (D.view desk.new)
         result }
     ensures part { IfOk result (λ c. c.part ≡ part.now) }
@@ -97,12 +97,12 @@ pub fn load_chip<D: Desk>(alloc: Global, part: &Part, file: &str, desk: &mut D) 
     ensures part { IfOk result (λ c. c.part ≡ part.now) }
     ensures stays { Stays D.comes_of desk.old desk.new }
 {
-    let contents = match read_file(alloc, desk, file, LIMIT) {
+    let contents = match read_file(alloc, desk, file, LARGEST_CHIP_FILE) {
         Ok(contents) => contents,
         Err(fault) => return unread_chip(alloc, part, file, fault, desk),
     };
     if !contents.ended {
-        return Err(refuse(desk, &too_long_message(file, LIMIT as u32)));
+        return Err(refuse(desk, &too_long_message(file, LARGEST_CHIP_FILE as u32)));
     }
     chip_of(alloc, part, file, contents.bytes.as_slice(), desk)
 }

@@ -1,11 +1,11 @@
 -- in the order in which to read: texts that are cut, updates and addresses; the command and what is kept of it; worked
 -- lines
-pub mod SplitLemmas
-pub mod UpdateLaws
-pub mod AddressLaws
-pub mod CommandLemmas
-pub mod KeepingLemmas
+pub mod TextCuts
+pub mod UpdatesReread
+pub mod AddressCuts
+pub mod ParsedCommands
+pub mod KeptTexts
 mod LineRows
-pub mod PortLemmas
+pub mod PortNumbers
 mod UpdateRows
-pub mod UpdatesLemmas
+pub mod UpdateLists

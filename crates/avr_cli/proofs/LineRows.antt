@@ -21,7 +21,7 @@ use Rattle.avr_cli.specs.declared.update.Op.TheVariants.{Read, Write}
 use Rattle.avr_cli.specs.declared.update.Format.TheVariants.{Auto, Ihex, Immediate}
 use Rattle.avr_cli.specs.declared.update.Update.{Update}
 use Rattle.avr_cli.specs.declared.update.UpdateFault.TheVariants.{BadMemory, BadFormat}
-use Rattle.avr_cli.proofs.CommandLemmas.{whole_command}
+use Rattle.avr_cli.proofs.ParsedCommands.{whole_command}
 
 abbrev onto_first : ℕ → List Bytes → List Bytes
 onto_first c [] = (c ∷ []) ∷ []

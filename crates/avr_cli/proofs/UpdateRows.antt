@@ -59,7 +59,7 @@ a_colon_at_the_end = refl
 pub a_file_of_one_letter : update_of (codes "flash:w:i") ≡ asks Flash Write Auto (codes "i")
 a_file_of_one_letter = refl
 
--- two bytes make one letter behind the last colon
+-- two bytes make one letter after the last colon
 pub no_letter_of_two_bytes : update_of (codes "flash:w:x:" ++ 0xC3 ∷ 0xA9 ∷ [])
     ≡ asks Flash Write Auto (codes "x:" ++ 0xC3 ∷ 0xA9 ∷ [])
 no_letter_of_two_bytes = refl

@@ -42,7 +42,7 @@ abbrev pub is_told_anyway : {T : Type 0} → Result T SettingsFault → Bool
 is_told_anyway (Ok value) = false
 is_told_anyway (Err fault) = keeps_nothing fault
 
--- such a fault is told even where memory is refused
+-- such a fault is reported even where memory is refused
 abbrev pub TellsAnyway : {T : Type 0} → Result T SettingsFault → Result T SettingsFault → Type 0
 TellsAnyway want got = is_told_anyway want ≡ true → got ≡ want
 

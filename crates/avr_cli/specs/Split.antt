@@ -1,4 +1,4 @@
--- Texts that are split at a colon or behind a prefix.
+-- Texts that are split at a colon or after a prefix.
 use Rattle.std.specs.Prelude.{◌==◌, ℕ, List, [], ◌∷◌, Option, Some, None, option_map, if◌then◌else◌}
 
 abbrev pub Bytes : Type 0
@@ -13,13 +13,13 @@ after_prefix (p ∷ ps) (c ∷ cs) = if p == c then after_prefix ps cs else None
 abbrev pub colon : ℕ
 colon = 58
 
-abbrev pub onto_front : ℕ → Option (Bytes × Bytes) → Option (Bytes × Bytes)
-onto_front c = option_map (λ p. (c ∷ p.0, p.1))
+abbrev pub onto_prefix : ℕ → Option (Bytes × Bytes) → Option (Bytes × Bytes)
+onto_prefix c = option_map (λ p. (c ∷ p.0, p.1))
 
 -- what stands before the first colon, and what follows it
 abbrev pub split_first : Bytes → Option (Bytes × Bytes)
 split_first [] = None
-split_first (c ∷ cs) = if c == colon then Some ([], cs) else onto_front c (split_first cs)
+split_first (c ∷ cs) = if c == colon then Some ([], cs) else onto_prefix c (split_first cs)
 
 abbrev pub or_else : Option (Bytes × Bytes) → Option (Bytes × Bytes) → Option (Bytes × Bytes)
 or_else (Some p) other = Some p
@@ -29,4 +29,4 @@ or_else None other = other
 abbrev pub split_last : Bytes → Option (Bytes × Bytes)
 split_last [] = None
 split_last (c ∷ cs) =
-    or_else (onto_front c (split_last cs)) (if c == colon then Some ([], cs) else None)
+    or_else (onto_prefix c (split_last cs)) (if c == colon then Some ([], cs) else None)

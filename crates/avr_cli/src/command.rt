@@ -107,7 +107,7 @@ fn baud<'a>(alloc: Global) -> Arg<'a>
 }
 
 /// The command with the options that say what is programmed, and over what.
-#[tactic(auto, using(crate::proofs::CommandLemmas::arg_added), unfolding(crate::specs::Command::target_rules))]
+#[tactic(auto, using(crate::proofs::ParsedCommands::arg_added), unfolding(crate::specs::Command::target_rules))]
 fn with_target<'a>(alloc: Global, command: Command<'a>) -> Result<Command<'a>, Error>
     ensures app { IfOk result (λ c. app_of c ≡ with_rules (app_of command.entry) target_rules) }
     ensures memory { IfErr result (λ e. kind_of e ≡ ErrorKind.OutOfMemory) }
@@ -142,7 +142,7 @@ fn with_target<'a>(alloc: Global, command: Command<'a>) -> Result<Command<'a>, E
 }
 
 /// The command with the flags about what is done before and after a write.
-#[tactic(auto, using(crate::proofs::CommandLemmas::arg_added), unfolding(crate::specs::Command::write_rules))]
+#[tactic(auto, using(crate::proofs::ParsedCommands::arg_added), unfolding(crate::specs::Command::write_rules))]
 fn with_write<'a>(alloc: Global, command: Command<'a>) -> Result<Command<'a>, Error>
     ensures app { IfOk result (λ c. app_of c ≡ with_rules (app_of command.entry) write_rules) }
     ensures memory { IfErr result (λ e. kind_of e ≡ ErrorKind.OutOfMemory) }
@@ -160,7 +160,7 @@ fn with_write<'a>(alloc: Global, command: Command<'a>) -> Result<Command<'a>, Er
 }
 
 /// The command with the flags about how the whole run goes.
-#[tactic(auto, using(crate::proofs::CommandLemmas::arg_added), unfolding(crate::specs::Command::run_rules))]
+#[tactic(auto, using(crate::proofs::ParsedCommands::arg_added), unfolding(crate::specs::Command::run_rules))]
 fn with_run<'a>(alloc: Global, command: Command<'a>) -> Result<Command<'a>, Error>
     ensures app { IfOk result (λ c. app_of c ≡ with_rules (app_of command.entry) run_rules) }
     ensures memory { IfErr result (λ e. kind_of e ≡ ErrorKind.OutOfMemory) }
@@ -177,8 +177,8 @@ fn with_run<'a>(alloc: Global, command: Command<'a>) -> Result<Command<'a>, Erro
     Ok(command)
 }
 
-/// The command with the options about what is told, and those without effect.
-#[tactic(auto, using(crate::proofs::CommandLemmas::arg_added), unfolding(crate::specs::Command::telling_rules))]
+/// The command with the options about what is reported, and those without effect.
+#[tactic(auto, using(crate::proofs::ParsedCommands::arg_added), unfolding(crate::specs::Command::telling_rules))]
 fn with_telling<'a>(alloc: Global, command: Command<'a>) -> Result<Command<'a>, Error>
     ensures app { IfOk result (λ c. app_of c ≡ with_rules (app_of command.entry) telling_rules) }
     ensures memory { IfErr result (λ e. kind_of e ≡ ErrorKind.OutOfMemory) }
@@ -195,7 +195,7 @@ fn with_telling<'a>(alloc: Global, command: Command<'a>) -> Result<Command<'a>, 
 }
 
 /// The command with the options of long names.
-#[tactic(auto, using(crate::proofs::CommandLemmas::arg_added), unfolding(crate::specs::Command::file_rules))]
+#[tactic(auto, using(crate::proofs::ParsedCommands::arg_added), unfolding(crate::specs::Command::file_rules))]
 fn with_files<'a>(alloc: Global, command: Command<'a>) -> Result<Command<'a>, Error>
     ensures app { IfOk result (λ c. app_of c ≡ with_rules (app_of command.entry) file_rules) }
     ensures memory { IfErr result (λ e. kind_of e ≡ ErrorKind.OutOfMemory) }

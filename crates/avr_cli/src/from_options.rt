@@ -28,7 +28,6 @@ pub fn texts_of<'m, 'a>(matches: &'m ArgMatches<'a>, id: &str) -> Option<&'m [&'
     matches.get_strs(id)
 }
 
-/// Whether a flag is given.
 fn is_on(matches: &ArgMatches<'_>, id: &str) -> bool
     ensures { result ≡ is_on id.now (rows_of (found_of matches.now)) }
 {
@@ -70,7 +69,7 @@ fn check_programmer(alloc: Global, given: Option<&str>) -> Result<(), SettingsFa
     Err(SettingsFault::BadProgrammer(owned(alloc, name)?))
 }
 
-/// The update of a text; the number, from 1 on, is told where it is none.
+/// The update of a text; the number, from 1 on, is reported where it is none.
 fn update_at(alloc: Global, number: u8, text: &str) -> Result<Update, SettingsFault>
     ensures { GivesOrMemory (update_at number (update_of text.now)) result }
 {
@@ -94,7 +93,6 @@ fn read_updates(alloc: Global, texts: &[&str]) -> Result<Updates, SettingsFault>
     Ok(updates)
 }
 
-/// The updates of all texts.
 fn all_updates(alloc: Global, texts: &[&str]) -> Result<Updates, SettingsFault>
     ensures { GivesOrMemory (updates_of (map (λ s. s.now) texts.now)) result }
 {
@@ -167,7 +165,7 @@ fn serve_settings(
 }
 
 /// The settings that the command line gives. With `--serve` the options but `-p`, `--parts` and
-/// `--chip` aren't looked at. The first fault is told, in the order in which [`SettingsFault`] has
+/// `--chip` aren't looked at. The first fault is reported, in the order in which [`SettingsFault`] has
 /// them. `Memory` may come in place of any answer but of those that keep no text: no part, no port
 /// and no chip file.
 ///

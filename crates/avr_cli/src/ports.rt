@@ -10,7 +10,6 @@ use crate::settings::{Port, SettingsFault};
 use crate::text::{after_prefix, split_last};
 use std::alloc::Global;
 
-/// Whether each byte is a decimal digit.
 fn has_only_digits(text: &[u8]) -> bool
     ensures { result ≡ list_all is_ascii_digit text.now }
 {
@@ -47,7 +46,6 @@ fn is_address(text: &str) -> bool
     }
 }
 
-/// The fault of a text that names no port.
 fn bad_port(alloc: Global, text: &str) -> SettingsFault
     ensures { (result ≡ SettingsFault.BadPort (Some text.now)) ⊎ (result ≡ SettingsFault.Memory) }
 {
@@ -57,7 +55,7 @@ fn bad_port(alloc: Global, text: &str) -> SettingsFault
     }
 }
 
-/// The port over the chip file that stands behind `emu:` in a text.
+/// The port over the chip file that stands after `emu:` in a text.
 fn emulated(alloc: Global, text: &str, file: &str) -> Result<Port, SettingsFault>
     ensures { GivesOrMemory (port_after text.now (Some file.now) None) result }
 {
@@ -67,7 +65,7 @@ fn emulated(alloc: Global, text: &str, file: &str) -> Result<Port, SettingsFault
     Ok(Port::Emulated(owned(alloc, file)?))
 }
 
-/// The port of the address that stands behind `net:` in a text.
+/// The port of the address that stands after `net:` in a text.
 fn network(alloc: Global, text: &str, address: &str) -> Result<Port, SettingsFault>
     ensures { GivesOrMemory (port_after text.now None (Some address.now)) result }
 {
@@ -78,7 +76,6 @@ fn network(alloc: Global, text: &str, address: &str) -> Result<Port, SettingsFau
     }
 }
 
-/// The port that a text names.
 fn port_of(alloc: Global, text: &str) -> Result<Port, SettingsFault>
     ensures { GivesOrMemory (port_of text.now) result }
 {
@@ -105,7 +102,7 @@ pub fn port_given(alloc: Global, text: Option<&str>) -> Result<Port, SettingsFau
     }
 }
 
-/// The port of `--serve`, with the file of `--chip`. A bad number is told before a missing file.
+/// The port of `--serve`, with the file of `--chip`. A bad number is reported before a missing file.
 pub fn served(alloc: Global, text: &str, chip: Option<&str>) -> Result<Port, SettingsFault>
     ensures gives { GivesOrMemory (served_at text.now (port_number text.now) (option_map (λ s. s.now) chip.entry))
         result }

@@ -16,7 +16,7 @@ pub enum Port {
     /// `emu:CHIPFILE`, the emulator over this chip file, whose name isn't empty.
     Emulated(Text),
     /// `net:HOST:PORT`, a socket: `HOST:PORT` as given. What stands before the last colon isn't
-    /// empty, and what stands behind it has a [`port_number`](crate::port_number).
+    /// empty, and what stands after it has a [`port_number`](crate::port_number).
     Network(Text),
     /// `--serve PORT` with `--chip FILE`: the emulator over this chip file answers at this port of
     /// 127.0.0.1, in the digits given, which have a [`port_number`](crate::port_number).
@@ -103,7 +103,7 @@ impl Settings {
     }
 }
 
-/// Why a command line makes no settings. The first that holds is told, in the order in which they
+/// Why a command line makes no settings. The first that holds is reported, in the order in which they
 /// stand here, but for memory, which may come in place of any other that keeps a text or follows a
 /// text that was kept.
 #[derive(Debug, Drop, Error)]
@@ -136,7 +136,7 @@ pub enum SettingsFault {
 }
 
 impl SettingsFault {
-    /// The number of the fault, from 1 on, whatever order they are told in.
+    /// The number of the fault, from 1 on, whatever order they are reported in.
     ///
     /// ```text
     /// assert_eq!(rt; SettingsFault::NoPart.number(), 1);

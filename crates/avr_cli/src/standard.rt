@@ -31,7 +31,6 @@ fn uses_standard(update: &Update) -> bool
     is_standard(update.file.as_str()) && !matches!(update.format, Format::Immediate)
 }
 
-/// Whether the update reads standard input.
 fn uses_input(update: &Update) -> bool
     ensures { result ≡ uses_input update.now }
 {

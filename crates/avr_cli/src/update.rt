@@ -188,7 +188,7 @@ impl Updates {
         }
     }
 
-    /// Puts an update behind the others. Where memory is refused they stay as they are.
+    /// Puts an update after the others. Where memory is refused they stay as they are.
     pub fn push(&mut self, update: Update) -> Result<(), AllocError>
         ensures { self.new ≡ (if is_ok result then self.old ++ update ∷ [] else self.old) }
     {

@@ -1,38 +1,9 @@
--- in the order in which to read: the session action by action over any line; what it tells, sends and leaves; a second
--- run
-pub mod Standings
-pub mod PlanItems
-pub mod AnyLineSteps
-pub mod Fitting
-pub mod Weighing
-pub mod AnyLineAsks
-pub mod Ends
-pub mod Following
-pub mod FewBadCalls
-pub mod AnyLinePhases
+-- in the order in which to read; the list of a folder says what it holds
+pub mod Plans
 pub mod AnyLine
-pub mod AnyLineTold
-pub mod AnyLineMakes
-pub mod AnyLineOrder
-pub mod RunBound
-pub mod ListenBound
+pub mod Bounds
 pub mod FewBad
-pub mod TellingTrue
-pub mod SaidToFault
-pub mod ToldOnTape
-pub mod ToldOnWire
-pub mod WrittenCourse
-pub mod WrittenImages
-pub mod AgainNet
-pub mod AgainWrites
-pub mod AgainStrokes
-pub mod WrittenRuns
-pub mod AgainAgrees
-pub mod AgainHeals
-pub mod AgainCases
-pub mod AgainRows
-pub mod ToldRows
-pub mod FramesWeighed
-pub mod Wiring
-pub mod FlashBytes
-pub mod WrittenThere
+pub mod Reports
+pub mod Memories
+pub mod SecondRun
+pub mod WirePlays

@@ -52,7 +52,7 @@ abbrev pub Stopped : Plan → WiredState → WiredState → DeskView → DeskVie
 Stopped plan before after old now =
     StopsSession plan (devices (wired_view before) old) (devices (wired_view after) now)
 
--- Whatever is told among these events was true of the chip as the frames sent before had left it.
+-- Whatever is reported among these events was true of the chip as the frames sent before had left it.
 abbrev pub WereTrue : Plan → WiredState → List (Event Saying) → Type 0
 WereTrue plan before events =
     SaidTrue device (λ q saying. IsTrue plan (memories before) (memories_of q.chip) saying) events before.wire
@@ -67,7 +67,7 @@ pub record OverAnyLine (plan : Plan) (before after : WiredState) (old now : Desk
   -- each memory holds its images, later over earlier, and the rest is as it was, or as an erase leaves it
   pub images : status ≡ 0 → plan.switches.no_verify ≡ false
       → IsWritten plan.part (asked_items plan) (memories before) (memories after)
-  -- whatever the status: the first strokes of the plan were made, those that came to data, and perhaps one more
+  -- whatever the status: the first strokes of the plan were made, those that were completed, and perhaps one more
   pub strokes : MakesStrokes plan (fresh_programmer before.wire.programmer.chip) (turns_of before.wire.fates)
       (length (frames_over after)) (memories before) (memories after)
   -- where no frame went out the chip is untouched
@@ -76,7 +76,7 @@ pub record OverAnyLine (plan : Plan) (before after : WiredState) (old now : Desk
   pub four : (weight : Weight) → weighed weight (map body_of (frames_over after))
       ≤ 4 * weighed weight (bodies_in (run_steps plan))
   -- whatever the status: each line that the session tells and each file that it writes, over what was heard, was true
-  -- of the chip at that moment; and what was told and written is a front of that
+  -- of the chip at that moment; and what was reported and written is a prefix of that
   pub believable : WereTrue plan before (played (session plan) 1 (heard after.talk)).events
   -- and it is what the course says, or as much of that as actions came to their ends, and then the line of the step
   -- that failed

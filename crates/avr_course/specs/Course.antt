@@ -10,8 +10,8 @@ use Rattle.stk_host.specs.Operations.{comparison}
 use Rattle.stk_emu.specs.Effect.{Memories, Erase, Write, effect, memory_in}
 use Rattle.avr_session.specs.declared.standing.Standing.{Standing}
 use Rattle.avr_session.specs.declared.standing.Standing.TheVariants.{Fine}
-use Rattle.avr_session.specs.Actions.{Action, OpenSession, EraseChip, LeaveErase, WriteImage, LeaveWrite, CompareImage, SaveMemory, actions}
-use Rattle.avr_session.specs.Session.{standing, fault_or, opening_says, left_out_erase, left_out_write, erased_says, written_says, verified_says, closed_says, read_says, status_of}
+use Rattle.avr_session.specs.Actions.{Action, OpenSession, EraseChip, WriteImage, CompareImage, SaveMemory, LeaveOut, actions}
+use Rattle.avr_session.specs.Session.{standing, fault_or, opening_says, left_out_says, erased_says, written_says, verified_says, closed_says, read_says, status_of}
 
 -- what is said, how the session stands after it, and the memories then
 pub record Course : Type 0 where
@@ -48,14 +48,13 @@ first then next = then_from first first.standing next
 abbrev pub action_course : Part → Switches → Action → Memories → Course
 action_course part s OpenSession m = reported_course (opening_says s.quiet part) (Ok part.signature) m
 action_course part s EraseChip m = reported_course (erased_says s.quiet part) (Ok tt) (effect part Erase m)
-action_course part s LeaveErase m = fine (left_out_erase s.quiet) m
 action_course part s (WriteImage mem image) m =
     reported_course (written_says s.quiet part mem image) (Ok tt) (effect part (Write mem image) m)
-action_course part s (LeaveWrite mem image) m = fine (left_out_write s.quiet mem image) m
 action_course part s (CompareImage mem image) m =
     reported_course (verified_says s.quiet part mem image) (comparison mem image (memory_in part mem m)) m
 action_course part s (SaveMemory mem format file) m =
     reported_course (fault_or part (read_says s mem format file)) (Ok (memory_in part mem m)) m
+action_course part s (LeaveOut what) m = fine (left_out_says s.quiet what) m
 
 abbrev pub actions_course : Part → Switches → List Action → Memories → Course
 actions_course part s [] m = fine [] m
@@ -65,7 +64,7 @@ actions_course part s (action ∷ actions) m = action_course part s action m the
 abbrev pub working_course : Plan → Memories → Course
 working_course plan m = actions_course plan.part plan.switches (actions plan) m
 
--- what is said at its end: a second fault is not told, and there is none
+-- what is said at its end: a second fault is not reported, and there is none
 abbrev pub ending_says : Plan → Standing → List Saying
 ending_says plan Fine = closed_says plan.switches.quiet plan.part (Ok tt)
 ending_says plan _ = []

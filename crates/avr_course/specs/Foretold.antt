@@ -1,5 +1,5 @@
 -- What a session says, whatever the line does: what its course says, or as much of that as its actions came to their
--- ends, and behind it the line of the step that failed.
+-- ends, and after it the line of the step that failed.
 use Rattle.std.specs.Prelude.{ℕ, ◌≡◌, ◌⊎◌, List, [], ◌∷◌, ◌++◌}
 use Rattle.avr_cli.specs.declared.settings.Switches.{Switches}
 use Rattle.avr_desk.specs.Said.{Saying, Line}
@@ -22,7 +22,7 @@ pub record SaysFirst (part : Part) (s : Switches) (actions : List Action) (m : M
   pub fine : (actions_course part s done m).standing ≡ Fine
   pub says_are : says ≡ (actions_course part s done m).says
 
--- Behind them stands the line of a step that failed: of the next action, or behind all of them of the closing.
+-- After them stands the line of a step that failed: of the next action, or after all of them of the closing.
 pub record SaysFault (part : Part) (s : Switches) (actions : List Action) (m : Memories)
     (says : List Saying) : Type 0 where
   pub told : List Saying

@@ -1,4 +1,4 @@
--- How many strokes of a plan have come to data along a line, each by all of its commands.
+-- How many strokes of a plan have been completed along a line, each by all of its commands.
 use Rattle.std.specs.Prelude.{List, [], ◌∷◌}
 use Rattle.avr_cli.specs.declared.settings.Switches.{Switches}
 use Rattle.avr_part.specs.Part.{Part}

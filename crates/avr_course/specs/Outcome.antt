@@ -21,8 +21,8 @@ pub record IsTouched (plan : Plan) (before after : Memories) : Type 0 where
   pub count : ℕ
   pub memories : after ≡ effects plan.part (take count (strokes plan)) before
 
--- The same, sharper, after so many frames over a line of these turns: at least as many strokes as have come to data by
--- then, and at most one more than had before the last frame, whose answer may not have come.
+-- The same, sharper, after so many frames over a line of these turns: at least as many strokes as have been completed
+-- by then, and at most one more than had before the last frame, whose answer may not have come.
 pub record MakesStrokes (plan : Plan) (p : Programmer) (turns : List Turn) (frames : ℕ)
     (before after : Memories) : Type 0 where
   pub count : ℕ

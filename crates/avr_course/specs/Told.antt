@@ -8,7 +8,7 @@ use Rattle.avr_desk.specs.Said.{Saying, Line, Creates, Writes, Outs}
 use Rattle.avr_part.specs.Mem.{name_of}
 use Rattle.avr_part.specs.declared.part.Mem.{Mem}
 use Rattle.avr_plan.specs.Plan.{Plan}
-use Rattle.avr_session.specs.Actions.{EraseChip, LeaveErase, LeaveWrite, CompareImage, SaveMemory, actions}
+use Rattle.avr_session.specs.Actions.{TheErase, TheWrite, EraseChip, CompareImage, SaveMemory, LeaveOut, actions}
 use Rattle.avr_session.specs.FileText.{file_text}
 use Rattle.avr_session.specs.Lines.{fault_line}
 use Rattle.avr_session.specs.Session.{kept_of}
@@ -41,23 +41,23 @@ count_line mem count done = Line (information (name_of mem ∷ codes ": " ∷ de
 abbrev pub kept_in : Plan → Mem → Memories → List ℕ
 kept_in plan mem now = kept_of mem plan.switches.all (memory_in plan.part mem now)
 
--- What is told in a run of a plan, and what of it holds of the memories now, by those before the run. That the chip is
--- erased: the plan's erase has been done, and nothing else. That bytes are written: the plan's items up to this write
--- have been done. That they are verified: the plan compares the memory with this image, and the memory holds it. What
--- is saved, and counted as read, is what the memory has; and a difference told is one that is there. Else: the chip's
--- signature, what the plan leaves out, why a step has failed, and the end.
+-- What is reported in a run of a plan, and what of it holds of the memories now, by those before the run. That the chip
+-- is erased: the plan's erase has been done, and nothing else. That bytes are written: the plan's items up to this
+-- write have been done. That they are verified: the plan compares the memory with this image, and the memory holds it.
+-- What is saved, and counted as read, is what the memory has; and a difference reported is one that is there. Else: the
+-- chip's signature, what the plan leaves out, why a step has failed, and the end.
 pub data IsTrue (plan : Plan) (before now : Memories) (saying : Saying) : Type 0 where
   SignatureRead : saying ≡ Line (information (codes "device signature = " ∷ spaced_digits plan.part.signature ∷ []))
       → IsTrue plan before now saying
   ChipErased : Contains (actions plan) EraseChip → saying ≡ Line (information (codes "chip erased" ∷ []))
       → now ≡ effect plan.part Erase before → IsTrue plan before now saying
-  EraseLeftOut : Contains (actions plan) LeaveErase
+  EraseLeftOut : Contains (actions plan) (LeaveOut TheErase)
       → saying ≡ Line (warning (codes "chip not erased because of -n" ∷ [])) → IsTrue plan before now saying
   BytesWritten : (mem : Mem) (image : Image) (first later : List Item)
       → saying ≡ count_line mem (byte_count image) (codes " bytes written")
       → items plan ≡ first ++ Write mem image ∷ later → now ≡ effects plan.part (first ++ Write mem image ∷ []) before
       → IsTrue plan before now saying
-  WriteLeftOut : (mem : Mem) (image : Image) → Contains (actions plan) (LeaveWrite mem image)
+  WriteLeftOut : (mem : Mem) (image : Image) → Contains (actions plan) (LeaveOut (TheWrite mem image))
       → saying ≡ count_line mem (byte_count image) (codes " bytes not written") → IsTrue plan before now saying
   BytesVerified : (mem : Mem) (image : Image) → Contains (actions plan) (CompareImage mem image)
       → saying ≡ count_line mem (byte_count image) (codes " bytes verified") → Shows plan.part mem image now

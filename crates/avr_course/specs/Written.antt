@@ -90,7 +90,7 @@ abbrev pub IsErasedFor : Mem → Image → List Item → Type 0
 IsErasedFor mem image items = (has_erase items ≡ true)
     × ((addr byte : ℕ) → byte_at image addr ≡ Some byte → LeaveFree items mem addr)
 
--- What lets a memory take an image behind some items that left the chip so: it isn't locked, and where a write can only
+-- What lets a memory take an image after some items that left the chip so: it isn't locked, and where a write can only
 -- clear bits, in flash and in the lock, it was erased for the image. What can't be written takes none.
 abbrev pub IsTaken : Mem → Image → List Item → Memories → Type 0
 IsTaken Flash image items m = (are_locked m ≡ false) × IsErasedFor Flash image items

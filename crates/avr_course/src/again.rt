@@ -12,7 +12,7 @@ ghost use Rattle.avr_course.specs.Course.{course};
 ghost use Rattle.avr_course.specs.Items.{items, has_erase};
 ghost use Rattle.avr_course.specs.Outcome.{strokes, IsTouched, IsDone};
 
-/// An erase and writes behind any first ones of them come to what they come to alone, unless these took the EEPROM's
+/// An erase and writes after any first ones of them come to what they come to alone, unless these took the EEPROM's
 /// keeping away.
 pub fn first_items_and_then_all_are_all()
     ensures { (part : Part) (items : List Item) (k : ℕ) (m : Memories) → has_erase items ≡ false
@@ -20,7 +20,7 @@ pub fn first_items_and_then_all_are_all()
         → effects part (Erase ∷ items) (effects part (take k (Erase ∷ items)) m) ≡ effects part (Erase ∷ items) m }
 {}
 
-/// Writes behind any first ones of them come to what they come to alone, whatever they lock.
+/// Writes after any first ones of them come to what they come to alone, whatever they lock.
 pub fn first_writes_and_then_all_are_all()
     ensures { (part : Part) (items : List Item) (k : ℕ) (m : Memories) → has_erase items ≡ false
         → effects part items (effects part (take k items) m) ≡ effects part items m }

@@ -42,7 +42,7 @@ pub fn a_run_leaves_its_strokes()
 {}
 
 /// At each moment of a session the memories are those of the first strokes of its plan, in their order: of those that
-/// came to data, and perhaps of one more.
+/// were completed, and perhaps of one more.
 pub fn a_run_makes_its_strokes_in_order()
     ensures { (plan : Plan) (m : Memories) (p : Programmer) (turns : List Turn)
         → IsPart plan.part → All (IsFitted plan.part) plan.tasks → FitsPart plan.part m → Idle plan.part m p
@@ -63,17 +63,17 @@ pub fn a_run_listens_at_most_once_for_each_frame()
         → ListensAtMost (4 * commands_in (run_steps plan)) (session plan) }
 {}
 
-/// Whatever the line does and whatever the status: each thing told is true of the chip as it then is, so each line of a
-/// run that failed later can be believed. What was written is there as the plan's writes so far make it, what was
-/// verified is held, what was read and saved is what the chip has, and a difference told is one.
+/// Whatever the line does and whatever the status: each thing reported is true of the chip as it then is, so each line
+/// of a run that failed later can be believed. What was written is there as the plan's writes so far make it, what was
+/// verified is held, what was read and saved is what the chip has, and a difference reported is one.
 pub fn what_a_run_tells_is_true()
     ensures { (plan : Plan) (m : Memories) (k : ℕ) (p : Programmer) (turns : List Turn)
         → IsPart plan.part → All (IsFitted plan.part) plan.tasks → FitsPart plan.part m → Idle plan.part m p
         → TellsTrue device (λ q saying. IsTrue plan m (memories_of q.chip) saying) k (session plan) p turns }
 {}
 
-/// Whatever was told over a wire was true of the chip when it was told: of a session that was played to its end all of
-/// it, and of one that stopped all that it did whole.
+/// Whatever was reported over a wire was true of the chip when it was told: of a session that was played to its end all
+/// of it, and of one that stopped all that it did whole.
 pub fn what_was_told_was_true()
     ensures played { (plan : Plan) (w v : WiredState) (d e : DeskView) (status : ℕ)
         → w.talk ≡ [] → OverAnyLine plan w v d e status
@@ -81,11 +81,11 @@ pub fn what_was_told_was_true()
         → WereTrue plan w whole.1.events }
     ensures stopped { (plan : Plan) (w v : WiredState) (d e : DeskView) (status : ℕ)
         → w.talk ≡ [] → OverAnyLine plan w v d e status
-        → (stopped : Stopped plan w v d e) → WereTrue plan w stopped.breaks.front.whole }
+        → (stopped : Stopped plan w v d e) → WereTrue plan w stopped.breaks.prefix.whole }
 {}
 
-/// Over any line that makes no answer, however the session ends: each thing told is true of the chip as the frames sent
-/// before have left it.
+/// Over any line that makes no answer, however the session ends: each thing reported is true of the chip as the frames
+/// sent before have left it.
 pub fn what_is_told_over_any_line_is_true()
     ensures { (plan : Plan) (m : Memories) (p : Programmer) (tape : Tape) (becames : List Became)
         → IsPart plan.part → All (IsFitted plan.part) plan.tasks → FitsPart plan.part m → Idle plan.part m p
@@ -95,7 +95,7 @@ pub fn what_is_told_over_any_line_is_true()
 {}
 
 /// Whatever the line does, and at each moment: a session has said what its course says, or as much of it as its first
-/// actions say, each of which came to its end, or behind that the line of the step that failed, and no more. With a
+/// actions say, each of which came to its end, or after that the line of the step that failed, and no more. With a
 /// status it has said the first, with the status of its course, or the last, with status 1. Over any line that makes no
 /// answer the same, however the session ends. And what first actions say is the course's, from its beginning.
 pub fn a_session_says_its_course_up_to_a_fault()
@@ -110,7 +110,7 @@ pub fn a_session_says_its_course_up_to_a_fault()
         → IsPart plan.part → All (IsFitted plan.part) plan.tasks → FitsPart plan.part m → Idle plan.part m p
         → AreHonest device (session plan) 1 tape p becames
         → IsForetold plan m (sayings (played (session plan) 1 tape).events) }
-    ensures front { (plan : Plan) (m : Memories) (says : List Saying)
+    ensures prefix { (plan : Plan) (m : Memories) (says : List Saying)
         → SaysFirst plan.part plan.switches (actions plan) m says
         → (later : List Saying) × ((course plan m).says ≡ says ++ later) }
 {}

@@ -63,7 +63,7 @@ pub fn a_byte_of_flash_is_made_by_images()
         → IsMade (strokes plan) addr (byte_in plan.part Flash addr before) (byte_in plan.part Flash addr after) }
 {}
 
-/// Behind the line that an image was written the memory holds it, where it can: unless the memory was locked then, or
+/// After the line that an image was written the memory holds it, where it can: unless the memory was locked then, or
 /// is flash or the lock and was not erased by the same plan before, or had another image laid over the same place
 /// since. Elsewhere `written` says that each command was answered with OK, and only `verified` what is there.
 pub fn what_is_written_is_there()

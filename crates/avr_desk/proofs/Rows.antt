@@ -6,7 +6,7 @@ use Rattle.avr_desk.specs.Files.{FaultCounts}
 use Rattle.avr_desk.specs.Memory.{Stock}
 use Rattle.avr_desk.specs.Record.{Bytes, DeskView, Record, showing, nothing_kept, after_out}
 use Rattle.avr_desk.specs.Said.{TellsLine}
-use Rattle.avr_desk.specs.Shown.{AppendsFront}
+use Rattle.avr_desk.specs.Shown.{AppendsPrefix}
 use Rattle.avr_desk.specs.Stream.{SendsTaken}
 use Rattle.avr_desk.specs.Truth.{AreTrue, IsTrueOpening}
 use Rattle.avr_desk.specs.declared.desk.DeskFault.{DeskFault}
@@ -27,7 +27,7 @@ silent failures = showing nothing_kept failures 0
 abbrev done : Result (Unit {0}) DeskFault
 done = Ok tt
 
--- a failure that is counted behind a success, behind a file that isn't there, behind a byte that was taken, or behind
+-- a failure that is counted after a success, after a file that isn't there, after a byte that was taken, or after
 -- want of
 -- memory
 pub no_count_behind_success : Counts File (silent 0) (silent 1) done → ⊥
@@ -57,7 +57,7 @@ pub no_failure_twice : Counts File (silent 0) (silent 2) failed → ⊥
 no_failure_twice counts = let e : 2 ≡ 1 = counts.1.0 in omega (arith, e)
 
 -- a failure at the messages that only one count shows, one at a file and one at the output that both show, and what is
--- unsaid behind a success
+-- unsaid after a success
 pub no_message_unsaid_uncounted : Counts Messages (silent 0) (silent 1) failed → ⊥
 no_message_unsaid_uncounted counts = let e : 0 ≡ 1 = counts.1.1 in omega (arith, e)
 
@@ -70,23 +70,23 @@ no_output_is_unsaid counts = let e : 1 ≡ 0 = counts.1.1 in omega (arith, e)
 pub nothing_is_unsaid_behind_success : Counts Messages (silent 0) (showing nothing_kept 0 1) done → ⊥
 nothing_is_unsaid_behind_success counts = let e : 1 ≡ 0 = counts.1.1 in omega (arith, e)
 
--- a front of the bytes may have gone out before a fault, but not their end
+-- a prefix of the bytes may have gone out before a fault, but not their end
 abbrev end : List ℕ
 end = 2 ∷ []
 
 abbrev whole : List ℕ
 whole = 1 ∷ 2 ∷ []
 
-front_or_end : (n : ℕ) → end ≡ take n whole → ⊥
-front_or_end zero e = absurd (cc)
-front_or_end (suc n) e = absurd (cc)
+prefix_or_end : (n : ℕ) → end ≡ take n whole → ⊥
+prefix_or_end zero e = absurd (cc)
+prefix_or_end (suc n) e = absurd (cc)
 
 abbrev output_of : Record → Bytes
 output_of r = r.output
 
 pub no_end_before_a_fault : SendsTaken Output whole (showing nothing_kept 0 0)
     (showing (after_out end nothing_kept) 1 0) (Err Failed) → ⊥
-no_end_before_a_fault sent = front_or_end sent.0 (ap output_of sent.2)
+no_end_before_a_fault sent = prefix_or_end sent.0 (ap output_of sent.2)
 
 -- a line cut short where only a file failed
 pub no_line_cut_by_a_file : TellsLine whole [] (silent 0) (silent 1) → ⊥
@@ -102,15 +102,15 @@ pub no_message_in_the_output : SendsTaken Messages byte (showing nothing_kept 0 
 no_message_in_the_output sent = let e : byte ≡ [] = ap output_of sent in absurd (cc)
 
 -- a writer that took other bytes
-begins_otherwise : (front back : Bytes) → front ++ back ≡ whole → end ≡ front → ⊥
+begins_otherwise : (prefix back : Bytes) → prefix ++ back ≡ whole → end ≡ prefix → ⊥
 begins_otherwise [] back is took = absurd (cc)
-begins_otherwise (x ∷ front) back is took =
-    let first : x ∷ (front ++ back) ≡ whole = is in
-    let second : end ≡ x ∷ front = took in
+begins_otherwise (x ∷ prefix) back is took =
+    let first : x ∷ (prefix ++ back) ≡ whole = is in
+    let second : end ≡ x ∷ prefix = took in
     absurd (cc)
 
-pub no_other_bytes : AppendsFront (Some []) (Some end) whole → ⊥
-no_other_bytes (front, (back, is), took) = begins_otherwise front back is took
+pub no_other_bytes : AppendsPrefix (Some []) (Some end) whole → ⊥
+no_other_bytes (prefix, (back, is), took) = begins_otherwise prefix back is took
 
 -- a failure by plan at a call that isn't due
 abbrev sound : Failing ℕ

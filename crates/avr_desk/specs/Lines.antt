@@ -40,7 +40,7 @@ warning pieces = line (codes "avrstk: warning: ") pieces
 abbrev pub error : List Bytes → Bytes
 error pieces = line (codes "avrstk: error: ") pieces
 
--- ---- what is told of any file, and of memory that was refused
+-- ---- what is reported of any file, and of memory that was refused
 
 abbrev pub memory_pieces : List Bytes
 memory_pieces = codes "out of memory" ∷ []

@@ -6,7 +6,7 @@ use Rattle.avr_desk.specs.declared.record.Writing.{Writing}
 
 -- what passed, the failures and how many were at the messages, the standard input, the files that were put there, and
 -- the whole bytes of the file that was opened last
-pub record Memory : Type 0 where
+pub record MemDeskState : Type 0 where
   pub kept : Record
   pub failures : ℕ
   pub unsaid : ℕ
@@ -15,7 +15,7 @@ pub record Memory : Type 0 where
   pub opened : Bytes
 
 -- what it shows as any desk does
-abbrev pub memory_view : Memory → DeskView
+abbrev pub memory_view : MemDeskState → DeskView
 memory_view m = showing m.kept m.failures m.unsaid
 
 -- what was there to begin with: the standard input, and files
@@ -23,7 +23,7 @@ pub record Stock : Type 0 where
   pub input : Bytes
   pub files : List Writing
 
-abbrev pub stock_of : Memory → Stock
+abbrev pub stock_of : MemDeskState → Stock
 stock_of m = record { input = m.input; files = m.stored }
 
 -- the file of this name, where these have been made since: the one that was made last, else the one that was put there
@@ -36,9 +36,9 @@ abbrev pub stood_for : Stock → List Writing → Bytes → Option Bytes
 stood_for stock made name = if is_dash name then Some stock.input else file_named name stock made
 
 -- what it stands for when it is opened
-abbrev pub contents : Bytes → Memory → Option Bytes
+abbrev pub contents : Bytes → MemDeskState → Option Bytes
 contents name m = stood_for (stock_of m) (all_files m.kept) name
 
 -- what the open file has not given yet
-abbrev pub unread_bytes : Memory → Bytes
+abbrev pub unread_bytes : MemDeskState → Bytes
 unread_bytes m = drop (length (bytes_given m.kept.current)) m.opened

@@ -128,7 +128,7 @@ abbrev pub noted : Bytes → Bool → Open → Open
 noted bytes ends (ToRead x) = ToRead (record x { bytes = x.bytes ++ bytes; ended = x.ended || ends })
 noted bytes ends o = o
 
--- n bytes were read, which lie at the front of the buffer
+-- n bytes were read, which lie at the start of the buffer
 abbrev pub read_on : Bytes → ℕ → Open → Open
 read_on buf n o = noted (take n buf) (n == 0 && not (is_nil buf)) o
 

@@ -34,28 +34,28 @@ abbrev pub after_all : List Saying → Record → Record
 after_all [] r = r
 after_all (saying ∷ sayings) r = after_all sayings (after saying r)
 
--- these bytes are a front of those
+-- these bytes are a prefix of those
 abbrev pub IsPrefixOf : Bytes → Bytes → Type 0
-IsPrefixOf front bytes = (back : Bytes) × (front ++ back ≡ bytes)
+IsPrefixOf prefix bytes = (back : Bytes) × (prefix ++ back ≡ bytes)
 
--- a part of it was done: of what is printed or written, a front
+-- a part of it was done: of what is printed or written, a prefix
 abbrev pub SaidPart : Saying → Saying → Type 0
 SaidPart (Line part) (Line whole) = IsPrefixOf part whole
 SaidPart (Writes part) (Writes whole) = IsPrefixOf part whole
 SaidPart (Outs part) (Outs whole) = IsPrefixOf part whole
 SaidPart _ _ = ⊥
 
--- The line was printed, or where a write to the messages failed a front of it.
+-- The line was printed, or where a write to the messages failed a prefix of it.
 abbrev pub IsPrinted : {T Fault : Type 0} → DeskView → DeskView → Bytes → Result T Fault → Type 0
 IsPrinted old new bytes (Ok done) = Passes (after_err bytes) old new
 IsPrinted old new bytes (Err fault) = SendsPart Messages old new bytes
 
--- The line was told whole, and no call failed; or a write to the messages has failed, and a front of it was.
+-- The line was reported whole, and no call failed; or a write to the messages has failed, and a prefix of it was.
 abbrev pub TellsLine : Bytes → Bytes → DeskView → DeskView → Type 0
 TellsLine line told old new =
     ((told ≡ line) × HasSameCounts old new) ⊎ (IsPrefixOf told line × HasFailedToSay old new)
 
--- So much of the line was told, and nothing else happened.
+-- So much of the line was reported, and nothing else happened.
 pub record Tells (old new : DeskView) (line : Bytes) : Type 0 where
   pub told : Bytes
   pub tells : TellsLine line told old new
@@ -63,7 +63,7 @@ pub record Tells (old new : DeskView) (line : Bytes) : Type 0 where
   pub follows : Follows old new
 
 -- The desk failed, for a file or the output and not yet at the messages, and from then on, as it stood in between, the
--- line of that was told.
+-- line of that was reported.
 pub record TellsFailure (line told : Bytes) (old new : DeskView) : Type 0 where
   pub between : DeskView
   pub failed : HasFailedAt File old between

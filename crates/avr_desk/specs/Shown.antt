@@ -27,23 +27,23 @@ pub record Shown (O E : Type 0) : Type 0 where
 abbrev pub shown_view : {O E : Type 0} → Shown O E → DeskView
 shown_view d = showing d.kept d.failures d.unsaid
 
--- the error that a desk keeps behind a call: a failure has one, and every other answer leaves that of the last failure
+-- the error that a desk keeps after a call: a failure has one, and every other answer leaves that of the last failure
 abbrev pub KeepsError : {A : Type 0} → Option ErrorKind → Option ErrorKind → Result A DeskFault → Type 0
 KeepsError old new (Err Failed) = IsSome new
 KeepsError old new (Err NotFound) = new ≡ old
 KeepsError old new (Ok done) = new ≡ old
 
--- a writer whose bytes are known took a front of these
-abbrev pub AppendsFront : Option Bytes → Option Bytes → Bytes → Type 0
-AppendsFront old new bytes = (front : Bytes) × ((back : Bytes) × (front ++ back ≡ bytes)) × Appends old new front
+-- a writer whose bytes are known took a prefix of these
+abbrev pub AppendsPrefix : Option Bytes → Option Bytes → Bytes → Type 0
+AppendsPrefix old new bytes = (prefix : Bytes) × ((back : Bytes) × (prefix ++ back ≡ bytes)) × Appends old new prefix
 
--- it took as many of them as were answered; after a fault perhaps a front
+-- it took as many of them as were answered; after a fault perhaps a prefix
 abbrev pub AppendsTaken : {F : Type 0} → Option Bytes → Option Bytes → Bytes → Result ℕ F → Type 0
 AppendsTaken old new bytes (Ok n) = Appends old new (take n bytes)
-AppendsTaken old new bytes (Err fault) = AppendsFront old new bytes
+AppendsTaken old new bytes (Err fault) = AppendsPrefix old new bytes
 
--- What is recorded of a write is what the writer took: as many of the bytes as were answered, and after a fault a front
--- of them.
+-- What is recorded of a write is what the writer took: as many of the bytes as were answered, and after a fault a
+-- prefix of them.
 abbrev pub RecordsTaken : Stream → Bytes → Option Bytes → Option Bytes → Record → Record → ℕ → Type 0
 RecordsTaken stream bytes old new before now n =
     (now ≡ after_sent stream (take n bytes) before) × Appends old new (take n bytes)
@@ -54,7 +54,7 @@ TakesTruly stream bytes old new before now (Ok n) = RecordsTaken stream bytes ol
 TakesTruly stream bytes old new before now (Err fault) =
     (n : ℕ) × (n ≤ length bytes) × RecordsTaken stream bytes old new before now n
 
--- where what is written goes behind an opening, and behind a creation: a call that failed changes nothing
+-- where what is written goes after an opening, and after a creation: a call that failed changes nothing
 abbrev pub to_output_opened : Result (Unit {0}) DeskFault → Bool → Bool
 to_output_opened (Err Failed) before = before
 to_output_opened result before = false

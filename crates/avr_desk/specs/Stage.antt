@@ -9,19 +9,19 @@ use Rattle.avr_desk.specs.Said.{Saying, Opens, Line}
 
 -- It made something; or it is refused, by this line; or it can't be judged, since a file was not read to its end or
 -- past its limit.
-pub data Answer (A : Type 0) : Type 0 where
-  Made : A → Answer A
-  Refused : Bytes → Answer A
-  Unread : Answer A
+pub data StageAnswer (A : Type 0) : Type 0 where
+  Made : A → StageAnswer A
+  Refused : Bytes → StageAnswer A
+  Unread : StageAnswer A
 
 -- what was said before the answer, the answer, and what the later openings give
 pub record StageResult (A : Type 0) : Type 0 where
   pub says : List Saying
-  pub answer : Answer A
+  pub answer : StageAnswer A
   pub left : List Opening
 
 -- what was said, and the line of a refusal, which comes last
-abbrev pub all_told : {A : Type 0} → List Saying → Answer A → List Saying
+abbrev pub all_told : {A : Type 0} → List Saying → StageAnswer A → List Saying
 all_told says (Made a) = says
 all_told says (Refused line) = says ++ Line line ∷ []
 all_told says Unread = says
@@ -32,11 +32,11 @@ told_in p = all_told p.says p.answer
 abbrev pub Stage : Type 0 → Type 0
 Stage A = List Opening → StageResult A
 
--- behind these sayings
+-- after these sayings
 abbrev pub behind_sayings : {A : Type 0} → List Saying → StageResult A → StageResult A
 behind_sayings says p = record { says = says ++ p.says; answer = p.answer; left = p.left }
 
-abbrev pub going_on : {A B : Type 0} → List Saying → List Opening → (A → Stage B) → Answer A → StageResult B
+abbrev pub going_on : {A B : Type 0} → List Saying → List Opening → (A → Stage B) → StageAnswer A → StageResult B
 going_on says left go_on (Made a) = behind_sayings says (go_on a left)
 going_on says left go_on (Refused line) = record { says = says; answer = Refused line; left = left }
 going_on says left go_on Unread = record { says = says; answer = Unread; left = left }
@@ -65,7 +65,7 @@ abbrev pub under_name : Bytes → Opening → Opening
 under_name name (Absent other) = Absent name
 under_name name (Found reading) = Found (record reading { name = name })
 
--- the file of this name gives what the next opening gives; behind the last one it is not there
+-- the file of this name gives what the next opening gives; after the last one it is not there
 abbrev pub next_opening : Bytes → List Opening → Opening
 next_opening name [] = Absent name
 next_opening name (opening ∷ openings) = under_name name opening

@@ -2,7 +2,7 @@
 use Rattle.std.specs.Prelude.{◌≡◌, Bool, true, List, [], ◌∷◌, ◌++◌, Option, Some, None}
 use Rattle.avr_desk.specs.declared.record.FileUse.{FileUse}
 use Rattle.avr_desk.specs.declared.record.FileUse.TheVariants.{Opened, Created}
-use Rattle.avr_desk.specs.Memory.{Memory, Stock, stock_of, stood_for}
+use Rattle.avr_desk.specs.Memory.{MemDeskState, Stock, stock_of, stood_for}
 use Rattle.avr_desk.specs.Record.{Bytes, files_among}
 use Rattle.avr_desk.specs.declared.record.Open.{Open}
 use Rattle.avr_desk.specs.declared.record.Open.TheVariants.{Closed, ToRead, ToWrite}
@@ -10,7 +10,7 @@ use Rattle.avr_desk.specs.declared.record.Opening.{Opening}
 use Rattle.avr_desk.specs.declared.record.Opening.TheVariants.{Absent, Found}
 use Rattle.avr_desk.specs.declared.record.Writing.{Writing}
 
--- these were read of what a name stood for: a front of its bytes, all of them where their end was seen
+-- these were read of what a name stood for: a prefix of its bytes, all of them where their end was seen
 pub record IsRead (stood : Option Bytes) (bytes : Bytes) (ended : Bool) : Type 0 where
   pub unread : Bytes
   pub whole : stood ≡ Some (bytes ++ unread)
@@ -28,7 +28,7 @@ AreTrue stock made (Opened opening ∷ uses) = IsTrueOpening stock made opening 
 AreTrue stock made (Created file ∷ uses) = AreTrue stock (made ++ file ∷ []) uses
 
 -- of a file that is read the desk holds what its name stands for
-abbrev pub IsOpenTrue : Stock → Memory → Open → Type 0
+abbrev pub IsOpenTrue : Stock → MemDeskState → Open → Type 0
 IsOpenTrue stock m (ToRead reading) =
     (stood_for stock (files_among m.kept.uses) reading.name ≡ Some m.opened)
     × IsRead (Some m.opened) reading.bytes reading.ended
@@ -36,7 +36,7 @@ IsOpenTrue stock m Closed = Unit {0}
 IsOpenTrue stock m (ToWrite writing) = Unit {0}
 
 -- the desk began with this, and all that it keeps is true of it
-pub record HoldsTrue (stock : Stock) (m : Memory) : Type 0 where
+pub record HoldsTrue (stock : Stock) (m : MemDeskState) : Type 0 where
   pub began : stock_of m ≡ stock
   pub uses : AreTrue stock [] m.kept.uses
   pub current : IsOpenTrue stock m m.kept.current

@@ -69,7 +69,6 @@ pub fn read_file<D: Desk>(
     }
 }
 
-/// Reads what is open.
 fn read_open<D: Desk>(alloc: Global, desk: &mut D, limit: usize) -> Result<Contents, FileFault>
     ensures kept { ReadsOpen (D.view desk.old) (D.view desk.new) result }
     ensures whole { IfOk result (IsWhole limit) }

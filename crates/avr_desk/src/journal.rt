@@ -23,7 +23,7 @@ pub(crate) enum Call<'a> {
     Released,
     /// A file of this name was replaced by one of these bytes.
     Replaced(&'a [u8], &'a [u8]),
-    /// So many bytes were read, which stand at the buffer's front.
+    /// So many bytes were read, which stand at the buffer's start.
     Read(&'a [u8], usize),
     /// So many of these bytes went there.
     Sent(Stream, &'a [u8], usize),

@@ -93,7 +93,7 @@ impl Kept {
     }
 
     /// The bytes of the file of this name that was created last; `older` where none was.
-    #[tactic(auto, using(crate::proofs::NamedLemmas::newest_append))]
+    #[tactic(auto, using(crate::proofs::FileUses::Names::newest_append))]
     pub fn created<'a>(&'a self, older: Option<&'a [u8]>, name: &[u8]) -> Option<&'a [u8]>
         ensures { option_copied result ≡ newest name.now (option_copied older.entry) (all_files self.now) }
     {

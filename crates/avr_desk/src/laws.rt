@@ -1,7 +1,7 @@
 //! Laws of what desks keep, over their definitions alone.
 ghost use Rattle.std.specs.Prelude.{◌≡◌, []};
 ghost use Rattle.ghosts.specs.Stays.{Stays};
-ghost use Rattle.avr_desk.specs.Memory.{Memory, Stock, stock_of};
+ghost use Rattle.avr_desk.specs.Memory.{MemDeskState, Stock, stock_of};
 ghost use Rattle.avr_desk.specs.Record.{all_uses, nothing_kept};
 ghost use Rattle.avr_desk.specs.Shown.{IsTrueSince};
 ghost use Rattle.avr_desk.specs.Truth.{AreTrue, HoldsTrue};
@@ -14,13 +14,13 @@ use std::io::Write;
 use std::rt::Files;
 
 /// Whatever was done with a desk in memory, each opening that it shows gave what its name stood for then, by the files
-/// that it shows to have been made before: a front of the bytes of the newest one, all of them where the end was seen,
+/// that it shows to have been made before: a prefix of the bytes of the newest one, all of them where the end was seen,
 /// and nothing where there was no file.
 ///
 /// What it asks for is what each call over a [`crate::Desk`] promises, and so all that is made of such calls.
 pub fn what_a_desk_in_memory_gives_is_true(before: &MemDesk, after: &MemDesk)
     requires { Stays HoldsTrue before.now after.now }
-    ensures begins { (fresh : Memory) → fresh.kept ≡ nothing_kept
+    ensures begins { (fresh : MemDeskState) → fresh.kept ≡ nothing_kept
         → HoldsTrue (stock_of fresh) fresh }
     ensures gives { (stock : Stock) → HoldsTrue stock before.now
         → AreTrue stock [] (all_uses after.now.kept) }

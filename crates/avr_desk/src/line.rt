@@ -93,7 +93,6 @@ pub(crate) fn write_piece<D: Desk>(desk: &mut D, piece: &Piece<'_>) -> Result<()
     }
 }
 
-/// Writes the pieces one after the other.
 fn write_pieces<D: Desk>(desk: &mut D, pieces: &[Piece<'_>]) -> Result<(), DeskFault>
     ensures all { OnOk result (Passes (after_err (concat (map text_of pieces.now))) (D.view desk.old)
         (D.view desk.new)) }
@@ -104,15 +103,11 @@ fn write_pieces<D: Desk>(desk: &mut D, pieces: &[Piece<'_>]) -> Result<(), DeskF
     ensures stays { Stays D.comes_of desk.old desk.new }
 {
     for piece in pieces {
-        match write_piece(desk, piece) {
-            Ok(()) => {}
-            Err(fault) => return Err(fault),
-        }
+        write_piece(desk, piece)?;
     }
     Ok(())
 }
 
-/// Ends a line.
 fn end_line<D: Desk>(desk: &mut D) -> Result<(), DeskFault>
     ensures all { OnOk result (Passes (after_err (10 ∷ [])) (D.view desk.old) (D.view desk.new)) }
     ensures part { OnErr result (SendsPart Stream.Messages (D.view desk.old) (D.view desk.new) (10 ∷ [])) }
@@ -130,19 +125,13 @@ fn print_line<D: Desk>(desk: &mut D, mark: &str, pieces: &[Piece<'_>]) -> Result
     ensures fault { IfErr result (λ e. e ≡ DeskFault.Failed) }
     ensures stays { Stays D.comes_of desk.old desk.new }
 {
-    match write_all(desk, Stream::Messages, mark.as_bytes()) {
-        Ok(()) => {}
-        Err(fault) => return Err(fault),
-    }
-    match write_pieces(desk, pieces) {
-        Ok(()) => {}
-        Err(fault) => return Err(fault),
-    }
+    write_all(desk, Stream::Messages, mark.as_bytes())?;
+    write_pieces(desk, pieces)?;
     end_line(desk)
 }
 
 /// Prints a line of information to the desk's messages: `avrstk: `, the pieces and LF. The one fault
-/// is `Failed`, which comes where the desk failed; a front of the line was printed then, and no more.
+/// is `Failed`, which comes where the desk failed; a prefix of the line was printed then, and no more.
 ///
 /// ```text
 /// let signature = Piece::Signature([0x1E, 0x95, 0x0F]);
@@ -158,7 +147,7 @@ pub fn print_information<D: Desk>(desk: &mut D, pieces: &[Piece<'_>]) -> Result<
     print_line(desk, "avrstk: ", pieces)
 }
 
-/// Prints a warning, as [`print_information`] prints a line, behind `avrstk: warning: `.
+/// Prints a warning, as [`print_information`] prints a line, after `avrstk: warning: `.
 ///
 /// ```text
 /// print_warning(&mut desk, &[Piece::Text("a.hex"), Piece::Text(": no end record")])?;
@@ -173,7 +162,7 @@ pub fn print_warning<D: Desk>(desk: &mut D, pieces: &[Piece<'_>]) -> Result<(), 
     print_line(desk, "avrstk: warning: ", pieces)
 }
 
-/// Prints an error, as [`print_information`] prints a line, behind `avrstk: error: `.
+/// Prints an error, as [`print_information`] prints a line, after `avrstk: error: `.
 ///
 /// ```text
 /// let pieces = [Piece::Text("command "), Piece::Byte(0x10), Piece::Text(": bad answer")];

@@ -25,9 +25,9 @@ pub struct MemDesk {
 }
 
 impl Model for MemDesk {
-    ghost use Rattle.avr_desk.specs.Memory.{Memory};
+    ghost use Rattle.avr_desk.specs.Memory.{MemDeskState};
 
-    ghost Value = { Memory };
+    ghost Value = { MemDeskState };
 
     ghost view = { λ d. record {
       kept = d.kept;
@@ -53,11 +53,11 @@ fn next_bytes(bytes: &[u8], at: usize, room: usize) -> &[u8]
     }
 }
 
-/// Copies the bytes to the front of the buffer.
-fn copy_front(bytes: &[u8], buf: &mut [u8]) -> usize
+/// Copies the bytes to the start of the buffer.
+fn copy_prefix(bytes: &[u8], buf: &mut [u8]) -> usize
     requires { length bytes.now ≤ length buf.old }
     ensures count { result ≡ length bytes.now }
-    ensures front { take result buf.new ≡ bytes.now }
+    ensures prefix { take result buf.new ≡ bytes.now }
 {
     buf[..bytes.len()].copy_from_slice(bytes);
     bytes.len()
@@ -133,7 +133,7 @@ impl MemDesk {
 
     /// The bytes of a file: what was written to it since it was created last, else what was put
     /// there last.
-    #[tactic(auto, using(crate::proofs::NamedLemmas::newest_append))]
+    #[tactic(auto, using(crate::proofs::FileUses::Names::newest_append))]
     pub fn file(&self, name: &str) -> Option<&[u8]>
         ensures { option_copied result
             ≡ file_named name.now (stock_of self.now) (all_files self.now.kept) }
@@ -213,7 +213,7 @@ impl Desk for MemDesk {
 
     ghost comes_of = { HoldsTrue };
 
-    #[tactic(auto, using(crate::proofs::Truths::same_true))]
+    #[tactic(auto, using(crate::proofs::Desks::InMemory::same_true))]
     fn open(&mut self, name: &str) -> Result<(), DeskFault>
         ensures kept { self.new ≡ record self.old {
           kept = after_open name.now result self.old.kept;
@@ -250,7 +250,7 @@ impl Desk for MemDesk {
         Ok(())
     }
 
-    #[tactic(auto, using(crate::proofs::Truths::same_true))]
+    #[tactic(auto, using(crate::proofs::Desks::InMemory::same_true))]
     fn create(&mut self, name: &str) -> Result<(), DeskFault>
         ensures kept { self.new ≡ record self.old {
           kept = after_create name.now result self.old.kept;
@@ -274,7 +274,7 @@ impl Desk for MemDesk {
         Ok(())
     }
 
-    #[tactic(auto, using(crate::proofs::Truths::same_true))]
+    #[tactic(auto, using(crate::proofs::Desks::InMemory::same_true))]
     fn hold(&mut self, name: &str) -> Result<bool, DeskFault>
         ensures free { IfOk result (λ b. b ≡ not (holds name.now self.old.kept)) }
         ensures kept { self.new ≡ record self.old {
@@ -298,7 +298,7 @@ impl Desk for MemDesk {
         Ok(false)
     }
 
-    #[tactic(auto, using(crate::proofs::Truths::same_true))]
+    #[tactic(auto, using(crate::proofs::Desks::InMemory::same_true))]
     fn release(&mut self)
         ensures kept { self.new ≡ record self.old { kept = with_none_held self.old.kept } }
         ensures stays { Stays HoldsTrue self.old self.new }
@@ -306,7 +306,7 @@ impl Desk for MemDesk {
         self.kept.release();
     }
 
-    #[tactic(auto, using(crate::proofs::Truths::same_true))]
+    #[tactic(auto, using(crate::proofs::Desks::InMemory::same_true))]
     fn replace(&mut self, name: &str, bytes: &[u8]) -> Result<(), DeskFault>
         ensures kept { self.new ≡ record self.old {
           kept = after_replace name.now bytes.now result self.old.kept;
@@ -328,7 +328,7 @@ impl Desk for MemDesk {
         Ok(())
     }
 
-    #[tactic(auto, using(crate::proofs::Truths::same_true))]
+    #[tactic(auto, using(crate::proofs::Desks::InMemory::same_true))]
     fn read(&mut self, buf: &mut [u8]) -> Result<usize, DeskFault>
         ensures count { IfOk result (λ n. n ≡ min (length buf.old) (length (unread_bytes self.old))) }
         ensures gives { IfOk result (λ n. take n buf.new ≡ take n (unread_bytes self.old)) }
@@ -346,7 +346,7 @@ impl Desk for MemDesk {
         }
         let room = buf.len();
         let next = next_bytes(self.opened.as_slice(), self.kept.given().len(), room);
-        let count = copy_front(next, buf);
+        let count = copy_prefix(next, buf);
         let ends = is_end(count, room);
         if self.kept.read_on(&buf[..count], ends).is_err() {
             return Err(self.fail());
@@ -354,7 +354,7 @@ impl Desk for MemDesk {
         Ok(count)
     }
 
-    #[tactic(auto, using(crate::proofs::Truths::same_true, crate::proofs::Truths::written_true))]
+    #[tactic(auto, using(crate::proofs::Desks::InMemory::same_true, crate::proofs::Desks::InMemory::written_true))]
     fn write(&mut self, bytes: &[u8]) -> Result<usize, DeskFault>
         ensures all { IfOk result (λ n. n ≡ length bytes.now) }
         ensures kept { self.new ≡ record self.old {
@@ -375,7 +375,7 @@ impl Desk for MemDesk {
         Ok(bytes.len())
     }
 
-    #[tactic(auto, using(crate::proofs::Truths::same_true))]
+    #[tactic(auto, using(crate::proofs::Desks::InMemory::same_true))]
     fn out(&mut self, bytes: &[u8]) -> Result<usize, DeskFault>
         ensures all { IfOk result (λ n. n ≡ length bytes.now) }
         ensures kept { self.new ≡ record self.old {
@@ -392,7 +392,7 @@ impl Desk for MemDesk {
         Ok(bytes.len())
     }
 
-    #[tactic(auto, using(crate::proofs::Truths::same_true))]
+    #[tactic(auto, using(crate::proofs::Desks::InMemory::same_true))]
     fn err(&mut self, bytes: &[u8]) -> Result<usize, DeskFault>
         ensures all { IfOk result (λ n. n ≡ length bytes.now) }
         ensures kept { self.new ≡ record self.old {

@@ -56,7 +56,7 @@ impl<'a> Message<'a> {
         Message::new(&[Piece::Text(text)])
     }
 
-    /// The message of a name, of a file or of a memory, and what is told of it.
+    /// The message of a name, of a file or of a memory, and what is reported of it.
     pub fn about(name: &'a str, text: &'a str) -> Message<'a>
         ensures { result ≡ name.now ∷ text.now ∷ [] }
     {

@@ -18,7 +18,6 @@ pub enum Stream {
     Messages,
 }
 
-/// Writes some of the bytes.
 fn write_some<D: Desk>(desk: &mut D, stream: Stream, bytes: &[u8]) -> Result<usize, DeskFault>
     ensures bound { IfOk result (λ n. n ≤ length bytes.now) }
     ensures kept { SendsTaken stream bytes.now (D.view desk.old) (D.view desk.new) result }
@@ -33,7 +32,7 @@ fn write_some<D: Desk>(desk: &mut D, stream: Stream, bytes: &[u8]) -> Result<usi
     }
 }
 
-/// Writes all the bytes. After a fault a front of them was written.
+/// Writes all the bytes. After a fault a prefix of them was written.
 pub fn write_all<D: Desk>(desk: &mut D, stream: Stream, bytes: &[u8]) -> Result<(), DeskFault>
     ensures all { OnOk result (Passes (after_sent stream bytes.now) (D.view desk.old) (D.view desk.new)) }
     ensures part { OnErr result (SendsPart stream (D.view desk.old) (D.view desk.new) bytes.now) }

@@ -126,7 +126,7 @@ fn flush<W: Write>(to: &mut W) -> io::Result<()>
     Err(io::Error::from(ErrorKind::Interrupted))
 }
 
-/// Writes once, and sees that it went out. A flush may fail behind bytes that were taken: these are recorded too.
+/// Writes once, and sees that it went out. A flush may fail after bytes that were taken: these are recorded too.
 fn write_through<W: Write>(
     to: &mut W,
     stream: Stream,
@@ -146,7 +146,6 @@ fn write_through<W: Write>(
     }
 }
 
-/// Raises a count of failures.
 fn raise(count: &mut u64)
     ensures rises { count.old ≤ count.new }
     ensures counts { HasRisen count.old count.new }
@@ -261,7 +260,7 @@ impl<
         }
     }
 
-    #[tactic(auto, using(crate::proofs::TrueStreams::kept_true))]
+    #[tactic(auto, using(crate::proofs::Desks::TwoWriters::kept_true))]
     fn create(&mut self, name: &str) -> Result<(), DeskFault>
         ensures kept { Passes (after_create name.now result) (shown_view self.old) (shown_view self.new) }
         ensures counts { Counts File (shown_view self.old) (shown_view self.new) result }
@@ -290,7 +289,7 @@ impl<
         }
     }
 
-    #[tactic(auto, using(crate::proofs::TrueStreams::kept_true))]
+    #[tactic(auto, using(crate::proofs::Desks::TwoWriters::kept_true))]
     fn hold(&mut self, name: &str) -> Result<bool, DeskFault>
         ensures kept { Passes (after_hold name.now result) (shown_view self.old) (shown_view self.new) }
         ensures counts { Counts File (shown_view self.old) (shown_view self.new) result }
@@ -318,7 +317,7 @@ impl<
         }
     }
 
-    #[tactic(auto, using(crate::proofs::TrueStreams::kept_true))]
+    #[tactic(auto, using(crate::proofs::Desks::TwoWriters::kept_true))]
     fn release(&mut self)
         ensures released { shown_view self.new ≡ released (shown_view self.old) }
         ensures quiet { self.new ≡ record self.old { kept = self.new.kept } }
@@ -328,7 +327,7 @@ impl<
         self.journal = self.journal.then(&Call::Released);
     }
 
-    #[tactic(auto, using(crate::proofs::TrueStreams::kept_true, crate::proofs::TrueStreams::replace_true))]
+    #[tactic(auto, using(crate::proofs::Desks::TwoWriters::kept_true, crate::proofs::Desks::TwoWriters::replace_true))]
     fn replace(&mut self, name: &str, bytes: &[u8]) -> Result<(), DeskFault>
         ensures kept { Passes (after_replace name.now bytes.now result) (shown_view self.old) (shown_view self.new) }
         ensures counts { Counts File (shown_view self.old) (shown_view self.new) result }
@@ -357,7 +356,7 @@ impl<
         }
     }
 
-    #[tactic(auto, using(crate::proofs::TrueStreams::read_true))]
+    #[tactic(auto, using(crate::proofs::Desks::TwoWriters::read_true))]
     fn read(&mut self, buf: &mut [u8]) -> Result<usize, DeskFault>
         ensures bound { IfOk result (λ n. n ≤ length buf.new) }
         ensures kept { Passes (after_read buf.new result) (shown_view self.old) (shown_view self.new) }
@@ -386,7 +385,7 @@ impl<
         }
     }
 
-    #[tactic(auto, using(crate::proofs::TrueStreams::kept_true, crate::proofs::TrueStreams::write_true))]
+    #[tactic(auto, using(crate::proofs::Desks::TwoWriters::kept_true, crate::proofs::Desks::TwoWriters::write_true))]
     fn write(&mut self, bytes: &[u8]) -> Result<usize, DeskFault>
         ensures bound { IfOk result (λ n. n ≤ length bytes.now) }
         ensures shown { SendsTaken File bytes.now (shown_view self.old) (shown_view self.new) result }
@@ -431,7 +430,7 @@ impl<
         }
     }
 
-    #[tactic(auto, using(crate::proofs::TrueStreams::out_true))]
+    #[tactic(auto, using(crate::proofs::Desks::TwoWriters::out_true))]
     fn out(&mut self, bytes: &[u8]) -> Result<usize, DeskFault>
         ensures bound { IfOk result (λ n. n ≤ length bytes.now) }
         ensures shown { SendsTaken Output bytes.now (shown_view self.old) (shown_view self.new) result }
@@ -455,7 +454,7 @@ impl<
         }
     }
 
-    #[tactic(auto, using(crate::proofs::TrueStreams::err_true))]
+    #[tactic(auto, using(crate::proofs::Desks::TwoWriters::err_true))]
     fn err(&mut self, bytes: &[u8]) -> Result<usize, DeskFault>
         ensures bound { IfOk result (λ n. n ≤ length bytes.now) }
         ensures shown { SendsTaken Messages bytes.now (shown_view self.old) (shown_view self.new) result }

@@ -19,7 +19,7 @@ pub enum DeskCall<'a> {
     Released,
     /// The file of this name was replaced by these bytes.
     Replaced(&'a str, &'a [u8], Result<(), DeskFault>),
-    /// So many bytes of the open file were read, which stand at the front of this buffer.
+    /// So many bytes of the open file were read, which stand at the start of this buffer.
     Read(&'a [u8], Result<usize, DeskFault>),
     /// So many of these bytes were written.
     Wrote(Stream, &'a [u8], Result<usize, DeskFault>),

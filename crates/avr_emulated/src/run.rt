@@ -63,8 +63,8 @@ fn save_if_sent<D: Desk>(alloc: Global, wire: &Wired, file: &str, desk: &mut D, 
 /// name (a fresh one, where there is no such file) and saved to it again if a frame was sent. From then to then the
 /// file is held: another run that wants it is refused.
 ///
-/// The status is 0 where no fault came, else 1. Every fault has its line; what is refused is told before any frame is
-/// sent.
+/// The status is 0 where no fault came, else 1. Every fault has its line; what is refused is reported before any frame
+/// is sent.
 pub fn run_emulated<D: Desk>(alloc: Global, settings: &Settings, file: &str, desk: &mut D) -> u8
     ensures runs { RunsEmulator settings.now file.now (D.view desk.old) (D.view desk.new) result }
     ensures stays { Stays D.comes_of desk.old desk.new }

@@ -1,42 +1,6 @@
--- A text that is put together, or written, piece by piece.
-use Rattle.std.proofs.Common.{◌≡◌, ◌∙◌, ap, sym, refl, subst, arith, ℕ, List, [], ◌++◌, length, append_assoc, Option}
-use Rattle.std.proofs.KnownBytes.{Appends-nil, Appends-trans}
-use Rattle.std.proofs.lemmas.List.{append-nil, length-append, nil_from_length}
-use Rattle.std.specs.Io.KnownBytes.{Appends}
-
--- what came, and what is left, is the whole
-pub goes_on : (text piece old left whole : List ℕ) → text ++ old ≡ whole → old ≡ piece ++ left
-    → (text ++ piece) ++ left ≡ whole
-goes_on text piece old left whole so_far split =
-    append_assoc text piece left ∙ ap (λ (xs : List ℕ). text ++ xs) (sym split) ∙ so_far
-
-pub is_whole : (text left whole : List ℕ) → text ++ left ≡ whole → length left ≡ 0 → text ≡ whole
-is_whole text left whole so_far none =
-    sym (append-nil text) ∙ ap (λ (xs : List ℕ). text ++ xs) (sym (nil_from_length left none)) ∙ so_far
-
--- behind an empty piece, where nothing was left, nothing is left
-pub none_left : (old piece left : List ℕ) → old ≡ piece ++ left → length old ≡ 0 → left ≡ []
-none_left old piece left split none =
-    nil_from_length left (omega (arith, none, ap length split ∙ length-append piece left))
-
--- a writer took a front of the whole, and this is left
-pub record Written (old now : Option (List ℕ)) (left whole : List ℕ) : Type 0 where
-  pub front : List ℕ
-  pub appended : Appends old now front
-  pub split : front ++ left ≡ whole
-
-pub none_written : (old : Option (List ℕ)) (whole : List ℕ) → Written old old whole whole
-none_written old whole = record { front = []; appended = Appends-nil old; split = refl }
-
-pub piece_written : (old now new : Option (List ℕ)) (piece before left whole : List ℕ)
-    → Written old now before whole → before ≡ piece ++ left → Appends now new piece → Written old new left whole
-piece_written old now new piece before left whole written split more = record {
-  front = written.front ++ piece;
-  appended = Appends-trans old now new written.front piece written.appended more;
-  split = goes_on written.front piece before left whole written.split split;
-}
-
-pub all_written : (old now : Option (List ℕ)) (left whole : List ℕ) → Written old now left whole → length left ≡ 0
-    → Appends old now whole
-all_written old now left whole written none =
-    subst (Appends old now) (is_whole written.front left whole written.split none) written.appended
+-- Values and raw bytes, as texts bring them.
+pub mod Pieces
+pub mod Digits
+pub mod RawBytes
+pub mod Values
+pub mod ValueLists

@@ -2,7 +2,7 @@
 use Rattle.std.specs.Prelude.{ℕ, ◌+◌, ◌==◌, List, [], ◌∷◌, Option, Some, None, if◌then◌else◌}
 use Rattle.std.specs.List.{enumerate_from}
 
--- a byte before some runs: it joins the first one, if that begins right behind it
+-- a byte before some runs: it joins the first one, if that begins right after it
 abbrev pub onto_runs : ℕ → ℕ → List (ℕ × List ℕ) → List (ℕ × List ℕ)
 onto_runs addr b [] = (addr, b ∷ []) ∷ []
 onto_runs addr b ((next, bytes) ∷ more) =

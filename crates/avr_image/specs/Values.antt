@@ -25,7 +25,7 @@ number_in_base base digits =
     if nat_lt 0 (length digits) && list_all (is_digit_of base) digits
     then Some (digits_value base digits) else None
 
--- what a zero and a letter say of the digits behind them
+-- what a zero and a letter say of the digits after them
 abbrev pub prefixed_number : ℕ → List ℕ → Option ℕ
 prefixed_number letter digits =
     if letter == 120 || letter == 88 then number_in_base 16 digits

@@ -30,7 +30,7 @@ pub record IsFilled (image : List (Option ℕ)) (start n : ℕ) (bytes : List �
   pub size : length bytes ≡ n
   pub byte : (i : ℕ) → i < n → slice_index bytes i ≡ or_blank (byte_at image (start + i))
 
--- a longest run of an image's bytes: they stand one behind the other from its address on, and no byte before or behind
+-- a longest run of an image's bytes: they stand one after the other from its address on, and no byte before or after
 -- them
 pub record IsLongestRun (image : List (Option ℕ)) (run : ℕ × List ℕ) : Type 0 where
   pub some : 0 < length run.1

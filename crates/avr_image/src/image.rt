@@ -57,7 +57,7 @@ fn zero_words(alloc: Global, n: usize) -> Result<Vec<u64>, AllocError>
     vec![in alloc; 0; n]
 }
 
-/// Copies the bytes from `start` on, and FF behind their end.
+/// Copies the bytes from `start` on, and FF after their end.
 fn copy_padded(bytes: &[u8], start: usize, out: &mut [u8])
     ensures len { length out.new ≡ length out.old }
     ensures copied { (i : ℕ) → i < length out.old → slice_index out.new i ≡ slice_index_or bytes.now (start + i) 255 }
@@ -108,7 +108,7 @@ impl Image {
     /// image.put(8, 0x34)?;
     /// assert_eq!(rt; copy.get(8), Some(0x12));
     /// ```
-    #[tactic(auto, using(crate::proofs::Laying::empty_over))]
+    #[tactic(auto, using(crate::proofs::Places::Laid::empty_over))]
     pub fn try_clone(&self, alloc: Global) -> Result<Image, ImageFault>
         ensures { MatchResult result (λ copy. copy ≡ self.now) (λ fault. fault ≡ ImageFault.Memory) }
     {
@@ -127,7 +127,7 @@ impl Image {
     /// let image = Image::new(alloc, 32_768)?;
     /// assert_eq!(rt; image.size(), 32_768);
     /// ```
-    #[tactic(auto, using(crate::proofs::Shown::length_shown))]
+    #[tactic(auto, using(crate::proofs::Fields::Shown::length_shown))]
     pub fn size(&self) -> u32
         ensures { result ≡ length self.now }
     {
@@ -265,7 +265,7 @@ impl Image {
     }
 
     /// Lays bytes down at the byte addresses from `addr` on, as `put` of each in their order, and answers the address
-    /// behind them. Where one lies outside the memory the fault is `OutOfRange` with the first that does, and the image
+    /// after them. Where one lies outside the memory the fault is `OutOfRange` with the first that does, and the image
     /// is unchanged.
     ///
     /// ```text
@@ -435,7 +435,7 @@ impl Image {
     }
 
     /// The end of the run of byte addresses that hold a byte and begins at `addr`, at most `end`; `addr` where it holds
-    /// none. The end is the address behind the last one. `end` has to be `addr` or above; it may lie outside the
+    /// none. The end is the address after the last one. `end` has to be `addr` or above; it may lie outside the
     /// memory.
     ///
     /// ```text

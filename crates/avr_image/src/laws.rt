@@ -1,10 +1,10 @@
 //! Laws of the definitions that contracts cite, whatever the code does.
 
-ghost use Rattle.std.specs.Prelude.{◌≡◌, ◌≢◌, ◌<◌, ◌≤◌, ◌↔◌, ◌+◌, ◌++◌, ◌⊎◌, ℕ, true, List, [], All, length, flat_map, slice_index_or, IsTrue, Ok, Err, Option, None, Some};
-ghost use Rattle.std.specs.List.{enumerate_from};
+ghost use Rattle.std.specs.Prelude.{◌≡◌, ◌≢◌, ◌<◌, ◌≤◌, ◌↔◌, ◌+◌, ◌-◌, ◌++◌, ◌⊎◌, ℕ, true, List, [], ◌∷◌, All, length, take, drop, min, flat_map, slice_index_or, is_some, IsTrue, Ok, Err, Option, None, Some};
+ghost use Rattle.std.specs.List.{enumerate_from, slice_range};
 ghost use Rattle.avr_image.specs.Image.{byte_at, either, filled_bytes, first_from, fits, from_zero, image_of_pairs, is_same, laid_over, over, run_end, with_byte};
 ghost use Rattle.avr_image.specs.Lists.{list_line};
-ghost use Rattle.avr_image.specs.Runs.{places_of, runs};
+ghost use Rattle.avr_image.specs.Runs.{lead, places_of, runs};
 ghost use Rattle.avr_image.specs.Values.{values};
 ghost use Rattle.avr_image.specs.declared.list.Base.{Base};
 ghost use Rattle.avr_image.specs.ByAddress.{last_at};
@@ -12,22 +12,29 @@ ghost use Rattle.avr_image.specs.Walk.{IsFilled, IsLongestRun, IsNextHeld, IsByt
 
 use crate::fault::ImageFault;
 
+/// An address that holds a byte is below the size, and past the size none is held.
+pub fn bytes_are_held_below_the_size()
+    ensures within { (image : List (Option ℕ)) (addr : ℕ) → is_some (byte_at image addr) ≡ true
+        → addr < length image }
+    ensures past { (image : List (Option ℕ)) (addr : ℕ) → length image ≤ addr → byte_at image addr ≡ None }
+{}
+
 /// Bytes laid in two parts are the second part laid over the first.
-#[tactic(auto, using(crate::proofs::Laying::laid_append))]
+#[tactic(auto, using(crate::proofs::Lemmas::parts_are_over))]
 pub fn parts_are_laid_over()
     ensures { (size : ℕ) (first second : List (ℕ × ℕ)) → image_of_pairs size (first ++ second)
         ≡ over (image_of_pairs size first) (image_of_pairs size second) }
 {}
 
 /// Bytes laid onto an image are an image of them laid over it.
-#[tactic(auto, using(crate::proofs::Laying::laid_over_laid))]
+#[tactic(auto, using(crate::proofs::Lemmas::laid_is_over))]
 pub fn laying_is_laying_over()
     ensures { (image : List (Option ℕ)) (places : List (ℕ × ℕ))
         → laid_over image places ≡ over image (image_of_pairs (length image) places) }
 {}
 
 /// Images of one size may be laid over each other in any grouping.
-#[tactic(auto, using(crate::proofs::Laying::over_over))]
+#[tactic(auto, using(crate::proofs::Lemmas::over_groups))]
 pub fn laying_over_groups()
     ensures { (first second third : List (Option ℕ)) → length second ≡ length third
         → over (over first second) third ≡ over first (over second third) }
@@ -42,7 +49,7 @@ pub fn over_is_by_address()
         → byte_at (laid_over image places) addr ≡ either (last_at addr places) (byte_at image addr) }
 {}
 
-/// Behind a byte, or a span of bytes, that was laid down inside a memory: they stand at their addresses, and each other
+/// After a byte, or a span of bytes, that was laid down inside a memory: they stand at their addresses, and each other
 /// address holds what it held.
 pub fn a_span_is_by_address()
     ensures byte { (image : List (Option ℕ)) (addr byte : ℕ) → addr < length image
@@ -60,6 +67,12 @@ pub fn a_span_is_by_address()
         → length (laid_over image places) ≡ length image }
 {}
 
+/// Bytes from address 0 on are a span that is laid down there, onto nothing.
+pub fn bytes_from_zero_are_a_span()
+    ensures { (bytes : List ℕ) (size : ℕ) → length bytes ≤ size
+        → from_zero bytes size ≡ image_of_pairs size (enumerate_from 0 bytes) }
+{}
+
 /// Bytes fit exactly where there are none, or the last one's address is below the size.
 pub fn bytes_fit_below_the_size()
     ensures fitting { (addr : ℕ) (bytes : List ℕ) (size : ℕ) → fits addr bytes size ≡ true
@@ -75,7 +88,7 @@ pub fn images_are_equal_by_address()
 {}
 
 /// Images that `==` tells to be equal are one image, and no others.
-#[tactic(auto, using(crate::proofs::Sameness::same_decides))]
+#[tactic(auto, using(crate::proofs::Lemmas::equal_are_one))]
 pub fn equal_images_are_one()
     ensures { (first second : List (Option ℕ)) → IsTrue (is_same first second) ↔ (first ≡ second) }
 {}
@@ -89,7 +102,7 @@ pub fn first_from_is_the_next_held()
 {}
 
 /// A run is the longest.
-#[tactic(auto, using(crate::proofs::Walking::run_ends))]
+#[tactic(auto, using(crate::proofs::Lemmas::run_is_longest))]
 pub fn run_end_is_the_longest_run()
     ensures { (image : List (Option ℕ)) (addr end : ℕ) → addr ≤ end
         → IsByteRun image addr end (run_end image addr end) }
@@ -100,11 +113,41 @@ pub fn filled_is_by_address()
     ensures { (image : List (Option ℕ)) (start n : ℕ) → IsFilled image start n (filled_bytes image start n) }
 {}
 
-/// An image is that of its runs, and each of them is a longest one.
+/// A part of all bytes is the page of its addresses.
+pub fn a_part_of_all_bytes_is_filled()
+    ensures { (image : List (Option ℕ)) (place end : ℕ) → place ≤ end → end ≤ length image
+        → slice_range (filled_bytes image 0 (length image)) place end ≡ filled_bytes image place (end - place) }
+{}
+
+/// An image is that of its runs; each of them is a longest one, and ends inside.
 pub fn an_image_is_its_runs()
     ensures longest { (image : List (Option ℕ)) → All (IsLongestRun image) (runs 0 image) }
+    ensures inside { (image : List (Option ℕ)) → All (λ run. run.0 + length run.1 ≤ length image) (runs 0 image) }
     ensures whole { (image : List (Option ℕ)) → image_of_pairs (length image) (flat_map places_of (runs 0 image))
         ≡ image }
+{}
+
+/// The runs from an address on are those from the next byte on, or none where none is left. From a byte on, the first
+/// is the bytes before the next gap, and the others are those after it.
+pub fn runs_begin_at_the_next_byte()
+    ensures none { (image : List (Option ℕ)) (addr : ℕ) → first_from image addr ≡ None
+        → runs addr (drop addr image) ≡ [] }
+    ensures next { (image : List (Option ℕ)) (addr place : ℕ) → first_from image addr ≡ Some place
+        → runs addr (drop addr image) ≡ runs place (drop place image) }
+    ensures first { (image : List (Option ℕ)) (addr : ℕ) → 0 < length (lead image) → runs addr image
+        ≡ (addr, lead image) ∷ runs (addr + length (lead image)) (drop (length (lead image)) image) }
+{}
+
+/// The bytes before the next gap: there are some where a byte is next, as many as the run from there on has, and no
+/// more than the image has addresses; a page has the same.
+pub fn a_run_is_the_bytes_before_a_gap()
+    ensures some { (image : List (Option ℕ)) (addr place : ℕ) → first_from image addr ≡ Some place
+        → 0 < length (lead (drop place image)) }
+    ensures run { (image : List (Option ℕ)) (addr end : ℕ) → run_end image addr end
+        ≡ addr + min (end - addr) (length (lead (drop addr image))) }
+    ensures filled { (image : List (Option ℕ)) (addr n : ℕ) → n ≤ length (lead (drop addr image))
+        → filled_bytes image addr n ≡ take n (lead (drop addr image)) }
+    ensures within { (image : List (Option ℕ)) → length (lead image) ≤ length image }
 {}
 
 /// A list that was written of some bytes, in any base and without its line end, gives them as values: they stand from

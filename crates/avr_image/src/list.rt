@@ -22,13 +22,13 @@ pub enum Base {
     Dec,
     /// `0x` and hexadecimal digits in lower case.
     Hex,
-    /// Octal digits, behind a `0` from 8 on.
+    /// Octal digits, after a `0` from 8 on.
     Oct,
     /// `0b` and binary digits.
     Bin,
 }
 
-/// The most bytes that a number takes with the comma or the line end behind it.
+/// The most bytes that a number takes with the comma or the line end after it.
 const LONGEST: usize = 11;
 
 /// Writes bytes as numbers on one line, joined by commas, in pieces of at most 80 bytes. Contracts see it as the text
@@ -78,14 +78,13 @@ impl<'a> ListWriter<'a> {
         }
     }
 
-    /// Whether the whole text was written.
     fn is_done(&self) -> bool
         ensures { result ≡ (length self.now == 0) }
     {
         self.ended
     }
 
-    /// Appends the next number and what stands behind it, or the line end of an empty list.
+    /// Appends the next number and what stands after it, or the line end of an empty list.
     fn push_next(&mut self, out: &mut ArrayVec<u8, 80>)
         requires more { 0 < length self.old }
         requires room { array_vec_len out.old + 11 ≤ 80 }

@@ -38,7 +38,6 @@ impl<'a> Model for Runs<'a> {
 }
 
 impl<'a> Runs<'a> {
-    /// All runs of an image.
     pub(crate) fn new(image: &'a Image) -> Runs<'a>
         ensures { result ≡ runs 0 image.now }
     {

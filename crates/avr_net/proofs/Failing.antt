@@ -4,7 +4,7 @@ use Rattle.ghosts.specs.Failures.{HasRisen}
 use Rattle.avr_cli.specs.declared.settings.Settings.{Settings}
 use Rattle.avr_desk.specs.Record.{DeskView}
 use Rattle.avr_session.specs.Runs.{devices}
-use Rattle.avr_session.proofs.Once as session
+use Rattle.avr_session.proofs.Runs.OneFailure as session
 use Rattle.avr_net.specs.OverNet.{PlaysOverNet, connection}
 
 once : (n : ℕ) → (n ≡ 0) ⊎ HasRisen 0 n → n ≤ 1

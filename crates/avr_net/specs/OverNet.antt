@@ -27,8 +27,8 @@ pub record PlaysOverNet (settings : Settings) (old new : DeskView) (status : ℕ
   pub runs : RunsSession plan (devices (connection [] 0) planned_desk) (devices (connection talk link_failures) new)
       status
 
--- The plan was made, but the port could not be opened: that was told, nothing else was done at the desk, and the status
--- is 1.
+-- The plan was made, but the port could not be opened: that was reported, nothing else was done at the desk, and the
+-- status is 1.
 pub record LacksPort (settings : Settings) (address : Bytes) (old new : DeskView) (status : ℕ) : Type 0 where
   pub plan : Plan
   pub planned_desk : DeskView

@@ -17,7 +17,7 @@ pub record ServesCaller (part : Part) (file : Bytes) (old new : DeskView) (statu
   pub serves : ServesPart part file 16777216 (sides (connection [] 0) old)
       (sides (connection talk link_failures) new) status
 
--- No connection could be accepted: that was told, nothing else was done at the desk, and the status is 1.
+-- No connection could be accepted: that was reported, nothing else was done at the desk, and the status is 1.
 pub record LacksCaller (port : Bytes) (old new : DeskView) (status : ℕ) : Type 0 where
   pub told : Tells old new (unopened_line [] port)
   pub status_is : status ≡ 1

@@ -4,7 +4,7 @@ ghost use Rattle.avr_net.specs.Lines.{unopened_pieces};
 
 use avr_desk::{Message, Piece};
 
-/// A port cannot be opened. It was given as `scheme` and behind it `name`: `net:` and `HOST:PORT`, or nothing and a
+/// A port cannot be opened. It was given as `scheme` and after it `name`: `net:` and `HOST:PORT`, or nothing and a
 /// number.
 pub(crate) fn unopened_message<'a>(scheme: &'a str, name: &'a str) -> Message<'a>
     ensures { result ≡ unopened_pieces scheme.now name.now }

@@ -13,8 +13,8 @@ use std::net::Net;
 
 /// Plans what the settings ask for and runs it over the programmer behind `HOST:PORT`.
 ///
-/// The status is 0 where no fault came, else 1. Every fault has its line; what is refused is told before the port is
-/// opened. There a read that waits for a second is a silence; a connection that was reset is a failure of the link.
+/// The status is 0 where no fault came, else 1. Every fault has its line; what is refused is reported before the port
+/// is opened. There a read that waits for a second is a silence; a connection that was reset is a failure of the link.
 pub fn run_net<R: Net, D: Desk>(
     rt: &R,
     alloc: Global,

@@ -17,8 +17,8 @@ use std::net::{Net, OpenListener, OpenStream};
 ///
 /// The chip is loaded once the connection is there, so that what other runs saved before is in it. How that ends is
 /// what [`serve_part`] says: the chip is saved to the file of this name, and the status is 0 where the caller ended it
-/// and the chip was saved, else 1. Where the file is refused by then, or no connection can be accepted, which is told
-/// of `port`, the text of `--serve`, the status is 1, and no file is written.
+/// and the chip was saved, else 1. Where the file is refused by then, or no connection can be accepted, which is
+/// reported of `port`, the text of `--serve`, the status is 1, and no file is written.
 pub fn serve_on<L: OpenListener, D: Desk>(
     alloc: Global,
     part: &Part,
@@ -63,10 +63,10 @@ fn serve_at<R: Net, D: Desk>(
 
 /// Serves the emulated programmer of the settings' part at a port of 127.0.0.1, to the first caller.
 ///
-/// The part and the chip file are judged before the port is opened: where they are refused, that is told at once and
-/// nobody is waited for. When the caller is there the chip is loaded from the file of this name, fresh where there is
-/// no such file, and saved to it when the caller is gone. `port` is the text of `--serve`; a port that cannot be opened
-/// is told, and no file is written.
+/// The part and the chip file are judged before the port is opened: where they are refused, that is reported at once
+/// and nobody is waited for. When the caller is there the chip is loaded from the file of this name, fresh where there
+/// is no such file, and saved to it when the caller is gone. `port` is the text of `--serve`; a port that cannot be
+/// opened is reported, and no file is written.
 ///
 /// The status is 0 where the caller ended it and the chip was saved, else 1.
 pub fn serve_net<R: Net, D: Desk>(

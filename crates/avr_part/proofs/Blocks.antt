@@ -1,12 +1,12 @@
 -- A block at once is a block byte by byte.
-use Rattle.std.proofs.Common.{◌≡◌, ℕ, zero, suc, ◌+◌, ◌*◌, ◌/◌, ◌%◌, ◌≤◌, ◌<◌, List, [], ◌∷◌, ◌++◌, length, get_or, set, take, drop, refl, sym, ap, ap₂, ◌∙◌, arith, inl, inr, Bool, true, false, cond, drop-cons, append_assoc}
+use Rattle.std.proofs.Common.{◌≡◌, ℕ, zero, suc, ◌+◌, ◌*◌, ◌/◌, ◌%◌, ◌≤◌, ◌<◌, List, [], ◌∷◌, ◌++◌, length, get_or, set, take, drop, refl, sym, ap, ap₂, ◌∙◌, arith, inl, inr, true, drop-cons, append_assoc}
 use Rattle.std.proofs.Math.Nat.{mod-mod_of_dvd, mod-add-div', dvd-mul_right, dvd_trans}
 use Rattle.std.proofs.lemmas.Nat.Gcd.{dvd_of_mod-eq-zero, mod-eq-zero_of_dvd}
 use Rattle.std.proofs.Math.Seq.{take-suc-set}
 use Rattle.std.proofs.lemmas.Nat.{mod-mul-add}
 use Rattle.std.proofs.lemmas.List.{take-append-drop, drop-set-lt, length-set}
-use Rattle.std.proofs.lemmas.Bool.{eqb-true, eqb-false, cases_Bool, leb-true}
-use Rattle.std.specs.Prelude.{◌==◌, ◌&&◌, ◌-◌, nat_le}
+use Rattle.std.proofs.lemmas.Bool.{eqb-true, eqb-false, cases_Bool, leb-true, cond-true, cond-false, and_parts}
+use Rattle.std.specs.Prelude.{◌==◌, ◌-◌, nat_le}
 use Rattle.avr_part.specs.Part.{Part, IsPart}
 use Rattle.avr_part.specs.Memory.{pasted}
 use Rattle.avr_part.specs.State.{ChipState, half_offset, word_address}
@@ -14,20 +14,12 @@ use Rattle.avr_part.specs.Block.{half_at, loaded_in_turn, read_in_turn, is_in_pa
 use Rattle.avr_part.specs.Sound.{IsSoundChip}
 use Rattle.avr_part.specs.declared.instruction.Half.TheVariants as half
 
-chosen : {A : Type 0} (b : Bool) (x y : A) → b ≡ true → cond b x y ≡ x
-chosen true x y e = refl
-chosen false x y e = absurd (cc)
-
-refused : {A : Type 0} (b : Bool) (x y : A) → b ≡ false → cond b x y ≡ y
-refused true x y e = absurd (cc)
-refused false x y e = refl
-
 pub offset_at : (i : ℕ) → half_offset (half_at i) ≡ i % 2
 offset_at i = elim (cases_Bool (i % 2 == 0)) [
-  | inl e ↦ ap half_offset (chosen (i % 2 == 0) half.Low half.High e) ∙ sym (eqb-true (i % 2) 0 e)
+  | inl e ↦ ap half_offset (cond-true (i % 2 == 0) half.Low half.High e) ∙ sym (eqb-true (i % 2) 0 e)
   | inr e ↦
       let odd : 1 ≡ i % 2 = let ne = eqb-false (i % 2) 0 e in omega arith in
-      ap half_offset (refused (i % 2 == 0) half.Low half.High e) ∙ odd
+      ap half_offset (cond-false (i % 2 == 0) half.Low half.High e) ∙ odd
 ]
 
 -- a remainder that stays below the end
@@ -45,7 +37,7 @@ place_on word i half inside =
 -- one byte more
 paste_on : (p : ℕ) (d : ℕ) (ds xs : List ℕ) → p < length xs → pasted (suc p) ds (set xs p d) ≡ pasted p (d ∷ ds) xs
 paste_on p d ds xs inside =
-    ap₂ (λ front back. front ++ (ds ++ back)) (take-suc-set xs p d inside)
+    ap₂ (λ prefix back. prefix ++ (ds ++ back)) (take-suc-set xs p d inside)
     (drop-set-lt (suc p + length ds) xs p d (omega arith))
     ∙ (append_assoc (take p xs) (d ∷ []) (ds ++ drop (suc p + length ds) xs)
     ∙ ap (λ k. take p xs ++ (d ∷ (ds ++ drop k xs)))
@@ -114,10 +106,6 @@ flash_even part sound =
     mod-eq-zero_of_dvd 2 (dvd_trans 2 (dvd_of_mod-eq-zero 2 sound.flash_halves)
     (dvd_of_mod-eq-zero part.flash_page sound.flash_pages))
 
-right : (a b : Bool) → (a && b) ≡ true → b ≡ true
-right true b e = e
-right false b e = absurd (cc)
-
 pub block_read : (word n start len : ℕ) (bytes : List ℕ) (s : ChipState) → IsSoundChip s → is_in_flash word n s ≡ true
     → start ≡ word_address s word → len ≡ n → bytes ≡ s.flash
     → take (start + len - start) (drop start bytes) ≡ read_in_turn word 0 n s
@@ -126,7 +114,7 @@ block_read word n start len bytes s sound inside at count is =
     let even = flash_even s.part sound.part in
     let whole : half * 2 ≡ s.part.flash_size = omega arith in
     let p = (s.extended * 65536 + word) % half * 2 in
-    let fits = leb-true (p + n) s.part.flash_size (right (nat_le (word * 2 + n) 131072) _ inside) in
+    let fits = leb-true (p + n) s.part.flash_size (and_parts (nat_le (word * 2 + n) 131072) _ inside).1 in
     let long = sound.flash_size in
     let first : start ≡ p + 0 = omega arith in
     let size : start + len - start ≡ n = omega arith in

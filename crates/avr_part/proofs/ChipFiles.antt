@@ -1,7 +1,7 @@
 -- A chip file read again.
-use Rattle.std.proofs.Common.{◌≡◌, ◌∙◌, ap, arith, ℕ, ◌+◌, List, [], ◌∷◌, ◌++◌, length, take, drop, get_or, Bool, true, cond, Ok, length-append, append_assoc, refl, sym}
+use Rattle.std.proofs.Common.{◌≡◌, ◌∙◌, ap, arith, ℕ, ◌+◌, List, [], ◌∷◌, ◌++◌, length, take, drop, get_or, Ok, length-append, append_assoc, refl, sym}
 use Rattle.std.proofs.lemmas.List.{get_or-drop, length-drop, take-append-drop, take_at, drop_at, get_or-append-add}
-use Rattle.std.proofs.lemmas.Bool.{eq-eqb}
+use Rattle.std.proofs.lemmas.Bool.{eq-eqb, cond-true}
 use Rattle.std.specs.Prelude.{◌==◌}
 use Rattle.avr_part.specs.Part.{Part}
 use Rattle.avr_part.specs.State.{ChipState, with_empty_buffers}
@@ -9,16 +9,16 @@ use Rattle.avr_part.specs.Sound.{IsSoundChip}
 use Rattle.avr_part.specs.ChipFile.{chip_file, chip_file_size, chip_in, state_in}
 
 -- three lists in a row, taken apart
-flash_part : (flash eeprom fuses : List ℕ) (n : ℕ) → length flash ≡ n → take n (flash ++ eeprom ++ fuses) ≡ flash
+pub flash_part : (flash eeprom fuses : List ℕ) (n : ℕ) → length flash ≡ n → take n (flash ++ eeprom ++ fuses) ≡ flash
 flash_part flash eeprom fuses n e = ap (take n) (append_assoc flash eeprom fuses) ∙ take_at flash (eeprom ++ fuses) n e
 
-eeprom_part : (flash eeprom fuses : List ℕ) (n m : ℕ) → length flash ≡ n → length eeprom ≡ m
+pub eeprom_part : (flash eeprom fuses : List ℕ) (n m : ℕ) → length flash ≡ n → length eeprom ≡ m
     → take m (drop n (flash ++ eeprom ++ fuses)) ≡ eeprom
 eeprom_part flash eeprom fuses n m e f =
     ap (λ (xs : List ℕ). take m (drop n xs)) (append_assoc flash eeprom fuses)
     ∙ (ap (take m) (drop_at flash (eeprom ++ fuses) n e) ∙ take_at eeprom fuses m f)
 
-fuse_part : (flash eeprom fuses : List ℕ) (at k : ℕ) → at ≡ length flash + length eeprom + k
+pub fuse_part : (flash eeprom fuses : List ℕ) (at k : ℕ) → at ≡ length flash + length eeprom + k
     → get_or (flash ++ eeprom ++ fuses) at 0 ≡ get_or fuses k 0
 fuse_part flash eeprom fuses at k e =
     ap (λ (i : ℕ). get_or (flash ++ eeprom ++ fuses) i 0)
@@ -35,9 +35,6 @@ file_length s sound =
       length-append s.flash s.eeprom,
     )
 
-chosen : {A : Type 0} (test : Bool) (x y : A) → test ≡ true → cond test x y ≡ x
-chosen test x y e = ap (λ (b : Bool). cond b x y) e
-
 -- the chip of its own file has the same memories, and empty buffers
 pub read_again : (s : ChipState) → IsSoundChip s → chip_in s.part (chip_file s) ≡ Ok (with_empty_buffers s)
 read_again s sound =
@@ -51,7 +48,7 @@ read_again s sound =
     let hfuse = fuse_part s.flash s.eeprom fuses (at + 1) 1 (omega arith) in
     let efuse = fuse_part s.flash s.eeprom fuses (at + 2) 2 (omega arith) in
     let lock = fuse_part s.flash s.eeprom fuses (at + 3) 3 (omega arith) in
-    chosen (length (chip_file s) == chip_file_size s.part) _ _ (eq-eqb _ _ (file_length s sound))
+    cond-true (length (chip_file s) == chip_file_size s.part) _ _ (eq-eqb _ _ (file_length s sound))
     ∙ rw (flash, eeprom, lfuse, hfuse, efuse, lock, sound.flash_buffer_size, sound.eeprom_buffer_size)
 
 four_bytes : (xs : List ℕ) → length xs ≡ 4 → xs ≡ get_or xs 0 0 ∷ get_or xs 1 0 ∷ get_or xs 2 0 ∷ get_or xs 3 0 ∷ []

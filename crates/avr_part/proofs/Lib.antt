@@ -1,11 +1,11 @@
 -- in the order in which to read: blocks and changes of memories; names and part files; what is done twice; chip files
 pub mod Blocks
 pub mod Changes
-pub mod Finding
-pub mod Judging
-pub mod Naming
+pub mod FoundParts
+pub mod JudgedParts
+pub mod MemoryNames
 pub mod Powers
 pub mod Twice
 pub mod ChipFiles
-pub mod Counting
+pub mod LineCounts
 pub mod Rows

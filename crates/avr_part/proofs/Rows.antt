@@ -21,8 +21,8 @@ by_its_name = refl
 no_upper_case : memory_named (codes "Flash") ≡ None
 no_upper_case = refl
 
-no_front : memory_named (codes "fuse") ≡ None
-no_front = refl
+no_prefix : memory_named (codes "fuse") ≡ None
+no_prefix = refl
 
 no_empty_name : memory_named [] ≡ None
 no_empty_name = refl
@@ -170,7 +170,7 @@ one_part : parts_of
 unfolding is_utf8 chars toml_on_literals hex_on_literals lib.Count.ones
 one_part = refl
 
--- of two parts the second one is at fault; and a part that is at fault is told
+-- of two parts the second one is at fault; and a part that is at fault is reported
 second_part : parts_of
     (codes
     "[parts.a1]\nsignature = \"1E950F\"\nflash_size = 32768\nflash_page = 128\neeprom_size = 1024\neeprom_page = 4\neesave_bit = 3\n[parts.b1]\n")

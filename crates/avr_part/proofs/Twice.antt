@@ -10,7 +10,7 @@ use Rattle.avr_part.specs.Memory.{map_indexed, map_indexed_from, byte_and_page, 
 use Rattle.avr_part.specs.State.{ChipState, with_erased, with_flash_page, with_eeprom_page, with_fuse, with_lock, keeps_eeprom, is_locked, word_address, eeprom_address}
 use Rattle.avr_part.specs.Laws.{flash_loaded_as, eeprom_loaded_as}
 
-blank-blank : (xs : List ℕ) → blank (blank xs) ≡ blank xs
+pub blank-blank : (xs : List ℕ) → blank (blank xs) ≡ blank xs
 blank-blank xs = ap (λ (n : ℕ). replicate n 255) (length-replicate (length xs) 255)
 
 -- under a lock or without it

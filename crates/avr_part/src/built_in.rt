@@ -15,7 +15,6 @@ fn id_from(id: &str) -> ArrayString<31>
     text
 }
 
-/// ATmega328P.
 fn m328p() -> Part
     ensures { result ≡ m328p }
 {
@@ -30,7 +29,6 @@ fn m328p() -> Part
     }
 }
 
-/// ATtiny85.
 fn t85() -> Part
     ensures { result ≡ t85 }
 {
@@ -45,7 +43,6 @@ fn t85() -> Part
     }
 }
 
-/// ATmega2560.
 fn m2560() -> Part
     ensures { result ≡ m2560 }
 {

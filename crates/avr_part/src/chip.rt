@@ -459,7 +459,7 @@ impl Chip {
         }
     }
 
-    /// The byte of a memory at an address, or `None` behind its end.
+    /// The byte of a memory at an address, or `None` after its end.
     ///
     /// ```text
     /// let chip = Chip::fresh(alloc, Parts::none().find("m328p")?)?;

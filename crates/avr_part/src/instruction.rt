@@ -12,7 +12,7 @@ ghost use Rattle.avr_part.specs.Instruction.{instruction_of, write_of};
 pub enum Half {
     /// The byte at the word's even address.
     Low,
-    /// The byte behind it.
+    /// The byte after it.
     High,
 }
 

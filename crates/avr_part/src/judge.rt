@@ -26,7 +26,6 @@ fn has_id_bytes(text: &[u8]) -> bool
     text.iter().all(|byte| is_id_byte(*byte))
 }
 
-/// Whether the bytes make an id.
 fn is_id(text: &[u8]) -> bool
     ensures value { result ≡ is_id text.now }
     ensures short { result ≡ true → length text.now ≤ 31 }

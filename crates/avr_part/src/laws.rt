@@ -11,7 +11,7 @@ ghost use Rattle.avr_part.specs.ChipFile.{chip_file, chip_file_size, chip_in, st
 ghost use Rattle.avr_part.specs.Laws.{flash_loaded_as, eeprom_loaded_as, KeepsMemories};
 
 /// A memory is found by its own name, and by no other text.
-#[tactic(auto, using(crate::proofs::Naming::found_by_name, crate::proofs::Naming::name_of_found))]
+#[tactic(auto, using(crate::proofs::MemoryNames::found_by_name, crate::proofs::MemoryNames::name_of_found))]
 pub fn a_memory_is_found_by_its_name()
     ensures own { (m : Mem) → memory_named (name_of m) ≡ Some m }
     ensures only { (text : List ℕ) (m : Mem) → memory_named text ≡ Some m → text ≡ name_of m }

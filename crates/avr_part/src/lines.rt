@@ -2,7 +2,6 @@
 ghost use Rattle.std.specs.Prelude.{◌≡◌, ◌≤◌, length};
 ghost use Rattle.avr_part.specs.PartFile.{line_at, line_count};
 
-/// How many lines a text has.
 fn line_count(text: &[u8]) -> usize
     ensures { result ≡ line_count text.now }
 {
@@ -10,7 +9,7 @@ fn line_count(text: &[u8]) -> usize
 }
 
 /// The line of a place in a text.
-#[tactic(auto, using(crate::proofs::Counting::line_within))]
+#[tactic(auto, using(crate::proofs::LineCounts::line_within))]
 pub(crate) fn line_at(text: &[u8], place: usize) -> usize
     requires { place ≤ length text.now }
     ensures value { result ≡ line_at text.now place }

@@ -58,7 +58,7 @@ fn read_document(alloc: Global, text: &str) -> Result<Table, PartFileFault>
 }
 
 /// The text of bytes that are UTF-8, or the line of the first one that isn't.
-#[tactic(auto, using(crate::proofs::Judging::text_is_text, crate::proofs::Judging::other_is_none))]
+#[tactic(auto, using(crate::proofs::JudgedParts::text_is_text, crate::proofs::JudgedParts::other_is_none))]
 fn utf8_text(bytes: &[u8]) -> Result<&str, PartFileFault>
     ensures text { IfOk result (λ s. utf8_text bytes.now ≡ Some s.now) }
     ensures none { IfErr result (λ e. utf8_text bytes.now ≡ None) }

@@ -41,12 +41,12 @@ abbrev pub or_too_long : Option RecordFault → BadFile
 or_too_long (Some fault) = Record fault
 or_too_long None = TooLong
 
--- What is wrong with a longer file of which this is the front: the first fault of a line that ends there, or the
+-- What is wrong with a longer file which begins so: the first fault of a line that ends there, or the
 -- length.
 abbrev pub long_file : Found → Bytes → ℕ → BadFile
-long_file file.Ihex front size = or_too_long (closed_fault records.Ihex front size)
-long_file file.Srec front size = or_too_long (closed_fault records.Srec front size)
-long_file found front size = TooLong
+long_file file.Ihex prefix size = or_too_long (closed_fault records.Ihex prefix size)
+long_file file.Srec prefix size = or_too_long (closed_fault records.Srec prefix size)
+long_file found prefix size = TooLong
 
 -- what a file is that may have as many bytes as the limit says
 abbrev pub file_within : ℕ → Found → Bytes → ℕ → Given

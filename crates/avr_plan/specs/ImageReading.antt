@@ -11,7 +11,7 @@ use Rattle.avr_records.specs.declared.kind.Found.{Found}
 use Rattle.avr_plan.specs.ImageFile.{Given, file_within, image_within}
 use Rattle.avr_plan.specs.Intake.{Takes}
 use Rattle.avr_plan.specs.declared.intake.Intake.{Intake}
-use Rattle.avr_plan.specs.declared.image_file.Front.{Front}
+use Rattle.avr_plan.specs.declared.image_file.FirstBytes.{FirstBytes}
 use Rattle.avr_plan.specs.declared.image_file.ReadFault.{ReadFault}
 use Rattle.avr_plan.specs.declared.image_file.ReadFault.TheVariants.{File, Image}
 
@@ -31,19 +31,19 @@ IsCountedRead old new (File fault) = IsCounted old new fault
 IsCountedRead old new (Image bad) = HasSameCounts old new
 
 -- all that the open file has was read, or so much of it as shows its format
-pub record ReadsFront (old new : DeskView) (front : Front) : Type 0 where
-  pub kept : Passes (after_reading front.bytes.items front.ended) old new
-  pub enough : MatchBool front.ended (length front.bytes.items ≤ 1024) (length front.bytes.items ≡ 1024)
+pub record ReadsFirstBytes (old new : DeskView) (prefix : FirstBytes) : Type 0 where
+  pub kept : Passes (after_reading prefix.bytes.items prefix.ended) old new
+  pub enough : MatchBool prefix.ended (length prefix.bytes.items ≤ 1024) (length prefix.bytes.items ≡ 1024)
 
 -- the open file gave some bytes, and no end
 abbrev pub IsReadInPart : DeskView → DeskView → Type 0
 IsReadInPart old new = (bytes : Bytes) × Passes (after_reading bytes false) old new
 
-abbrev pub FrontIsRead : DeskView → DeskView → Result Front FileFault → Type 0
-FrontIsRead old new (Ok front) = ReadsFront old new front
-FrontIsRead old new (Err fault) = (fault ≡ NotRead) × IsReadInPart old new
+abbrev pub FirstBytesAreRead : DeskView → DeskView → Result FirstBytes FileFault → Type 0
+FirstBytesAreRead old new (Ok prefix) = ReadsFirstBytes old new prefix
+FirstBytesAreRead old new (Err fault) = (fault ≡ NotRead) × IsReadInPart old new
 
--- Behind these bytes of the open file the others were read, to its end or past the limit, and the whole is this.
+-- After these bytes of the open file the others were read, to its end or past the limit, and the whole is this.
 pub record ReadsRest (limit : ℕ) (found : Found) (size : ℕ) (before : Bytes) (old new : DeskView)
     (given : Given) : Type 0 where
   pub bytes : Bytes

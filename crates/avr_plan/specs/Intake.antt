@@ -17,7 +17,7 @@ abbrev pub found_as : Kind → Found
 found_as records.Ihex = file.Ihex
 found_as records.Srec = file.Srec
 
--- what is told of a longer file with this fault in its front
+-- what is reported of a longer file with this fault in its first bytes
 abbrev pub in_long_file : BadFile → BadFile
 in_long_file (Record fault) = Record fault
 in_long_file fault = TooLong

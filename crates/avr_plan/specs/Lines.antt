@@ -13,6 +13,7 @@ use Rattle.avr_part.specs.declared.fault.PartFault.TheVariants as part_fault
 use Rattle.avr_part.specs.declared.part.Mem.{Mem}
 use Rattle.avr_records.specs.declared.fault.RecordFault.{RecordFault}
 use Rattle.avr_records.specs.declared.fault.RecordFault.TheVariants as record_fault
+use Rattle.avr_plan.specs.declared.image_file.TheConstants.{LARGEST_IMAGE_FILE}
 use Rattle.avr_plan.specs.declared.intake.BadFile.{BadFile}
 use Rattle.avr_plan.specs.declared.intake.BadFile.TheVariants as bad_file
 use Rattle.avr_plan.specs.declared.image_file.ReadFault.{ReadFault}
@@ -80,7 +81,7 @@ abbrev pub bad_file_pieces : Bytes → BadFile → List Bytes
 bad_file_pieces file (bad_file.Record fault) = record_pieces file fault
 bad_file_pieces file (bad_file.Raw fault) = raw_pieces file fault
 bad_file_pieces file bad_file.Elf = file ∷ codes ": ELF is not read" ∷ []
-bad_file_pieces file bad_file.TooLong = too_long_pieces file 4194304
+bad_file_pieces file bad_file.TooLong = too_long_pieces file LARGEST_IMAGE_FILE
 
 abbrev pub bad_file_line : Bytes → BadFile → Bytes
 bad_file_line file bad = error (bad_file_pieces file bad)

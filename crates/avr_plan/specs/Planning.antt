@@ -20,6 +20,8 @@ use Rattle.avr_part.specs.declared.fault.PartFault.{PartFault}
 use Rattle.avr_part.specs.declared.part.Mem.{Mem}
 use Rattle.avr_records.specs.declared.kind.Ending.{Ending}
 use Rattle.avr_records.specs.declared.kind.Ending.TheVariants.{Ended, NoEnd}
+use Rattle.avr_plan.specs.declared.image_file.TheConstants.{LARGEST_IMAGE_FILE}
+use Rattle.avr_plan.specs.declared.part_choice.TheConstants.{LARGEST_PART_FILE}
 use Rattle.avr_plan.specs.ImageFile.{Given, image_within}
 use Rattle.avr_plan.specs.Lines.{bad_file_line, no_end_line, no_part_line, part_file_line, read_only_line, values_line}
 use Rattle.avr_plan.specs.Plan.{Plan}
@@ -35,12 +37,13 @@ parts_or_line file (Err refused) = Err (part_file_line file refused.fault)
 
 abbrev pub judged_parts : Bytes → Bytes → Result (List Part) Bytes
 judged_parts file bytes =
-    if nat_le (length bytes) 65536 then parts_or_line file (parts_of bytes) else Err (too_long_line file 65536)
+    if nat_le (length bytes) LARGEST_PART_FILE then parts_or_line file (parts_of bytes)
+    else Err (too_long_line file LARGEST_PART_FILE)
 
 -- the parts of the part file, if one is given
 abbrev pub parts_stage : Option Bytes → Stage (List Part)
 parts_stage None = verdict_stage (Ok [])
-parts_stage (Some file) = file_stage file 65536 (judged_parts file)
+parts_stage (Some file) = file_stage file LARGEST_PART_FILE (judged_parts file)
 
 abbrev pub part_or_line : Bytes → Result Part PartFault → Result Part Bytes
 part_or_line id (Ok part) = Ok part
@@ -50,7 +53,7 @@ part_or_line id (Err fault) = Err (no_part_line id)
 abbrev pub part_stage : Bytes → List Part → Stage Part
 part_stage id parts = verdict_stage (part_or_line id (part_of_id id parts))
 
--- no part has this id, and that was told
+-- no part has this id, and that was reported
 abbrev pub LacksPart : Bytes → List Part → DeskView → DeskView → Type 0
 LacksPart id parts old new = IsErr (part_of_id id parts) × Tells old new (no_part_line id)
 
@@ -69,12 +72,12 @@ image_or_line file (Ok good) = Ok good
 image_or_line file (Err bad) = Err (bad_file_line file bad)
 
 abbrev pub judged_image : Bytes → Format → ℕ → Bytes → Result (List (Option ℕ) × Ending) Bytes
-judged_image file format size bytes = image_or_line file (image_within 4194304 format bytes size)
+judged_image file format size bytes = image_or_line file (image_within LARGEST_IMAGE_FILE format bytes size)
 
 -- the image in a file
 abbrev pub file_image_stage : Switches → Bytes → Format → ℕ → Stage (List (Option ℕ))
 file_image_stage switches file format size = do
-  given ← file_stage file 4194304 (judged_image file format size)
+  given ← file_stage file LARGEST_IMAGE_FILE (judged_image file format size)
   ok ← saying_stage (warning_says switches file given.1)
   verdict_stage (Ok given.0)
 
@@ -106,7 +109,7 @@ op_stage switches part u op.Read = verdict_stage (Ok (Read u.memory u.format u.f
 abbrev pub task_stage : Switches → Part → Update → Stage Task
 task_stage switches part u = op_stage switches part u u.op
 
--- the tasks so far, and those of the updates behind them
+-- the tasks so far, and those of the updates after them
 abbrev pub tasks_stage : Switches → Part → List Task → List Update → Stage (List Task)
 tasks_stage switches part tasks [] = verdict_stage (Ok tasks)
 tasks_stage switches part tasks (u ∷ updates) =

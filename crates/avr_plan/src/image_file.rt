@@ -6,7 +6,7 @@ ghost use Rattle.avr_records.specs.declared.kind.Found.{Found as AnyFound};
 ghost use Rattle.avr_plan.specs.Faults.{read_fault_number};
 ghost use Rattle.avr_plan.specs.ImageFile.{kind_of, whole_file};
 ghost use Rattle.avr_desk.specs.Files.{IsCounted};
-ghost use Rattle.avr_plan.specs.ImageReading.{IsGiven, FrontIsRead, RestIsRead, OpenIsRead, ImageIsRead, IsCountedRead};
+ghost use Rattle.avr_plan.specs.ImageReading.{IsGiven, FirstBytesAreRead, RestIsRead, OpenIsRead, ImageIsRead, IsCountedRead};
 ghost use Rattle.avr_plan.specs.Intake.{Takes, fed_count};
 ghost use Rattle.ghosts.specs.Stays.{Stays};
 
@@ -20,13 +20,13 @@ use std::alloc::Global;
 use thiserror::Error;
 
 /// The most bytes of an image file.
-pub(crate) const LIMIT: usize = 4_194_304;
+pub(crate) const LARGEST_IMAGE_FILE: usize = 4_194_304;
 
 /// How many bytes of a file show its format. They are held beside each piece of it.
-const FRONT: usize = 1024;
+const FIRST_BYTES: usize = 1024;
 
 /// The most bytes that are asked of a desk at a time, so that 4,096 are held in all.
-const PIECE: usize = 4096 - FRONT;
+const PIECE: usize = 4096 - FIRST_BYTES;
 
 /// Why no image came of a file. It shows as the reason alone, without the file's name.
 #[derive(Clone, Copy, Debug, PartialEq, Eq, Error)]
@@ -51,46 +51,45 @@ impl ReadFault {
     }
 }
 
-/// The front of a file: all that it has, or enough to show its format.
+/// The first bytes of a file: all that it has, or enough to show its format.
 #[derive(Drop)]
-pub(crate) struct Front {
-    pub bytes: ArrayVec<u8, FRONT>,
+pub(crate) struct FirstBytes {
+    pub bytes: ArrayVec<u8, FIRST_BYTES>,
     pub ended: bool,
 }
 
-/// The kind of a file of this format, by its front where no kind is given.
-fn file_kind(format: Format, front: &[u8]) -> Found
-    ensures { result ≡ kind_of format front.now }
+/// The kind of a file of this format, by its first bytes where no kind is given.
+fn file_kind(format: Format, prefix: &[u8]) -> Found
+    ensures { result ≡ kind_of format prefix.now }
 {
     match format {
         Format::Ihex => Found::Ihex,
         Format::Srec => Found::Srec,
         Format::Raw => Found::Raw,
-        _ => detect(front),
+        _ => detect(prefix),
     }
 }
 
-/// Reads the front of the open file.
-fn read_front<D: Desk>(desk: &mut D) -> Result<Front, FileFault>
-    ensures kept { FrontIsRead (D.view desk.old) (D.view desk.new) result }
+fn read_first_bytes<D: Desk>(desk: &mut D) -> Result<FirstBytes, FileFault>
+    ensures kept { FirstBytesAreRead (D.view desk.old) (D.view desk.new) result }
     ensures rises { Follows (D.view desk.old) (D.view desk.new) }
     ensures counted { IfErr result (IsCounted (D.view desk.old) (D.view desk.new)) }
     ensures sound { OnOk result (HasSameCounts (D.view desk.old) (D.view desk.new)) }
     ensures stays { Stays D.comes_of desk.old desk.new }
 {
-    let mut bytes: ArrayVec<u8, FRONT> = ArrayVec::new();
-    let mut piece = [0u8; FRONT];
-    'front: while !bytes.is_full() {
+    let mut bytes: ArrayVec<u8, FIRST_BYTES> = ArrayVec::new();
+    let mut piece = [0u8; FIRST_BYTES];
+    'prefix: while !bytes.is_full() {
         let room = bytes.remaining_capacity();
         let Ok(given) = desk.read(&mut piece[..room]) else {
             return Err(FileFault::NotRead);
         };
         if given == 0 {
-            return Ok(Front { bytes, ended: true });
+            return Ok(FirstBytes { bytes, ended: true });
         }
         let _ = bytes.try_extend_from_slice(&piece[..given]);
     }
-    Ok(Front {
+    Ok(FirstBytes {
         bytes,
         ended: false,
     })
@@ -148,7 +147,7 @@ fn read_open<D: Desk>(
     size: u32,
     limit: usize,
 ) -> Result<(Image, Ending), ReadFault>
-    requires front { FRONT ≤ limit }
+    requires prefix { FIRST_BYTES ≤ limit }
     requires most { limit < 2 ^ 31 }
     ensures read { OpenIsRead limit format size (D.view desk.old) (D.view desk.new) result }
     ensures rises { Follows (D.view desk.old) (D.view desk.new) }
@@ -156,16 +155,16 @@ fn read_open<D: Desk>(
     ensures sound { OnOk result (HasSameCounts (D.view desk.old) (D.view desk.new)) }
     ensures stays { Stays D.comes_of desk.old desk.new }
 {
-    let front = match read_front(desk) {
-        Ok(front) => front,
+    let prefix = match read_first_bytes(desk) {
+        Ok(prefix) => prefix,
         Err(fault) => return Err(ReadFault::File(fault)),
     };
-    let bytes = front.bytes.as_slice();
+    let bytes = prefix.bytes.as_slice();
     let intake = match Intake::new(alloc, file_kind(format, bytes), size) {
         Ok(intake) => intake.fed(bytes),
         Err(fault) => return Err(ReadFault::File(fault)),
     };
-    if front.ended {
+    if prefix.ended {
         return finish(intake);
     }
     read_rest(desk, intake, limit - bytes.len())
@@ -193,14 +192,14 @@ pub fn read_image<D: Desk>(
     format: Format,
     size: u32,
 ) -> Result<(Image, Ending), ReadFault>
-    ensures read { ImageIsRead 4194304 format size name.now (D.view desk.old) (D.view desk.new) result }
+    ensures read { ImageIsRead LARGEST_IMAGE_FILE format size name.now (D.view desk.old) (D.view desk.new) result }
     ensures rises { Follows (D.view desk.old) (D.view desk.new) }
     ensures counted { IfErr result (IsCountedRead (D.view desk.old) (D.view desk.new)) }
     ensures sound { OnOk result (HasSameCounts (D.view desk.old) (D.view desk.new)) }
     ensures stays { Stays D.comes_of desk.old desk.new }
 {
     match desk.open(name) {
-        Ok(()) => read_open(alloc, desk, format, size, LIMIT),
+        Ok(()) => read_open(alloc, desk, format, size, LARGEST_IMAGE_FILE),
         Err(DeskFault::NotFound) => Err(ReadFault::File(FileFault::Absent)),
         Err(DeskFault::Failed) => Err(ReadFault::File(FileFault::NotOpened)),
     }

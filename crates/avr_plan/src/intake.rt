@@ -51,7 +51,6 @@ pub(crate) enum Intake {
     Faulty(BadFile),
 }
 
-/// A reader of a record file.
 fn record_intake(alloc: Global, kind: Kind, size: u32) -> Result<Intake, FileFault>
     ensures { MatchResult result (λ intake. Takes (found_as kind) size intake [] × (fed_count intake ≡ 0))
         (λ fault. fault ≡ FileFault.Memory) }
@@ -62,7 +61,6 @@ fn record_intake(alloc: Global, kind: Kind, size: u32) -> Result<Intake, FileFau
     }
 }
 
-/// A reader of raw bytes.
 fn raw_intake(alloc: Global, size: u32) -> Result<Intake, FileFault>
     ensures { MatchResult result (λ intake. Takes Found.Raw size intake [] × (fed_count intake ≡ 0))
         (λ fault. fault ≡ FileFault.Memory) }
@@ -73,7 +71,7 @@ fn raw_intake(alloc: Global, size: u32) -> Result<Intake, FileFault>
     }
 }
 
-/// What is wrong with a file that is too long, with this fault in its front.
+/// What is wrong with a file that is too long, with this fault in its first bytes.
 fn in_long_file(fault: BadFile) -> BadFile
     ensures { result ≡ in_long_file fault }
 {
@@ -132,7 +130,7 @@ impl Intake {
         }
     }
 
-    /// What is wrong with the file, of which this was the front.
+    /// What is wrong with the file, which began so.
     pub(crate) fn exceeded(self) -> BadFile
         ensures { (found : AnyFound) (size : ℕ) (text : Bytes) → Takes found size self text
             → result ≡ long_file found text size }

@@ -22,13 +22,13 @@ pub fn a_plan_only_reads_and_warns()
 /// its line, or the messages end with the line of memory.
 pub fn a_sound_plan_is_refused_aloud()
     ensures { (s : Settings) (before after : Record) (k l m n status : ℕ) → HasStood k l
-        → ((front : Bytes) → after.messages ≡ front ++ memory_line → ⊥)
+        → ((prefix : Bytes) → after.messages ≡ prefix ++ memory_line → ⊥)
         → Goes (planned s) (showing before k m) (showing after l n) (Err status)
         → WentRefused (planned s) (showing before k m) (showing after l n) }
 {}
 
 /// Planning is a function of the files: where each opening was true of them, and none was left before its end or its
-/// limit, what came of it, and each line that was told, are those of planning over the files whole.
+/// limit, what came of it, and each line that was reported, are those of planning over the files whole.
 pub fn a_plan_is_of_whole_files()
     ensures { (s : Settings) (stock : Stock) (openings : List Opening) → AreSeen stock (planned s openings).says
         → ((planned s openings).answer ≡ Unread → ⊥)

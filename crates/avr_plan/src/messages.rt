@@ -2,14 +2,13 @@
 ghost use Rattle.std.specs.Prelude.{◌≡◌};
 ghost use Rattle.avr_plan.specs.Lines.{bad_file_pieces, field_pieces, image_pieces, in_line_pieces, line_range_pieces, no_part_pieces, part_file_pieces, range_pieces, raw_pieces, read_only_pieces, record_pieces, value_pieces, values_pieces};
 
-use crate::image_file::{LIMIT, ReadFault};
+use crate::image_file::{LARGEST_IMAGE_FILE, ReadFault};
 use crate::intake::BadFile;
 use avr_desk::{Message, Piece, file_message, memory_message, too_long_message};
 use avr_image::ImageFault;
 use avr_part::{Field, Mem, PartFault};
 use avr_records::RecordFault;
 
-/// What is wrong with a field of a part file.
 fn field_message<'a>(file: &'a str, field: Field, wrong: &'a str) -> Message<'a>
     ensures { result ≡ field_pieces file.now field wrong.now }
 {
@@ -21,7 +20,6 @@ fn field_message<'a>(file: &'a str, field: Field, wrong: &'a str) -> Message<'a>
     ])
 }
 
-/// What is wrong with a part file.
 pub(crate) fn part_file_message<'a>(file: &'a str, fault: PartFault) -> Message<'a>
     ensures { result ≡ part_file_pieces file.now fault }
 {
@@ -35,14 +33,12 @@ pub(crate) fn part_file_message<'a>(file: &'a str, fault: PartFault) -> Message<
     }
 }
 
-/// There is no part of this id.
 pub(crate) fn no_part_message<'a>(id: &'a str) -> Message<'a>
     ensures { result ≡ no_part_pieces id.now }
 {
     Message::about("no part ", id)
 }
 
-/// What is wrong with a line of a file.
 fn in_line_message<'a>(file: &'a str, line: u32, wrong: &'a str) -> Message<'a>
     ensures { result ≡ in_line_pieces file.now line wrong.now }
 {
@@ -68,7 +64,6 @@ fn line_range_message<'a>(file: &'a str, line: u32, address: u32) -> Message<'a>
     ])
 }
 
-/// What is wrong with a record file.
 fn record_message<'a>(file: &'a str, fault: RecordFault) -> Message<'a>
     ensures { result ≡ record_pieces file.now fault }
 {
@@ -98,7 +93,6 @@ fn range_message<'a>(name: &'a str, address: u32) -> Message<'a>
     ])
 }
 
-/// What is wrong with raw bytes.
 fn raw_message<'a>(file: &'a str, fault: ImageFault) -> Message<'a>
     ensures { result ≡ raw_pieces file.now fault }
 {
@@ -117,7 +111,7 @@ fn bad_file_message<'a>(file: &'a str, fault: BadFile) -> Message<'a>
         BadFile::Record(fault) => record_message(file, fault),
         BadFile::Raw(fault) => raw_message(file, fault),
         BadFile::Elf => Message::about(file, ": ELF is not read"),
-        BadFile::TooLong => too_long_message(file, LIMIT as u32),
+        BadFile::TooLong => too_long_message(file, LARGEST_IMAGE_FILE as u32),
     }
 }
 
@@ -143,7 +137,6 @@ fn value_message<'a>(memory: Mem, place: u32, wrong: &'a str) -> Message<'a>
     ])
 }
 
-/// What is wrong with the values for a memory.
 pub(crate) fn values_message(memory: Mem, fault: ImageFault) -> Message<'static>
     ensures { result ≡ values_pieces memory fault }
 {

@@ -11,19 +11,18 @@ use avr_part::{Part, PartFault, Parts, parse_parts};
 use std::alloc::Global;
 
 /// The most bytes of a part file.
-const LIMIT: usize = 65_536;
+const LARGEST_PART_FILE: usize = 65_536;
 
-/// The parts of a part file.
 fn file_parts<D: Desk>(alloc: Global, desk: &mut D, file: &str) -> Result<Parts, u8>
     ensures goes { Goes (parts_stage (Some file.now)) (D.view desk.old) (D.view desk.new) result }
     ensures stays { Stays D.comes_of desk.old desk.new }
 {
-    let contents = match read_file(alloc, desk, file, LIMIT) {
+    let contents = match read_file(alloc, desk, file, LARGEST_PART_FILE) {
         Ok(contents) => contents,
         Err(fault) => return Err(refuse(desk, &file_message(file, fault))),
     };
     if !contents.ended {
-        return Err(refuse(desk, &too_long_message(file, LIMIT as u32)));
+        return Err(refuse(desk, &too_long_message(file, LARGEST_PART_FILE as u32)));
     }
     match parse_parts(alloc, contents.bytes.as_slice()) {
         Ok(parts) => Ok(parts),

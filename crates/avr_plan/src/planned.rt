@@ -49,7 +49,7 @@ impl Tasks {
         }
     }
 
-    /// Puts a task behind the others. Where memory is refused they stay as they are.
+    /// Puts a task after the others. Where memory is refused they stay as they are.
     pub(crate) fn push(&mut self, task: Task) -> Result<(), AllocError>
         ensures { self.new ≡ (if is_ok result then self.old ++ task ∷ [] else self.old) }
     {
@@ -84,7 +84,6 @@ impl Model for Plan {
 }
 
 impl Plan {
-    /// The plan of these tasks.
     pub(crate) fn new(part: Part, tasks: Tasks, switches: Switches) -> Plan
         requires { All (IsFitted part) tasks }
         ensures { result ≡ record { part = part; tasks = tasks; switches = switches } }

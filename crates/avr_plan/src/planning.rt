@@ -16,7 +16,6 @@ use avr_desk::{Desk, memory_message, refuse};
 use avr_part::Part;
 use std::alloc::Global;
 
-/// The task of a write.
 fn write_task<D: Desk>(
     alloc: Global,
     desk: &mut D,
@@ -38,7 +37,6 @@ fn write_task<D: Desk>(
     }
 }
 
-/// The task of a comparison.
 fn verify_task<D: Desk>(
     alloc: Global,
     desk: &mut D,
@@ -57,7 +55,6 @@ fn verify_task<D: Desk>(
     }
 }
 
-/// The task of a read.
 fn read_task<D: Desk>(alloc: Global, desk: &mut D, update: &Update) -> Result<Task, u8>
     ensures goes { (switches : AnySwitches) (part : PartData) → Goes (op_stage switches part update.now Op.Read)
         (D.view desk.old) (D.view desk.new) result }
@@ -74,7 +71,6 @@ fn read_task<D: Desk>(alloc: Global, desk: &mut D, update: &Update) -> Result<Ta
     }
 }
 
-/// The task of an update.
 fn update_task<D: Desk>(
     alloc: Global,
     desk: &mut D,

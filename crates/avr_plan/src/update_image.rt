@@ -47,7 +47,6 @@ fn warn_of_ending<D: Desk>(
     }
 }
 
-/// The image in a file.
 fn file_image<D: Desk>(
     alloc: Global,
     desk: &mut D,
@@ -89,7 +88,6 @@ fn values_image<D: Desk>(
     }
 }
 
-/// The image of an update for a part.
 pub(crate) fn update_image<D: Desk>(
     alloc: Global,
     desk: &mut D,

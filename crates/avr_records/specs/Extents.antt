@@ -13,13 +13,13 @@ use Rattle.avr_records.specs.declared.fault.LineFault.{LineFault}
 use Rattle.avr_records.specs.declared.fault.LineFault.TheVariants.{Range, Count}
 use Rattle.avr_records.specs.declared.fault.RecordFault.{RecordFault}
 
--- where bytes end that all lie in the largest memory; or the first address outside it is told
+-- where bytes end that all lie in the largest memory; or the first address outside it is reported
 abbrev pub EndsAt : List (ℕ × ℕ) → Result ℕ ℕ → Type 0
 EndsAt places result =
     MatchResult result (λ end. (beyond largest places ≡ None) × (end ≡ end_of places))
     (λ addr. beyond largest places ≡ Some addr)
 
--- the fault of what a line means behind such lines
+-- the fault of what a line means after such lines
 abbrev pub fault_past : Extent → Meaning → Option LineFault
 fault_past e (Data offset bytes) = option_map Range (beyond largest (places e.base offset bytes))
 fault_past e (Counted n) = if n == e.data_records then None else Some Count

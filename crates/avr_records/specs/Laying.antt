@@ -5,7 +5,7 @@ use Rattle.avr_records.specs.Reading.{beyond}
 use Rattle.avr_records.specs.declared.kind.Base.{Base}
 use Rattle.avr_records.specs.declared.kind.Base.TheVariants.{Linear, Segment}
 
--- bytes were laid at these places, all inside the image; or the first address outside it is told
+-- bytes were laid at these places, all inside the image; or the first address outside it is reported
 abbrev pub Lays : List (Option ℕ) → List (ℕ × ℕ) → List (Option ℕ) → Result Unit ℕ → Type 0
 Lays old places new result =
     MatchResult result (λ _. (beyond (length old) places ≡ None) × (new ≡ laid_over old places))

@@ -11,13 +11,13 @@ abbrev pub kept_of_line : List ℕ → Option (List ℕ)
 kept_of_line line = if nat_lt longest (length line) then None else Some line
 
 -- This is what the lines of the text that have ended leave, none of them at fault, and what is kept of the last one.
--- Behind an end record nothing needs to be kept.
+-- After an end record nothing needs to be kept.
 pub record ReadsLines (kind : Kind) (progress : Progress) (part : Option (List ℕ)) (text : List ℕ) : Type 0 where
-  pub front : List (List ℕ)
+  pub prefix : List (List ℕ)
   pub last : List ℕ
-  pub cut : lines text ≡ front ++ last ∷ []
-  pub follows : MatchBool progress.ended (HoldsToEnd progress (map (said_by_line kind) front))
-      (Held progress (map (said_by_line kind) front) × (part ≡ kept_of_line last))
+  pub cut : lines text ≡ prefix ++ last ∷ []
+  pub follows : MatchBool progress.ended (HoldsToEnd progress (map (said_by_line kind) prefix))
+      (Held progress (map (said_by_line kind) prefix) × (part ≡ kept_of_line last))
 
 -- What a reader holds: the kind of file, what the lines so far leave, what is kept of the last one, how many bytes
 -- came, and whether it met a fault.

@@ -7,7 +7,7 @@ use Rattle.avr_records.specs.Text.{rows, ihex_rows, ihex_row_size, srec_rows, ad
 use Rattle.avr_records.specs.declared.kind.Kind.{Kind}
 use Rattle.avr_records.specs.declared.kind.Ending.TheVariants.{Ended}
 
--- the rows of each run, one run behind the other
+-- the rows of each run, one run after the other
 abbrev pub rows_of : (ℕ → ℕ) → List (ℕ × List ℕ) → List (ℕ × List ℕ)
 rows_of size = flat_map (λ run. rows size run.0 run.1)
 

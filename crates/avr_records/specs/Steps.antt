@@ -28,7 +28,7 @@ progress_of p = record {
   ended = p.ended;
 }
 
--- the fault of what a line means behind such lines
+-- the fault of what a line means after such lines
 abbrev pub fault_at : Progress → Meaning → Option LineFault
 fault_at p (Data offset bytes) = option_map Range (beyond (image_size p) (places p.base offset bytes))
 fault_at p (Counted n) = if n == p.data_records then None else Some Count
@@ -75,7 +75,7 @@ abbrev pub kept_says : Kind → Option (List ℕ) → Said
 kept_says kind None = Err TooLong
 kept_says kind (Some line) = said_by_line kind line
 
--- What is left once a line has ended, of which this was kept and then this came. Nothing counts behind an end record.
+-- What is left once a line has ended, of which this was kept and then this came. Nothing counts after an end record.
 abbrev pub line_step : Kind → Progress → Option (List ℕ) → List ℕ → Result Progress RecordFault
 line_step kind p part more = if p.ended then Ok p else next_progress p (kept_says kind (grown part more))
 

@@ -68,7 +68,7 @@ pub(crate) fn decode_digits<'b>(
 }
 
 /// The sum of bytes, modulo 256.
-#[tactic(auto, using(crate::proofs::Sums::low_sum_is))]
+#[tactic(auto, using(crate::proofs::Texts::Sums::low_sum_is))]
 pub(crate) fn low_sum_of(bytes: &[u8]) -> u8
     ensures { result ≡ sum bytes.now % 256 }
 {

@@ -1,4 +1,4 @@
-//! What the front of a file shows.
+//! What the first bytes of a file show.
 ghost use Rattle.std.specs.Prelude.{◌≡◌, Some, length, take, find, not, true, false, MatchOption};
 ghost use Rattle.std.specs.List.{list_all};
 ghost use Rattle.std.specs.Str.{bytes_eq};
@@ -10,13 +10,12 @@ use crate::kind::Found;
 use crate::line::{is_blank_byte, split_line};
 
 /// How many bytes of a file are looked at.
-const FRONT: usize = 1024;
+const FIRST_BYTES: usize = 1024;
 
-/// Whether an ELF file begins so.
-fn is_elf(front: &[u8]) -> bool
-    ensures { result ≡ bytes_eq (take 4 front.now) elf_mark }
+fn is_elf(prefix: &[u8]) -> bool
+    ensures { result ≡ bytes_eq (take 4 prefix.now) elf_mark }
 {
-    front.starts_with(b"\x7fELF")
+    prefix.starts_with(b"\x7fELF")
 }
 
 /// Whether n hexadecimal digits stand in front.
@@ -57,10 +56,10 @@ fn shown_unless_blank(line: &[u8]) -> Option<Found>
 }
 
 /// What the first line shows that isn't blank.
-fn first_shown(front: &[u8]) -> Found
-    ensures { result ≡ kind_of_line (find (λ line. not (list_all is_blank line)) (lines front.now)) }
+fn first_shown(prefix: &[u8]) -> Found
+    ensures { result ≡ kind_of_line (find (λ line. not (list_all is_blank line)) (lines prefix.now)) }
 {
-    let mut rest = front;
+    let mut rest = prefix;
     while let Some((line, more)) = split_line(rest) {
         if let Some(found) = shown_unless_blank(line) {
             return found;
@@ -71,17 +70,17 @@ fn first_shown(front: &[u8]) -> Found
 }
 
 /// The bytes that are looked at.
-fn looked_at(front: &[u8]) -> &[u8]
-    ensures { result.now ≡ take 1024 front.now }
+fn looked_at(prefix: &[u8]) -> &[u8]
+    ensures { result.now ≡ take 1024 prefix.now }
 {
-    if front.len() > FRONT {
-        &front[..FRONT]
+    if prefix.len() > FIRST_BYTES {
+        &prefix[..FIRST_BYTES]
     } else {
-        front
+        prefix
     }
 }
 
-/// Tells the format of a file from its front, of which the first 1,024 bytes are looked at: an ELF file by its magic
+/// Tells the format of a file from its first bytes, of which 1,024 are looked at: an ELF file by its magic
 /// number, a record file by the first line that isn't blank; anything else is raw bytes.
 ///
 /// ```text
@@ -89,11 +88,11 @@ fn looked_at(front: &[u8]) -> &[u8]
 /// assert_eq!(rt; detect(b"S107000001020304EE\n"), Found::Srec);
 /// assert_eq!(rt; detect(&[0x0C, 0x94, 0x34, 0x00]), Found::Raw);
 /// ```
-pub fn detect(front: &[u8]) -> Found
-    ensures { result ≡ kind_of_file front.now }
+pub fn detect(prefix: &[u8]) -> Found
+    ensures { result ≡ kind_of_file prefix.now }
 {
-    if is_elf(front) {
+    if is_elf(prefix) {
         return Found::Elf;
     }
-    first_shown(looked_at(front))
+    first_shown(looked_at(prefix))
 }

@@ -15,7 +15,7 @@ use crate::kind::{Base, Ending, Kind};
 use crate::line::{Line, line_says};
 use crate::progress::SEGMENT;
 
-/// The address behind the last of some bytes from an address on, 0 of none; or the first address that no memory has.
+/// The address after the last of some bytes from an address on, 0 of none; or the first address that no memory has.
 fn span_end(addr: u32, bytes: &[u8]) -> Result<u32, u32>
     ensures { EndsAt (enumerate_from addr bytes.now) result }
 {
@@ -76,7 +76,7 @@ pub struct Extent {
     pub(crate) data_records: u32,
     /// The number of lines.
     pub(crate) lines: u32,
-    /// The address behind the highest byte.
+    /// The address after the highest byte.
     pub(crate) end: u32,
 }
 
@@ -115,7 +115,7 @@ impl Extent {
     }
 
     /// Takes in what a line says, and answers whether it is the end record.
-    #[tactic(auto, using(crate::proofs::Places::near))]
+    #[tactic(auto, using(crate::proofs::Texts::Places::near))]
     fn take(&mut self, kind: Kind, line: Line<'_>) -> Result<Ending, LineFault>
         requires fits { FitsKind kind line }
         requires base { HasBase kind self.old.base }

@@ -19,7 +19,7 @@ pub enum RecordFault {
     /// The line doesn't begin with `:`, or with `S` and a decimal digit.
     #[error("line {0}: no record mark")]
     BadMark(u32),
-    /// Behind the mark stands something else than hexadecimal digits.
+    /// After the mark stands something else than hexadecimal digits.
     #[error("line {0}: bad digit")]
     BadDigit(u32),
     /// An odd number of digits, or another number of bytes than the record says or its type wants.

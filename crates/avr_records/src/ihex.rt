@@ -32,7 +32,7 @@ fn ihex_typed(record_type: u8, offset: u32, bytes: &[u8]) -> Result<LineRecord<'
     }
 }
 
-/// The record behind a size, an offset and a type.
+/// The record after a size, an offset and a type.
 fn ihex_checked(
     size: u8,
     offset: u32,

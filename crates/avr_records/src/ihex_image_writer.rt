@@ -2,26 +2,17 @@
 //!
 //! Rows of at most 32 bytes that cross neither a gap nor a multiple of 65,536; else as `IhexWriter`.
 
-ghost use Rattle.std.specs.Prelude.{◌≡◌, ◌+◌, ◌<◌, ◌≤◌, ◌↔◌, ◌++◌, length, drop, min, IsTrue, Ok};
-ghost use Rattle.avr_image.specs.Runs.{lead};
+ghost use Rattle.std.specs.Prelude.{◌≡◌, ◌<◌, ◌↔◌, ◌++◌, length, IsTrue, Ok};
 ghost use Rattle.avr_records.specs.Reading.{image_in_text};
 ghost use Rattle.avr_records.specs.Sparse.{ihex_image_text};
 ghost use Rattle.avr_records.specs.Text.{IsLine};
 
-use crate::ihex_writer::{new_upper, put_end, put_row, put_upper, row_size};
+use crate::ihex_cursor::IhexCursor;
 use crate::kind::{Ending, Kind};
 use arrayvec::ArrayVec;
 use avr_image::{Image, Pieces};
 use std::fmt;
 use std::marker::Model;
-
-/// The end of a row of at most so many bytes that begins at an address.
-pub(crate) fn row_end(image: &Image, place: u32, most: u32) -> u32
-    ensures { result ≡ place + min most (length (lead (drop place image.now))) }
-{
-    let room = most.min(image.size().saturating_sub(place));
-    image.run_from(place, place + room)
-}
 
 /// Writes the bytes of an image at their addresses as Intel HEX, record by record: rows of at most 32 bytes, none over
 /// a gap or a multiple of 65,536. Each piece is a line. Contracts see it as the text still to come.
@@ -41,25 +32,16 @@ pub(crate) fn row_end(image: &Image, place: u32, most: u32) -> u32
 #[derive(Drop)]
 pub struct IhexImageWriter<'a> {
     image: &'a Image,
-    /// The image's bytes, FF in gaps.
-    bytes: &'a [u8],
-    /// The bytes below this address were written.
-    addr: u32,
-    /// The upper 16 bits of the address that are in force.
-    upper: u16,
-    ended: bool,
+    cursor: IhexCursor,
 }
 
 impl<'a> Model for IhexImageWriter<'a> {
-    ghost use Rattle.std.specs.Prelude.{ℕ, List, ◌≡◌, length};
-    ghost use Rattle.avr_image.specs.Image.{filled_bytes};
-    ghost use Rattle.avr_records.specs.Writing.{ihex_image_rest};
+    ghost use Rattle.std.specs.Prelude.{ℕ, List};
+    ghost use Rattle.avr_records.specs.Writing.{ihex_left};
 
     ghost Value = { List ℕ };
 
-    ghost view = { λ w. ihex_image_rest w.ended w.upper w.addr w.image.now };
-
-    ghost invariant = { λ w. w.bytes.now ≡ filled_bytes w.image.now 0 (length w.image.now) };
+    ghost view = { λ w. ihex_left w.cursor w.image.now };
 }
 
 impl<'a> IhexImageWriter<'a> {
@@ -77,12 +59,11 @@ impl<'a> IhexImageWriter<'a> {
         ensures text { result ≡ ihex_image_text image.now }
         ensures reads_back { image_in_text Kind.Ihex result (length image.now) ≡ Ok (image.now, Ending.Ended) }
     {
+        // That an image holds bytes is said where they are lent.
+        let _ = image.as_slice();
         IhexImageWriter {
             image,
-            bytes: image.as_slice(),
-            addr: 0,
-            upper: 0,
-            ended: false,
+            cursor: IhexCursor::new(),
         }
     }
 }
@@ -95,25 +76,7 @@ impl Pieces for IhexImageWriter<'_> {
     ghost IsPiece = { IsLine };
 
     fn next_piece(&mut self, out: &mut ArrayVec<u8, 80>) -> bool {
-        if self.ended {
-            out.clear();
-            return false;
-        }
-        let Some(place) = self.image.first_from(self.addr) else {
-            put_end(out);
-            self.ended = true;
-            return true;
-        };
-        if let Some(upper) = new_upper(u64::from(place), self.upper) {
-            put_upper(upper, out);
-            self.upper = upper;
-            return true;
-        }
-        let end = row_end(self.image, place, row_size(u64::from(place)) as u32);
-        let row = &self.bytes[place as usize..end as usize];
-        put_row(u64::from(place), row, out);
-        self.addr = end;
-        true
+        self.cursor.next_line(self.image, out)
     }
 }
 
@@ -122,8 +85,8 @@ impl fmt::Debug for IhexImageWriter<'_> {
     fn fmt<W: fmt::Write>(&self, f: &mut fmt::Formatter<W>) -> fmt::Result {
         f.debug_struct("IhexImageWriter")
             .field("image", &self.image)
-            .field("addr", &self.addr)
-            .field("ended", &self.ended)
+            .field("addr", &self.cursor.addr)
+            .field("ended", &self.cursor.ended)
             .finish_non_exhaustive()
     }
 }

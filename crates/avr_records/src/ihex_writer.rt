@@ -18,7 +18,7 @@ const DATA: u8 = 0;
 /// The type of the record that ends a file.
 const END: u8 = 1;
 
-/// The type of a record that sets the upper 16 bits of the addresses behind it.
+/// The type of a record that sets the upper 16 bits of the addresses after it.
 const EXTENDED_LINEAR_ADDRESS: u8 = 4;
 
 /// Makes `out` a record of Intel HEX.
@@ -37,7 +37,7 @@ fn put_record(kind: u8, offset: u16, row: &[u8], out: &mut ArrayVec<u8, 80>)
     put_line(b":", fields.as_slice(), out);
 }
 
-/// Makes `out` the record that sets the upper 16 bits of the addresses behind it.
+/// Makes `out` the record that sets the upper 16 bits of the addresses after it.
 pub(crate) fn put_upper(upper: u16, out: &mut ArrayVec<u8, 80>)
     ensures text { out.new.items ≡ spec_record 4 0 (two upper) }
     ensures line { IsLine out.new.items }
@@ -93,7 +93,7 @@ pub(crate) fn row_size(addr: u64) -> usize
 #[derive(Drop)]
 pub struct IhexWriter<'a> {
     bytes: &'a [u8],
-    /// Where the first of the bytes stands; behind the last one this may be 2 to the power 32.
+    /// Where the first of the bytes stands; after the last one this may be 2 to the power 32.
     addr: u64,
     /// The upper 16 bits of the address that are in force.
     upper: u16,

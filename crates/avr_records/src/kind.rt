@@ -30,13 +30,13 @@ pub enum Kind {
 /// ```
 #[derive(Clone, Copy, Debug, Drop, PartialEq, Eq)]
 pub enum Ending {
-    /// The end record came; what stands behind it wasn't judged.
+    /// The end record came; what stands after it wasn't judged.
     Ended,
     /// The file ended without one.
     NoEnd,
 }
 
-/// What the front of a file shows.
+/// What the first bytes of a file show.
 ///
 /// ```text
 /// assert_eq!(rt; detect(b"S107000001020304EE\n"), Found::Srec);

@@ -170,7 +170,7 @@ impl LineReader {
         }
     }
 
-    /// The next line that has ended in what is left of a piece, and what follows it. Behind an end record, where
+    /// The next line that has ended in what is left of a piece, and what follows it. After an end record, where
     /// nothing counts, none is looked for.
     fn next_line<'a>(&self, rest: &'a [u8]) -> Option<(&'a [u8], &'a [u8])>
         ensures { MatchOption result (self.now.progress.ended ≡ false → lines rest.now ≡ rest.now ∷ [])

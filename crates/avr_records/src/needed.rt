@@ -1,4 +1,4 @@
-//! How large a memory a record file needs, told before there is an image.
+//! How large a memory a record file needs, reported before there is an image.
 ghost use Rattle.std.specs.Prelude.{◌≡◌, ◌<◌, ◌≤◌, ◌^◌, ℕ, List, length, Option, Ok, Err};
 ghost use Rattle.avr_records.specs.Needed.{largest, needed_in_text};
 ghost use Rattle.avr_records.specs.Reading.{image_in_text};

@@ -79,7 +79,7 @@ pub struct Progress {
     pub(crate) data_records: u32,
     /// The number of lines.
     pub(crate) lines: u32,
-    /// Whether one of them was an end record, behind which nothing counts.
+    /// Whether one of them was an end record, after which nothing counts.
     pub(crate) ended: bool,
 }
 
@@ -123,7 +123,7 @@ impl Progress {
     }
 
     /// Takes in what a line says.
-    #[tactic(auto, using(crate::proofs::Places::near))]
+    #[tactic(auto, using(crate::proofs::Texts::Places::near))]
     pub(crate) fn take(&mut self, kind: Kind, line: Line<'_>) -> Result<(), LineFault>
         requires fits { FitsKind kind line }
         requires base { HasBase kind self.old.base }

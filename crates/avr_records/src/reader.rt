@@ -128,7 +128,7 @@ impl RecordReader {
     }
 
     /// What the whole file says: the image, and whether the end record came; or the fault of its last line, where no
-    /// line end stands behind it; or `Failed` after a fault.
+    /// line end stands after it; or `Failed` after a fault.
     ///
     /// ```text
     /// let mut reader = RecordReader::new(alloc, Kind::Ihex, 4)?;
@@ -150,9 +150,9 @@ impl RecordReader {
     }
 }
 
-/// What a whole record file says, for a memory of `size` bytes: the image, and whether the end record came; or the first
-/// fault; or `Memory`, where memory is refused; or `TooLong` of a file of 2 to the power 32 bytes or more, which is not
-/// looked at. Start addresses and headers (S0) are dropped.
+/// What a whole record file says, for a memory of `size` bytes: the image, and whether the end record came; or the
+/// first fault; or `Memory`, where memory is refused; or `TooLong` of a file of 2 to the power 32 bytes or more, which
+/// is not looked at. Start addresses and headers (S0) are dropped.
 ///
 /// ```text
 /// let (image, ending) = read_records(alloc, Kind::Ihex, 4, b":0400000001020304F2\n:00000001FF\n")?;

@@ -76,7 +76,7 @@ impl Record {
     /// The number of the record's type.
     ///
     /// Of Intel HEX: 0 data, 1 end of the file, 2 extended segment address, 3 start segment address, 4 extended linear
-    /// address, 5 start linear address. Of S-records the digit behind the `S`: 0 header, 1 to 3 data, 5 and 6 a count
+    /// address, 5 start linear address. Of S-records the digit after the `S`: 0 header, 1 to 3 data, 5 and 6 a count
     /// of data records, 7 to 9 end of the file.
     ///
     /// ```text
@@ -102,7 +102,7 @@ impl Record {
         self.address
     }
 
-    /// The data bytes, at most 255. Those of the types 2 and 4 of Intel HEX are the upper part of the addresses behind
+    /// The data bytes, at most 255. Those of the types 2 and 4 of Intel HEX are the upper part of the addresses after
     /// the record, the high byte first.
     ///
     /// ```text

@@ -8,7 +8,7 @@ use crate::fault::LineFault;
 use crate::kind::Kind;
 use crate::record::LineRecord;
 
-/// A record of this type whose address has n bytes, with data behind it.
+/// A record of this type whose address has n bytes, with data after it.
 fn addressed(record_type: u8, n: usize, bytes: &[u8]) -> Result<LineRecord<'_>, LineFault>
     requires short { length bytes.now ≤ 255 }
     requires least { 2 ≤ n }
@@ -65,7 +65,7 @@ fn srec_typed(digit: u8, bytes: &[u8]) -> Result<LineRecord<'_>, LineFault>
     }
 }
 
-/// The record behind a count.
+/// The record after a count.
 fn srec_checked(digit: u8, count: u8, low_sum: u8, more: &[u8]) -> Result<LineRecord<'_>, LineFault>
     ensures is { MatchResult result (λ found. checked_srec digit count low_sum more.now ≡ Ok (record_of found))
         (λ fault. checked_srec digit count low_sum more.now ≡ Err fault) }

@@ -3,31 +3,17 @@
 //! Rows of at most 32 bytes that cross no gap, with addresses as short as the last byte that is there allows; else as
 //! `SrecWriter`.
 
-ghost use Rattle.std.specs.Prelude.{◌≡◌, ◌-◌, ◌<◌, ◌↔◌, ◌++◌, length, drop, IsTrue, Ok};
+ghost use Rattle.std.specs.Prelude.{◌≡◌, ◌<◌, ◌↔◌, ◌++◌, length, IsTrue, Ok};
 ghost use Rattle.avr_records.specs.Reading.{image_in_text};
-ghost use Rattle.avr_records.specs.Sparse.{srec_image_text, last_held};
+ghost use Rattle.avr_records.specs.Sparse.{srec_image_text};
 ghost use Rattle.avr_records.specs.Text.{IsLine};
 
-use crate::ihex_image_writer::row_end;
 use crate::kind::{Ending, Kind};
-use crate::srec_writer::{ROW_SIZE, address_size_of, put_end, put_row};
+use crate::srec_cursor::SrecCursor;
 use arrayvec::ArrayVec;
 use avr_image::{Image, Pieces};
 use std::fmt;
 use std::marker::Model;
-
-/// The last address that holds a byte, or 0.
-fn last_held_of(image: &Image) -> u32
-    ensures { result ≡ last_held 0 0 image.now }
-{
-    let mut last = 0;
-    let mut addr = 0;
-    'runs: while let Some(place) = image.first_from(addr) {
-        addr = row_end(image, place, image.size());
-        last = addr.saturating_sub(1);
-    }
-    last
-}
 
 /// Writes the bytes of an image at their addresses as S-records, record by record: rows of at most 32 bytes, none over
 /// a gap. Each piece is a line. Contracts see it as the text still to come.
@@ -47,24 +33,18 @@ fn last_held_of(image: &Image) -> u32
 #[derive(Drop)]
 pub struct SrecImageWriter<'a> {
     image: &'a Image,
-    /// The image's bytes, FF in gaps.
-    bytes: &'a [u8],
-    /// The bytes below this address were written.
-    addr: u32,
-    /// How many bytes each address has, from 2 to 4.
-    address_size: usize,
-    ended: bool,
+    cursor: SrecCursor,
 }
 
 impl<'a> Model for SrecImageWriter<'a> {
     ghost use Rattle.std.specs.Prelude.{ℕ, List};
-    ghost use Rattle.avr_records.specs.Writing.{srec_image_rest, IsSrecImageState};
+    ghost use Rattle.avr_records.specs.Writing.{srec_left, HasAddressSize};
 
     ghost Value = { List ℕ };
 
-    ghost view = { λ w. srec_image_rest w.ended w.address_size w.addr w.image.now };
+    ghost view = { λ w. srec_left w.cursor w.image.now };
 
-    ghost invariant = { λ w. IsSrecImageState w.address_size w.bytes.now w.image.now };
+    ghost invariant = { λ w. HasAddressSize w.cursor };
 }
 
 impl<'a> SrecImageWriter<'a> {
@@ -83,13 +63,11 @@ impl<'a> SrecImageWriter<'a> {
         ensures text { result ≡ srec_image_text image.now }
         ensures reads_back { image_in_text Kind.Srec result (length image.now) ≡ Ok (image.now, Ending.Ended) }
     {
-        let address_size = address_size_of(last_held_of(image));
+        // That an image holds bytes is said where they are lent.
+        let _ = image.as_slice();
         SrecImageWriter {
             image,
-            bytes: image.as_slice(),
-            addr: 0,
-            address_size,
-            ended: false,
+            cursor: SrecCursor::new(image),
         }
     }
 }
@@ -102,20 +80,7 @@ impl Pieces for SrecImageWriter<'_> {
     ghost IsPiece = { IsLine };
 
     fn next_piece(&mut self, out: &mut ArrayVec<u8, 80>) -> bool {
-        if self.ended {
-            out.clear();
-            return false;
-        }
-        let Some(place) = self.image.first_from(self.addr) else {
-            put_end(self.address_size, out);
-            self.ended = true;
-            return true;
-        };
-        let end = row_end(self.image, place, ROW_SIZE as u32);
-        let row = &self.bytes[place as usize..end as usize];
-        put_row(self.address_size, place, row, out);
-        self.addr = end;
-        true
+        self.cursor.next_line(self.image, out)
     }
 }
 
@@ -124,8 +89,8 @@ impl fmt::Debug for SrecImageWriter<'_> {
     fn fmt<W: fmt::Write>(&self, f: &mut fmt::Formatter<W>) -> fmt::Result {
         f.debug_struct("SrecImageWriter")
             .field("image", &self.image)
-            .field("addr", &self.addr)
-            .field("ended", &self.ended)
+            .field("addr", &self.cursor.addr)
+            .field("ended", &self.cursor.ended)
             .finish_non_exhaustive()
     }
 }

@@ -15,7 +15,7 @@ use std::marker::Model;
 /// How many bytes of data a row has, but for the last one.
 pub(crate) const ROW_SIZE: usize = 32;
 
-/// Puts the low bytes of an address behind the fields that stand there, the high one first.
+/// Puts the low bytes of an address after the fields that stand there, the high one first.
 fn append_address(fields: &mut Fields, size: usize, addr: u32)
     requires least { 2 ≤ size }
     requires most { size ≤ 4 }
@@ -97,7 +97,7 @@ pub(crate) fn address_size_of(last: u32) -> usize
 #[derive(Drop)]
 pub struct SrecWriter<'a> {
     bytes: &'a [u8],
-    /// Where the first of the bytes stands; behind the last one this may be 2 to the power 32.
+    /// Where the first of the bytes stands; after the last one this may be 2 to the power 32.
     addr: u64,
     /// How many bytes each address has, from 2 to 4.
     address_size: usize,

@@ -1,4 +1,4 @@
-//! A line that is written: the fields of a record as digits, behind its marks.
+//! A line that is written: the fields of a record as digits, after its marks.
 
 ghost use Rattle.std.specs.Prelude.{◌≡◌, ◌+◌, ◌*◌, ◌<◌, ◌≤◌, [], ◌∷◌, ◌++◌, length, map, not, true};
 ghost use Rattle.std.specs.List.{list_all};
@@ -12,7 +12,7 @@ use arrayvec::ArrayVec;
 /// The bytes of a record: at most a count, four address bytes, 32 bytes of data and a checksum.
 pub(crate) type Fields = ArrayVec<u8, 38>;
 
-/// Puts bytes behind those that stand there; there is room for them.
+/// Puts bytes after those that stand there; there is room for them.
 pub(crate) fn append<const N: usize>(out: &mut ArrayVec<u8, N>, bytes: &[u8])
     requires { length out.old.items + length bytes.now ≤ N }
     ensures { out.new.items ≡ out.old.items ++ bytes.now }
@@ -30,7 +30,7 @@ fn raise(digits: &mut [u8])
 }
 
 /// Writes the upper-case digits of some bytes.
-#[tactic(auto, using(crate::proofs::Pieces::raised_encode))]
+#[tactic(auto, using(crate::proofs::Writers::Pieces::raised_encode))]
 fn put_digits(bytes: &[u8], digits: &mut [u8])
     requires { length digits.old ≡ 2 * length bytes.now }
     ensures { digits.new ≡ encode_upper bytes.now }

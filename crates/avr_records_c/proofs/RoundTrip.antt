@@ -1,19 +1,16 @@
 -- What is written of a memory reads back.
-use Rattle.std.proofs.Common.{◌≡◌, ◌∙◌, ap, sym, refl, arith, ℕ, zero, suc, ◌<◌, ◌≤◌, ◌^◌, List, [], ◌∷◌, length, Bool, true, false, cond, Some, None, Ok}
+use Rattle.std.proofs.Common.{◌≡◌, ◌∙◌, ap, sym, arith, ℕ, zero, suc, ◌<◌, ◌≤◌, ◌^◌, List, [], ◌∷◌, length, Bool, true, false, cond, Some, None, Ok}
 use Rattle.avr_image.specs.Image.{HoldsBytes}
 use Rattle.avr_records.specs.Reading.{image_in_text}
 use Rattle.avr_records.specs.declared.kind.Ending.TheVariants.{Ended}
 use Rattle.avr_records.specs.declared.kind.Kind.{Kind}
 use Rattle.avr_records.specs.declared.kind.Kind.TheVariants.{Ihex, Srec}
-use Rattle.avr_records.proofs.Sparse.{ihex-image-reads-back, srec-image-reads-back}
+use Rattle.avr_records.proofs.Writers.Sparse.{ihex-image-reads-back, srec-image-reads-back}
+use Rattle.avr_records_c.proofs.Walks.{length-image}
 use Rattle.avr_records_c.specs.Bitmap.{is_there, image_from, image_of}
 use Rattle.avr_records_c.specs.Reading.{left_in}
 use Rattle.avr_records_c.specs.RoundTrip.{EachIsByte, written_and_read}
 use Rattle.avr_records_c.specs.Writing.{image_text}
-
-length-image : (addr : ℕ) (present bytes : List ℕ) → length (image_from addr present bytes) ≡ length bytes
-length-image addr present [] = refl
-length-image addr present (b ∷ bytes) = ap suc (length-image (suc addr) present bytes)
 
 byte_below : (there : Bool) (b byte : ℕ) → b < 256 → cond there (Some b) None ≡ Some byte → byte < 256
 byte_below true b byte small is = let same : b ≡ byte = cc is in omega (arith, same)

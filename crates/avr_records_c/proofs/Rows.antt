@@ -1,16 +1,17 @@
 -- The definitions, tried on examples.
-use Rattle.std.proofs.Common.{◌≡◌, ap, refl, arith, false, ℕ, List, [], ◌∷◌, codes, Option, Some, None, Ok, Err, inl, inr}
+use Rattle.std.proofs.Common.{◌≡◌, ap, refl, arith, false, ℕ, List, [], ◌∷◌, drop, Option, Some, None, Ok, Err, inl, inr}
 use Rattle.avr_records.specs.declared.fault.RecordFault.TheVariants.{BadSum, OutOfRange}
 use Rattle.avr_records.specs.declared.kind.Kind.TheVariants.{Ihex, Srec}
+use Rattle.avr_records.specs.Sparse.{ihex_image_text, srec_image_text}
 use Rattle.avr_records_c.specs.Numbers.{outcome_of_fault, misfit, no_records}
 use Rattle.avr_records_c.specs.Bitmap.{octets_of, bitmap, image_of}
 use Rattle.avr_records_c.specs.Reading.{Left, asked_read, left_in, Reads}
-use Rattle.avr_records_c.specs.Writing.{Put, asked_write, put_from, put_none, Writes}
+use Rattle.avr_records_c.specs.Writing.{asked_write, file_left, file_start, put_none, Writes}
 
 abbrev gap_first : List (Option ℕ)
 gap_first = None ∷ Some 10 ∷ Some 11 ∷ []
 
--- the lowest address has the lowest bit; a bit behind the memory is 0
+-- the lowest address has the lowest bit; a bit after the memory is 0
 in_the_lowest_bits : bitmap gap_first 1 ≡ 6 ∷ []
 in_the_lowest_bits = refl
 
@@ -56,25 +57,34 @@ told_with_its_address : left_in (7 ∷ []) (8 ∷ []) (Err (OutOfRange 3 9))
     ≡ record { outcome = record { line = 3; address = 9; fault = 6; ended = false }; bytes = 7 ∷ []; present = 8 ∷ [] }
 told_with_its_address = refl
 
--- a piece is as long as its room, but at the end
-from_the_middle : put_from (codes "abcdef") 2 (0 ∷ 0 ∷ 0 ∷ [])
-    ≡ record { piece = record { length = 3; fault = 0 }; room = codes "cde" }
-from_the_middle = refl
+-- a file at its beginning, within a line, and at its end; and cursors that no call leaves
+all_at_the_beginning : file_left Srec gap_first file_start ≡ Some (srec_image_text gap_first)
+all_at_the_beginning = refl
 
-at_the_end : put_from (codes "abcdef") 5 (0 ∷ 0 ∷ [])
-    ≡ record { piece = record { length = 1; fault = 0 }; room = 102 ∷ 0 ∷ [] }
+behind_ten_bytes : file_left Ihex [] (record { addr = 0; gone = 10; upper = 0; address_size = 0; ended = 0 })
+    ≡ Some (drop 10 (ihex_image_text []))
+behind_ten_bytes = refl
+
+at_the_end : file_left Srec gap_first (record { addr = 3; gone = 0; upper = 0; address_size = 2; ended = 1 }) ≡ Some []
 at_the_end = refl
 
-behind_the_end : put_from (codes "abcdef") 7 (1 ∷ [])
-    ≡ record { piece = record { length = 0; fault = 0 }; room = 1 ∷ [] }
-behind_the_end = refl
+no_end_of_two : file_left Ihex gap_first (record { addr = 3; gone = 0; upper = 0; address_size = 0; ended = 2 }) ≡ None
+no_end_of_two = refl
+
+no_address_of_a_byte : file_left Srec gap_first
+    (record { addr = 3; gone = 0; upper = 0; address_size = 1; ended = 0 }) ≡ None
+no_address_of_a_byte = refl
+
+no_address_of_five_bytes : file_left Srec gap_first
+    (record { addr = 3; gone = 0; upper = 0; address_size = 5; ended = 0 }) ≡ None
+no_address_of_five_bytes = refl
 
 -- nothing is a good file: no call may tell a fault of it but want of memory, nor that it has an end record
 no_fault_of_nothing : Reads 1 [] [] [] (record { outcome = outcome_of_fault (BadSum 1); bytes = []; present = [] }) → ⊥
 no_fault_of_nothing (inl e) = let same : 4 ≡ 0 = ap (λ (l : Left). l.outcome.fault) e in absurd (omega (arith, same))
 no_fault_of_nothing (inr e) = let same : 4 ≡ 10 = ap (λ (l : Left). l.outcome.fault) e in absurd (omega (arith, same))
 
--- a misfit is told as one
+-- a misfit is reported as one
 no_reading_of_a_fourth_kind : Reads 4 [] [] []
     (record { outcome = outcome_of_fault (BadSum 1); bytes = []; present = [] }) → ⊥
 no_reading_of_a_fourth_kind e = let same : 4 ≡ 11 = ap (λ (l : Left). l.outcome.fault) e in absurd (omega (arith, same))
@@ -83,7 +93,6 @@ no_reading_of_a_fourth_kind e = let same : 4 ≡ 11 = ap (λ (l : Left). l.outco
 no_misfit_of_raw_bytes : Reads 0 [] [] [] (record { outcome = misfit; bytes = []; present = [] }) → ⊥
 no_misfit_of_raw_bytes e = let same : 11 ≡ 12 = ap (λ (l : Left). l.outcome.fault) e in absurd (omega (arith, same))
 
--- a file of nothing is its end record: no call may put nothing of it without a fault
-not_empty : Writes 1 [] [] 0 (0 ∷ []) (put_none 0 (0 ∷ [])) → ⊥
-not_empty (inl e) = let same : 0 ≡ 1 = ap (λ (p : Put). p.piece.length) e in absurd (omega (arith, same))
-not_empty (inr e) = let same : 0 ≡ 10 = ap (λ (p : Put). p.piece.fault) e in absurd (omega (arith, same))
+-- a file of nothing is its end record: no call may refuse it
+not_refused : Writes 1 [] [] file_start (0 ∷ []) (put_none file_start (0 ∷ [])) → ⊥
+not_refused put = absurd (omega (arith, put.good))

@@ -1,6 +1,7 @@
 pub mod Numbers
 pub mod Bitmap
 pub mod Reading
+pub mod Cursor
 pub mod Writing
 pub mod RoundTrip
 -- of the crates below, what public contracts name

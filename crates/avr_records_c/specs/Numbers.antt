@@ -10,14 +10,14 @@ use Rattle.avr_records.specs.declared.kind.Found.{Found}
 use Rattle.avr_records.specs.declared.kind.Found.TheVariants as found
 use Rattle.avr_records_c.specs.declared.outcome.Outcome.{Outcome}
 
--- what the front of a file shows
+-- what the first bytes of a file show
 abbrev pub found_number : Found → ℕ
 found_number found.Raw = 0
 found_number found.Ihex = 1
 found_number found.Srec = 2
 found_number found.Elf = 3
 
--- a kind of record file, by the number of what the front of one shows
+-- a kind of record file, by the number of what the first bytes of one show
 abbrev pub kind_numbered : ℕ → Option Kind
 kind_numbered number = if number == 1 then Some kind.Ihex else if number == 2 then Some kind.Srec else None
 

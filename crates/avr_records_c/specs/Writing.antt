@@ -1,11 +1,14 @@
 -- What C has of a record file that is written.
-use Rattle.std.specs.Prelude.{◌≡◌, ◌⊎◌, ℕ, ◌==◌, ◌&&◌, ◌^◌, nat_lt, List, ◌++◌, length, take, drop, Option, None, MatchOption, if◌then◌else◌}
+use Rattle.std.specs.Prelude.{◌≡◌, ◌⊎◌, ℕ, ◌==◌, ◌&&◌, ◌^◌, nat_lt, min, List, [], ◌∷◌, ◌++◌, length, take, drop, Option, Some, None, MatchOption, if◌then◌else◌}
 use Rattle.avr_records.specs.Sparse.{ihex_image_text, srec_image_text}
 use Rattle.avr_records.specs.Fault.{fault_number}
 use Rattle.avr_records.specs.declared.fault.RecordFault.TheVariants.{Memory}
 use Rattle.avr_records.specs.declared.kind.Kind.{Kind}
 use Rattle.avr_records.specs.declared.kind.Kind.TheVariants.{Ihex, Srec}
+use Rattle.avr_records_c.specs.declared.cursor.Cursor.{Cursor}
+use Rattle.avr_records_c.specs.declared.cursor.Lines.{Lines}
 use Rattle.avr_records_c.specs.declared.piece.Piece.{Piece}
+use Rattle.avr_records_c.specs.Cursor.{lines_of, lines_left}
 use Rattle.avr_records_c.specs.Numbers.{kind_numbered}
 use Rattle.avr_records_c.specs.Bitmap.{octets_of, image_of}
 
@@ -14,20 +17,11 @@ abbrev pub image_text : Kind → List (Option ℕ) → List ℕ
 image_text Ihex image = ihex_image_text image
 image_text Srec image = srec_image_text image
 
--- what a call leaves: how much it put, and the room that it was lent
+-- what a call leaves: how much it put, where the file stands, and the room that it was lent
 pub record Put : Type 0 where
   pub piece : Piece
+  pub cursor : Cursor
   pub room : List ℕ
-
--- the bytes of a text from one on, as many as the room takes, in its front
-abbrev pub put_from : List ℕ → ℕ → List ℕ → Put
-put_from text from room =
-    let some : List ℕ = take (length room) (drop from text) in
-    record { piece = record { length = length some; fault = 0 }; room = some ++ drop (length some) room }
-
--- nothing was put, by the fault of this number
-abbrev pub put_none : ℕ → List ℕ → Put
-put_none fault room = record { piece = record { length = 0; fault = fault }; room = room }
 
 -- the kind of file, where the number is that of one, the memory has fewer than 2 to the power 32 bytes, and the bitmap
 -- has as many octets as the memory needs
@@ -35,14 +29,66 @@ abbrev pub asked_write : ℕ → ℕ → ℕ → Option Kind
 asked_write kind size present =
     if nat_lt size (2 ^ 32) && present == octets_of size then kind_numbered kind else None
 
--- A call puts a piece of the memory's file, or memory was refused; where the arguments do not fit one another it puts
+-- The first bytes of a text, as many as a room takes, stand at its start, what was after them still does, and the
+-- others are left.
+pub record PutsOn (text rest room : List ℕ) (n : ℕ) (after : List ℕ) : Type 0 where
+  pub count : n ≡ min (length room) (length text)
+  pub left : rest ≡ drop n text
+  pub stands : after ≡ take n text ++ drop n room
+
+-- what is still to be written of a file, of which the cursor's line has lost what went out
+abbrev pub left_behind : ℕ → List (Option ℕ) → Option Lines → Option (List ℕ)
+left_behind gone image None = None
+left_behind gone image (Some lines) = Some (drop gone (lines_left lines image))
+
+-- what a cursor says is still to be written of a memory's file; none where no call leaves such a cursor
+abbrev pub file_left : Kind → List (Option ℕ) → Cursor → Option (List ℕ)
+file_left kind image cursor = left_behind cursor.gone image (lines_of kind cursor image)
+
+-- the cursor at a file's beginning
+abbrev pub file_start : Cursor
+file_start = record { addr = 0; gone = 0; upper = 0; address_size = 0; ended = 0 }
+
+-- a call puts what is left of this text on, and the cursor says what is then left
+pub record PutsText (kind : Kind) (image : List (Option ℕ)) (text room : List ℕ) (put : Put) : Type 0 where
+  pub good : put.piece.fault ≡ 0
+  pub count : put.piece.length ≡ min (length room) (length text)
+  pub stands : put.room ≡ take put.piece.length text ++ drop put.piece.length room
+  pub left : file_left kind image put.cursor ≡ Some (drop put.piece.length text)
+
+-- nothing was put, by fault 11
+abbrev pub put_none : Cursor → List ℕ → Put
+put_none cursor room = record { piece = record { length = 0; fault = 11 }; cursor = cursor; room = room }
+
+-- A call goes on with the memory's file; where the arguments do not fit one another it puts nothing, and changes
 -- nothing.
-abbrev pub Writes : ℕ → List ℕ → List ℕ → ℕ → List ℕ → Put → Type 0
-Writes kind bytes present from room put =
+abbrev pub Writes : ℕ → List ℕ → List ℕ → Cursor → List ℕ → Put → Type 0
+Writes kind bytes present cursor room put =
     MatchOption (asked_write kind (length bytes) (length present))
-    (put ≡ put_none 11 room)
-    (λ k. (put ≡ put_from (image_text k (image_of present bytes)) from room)
-    ⊎ (put ≡ put_none (fault_number Memory) room))
+    (put ≡ put_none cursor room)
+    (λ k. MatchOption (file_left k (image_of present bytes) cursor)
+    (put ≡ put_none cursor room)
+    (λ text. PutsText k (image_of present bytes) text room put))
+
+-- a call that put a piece by a cursor, and left the next one
+pub record PieceCall (kind : Kind) (image : List (Option ℕ)) (cursor next : Cursor) (piece : List ℕ) : Type 0 where
+  pub text : List ℕ
+  pub room : List ℕ
+  pub after : List ℕ
+  pub left : file_left kind image cursor ≡ Some text
+  pub goes : PutsText kind image text room
+      (record { piece = record { length = length piece; fault = 0 }; cursor = next; room = after })
+  pub prefix : piece ≡ take (length piece) after
+
+-- calls put these pieces one after the other, from a cursor on to the file's end
+abbrev pub Wrote : Kind → List (Option ℕ) → Cursor → List (List ℕ) → Type 0
+Wrote kind image cursor [] = file_left kind image cursor ≡ Some []
+Wrote kind image cursor (piece ∷ more) =
+    (next : Cursor) × PieceCall kind image cursor next piece × Wrote kind image next more
+
+abbrev pub joined : List (List ℕ) → List ℕ
+joined [] = []
+joined (piece ∷ more) = piece ++ joined more
 
 -- A call tells how many bytes the memory's file has, or memory was refused, or the arguments do not fit one another.
 abbrev pub Measures : ℕ → List ℕ → List ℕ → Piece → Type 0

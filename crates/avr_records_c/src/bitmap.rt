@@ -46,7 +46,7 @@ pub fn put_bitmap(image: &Image, present: &mut [u8])
 }
 
 /// Whether an address's bit is 1.
-fn is_there(present: &[u8], addr: usize) -> bool
+pub fn is_there(present: &[u8], addr: usize) -> bool
     requires { addr < length present.now * 8 }
     ensures { result ≡ spec_is_there present.now addr }
 {

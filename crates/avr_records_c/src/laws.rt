@@ -6,13 +6,21 @@ ghost use Rattle.avr_records.specs.declared.kind.Kind.{Kind};
 ghost use Rattle.avr_records_c.specs.Bitmap.{bitmap, image_of, is_there};
 ghost use Rattle.avr_records_c.specs.Reading.{left_in};
 ghost use Rattle.avr_records_c.specs.RoundTrip.{EachIsByte, written_and_read};
-ghost use Rattle.avr_records_c.specs.Writing.{image_text};
+ghost use Rattle.avr_records_c.specs.Writing.{Wrote, image_text, joined, file_start};
 
 /// A bit of an image's bitmap is 1 where, and only where, its address holds a byte.
 #[tactic(auto, using(crate::proofs::Bits::there_where_held))]
 pub fn a_bitmap_says_what_is_there()
     ensures { (image : List (Option ℕ)) (n addr : ℕ) → addr < n * 8
         → is_there (bitmap image n) addr ≡ is_some (byte_at image addr) }
+{}
+
+/// The pieces that calls put with one cursor, from a file's beginning to its end, joined are the file, whatever rooms
+/// they got.
+#[tactic(auto, using(crate::proofs::Cursors::pieces_join))]
+pub fn pieces_join()
+    ensures { (kind : Kind) (image : List (Option ℕ)) (pieces : List (List ℕ)) → Wrote kind image file_start pieces
+        → joined pieces ≡ image_text kind image }
 {}
 
 /// The file of a memory, read again for one of its size, gives the bytes that were there, FF in the place of the

@@ -1,21 +1,24 @@
 //! Record files for C: Intel HEX and S-records, read into a memory that the caller lends and written from one.
 //!
-//! Each function is that of avr_records over memory that belongs to the caller: no handle stays behind a call, nothing
+//! Each function is that of avr_records over memory that belongs to the caller: no handle stays after a call, nothing
 //! is global, and what a call allocates it has freed when it returns. `include/avr_records.h` declares the functions
 //! and says what their callers owe.
 #![tactic(auto)]
 
 mod bitmap;
+mod cursor;
 mod detecting;
 mod laws;
+mod memory;
 mod numbers;
 mod outcome;
 mod piece;
 mod reading;
 mod writing;
 
+pub use cursor::Cursor;
 pub use detecting::avr_records_detect;
-pub use laws::{a_bitmap_says_what_is_there, what_is_written_reads_back};
+pub use laws::{a_bitmap_says_what_is_there, pieces_join, what_is_written_reads_back};
 pub use outcome::Outcome;
 pub use piece::Piece;
 pub use reading::avr_records_read;

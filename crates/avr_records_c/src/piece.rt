@@ -5,7 +5,7 @@ ghost use Rattle.std.specs.Prelude.{◌≡◌};
 #[repr(C)]
 #[derive(Clone, Copy, Debug, PartialEq, Eq)]
 pub struct Piece {
-    /// How many bytes; 0 behind the text's end, and where there is a fault.
+    /// How many bytes; 0 after the text's end, and where there is a fault.
     pub length: usize,
     /// 0, or the number of the fault.
     pub fault: u8,

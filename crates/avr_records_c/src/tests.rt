@@ -1,7 +1,8 @@
 //! Each call as a caller in C has it.
 
 use crate::{
-    Outcome, Piece, avr_records_detect, avr_records_length, avr_records_read, avr_records_write,
+    Cursor, Outcome, Piece, avr_records_detect, avr_records_length, avr_records_read,
+    avr_records_write,
 };
 use std::alloc::Global;
 use std::process::Abort;
@@ -18,9 +19,17 @@ fn read(alloc: Global, kind: u8, text: &[u8], bytes: &mut [u8], present: &mut [u
     avr_records_read(alloc, kind, text, bytes, present)
 }
 
+const START: Cursor = Cursor {
+    addr: 0,
+    gone: 0,
+    upper: 0,
+    address_size: 0,
+    ended: 0,
+};
+
 /// The S-records of three bytes, the first of which is not there.
-fn write(alloc: Global, from: usize, room: &mut [u8]) -> Piece {
-    avr_records_write(alloc, 2, &[0xFF, 0x0A, 0x0B], &[0b110], from, room)
+fn write(cursor: &mut Cursor, room: &mut [u8]) -> Piece {
+    avr_records_write(2, &[0xFF, 0x0A, 0x0B], &[0b110], cursor, room)
 }
 
 /// The fault of a read of one data record, for a memory of so many bytes.
@@ -71,36 +80,44 @@ fn a_fault_leaves_the_memory(rt: HostRuntime) -> Result<(), Fail> {
     Ok(())
 }
 
+fn is_piece(rt: &impl Abort, piece: Piece, length: usize, fault: u8) {
+    assert_eq!(rt; piece, Piece { length, fault });
+}
+
 #[test]
 fn a_file_is_written(rt: HostRuntime) -> Result<(), Fail> {
+    let mut cursor = START;
     let mut room = [0; 64];
-    let piece = write(rt.alloc(), 0, &mut room);
-    assert_eq!(rt;
-        piece,
-        Piece {
-            length: 26,
-            fault: 0
-        }
-    );
+    let piece = write(&mut cursor, &mut room);
+    is_piece(&rt, piece, 26, 0);
     assert!(rt; room.starts_with(b"S10500010A0BE4\nS9030000FC\n\0"));
-    let piece = write(rt.alloc(), 26, &mut room);
-    assert_eq!(rt;
-        piece,
-        Piece {
-            length: 0,
-            fault: 0
-        }
-    );
-    let mut room = [0; 2];
-    let piece = write(rt.alloc(), 15, &mut room);
-    assert_eq!(rt;
-        piece,
-        Piece {
-            length: 2,
-            fault: 0
-        }
-    );
-    assert_eq!(rt; room, *b"S9");
+    let piece = write(&mut cursor, &mut room);
+    is_piece(&rt, piece, 0, 0);
+    Ok(())
+}
+
+#[test]
+fn a_file_goes_on(rt: HostRuntime) -> Result<(), Fail> {
+    let mut cursor = START;
+    let mut room = [0; 16];
+    let piece = write(&mut cursor, &mut room);
+    is_piece(&rt, piece, 16, 0);
+    assert_eq!(rt; room, *b"S10500010A0BE4\nS");
+    let piece = write(&mut cursor, &mut room);
+    is_piece(&rt, piece, 10, 0);
+    assert!(rt; room.starts_with(b"9030000FC\n"));
+    Ok(())
+}
+
+#[test]
+fn a_bad_cursor_is_told(rt: HostRuntime) -> Result<(), Fail> {
+    let mut cursor = START;
+    cursor.address_size = 5;
+    let mut room = [7; 4];
+    let piece = write(&mut cursor, &mut room);
+    is_piece(&rt, piece, 0, 11);
+    assert_eq!(rt; cursor.address_size, 5);
+    assert_eq!(rt; room, [7; 4]);
     Ok(())
 }
 

@@ -1,12 +1,16 @@
 //! A record file written from the caller's memory.
-ghost use Rattle.std.specs.Prelude.{◌≡◌, ◌<◌, ◌^◌, IfOk, IfSome, length};
+ghost use Rattle.std.specs.Prelude.{◌≡◌, ◌+◌, ◌-◌, ◌<◌, ◌≤◌, ◌^◌, ◌++◌, IfOk, IfSome, length, take, drop, min};
 ghost use Rattle.avr_records_c.specs.Bitmap.{image_of as spec_image_of, octets_of};
-ghost use Rattle.avr_records_c.specs.Writing.{asked_write as spec_asked_write, image_text, put_from, Measures, Writes};
+ghost use Rattle.avr_records_c.specs.Cursor.{kind_of_lines, lines_left, HasSoundSize};
+ghost use Rattle.avr_records_c.specs.Writing.{asked_write as spec_asked_write, image_text, Measures, PutsOn, Writes};
 
 use crate::bitmap::{image_of, is_bitmap_of};
+use crate::cursor::{Cursor, Lines, cursor_of, lines_of, next_line};
+use crate::memory::Memory;
 use crate::numbers::kind_numbered;
 use crate::outcome::MISFIT;
 use crate::piece::Piece;
+use arrayvec::ArrayVec;
 use avr_image::{Image, Pieces};
 use avr_records::{IhexImageWriter, Kind, RecordFault, SrecImageWriter};
 use std::alloc::{AllocError, Global};
@@ -42,14 +46,44 @@ fn text_of(alloc: Global, kind: Kind, present: &[u8], bytes: &[u8]) -> Option<Ve
     image_text(alloc, kind, &image).ok()
 }
 
-/// Puts the bytes of a text from one on into a room, as many as it takes.
-fn put_from(text: &[u8], from: usize, room: &mut [u8]) -> Piece
-    ensures { (record { piece = result; room = room.new }) ≡ put_from text.now from room.old }
+/// Puts a line, without its bytes that went out, after what stands in a room, as much as fits; how much that is.
+fn put_part(line: &[u8], gone: usize, room: &mut [u8], put: usize) -> usize
+    requires { put ≤ length room.old }
+    ensures count { result ≡ min (length room.old - put) (length (drop gone line.now)) }
+    ensures room { room.new ≡ take put room.old ++ (take result (drop gone line.now) ++ drop (put + result) room.old) }
 {
-    let from = from.min(text.len());
-    let length = room.len().min(text.len() - from);
-    room[..length].copy_from_slice(&text[from..from + length]);
-    Piece { length, fault: 0 }
+    let from = gone.min(line.len());
+    let count = (room.len() - put).min(line.len() - from);
+    room[put..put + count].copy_from_slice(&line[from..from + count]);
+    count
+}
+
+/// Puts what is left of a file into a room, as much as it takes; how much that is.
+fn put_left(lines: &mut Lines, gone: &mut u32, memory: &Memory<'_>, room: &mut [u8]) -> usize
+    requires { HasSoundSize lines.old }
+    ensures put { PutsOn (drop gone.old (lines_left lines.old memory.now)) (drop gone.new
+        (lines_left lines.new memory.now)) room.old result room.new }
+    ensures sound { HasSoundSize lines.new }
+    ensures kind { kind_of_lines lines.new ≡ kind_of_lines lines.old }
+{
+    let mut line = ArrayVec::new();
+    let mut put = 0;
+    'lines: while put < room.len() {
+        let mut next = *lines;
+        if !next_line(&mut next, memory, &mut line) {
+            return put;
+        }
+        let count = put_part(line.as_slice(), *gone as usize, room, put);
+        put += count;
+        if *gone as usize + count < line.len() {
+            // The room is full.
+            *gone += count as u32;
+            return put;
+        }
+        *gone -= (line.len() - count) as u32;
+        *lines = next;
+    }
+    put
 }
 
 /// Tells how many bytes the record file of a memory has, so that a room for all of it can be had; each argument is as
@@ -70,30 +104,35 @@ pub extern "C" fn avr_records_length(alloc: Global, kind: u8, bytes: &[u8], pres
     }
 }
 
-/// Puts a piece of the record file of a memory into a room that the caller lends: the file's bytes from the one
-/// numbered `from` on (the first is 0), as many as the room takes. A piece of no bytes is behind the file's end. The
-/// file has no header and no start address (0 in the end record of S-records).
+/// Puts a piece of the record file of a memory into a room that the caller lends: the file's next bytes, as many as the
+/// room takes. The cursor says where the file stands, and is then where the next call goes on; all its numbers are 0 at
+/// the beginning. A piece that is shorter than the room is the file's last. The file has no header and no start address
+/// (0 in the end record of S-records). A call takes no memory.
 ///
 /// The kind is 1 for Intel HEX and 2 for S-records; the bitmap is that of `avr_records_read`, and says which bytes of
-/// the memory belong to the file. The faults are 10, where memory is refused, and 11, where the arguments do not fit
-/// one another; then the room is as it was. Each call makes the whole file anew: a room that holds all of it, as
-/// `avr_records_length` tells, is the cheapest.
+/// the memory belong to the file. The fault is 11, where the arguments do not fit one another, or no call leaves such a
+/// cursor; then room and cursor are as they were. Of a cursor that was changed otherwise, or that stands in another
+/// memory or kind, comes what its numbers say.
 #[unsafe(no_mangle)]
 pub extern "C" fn avr_records_write(
-    alloc: Global,
     kind: u8,
     bytes: &[u8],
     present: &[u8],
-    from: usize,
+    cursor: &mut Cursor,
     room: &mut [u8],
 ) -> Piece
-    ensures { Writes kind bytes.now present.now from room.old (record { piece = result; room = room.new }) }
+    ensures { Writes kind bytes.now present.now cursor.old room.old (record
+        { piece = result; cursor = cursor.new; room = room.new }) }
 {
     let Some(kind) = asked_write(kind, bytes.len(), present.len()) else {
         return Piece::none(MISFIT);
     };
-    match text_of(alloc, kind, present, bytes) {
-        Some(text) => put_from(text.as_slice(), from, room),
-        None => Piece::none(RecordFault::Memory.number()),
-    }
+    let memory = Memory::new(present, bytes);
+    let Some(mut lines) = lines_of(kind, cursor, &memory) else {
+        return Piece::none(MISFIT);
+    };
+    let mut gone = cursor.gone;
+    let length = put_left(&mut lines, &mut gone, &memory, room);
+    *cursor = cursor_of(&lines, gone);
+    Piece { length, fault: 0 }
 }

@@ -4,7 +4,7 @@ use Rattle.avr_chip.specs.Holding.{HoldsAndLoads, Loaded}
 use Rattle.avr_cli.specs.declared.settings.Settings.{Settings}
 use Rattle.avr_desk.specs.Fault.{HasSameCounts}
 use Rattle.avr_desk.specs.Record.{Bytes, DeskView}
-use Rattle.avr_desk.proofs.Telling.{same_on}
+use Rattle.avr_desk.proofs.Lines.Told.{same_on}
 use Rattle.avr_part.specs.ChipFile.{chip_file}
 use Rattle.avr_part.specs.Part.{Part}
 use Rattle.avr_part.specs.State.{ChipState}

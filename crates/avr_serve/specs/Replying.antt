@@ -12,7 +12,7 @@ pub record Replies (old : Machine) (bytes : List ℕ) (before after : LinkView) 
   pub says : Says out before.talk after.talk
   pub answers : (p : Programmer) (text : List ℕ) → IsFed p text old → AnswersAll p text bytes out now
 
--- it was fed a front of these bytes, and the last answer to it was not sent whole
+-- it was fed a prefix of these bytes, and the last answer to it was not sent whole
 pub record RepliesPart (old : Machine) (bytes : List ℕ) (before after : LinkView) (now : Machine) : Type 0 where
   pub out : List ℕ
   pub says : Says out before.talk after.talk

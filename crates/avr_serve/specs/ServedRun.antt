@@ -55,14 +55,14 @@ JudgesPart settings file old new (Err status) =
 abbrev pub fresh_machine : chips.ChipState → Machine
 fresh_machine chip = record { held = []; programmer = fresh_programmer chip }
 
--- what is told of how serving ended; of an end that was heard nothing is
+-- what is reported of how serving ended; of an end that was heard nothing is
 abbrev pub end_pieces : Served → Option (List Bytes)
 end_pieces Ended = None
 end_pieces RecvFailed = Some (codes "link cannot be read" ∷ [])
 end_pieces SendFailed = Some (codes "link cannot be written" ∷ [])
 end_pieces TooManyReads = Some (codes "too many reads" ∷ [])
 
--- where there is a message its line was printed, or a write to the messages failed and a front of it was
+-- where there is a message its line was printed, or a write to the messages failed and a prefix of it was
 abbrev pub TellsIfAny : Option (List Bytes) → DeskView → DeskView → Type 0
 TellsIfAny None old new = new ≡ old
 TellsIfAny (Some pieces) old new = Tells old new (error pieces)
@@ -96,8 +96,8 @@ abbrev pub ServedSoundly : Sides → Sides → Type 0
 ServedSoundly old new = (new.link.failures ≡ old.link.failures) × HasSameCounts old.desk new.desk
 
 -- A fresh emulator with this chip served a link in at most so many reads: what was sent are its answers to what was
--- heard, all of them before the next read, unless a send failed. How that ended was told, and whatever it was, the chip
--- was saved as it is after the frames that came.
+-- heard, all of them before the next read, unless a send failed. How that ended was reported, and whatever it was, the
+-- chip was saved as it is after the frames that came.
 pub record ServesChip (chip : chips.ChipState) (file : Bytes) (turns : ℕ) (old new : Sides) (status : ℕ) : Type 0 where
   pub served : Served
   pub left : Machine

@@ -41,13 +41,13 @@ AnswersInTurn p text answered (Sent bytes ∷ talk) = AnswersInTurn p text (answ
 AnswersInTurn p text answered (Got tape ∷ talk) =
     (answered ≡ emulate p text) × AnswersInTurn p (text ++ bytes_of tape) answered talk
 
--- An emulator that had been fed a text was fed these bytes behind it, and these are exactly its answers to them.
+-- An emulator that had been fed a text was fed these bytes after it, and these are exactly its answers to them.
 pub record AnswersAll (p : Programmer) (text bytes out : List ℕ) (now : Machine) : Type 0 where
   pub fed : IsFed p (text ++ bytes) now
   pub answered : emulate p (text ++ bytes) ≡ emulate p text ++ out
 
--- It was fed a front of these bytes, and the answer to the last frame that ends in it was not sent whole: what was sent
--- is all answers to the frames before, and a part of this one.
+-- It was fed a prefix of these bytes, and the answer to the last frame that ends in it was not sent whole: what was
+-- sent is all answers to the frames before, and a part of this one.
 pub record BreaksOff (p : Programmer) (text bytes out : List ℕ) (now : Machine) : Type 0 where
   pub used : List ℕ
   pub unused : List ℕ
@@ -62,8 +62,8 @@ pub record BreaksOff (p : Programmer) (text bytes out : List ℕ) (now : Machine
   pub not_whole : 0 < length unsent
   pub sent_is : emulate p text ++ out ≡ answers device earlier p ++ part
 
--- What was sent, and what became of the emulator, by how serving ended: where a send failed only a front of all answers
--- was sent.
+-- What was sent, and what became of the emulator, by how serving ended: where a send failed only a prefix of all
+-- answers was sent.
 abbrev pub ServingLeaves : Served → Programmer → List ℕ → Talk → Machine → Type 0
 ServingLeaves SendFailed p text talk now =
     IsPrefixOf (emulate p text ++ sent talk) (emulate p (text ++ bytes_of (heard talk)))

@@ -1,4 +1,4 @@
-//! How serving ended is told, and the chip is saved.
+//! How serving ended is reported, and the chip is saved.
 ghost use Rattle.std.specs.Prelude.{◌≡◌};
 ghost use Rattle.avr_desk.specs.Fault.{Follows};
 ghost use Rattle.avr_part.specs.ChipFile.{chip_file};
@@ -11,7 +11,7 @@ use avr_desk::{Desk, Message, refuse};
 use avr_part::Chip;
 use std::alloc::Global;
 
-/// What is told of how serving ended; of an end that was heard nothing is.
+/// What is reported of how serving ended; of an end that was heard nothing is.
 fn end_message(served: Served) -> Option<Message<'static>>
     ensures { result ≡ end_pieces served }
 {
@@ -34,7 +34,6 @@ pub(crate) fn tell_end<D: Desk>(desk: &mut D, served: Served)
     }
 }
 
-/// The status of how serving ended.
 fn status_of(served: Served) -> u8
     ensures { result ≡ status_of_end served }
 {

@@ -159,7 +159,7 @@ pub fn serve<D: Desk, L: Link>(
     desk: &mut D,
     link: &mut L,
 ) -> u8
-    ensures runs { RunsServed settings.now file.now 16777216 (sides (L.view link.old) (D.view desk.old))
+    ensures runs { RunsServed settings.now file.now READS (sides (L.view link.old) (D.view desk.old))
         (sides (L.view link.new) (D.view desk.new)) result }
     ensures follows { Follows (D.view desk.old) (D.view desk.new) }
     ensures counted { (L.view link.old).failures ≤ (L.view link.new).failures }

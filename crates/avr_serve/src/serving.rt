@@ -7,6 +7,7 @@ ghost use Rattle.avr_serve.specs.Replying.{Replies, RepliesPart};
 
 use arrayvec::ArrayVec;
 use stk_emu::Emulator;
+use stk_frame::LARGEST_FRAME;
 use stk_host::{Heard, Link, LinkFault, send_all};
 
 /// How serving a link ended.
@@ -45,15 +46,14 @@ fn answer_piece<L: Link>(
 }
 
 /// Serves one read of the link, which is one too many where it brings no end.
-#[tactic(auto, using(crate::proofs::Turns::read_answered, crate::proofs::Turns::read_broken))]
+#[tactic(auto, using(crate::proofs::ReadByRead::read_answered, crate::proofs::ReadByRead::read_broken))]
 fn answer_next<L: Link>(emulator: &mut Emulator, link: &mut L) -> Served
     ensures serves { Serves emulator.old 1 result (L.view link.old) (L.view link.new) emulator.new }
     ensures counted { (L.view link.old).failures ≤ (L.view link.new).failures }
     ensures failed { FailsBy result (L.view link.old) (L.view link.new) }
     ensures comes { Stays L.comes_of link.old link.new }
 {
-    // room for the longest frame
-    let mut buffer = [0; 281];
+    let mut buffer = [0; LARGEST_FRAME];
     let Ok(heard) = link.recv(&mut buffer) else {
         return Served::RecvFailed;
     };

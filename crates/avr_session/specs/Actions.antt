@@ -10,16 +10,20 @@ use Rattle.avr_plan.specs.Plan.{Plan}
 use Rattle.avr_plan.specs.declared.planned.Task.{Task}
 use Rattle.avr_plan.specs.declared.planned.Task.TheVariants.{Write, Verify, Read}
 
--- A session is opened; the chip is erased, or that is left out though it was asked for; an image is written, or that is
--- left out; a memory is compared with an image; a memory is read, and saved in a file.
+-- what a dry run leaves out: the erase that was asked for, the write of an image
+pub data LeftOut : Type 0 where
+  TheErase : LeftOut
+  TheWrite : Mem → List (Option ℕ) → LeftOut
+
+-- A session is opened; the chip is erased; an image is written; a memory is compared with an image; a memory is read,
+-- and saved in a file; an erase or a write is left out.
 pub data Action : Type 0 where
   OpenSession : Action
   EraseChip : Action
-  LeaveErase : Action
   WriteImage : Mem → List (Option ℕ) → Action
-  LeaveWrite : Mem → List (Option ℕ) → Action
   CompareImage : Mem → List (Option ℕ) → Action
   SaveMemory : Mem → Format → Bytes → Action
+  LeaveOut : LeftOut → Action
 
 abbrev pub writes_flash : Task → Bool
 writes_flash (Write Flash image) = true
@@ -32,7 +36,7 @@ is_erase_due s tasks = s.erase || (list_any writes_flash tasks && not s.keep_fla
 -- nothing is erased or written in a dry run
 abbrev pub erase_actions : Switches → List Task → List Action
 erase_actions s tasks =
-    if s.dry then (if s.erase then LeaveErase ∷ [] else [])
+    if s.dry then (if s.erase then LeaveOut TheErase ∷ [] else [])
     else if is_erase_due s tasks then EraseChip ∷ []
     else []
 
@@ -42,7 +46,7 @@ read_back_actions s mem image = if s.no_verify then [] else CompareImage mem ima
 
 abbrev pub write_actions : Switches → Mem → List (Option ℕ) → List Action
 write_actions s mem image =
-    if s.dry then LeaveWrite mem image ∷ [] else WriteImage mem image ∷ read_back_actions s mem image
+    if s.dry then LeaveOut (TheWrite mem image) ∷ [] else WriteImage mem image ∷ read_back_actions s mem image
 
 abbrev pub task_actions : Switches → Task → List Action
 task_actions s (Write mem image) = write_actions s mem image

@@ -11,7 +11,7 @@ use Rattle.avr_plan.specs.Lines.{read_only_pieces}
 use Rattle.stk_host.specs.declared.fault.HostFault.{HostFault}
 use Rattle.stk_host.specs.declared.fault.HostFault.TheVariants.{NoAnswer, LinkEnded, SendFailed, Babble, Refused, BadAnswer, WrongSignature, Differs, ReadOnly, Memory, RecvFailed}
 
--- information is told unless the run is quiet, a warning unless it is quiet twice
+-- information is reported unless the run is quiet, a warning unless it is quiet twice
 abbrev pub informs : ℕ → List Bytes → List Saying
 informs quiet pieces = if nat_lt 0 quiet then [] else Line (information pieces) ∷ []
 

@@ -16,7 +16,7 @@ use Rattle.avr_session.specs.Runs.{Devices, Lacking, Terms, untold, PrintStops, 
 use Rattle.avr_session.specs.Session.{phases}
 use Rattle.avr_session.specs.Taking.{AtOnce, AtTaking}
 
--- whether a fault was told, by how a session stands
+-- whether a fault was reported, by how a session stands
 abbrev pub is_told : Standing → Bool
 is_told Fine = false
 is_told standing = true
@@ -30,7 +30,7 @@ pub record PerformsBehind (terms : Terms) (Lacks : Lacking) (dialog : Dialog Say
   pub link : old.link.failures ≤ new.link.failures
   pub desk : Follows old.desk new.desk
 
--- the same where no fault was told before it, and memory is taken at once if at all
+-- the same where no fault was reported before it, and memory is taken at once if at all
 abbrev pub Performs : Bool → Dialog Saying Standing → HostState → HostState → Devices → Devices
     → Result Standing Stopped → Type 0
 Performs takes dialog host_old host_new old new result =

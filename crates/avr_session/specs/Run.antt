@@ -34,7 +34,7 @@ pub record RunsPlan (settings : Settings) (old : Devices) (between : DeskView) (
   pub runs : RunsSession plan (devices old.link between) new status
 
 -- There is no plan, or planning broke off: nothing was sent or heard, and the status is 1. Without a part file and
--- updates it is only that no part has the name, and that was told.
+-- updates it is only that no part has the name, and that was reported.
 pub record RunsNone (settings : Settings) (old new : Devices) (status : ℕ) : Type 0 where
   pub refused : WentRefused (planned settings) old.desk new.desk
       ⊎ planning.StageBrokeOff (planned settings) old.desk new.desk

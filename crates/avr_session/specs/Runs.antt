@@ -61,11 +61,11 @@ abbrev pub is_error : Saying → Bool
 is_error (Line bytes) = starts_with nat_eq bytes (codes "avrstk: error: ")
 is_error saying = false
 
--- whether a fault is told among these sayings
+-- whether a fault is reported among these sayings
 abbrev pub tells_fault : List Saying → Bool
 tells_fault sayings = list_any is_error sayings
 
--- of a frame that was due a front was sent, perhaps nothing, and not the whole
+-- of a frame that was due a prefix was sent, perhaps nothing, and not the whole
 pub record AtFrame (begun later : List (Event Saying)) : Type 0 where
   pub done : Bytes
   pub unsent : Bytes
@@ -74,14 +74,14 @@ pub record AtFrame (begun later : List (Event Saying)) : Type 0 where
   pub part : begun ≡ Frame done ∷ []
   pub not_whole : 0 < length unsent
 
--- a front of a line was printed, and the line was due
+-- a prefix of a line was printed, and the line was due
 pub record AtLine (begun later : List (Event Saying)) : Type 0 where
   pub bytes : Bytes
   pub done : Bytes
   pub more : List (Event Saying)
   pub due : later ≡ Said (Line bytes) ∷ more
   pub part : begun ≡ Said (Line done) ∷ []
-  pub front : IsPrefixOf done bytes
+  pub prefix : IsPrefixOf done bytes
 
 -- nothing was done, and a file of this name was due to be created
 pub record AtCreation (file : Bytes) (begun later : List (Event Saying)) : Type 0 where
@@ -89,7 +89,7 @@ pub record AtCreation (file : Bytes) (begun later : List (Event Saying)) : Type 
   pub due : later ≡ Said (Creates file) ∷ more
   pub none : begun ≡ []
 
--- a front of some bytes was written, and they were due, to a file of this name that was created just before
+-- a prefix of some bytes was written, and they were due, to a file of this name that was created just before
 pub record AtFile (file : Bytes) (whole begun later : List (Event Saying)) : Type 0 where
   pub bytes : Bytes
   pub done : Bytes
@@ -98,9 +98,9 @@ pub record AtFile (file : Bytes) (whole begun later : List (Event Saying)) : Typ
   pub created : whole ≡ before ++ Said (Creates file) ∷ []
   pub due : later ≡ Said (Writes bytes) ∷ more
   pub part : begun ≡ Said (Writes done) ∷ []
-  pub front : IsPrefixOf done bytes
+  pub prefix : IsPrefixOf done bytes
 
--- a front of some bytes was written, and they were due, to standard output, which is named `-`
+-- a prefix of some bytes was written, and they were due, to standard output, which is named `-`
 pub record AtOutput (file : Bytes) (begun later : List (Event Saying)) : Type 0 where
   pub bytes : Bytes
   pub done : Bytes
@@ -108,9 +108,9 @@ pub record AtOutput (file : Bytes) (begun later : List (Event Saying)) : Type 0 
   pub named : file ≡ codes "-"
   pub due : later ≡ Said (Outs bytes) ∷ more
   pub part : begun ≡ Said (Outs done) ∷ []
-  pub front : IsPrefixOf done bytes
+  pub prefix : IsPrefixOf done bytes
 
--- Where a cause stops a run: behind the events that happened whole, in the first of those that were due, of which a
+-- Where a cause stops a run: after the events that happened whole, in the first of those that were due, of which a
 -- part may have happened.
 abbrev pub StopsAt : Cause → List (Event Saying) → List (Event Saying) → List (Event Saying) → Type 0
 StopsAt OfSending whole begun later = AtFrame begun later
@@ -141,8 +141,8 @@ HasCome takes old then OfPrinting =
     desk.HasFailedToSay old.desk then.desk × (then.link.failures ≡ old.link.failures)
 HasCome takes old then cause = HasFailedAt File old.desk then.desk × (then.link.failures ≡ old.link.failures)
 
--- The cause's line was told. But behind the line of a fault only the link or the printing fails, and nothing more is
--- told.
+-- The cause's line was reported. But after the line of a fault only the link or the printing fails, and nothing more is
+-- reported.
 abbrev pub TellsCause : Bool → Cause → Bytes → DeskView → DeskView → Type 0
 TellsCause false cause told old new = TellsLine (cause_line cause) told old new
 TellsCause true OfSending told old new = told ≡ []
@@ -150,12 +150,12 @@ TellsCause true OfListening told old new = told ≡ []
 TellsCause true OfPrinting told old new = told ≡ []
 TellsCause true cause told old new = ⊥
 
--- on what terms a dialog is played: whether memory is taken in it, and whether a fault was told before it
+-- on what terms a dialog is played: whether memory is taken in it, and whether a fault was reported before it
 pub record Terms : Type 0 where
   pub takes : Bool
   pub was_told : Bool
 
--- no fault was told before it
+-- no fault was reported before it
 abbrev pub untold : Bool → Terms
 untold takes = record { takes = takes; was_told = false }
 
@@ -163,8 +163,8 @@ untold takes = record { takes = takes; was_told = false }
 abbrev pub Lacking : Type 1
 Lacking = Position → Talk → List (Event Saying) → Type 0
 
--- Why it stops behind these sayings, and what is told of it: the cause has come while the desk stood so between, and
--- from then on it was told.
+-- Why it stops after these sayings, and what is reported of it: the cause has come while the desk stood so between, and
+-- from then on it was reported.
 pub record StopsBehind (terms : Terms) (old new : Devices) (said : List Saying) (cause : Cause)
     (told : Bytes) : Type 0 where
   pub between : DeskView
@@ -186,8 +186,8 @@ pub record Ran {R : Type 0} (dialog : Dialog Saying R) (before : Position) (old 
   pub kept : Passes (after_all (sayings events)) old.desk new.desk
   pub sound : NoneFailed old new
 
--- The dialog broke off: what was sent and said is a front of its events, the last one perhaps in part, where its cause
--- stops it; and behind it stands what was told of the cause. Want of memory stops it only where it may.
+-- The dialog broke off: what was sent and said is a prefix of its events, the last one perhaps in part, where its cause
+-- stops it; and after it stands what was reported of the cause. Want of memory stops it only where it may.
 pub record BrokeOff {R : Type 0} (dialog : Dialog Saying R) (before : Position) (old new : Devices)
     (terms : Terms) (Lacks : Lacking) : Type 0 where
   pub during : Talk
@@ -196,7 +196,7 @@ pub record BrokeOff {R : Type 0} (dialog : Dialog Saying R) (before : Position) 
   pub told : Bytes
   pub grows : Grows old.link.talk during new.link.talk
   pub breaks : Breaks SaidPart dialog before during shown
-  pub place : StopsAt cause breaks.front.whole breaks.front.begun breaks.front.later
+  pub place : StopsAt cause breaks.prefix.whole breaks.prefix.begun breaks.prefix.later
   pub listens : Listens cause (played dialog before.next (on_tape before.unread ++ heard during)).outcome
   pub stops : StopsBehind terms old new (sayings shown) cause told
   pub lacks : cause ≡ OfMemory → Lacks before during shown
@@ -214,8 +214,8 @@ RunsTo dialog old new takes Lacks status =
     ((after : Position) × Ran dialog start old new status after)
     ⊎ (BrokeOff dialog start old new (untold takes) Lacks × (status ≡ 1))
 
--- A front of the sayings was done: some of them, and perhaps a part of the next, where this cause stops them.
-pub record SaysFront (cause : Cause) (old new : DeskView) (sayings : List Saying) : Type 0 where
+-- A prefix of the sayings was done: some of them, and perhaps a part of the next, where this cause stops them.
+pub record SaysPrefix (cause : Cause) (old new : DeskView) (sayings : List Saying) : Type 0 where
   pub whole : List Saying
   pub begun : List Saying
   pub later : List Saying
@@ -224,17 +224,17 @@ pub record SaysFront (cause : Cause) (old new : DeskView) (sayings : List Saying
   pub by_desk : IsOfDesk cause
   pub kept : Passes (after_all (whole ++ begun)) old new
 
--- A front of the sayings was done, and behind it stands what was told of the cause; such a cause may stop them.
+-- A prefix of the sayings was done, and after it stands what was reported of the cause; such a cause may stop them.
 pub record SaidSome (By : DeskView → DeskView → Cause → Bytes → Type 0) (old new : DeskView)
     (sayings : List Saying) : Type 0 where
   pub between : DeskView
   pub cause : Cause
-  pub front : SaysFront cause old between sayings
+  pub prefix : SaysPrefix cause old between sayings
   pub told : Bytes
   pub stops : By old new cause told
   pub kept : Passes (after_err told) between new
 
--- the sayings were done, and no call failed; or a front of them was
+-- the sayings were done, and no call failed; or a prefix of them was
 abbrev pub SaysOrStops : (DeskView → DeskView → Cause → Bytes → Type 0) → DeskView → DeskView → List Saying
     → Result ⊤ Stopped → Type 0
 SaysOrStops By old new sayings (Ok done) = Passes (after_all sayings) old new × HasSameCounts old new
@@ -246,12 +246,12 @@ pub record Reports (By : DeskView → DeskView → Cause → Bytes → Type 0) (
   pub says : SaysOrStops By old new sayings result
   pub follows : Follows old new
 
--- a write to the messages failed, and nothing is told of that
+-- a write to the messages failed, and nothing is reported of that
 abbrev pub PrintStops : DeskView → DeskView → Cause → Bytes → Type 0
 PrintStops old new OfPrinting told = desk.HasFailedToSay old new × (told ≡ [])
 PrintStops old new cause told = ⊥
 
--- the desk failed at a file, and from then on that was told
+-- the desk failed at a file, and from then on that was reported
 abbrev pub FileStops : DeskView → DeskView → Bytes → FileTrouble → Bytes → Type 0
 FileStops old new file trouble told = TellsFailure (cause_line (OfFile file trouble)) told old new
 

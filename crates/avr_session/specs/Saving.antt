@@ -14,17 +14,17 @@ IsForData Messages = ⊥
 IsForData stream = Unit {0}
 
 -- of these bytes those went there that stand before the ones that wait
-abbrev pub SendsFront : Stream → DeskView → DeskView → Bytes → Bytes → Type 0
-SendsFront stream old new bytes waiting =
+abbrev pub SendsPrefix : Stream → DeskView → DeskView → Bytes → Bytes → Type 0
+SendsPrefix stream old new bytes waiting =
     (sent : Bytes) × (bytes ≡ sent ++ waiting) × Passes (after_sent stream sent) old new
 
--- the desk failed at this file, as it was created or written, and that was told
+-- the desk failed at this file, as it was created or written, and that was reported
 abbrev pub SaveStops : Bytes → DeskView → DeskView → Cause → Bytes → Type 0
 SaveStops file old new (OfFile named NotCreated) told = (named ≡ file) × FileStops old new named NotCreated told
 SaveStops file old new (OfFile named NotWritten) told = (named ≡ file) × FileStops old new named NotWritten told
 SaveStops file old new cause told = ⊥
 
--- a front of the bytes went there, and then the desk failed and that was told of this file
+-- a prefix of the bytes went there, and then the desk failed and that was reported of this file
 pub record WritesSome (stream : Stream) (file : Bytes) (old new : DeskView) (bytes : Bytes) : Type 0 where
   pub between : DeskView
   pub part : SendsPart stream old between bytes
@@ -32,7 +32,7 @@ pub record WritesSome (stream : Stream) (file : Bytes) (old new : DeskView) (byt
   pub stops : FileStops old new file NotWritten told
   pub kept : Passes (after_err told) between new
 
--- the bytes went there, and no call failed; or a front of them did
+-- the bytes went there, and no call failed; or a prefix of them did
 abbrev pub WritesAll : Stream → Bytes → DeskView → DeskView → Bytes → Result ⊤ Stopped → Type 0
 WritesAll stream file old new bytes (Ok done) = Passes (after_sent stream bytes) old new × HasSameCounts old new
 WritesAll stream file old new bytes (Err stopped) = WritesSome stream file old new bytes

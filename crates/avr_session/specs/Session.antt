@@ -18,7 +18,7 @@ use Rattle.stk_host.specs.Dialog.{Dialog, Done, Say, ◌>>=◌, lifted}
 use Rattle.stk_host.specs.Operations.{opening, erasing, writing, reading, verifying, closing}
 use Rattle.avr_session.specs.declared.standing.Standing.{Standing}
 use Rattle.avr_session.specs.declared.standing.Standing.TheVariants.{Fine, Faulty, Over}
-use Rattle.avr_session.specs.Actions.{Action, OpenSession, EraseChip, LeaveErase, WriteImage, LeaveWrite, CompareImage, SaveMemory, actions}
+use Rattle.avr_session.specs.Actions.{LeftOut, TheErase, TheWrite, Action, OpenSession, EraseChip, WriteImage, CompareImage, SaveMemory, LeaveOut, actions}
 use Rattle.avr_session.specs.FileText.{file_text, trimmed}
 use Rattle.avr_session.specs.Lines.{informs, warns, other_signature, fault_line}
 
@@ -55,7 +55,7 @@ fault_or part good (Err fault) = Line (fault_line part fault) ∷ []
 abbrev pub signature_says : ℕ → Bytes → List Saying
 signature_says quiet found = informs quiet (codes "device signature = " ∷ spaced_digits found ∷ [])
 
--- another signature than the part's is told, though it be taken
+-- another signature than the part's is reported, though it be taken
 abbrev pub warns_of_signature : ℕ → Part → Bytes → List Saying
 warns_of_signature quiet part found =
     if bytes_eq found part.signature then [] else warns quiet (other_signature part found)
@@ -98,11 +98,9 @@ read_says s mem format file bytes =
     saving_says file (file_text format kept) ++ bytes_say s.quiet mem (length kept) (codes " bytes read")
 
 -- what is said in place of an erase, and of a write
-abbrev pub left_out_erase : ℕ → List Saying
-left_out_erase quiet = warns quiet (codes "chip not erased because of -n" ∷ [])
-
-abbrev pub left_out_write : ℕ → Mem → List (Option ℕ) → List Saying
-left_out_write quiet mem image = bytes_say quiet mem (byte_count image) (codes " bytes not written")
+abbrev pub left_out_says : ℕ → LeftOut → List Saying
+left_out_says quiet TheErase = warns quiet (codes "chip not erased because of -n" ∷ [])
+left_out_says quiet (TheWrite mem image) = bytes_say quiet mem (byte_count image) (codes " bytes not written")
 
 -- ---- the phases of a session
 
@@ -110,11 +108,10 @@ left_out_write quiet mem image = bytes_say quiet mem (byte_count image) (codes "
 abbrev pub phase : Part → Switches → Action → Dialog Saying Standing
 phase part s OpenSession = reported (opening part.signature s.force) (opening_says s.quiet part)
 phase part s EraseChip = reported erasing (erased_says s.quiet part)
-phase part s LeaveErase = says (left_out_erase s.quiet) (Done Fine)
 phase part s (WriteImage mem image) = reported (writing part mem image) (written_says s.quiet part mem image)
-phase part s (LeaveWrite mem image) = says (left_out_write s.quiet mem image) (Done Fine)
 phase part s (CompareImage mem image) = reported (verifying part mem image) (verified_says s.quiet part mem image)
 phase part s (SaveMemory mem format file) = reported (reading part mem) (fault_or part (read_says s mem format file))
+phase part s (LeaveOut what) = says (left_out_says s.quiet what) (Done Fine)
 
 -- one after another, up to the first fault
 abbrev pub phases : Part → Switches → List Action → Dialog Saying Standing
@@ -122,7 +119,7 @@ phases part s [] = Done Fine
 phases part s (action ∷ actions) = phase part s action >>= unless_fault (phases part s actions)
 
 -- The end of a session: programming mode is left, also after a fault, but not where the line has ended. A second fault
--- is not told.
+-- is not reported.
 abbrev pub ending : Part → Switches → Standing → Dialog Saying Standing
 ending part s Fine = reported closing (closed_says s.quiet part)
 ending part s Faulty = reported closing (λ _. []) >>= λ closed. Done Over

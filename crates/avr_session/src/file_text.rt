@@ -4,7 +4,7 @@ ghost use Rattle.avr_desk.specs.Fault.{Counts};
 ghost use Rattle.avr_desk.specs.Record.{Passes};
 ghost use Rattle.avr_desk.specs.Stream.{SendsPart, after_sent};
 ghost use Rattle.avr_session.specs.FileText.{file_text, used_length, trimmed};
-ghost use Rattle.avr_session.specs.Saving.{SendsFront};
+ghost use Rattle.avr_session.specs.Saving.{SendsPrefix};
 ghost use Rattle.ghosts.specs.Stays.{Stays};
 
 use arrayvec::ArrayVec;
@@ -13,7 +13,7 @@ use avr_desk::{Desk, DeskFault, Stream, write_all};
 use avr_image::{Base, ListWriter, Pieces};
 use avr_records::{IhexWriter, SrecWriter};
 
-/// Makes room for so many bytes behind those that wait: where they don't fit, what waits is written.
+/// Makes room for so many bytes after those that wait: where they don't fit, what waits is written.
 fn make_room<D: Desk>(
     desk: &mut D,
     stream: Stream,
@@ -22,7 +22,7 @@ fn make_room<D: Desk>(
 ) -> Result<(), DeskFault>
     requires { count ≤ 4096 }
     ensures sent { OnOk result
-        (SendsFront stream (D.view desk.old) (D.view desk.new) waiting.old.items waiting.new.items) }
+        (SendsPrefix stream (D.view desk.old) (D.view desk.new) waiting.old.items waiting.new.items) }
     ensures room { OnOk result (length waiting.new.items + count ≤ 4096) }
     ensures part { OnErr result (SendsPart stream (D.view desk.old) (D.view desk.new) waiting.old.items) }
     ensures counts { Counts stream (D.view desk.old) (D.view desk.new) result }
@@ -38,7 +38,7 @@ fn make_room<D: Desk>(
     Ok(())
 }
 
-/// Writes all pieces of a text, many at once. After a fault a front of it was written.
+/// Writes all pieces of a text, many at once. After a fault a prefix of it was written.
 fn write_pieces<D: Desk, P: Pieces + Drop>(
     desk: &mut D,
     stream: Stream,
@@ -61,7 +61,7 @@ fn write_pieces<D: Desk, P: Pieces + Drop>(
     write_all(desk, stream, rest)
 }
 
-/// Writes the text that these bytes are in a format. After a fault a front of it was written.
+/// Writes the text that these bytes are in a format. After a fault a prefix of it was written.
 #[tactic(auto, unfolding(crate::specs::FileText::file_text))]
 pub(crate) fn write_text<D: Desk>(
     desk: &mut D,

@@ -11,7 +11,6 @@ use avr_part::{Mem, Part};
 use avr_plan::read_only_message;
 use stk_host::HostFault;
 
-/// A command was refused with this status.
 fn refused_message<'a>(command: u8, status: u8) -> Message<'a>
     ensures { result ≡ refused_pieces command status }
 {
@@ -34,7 +33,6 @@ fn bad_answer_message<'a>(command: u8) -> Message<'a>
     ])
 }
 
-/// The signature is another than the part's.
 pub(crate) fn other_signature_message<'a>(part: &'a Part, found: [u8; 3]) -> Message<'a>
     ensures { result ≡ other_signature part.now found }
 {
@@ -48,7 +46,6 @@ pub(crate) fn other_signature_message<'a>(part: &'a Part, found: [u8; 3]) -> Mes
     ])
 }
 
-/// A memory differs from an image at this address.
 fn differs_message<'a>(mem: Mem, address: u32, want: u8, found: u8) -> Message<'a>
     ensures { result ≡ differs_pieces mem address want found }
 {
@@ -94,7 +91,6 @@ fn in_update_message<'a>(number: u8, wrong: &'a str) -> Message<'a>
     ])
 }
 
-/// A fault of the update of this number.
 fn update_message<'a>(number: u8, fault: UpdateFault) -> Message<'a>
     ensures { result ≡ update_pieces number fault }
 {
@@ -107,7 +103,6 @@ fn update_message<'a>(number: u8, fault: UpdateFault) -> Message<'a>
     }
 }
 
-/// Something given is not known.
 fn unknown_message<'a>(what: &'a str, name: &'a str) -> Message<'a>
     ensures { result ≡ unknown_pieces what.now name.now }
 {
@@ -128,7 +123,6 @@ fn port_message<'a>(port: &'a Option<Text>) -> Message<'a>
     }
 }
 
-/// A fault of the settings.
 fn settings_message<'a>(fault: &'a SettingsFault) -> Message<'a>
     ensures { result ≡ refusal_pieces fault.now }
 {
@@ -144,7 +138,7 @@ fn settings_message<'a>(fault: &'a SettingsFault) -> Message<'a>
     }
 }
 
-/// Prints the line of a fault on the desk's messages, and answers the status, 1. Where the desk fails a front of the
+/// Prints the line of a fault on the desk's messages, and answers the status, 1. Where the desk fails a prefix of the
 /// line was printed, and nothing more is.
 #[tactic(auto, unfolding(crate::specs::Refusal::refusal_line))]
 pub fn refuse<D: Desk>(fault: &SettingsFault, desk: &mut D) -> u8

@@ -10,7 +10,7 @@ use stk_host::HostFault;
 pub enum Outcome {
     /// It was played to its end, and no fault came.
     Done,
-    /// This fault came, its line was told, and the session was ended, as far as the line served.
+    /// This fault came, its line was reported, and the session was ended, as far as the line served.
     Faulty(HostFault),
     /// It stopped where it stood: the link or the desk failed, or memory was refused.
     Stopped,
@@ -32,7 +32,6 @@ impl Outcome {
     }
 }
 
-/// The fault that an operation of the host came to.
 pub(crate) fn fault_of<T>(outcome: &Result<T, HostFault>) -> Option<HostFault>
     ensures { result ≡ fault_of outcome.now }
 {
@@ -42,7 +41,7 @@ pub(crate) fn fault_of<T>(outcome: &Result<T, HostFault>) -> Option<HostFault>
     }
 }
 
-/// What came of a session in which this fault was told last. (One in which none was told has another end.)
+/// What came of a session in which this fault was reported last. (One in which none was reported has another end.)
 fn behind_fault(told: Option<HostFault>) -> Outcome
     ensures { result ≡ behind_fault told }
 {
@@ -52,7 +51,7 @@ fn behind_fault(told: Option<HostFault>) -> Outcome
     }
 }
 
-/// What came of a session that stands so at its end, by the fault that was told last.
+/// What came of a session that stands so at its end, by the fault that was reported last.
 pub(crate) fn outcome_of(standing: Standing, told: Option<HostFault>) -> Outcome
     ensures { result ≡ outcome_of standing told }
 {

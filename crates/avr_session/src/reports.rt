@@ -91,7 +91,6 @@ pub(crate) fn tell_fault<D: Desk>(
     tell(desk, &fault_message(part, fault))
 }
 
-/// Prints the signature that was found.
 fn report_found<D: Desk>(desk: &mut D, quiet: u8, found: [u8; 3]) -> Result<(), Stopped>
     ensures reports { Reports PrintStops (D.view desk.old) (D.view desk.new) (signature_says quiet found) result }
     ensures stays { Stays D.comes_of desk.old desk.new }
@@ -149,7 +148,6 @@ fn report_refused<D: Desk>(
     tell_fault(desk, part, HostFault::WrongSignature(found))
 }
 
-/// Reports what opening a session came to.
 pub(crate) fn report_opening<D: Desk>(
     desk: &mut D,
     quiet: u8,
@@ -167,7 +165,6 @@ pub(crate) fn report_opening<D: Desk>(
     }
 }
 
-/// Reports that the chip was erased, or the fault.
 pub(crate) fn report_erased<D: Desk>(
     desk: &mut D,
     quiet: u8,
@@ -204,7 +201,7 @@ pub(crate) fn report_done<D: Desk>(
     }
 }
 
-/// Reports what closing a session came to in which no fault was told.
+/// Reports what closing a session came to in which no fault was reported.
 pub(crate) fn report_closing<D: Desk>(
     desk: &mut D,
     quiet: u8,

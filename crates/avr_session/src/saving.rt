@@ -106,7 +106,6 @@ fn report_bytes_read<D: Desk>(
     report_bytes(desk, switches.quiet, mem, kept.len() as u32, " bytes read")
 }
 
-/// Reports what reading a memory came to.
 pub(crate) fn report_read<D: Desk>(
     desk: &mut D,
     plan: &Plan,

@@ -4,136 +4,122 @@ ghost use Rattle.avr_desk.specs.Fault.{Follows};
 ghost use Rattle.avr_session.specs.declared.standing.Standing.TheVariants.{Fine, Faulty};
 ghost use Rattle.avr_session.specs.Actions.{actions, takes_memory};
 ghost use Rattle.avr_session.specs.Concluding.{HostServes};
-ghost use Rattle.avr_session.specs.Outcomes.{ComesTo, IsLastAt};
-ghost use Rattle.avr_session.specs.Phases.{is_told, Performs, PerformsBehind, Does};
-ghost use Rattle.avr_session.specs.Runs.{devices, untold};
+ghost use Rattle.avr_session.specs.Held.{Keeps, SessionDoes, TellsLast, shown};
+ghost use Rattle.avr_session.specs.Outcomes.{ComesTo};
+ghost use Rattle.avr_session.specs.Phases.{is_told, Performs, PerformsBehind};
+ghost use Rattle.avr_session.specs.Runs.{devices, start, untold};
 ghost use Rattle.avr_session.specs.Session.{ending, playing};
 ghost use Rattle.ghosts.specs.Stays.{Stays};
 ghost use Rattle.avr_session.specs.Run.{RunsBetween, RunsSession};
 ghost use Rattle.avr_session.specs.Taking.{AtOnce, AtTaking};
 
 use crate::outcome::{Outcome, fault_of, outcome_of};
-use crate::phases::{erase_if_due, open_session, perform_all};
+use crate::phases::Session;
 use crate::reports::report_closing;
 use crate::standing::{Standing, Stopped, conclude};
 use avr_cli::Settings;
 use avr_desk::Desk;
 use avr_plan::{Plan, plan};
 use std::alloc::Global;
-use stk_host::{Host, HostFault, Link};
+use stk_host::Link;
 
-/// Does all that a plan asks for: opens a session, erases the chip where that is due, and performs the tasks.
-fn work<D: Desk, L: Link>(
-    alloc: Global,
-    host: &mut Host,
-    desk: &mut D,
-    link: &mut L,
-    plan: &Plan,
-    told: &mut Option<HostFault>,
-) -> Result<Standing, Stopped>
-    requires sound { host.old.broken ≡ None }
-    requires part { host.old.part ≡ plan.now.part }
-    ensures performs { Does plan.now (actions plan.now) host.old host.new
-        (devices (L.view link.old) (D.view desk.old)) (devices (L.view link.new) (D.view desk.new)) result }
-    ensures comes { Stays L.comes_of link.old link.new }
-    ensures stays { Stays D.comes_of desk.old desk.new }
-    ensures told { IfOk result (IsLastAt plan.now.part told.new (D.view desk.new)) }
-{
-    match open_session(host, desk, link, plan, told)? {
-        Standing::Fine => match erase_if_due(host, desk, link, plan, told)? {
-            Standing::Fine => perform_all(alloc, host, desk, link, plan, plan.tasks(), told),
+impl<'a, D: Desk, L: Link> Session<'a, D, L> {
+    /// Does all that the plan asks for: opens a session, erases the chip where that is due, and performs the tasks.
+    fn work(&mut self) -> Result<Standing, Stopped>
+        requires sound { self.old.host.broken ≡ None }
+        requires part { self.old.host.part ≡ self.old.plan.now.part }
+        ensures performs { SessionDoes L.view D.view (actions self.old.plan.now) self.old self.new result }
+        ensures keeps { Keeps L.comes_of D.comes_of self.old self.new }
+        ensures told { IfOk result (TellsLast D.view self.new) }
+    {
+        match self.open()? {
+            Standing::Fine => match self.erase_if_due()? {
+                Standing::Fine => self.perform_all(self.plan.tasks()),
+                fault => Ok(fault),
+            },
             fault => Ok(fault),
-        },
-        fault => Ok(fault),
+        }
     }
-}
 
-/// Ends a session in which no fault came.
-fn close<D: Desk, L: Link>(
-    host: &mut Host,
-    desk: &mut D,
-    link: &mut L,
-    plan: &Plan,
-    told: &mut Option<HostFault>,
-) -> Result<Standing, Stopped>
-    requires { host.old.broken ≡ None }
-    ensures performs { Performs false (ending plan.now.part plan.now.switches Fine) host.old host.new
-        (devices (L.view link.old) (D.view desk.old)) (devices (L.view link.new) (D.view desk.new)) result }
-    ensures comes { Stays L.comes_of link.old link.new }
-    ensures stays { Stays D.comes_of desk.old desk.new }
-    ensures told { IfOk result (IsLastAt plan.now.part told.new (D.view desk.new)) }
-{
-    let closed = host.close(link);
-    let reported = report_closing(desk, plan.switches().quiet, plan.part(), &closed);
-    *told = fault_of(&closed);
-    conclude(&closed, reported)
-}
-
-/// Ends a session in which a fault was told; a second one is not told.
-fn close_after_fault<D: Desk, L: Link>(
-    host: &mut Host,
-    desk: &mut D,
-    link: &mut L,
-    plan: &Plan,
-) -> Result<Standing, Stopped>
-    requires { host.old.broken ≡ None }
-    ensures performs { PerformsBehind (record { takes = false; was_told = true }) (AtOnce false)
-        (ending plan.now.part plan.now.switches Faulty) host.old host.new
-        (devices (L.view link.old) (D.view desk.old)) (devices (L.view link.new) (D.view desk.new)) result }
-    ensures comes { Stays L.comes_of link.old link.new }
-    ensures stays { Stays D.comes_of desk.old desk.new }
-    ensures quiet { D.view desk.new ≡ D.view desk.old }
-{
-    let closed = host.close(link);
-    conclude(&closed, Ok(()))?;
-    Ok(Standing::Over)
-}
-
-/// Ends a session, as it stands.
-fn end<D: Desk, L: Link>(
-    host: &mut Host,
-    desk: &mut D,
-    link: &mut L,
-    plan: &Plan,
-    standing: Standing,
-    told: &mut Option<HostFault>,
-) -> Result<Standing, Stopped>
-    requires serves { HostServes (Ok standing) host.old.broken }
-    requires told { IsLastAt plan.now.part told.old (D.view desk.old) standing }
-    ensures performs { PerformsBehind (record { takes = false; was_told = is_told standing }) (AtOnce false)
-        (ending plan.now.part plan.now.switches standing) host.old host.new
-        (devices (L.view link.old) (D.view desk.old)) (devices (L.view link.new) (D.view desk.new)) result }
-    ensures comes { Stays L.comes_of link.old link.new }
-    ensures stays { Stays D.comes_of desk.old desk.new }
-    ensures told { IfOk result (IsLastAt plan.now.part told.new (D.view desk.new)) }
-{
-    match standing {
-        Standing::Fine => close(host, desk, link, plan, told),
-        Standing::Faulty => close_after_fault(host, desk, link, plan),
-        Standing::Over => Ok(Standing::Over),
+    /// Ends a session in which no fault came.
+    fn close(&mut self) -> Result<Standing, Stopped>
+        requires { self.old.host.broken ≡ None }
+        ensures performs { Performs false (ending self.old.plan.now.part self.old.plan.now.switches Fine)
+            self.old.host self.new.host (shown L.view D.view self.old) (shown L.view D.view self.new) result }
+        ensures keeps { Keeps L.comes_of D.comes_of self.old self.new }
+        ensures told { IfOk result (TellsLast D.view self.new) }
+    {
+        let closed = self.host.close(self.link);
+        let reported = report_closing(
+            self.desk,
+            self.plan.switches().quiet,
+            self.plan.part(),
+            &closed,
+        );
+        self.told = fault_of(&closed);
+        conclude(&closed, reported)
     }
-}
 
-/// Plays a session.
-fn play<D: Desk, L: Link>(
-    alloc: Global,
-    host: &mut Host,
-    desk: &mut D,
-    link: &mut L,
-    plan: &Plan,
-    told: &mut Option<HostFault>,
-) -> Result<Standing, Stopped>
-    requires sound { host.old.broken ≡ None }
-    requires part { host.old.part ≡ plan.now.part }
-    ensures performs { PerformsBehind (untold (takes_memory plan.now))
-        (AtTaking plan.now.part plan.now.switches (actions plan.now)) (playing plan.now) host.old host.new
-        (devices (L.view link.old) (D.view desk.old)) (devices (L.view link.new) (D.view desk.new)) result }
-    ensures comes { Stays L.comes_of link.old link.new }
-    ensures stays { Stays D.comes_of desk.old desk.new }
-    ensures told { IfOk result (IsLastAt plan.now.part told.new (D.view desk.new)) }
-{
-    let standing = work(alloc, host, desk, link, plan, told)?;
-    end(host, desk, link, plan, standing, told)
+    /// Ends a session in which a fault was reported; a second one is not reported.
+    fn close_after_fault(&mut self) -> Result<Standing, Stopped>
+        requires { self.old.host.broken ≡ None }
+        ensures performs { PerformsBehind (record { takes = false; was_told = true }) (AtOnce false)
+            (ending self.old.plan.now.part self.old.plan.now.switches Faulty) self.old.host self.new.host
+            (shown L.view D.view self.old) (shown L.view D.view self.new) result }
+        ensures keeps { Keeps L.comes_of D.comes_of self.old self.new }
+        ensures quiet { D.view self.new.desk.now ≡ D.view self.old.desk.now }
+        ensures told { self.new.told ≡ self.old.told }
+    {
+        let closed = self.host.close(self.link);
+        conclude(&closed, Ok(()))?;
+        Ok(Standing::Over)
+    }
+
+    fn end(&mut self, standing: Standing) -> Result<Standing, Stopped>
+        requires serves { HostServes (Ok standing) self.old.host.broken }
+        requires told { TellsLast D.view self.old standing }
+        ensures performs { PerformsBehind (record { takes = false; was_told = is_told standing }) (AtOnce false)
+            (ending self.old.plan.now.part self.old.plan.now.switches standing) self.old.host self.new.host
+            (shown L.view D.view self.old) (shown L.view D.view self.new) result }
+        ensures keeps { Keeps L.comes_of D.comes_of self.old self.new }
+        ensures told { IfOk result (TellsLast D.view self.new) }
+    {
+        match standing {
+            Standing::Fine => self.close(),
+            Standing::Faulty => self.close_after_fault(),
+            Standing::Over => Ok(Standing::Over),
+        }
+    }
+
+    fn play(&mut self) -> Result<Standing, Stopped>
+        requires sound { self.old.host.broken ≡ None }
+        requires part { self.old.host.part ≡ self.old.plan.now.part }
+        ensures performs { PerformsBehind (untold (takes_memory self.old.plan.now))
+            (AtTaking self.old.plan.now.part self.old.plan.now.switches (actions self.old.plan.now))
+            (playing self.old.plan.now) self.old.host self.new.host
+            (shown L.view D.view self.old) (shown L.view D.view self.new) result }
+        ensures keeps { Keeps L.comes_of D.comes_of self.old self.new }
+        ensures told { IfOk result (TellsLast D.view self.new) }
+    {
+        let standing = self.work()?;
+        self.end(standing)
+    }
+
+    /// Plays the session, and answers what came of it.
+    fn drive(&mut self) -> Outcome
+        requires sound { self.old.host.broken ≡ None }
+        requires part { self.old.host.part ≡ self.old.plan.now.part }
+        requires first { self.old.host.progress ≡ start }
+        ensures comes_to { ComesTo self.old.plan.now (shown L.view D.view self.old) (shown L.view D.view self.new)
+            result }
+        ensures follows { Follows (D.view self.old.desk.now) (D.view self.new.desk.now) }
+        ensures keeps { Keeps L.comes_of D.comes_of self.old self.new }
+    {
+        match self.play() {
+            Ok(standing) => outcome_of(standing, self.told),
+            Err(_) => Outcome::Stopped,
+        }
+    }
 }
 
 /// Plays the session of a plan over a link, reports it at the desk, writes the files that were read, and answers what
@@ -141,7 +127,7 @@ fn play<D: Desk, L: Link>(
 ///
 /// It is done only where no call of a device failed. After a fault of the link or the desk, or where memory was refused
 /// before a read or a comparison, its line is printed, whole unless the desk fails, and nothing more is sent or said.
-/// Behind the line of a fault a second one is not told, so the fault that is answered is the one of the last line.
+/// After the line of a fault a second one is not reported, so the fault that is answered is the one of the last line.
 /// Which device stopped a session is told to those that watch them (`WatchedLink`, `WatchedDesk`).
 ///
 /// ```text
@@ -162,12 +148,8 @@ pub fn drive_outcome<D: Desk, L: Link>(
     ensures comes { Stays L.comes_of link.old link.new }
     ensures stays { Stays D.comes_of desk.old desk.new }
 {
-    let mut host = Host::new(plan.part());
-    let mut told = None;
-    match play(alloc, &mut host, desk, link, plan, &mut told) {
-        Ok(standing) => outcome_of(standing, told),
-        Err(_) => Outcome::Stopped,
-    }
+    let mut session = Session::new(alloc, plan, desk, link);
+    session.drive()
 }
 
 /// Plays the session of a plan as [`drive_outcome`] does, and answers the status: 0 where no fault came, else 1.
@@ -182,7 +164,7 @@ pub fn drive<D: Desk, L: Link>(alloc: Global, plan: &Plan, desk: &mut D, link: &
 }
 
 /// Plans what the settings ask for, runs it over a link, reports it at the desk, and answers the status: 0 where no
-/// fault came, else 1. What is refused is told before any frame is sent or file created.
+/// fault came, else 1. What is refused is reported before any frame is sent or file created.
 pub fn run<D: Desk, L: Link>(alloc: Global, settings: &Settings, desk: &mut D, link: &mut L) -> u8
     ensures runs { RunsBetween D.view D.comes_of settings.now (L.view link.old) (L.view link.new)
         desk.old desk.new result }

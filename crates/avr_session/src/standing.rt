@@ -9,7 +9,7 @@ use stk_host::HostFault;
 pub enum Standing {
     /// No fault has come.
     Fine,
-    /// A fault was told; the line still serves.
+    /// A fault was reported; the line still serves.
     Faulty,
     /// Nothing more goes over the line: it has ended, or programming mode was left.
     Over,

@@ -31,7 +31,7 @@ pub fn a_link_fails_once_at_most()
 {}
 
 /// Wrong ends. Where no device failed and no message tells of memory: status 1 after a session that was played to 0; an
-/// end while the play waits, as behind an erase or before LEAVE; no session at all.
+/// end while the play waits, as after an erase or before LEAVE; no session at all.
 pub fn a_sound_run_has_no_other_end()
     ensures perfect { (plan : Plan) (old new : Talk) (k l : ℕ) (before after : Record) (a b : ℕ × ℕ)
         → IsSound (devices (talking old k) (keeping before a)) (devices (talking new l) (keeping after b))
@@ -54,8 +54,8 @@ pub fn a_sound_run_has_no_other_end()
         → ⊥ }
 {}
 
-/// Wrong stops, whatever failed: a second line behind the line of a fault; less than the cause's line where no fault
-/// was told and no write to the messages failed, as silence behind a file that failed; memory where none is taken;
+/// Wrong stops, whatever failed: a second line after the line of a fault; less than the cause's line where no fault
+/// was reported and no write to the messages failed, as silence after a file that failed; memory where none is taken;
 /// another file than the one that was due to be created, or that was created and was due to be written; a line in part
 /// where printing did not fail.
 pub fn a_stop_tells_its_cause()

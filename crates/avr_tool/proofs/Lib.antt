@@ -1,23 +1,6 @@
--- in the order in which to read: planning and playing as one; runs in memory, over a wire and over any link; runs over
--- one chip file; two processes
-pub mod Joining
-pub mod InMemory
-pub mod Refusing
-pub mod OneOutcome
-pub mod OverWire
-pub mod Untaken
-pub mod OverTalk
-pub mod Further
-pub mod UsesPast
-pub mod ChipFound
-pub mod ChipAgain
-pub mod Slots
-pub mod InOrder
-pub mod Misses
-pub mod Parting
-pub mod Prompt
-pub mod Meeting
+-- in the order in which to read; the list of a folder says what it holds
+pub mod Runs
+pub mod KnownFiles
+pub mod Lines
+pub mod ChipFile
 pub mod TwoProcesses
-pub mod WorkedLine
-pub mod PerfectRun
-pub mod MadeFrame

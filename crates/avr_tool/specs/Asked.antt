@@ -20,7 +20,7 @@ pub record IsRefused (words : List Bytes) (old new : DeskView) (status : ℕ) : 
   pub told : Tells old new (refusal_line fault)
   pub status_is : status ≡ 1
 
--- Settings are those of words that the command takes. A fault of them was told. Other words have an error of a kind
+-- Settings are those of words that the command takes. A fault of them was reported. Other words have an error of a kind
 -- that they call for; words that the command takes, only for want of memory; and then nothing was done at the desk.
 abbrev pub Asks : List Bytes → DeskView → DeskView → Result Settings NotAsked → Type 0
 Asks words old new (Ok settings) = (Ok settings ≡ asked_by words) × (fault_of avrstk words ≡ []) × (new ≡ old)

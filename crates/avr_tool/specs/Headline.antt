@@ -7,9 +7,9 @@
 -- what their calls answered, and what a reader gave and a writer took (stk_host's Links, avr_desk's Shown), and
 -- nothing says what a file or a socket made of it. A talk and a desk's record are two, so no clause orders a line and
 -- a frame, but as events of the run. That a run succeeds is said only of a line on which few frames go wrong. Whether
--- memory was refused nothing counts; but its line is told whole, unless a write to the messages failed, which is
+-- memory was refused nothing counts; but its line is reported whole, unless a write to the messages failed, which is
 -- counted apart. Of a line that makes a frame, which the programmer obeys or the host takes for an answer, nothing is
--- said: noise can make one, and a pause inside an answer, out of the bytes that it carries. That bytes are told as
+-- said: noise can make one, and a pause inside an answer, out of the bytes that it carries. That bytes are reported as
 -- written says that their commands were obeyed: what a locked chip made of them the memories tell. Nothing is said of
 -- time, nor of a chip that loses its power in the middle of a write.
 use Rattle.std.specs.Prelude.{ℕ, ◌*◌, ◌≡◌, ◌≤◌, ◌⊎◌, true, false, List, [], ◌∷◌, ◌++◌, map, length, Some, None}
@@ -23,7 +23,7 @@ use Rattle.avr_plan.specs.Planning.{LacksPart, planned}
 use Rattle.avr_desk.specs.Playing as planning
 use Rattle.avr_desk.specs.Playing.{Went}
 use Rattle.avr_desk.specs.Stage as stage
-use Rattle.avr_desk.specs.Stage.{Answer, Made, Refused, Unread}
+use Rattle.avr_desk.specs.Stage.{StageAnswer, Made, Refused, Unread}
 use Rattle.avr_session.specs.Run.{StopsSession}
 use Rattle.avr_session.specs.Runs.{Devices, devices, NoneFailed}
 use Rattle.avr_session.specs.Session.{session}
@@ -44,14 +44,14 @@ use Rattle.stk_emu.specs.Wired.{WiredState, wired_view}
 use Rattle.stk_emu.specs.Turn.{Turn}
 use Rattle.stk_frame.specs.Cut.{body_of, frames}
 use Rattle.stk_host.specs.Dialog.{Event, Said, Played, played, behind, bytes_sent, sayings}
-use Rattle.stk_host.specs.Play.{IsFront}
+use Rattle.stk_host.specs.Play.{IsPrefixOfEvents}
 use Rattle.stk_host.specs.Talk.{Talk, Sent, Got, sent, heard, Grows}
 use Rattle.stk_host.specs.Tape.{Tape, on_tape}
 
 -- ---- 1. The run, as one function of the settings, of what the openings of files give, and of what comes over the line
 
--- a plan is played; a refusal is told, and comes to status 1; a file that was not read to its end can't be judged
-abbrev pub after_answer : Answer Plan → Tape → Played Saying ℕ
+-- a plan is played; a refusal is reported, and comes to status 1; a file that was not read to its end can't be judged
+abbrev pub after_answer : StageAnswer Plan → Tape → Played Saying ℕ
 after_answer (Made plan) tape = played (session plan) 1 tape
 after_answer (Refused line) tape = record { events = Said (Line line) ∷ []; outcome = Some (1, 1, tape) }
 after_answer Unread tape = record { events = []; outcome = None }
@@ -95,10 +95,11 @@ pub record IsRun (settings : Settings) (before now : Devices) (status : ℕ) : T
   pub sound : NoneFailed before now
 
 -- ---- 3. Or it stopped: a device failed, as the first since the run began, or memory was refused, in a session only
--- where an action that takes memory was due. The status is 1. The line that tells why (behind the line of a fault there
+-- where an action that takes memory was due. The status is 1. The line that tells why (after the line of a fault there
 -- is none) is cut short only where a write to the messages has failed: a failure at a file excuses no silence.
 
--- As its plan was played: a front of what the session sends and says went out, and then what was told of the cause.
+-- As its plan was played: a prefix of what the session sends and says went out, and then what was reported of the
+-- cause.
 pub record StoppedPlaying (settings : Settings) (before now : Devices) (status : ℕ) : Type 0 where
   pub plan : Plan
   pub between : DeskView
@@ -106,7 +107,7 @@ pub record StoppedPlaying (settings : Settings) (before now : Devices) (status :
   pub broke : StopsSession plan (devices before.link between) now
   pub status_is : status ≡ 1
 
--- As it was planned: a front of what planning says was done, and nothing was sent or heard. Without a part file and
+-- As it was planned: a prefix of what planning says was done, and nothing was sent or heard. Without a part file and
 -- updates it is only that no part has the name, and that was told: there memory is not refused.
 pub record StoppedPlanning (settings : Settings) (before now : Devices) (status : ℕ) : Type 0 where
   pub broke : planning.StageBrokeOff (planned settings) before.desk now.desk
@@ -118,12 +119,13 @@ abbrev pub IsStopped : Settings → Devices → Devices → ℕ → Type 0
 IsStopped settings before now status =
     StoppedPlaying settings before now status ⊎ StoppedPlanning settings before now status
 
--- So what happened of a stop is a front of the run over what was heard, the last event perhaps in part.
-pub record IsFrontOfRun (settings : Settings) (before now : Devices) : Type 0 where
+-- So what happened of a stop is a prefix of the run over what was heard, the last event perhaps in part.
+pub record IsPrefixOfRun (settings : Settings) (before now : Devices) : Type 0 where
   pub openings : List Opening
   pub during : Talk
   pub shown : List (Event Saying)
-  pub front : (later : List Opening) → IsFront SaidPart shown (run settings (openings ++ later) (heard during)).events
+  pub prefix : (later : List Opening) → IsPrefixOfEvents SaidPart shown
+      (run settings (openings ++ later) (heard during)).events
   pub in_turn : (later : List Opening) → IsInTurn (run settings (openings ++ later)) [] [] during
   pub all_sent : bytes_sent shown ≡ sent during
   pub grows : Grows before.link.talk during now.link.talk
@@ -133,7 +135,7 @@ pub record IsFrontOfRun (settings : Settings) (before now : Devices) : Type 0 wh
 -- `OverAnyLine` tells what the session of a plan did from one state of a wire to another. With status 0 it said what it
 -- says over a perfect line and left the same memories (`success`), all was written and all comparisons agreed (`done`),
 -- and a verified chip holds its images (`images`). With any status the first strokes of the plan were made (`strokes`),
--- and none where nothing was sent (`untouched`); few frames went out (`four`), what was told was true then
+-- and none where nothing was sent (`untouched`); few frames went out (`four`), what was reported was true then
 -- (`believable`), and is what the course says, up to a step that failed (`foretold`). Where few frames go wrong it does
 -- as over a perfect line, unless it stopped (`few_bad`), and a plan that agrees on each chip succeeds (`again`).
 
@@ -166,7 +168,7 @@ pub record RunsOverWire (settings : Settings) (before after : WiredState) (desk_
       ⊎ (Stopped plan before after between desk_now × (status ≡ 1))
   pub line : before.wire.programmer.chip.part ≡ plan.part → OverAnyLine plan before after between desk_now status
 
--- There is no plan: that was told, or planning stopped, and the wire is untouched.
+-- There is no plan: that was reported, or planning stopped, and the wire is untouched.
 pub record RunsNowhere (settings : Settings) (before after : WiredState) (desk_before desk_now : DeskView)
     (status : ℕ) : Type 0 where
   pub runs : IsRun settings (wire_and_desk before desk_before) (wire_and_desk after desk_now) status
@@ -195,7 +197,7 @@ pub record IsItsCourse (plan : Plan) (p q : Programmer) (events : List (Event Sa
 
 -- These events are a whole session of a plan over a link that was sent these bytes, each frame of which had its turn,
 -- and the programmer ended as this one. What was said, and the status, are the course's; or as much of it as actions
--- came to their ends, behind it the line of the step that failed, and status 1. Where of any seven turns in a row at
+-- came to their ends, after it the line of the step that failed, and status 1. Where of any seven turns in a row at
 -- most three are wrong it was its course, and a plan that agrees on each chip succeeded.
 pub record OverAnyLink (plan : Plan) (p q : Programmer) (turns : List Turn) (bytes : List ℕ)
     (events : List (Event Saying)) (status : ℕ) : Type 0 where

@@ -3,7 +3,7 @@
 use Rattle.std.specs.Io.KnownBytes.{Appends, Consumes}
 use Rattle.std.specs.Prelude.{◌≡◌, ℕ, List, [], ◌++◌, replicate, Option, Some, None}
 use Rattle.avr_cli.specs.declared.settings.Settings.{Settings}
-use Rattle.avr_desk.specs.Memory.{Memory, Stock}
+use Rattle.avr_desk.specs.Memory.{MemDeskState, Stock}
 use Rattle.avr_desk.specs.Record.{Bytes, Record, all_files, nothing_kept}
 use Rattle.avr_desk.specs.Said.{Saying, after_all}
 use Rattle.avr_desk.specs.declared.record.Writing.{Writing}
@@ -17,7 +17,7 @@ use Rattle.avr_tool.specs.Headline.{run}
 
 -- all that a run leaves: its status, the bytes sent, the messages, the output, and the files that were made, in their
 -- order, of which a later one of a name takes the place of an earlier one
-pub record Outcome : Type 0 where
+pub record RunOutcome : Type 0 where
   pub status : ℕ
   pub sent : Bytes
   pub messages : Bytes
@@ -29,7 +29,7 @@ abbrev pub run_of : Settings → Stock → Tape → Played Saying ℕ
 run_of settings stock tape = run settings (files_give stock (files_read settings)) tape
 
 -- what events leave that come to this status
-abbrev pub left_by : List (Event Saying) → ℕ → Outcome
+abbrev pub left_by : List (Event Saying) → ℕ → RunOutcome
 left_by events status =
     let made = after_all (sayings events) nothing_kept in
     record {
@@ -40,39 +40,39 @@ left_by events status =
       files = all_files made;
     }
 
-abbrev pub left_at : List (Event Saying) → Option (ℕ × ℕ × Tape) → Option Outcome
+abbrev pub left_at : List (Event Saying) → Option (ℕ × ℕ × Tape) → Option RunOutcome
 left_at events None = None
 left_at events (Some end) = Some (left_by events end.0)
 
 -- what a run leaves, if it comes to an end
-abbrev pub outcome_of : Played Saying ℕ → Option Outcome
-outcome_of p = left_at p.events p.outcome
+abbrev pub run_outcome : Played Saying ℕ → Option RunOutcome
+run_outcome p = left_at p.events p.outcome
 
 -- The run of these files over this tape leaves this, whatever more might follow on it.
-abbrev pub IsLeft : Settings → Stock → Tape → Outcome → Type 0
-IsLeft settings stock tape outcome = (more : Tape) → outcome_of (run_of settings stock (tape ++ more)) ≡ Some outcome
+abbrev pub IsLeft : Settings → Stock → Tape → RunOutcome → Type 0
+IsLeft settings stock tape outcome = (more : Tape) → run_outcome (run_of settings stock (tape ++ more)) ≡ Some outcome
 
--- The same of a tape behind whose last item there come ends, as many as the run asks for.
-pub record Leaves (settings : Settings) (stock : Stock) (tape : Tape) (outcome : Outcome) : Type 0 where
+-- The same of a tape after whose last item there come ends, as many as the run asks for.
+pub record Leaves (settings : Settings) (stock : Stock) (tape : Tape) (outcome : RunOutcome) : Type 0 where
   pub ends : ℕ
   pub is : IsLeft settings stock (tape ++ replicate ends End) outcome
 
 -- And of a reader and a writer: some tape was heard, whose bytes are those that the reader gave, where it is known
 -- which these are; and the writer took what was sent. (Where a reader is silent or ends, its bytes don't tell.)
 pub record LeavesStreams {R W : Type 0} (remaining : R → Option Bytes) (contents : W → Option Bytes)
-    (settings : Settings) (stock : Stock) (old new : StreamState R W) (outcome : Outcome) : Type 0 where
+    (settings : Settings) (stock : Stock) (old new : StreamState R W) (outcome : RunOutcome) : Type 0 where
   pub tape : Tape
   pub gave : Consumes (remaining old.reader) (remaining new.reader) (bytes_of tape)
   pub took : Appends (contents old.writer) (contents new.writer) outcome.sent
   pub is : IsLeft settings stock tape outcome
 
 -- nothing has passed over a desk and a link, which never failed
-pub record AreUnused (desk : Memory) (link : LinkView) : Type 0 where
+pub record AreUnused (desk : MemDeskState) (link : LinkView) : Type 0 where
   pub desk_is : desk.kept ≡ nothing_kept
   pub link_is : link ≡ record { talk = []; failures = 0 }
 
 -- what a run with this status has left, by all that a desk keeps and that passed over a link
-abbrev pub shown_by : ℕ → Record → Talk → Outcome
+abbrev pub shown_by : ℕ → Record → Talk → RunOutcome
 shown_by status kept talk = record {
   status = status;
   sent = sent talk;

@@ -40,7 +40,7 @@ pub record RunsAsked (words : List Bytes) (before after : LinkView) (old new : D
   pub taken : fault_of avrstk words ≡ []
   pub runs : RunsPort settings.port settings before after old new status
 
--- What they ask for has a fault, or memory was refused: that was told, and nothing else was done.
+-- What they ask for has a fault, or memory was refused: that was reported, and nothing else was done.
 pub record RunsNothing (words : List Bytes) (before after : LinkView) (old new : DeskView) (status : ℕ) : Type 0 where
   pub why : IsRefused words old new status ⊎ Tells old new (refusal_line Memory)
   pub untouched : after ≡ before
@@ -61,7 +61,7 @@ RunsWords words before after old new (Ok status) =
     RunsAsked words before after old new status ⊎ RunsNothing words before after old new status
 RunsWords words before after old new (Err error) = LeavesError words before after old new error
 
--- an error of `clap`: that memory was refused is told, any other is left
+-- an error of `clap`: that memory was refused is reported, any other is left
 abbrev pub LeavesWords : Error → DeskView → DeskView → Result ℕ Error → Type 0
 LeavesWords error old new (Ok status) =
     (kind_of error ≡ OutOfMemory) × Tells old new (refusal_line Memory) × (status ≡ 1)

@@ -41,12 +41,12 @@ of_server (HostHears items ∷ calls) = of_server calls
 of_server (ServerSays bytes ∷ calls) = Sent bytes ∷ of_server calls
 of_server (ServerHears items ∷ calls) = Got items ∷ of_server calls
 
--- what one end has heard is a front of what the other has sent
+-- what one end has heard is a prefix of what the other has sent
 pub record IsJoined (host server : Talk) : Type 0 where
   pub up : IsPrefixOf (bytes_of (heard server)) (sent host)
   pub down : IsPrefixOf (bytes_of (heard host)) (sent server)
 
--- THE LINE. At each moment what an end has heard is a front of what the other has sent till then: nothing is lost,
+-- THE LINE. At each moment what an end has heard is a prefix of what the other has sent till then: nothing is lost,
 -- doubled, changed or heard before it was sent, and the pieces are whatever they are. Silences may come anywhere. The
 -- host meets no end of the line; the server may, at any time.
 pub record IsOrdered (calls : List Call) : Type 0 where

@@ -13,7 +13,7 @@ use Rattle.avr_plan.specs.declared.planned.Task.TheVariants.{Verify}
 use Rattle.avr_session.specs.Lines.{informs}
 use Rattle.stk_frame.specs.Frame.{frame}
 use Rattle.stk_host.specs.Tape.{Tape, on_tape}
-use Rattle.avr_tool.specs.InMemory.{Outcome}
+use Rattle.avr_tool.specs.InMemory.{RunOutcome}
 
 abbrev pub worked_settings : Settings
 worked_settings = record {
@@ -61,7 +61,7 @@ lines_due =
     ++ informs 0 (codes "done" ∷ [])
 
 -- what the run leaves, whatever files are there
-abbrev pub worked_outcome : Outcome
+abbrev pub worked_outcome : RunOutcome
 worked_outcome = record {
   status = 0;
   sent = frames_due;
@@ -78,7 +78,7 @@ absent_settings = record worked_settings { parts = Some (codes "parts.toml") }
 abbrev pub no_stock : Stock
 no_stock = record { input = []; files = [] }
 
-abbrev pub absent_outcome : Outcome
+abbrev pub absent_outcome : RunOutcome
 absent_outcome = record {
   status = 1;
   sent = [];

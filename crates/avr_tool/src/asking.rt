@@ -10,6 +10,16 @@ use std::alloc::Global;
 use thiserror::Error;
 
 /// Why a command line asks for no run.
+///
+/// ```text
+/// let mut words = Vec::new(alloc);
+/// for word in ["avrstk", "-P", "emu:chip.bin"] {
+///     words.push(String::from_str(alloc, word)?)?;
+/// }
+/// let mut desk = MemDesk::new(alloc);
+/// // without `-p` the words ask for no run; the line is printed
+/// assert!(rt; matches!(asked(alloc, words.as_slice(), &mut desk), Err(NotAsked::Refused(1))));
+/// ```
 #[derive(Debug, Drop, Error)]
 pub enum NotAsked {
     /// `clap` doesn't take the words, or they ask for help: its own error, which is not printed yet, and its text.

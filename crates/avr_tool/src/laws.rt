@@ -2,7 +2,7 @@
 
 ghost use Rattle.std.specs.Prelude.{◌≡◌, ◌++◌, replicate, ◌<◌, ◌*◌, ◌⊎◌, ℕ, Bool, length, true, false, List, [], All, Some, map, ◌∷◌, Ok};
 ghost use Rattle.avr_cli.specs.declared.settings.Settings.{Settings as AnySettings};
-ghost use Rattle.avr_desk.specs.Memory.{Memory, Stock, memory_view};
+ghost use Rattle.avr_desk.specs.Memory.{MemDeskState, Stock, memory_view};
 ghost use Rattle.avr_desk.specs.Named.{is_dash};
 ghost use Rattle.avr_desk.specs.Truth.{HoldsTrue};
 ghost use Rattle.avr_desk.specs.Record.{DeskView, Passes, Record, Bytes};
@@ -25,8 +25,8 @@ ghost use Rattle.avr_session.specs.Session.{session};
 ghost use Rattle.avr_session.specs.Stopping.{IsSound, LacksMemory, keeping, talking};
 ghost use Rattle.ghosts.specs.Stays.{Stays};
 ghost use Rattle.avr_tool.specs.ChipFound.{IsChipOf, file_held};
-ghost use Rattle.avr_tool.specs.Headline.{IsRun, IsStopped, StoppedPlaying, IsFrontOfRun, OverAnyLink, OverAnyEnd, wire_and_desk};
-ghost use Rattle.avr_tool.specs.InMemory.{Leaves, Outcome};
+ghost use Rattle.avr_tool.specs.Headline.{IsRun, IsStopped, StoppedPlaying, IsPrefixOfRun, OverAnyLink, OverAnyEnd, wire_and_desk};
+ghost use Rattle.avr_tool.specs.InMemory.{Leaves, RunOutcome};
 ghost use Rattle.avr_tool.specs.Worked.{absent_outcome, absent_settings, frames_due, fuse_plan, lines_due, made_answers, no_stock, worked_answers, worked_outcome, worked_settings};
 ghost use Rattle.stk_emu.specs.Along.{along, said_along};
 ghost use Rattle.stk_emu.specs.Device.{device, after_frames, answers};
@@ -70,15 +70,15 @@ pub fn a_run_of_status_0_is_its_course()
 {}
 
 /// What runs as the settings say is the one function, or it stopped.
-#[tactic(auto, using(crate::proofs::Joining::is_run))]
+#[tactic(auto, using(crate::proofs::Runs::Joined::is_run))]
 pub fn a_run_is_one_function()
     ensures { (s : AnySettings) (x : Devices) (between : DeskView) (y : Devices) (status : ℕ)
         → RunsSettings s x between y status → IsRun s x y status ⊎ IsStopped s x y status }
 {}
 
-/// What stopped as it was played did a front of the run; and a run comes to one status.
-pub fn a_stop_is_a_front()
-    ensures front { (s : AnySettings) (x y : Devices) (status : ℕ) → StoppedPlaying s x y status → IsFrontOfRun s x y }
+/// What stopped as it was played did a prefix of the run; and a run comes to one status.
+pub fn a_stop_is_a_prefix()
+    ensures prefix { (s : AnySettings) (x y : Devices) (status : ℕ) → StoppedPlaying s x y status → IsPrefixOfRun s x y }
     ensures one { (s : AnySettings) (h i j k : Devices) (m n : ℕ) (x : IsRun s h i m) (y : IsRun s j k n)
         → x.openings ≡ y.openings → heard x.during ≡ heard y.during → m ≡ n }
 {}
@@ -143,10 +143,10 @@ pub fn a_further_run_heals()
 /// its bytes, which are as many as the part's, or fresh where there is no file. And with status 0 it leaves its chip
 /// there. (A file that is named `-` is standard input where it is read, so none that is left.)
 pub fn a_run_finds_and_leaves_the_chip_of_its_file()
-    ensures finds { (settings : AnySettings) (file : Bytes) (stock : Stock) (old new : Memory) (status : ℕ)
+    ensures finds { (settings : AnySettings) (file : Bytes) (stock : Stock) (old new : MemDeskState) (status : ℕ)
         → HoldsTrue stock new → (r : RunsOverEmulator settings file (memory_view old) (memory_view new) status)
         → IsChipOf r.plan.part (file_held stock old.kept file) r.chip }
-    ensures leaves { (settings : AnySettings) (file : Bytes) (stock : Stock) (old new : Memory) (status : ℕ)
+    ensures leaves { (settings : AnySettings) (file : Bytes) (stock : Stock) (old new : MemDeskState) (status : ℕ)
         → is_dash file ≡ false → status ≡ 0
         → (r : RunsOverEmulator settings file (memory_view old) (memory_view new) status)
         → file_held stock new.kept file ≡ Some (chip_file r.after.wire.programmer.chip) }
@@ -158,7 +158,7 @@ pub fn a_run_finds_and_leaves_the_chip_of_its_file()
 /// an erase must each byte that the plan writes to the high fuse keep it too; and no update of the first run may be
 /// read into the chip's own file.
 pub fn a_further_run_over_its_chip_file_heals()
-    ensures { (settings : AnySettings) (file : Bytes) (stock : Stock) (old mid new : Memory) (status further : ℕ)
+    ensures { (settings : AnySettings) (file : Bytes) (stock : Stock) (old mid new : MemDeskState) (status further : ℕ)
         → is_dash file ≡ false → HoldsTrue stock old → Stays HoldsTrue old mid → Stays HoldsTrue mid new
         → (one : RunsOverEmulator settings file (memory_view old) (memory_view mid) status)
         → (two : RunsOverEmulator settings file (memory_view mid) (memory_view new) further)
@@ -184,9 +184,9 @@ pub fn a_worked_run_has_one_outcome()
 {}
 
 /// From bytes to bytes: what a run leaves over some files and a tape is one outcome. Of `-p m328p`, to which all
-/// answers came, it is this one; and where the part file isn't there, that this is told and nothing sent.
+/// answers came, it is this one; and where the part file isn't there, that this is reported and nothing sent.
 pub fn a_run_in_memory_has_one_outcome()
-    ensures one { (s : AnySettings) (stock : Stock) (tape : Tape) (a b : Outcome)
+    ensures one { (s : AnySettings) (stock : Stock) (tape : Tape) (a b : RunOutcome)
         → Leaves s stock tape a → Leaves s stock tape b → a ≡ b }
     ensures worked { (stock : Stock) → Leaves worked_settings stock worked_answers worked_outcome }
     ensures absent { (tape : Tape) → Leaves absent_settings no_stock tape absent_outcome }
@@ -196,8 +196,8 @@ pub fn a_run_in_memory_has_one_outcome()
 /// The session goes along the turns of its questions, which what was read and what became of the programmer make, and
 /// did what the page says. In bytes: whatever bytes the programmer got, of whose good frames each is one of those sent,
 /// in their order, and whatever tape came back, on which each good frame that the host cuts is one of the programmer's
-/// last answers or a refusal; and so where the programmer got a front of the bytes, in their order, as from another
-/// process. And however a session ends, so that any front of its bytes was sent: the memories are those of its first
+/// last answers or a refusal; and so where the programmer got a prefix of the bytes, in their order, as from another
+/// process. And however a session ends, so that any prefix of its bytes was sent: the memories are those of its first
 /// strokes, and it has said no more than its course says, up to the line of a step that failed.
 pub fn a_session_over_any_line()
     ensures turns { (plan : Plan) (s : Chip) (becames : List Became) (bytes : List ℕ)
@@ -235,9 +235,9 @@ pub fn a_session_over_any_line()
 {}
 
 /// Whatever becomes of a session over a link over which nothing had passed, so that it is played or breaks off, also
-/// since that link failed: as long as no frame is made, the memories are those of its first strokes, as many as came to
-/// data by what was heard and at most one more, and it has said no more than its course says, up to the line of a step
-/// that failed.
+/// since that link failed: as long as no frame is made, the memories are those of its first strokes, as many as was
+/// completed by what was heard and at most one more, and it has said no more than its course says, up to the line of a
+/// step that failed.
 pub fn whatever_becomes_of_a_session_its_first_strokes_were_made()
     ensures { (plan : Plan) (s : Chip) (got : List ℕ) (through : List Bool) (old new : Devices) (status : ℕ)
         → IsSoundChip s → s.part ≡ plan.part → All (IsFitted plan.part) plan.tasks
@@ -263,8 +263,8 @@ pub fn a_made_frame_voids_the_promise()
 {}
 
 /// A server that answered all it heard has sent the answers to the frames in it, and no more, and its programmer is as
-/// they left it. However serving ended, it took a front of the bytes that it heard, obeyed all frames in that, and sent
-/// their answers, the last one perhaps in part.
+/// they left it. However serving ended, it took a prefix of the bytes that it heard, obeyed all frames in that, and
+/// sent their answers, the last one perhaps in part.
 pub fn a_server_sends_the_answers_to_what_it_heard()
     ensures all { (p : Programmer) (talk : Talk) (left : Machine)
         → AnswersAll p [] (bytes_of (heard talk)) (sent talk) left
@@ -356,7 +356,7 @@ pub fn a_prompt_line_brings_the_course()
 {}
 
 /// Whatever becomes of either, so that a session is played or breaks off and serving ends anyhow: the chip that is
-/// saved has the first strokes of the plan, as many as came to data by what was heard and at most one more.
+/// saved has the first strokes of the plan, as many as were completed by what was heard and at most one more.
 pub fn whatever_becomes_of_both_some_strokes_were_made()
     ensures { (plan : Plan) (s : Chip) (calls : List Call) (old new : Devices) (server_old server_new : Sides)
         (file : Bytes) (most status served_status : ℕ)

@@ -40,7 +40,7 @@ pub use laws::{
     a_prompt_line_brings_the_course, a_run_finds_and_leaves_the_chip_of_its_file,
     a_run_in_memory_has_one_outcome, a_run_is_one_function, a_run_of_status_0_is_its_course,
     a_server_sends_the_answers_to_what_it_heard, a_session_and_a_server_are_one_run,
-    a_session_over_any_line, a_sound_run_is_its_course, a_stop_is_a_front,
+    a_session_over_any_line, a_sound_run_is_its_course, a_stop_is_a_prefix,
     a_worked_run_has_one_outcome, a_wrong_outcome_is_refused, an_ordered_line_cuts_and_stalls,
     two_processes_have_a_run, two_processes_never_both_wait,
     what_a_host_hears_of_a_server_is_honest,

@@ -41,6 +41,14 @@ pub fn run_emu<D: Desk>(alloc: Global, settings: &Settings, desk: &mut D) -> u8
 }
 
 /// Runs what the settings ask for over the network, as [`avr_net::run_net`] does with the address of their port.
+///
+/// ```text
+/// let mut settings = Settings::for_link(alloc, "nobody")?;
+/// settings.port = Port::Network(Text::new(alloc, "localhost:5000")?);
+/// let mut desk = MemDesk::new(alloc);
+/// // the part is judged before a connection is opened
+/// assert_eq!(rt; run_net(&rt, alloc, &settings, &mut desk), 1);
+/// ```
 pub fn run_net<R: Net, D: Desk>(rt: &R, alloc: Global, settings: &Settings, desk: &mut D) -> u8
     requires port { IsNetwork settings.now.port }
     ensures runs { RunsOverNet settings.now (port_place settings.now.port) (D.view desk.old) (D.view desk.new) result }
@@ -102,8 +110,8 @@ where
 /// Serves the emulator to the first caller of a listener, in at most 16,777,216 reads.
 ///
 /// The part and the chip file of the settings are judged before a connection is accepted: where they are refused nobody
-/// is waited for. The chip is loaded when it is accepted. A connection that can't be accepted is told of the settings'
-/// port, and then no file is written.
+/// is waited for. The chip is loaded when it is accepted. A connection that can't be accepted is reported of the
+/// settings' port, and then no file is written.
 ///
 /// The status is 0 where the caller ended it and the chip was saved, else 1.
 pub fn serve_on<L: OpenListener, D: Desk>(
@@ -134,6 +142,15 @@ where
 
 /// Serves the emulator at the port of 127.0.0.1 that the settings name, as [`avr_net::serve_net`] does with that port
 /// and the chip file of the settings.
+///
+/// ```text
+/// let mut settings = Settings::for_link(alloc, "nobody")?;
+/// let [port, chip] = [Text::new(alloc, "5000")?, Text::new(alloc, "chip.bin")?];
+/// settings.port = Port::Served { port, chip };
+/// let mut desk = MemDesk::new(alloc);
+/// // the part is judged before anybody is waited for
+/// assert_eq!(rt; serve_net(&rt, alloc, &settings, &mut desk), 1);
+/// ```
 pub fn serve_net<R: Net, D: Desk>(rt: &R, alloc: Global, settings: &Settings, desk: &mut D) -> u8
     requires port { IsServed settings.now.port }
     ensures serves { ServesNet settings.now (port_place settings.now.port) (chip_file_of settings.now.port)

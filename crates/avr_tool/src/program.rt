@@ -101,6 +101,16 @@ fn status_of_usage(error: &Error, was_printed: bool) -> u8
 /// The program: runs what the words of a command line ask for as [`run_words`] does, and prints an error of `clap`.
 ///
 /// The status of help and of the version that were printed is 0, that of any other such error 1.
+///
+/// ```text
+/// let mut words = Vec::new(alloc);
+/// for word in ["avrstk", "-p", "m328p", "-P", "emu:chip.bin", "-q"] {
+///     words.push(String::from_str(alloc, word)?)?;
+/// }
+/// let mut desk = MemDesk::new(alloc);
+/// let mut streams = StreamLink::new(b"".as_slice(), Vec::new(alloc));
+/// assert_eq!(rt; run_program(&rt, alloc, words.as_slice(), &mut desk, &mut streams), 0);
+/// ```
 pub fn run_program<N: Net + Print + Eprint, D: Desk, R: Read + Drop, W: Write + Drop>(
     rt: &N,
     alloc: Global,

@@ -21,7 +21,7 @@ use stk_emu::Wired;
 use stk_host::{Link, StreamLink, TapeLink};
 
 /// Plans what the settings ask for, runs it over a link, reports it at the desk, and answers the status: 0 where no
-/// fault came, else 1. What is refused is told before any frame is sent or file created.
+/// fault came, else 1. What is refused is reported before any frame is sent or file created.
 ///
 /// ```text
 /// let settings = Settings::for_link(alloc, "m328p")?;
@@ -32,7 +32,7 @@ use stk_host::{Link, StreamLink, TapeLink};
 /// let printed = b"avrstk: device signature = 1E 95 0F\navrstk: done\n";
 /// assert!(rt; desk.messages() == printed.as_slice());
 /// ```
-#[tactic(auto, using(crate::proofs::Joining::is_run))]
+#[tactic(auto, using(crate::proofs::Runs::Joined::is_run))]
 pub fn run<D: Desk, L: Link>(alloc: Global, settings: &Settings, desk: &mut D, link: &mut L) -> u8
     ensures runs { IsRun settings.now (devices (L.view link.old) (D.view desk.old))
         (devices (L.view link.new) (D.view desk.new)) result

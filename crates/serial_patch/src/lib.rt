@@ -52,7 +52,7 @@ pub fn put_serial_number(image: &mut Image, at: u32, serial: &[u8]) -> Result<()
 }
 
 /// The record file of a part's flash memory with a serial number in it, from this address on, as Intel HEX with only
-/// the bytes that are there. The first fault is told.
+/// the bytes that are there. The first fault is reported.
 pub fn patch_serial_number(
     alloc: Global,
     part: &Part,

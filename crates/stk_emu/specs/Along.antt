@@ -8,14 +8,14 @@ use Rattle.stk_emu.specs.Lawful.{IsBody}
 use Rattle.stk_emu.specs.Wire.{Wire, turns_of, tape_of, wire_after}
 
 -- How a dialog stands: what is left of it, the programmer, the turns to come, and the questions that it may still ask.
-pub record Standing (E R P : Type 0) : Type 0 where
+pub record LineState (E R P : Type 0) : Type 0 where
   pub dialog : Dialog E R
   pub programmer : P
   pub turns : List Turn
   pub left : ℕ
 
 -- after at most so many questions
-abbrev pub along : {E R P : Type 0} → Device P → ℕ → Dialog E R → P → List Turn → Standing E R P
+abbrev pub along : {E R P : Type 0} → Device P → ℕ → Dialog E R → P → List Turn → LineState E R P
 along m k (Done r) p turns = record { dialog = Done r; programmer = p; turns = turns; left = k }
 along m k (Say e dialog) p turns = along m k dialog p turns
 along m zero (Ask bytes go_on) p turns = record { dialog = Ask bytes go_on; programmer = p; turns = turns; left = 0 }

@@ -29,7 +29,7 @@ pub record Answers (old : Machine) (used : List ℕ) (new : Machine) (out : List
   pub answered : out ≡ answers device found old.programmer
   pub obeyed : new.programmer ≡ after_frames device found old.programmer
 
--- It was fed all of these bytes: whatever text it stood for, these frames end in them, and behind what a list held
+-- It was fed all of these bytes: whatever text it stood for, these frames end in them, and after what a list held
 -- stand now the answers to them, in their order.
 pub record AppendsAnswers (old : Machine) (bytes : List ℕ) (new : Machine) (before after : List ℕ) : Type 0 where
   pub found : List (List ℕ)
@@ -38,8 +38,8 @@ pub record AppendsAnswers (old : Machine) (bytes : List ℕ) (new : Machine) (be
   pub appended : after ≡ before ++ answers device found old.programmer
   pub obeyed : new.programmer ≡ after_frames device found old.programmer
 
--- It was fed a front of these bytes and not all of them, and all answers to that front were appended.
-pub record AnswersFront (old : Machine) (bytes : List ℕ) (new : Machine) (before after : List ℕ) : Type 0 where
+-- It was fed a prefix of these bytes and not all of them, and all answers to that prefix were appended.
+pub record AnswersPrefix (old : Machine) (bytes : List ℕ) (new : Machine) (before after : List ℕ) : Type 0 where
   pub used : List ℕ
   pub unused : List ℕ
   pub bytes_are : bytes ≡ used ++ unused

@@ -13,10 +13,10 @@ after_commands m (suc i) [] p = p
 after_commands m (suc i) (command ∷ commands) p = after_commands m i commands (m.after (body command) p)
 
 -- The commands lead from the one condition to the other, also where they are cut short and begun again: from the first
--- any front leaves the one or the other, the second is kept by any front, and all of them, where each brought its data,
--- lead to the second. A device that begins anew keeps either.
+-- any prefix leaves the one or the other, the second is kept by any prefix, and all of them, where each brought its
+-- data, lead to the second. A device that begins anew keeps either.
 pub record Fits {P : Type 0} (m : Device P) (commands : List Command) (Before After : P → Type 0) : Type 0 where
-  pub front : (p : P) (i : ℕ) → Before p → Before (after_commands m i commands p)
+  pub prefix : (p : P) (i : ℕ) → Before p → Before (after_commands m i commands p)
       ⊎ After (after_commands m i commands p)
   pub again : (p : P) (i : ℕ) → After p → After (after_commands m i commands p)
   pub whole : (p : P) (bytes : List ℕ) → joined_reply m commands [] p ≡ Data bytes → Before p

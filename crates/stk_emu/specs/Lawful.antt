@@ -1,19 +1,21 @@
 -- Noise that can be told from an answer, bodies that a frame can carry, and late answers that can't be taken for
 -- another.
 use Rattle.std.specs.Prelude.{ℕ, zero, suc, List, [], ◌++◌, ◌<◌, ◌≤◌, ◌≡◌, ◌⊎◌, length, filter}
+use Rattle.stk_emu.specs.declared.fate.TheConstants.{LARGEST_NOISE}
+use Rattle.stk_frame.specs.declared.protocol.TheConstants.{LARGEST_BODY}
 use Rattle.stk_frame.specs.Frame.{frame}
 use Rattle.stk_frame.specs.Cut.{cut, is_good}
 use Rattle.stk_host.specs.Dialog.{next}
 
 -- noise in which no good frame stands
 pub record IsLawful (noise : List ℕ) : Type 0 where
-  pub few : length noise ≤ 2048
+  pub few : length noise ≤ LARGEST_NOISE
   pub no_frame : filter is_good (cut noise) ≡ []
 
 -- a body that a frame can carry
 pub record IsBody (body : List ℕ) : Type 0 where
   pub some : 0 < length body
-  pub few : length body ≤ 275
+  pub few : length body ≤ LARGEST_BODY
 
 -- The answers that wait, the last three at most, in their order; each is empty where there is none.
 pub record Late : Type 0 where
@@ -24,7 +26,7 @@ pub record Late : Type 0 where
 abbrev pub none_late : Late
 none_late = record { first = []; second = []; third = [] }
 
--- one more behind those that wait: of a fourth one the first is lost
+-- one more after those that wait: of a fourth one the first is lost
 abbrev pub behind_late : Late → List ℕ → Late
 behind_late late answered = record { first = late.second; second = late.third; third = answered }
 

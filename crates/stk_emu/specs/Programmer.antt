@@ -9,6 +9,7 @@ use Rattle.stk_frame.specs.declared.command.ProgramBlock.{ProgramBlock}
 use Rattle.stk_frame.specs.declared.command.ReadBlock.{ReadBlock}
 use Rattle.stk_frame.specs.declared.command.ReadByte.{ReadByte}
 use Rattle.stk_frame.specs.Decoding.{command_of}
+use Rattle.stk_emu.specs.declared.programmer.TheConstants.{LARGEST_READ}
 
 pub record Programmer : Type 0 where
   -- it is in programming mode
@@ -34,7 +35,7 @@ fresh_programmer chip = record {
 abbrev pub restarted_programmer : Programmer → Programmer
 restarted_programmer p = fresh_programmer (with_empty_buffers p.chip)
 
--- the body of an answer, and the programmer behind the command
+-- the body of an answer, and the programmer after the command
 abbrev pub Response : Type 0
 Response = List ℕ × Programmer
 
@@ -81,7 +82,7 @@ extension false address = []
 abbrev pub for_half : ℕ → ℕ → ℕ
 for_half cmd i = if i % 2 == 0 then cmd else bit_or cmd 8
 
--- the address of the byte i behind the one at which a command begins: of its word in flash, of itself in EEPROM
+-- the address of the byte i after the one at which a command begins: of its word in flash, of itself in EEPROM
 abbrev pub word_at : ℕ → ℕ → ℕ
 word_at address i = (address + i / 2) % bit_31
 
@@ -190,14 +191,14 @@ program_eeprom f p =
     )
     else fail 0x15 p)
 
--- bytes read, and the chip behind the instructions that read them
+-- bytes read, and the chip after the instructions that read them
 abbrev pub Looked : Type 0
 Looked = List ℕ × ChipState
 
 abbrev pub behind_byte : ℕ → Looked → Looked
 behind_byte b looked = (b ∷ looked.0, looked.1)
 
--- the fourth byte out of an instruction, and then what is read from the chip behind it
+-- the fourth byte out of an instruction, and then what is read from the chip after it
 abbrev pub look : List ℕ → ChipState → (ChipState → Looked) → Looked
 look x chip more = behind_byte (slice_index (spi_of x chip).0 3) (more (spi_of x chip).1)
 
@@ -218,13 +219,13 @@ block code looked p = (code ∷ 0 ∷ (looked.0 ++ 0 ∷ []), record p { chip = 
 
 abbrev pub read_flash : ReadBlock → Programmer → Response
 read_flash f p =
-    in_mode 0x14 p (if not (f.count == 0) && f.count % 2 == 0 && nat_le f.count 272
+    in_mode 0x14 p (if not (f.count == 0) && f.count % 2 == 0 && nat_le f.count LARGEST_READ
     then block 0x14 (flash_looks p.wide f.cmd1 p.address 0 f.count p.chip) (with_address_moved (f.count / 2) p)
     else fail 0x14 p)
 
 abbrev pub read_eeprom : ReadBlock → Programmer → Response
 read_eeprom f p =
-    in_mode 0x16 p (if not (f.count == 0) && nat_le f.count 272
+    in_mode 0x16 p (if not (f.count == 0) && nat_le f.count LARGEST_READ
     then block 0x16 (eeprom_looks f.cmd1 p.address 0 f.count p.chip) (with_address_moved f.count p)
     else fail 0x16 p)
 

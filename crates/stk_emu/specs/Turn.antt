@@ -3,7 +3,7 @@ use Rattle.std.specs.Prelude.{ℕ, List, [], ◌∷◌, ◌≡◌, ◌⊎◌}
 use Rattle.stk_host.specs.Tape.{Reading, Answered, Silent, Ended, Babbled}
 use Rattle.stk_emu.specs.Device.{Device, refusal}
 
--- what became of the programmer: it never saw the command, or it obeyed it; and behind that it may have begun anew
+-- what became of the programmer: it never saw the command, or it obeyed it; and after that it may have begun anew
 pub data Became : Type 0 where
   Kept : Became
   Obeyed : Became
@@ -23,7 +23,7 @@ pub data Turn : Type 0 where
   Right : Turn
   Wrong : Became → Instead → Turn
 
--- the programmer behind a question, by the one that obeyed, the one that was asked, and how it begins anew
+-- the programmer after a question, by the one that obeyed, the one that was asked, and how it begins anew
 abbrev pub after_became : {P : Type 0} → Became → P → P → (P → P) → P
 after_became Kept obeyed kept reset = kept
 after_became Obeyed obeyed kept reset = obeyed

@@ -109,7 +109,7 @@ wire_behind m piece w = record {
   late = late_of (first_fate w.fates) (answer_frame m piece w.programmer) w.late;
 }
 
--- the segments of whole frames, joined, and the wire behind them
+-- the segments of whole frames, joined, and the wire after them
 abbrev pub tape_of : {P : Type 0} → Device P → List (List ℕ) → Wire P → Tape
 tape_of m [] w = []
 tape_of m (piece ∷ pieces) w = segment m piece w ++ tape_of m pieces (wire_behind m piece w)

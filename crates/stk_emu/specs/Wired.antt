@@ -53,8 +53,8 @@ pub record IsFresh (w : WiredState) : Type 0 where
   pub begins : Keeps (fresh_programmer w.wire.programmer.chip) w.wire.fates w
   pub lawful : AreLawful w.wire.fates
 
--- Bytes were sent, in which these frames ended: behind what waited now waits what they bring, and the wire stands
--- behind them.
+-- Bytes were sent, in which these frames ended: after what waited now waits what they bring, and the wire stands
+-- after them.
 pub record PassesBytes (old new : WiredState) (used : List ℕ) : Type 0 where
   pub found : List (List ℕ)
   pub are_frames : filter is_frame found ≡ found

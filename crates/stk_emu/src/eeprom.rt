@@ -1,10 +1,11 @@
 //! Blocks of EEPROM.
 
 ghost use Rattle.std.specs.Prelude.{◌≡◌, ◌<◌, ◌≤◌, ◌+◌, ◌++◌, length};
+ghost use Rattle.stk_frame.specs.declared.protocol.TheConstants.{LARGEST_BODY};
 ghost use Rattle.stk_emu.specs.Programmer.{bit_31, sent_to, eeprom_loads, eeprom_writes, eeprom_looks};
 
+use crate::programmer::Body;
 use crate::spi::{at_address, byte_at};
-use arrayvec::ArrayVec;
 use avr_part::Chip;
 
 /// Loads or writes the bytes of a block, as the instruction says.
@@ -28,16 +29,10 @@ pub(crate) fn write_page(chip: &mut Chip, command: u8, address: u32, is_asked: b
     }
 }
 
-/// Reads so many bytes, and puts them behind those of `out`.
-pub(crate) fn read(
-    chip: &mut Chip,
-    command: u8,
-    address: u32,
-    count: u16,
-    out: &mut ArrayVec<u8, 275>,
-)
+/// Reads so many bytes, and puts them after those of `out`.
+pub(crate) fn read(chip: &mut Chip, command: u8, address: u32, count: u16, out: &mut Body)
     requires address { address < bit_31 }
-    requires room { length out.old.items + count ≤ 275 }
+    requires room { length out.old.items + count ≤ LARGEST_BODY }
     ensures bytes { out.new.items ≡ out.old.items ++ (eeprom_looks command address 0 count chip.old).0 }
     ensures chip { chip.new ≡ (eeprom_looks command address 0 count chip.old).1 }
     ensures len { length out.new.items ≡ length out.old.items + count }

@@ -6,7 +6,7 @@ ghost use Rattle.stk_frame.specs.Cut.{is_good, seq_of, body_of};
 ghost use Rattle.stk_frame.specs.Reader.{HoldsFrame, TellsEvent, frames_of_event};
 ghost use Rattle.stk_emu.specs.Programmer.{Programmer as ProgrammerState, fresh_programmer, obey};
 ghost use Rattle.stk_emu.specs.Device.{device, refusal, answer_frame, after_frame, answers, after_frames};
-ghost use Rattle.stk_emu.specs.Emulator.{Answers, AppendsAnswers, AnswersFront, IsFed, emulate};
+ghost use Rattle.stk_emu.specs.Emulator.{Answers, AppendsAnswers, AnswersPrefix, IsFed, emulate};
 
 use crate::programmer::{Body, Programmer};
 use arrayvec::ArrayVec;
@@ -195,8 +195,8 @@ impl Emulator {
 
     /// Uses all of these bytes, whatever frames end in them, and appends the answers to `answers`, in their order.
     ///
-    /// `AllocError` where memory is refused: then a front of the bytes was used and not all of them, all answers to
-    /// that front were appended, and no answer in part.
+    /// `AllocError` where memory is refused: then a prefix of the bytes was used and not all of them, all answers to
+    /// that prefix were appended, and no answer in part.
     ///
     /// ```text
     /// let chip = Chip::fresh(alloc, Parts::none().find("t85")?)?;
@@ -210,7 +210,7 @@ impl Emulator {
     pub fn answer_all(&mut self, bytes: &[u8], answers: &mut Vec<u8>) -> Result<(), AllocError>
         ensures appends { OnOk result (AppendsAnswers self.old bytes.now self.new
             answers.old.items answers.new.items) }
-        ensures front { OnErr result (AnswersFront self.old bytes.now self.new
+        ensures prefix { OnErr result (AnswersPrefix self.old bytes.now self.new
             answers.old.items answers.new.items) }
         // Whatever it began with and was fed: a list of all answers to that becomes one of all answers.
         ensures fed { (p : ProgrammerState) (text : List ℕ) → IsFed p text self.old

@@ -7,6 +7,16 @@ ghost use Rattle.stk_emu.specs.Lawful.{IsLawful};
 use stk_frame::{Event, FrameReader};
 
 /// What happens to one whole frame on its way to the programmer, and to the answer on its way back.
+///
+/// ```text
+/// let part = Parts::none().find("t85")?;
+/// let mut fates = Fates::none(alloc);
+/// fates.push(Fate::LateAnswer)?;
+/// fates.push(Fate::Reset)?;
+/// let mut wire = Wired::new(alloc, Chip::fresh(alloc, part.copied())?, fates);
+/// // SIGN_ON is asked again, and its late answer passed over; then the programmer began anew
+/// assert!(rt; Host::new(&part).open(&mut wire, false).is_ok());
+/// ```
 #[derive(Debug, Drop, PartialEq, Eq)]
 pub enum Fate {
     /// The frame is obeyed, and the answer comes.
@@ -17,7 +27,7 @@ pub enum Fate {
     LostAnswer,
     /// The frame is obeyed, and a silence comes; the answer comes in front of what the next frame brings.
     LateAnswer,
-    /// The frame is obeyed, and a silence comes; the answer waits behind those that wait already, and all of them come
+    /// The frame is obeyed, and a silence comes; the answer waits after those that wait already, and all of them come
     /// in front of what the first later frame of another fate brings. Three can wait: of a fourth one the first is
     /// lost.
     HeldAnswer,
@@ -31,7 +41,7 @@ pub enum Fate {
 }
 
 /// The most bytes that noise may have.
-const LIMIT: usize = 2048;
+pub(crate) const LARGEST_NOISE: usize = 2048;
 
 /// Whether the event tells of a good frame.
 fn tells_of_good(reader: &FrameReader, event: Event) -> bool
@@ -75,5 +85,5 @@ fn has_good_frame(noise: &[u8]) -> bool
 pub fn noise_is_lawful(noise: &[u8]) -> bool
     ensures { IsTrue result ↔ IsLawful noise.now }
 {
-    noise.len() <= LIMIT && !has_good_frame(noise)
+    noise.len() <= LARGEST_NOISE && !has_good_frame(noise)
 }

@@ -9,6 +9,12 @@ use std::marker::Model;
 use thiserror::Error;
 
 /// Why a fate was not taken.
+///
+/// ```text
+/// let answer = b"\x1B\x01\x00\x02\x0E\x01\x00\x17";
+/// let noise = Fate::AnswerSpoiled(Vec::from_slice(alloc, answer)?);
+/// assert_eq!(rt; Fates::none(alloc).push(noise), Err(FatesFault::UnlawfulNoise));
+/// ```
 #[derive(Clone, Copy, Debug, Drop, PartialEq, Eq, Error)]
 pub enum FatesFault {
     /// The noise in place of an answer is not lawful: [`noise_is_lawful`] refuses it.
@@ -38,6 +44,13 @@ impl FatesFault {
 /// What happens to the first frames that are sent over a [`crate::Wired`], one after the other.
 ///
 /// Noise in place of an answer is judged when its fate is pushed, so that of all these fates it is lawful.
+///
+/// ```text
+/// let mut fates = Fates::none(alloc);
+/// fates.push(Fate::LostCommand)?;
+/// fates.push(Fate::LostAnswer)?;
+/// assert_eq!(rt; fates.len(), 2);
+/// ```
 #[derive(Debug, Drop)]
 pub struct Fates {
     all: Vec<Fate>,
@@ -86,7 +99,7 @@ impl Fates {
         }
     }
 
-    /// One fate more, of the frame behind those that have one. Where it is refused nothing changes.
+    /// One fate more, of the frame after those that have one. Where it is refused nothing changes.
     ///
     /// ```text
     /// let mut fates = Fates::none(alloc);

@@ -1,10 +1,11 @@
 //! Blocks of flash.
 
 ghost use Rattle.std.specs.Prelude.{◌≡◌, ◌<◌, ◌≤◌, ◌+◌, ◌++◌, length, true, false};
+ghost use Rattle.stk_frame.specs.declared.protocol.TheConstants.{LARGEST_BODY};
 ghost use Rattle.stk_emu.specs.Programmer.{bit_31, sent_to, flash_loads, flash_writes, flash_looks};
 
+use crate::programmer::Body;
 use crate::spi::{at_address, extend, for_half, word_at};
-use arrayvec::ArrayVec;
 use avr_part::Chip;
 
 /// The instructions of which the chip obeys a block at once: load a byte of the page buffer, and read one of flash.
@@ -64,17 +65,17 @@ pub(crate) fn write_page(chip: &mut Chip, wide: bool, command: u8, address: u32,
     }
 }
 
-/// Reads so many bytes, and puts them behind those of `out`.
+/// Reads so many bytes, and puts them after those of `out`.
 pub(crate) fn read(
     chip: &mut Chip,
     wide: bool,
     command: u8,
     address: u32,
     count: u16,
-    out: &mut ArrayVec<u8, 275>,
+    out: &mut Body,
 )
     requires address { address < bit_31 }
-    requires room { length out.old.items + count ≤ 275 }
+    requires room { length out.old.items + count ≤ LARGEST_BODY }
     ensures bytes { out.new.items ≡ out.old.items ++ (flash_looks wide command address 0 count chip.old).0 }
     ensures chip { chip.new ≡ (flash_looks wide command address 0 count chip.old).1 }
     ensures len { length out.new.items ≡ length out.old.items + count }
@@ -84,9 +85,9 @@ pub(crate) fn read(
     }
 }
 
-/// Puts bytes behind those of `out`.
-fn put_behind(out: &mut ArrayVec<u8, 275>, bytes: &[u8])
-    requires { length out.old.items + length bytes.now ≤ 275 }
+/// Puts bytes after those of `out`.
+fn put_behind(out: &mut Body, bytes: &[u8])
+    requires { length out.old.items + length bytes.now ≤ LARGEST_BODY }
     ensures { out.new.items ≡ out.old.items ++ bytes.now }
 {
     let _ = out.try_extend_from_slice(bytes);
@@ -100,10 +101,10 @@ fn read_at_once(
     command: u8,
     address: u32,
     count: u16,
-    out: &mut ArrayVec<u8, 275>,
+    out: &mut Body,
 ) -> bool
     requires address { address < bit_31 }
-    requires room { length out.old.items + count ≤ 275 }
+    requires room { length out.old.items + count ≤ LARGEST_BODY }
     ensures bytes { result ≡ true
         → out.new.items ≡ out.old.items ++ (flash_looks wide command address 0 count chip.old).0 }
     ensures chip { result ≡ true → chip.new ≡ (flash_looks wide command address 0 count chip.old).1 }
@@ -124,16 +125,9 @@ fn read_at_once(
 }
 
 /// Reads the bytes one by one.
-fn read_in_turn(
-    chip: &mut Chip,
-    wide: bool,
-    command: u8,
-    address: u32,
-    count: u16,
-    out: &mut ArrayVec<u8, 275>,
-)
+fn read_in_turn(chip: &mut Chip, wide: bool, command: u8, address: u32, count: u16, out: &mut Body)
     requires address { address < bit_31 }
-    requires room { length out.old.items + count ≤ 275 }
+    requires room { length out.old.items + count ≤ LARGEST_BODY }
     ensures bytes { out.new.items ≡ out.old.items ++ (flash_looks wide command address 0 count chip.old).0 }
     ensures chip { chip.new ≡ (flash_looks wide command address 0 count chip.old).1 }
     ensures len { length out.new.items ≡ length out.old.items + count }

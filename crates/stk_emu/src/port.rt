@@ -130,7 +130,7 @@ impl Write for EmulatedPort {
         ensures bound { WritesAtMost result buf.now }
         ensures bytes { WriteAppends None None result buf.now }
         ensures some { IfOk result (λ n. 0 < length buf.now → 0 < n) }
-        // What is written is fed, and the answers wait behind those that wait already.
+        // What is written is fed, and the answers wait after those that wait already.
         ensures answers { IfOk result (λ n. AppendsAnswers self.old.machine (take n buf.now) self.new.machine
             self.old.waits self.new.waits) }
         ensures passed { (p : ProgrammerState) (written given : List ℕ) → IsPassed p written given self.old

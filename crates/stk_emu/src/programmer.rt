@@ -2,6 +2,7 @@
 
 ghost use Rattle.std.specs.Prelude.{◌≡◌, ◌<◌, ◌≤◌, ◌∷◌, [], ◌+◌, ◌%◌, ℕ, length, slice_index, if◌then◌else◌, false, true};
 ghost use Rattle.avr_part.specs.State.{spi_of};
+ghost use Rattle.stk_frame.specs.declared.protocol.TheConstants.{LARGEST_BODY};
 ghost use Rattle.stk_emu.specs.Programmer.{fresh_programmer, restarted_programmer, sign_on, set_parameter, get_parameter, load_address, enter_response, enter_progmode, leave_progmode, chip_erase, program_byte, read_byte, program_flash, flash_fits, program_eeprom, eeprom_fits, is_paged, is_written, writes_page, is_polled, read_flash, read_eeprom, spi_multi, obey_command, is_known, not_read, obey, bit_31};
 
 use crate::spi::BIT_31;
@@ -9,17 +10,20 @@ use crate::{eeprom, flash};
 use arrayvec::ArrayVec;
 use avr_part::Chip;
 use std::marker::Model;
+use stk_frame::protocol::{
+    CMD_CHIP_ERASE_ISP, CMD_ENTER_PROGMODE_ISP, CMD_GET_PARAMETER, CMD_LEAVE_PROGMODE_ISP,
+    CMD_LOAD_ADDRESS, CMD_PROGRAM_EEPROM_ISP, CMD_PROGRAM_FLASH_ISP, CMD_PROGRAM_FUSE_ISP,
+    CMD_PROGRAM_LOCK_ISP, CMD_READ_EEPROM_ISP, CMD_READ_FLASH_ISP, CMD_READ_FUSE_ISP,
+    CMD_READ_LOCK_ISP, CMD_READ_OSCCAL_ISP, CMD_READ_SIGNATURE_ISP, CMD_SET_PARAMETER, CMD_SIGN_ON,
+    CMD_SPI_MULTI, LARGEST_BODY, STATUS_CMD_FAILED, STATUS_CMD_OK, STATUS_CMD_UNKNOWN,
+};
 use stk_frame::{Command, EnterProgmode, ProgramBlock, ReadBlock, ReadByte};
 
-/// The command was obeyed.
-const OK: u8 = 0x00;
-/// The command failed: nothing changed, but ENTER turned the mode off, and may have sent its bytes.
-const FAILED: u8 = 0xC0;
-/// There is no such command.
-const UNKNOWN: u8 = 0xC9;
-
 /// The body of an answer.
-pub(crate) type Body = ArrayVec<u8, 275>;
+pub(crate) type Body = ArrayVec<u8, LARGEST_BODY>;
+
+/// The most bytes of a block that is read: its answer's body has the command's byte and two statuses around them.
+const LARGEST_READ: u16 = (LARGEST_BODY - 3) as u16;
 
 /// The instruction that empties the part's page buffers.
 const PROGRAMMING_ENABLE: [u8; 4] = [0xAC, 0x53, 0x00, 0x00];
@@ -53,25 +57,24 @@ impl Model for Programmer {
 
 /// Makes the answer these bytes.
 fn answer_with(out: &mut Body, bytes: &[u8])
-    requires { length bytes.now ≤ 275 }
+    requires { length bytes.now ≤ LARGEST_BODY }
     ensures { out.new.items ≡ bytes.now }
 {
     out.clear();
     let _ = out.try_extend_from_slice(bytes);
 }
 
-/// A command failed.
 fn fail(out: &mut Body, code: u8)
     ensures { out.new.items ≡ code ∷ 192 ∷ [] }
 {
-    answer_with(out, &[code, FAILED]);
+    answer_with(out, &[code, STATUS_CMD_FAILED]);
 }
 
 /// Whether this is the byte of a command.
 fn is_known(code: u8) -> bool
     ensures { result ≡ is_known code }
 {
-    matches!(code, 0x01..=0x03 | 0x06 | 0x10..=0x1D)
+    matches!(code, CMD_SIGN_ON..=CMD_GET_PARAMETER | CMD_LOAD_ADDRESS | CMD_ENTER_PROGMODE_ISP..=CMD_SPI_MULTI)
 }
 
 /// The byte that names the command.
@@ -88,7 +91,11 @@ fn code_of(body: &[u8]) -> u8
 fn status_of(code: u8) -> u8
     ensures { result ≡ (if is_known code then 0xC0 else 0xC9) }
 {
-    if is_known(code) { FAILED } else { UNKNOWN }
+    if is_known(code) {
+        STATUS_CMD_FAILED
+    } else {
+        STATUS_CMD_UNKNOWN
+    }
 }
 
 /// The answer to a body that is no command's.
@@ -184,13 +191,20 @@ impl Programmer {
         ensures { (out.new.items, self.new) ≡ set_parameter number value self.old }
     {
         self.parameters[usize::from(number)] = value;
-        answer_with(out, &[0x02, OK]);
+        answer_with(out, &[CMD_SET_PARAMETER, STATUS_CMD_OK]);
     }
 
     fn get_parameter(&self, number: u8, out: &mut Body)
         ensures { (out.new.items, self.now) ≡ get_parameter number self.now }
     {
-        answer_with(out, &[0x03, OK, self.parameters[usize::from(number)]]);
+        answer_with(
+            out,
+            &[
+                CMD_GET_PARAMETER,
+                STATUS_CMD_OK,
+                self.parameters[usize::from(number)],
+            ],
+        );
     }
 
     fn load_address(&mut self, address: u32, out: &mut Body)
@@ -198,7 +212,7 @@ impl Programmer {
     {
         self.address = address % BIT_31;
         self.wide = BIT_31 <= address;
-        answer_with(out, &[0x06, OK]);
+        answer_with(out, &[CMD_LOAD_ADDRESS, STATUS_CMD_OK]);
     }
 
     /// The mode is on or off now.
@@ -206,8 +220,8 @@ impl Programmer {
         ensures { (out.new.items, self.new) ≡ enter_response ok self.old }
     {
         self.mode = ok;
-        let status = if ok { OK } else { FAILED };
-        answer_with(out, &[0x10, status]);
+        let status = if ok { STATUS_CMD_OK } else { STATUS_CMD_FAILED };
+        answer_with(out, &[CMD_ENTER_PROGMODE_ISP, status]);
     }
 
     fn enter_progmode(&mut self, fields: &EnterProgmode, out: &mut Body)
@@ -224,17 +238,17 @@ impl Programmer {
         ensures { (out.new.items, self.new) ≡ leave_progmode self.old }
     {
         self.mode = false;
-        answer_with(out, &[0x11, OK]);
+        answer_with(out, &[CMD_LEAVE_PROGMODE_ISP, STATUS_CMD_OK]);
     }
 
     fn chip_erase(&mut self, instruction: [u8; 4], out: &mut Body)
         ensures { (out.new.items, self.new) ≡ chip_erase instruction self.old }
     {
         if !self.mode {
-            return fail(out, 0x12);
+            return fail(out, CMD_CHIP_ERASE_ISP);
         }
         self.chip.spi(instruction);
-        answer_with(out, &[0x12, OK]);
+        answer_with(out, &[CMD_CHIP_ERASE_ISP, STATUS_CMD_OK]);
     }
 
     fn program_byte(&mut self, code: u8, instruction: [u8; 4], out: &mut Body)
@@ -244,7 +258,7 @@ impl Programmer {
             return fail(out, code);
         }
         self.chip.spi(instruction);
-        answer_with(out, &[code, OK, OK]);
+        answer_with(out, &[code, STATUS_CMD_OK, STATUS_CMD_OK]);
     }
 
     fn read_byte(&mut self, code: u8, fields: &ReadByte, out: &mut Body)
@@ -255,7 +269,15 @@ impl Programmer {
             return fail(out, code);
         }
         let bytes = self.chip.spi(fields.instruction);
-        answer_with(out, &[code, OK, bytes[usize::from(place) - 1], OK]);
+        answer_with(
+            out,
+            &[
+                code,
+                STATUS_CMD_OK,
+                bytes[usize::from(place) - 1],
+                STATUS_CMD_OK,
+            ],
+        );
     }
 
     /// The address moves on.
@@ -269,7 +291,7 @@ impl Programmer {
         ensures { (out.new.items, self.new) ≡ program_flash fields.now self.old }
     {
         if !self.mode || !flash_fits(fields) {
-            return fail(out, 0x13);
+            return fail(out, CMD_PROGRAM_FLASH_ISP);
         }
         let address = self.address;
         flash::load_page(
@@ -287,30 +309,30 @@ impl Programmer {
             is_written(fields),
         );
         self.move_on(fields.count / 2);
-        answer_with(out, &[0x13, OK]);
+        answer_with(out, &[CMD_PROGRAM_FLASH_ISP, STATUS_CMD_OK]);
     }
 
     fn program_eeprom(&mut self, fields: &ProgramBlock<'_>, out: &mut Body)
         ensures { (out.new.items, self.new) ≡ program_eeprom fields.now self.old }
     {
         if !self.mode || !eeprom_fits(fields) {
-            return fail(out, 0x15);
+            return fail(out, CMD_PROGRAM_EEPROM_ISP);
         }
         let address = self.address;
         eeprom::load_bytes(&mut self.chip, fields.cmd1, address, fields.bytes.bytes());
         eeprom::write_page(&mut self.chip, fields.cmd2, address, writes_page(fields));
         self.move_on(fields.count);
-        answer_with(out, &[0x15, OK]);
+        answer_with(out, &[CMD_PROGRAM_EEPROM_ISP, STATUS_CMD_OK]);
     }
 
     fn read_flash(&mut self, fields: &ReadBlock, out: &mut Body)
         ensures { (out.new.items, self.new) ≡ read_flash fields.now self.old }
     {
         let count = fields.count;
-        if !self.mode || count == 0 || count % 2 != 0 || count > 272 {
-            return fail(out, 0x14);
+        if !self.mode || count == 0 || count % 2 != 0 || count > LARGEST_READ {
+            return fail(out, CMD_READ_FLASH_ISP);
         }
-        answer_with(out, &[0x14, OK]);
+        answer_with(out, &[CMD_READ_FLASH_ISP, STATUS_CMD_OK]);
         flash::read(
             &mut self.chip,
             self.wide,
@@ -319,7 +341,7 @@ impl Programmer {
             count,
             out,
         );
-        out.push(OK);
+        out.push(STATUS_CMD_OK);
         self.move_on(count / 2);
     }
 
@@ -327,12 +349,12 @@ impl Programmer {
         ensures { (out.new.items, self.new) ≡ read_eeprom fields.now self.old }
     {
         let count = fields.count;
-        if !self.mode || count == 0 || count > 272 {
-            return fail(out, 0x16);
+        if !self.mode || count == 0 || count > LARGEST_READ {
+            return fail(out, CMD_READ_EEPROM_ISP);
         }
-        answer_with(out, &[0x16, OK]);
+        answer_with(out, &[CMD_READ_EEPROM_ISP, STATUS_CMD_OK]);
         eeprom::read(&mut self.chip, fields.cmd1, self.address, count, out);
-        out.push(OK);
+        out.push(STATUS_CMD_OK);
         self.move_on(count);
     }
 
@@ -341,15 +363,15 @@ impl Programmer {
     {
         let end = usize::from(start) + usize::from(receive);
         if !self.mode || send != 4 || end > 4 {
-            return fail(out, 0x1D);
+            return fail(out, CMD_SPI_MULTI);
         }
         let [a, b, c, d] = bytes else {
-            return fail(out, 0x1D);
+            return fail(out, CMD_SPI_MULTI);
         };
         let received = self.chip.spi([*a, *b, *c, *d]);
-        answer_with(out, &[0x1D, OK]);
+        answer_with(out, &[CMD_SPI_MULTI, STATUS_CMD_OK]);
         let _ = out.try_extend_from_slice(&received[usize::from(start)..end]);
-        out.push(OK);
+        out.push(STATUS_CMD_OK);
     }
 
     fn obey_command(&mut self, command: &Command<'_>, out: &mut Body)
@@ -358,7 +380,19 @@ impl Programmer {
         match command {
             Command::SignOn => answer_with(
                 out,
-                &[0x01, OK, 8, b'S', b'T', b'K', b'5', b'0', b'0', b'_', b'2'],
+                &[
+                    CMD_SIGN_ON,
+                    STATUS_CMD_OK,
+                    8,
+                    b'S',
+                    b'T',
+                    b'K',
+                    b'5',
+                    b'0',
+                    b'0',
+                    b'_',
+                    b'2',
+                ],
             ),
             Command::SetParameter { number, value } => self.set_parameter(*number, *value, out),
             Command::GetParameter { number } => self.get_parameter(*number, out),
@@ -370,12 +404,20 @@ impl Programmer {
             Command::ReadFlash(fields) => self.read_flash(fields, out),
             Command::ProgramEeprom(fields) => self.program_eeprom(fields, out),
             Command::ReadEeprom(fields) => self.read_eeprom(fields, out),
-            Command::ProgramFuse { instruction } => self.program_byte(0x17, *instruction, out),
-            Command::ReadFuse(fields) => self.read_byte(0x18, fields, out),
-            Command::ProgramLock { instruction } => self.program_byte(0x19, *instruction, out),
-            Command::ReadLock(fields) => self.read_byte(0x1A, fields, out),
-            Command::ReadSignature(fields) => self.read_byte(0x1B, fields, out),
-            Command::ReadOsccal(fields) => self.read_byte(0x1C, fields, out),
+            Command::ProgramFuse { instruction } => self.program_byte(
+                CMD_PROGRAM_FUSE_ISP,
+                *instruction,
+                out,
+            ),
+            Command::ReadFuse(fields) => self.read_byte(CMD_READ_FUSE_ISP, fields, out),
+            Command::ProgramLock { instruction } => self.program_byte(
+                CMD_PROGRAM_LOCK_ISP,
+                *instruction,
+                out,
+            ),
+            Command::ReadLock(fields) => self.read_byte(CMD_READ_LOCK_ISP, fields, out),
+            Command::ReadSignature(fields) => self.read_byte(CMD_READ_SIGNATURE_ISP, fields, out),
+            Command::ReadOsccal(fields) => self.read_byte(CMD_READ_OSCCAL_ISP, fields, out),
             Command::SpiMulti {
                 send_count,
                 receive_count,

@@ -1,24 +1,28 @@
 //! What a frame brings, and the answers that wait: bytes, and a `None` for each silence.
-ghost use Rattle.std.specs.Prelude.{◌≡◌, ◌+◌, ◌<◌, ◌≤◌, ◌++◌, ◌∷◌, [], length, take};
+ghost use Rattle.std.specs.Prelude.{◌≡◌, ◌+◌, ◌*◌, ◌<◌, ◌≤◌, ◌++◌, ◌∷◌, [], length, take};
+ghost use Rattle.stk_emu.specs.declared.segment.TheConstants.{ROOM};
+ghost use Rattle.stk_frame.specs.declared.protocol.TheConstants.{LARGEST_FRAME};
 ghost use Rattle.stk_host.specs.Tape.{on_tape};
 ghost use Rattle.stk_emu.specs.Waiting.{tape_in, BeginsSilent};
 ghost use Rattle.stk_emu.specs.Lawful.{none_late, behind_late, waiting};
 ghost use Rattle.stk_host.specs.declared.link.Item.TheVariants as item;
 
 use crate::emulator::Frame;
+use crate::fate::LARGEST_NOISE;
 use arrayvec::ArrayVec;
 use std::marker::Model;
 use std::mem;
+use stk_frame::LARGEST_FRAME;
 
-/// Room for all that one frame can bring: three late answers of 281 bytes, noise of 2,048, and a silence.
-pub(crate) const ROOM: usize = 2892;
+/// Room for all that one frame can bring: three late answers, noise, and a silence.
+pub(crate) const ROOM: usize = 3 * LARGEST_FRAME + LARGEST_NOISE + 1;
 
 /// What one frame brings.
-pub(crate) type Segment = ArrayVec<Option<u8>, 2892>;
+pub(crate) type Segment = ArrayVec<Option<u8>, ROOM>;
 
-/// Puts bytes behind the items.
+/// Puts bytes after the items.
 pub(crate) fn put_bytes(segment: &mut Segment, bytes: &[u8])
-    requires { length segment.old.items + length bytes.now ≤ 2892 }
+    requires { length segment.old.items + length bytes.now ≤ ROOM }
     ensures items { tape_in segment.new.items ≡ tape_in segment.old.items ++ on_tape bytes.now }
     ensures len { length segment.new.items ≡ length segment.old.items + length bytes.now }
 {
@@ -27,9 +31,9 @@ pub(crate) fn put_bytes(segment: &mut Segment, bytes: &[u8])
     }
 }
 
-/// Puts a silence behind the items.
+/// Puts a silence after the items.
 pub(crate) fn put_silence(segment: &mut Segment)
-    requires { length segment.old.items + 1 ≤ 2892 }
+    requires { length segment.old.items + 1 ≤ ROOM }
     ensures { tape_in segment.new.items ≡ tape_in segment.old.items ++ item.Silence ∷ [] }
 {
     segment.push(None);
@@ -94,7 +98,7 @@ impl Late {
         self.third.clear();
     }
 
-    /// One more waits behind them: of a fourth one the first is lost.
+    /// One more waits after them: of a fourth one the first is lost.
     pub fn hold(&mut self, answered: Frame)
         ensures { self.new ≡ behind_late self.old answered.items }
     {
@@ -106,7 +110,7 @@ impl Late {
     pub fn put(&self, out: &mut Segment)
         requires { out.old.items ≡ [] }
         ensures items { tape_in out.new.items ≡ on_tape (waiting self.now) }
-        ensures len { length out.new.items ≤ 843 }
+        ensures len { length out.new.items ≤ 3 * LARGEST_FRAME }
     {
         put_bytes(out, self.first.as_slice());
         put_bytes(out, self.second.as_slice());

@@ -1,6 +1,7 @@
 //! The wire, frame by frame.
-ghost use Rattle.std.specs.Prelude.{◌≡◌, ◌≤◌, ◌++◌, [], length, if◌then◌else◌};
+ghost use Rattle.std.specs.Prelude.{◌≡◌, ◌*◌, ◌≤◌, ◌++◌, [], length, if◌then◌else◌};
 ghost use Rattle.stk_frame.specs.Frame.{frame};
+ghost use Rattle.stk_frame.specs.declared.protocol.TheConstants.{LARGEST_FRAME};
 ghost use Rattle.stk_frame.specs.Cut.{is_good, seq_of};
 ghost use Rattle.stk_frame.specs.Reader.{HoldsFrame, TellsEvent, frames_of_event};
 ghost use Rattle.stk_host.specs.Tape.{on_tape};
@@ -64,7 +65,7 @@ fn is_held(fate: &Fate) -> bool
 fn bring_late(fate: &Fate, late: &mut Late, out: &mut Segment)
     requires { out.old.items ≡ [] }
     ensures items { tape_in out.new.items ≡ on_tape (let_go fate.now late.old) }
-    ensures len { length out.new.items ≤ 843 }
+    ensures len { length out.new.items ≤ 3 * LARGEST_FRAME }
     ensures late { late.new ≡ (if is_held fate.now then late.old else none_late) }
 {
     if !is_held(fate) {
@@ -73,7 +74,7 @@ fn bring_late(fate: &Fate, late: &mut Late, out: &mut Segment)
     }
 }
 
-/// Passes the frame that the reader holds, with this fate: `out` becomes what it brings, behind the answers that wait.
+/// Passes the frame that the reader holds, with this fate: `out` becomes what it brings, after the answers that wait.
 fn pass_with(
     fate: &Fate,
     programmer: &mut Programmer,

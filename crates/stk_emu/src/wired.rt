@@ -1,6 +1,7 @@
 //! A wire as a link.
 
 ghost use Rattle.std.specs.Prelude.{◌≡◌, ◌+◌, ◌<◌, ◌≤◌, ◌++◌, ◌∷◌, [], ℕ, List, length, take, drop, vec_len, vec_capacity, Some, None, IfOk, OnOk, OnErr};
+ghost use Rattle.stk_emu.specs.declared.segment.TheConstants.{ROOM};
 ghost use Rattle.stk_host.specs.declared.link.Item.TheVariants as item;
 ghost use Rattle.stk_host.specs.Tape.{Tape, on_tape, bytes_of};
 ghost use Rattle.stk_host.specs.Talk as talk;
@@ -26,6 +27,16 @@ use stk_host::{Heard, Link, LinkFault, Log};
 ///
 /// What a frame brings waits until it is heard; where nothing waits a silence is heard. Memory that is refused is a
 /// failure of the link, which is counted and changes nothing else. It keeps all that passed.
+///
+/// ```text
+/// let part = Parts::none().find("t85")?;
+/// let chip = Chip::fresh(alloc, part.copied())?;
+/// let mut wire = Wired::new(alloc, chip, Fates::none(alloc));
+/// let mut host = Host::new(&part);
+/// host.open(&mut wire, false)?;
+/// host.close(&mut wire)?;
+/// assert_eq!(rt; wire.failures(), 0);
+/// ```
 #[derive(Drop)]
 pub struct Wired {
     reader: FrameReader,
@@ -54,7 +65,7 @@ impl Model for Wired {
 fn make_room(waits: &mut Vec<Option<u8>>, log: &mut Log, count: usize) -> Result<(), AllocError>
     ensures waits { waits.new.items ≡ waits.old.items }
     ensures talk { log.new.talk ≡ log.old.talk }
-    ensures wait_room { OnOk result (vec_len waits.new + 2892 ≤ vec_capacity waits.new) }
+    ensures wait_room { OnOk result (vec_len waits.new + ROOM ≤ vec_capacity waits.new) }
     ensures piece_room { OnOk result (0 < log.new.piece_room) }
     ensures byte_room { OnOk result (count ≤ log.new.byte_room) }
 {
@@ -65,7 +76,7 @@ fn make_room(waits: &mut Vec<Option<u8>>, log: &mut Log, count: usize) -> Result
 
 /// Keeps what a frame brought and what was sent, for which there is room.
 fn keep(waits: &mut Vec<Option<u8>>, log: &mut Log, brought: &Segment, sent: &[u8])
-    requires wait_room { vec_len waits.old + 2892 ≤ vec_capacity waits.old }
+    requires wait_room { vec_len waits.old + ROOM ≤ vec_capacity waits.old }
     requires piece_room { 0 < log.old.piece_room }
     requires byte_room { length sent.now ≤ log.old.byte_room }
     ensures waits { waits.new.items ≡ waits.old.items ++ brought.now.items }
@@ -266,7 +277,7 @@ impl Link for Wired {
     fn send(&mut self, bytes: &[u8]) -> Result<usize, LinkFault>
         ensures sends { Sends bytes.now (wired_view self.old) (wired_view self.new) result }
         ensures sound { OnOk result (self.new.failures ≡ self.old.failures) }
-        // Whatever was sent and heard before, and whoever listened idly, what the frames bring waits behind what
+        // Whatever was sent and heard before, and whoever listened idly, what the frames bring waits after what
         // waited.
         ensures passes { IfOk result (λ n. PassesBytes self.old self.new (take n bytes.now)) }
         ensures same { OnErr result (self.new ≡ record self.old { failures = self.new.failures }) }

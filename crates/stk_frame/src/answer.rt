@@ -8,6 +8,15 @@ use crate::protocol::{ANSWER_CKSUM_ERROR, STATUS_CKSUM_ERROR, STATUS_CMD_OK};
 use thiserror::Error;
 
 /// Why an answer is none that the command can have, or not the one that was hoped for.
+///
+/// ```text
+/// let spoiled = Answer::read(&Command::SignOn, &[0xB0, 0xC1]);
+/// assert!(rt; spoiled.err() == Some(FrameFault::CheckSum));
+/// let refused = Answer::read(&Command::erase(), &[0x12, 0xC0]);
+/// assert!(rt; refused.err() == Some(FrameFault::Status(0xC0)));
+/// let other = Answer::read(&Command::erase(), &[0x11, 0x00]);
+/// assert!(rt; other.err() == Some(FrameFault::WrongCommand));
+/// ```
 #[derive(Clone, Copy, Debug, PartialEq, Eq, Error)]
 pub enum FrameFault {
     /// The answer to this command has another length, or the answer is the command's byte alone.
@@ -43,13 +52,24 @@ impl FrameFault {
 }
 
 /// A good answer.
+///
+/// ```text
+/// let answer = Answer::read(&Command::GetParameter { number: 0x90 }, &[0x03, 0x00, 0x0F])?;
+/// assert!(rt; answer.data == [0x0F].as_slice());
+/// ```
 #[derive(Clone, Copy, Debug)]
 pub struct Answer<'a> {
-    /// What stands between the first status and the last one, or behind the only one; of SIGN_ON's answer the name.
+    /// What stands between the first status and the last one, or after the only one; of SIGN_ON's answer the name.
     pub data: &'a [u8],
 }
 
 /// What follows the first status of an answer.
+///
+/// ```text
+/// assert!(rt; Shape::Name.data_in(b"\x08STK500_2")? == b"STK500_2".as_slice());
+/// assert!(rt; Shape::Bytes(1).data_in(&[0x0F])? == [0x0F].as_slice());
+/// assert!(rt; Shape::Closed(2).data_in(&[0x1E, 0x95, 0x00])? == [0x1E, 0x95].as_slice());
+/// ```
 #[derive(Clone, Copy, Debug, PartialEq, Eq)]
 pub enum Shape {
     /// A length, and a name of that many bytes.

@@ -12,6 +12,11 @@ use crate::protocol::{
 use std::marker::Model;
 
 /// Bytes that a command lends from elsewhere. They are seen as the list of them.
+///
+/// ```text
+/// let lent = [0xE2, 0xD9];
+/// assert!(rt; Data::new(&lent).bytes() == lent.as_slice());
+/// ```
 #[derive(Debug, Drop)]
 pub struct Data<'a> {
     bytes: &'a [u8],
@@ -51,6 +56,14 @@ impl<'a> Data<'a> {
 }
 
 /// The fields of ENTER_PROGMODE_ISP. Times are in milliseconds.
+///
+/// ```text
+/// let Command::EnterProgmode(fields) = Command::enter() else {
+///     panic!(rt; "it is that command");
+/// };
+/// assert_eq!(rt; (fields.poll_value, fields.poll_index), (0x53, 3));
+/// assert_eq!(rt; fields.instruction, [0xAC, 0x53, 0x00, 0x00]);
+/// ```
 #[derive(Clone, Copy, Debug, PartialEq, Eq)]
 pub struct EnterProgmode {
     pub timeout: u8,
@@ -68,6 +81,14 @@ pub struct EnterProgmode {
 }
 
 /// The fields of a command that programs a block of flash or EEPROM.
+///
+/// ```text
+/// let Command::ProgramFlash(block) = Command::program_page(&[0x0C, 0x94]) else {
+///     panic!(rt; "it is that command");
+/// };
+/// assert_eq!(rt; (block.count, block.mode), (2, 0xC1));
+/// assert!(rt; block.bytes.bytes() == [0x0C, 0x94].as_slice());
+/// ```
 #[derive(Debug, Drop)]
 pub struct ProgramBlock<'a> {
     /// How many bytes the block has, as the sender says; it is a field by itself, whatever bytes follow.
@@ -90,6 +111,11 @@ pub struct ProgramBlock<'a> {
 }
 
 /// The fields of a command that reads a block of flash or EEPROM.
+///
+/// ```text
+/// let command = Command::ReadFlash(ReadBlock { count: 128, cmd1: 0x20 });
+/// assert_eq!(rt; command.shape(), Shape::Closed(128));
+/// ```
 #[derive(Clone, Copy, Debug, PartialEq, Eq)]
 pub struct ReadBlock {
     /// How many bytes are read.
@@ -99,6 +125,13 @@ pub struct ReadBlock {
 }
 
 /// The fields of a command that reads one byte by an instruction.
+///
+/// ```text
+/// let fields = ReadByte { return_address: 4, instruction: [0x50, 0x00, 0x00, 0x00] };
+/// let mut body = ArrayVec::new();
+/// Command::ReadFuse(fields).body(&mut body);
+/// assert!(rt; body.as_slice() == [0x18, 0x04, 0x50, 0x00, 0x00, 0x00].as_slice());
+/// ```
 #[derive(Clone, Copy, Debug, PartialEq, Eq)]
 pub struct ReadByte {
     /// Which of the four bytes out is the answer, from 1.
@@ -109,6 +142,13 @@ pub struct ReadByte {
 /// A command of the programmer, in the order of the commands' bytes.
 ///
 /// An `instruction` is one of the part's own serial programming instructions, of four bytes.
+///
+/// ```text
+/// assert!(rt; matches!(Command::read(&[0x01]), Some(Command::SignOn)));
+/// assert!(rt; matches!(Command::read(&[0x06, 0x80, 0x00, 0x10, 0x00]),
+///     Some(Command::LoadAddress { address: 0x8000_1000 })));
+/// assert!(rt; Command::read(&[0x05]).is_none());
+/// ```
 #[derive(Debug, Drop)]
 pub enum Command<'a> {
     /// Asks for the programmer's name.

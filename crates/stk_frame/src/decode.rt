@@ -13,7 +13,6 @@ use crate::protocol::{
 };
 use byteorder::{BigEndian, ByteOrder};
 
-/// SIGN_ON, from its fields.
 fn sign_on(fields: &[u8]) -> Option<Command<'_>>
     ensures { result ≡ sign_on_of fields.now }
 {
@@ -23,7 +22,6 @@ fn sign_on(fields: &[u8]) -> Option<Command<'_>>
     }
 }
 
-/// SET_PARAMETER, from its fields.
 fn set_parameter(fields: &[u8]) -> Option<Command<'_>>
     ensures { result ≡ set_parameter_of fields.now }
 {
@@ -36,7 +34,6 @@ fn set_parameter(fields: &[u8]) -> Option<Command<'_>>
     }
 }
 
-/// GET_PARAMETER, from its fields.
 fn get_parameter(fields: &[u8]) -> Option<Command<'_>>
     ensures { result ≡ get_parameter_of fields.now }
 {
@@ -46,7 +43,6 @@ fn get_parameter(fields: &[u8]) -> Option<Command<'_>>
     }
 }
 
-/// LOAD_ADDRESS, from its fields.
 fn load_address(fields: &[u8]) -> Option<Command<'_>>
     ensures { result ≡ load_address_of fields.now }
 {
@@ -58,7 +54,6 @@ fn load_address(fields: &[u8]) -> Option<Command<'_>>
     }
 }
 
-/// The fields of ENTER_PROGMODE_ISP.
 fn enter_progmode(fields: &[u8]) -> Option<EnterProgmode>
     ensures { result ≡ enter_progmode_of fields.now }
 {
@@ -89,7 +84,6 @@ fn enter_progmode(fields: &[u8]) -> Option<EnterProgmode>
     }
 }
 
-/// LEAVE_PROGMODE_ISP, from its fields.
 fn leave_progmode(fields: &[u8]) -> Option<Command<'_>>
     ensures { result ≡ leave_progmode_of fields.now }
 {
@@ -102,7 +96,6 @@ fn leave_progmode(fields: &[u8]) -> Option<Command<'_>>
     }
 }
 
-/// CHIP_ERASE_ISP, from its fields.
 fn chip_erase(fields: &[u8]) -> Option<Command<'_>>
     ensures { result ≡ chip_erase_of fields.now }
 {
@@ -116,7 +109,7 @@ fn chip_erase(fields: &[u8]) -> Option<Command<'_>>
     }
 }
 
-/// The fields of a command that programs a block, and the bytes behind them.
+/// The fields of a command that programs a block, and the bytes after them.
 fn program_block(fields: &[u8]) -> Option<ProgramBlock<'_>>
     ensures { result ≡ program_block_of fields.now }
 {
@@ -183,7 +176,6 @@ fn read_byte(fields: &[u8]) -> Option<ReadByte>
     }
 }
 
-/// SPI_MULTI, from its fields.
 fn spi_multi(fields: &[u8]) -> Option<Command<'_>>
     ensures { result ≡ spi_multi_of fields.now }
 {

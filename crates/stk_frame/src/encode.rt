@@ -10,7 +10,7 @@ use crate::protocol::{LARGEST_BODY, LARGEST_FRAME};
 use arrayvec::ArrayVec;
 use byteorder::{BigEndian, ByteOrder};
 
-/// Puts bytes behind those of `out`.
+/// Puts bytes after those of `out`.
 fn put<const CAP: usize>(out: &mut ArrayVec<u8, CAP>, bytes: &[u8])
     requires { length out.old.items + length bytes.now ≤ CAP }
     ensures { out.new.items ≡ out.old.items ++ bytes.now }
@@ -59,7 +59,6 @@ fn put_program_block<const CAP: usize>(out: &mut ArrayVec<u8, CAP>, block: &Prog
     put(out, block.bytes.bytes());
 }
 
-/// Puts the fields of ENTER_PROGMODE_ISP.
 fn put_enter_progmode<const CAP: usize>(out: &mut ArrayVec<u8, CAP>, enter: &EnterProgmode)
     requires { length out.old.items + length (enter_progmode_fields enter.now) ≤ CAP }
     ensures { out.new.items ≡ out.old.items ++ enter_progmode_fields enter.now }
@@ -158,7 +157,7 @@ impl Command<'_> {
         self.put_body(out);
     }
 
-    /// Puts the command's byte and its fields behind the bytes of `out`.
+    /// Puts the command's byte and its fields after the bytes of `out`.
     fn put_body<const CAP: usize>(&self, out: &mut ArrayVec<u8, CAP>)
         requires { length out.old.items + length (body self.now) ≤ CAP }
         ensures { out.new.items ≡ out.old.items ++ body self.now }

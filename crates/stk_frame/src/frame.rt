@@ -6,7 +6,6 @@ use crate::protocol::{LARGEST_BODY, LARGEST_FRAME, MESSAGE_START, TOKEN};
 use arrayvec::ArrayVec;
 use byteorder::{BigEndian, ByteOrder};
 
-/// The XOR of all bytes.
 pub(crate) fn xor_of(bytes: &[u8]) -> u8
     ensures { result ≡ xor_all bytes.now }
 {
@@ -31,7 +30,7 @@ pub(crate) fn begin(seq: u8, size: u16, out: &mut ArrayVec<u8, LARGEST_FRAME>)
     let _ = out.try_extend_from_slice(&header);
 }
 
-/// Puts the byte behind those of `out` that makes the XOR of all 0.
+/// Puts the byte after those of `out` that makes the XOR of all 0.
 pub(crate) fn seal(out: &mut ArrayVec<u8, LARGEST_FRAME>)
     requires { length out.old.items < LARGEST_FRAME }
     ensures { out.new.items ≡ with_xor_checksum out.old.items }

@@ -9,7 +9,7 @@ use crate::protocol::{
     CMD_CHIP_ERASE_ISP, CMD_ENTER_PROGMODE_ISP, CMD_LEAVE_PROGMODE_ISP, CMD_PROGRAM_EEPROM_ISP,
     CMD_PROGRAM_FLASH_ISP, CMD_PROGRAM_FUSE_ISP, CMD_PROGRAM_LOCK_ISP, CMD_READ_EEPROM_ISP,
     CMD_READ_FLASH_ISP, CMD_READ_FUSE_ISP, CMD_READ_LOCK_ISP, CMD_READ_OSCCAL_ISP,
-    CMD_READ_SIGNATURE_ISP,
+    CMD_READ_SIGNATURE_ISP, LARGEST_BLOCK,
 };
 
 /// Which fuse byte is meant.
@@ -44,7 +44,7 @@ fn read_instruction(fuse: Fuse) -> [u8; 4]
 
 /// A block in page mode that ends by polling RDY/BSY and is written, with these first bytes of instructions.
 fn programming<'a>(cmd1: u8, cmd2: u8, cmd3: u8, bytes: &'a [u8]) -> ProgramBlock<'a>
-    requires { length bytes.now ≤ 265 }
+    requires { length bytes.now ≤ LARGEST_BLOCK }
     ensures { result ≡ programming cmd1 cmd2 cmd3 bytes.now }
 {
     ProgramBlock {
@@ -130,7 +130,7 @@ impl<'a> Command<'a> {
     /// assert!(rt; body.as_slice() == due.as_slice());
     /// ```
     pub fn program_page(bytes: &'a [u8]) -> Command<'a>
-        requires { length bytes.now ≤ 265 }
+        requires { length bytes.now ≤ LARGEST_BLOCK }
         ensures value { result ≡ program_page bytes.now }
         ensures bytes { body result ≡ CMD_PROGRAM_FLASH_ISP ∷ (big_bytes 2 (length bytes.now) ++ 0xC1 ∷ 0x0A
             ∷ 0x40 ∷ 0x4C ∷ 0x20 ∷ 0xFF ∷ 0xFF ∷ bytes.now) }
@@ -161,7 +161,7 @@ impl<'a> Command<'a> {
     /// assert!(rt; body.as_slice() == due.as_slice());
     /// ```
     pub fn program_eeprom(bytes: &'a [u8]) -> Command<'a>
-        requires { length bytes.now ≤ 265 }
+        requires { length bytes.now ≤ LARGEST_BLOCK }
         ensures value { result ≡ program_eeprom_block bytes.now }
         ensures bytes { body result ≡ CMD_PROGRAM_EEPROM_ISP ∷ (big_bytes 2 (length bytes.now) ++ 0xC1 ∷ 0x0A
             ∷ 0xC1 ∷ 0xC2 ∷ 0xA0 ∷ 0xFF ∷ 0xFF ∷ bytes.now) }

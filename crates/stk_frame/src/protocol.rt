@@ -14,7 +14,10 @@ pub const TOKEN: u8 = 0x0E;
 pub const LARGEST_BODY: usize = 275;
 
 /// The most bytes that a frame has: a header of five, a body, and the byte that makes the XOR of all 0.
-pub const LARGEST_FRAME: usize = 281;
+pub const LARGEST_FRAME: usize = LARGEST_BODY + 6;
+
+/// The most bytes of a block that is programmed: ten others stand before them in the body.
+pub const LARGEST_BLOCK: usize = LARGEST_BODY - 10;
 
 /// Added to an address that is loaded: asks for the part's extended address.
 pub const EXTENDED_ADDRESS: u32 = 1 << 31;
@@ -70,7 +73,7 @@ pub const STATUS_SET_PARAM_MISSING: u8 = 0x82;
 /// The command was not done.
 pub const STATUS_CMD_FAILED: u8 = 0xC0;
 
-/// A frame came spoiled; it stands behind `ANSWER_CKSUM_ERROR`.
+/// A frame came spoiled; it stands after `ANSWER_CKSUM_ERROR`.
 pub const STATUS_CKSUM_ERROR: u8 = 0xC1;
 
 /// There is no such command.

@@ -11,6 +11,12 @@ use memchr::memchr;
 use std::marker::Model;
 
 /// What came of a piece that was fed.
+///
+/// ```text
+/// let mut reader = FrameReader::new();
+/// assert!(rt; reader.feed(&[0x1B, 0x01]) == (2, Event::More));
+/// assert!(rt; reader.feed(&[0x00, 0x01, 0x0E, 0x01, 0x00]) == (5, Event::Spoiled));
+/// ```
 #[derive(Clone, Copy, Debug, PartialEq, Eq)]
 pub enum Event {
     /// All of it was used, and no frame has ended.

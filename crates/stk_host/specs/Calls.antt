@@ -81,19 +81,19 @@ reply_of (said.Again fault) bytes = steps.Again fault
 reply_of (said.Stop fault) bytes = steps.Stop fault
 
 -- How steps end that stop: they were played up to a fault, or their play broke off where the link failed.
-abbrev pub StopsSteps : Dialog ⊥ steps.Outcome → Position → LinkView → LinkView → Stop → Position → Type 0
+abbrev pub StopsSteps : Dialog ⊥ steps.StepOutcome → Position → LinkView → LinkView → Stop → Position → Type 0
 StopsSteps dialog before old new (Fault fault) after = PlaysOver dialog before old new (Err fault) after
 StopsSteps dialog before old new (Link broken) after = FailsOver broken dialog before old new
 
 -- How steps end that were asked to give these data: they were played whole, or they stop.
-abbrev pub EndsSteps : {A : Type 0} → Dialog ⊥ steps.Outcome → (A → List ℕ) → Position → LinkView → LinkView
+abbrev pub EndsSteps : {A : Type 0} → Dialog ⊥ steps.StepOutcome → (A → List ℕ) → Position → LinkView → LinkView
     → Result A Stop → Position → Type 0
 EndsSteps dialog bytes before old new (Ok a) after = PlaysOver dialog before old new (Ok (bytes a)) after
 EndsSteps dialog bytes before old new (Err stop) after = StopsSteps dialog before old new stop after
 
--- the play of a list of steps behind such data, whatever steps they are
+-- the play of a list of steps after such data, whatever steps they are
 abbrev pub Playing : Type 0
-Playing = List (List Command) → Dialog ⊥ steps.Outcome
+Playing = List (List Command) → Dialog ⊥ steps.StepOutcome
 
 -- these commands are the first of the steps
 abbrev pub with_step : List Command → List ℕ → Playing
@@ -103,7 +103,7 @@ with_step commands before steps = play (commands ∷ steps) before
 abbrev pub without_step : List ℕ → Playing
 without_step before steps = play steps before
 
--- How a step ends that others follow: they are left to play, behind all data so far; or with it all of them stop.
+-- How a step ends that others follow: they are left to play, after all data so far; or with it all of them stop.
 abbrev pub EndsInnerStep : Playing → Playing → Position → LinkView → LinkView → Result (Unit {0}) Stop → Position
     → Type 0
 EndsInnerStep whole rest before old new (Ok done) after =
@@ -216,13 +216,13 @@ pub record CallsBy {A : Type 0} (Ends : Position → LinkView → LinkView → R
   pub played : old.broken ≡ None → Ends old.progress before after result new.progress
   pub lasts : old.broken ≡ None → new.broken ≡ lasting_fault result
   pub part : new.part ≡ old.part
-  -- A fault of the link is told where the link has failed, and only there.
+  -- A fault of the link is reported where the link has failed, and only there.
   pub failed : old.broken ≡ None → IsBroken result → HasFailed before after
   pub sound : old.broken ≡ None → UnlessBroken result (after.failures ≡ before.failures)
   pub counted : before.failures ≤ after.failures
   pub bound : old.broken ≡ None → HasFewUnread new.progress
 
--- A call of this dialog: its play, or after a fault of the link a front of it.
+-- A call of this dialog: its play, or after a fault of the link a prefix of it.
 abbrev pub Calls : {A : Type 0} → Dialog ⊥ (Result A HostFault) → HostState → HostState → LinkView → LinkView
     → Result A HostFault → Type 0
 Calls dialog old new before after result = CallsBy (EndsCall dialog) old new before after result

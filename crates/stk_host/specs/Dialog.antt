@@ -33,11 +33,11 @@ pub record Played (E R : Type 0) : Type 0 where
   pub events : List (Event E)
   pub outcome : Option (R × ℕ × Tape)
 
--- a play behind these events
+-- a play after these events
 abbrev pub behind : {E R : Type 0} → List (Event E) → Played E R → Played E R
 behind events p = record { events = events ++ p.events; outcome = p.outcome }
 
--- the play behind an answer; where there is none yet, it waits
+-- the play after an answer; where there is none yet, it waits
 abbrev pub by_answer : {E R : Type 0} → (Reading → Tape → Played E R) → Option (Reading × Tape) → Played E R
 by_answer go_on None = record { events = []; outcome = None }
 by_answer go_on (Some (reading, tape)) = go_on reading tape

@@ -28,7 +28,7 @@ pub record TapeState : Type 0 where
   pub failures : ℕ
 
 -- What was heard over a link over a tape since it was `old`, and then what is left of it, are the items that it had,
--- and behind the last of them ends.
+-- and after the last of them ends.
 pub record IsOfTape (old new : TapeState) : Type 0 where
   pub during : Talk
   pub grows : new.talk ≡ old.talk ++ during
@@ -40,7 +40,7 @@ pub record IsOfTape (old new : TapeState) : Type 0 where
 abbrev pub tape_view : TapeState → LinkView
 tape_view link = record { talk = link.talk; failures = link.failures }
 
--- the next piece of a tape, of at most so many bytes; behind the last item comes an end
+-- the next piece of a tape, of at most so many bytes; after the last item comes an end
 abbrev pub next_piece : ℕ → Tape → Tape
 next_piece most [] = End ∷ []
 next_piece most (End ∷ tape) = End ∷ []
@@ -81,15 +81,15 @@ abbrev pub IsOfListening : Option ErrorKind → Type 0
 IsOfListening None = ⊥
 IsOfListening (Some kind) = (kind ≢ WouldBlock) × (kind ≢ TimedOut) × (kind ≢ Interrupted)
 
--- what was heard of a reader whose bytes are known: they are its next ones, and an end comes only behind the last
+-- what was heard of a reader whose bytes are known: they are its next ones, and an end comes only after the last
 abbrev pub HearsKnown : Heard → List ℕ → Option (List ℕ) → Option (List ℕ) → Type 0
 HearsKnown (hears.Bytes count) buffer old new = Consumes old new (take count buffer)
 HearsKnown hears.Silence buffer old new = Keeps old new
 HearsKnown hears.End buffer old new = Keeps old new × IsAtEnd new
 
--- a writer whose bytes are known took a front of these
-abbrev pub AppendsFront : Option (List ℕ) → Option (List ℕ) → List ℕ → Type 0
-AppendsFront old new bytes = (front : List ℕ) × IsPrefixOf front bytes × Appends old new front
+-- a writer whose bytes are known took a prefix of these
+abbrev pub AppendsPrefix : Option (List ℕ) → Option (List ℕ) → List ℕ → Type 0
+AppendsPrefix old new bytes = (prefix : List ℕ) × IsPrefixOf prefix bytes × Appends old new prefix
 
 -- a link that fails once: the one below it, how many calls come before that and with it (0: it doesn't), the most bytes
 -- of a piece, and how often it has failed itself

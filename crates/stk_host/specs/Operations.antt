@@ -12,7 +12,7 @@ use Rattle.stk_host.specs.declared.fault.StepFault.TheVariants as of_step
 use Rattle.stk_host.specs.declared.fault.HostFault.{HostFault}
 use Rattle.stk_host.specs.declared.fault.HostFault.TheVariants.{NoAnswer, LinkEnded, Babble, Refused, BadAnswer, WrongSignature, Differs, ReadOnly}
 use Rattle.stk_host.specs.Dialog.{Dialog, Done, ◌>>=◌}
-use Rattle.stk_host.specs.Steps.{Outcome, if_done, step, play}
+use Rattle.stk_host.specs.Steps.{StepOutcome, if_done, step, play}
 use Rattle.stk_host.specs.WriteSteps.{write_steps}
 use Rattle.stk_host.specs.ReadSteps.{signature_steps, read_steps}
 
@@ -25,12 +25,12 @@ host_fault (of_step.Refused command status) = Refused command status
 host_fault (of_step.BadAnswer command) = BadAnswer command
 
 -- to sign on, enter programming mode and read the signature
-unfoldable pub handshake : Dialog ⊥ Outcome
+unfoldable pub handshake : Dialog ⊥ StepOutcome
 handshake =
     step (SignOn ∷ []) >>= if_done (λ name. step (enter ∷ []) >>= if_done (λ nothing. play signature_steps []))
 
 -- the signature found is the part's, or is taken all the same
-abbrev pub signature_judged : List ℕ → Bool → Outcome → Result (List ℕ) HostFault
+abbrev pub signature_judged : List ℕ → Bool → StepOutcome → Result (List ℕ) HostFault
 signature_judged wanted force (Ok found) =
     if force then Ok found else if bytes_eq found wanted then Ok found else Err (WrongSignature found)
 signature_judged wanted force (Err fault) = Err (host_fault fault)
@@ -40,7 +40,7 @@ unfoldable pub opening : List ℕ → Bool → Dialog ⊥ (Result (List ℕ) Hos
 opening wanted force = handshake >>= λ outcome. Done (signature_judged wanted force outcome)
 
 -- a step without data
-abbrev pub without_bytes : Outcome → Result ⊤ HostFault
+abbrev pub without_bytes : StepOutcome → Result ⊤ HostFault
 without_bytes (Ok bytes) = Ok tt
 without_bytes (Err fault) = Err (host_fault fault)
 
@@ -49,7 +49,7 @@ unfoldable pub closing : Dialog ⊥ (Result ⊤ HostFault)
 closing = step (leave ∷ []) >>= λ outcome. Done (without_bytes outcome)
 
 -- what the steps of an operation come to: what its data are judged to be, or the fault of a step
-abbrev pub judged_by : {A : Type 0} → (List ℕ → Result A HostFault) → Outcome → Result A HostFault
+abbrev pub judged_by : {A : Type 0} → (List ℕ → Result A HostFault) → StepOutcome → Result A HostFault
 judged_by judge (Ok bytes) = judge bytes
 judged_by judge (Err fault) = Err (host_fault fault)
 

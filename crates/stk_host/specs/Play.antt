@@ -44,11 +44,11 @@ pub record Plays {E R : Type 0} (dialog : Dialog E R) (before : Position) (talk 
   pub all_sent : bytes_sent events ≡ sent talk
   pub in_turn : InTurn dialog before talk
 
--- these bytes are a front of those
+-- these bytes are a prefix of those
 abbrev pub IsPrefixOf : List ℕ → List ℕ → Type 0
-IsPrefixOf front bytes = (back : List ℕ) × (front ++ back ≡ bytes)
+IsPrefixOf prefix bytes = (back : List ℕ) × (prefix ++ back ≡ bytes)
 
--- an event is a part of another: a front of its frame, or a part of what is said
+-- an event is a part of another: a prefix of its frame, or a part of what is said
 abbrev pub IsPartOf : {E : Type 0} → (E → E → Type 0) → Event E → Event E → Type 0
 IsPartOf SaidPart (Frame part) (Frame whole) = IsPrefixOf part whole
 IsPartOf SaidPart (Said part) (Said whole) = SaidPart part whole
@@ -61,7 +61,7 @@ IsBegun SaidPart (part ∷ []) (event ∷ events) = IsPartOf SaidPart part event
 IsBegun SaidPart _ _ = ⊥
 
 -- some of the events in their order, and perhaps a part of the next one
-pub record IsFront {E : Type 0} (SaidPart : E → E → Type 0) (shown events : List (Event E)) : Type 0 where
+pub record IsPrefixOfEvents {E : Type 0} (SaidPart : E → E → Type 0) (shown events : List (Event E)) : Type 0 where
   pub whole : List (Event E)
   pub begun : List (Event E)
   pub later : List (Event E)
@@ -69,14 +69,14 @@ pub record IsFront {E : Type 0} (SaidPart : E → E → Type 0) (shown events : 
   pub events_are : events ≡ whole ++ later
   pub part : IsBegun SaidPart begun later
 
--- The talk broke off in the play of the dialog: what happened is a front of its events over what was heard.
+-- The talk broke off in the play of the dialog: what happened is a prefix of its events over what was heard.
 pub record Breaks {E R : Type 0} (SaidPart : E → E → Type 0) (dialog : Dialog E R) (before : Position) (talk : Talk)
     (shown : List (Event E)) : Type 0 where
-  pub front : IsFront SaidPart shown (played_over dialog before talk).events
+  pub prefix : IsPrefixOfEvents SaidPart shown (played_over dialog before talk).events
   pub all_sent : bytes_sent shown ≡ sent talk
   pub in_turn : InTurn dialog before talk
 
--- The talk broke off in a frame: what happened is a front of the events over what was heard, up to a frame of which
+-- The talk broke off in a frame: what happened is a prefix of the events over what was heard, up to a frame of which
 -- only a part was sent, perhaps nothing.
 pub record BreaksSending {E R : Type 0} (dialog : Dialog E R) (before : Position) (talk : Talk)
     (shown : List (Event E)) : Type 0 where

@@ -7,7 +7,7 @@ use Rattle.stk_host.specs.Dialog.{Dialog, Event, played, behind, bytes_sent}
 use Rattle.stk_host.specs.Play.{InTurn, Position}
 
 -- A talk leads from one dialog to what is left of it: whatever follows on the tape, the one plays as the other does
--- from there, behind these events.
+-- from there, after these events.
 pub record TalkLeads {E R : Type 0} (dialog : Dialog E R) (before : Position) (talk : Talk)
     (events : List (Event E)) (rest : Dialog E R) (after : Position) : Type 0 where
   pub goes_on : (more : Tape) → played dialog before.next (on_tape before.unread ++ (heard talk ++ more))

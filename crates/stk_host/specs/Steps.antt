@@ -40,7 +40,7 @@ with_data go_on (Data bytes) = go_on bytes
 with_data go_on (Again fault) = Done (Again fault)
 with_data go_on (Stop fault) = Done (Stop fault)
 
--- An attempt: the commands in order, up to the first whose answer brings no data. It comes to all data joined, behind
+-- An attempt: the commands in order, up to the first whose answer brings no data. It comes to all data joined, after
 -- those before it, or to what that answer comes to.
 unfoldable pub attempt : List Command → List ℕ → Dialog ⊥ Reply
 attempt [] data_before = Done (Data data_before)
@@ -48,30 +48,30 @@ attempt (command ∷ commands) data_before =
     exchange command >>= with_data (λ bytes. attempt commands (data_before ++ bytes))
 
 -- what a step comes to: its data, or its fault
-abbrev pub Outcome : Type 0
-Outcome = Result (List ℕ) StepFault
+abbrev pub StepOutcome : Type 0
+StepOutcome = Result (List ℕ) StepFault
 
 -- ends the step, or tries again
-abbrev pub end_or_again : (StepFault → Dialog ⊥ Outcome) → Reply → Dialog ⊥ Outcome
+abbrev pub end_or_again : (StepFault → Dialog ⊥ StepOutcome) → Reply → Dialog ⊥ StepOutcome
 end_or_again again (Data bytes) = Done (Ok bytes)
 end_or_again again (Again fault) = again fault
 end_or_again again (Stop fault) = Done (Err fault)
 
 -- so many attempts, after one that ended with a fault
-unfoldable pub tries : ℕ → List Command → StepFault → Dialog ⊥ Outcome
+unfoldable pub tries : ℕ → List Command → StepFault → Dialog ⊥ StepOutcome
 tries zero commands fault = Done (Err fault)
 tries (suc more) commands fault = attempt commands [] >>= end_or_again (tries more commands)
 
 -- a step has at most four attempts
-abbrev pub step : List Command → Dialog ⊥ Outcome
+abbrev pub step : List Command → Dialog ⊥ StepOutcome
 step commands = tries 4 commands NoAnswer
 
 -- goes on with the data, or has come to its end
-abbrev pub if_done : (List ℕ → Dialog ⊥ Outcome) → Outcome → Dialog ⊥ Outcome
+abbrev pub if_done : (List ℕ → Dialog ⊥ StepOutcome) → StepOutcome → Dialog ⊥ StepOutcome
 if_done go_on (Ok bytes) = go_on bytes
 if_done go_on (Err fault) = Done (Err fault)
 
 -- the steps in order up to the first fault: all data joined, or the fault
-unfoldable pub play : List (List Command) → List ℕ → Dialog ⊥ Outcome
+unfoldable pub play : List (List Command) → List ℕ → Dialog ⊥ StepOutcome
 play [] data_before = Done (Ok data_before)
 play (commands ∷ steps) data_before = step commands >>= if_done (λ bytes. play steps (data_before ++ bytes))

@@ -26,7 +26,7 @@ pub(crate) fn compare(mem: Mem, image: &Image, bytes: &[u8]) -> Result<(), HostF
     requires { length image.now ≤ length bytes.now }
     ensures { result ≡ comparison mem image.now bytes.now }
 {
-    // The memory may go on behind the image.
+    // The memory may go on after the image.
     let found = &bytes[..image.size() as usize];
     for (addr, run) in image.runs() {
         compare_run(mem, addr, run, &found[addr as usize..])?;

@@ -191,7 +191,7 @@ impl Conversation {
     }
 }
 
-/// Puts bytes behind those of a vector that has room for them.
+/// Puts bytes after those of a vector that has room for them.
 fn append(out: &mut Vec<u8>, bytes: &[u8])
     requires { length out.old.items + length bytes.now ≤ vec_capacity out.old }
     ensures items { out.new.items ≡ out.old.items ++ bytes.now }
@@ -215,7 +215,7 @@ pub(crate) fn play_step<L: Link>(
     conversation.step(link, first, last)
 }
 
-/// Plays a step and puts its data behind those of a vector that has room for them.
+/// Plays a step and puts its data after those of a vector that has room for them.
 pub(crate) fn read_step<L: Link>(
     conversation: &mut Conversation,
     link: &mut L,

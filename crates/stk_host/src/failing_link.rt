@@ -12,6 +12,13 @@ use std::marker::Model;
 /// Calls of `send` and `recv` are counted together from 1. The chosen one answers [`LinkFault::Failed`], is counted as
 /// a failure and changes nothing else; all others go to the inner link, `send` with at most `cut` bytes and `recv` with
 /// a buffer of at most `cut` bytes.
+///
+/// ```text
+/// let tape = TapeLink::new(alloc, Vec::new(alloc), 281);
+/// let mut link = FailingLink::new(tape, 1, 281);
+/// let part = Parts::none().find("m328p")?;
+/// assert_eq!(rt; Host::new(&part).open(&mut link, false), Err(HostFault::SendFailed));
+/// ```
 #[derive(Debug, Drop)]
 pub struct FailingLink<L> {
     inner: L,

@@ -23,7 +23,7 @@ pub enum StepFault {
 }
 
 impl StepFault {
-    /// The fault's number, which no later version changes: that of the [`HostFault`] that it is told as.
+    /// The fault's number, which no later version changes: that of the [`HostFault`] that it is reported as.
     ///
     /// ```text
     /// assert_eq!(rt; StepFault::NoAnswer.number(), HostFault::NoAnswer.number());
@@ -58,6 +58,15 @@ pub(crate) enum Stop {
 }
 
 /// Why a host could not do what was asked.
+///
+/// ```text
+/// let fault = HostFault::Differs(Mem::Eeprom, 0x10, 0x55, 0xFF);
+/// assert_eq!(rt; (fault.number(), fault.command_name()), (8, None));
+/// // a line on which nobody answers
+/// let part = Parts::none().find("m328p")?;
+/// let mut silent = TapeLink::new(alloc, vec![in alloc; Item::Silence; 8]?, 281);
+/// assert_eq!(rt; Host::new(&part).open(&mut silent, false), Err(HostFault::NoAnswer));
+/// ```
 #[derive(Clone, Copy, Debug, Drop, PartialEq, Eq, Error)]
 pub enum HostFault {
     /// No answer came to the last of four attempts.

@@ -32,7 +32,7 @@ impl History {
         History {}
     }
 
-    /// This was heard, its bytes at the front of the buffer.
+    /// This was heard, its bytes at the start of the buffer.
     #[inline(always)]
     pub fn heard(&self, heard: &Heard, buffer: &[u8]) -> History
         ensures { result.items ≡ self.now.items ++ Got (items_of heard.now buffer.now) ∷ [] }

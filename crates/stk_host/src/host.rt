@@ -278,7 +278,7 @@ impl Host {
     }
 
     /// Reads a whole memory and compares it with an image, no larger than the memory, at the addresses that the image
-    /// holds: the lowest at which they differ is told as [`HostFault::Differs`].
+    /// holds: the lowest at which they differ is reported as [`HostFault::Differs`].
     ///
     /// Its memory is taken before the first frame is sent; where it is refused the fault is [`HostFault::Memory`].
     ///

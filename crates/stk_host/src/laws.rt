@@ -43,7 +43,7 @@ pub fn a_record_of_streams_is_true<R: Read, W: Write>(
 {}
 
 /// Whatever was done with a link over a tape, what was heard over it and then what is left are the items that it had,
-/// and behind the last of them ends.
+/// and after the last of them ends.
 ///
 /// What it asks for is what each call over a [`crate::Link`] promises, and so all that is made of such calls.
 pub fn a_tape_gives_its_own_items(before: &TapeLink, after: &TapeLink)

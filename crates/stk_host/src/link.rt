@@ -7,6 +7,12 @@ ghost use Rattle.stk_host.specs.Reach.{SendsAll};
 use thiserror::Error;
 
 /// Why a link could not do what was asked.
+///
+/// ```text
+/// let tape = TapeLink::new(alloc, Vec::new(alloc), 281);
+/// let mut link = FailingLink::new(tape, 1, 281);
+/// assert_eq!(rt; link.send(b"\x1B"), Err(LinkFault::Failed));
+/// ```
 #[derive(Clone, Copy, Debug, Drop, PartialEq, Eq, Error)]
 pub enum LinkFault {
     /// The device failed, or memory for what a link keeps was refused. The link has counted it.
@@ -30,9 +36,20 @@ impl LinkFault {
 }
 
 /// What one call of [`Link::recv`] heard.
+///
+/// ```text
+/// let mut tape = Vec::new(alloc);
+/// tape.push(Item::Byte(0x1B))?;
+/// tape.push(Item::Silence)?;
+/// let mut link = TapeLink::new(alloc, tape, 281);
+/// let mut buffer = [0; 281];
+/// assert_eq!(rt; link.recv(&mut buffer), Ok(Heard::Bytes(1)));
+/// assert_eq!(rt; link.recv(&mut buffer), Ok(Heard::Silence));
+/// assert_eq!(rt; link.recv(&mut buffer), Ok(Heard::End));
+/// ```
 #[derive(Clone, Copy, Debug, PartialEq, Eq)]
 pub enum Heard {
-    /// So many bytes, from 1 to the buffer's length, which stand at the buffer's front.
+    /// So many bytes, from 1 to the buffer's length, which stand at the buffer's start.
     Bytes(usize),
     /// Nothing came for as long as the link waits.
     Silence,
@@ -41,6 +58,16 @@ pub enum Heard {
 }
 
 /// An item of a tape: a byte, or an event between bytes.
+///
+/// ```text
+/// let mut tape = Vec::new(alloc);
+/// for byte in b"\x1B\x01\x00\x02\x0E\x11\x00\x07" {
+///     tape.push(Item::Byte(*byte))?;
+/// }
+/// tape.push(Item::Silence)?;
+/// let link = TapeLink::new(alloc, tape, 281);
+/// assert!(rt; link.sent().is_empty());
+/// ```
 #[derive(Clone, Copy, Debug, PartialEq, Eq)]
 pub enum Item {
     /// A byte.
@@ -68,10 +95,10 @@ pub trait Link {
     /// The link has begun so, and is what it became of that. Whatever is sent and heard, it stays so.
     ghost comes_of: { Start → Self → Type 0 };
 
-    /// Sends the bytes or a front of them, and says how many.
+    /// Sends the bytes or a prefix of them, and says how many.
     ///
     /// It is 0 for bytes that aren't none only where the link has failed. After a fault no byte counts as sent: a link
-    /// that keeps what passed has passed nothing, and one that doesn't may have passed a front of them.
+    /// that keeps what passed has passed nothing, and one that doesn't may have passed a prefix of them.
     fn send(&mut self, bytes: &[u8]) -> Result<usize, LinkFault>
         ensures sends { Sends bytes.now (view self.old) (view self.new) result }
         ensures comes { Stays comes_of self.old self.new };

@@ -56,7 +56,7 @@ impl Unread {
     }
 
     /// The first bytes, at most so many.
-    pub fn front(&self, most: usize) -> &[u8]
+    pub fn prefix(&self, most: usize) -> &[u8]
         ensures { result.now ≡ take most self.now }
     {
         let size = most.min(self.end - self.start);
@@ -114,7 +114,7 @@ fn read_on(reader: &mut FrameReader, unread: &mut Unread, most: usize) -> (usize
     ensures tells { TellsEvent result.1 reader.new }
     ensures fits { length unread.new ≤ LARGEST_FRAME }
 {
-    let (used, event) = reader.feed(unread.front(most));
+    let (used, event) = reader.feed(unread.prefix(most));
     unread.consume(used);
     (used, event)
 }

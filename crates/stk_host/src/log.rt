@@ -87,7 +87,6 @@ impl Log {
         self.marks.push_reserved(Mark::Sent(bytes.len()));
     }
 
-    /// These bytes were heard.
     fn hear_bytes(&mut self, bytes: &[u8]) -> Result<(), AllocError>
         ensures ok { OnOk result (self.new.talk ≡ self.old.talk ++ talk.Got (on_tape bytes.now) ∷ []) }
         ensures err { OnErr result (self.new.talk ≡ self.old.talk) }
@@ -98,7 +97,6 @@ impl Log {
         Ok(())
     }
 
-    /// A silence was heard.
     fn silence(&mut self) -> Result<(), AllocError>
         ensures ok { OnOk result (self.new.talk ≡ self.old.talk ++ talk.Got (item.Silence ∷ []) ∷ []) }
         ensures err { OnErr result (self.new.talk ≡ self.old.talk) }
@@ -107,7 +105,6 @@ impl Log {
         Ok(())
     }
 
-    /// An end was heard.
     fn end(&mut self) -> Result<(), AllocError>
         ensures ok { OnOk result (self.new.talk ≡ self.old.talk ++ talk.Got (item.End ∷ []) ∷ []) }
         ensures err { OnErr result (self.new.talk ≡ self.old.talk) }
@@ -116,7 +113,7 @@ impl Log {
         Ok(())
     }
 
-    /// This was heard, its bytes at the front of the buffer. Where memory is refused nothing has passed.
+    /// This was heard, its bytes at the start of the buffer. Where memory is refused nothing has passed.
     pub fn hear(&mut self, heard: Heard, buffer: &[u8]) -> Result<(), AllocError>
         requires { talk.FitsBuffer heard (length buffer.now) }
         ensures ok { OnOk result (self.new.talk ≡ self.old.talk ++ talk.Got (talk.items_of heard buffer.now) ∷ []) }

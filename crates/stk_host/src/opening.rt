@@ -11,7 +11,6 @@ use crate::fault::Stop;
 use crate::link::Link;
 use stk_frame::Command;
 
-/// Reads one byte of the signature.
 fn signature_byte<L: Link>(
     conversation: &mut Conversation,
     link: &mut L,

@@ -5,7 +5,7 @@ ghost use Rattle.std.specs.Io.{ReadsAtMost, WritesAtMost};
 ghost use Rattle.std.specs.Io.KnownBytes.{Keeps, Appends, Consumes, IsAtEnd};
 ghost use Rattle.ghosts.specs.Stays.{Stays};
 ghost use Rattle.stk_host.specs.Talk.{Sends, Receives, FitsBuffer};
-ghost use Rattle.stk_host.specs.Links.{StreamState, IsTrueSince, stream_view, HearsKnown, AppendsFront, IsOfListening};
+ghost use Rattle.stk_host.specs.Links.{StreamState, IsTrueSince, stream_view, HearsKnown, AppendsPrefix, IsOfListening};
 
 use crate::history::History;
 use crate::link::{Heard, Link, LinkFault};
@@ -18,6 +18,15 @@ use std::{fmt, io};
 /// What passed is kept for proofs alone, and takes no memory. A read that timed out or would block is a silence, and a
 /// read of no bytes is the end; a call that was interrupted is made again. Every other fault of a read, a write or a
 /// flush, and a write of no bytes, is a failure. Each piece sent is flushed.
+///
+/// ```text
+/// let mut link = StreamLink::new(b"".as_slice(), Vec::new(alloc));
+/// let part = Parts::none().find("m328p")?;
+/// assert_eq!(rt; Host::new(&part).open(&mut link, false), Err(HostFault::LinkEnded));
+/// let (_, sent) = link.into_inner();
+/// // SIGN_ON went out, as the first frame
+/// assert!(rt; sent.as_slice() == b"\x1B\x01\x00\x01\x0E\x01\x14".as_slice());
+/// ```
 #[derive(Drop)]
 pub struct StreamLink<R, W> {
     reader: R,
@@ -76,12 +85,12 @@ fn write_bytes<W: Write>(writer: &mut W, bytes: &[u8]) -> io::Result<usize>
     Err(io::Error::other("interrupted too often"))
 }
 
-/// Writes a front of the bytes, at least one where there is one, and flushes.
+/// Writes a prefix of the bytes, at least one where there is one, and flushes.
 fn put_bytes<W: Write>(writer: &mut W, bytes: &[u8]) -> io::Result<usize>
     ensures within { IfOk result (λ n. n ≤ length bytes.now) }
     ensures some { IfOk result (λ n. 0 < length bytes.now → 0 < n) }
     ensures ok { IfOk result (λ n. Appends (W.contents writer.old) (W.contents writer.new) (take n bytes.now)) }
-    ensures err { OnErr result (AppendsFront (W.contents writer.old) (W.contents writer.new) bytes.now) }
+    ensures err { OnErr result (AppendsPrefix (W.contents writer.old) (W.contents writer.new) bytes.now) }
 {
     let count = match write_bytes(writer, bytes) {
         Ok(count) => count,
@@ -192,10 +201,10 @@ impl<R: Read + Drop, W: Write + Drop> Link for StreamLink<R, W> {
     fn send(&mut self, bytes: &[u8]) -> Result<usize, LinkFault>
         ensures sends { Sends bytes.now (stream_view self.old) (stream_view self.new) result }
         ensures comes { Stays (IsTrueSince R.remaining W.contents) self.old self.new }
-        // The writer took the bytes that are said to be sent, or at a failure a front of them.
+        // The writer took the bytes that are said to be sent, or at a failure a prefix of them.
         ensures written { IfOk result (λ n. Appends (W.contents self.old.writer) (W.contents self.new.writer)
             (take n bytes.now)) }
-        ensures broken { OnErr result (AppendsFront (W.contents self.old.writer) (W.contents self.new.writer)
+        ensures broken { OnErr result (AppendsPrefix (W.contents self.old.writer) (W.contents self.new.writer)
             bytes.now) }
         ensures reader { self.new.reader ≡ self.old.reader }
         ensures sound { OnOk result (self.new.failures ≡ self.old.failures) }
@@ -220,7 +229,7 @@ impl<R: Read + Drop, W: Write + Drop> Link for StreamLink<R, W> {
         requires { 0 < length buffer.old }
         ensures receives { Receives buffer.new (stream_view self.old) (stream_view self.new) result }
         ensures comes { Stays (IsTrueSince R.remaining W.contents) self.old self.new }
-        // The bytes heard are the reader's next ones, none is lost, and an end comes only behind the last.
+        // The bytes heard are the reader's next ones, none is lost, and an end comes only after the last.
         ensures read { IfOk result (λ heard. HearsKnown heard buffer.new (R.remaining self.old.reader)
             (R.remaining self.new.reader)) }
         ensures kept { OnErr result (Keeps (R.remaining self.old.reader) (R.remaining self.new.reader)) }

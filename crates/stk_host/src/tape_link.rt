@@ -14,8 +14,16 @@ use std::marker::Model;
 
 /// A link that gives the items of a tape in their order, and keeps what passed.
 ///
-/// A call of `send` takes, and one of `recv` gives, at most `cut` bytes. A silence or an end comes alone; behind the
+/// A call of `send` takes, and one of `recv` gives, at most `cut` bytes. A silence or an end comes alone; after the
 /// last item every call of `recv` gives an end. The link fails only where memory for what passed was refused.
+///
+/// ```text
+/// let mut link = TapeLink::new(alloc, vec![in alloc; Item::Silence; 1]?, 281);
+/// link.send(b"\x1B")?;
+/// let mut buffer = [0; 281];
+/// assert_eq!(rt; link.recv(&mut buffer), Ok(Heard::Silence));
+/// assert!(rt; link.sent() == b"\x1B".as_slice());
+/// ```
 #[derive(Drop)]
 pub struct TapeLink {
     items: Vec<Item>,
@@ -67,7 +75,7 @@ fn copy_bytes(tape: &[Item], buffer: &mut [u8]) -> usize
     count
 }
 
-/// Gives the next piece of a tape, its bytes at the front of the buffer.
+/// Gives the next piece of a tape, its bytes at the start of the buffer.
 fn give_piece(tape: &[Item], buffer: &mut [u8]) -> Heard
     requires { 0 < length buffer.old }
     ensures within { FitsBuffer result (length buffer.new) }
@@ -158,7 +166,7 @@ impl Link for TapeLink {
 
     ghost comes_of = { IsOfTape };
 
-    #[tactic(auto, using(crate::proofs::OfTape::sent_of_tape, crate::proofs::OfTape::same_of_tape))]
+    #[tactic(auto, using(crate::proofs::Tapes::TapeLinks::sent_of_tape, crate::proofs::Tapes::TapeLinks::same_of_tape))]
     fn send(&mut self, bytes: &[u8]) -> Result<usize, LinkFault>
         ensures sends { Sends bytes.now (tape_view self.old) (tape_view self.new) result }
         ensures sound { OnOk result (self.new.failures ≡ self.old.failures) }

@@ -11,7 +11,7 @@ use crate::link::{Heard, Link, LinkFault};
 pub enum LinkCall<'a> {
     /// So many of these bytes were sent.
     Sent(&'a [u8], Result<usize, LinkFault>),
-    /// This was heard; bytes stand at the front of this buffer.
+    /// This was heard; bytes stand at the start of this buffer.
     Listened(&'a [u8], Result<Heard, LinkFault>),
 }
 

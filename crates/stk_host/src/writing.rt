@@ -18,7 +18,6 @@ use avr_image::Image;
 use avr_part::{Mem, Part};
 use stk_frame::{Command, Fuse};
 
-/// Erases the chip.
 pub(crate) fn erase_chip<L: Link>(conversation: &mut Conversation, link: &mut L) -> Result<(), Stop>
     ensures asks { AsksLink (EndsSteps (play ((erase ∷ []) ∷ []) []) (λ done. [])) conversation.old.progress
         (L.view link.old) (L.view link.new) result conversation.new.progress }

@@ -1,28 +1,5 @@
--- in the order in which to read: frames over any line, attempts and steps, strokes, what is given, few bad turns
-pub mod PlayedAlong
-pub mod Extending
-pub mod AnyTape
-pub mod WirePlayed
-pub mod Turning
-pub mod NoFrame
-pub mod AnyRows
-pub mod OnAnyTurn
-pub mod Attempts
-pub mod Climbing
-pub mod Reading
-pub mod Striking
-pub mod Outside
-pub mod Beginning
-pub mod Written
-pub mod PageStrokes
-pub mod RunStrokes
-pub mod ItemStrokes
-pub mod Giving
-pub mod PlayGiven
-pub mod SaidAlong
-pub mod LeadsOn
-pub mod FewFates
-pub mod Sendable
-pub mod Counting
-pub mod Tallying
-pub mod Comparing
+-- in the order in which to read; the list of a folder says what it holds
+pub mod Lines
+pub mod Given
+pub mod Hosts
+pub mod Strokes

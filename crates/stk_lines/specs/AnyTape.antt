@@ -8,7 +8,7 @@ use Rattle.stk_emu.specs.Device.{Device, after_frame, refusal}
 use Rattle.stk_emu.specs.Turn.{Became, Kept, Obeyed, after_became, Turn, Right, Wrong, Refusal, Nothing, Babble, Ending, IsHonest}
 use Rattle.stk_emu.specs.Along.{along, said_along}
 
--- behind the list no command arrives
+-- after the list no command arrives
 abbrev pub first_became : List Became → Became
 first_became [] = Kept
 first_became (became ∷ becames) = became
@@ -69,7 +69,7 @@ pub record WaitsAlong {E R P : Type 0} (m : Device P) (d : Dialog E R) (p : P) (
   pub one_more : length sent ≡ suc answered
   pub said : says ≡ said_along m answered d p turns
 
--- The play of a dialog over a tape goes along its turns: behind any first frames the programmer stands there as what
+-- The play of a dialog over a tape goes along its turns: after any first frames the programmer stands there as what
 -- became of it says; and where the play is done, so is the dialog, with the same result, and it has said the same.
 pub record GoesAs {E R P : Type 0} (m : Device P) (d : Dialog E R) (n : ℕ) (tape : Tape) (p : P)
     (becames : List Became) : Type 0 where

@@ -3,7 +3,7 @@ use Rattle.std.specs.Prelude.{ℕ, zero, suc, ◌+◌, ◌≤◌, List, [], ◌�
 use Rattle.stk_emu.specs.Turn.{Turn, Became, Kept, Obeyed, Anew, Instead, Refusal, Nothing, Babble, Ending, Right, Wrong, first_turn, other_turns}
 
 -- One, where a question goes wrong; four, where a programmer begins anew or the line ends, since no attempt can succeed
--- behind it.
+-- after it.
 abbrev pub bad_became : Became → ℕ
 bad_became Kept = 1
 bad_became Obeyed = 1

@@ -4,7 +4,7 @@ use Rattle.avr_part.specs.Part.{Part}
 use Rattle.stk_frame.specs.declared.command.Command.{Command}
 use Rattle.stk_host.specs.declared.fault.HostFault.{HostFault}
 use Rattle.stk_host.specs.Dialog.{Dialog, Done}
-use Rattle.stk_host.specs.Steps.{Outcome}
+use Rattle.stk_host.specs.Steps.{StepOutcome}
 use Rattle.stk_host.specs.Talk.{sent}
 use Rattle.stk_frame.specs.Cut.{frames}
 use Rattle.stk_emu.specs.Turn.{Turn, Right}
@@ -25,7 +25,7 @@ pub record Leads {E R P : Type 0} (m : Device P) (dialog : Dialog E R) (p : P) (
       → After r (along m k dialog p turns).programmer
 
 -- after data the one, after a fault one or the other
-abbrev pub OnData : {P : Type 0} → (P → Type 0) → (P → Type 0) → Outcome → P → Type 0
+abbrev pub OnData : {P : Type 0} → (P → Type 0) → (P → Type 0) → StepOutcome → P → Type 0
 OnData Before After (Ok bytes) q = After q
 OnData Before After (Err fault) q = Before q ⊎ After q
 
@@ -35,7 +35,7 @@ pub record Reached (part : Part) (steps : List (List Command)) (m : Memories) (q
   pub stands : Settled part (struck_by part count steps m) q
 
 -- after data of all steps their memories, and what they give; after a fault those of some first steps
-abbrev pub AfterSteps : Part → List (List Command) → Memories → List ℕ → Outcome → Programmer → Type 0
+abbrev pub AfterSteps : Part → List (List Command) → Memories → List ℕ → StepOutcome → Programmer → Type 0
 AfterSteps part steps m before (Ok got) q =
     Settled part (struck_by part (length steps) steps m) q × (got ≡ before ++ all_given part steps m)
 AfterSteps part steps m before (Err fault) q = Reached part steps m q
@@ -48,7 +48,7 @@ AfterOperation part steps m judge result q =
     ⊎ ((fault : HostFault) × (result ≡ Err fault) × Reached part steps m q)
 
 -- after SIGN_ON, ENTER and the reading of the signature
-abbrev pub AfterBeginning : Part → Memories → Outcome → Programmer → Type 0
+abbrev pub AfterBeginning : Part → Memories → StepOutcome → Programmer → Type 0
 AfterBeginning part m (Ok found) q = Settled part m q × (found ≡ part.signature)
 AfterBeginning part m (Err fault) q = Idle part m q
 

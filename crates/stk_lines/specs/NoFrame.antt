@@ -8,7 +8,7 @@ use Rattle.stk_emu.specs.Device.{Device, refusal}
 use Rattle.stk_emu.specs.Turn.{Became, Kept, Obeyed, Anew, after_became}
 use Rattle.stk_lines.specs.AnyTape.{first_became, other_becames, on_answer}
 
--- the frame of the answer to a question; nothing where it wasn't obeyed, or where the programmer began anew behind it
+-- the frame of the answer to a question; nothing where it wasn't obeyed, or where the programmer began anew after it
 abbrev pub given : {P : Type 0} → Device P → ℕ → List ℕ → P → Became → List ℕ
 given m n bytes p Kept = []
 given m n bytes p Obeyed = frame n (m.answer bytes p)
@@ -26,7 +26,7 @@ abbrev pub WasSent : List (List ℕ) → List ℕ → Type 0
 WasSent sent piece = is_good piece ≡ true → (body_of piece ≡ refusal) ⊎ IsAmong 256 sent piece
 
 -- Of pieces cut from what is heard those up to the first that is taken for the answer to the frame of this number: all
--- of them were sent. (What is behind isn't read yet.)
+-- of them were sent. (What is after isn't read yet.)
 abbrev pub WereSent : ℕ → List (List ℕ) → List (List ℕ) → Type 0
 WereSent n sent [] = Unit {0}
 WereSent n sent (piece ∷ pieces) =
@@ -34,7 +34,7 @@ WereSent n sent (piece ∷ pieces) =
 
 -- THE LINE MAKES NO FRAME: at each question of this dialog, in the play over this tape, each good frame that the host
 -- cuts from what it reads is one that the programmer has sent, as one of its last 256 answers, or a refusal. Anything
--- else may be on the tape, at any place: fronts and ends of answers, noise, answers of before, refusals, silences.
+-- else may be on the tape, at any place: prefixes and ends of answers, noise, answers of before, refusals, silences.
 abbrev pub MakesNoFrame : {E R P : Type 0} → Device P → Dialog E R → ℕ → Tape → P → List Became → List (List ℕ)
     → Type 0
 MakesNoFrame m (Done r) n tape p becames before = Unit {0}

@@ -3,9 +3,9 @@ use Rattle.std.specs.Prelude.{ℕ, suc, ◌+◌, ◌-◌, ◌≤◌, ◌≡◌, 
 use Rattle.stk_host.specs.Dialog.{Dialog, Done, Say, Ask}
 use Rattle.stk_emu.specs.Turn.{Turn}
 use Rattle.stk_emu.specs.Device.{Device}
-use Rattle.stk_emu.specs.Along.{Standing, along}
+use Rattle.stk_emu.specs.Along.{LineState, along}
 
--- how many have come to data after so many questions, from a programmer and the turns to come
+-- how many have been completed after so many questions, from a programmer and the turns to come
 abbrev pub Count : Type 0 → Type 0
 Count P = ℕ → P → List Turn → ℕ
 
@@ -20,7 +20,7 @@ then_count m d first more k p turns =
     let s = along m k d p turns in
     with_next s.dialog (first k p turns) (λ a. more a s.left s.programmer s.turns)
 
--- At each moment of a dialog so many strokes are made: those that came to data and perhaps one more, which is counted
+-- At each moment of a dialog so many strokes are made: those that were completed and perhaps one more, which is counted
 -- by the questions before the last, whose answer may not have come.
 pub record Tallies {E R P : Type 0} (m : Device P) (d : Dialog E R) (done : Count P) (At : ℕ → P → Type 0)
     (p : P) (turns : List Turn) : Type 0 where
@@ -30,9 +30,9 @@ pub record Tallies {E R P : Type 0} (m : Device P) (d : Dialog E R) (done : Coun
   pub at_most : (k : ℕ) → count k ≤ suc (done (k - 1) p turns)
   pub stands : (k : ℕ) → At (count k) (along m k d p turns).programmer
 
--- How the next dialog goes on from where one stands: it makes its strokes behind those made; and either so many had
--- come to data earlier, before the last question, or it makes none.
-pub record GoesOn {E A B P : Type 0} (m : Device P) (At : ℕ → P → Type 0) (s : Standing E A P) (made earlier : ℕ)
+-- How the next dialog goes on from where one stands: it makes its strokes after those made; and either so many had
+-- been completed earlier, before the last question, or it makes none.
+pub record GoesOn {E A B P : Type 0} (m : Device P) (At : ℕ → P → Type 0) (s : LineState E A P) (made earlier : ℕ)
     (next : Dialog E B) (more : Count P) : Type 0 where
   pub rest : Tallies m next more (λ j. At (made + j)) s.programmer s.turns
   pub sharp : ((l : ℕ) → s.left ≡ suc l → made ≤ earlier) ⊎ ((l : ℕ) → rest.count l ≡ 0)

@@ -13,7 +13,7 @@ ghost use Rattle.stk_frame.specs.Cut.{frames, is_good};
 ghost use Rattle.stk_frame.specs.HostCommands.{enter, leave};
 ghost use Rattle.stk_host.specs.Tape.{Tape, answer};
 ghost use Rattle.stk_host.specs.Dialog.{Dialog, Event, played, frames_in, sayings, Done};
-ghost use Rattle.stk_host.specs.Steps.{Outcome, step, play};
+ghost use Rattle.stk_host.specs.Steps.{StepOutcome, step, play};
 ghost use Rattle.stk_host.specs.ReadSteps.{read_steps};
 ghost use Rattle.stk_host.specs.declared.fault.HostFault.{HostFault};
 ghost use Rattle.stk_host.specs.Operations.{opening, operation, closing, difference_from};
@@ -64,7 +64,7 @@ pub fn a_conversation_goes_along_the_line<E, R>()
 {}
 
 /// A programmer as it begins, with any chip, is ready for SIGN_ON, and the chip's memories have its part's sizes.
-#[tactic(auto, using(crate::proofs::Beginning::fresh_idle, crate::proofs::Beginning::fresh_fits))]
+#[tactic(auto, using(crate::proofs::Given::FirstSteps::fresh_idle, crate::proofs::Given::FirstSteps::fresh_fits))]
 pub fn a_programmer_begins_idle()
     ensures idle { (s : chip.ChipState) → IsSoundChip s → Idle s.part (memories_of s) (fresh_programmer s) }
     ensures sizes { (s : chip.ChipState) → IsSoundChip s → FitsPart s.part (memories_of s) }
@@ -94,7 +94,7 @@ pub fn a_step_leads_to_its_stroke()
 {}
 
 /// Whatever the line does: at each moment of a play of steps the memories are those of the first so many steps, as many
-/// as came to data and perhaps one more; and where the play came to data, of all.
+/// as were completed and perhaps one more; and where the play was completed, of all.
 pub fn a_play_climbs_from_step_to_step()
     ensures { (part : Part) (steps : List (List Command)) (m : Memories) (k : ℕ) (before : List ℕ) (p : Programmer)
         (turns : List Turn)
@@ -135,14 +135,14 @@ pub fn what_is_read_is_the_memory()
 
 /// Each step of a write has one stroke: the memories after the first so many steps of items are those that the items'
 /// first so many strokes make. So after any outcome of their play the memories are the effect of some first strokes, as
-/// many as steps came to data and perhaps one more.
+/// many as steps were completed and perhaps one more.
 pub fn steps_are_counted_as_strokes()
     ensures { (part : Part) (items : List Item) (count : ℕ) (m : Memories)
         → struck_by part count (all_steps part items) m ≡ effects part
         (take count (strokes_of (all_steps part items))) m }
 {}
 
-/// Where of any seven frames in a row at most three go wrong, a step comes to what it gives, and the line behind it is
+/// Where of any seven frames in a row at most three go wrong, a step comes to what it gives, and the line after it is
 /// such a line; so a play of steps comes to all that they give. A good line is the simplest one. The bound is sharp:
 /// four lost commands in a row are too many, and of any six frames three are, where each second one is lost.
 pub fn few_bad_fates_bring_all_data()
@@ -153,7 +153,7 @@ pub fn few_bad_fates_bring_all_data()
         → AreFew turns → AreFew (along device k (step commands) p turns).turns }
     ensures play { (part : Part) (steps : List (List Command)) (m : Memories) (k : ℕ) (before : List ℕ) (p : Programmer)
         (turns : List Turn)
-        (o : Outcome)
+        (o : StepOutcome)
         → IsPart part → AreSteps part steps → FitsPart part m → Ready part m p → AreFew turns
         → (along device k (play steps before) p turns).dialog ≡ Done o → o ≡ Ok (before ++ all_given part steps m) }
     ensures good { (turns : List Turn) → AreGood turns → AreFew turns }
@@ -193,7 +193,7 @@ pub fn a_talk_in_turn_is_never_idle<E, R>()
 pub trait Talks {
     ghost Saying: { Type 0 };
 
-    ghost Outcome: { Type 0 };
+    ghost StepOutcome: { Type 0 };
 
     ghost SaidPart: { Saying → Saying → Type 0 };
 }
@@ -202,11 +202,11 @@ pub trait Talks {
 /// conversation has come there to the same result, and nothing that came is left; where it broke off in any part of a
 /// frame, the programmer stands there all the same.
 pub fn a_talk_over_a_wire_goes_along_the_line<T: Talks>()
-    ensures whole { (d : Dialog T.Saying T.Outcome) (n : ℕ) (p : Programmer) (fates : List Fate) (w : WiredState)
-        (events : List (Event T.Saying)) (r : T.Outcome) (after : Position)
+    ensures whole { (d : Dialog T.Saying T.StepOutcome) (n : ℕ) (p : Programmer) (fates : List Fate) (w : WiredState)
+        (events : List (Event T.Saying)) (r : T.StepOutcome) (after : Position)
         → AsksBodies d → AreLawful fates → Keeps p fates w → Plays d (position n []) w.talk events r after
         → GoesAlong d p (turns_of fates) w r after.unread }
-    ensures broken { (d : Dialog T.Saying T.Outcome) (n : ℕ) (p : Programmer) (fates : List Fate) (w : WiredState)
+    ensures broken { (d : Dialog T.Saying T.StepOutcome) (n : ℕ) (p : Programmer) (fates : List Fate) (w : WiredState)
         (shown : List (Event T.Saying))
         → AsksBodies d → AreLawful fates → Keeps p fates w → Breaks T.SaidPart d (position n []) w.talk shown
         → w.wire.programmer ≡ (along device (length (frames (sent w.talk))) d p (turns_of fates)).programmer }
@@ -255,13 +255,13 @@ pub fn a_line_that_makes_no_frame_is_honest<E, R>()
         → MakesNoFrame device d n tape p becames [] → AreHonest device d n tape p becames }
 {}
 
-/// A wire with fates is such a line, and a programmer that got a front of the bytes sent, as over a line that keeps
+/// A wire with fates is such a line, and a programmer that got a prefix of the bytes sent, as over a line that keeps
 /// their order, got some of the frames.
 pub fn a_wire_is_an_honest_line<E, R>()
     ensures wire { (d : Dialog E R) (n : ℕ) (w : Wire Programmer) (sent more : List (List ℕ)) → AsksBodies d
         → IsClear n w.late → AreLawful w.fates
         → frames_in (played d n (tape_of device sent w)).events ≡ sent ++ more
         → AreHonest device d n (tape_of device sent w) w.programmer (becames_of (length sent) w.fates) }
-    ensures front { (got : List ℕ) (sent others : List (List ℕ)) → sent ≡ frames got ++ others
+    ensures prefix { (got : List ℕ) (sent others : List (List ℕ)) → sent ≡ frames got ++ others
         → filter is_good sent ≡ sent → CameThrough got sent (replicate (length (frames got)) true) }
 {}

@@ -277,8 +277,8 @@ fn detects(rt: HostRuntime) {
         (b"\x7fELF", Found::Elf),
         (b"", Found::Raw),
     ];
-    for (front, want) in rows {
-        assert_eq!(rt; detect(front), want);
+    for (prefix, want) in rows {
+        assert_eq!(rt; detect(prefix), want);
     }
 }
 
@@ -348,7 +348,7 @@ fn a_size_is_told_without_an_image(rt: HostRuntime) {
         needed_size(Kind::Ihex, b":020000021000EC\n:02FFFF000A0BEB\n"),
         Ok(0x2_0000)
     );
-    // the last address that a memory has, and the one behind it
+    // the last address that a memory has, and the one after it
     assert_eq!(rt;
         needed_size(Kind::Srec, b"S306FFFFFFFE11ED\n"),
         Ok(0xFFFF_FFFF)

@@ -155,9 +155,9 @@ fn lines_of_record_files(rt: HostRuntime) -> Result<(), Fail> {
 }
 
 /// A text of `n` bytes that begins so, and goes on with this block over and over.
-fn text_of(alloc: Global, front: &[u8], block: &[u8], n: usize) -> Result<Vec<u8>, AllocError> {
+fn text_of(alloc: Global, prefix: &[u8], block: &[u8], n: usize) -> Result<Vec<u8>, AllocError> {
     let mut text = Vec::new(alloc);
-    text.extend_from_slice(front)?;
+    text.extend_from_slice(prefix)?;
     for _ in 0..n {
         if text.len() >= n {
             break;
@@ -174,12 +174,12 @@ const EMPTY: &[u8] = b"                                                         
 /// Whether a file that begins so and goes on with this block is refused with this line.
 fn refuses_text(
     alloc: Global,
-    front: &[u8],
+    prefix: &[u8],
     block: &[u8],
     n: usize,
     line: &str,
 ) -> Result<bool, AllocError> {
-    let text = text_of(alloc, front, block, n)?;
+    let text = text_of(alloc, prefix, block, n)?;
     refuses(alloc, "a.hex", text.as_slice(), &flash_of("a.hex"), line)
 }
 

@@ -80,7 +80,7 @@ fn the_desk_and_the_link_of_the_program(rt: HostRuntime) -> Result<(), Fail> {
     Ok(())
 }
 
-/// Where the reader ends behind the first two answers, the third command goes out, and nothing behind it.
+/// Where the reader ends after the first two answers, the third command goes out, and nothing after it.
 #[test]
 fn a_reader_that_ends(rt: HostRuntime) -> Result<(), Fail> {
     let alloc = rt.alloc();
@@ -97,7 +97,7 @@ fn a_reader_that_ends(rt: HostRuntime) -> Result<(), Fail> {
 const FUSE_ANSWERS: &str =
     "1B01000B0E01000853544B3530305F32021B0200020E1000051B0300040E1B001E00171B0400040E1B0095009B1B0500040E1B000F00001B0600040E180062006D1B0700040E180062006C1B0800020E11000E";
 
-/// The frames behind its opening.
+/// The frames after its opening.
 const FUSE_FRAMES: &str = "1B0600060E180450000000591B0700060E180450000000581B0800030E1101010F";
 
 /// The words of a run that compares a file with the fuse, and makes it anew.

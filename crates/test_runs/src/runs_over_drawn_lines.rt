@@ -115,7 +115,7 @@ fn pages_written(chip: &Chip) -> Option<u32> {
     Some(pages)
 }
 
-/// Pages are written in rising order and whole, and the fuse behind them; nothing else is. Answers how many pages are
+/// Pages are written in rising order and whole, and the fuse after them; nothing else is. Answers how many pages are
 /// written.
 fn look_at_chip(rt: &impl Abort, over: &Over<MemDesk, Wired>, seed: u32) -> Option<u32> {
     let chip = over.link.chip();
@@ -181,7 +181,7 @@ fn try_seed(
 
 /// Some runs end well, some don't, and some of these in the middle of the pages; on some lines few frames go wrong.
 #[test]
-fn drawn_fates_leave_a_front(rt: HostRuntime) -> Result<(), Fail> {
+fn drawn_fates_leave_a_prefix(rt: HostRuntime) -> Result<(), Fail> {
     let good = run_over(rt.alloc(), Fates::none(rt.alloc()))?;
     let mut counts = Counts {
         sound: 0,

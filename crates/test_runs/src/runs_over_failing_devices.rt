@@ -25,7 +25,7 @@ struct SoundRun {
     link_calls: u64,
     /// One for each piece of a line, each output, and each opening and reading of a file.
     desk_calls: u64,
-    /// The calls of the desk whose failure is told; where any other fails, printing itself did.
+    /// The calls of the desk whose failure is reported; where any other fails, printing itself did.
     told: &'static [(u64, &'static [&'static str])],
 }
 
@@ -156,21 +156,21 @@ fn failing(
     run_on(alloc, run.row.words, desk, link)
 }
 
-/// Whether what was said is a front of what a sound run says, and behind it what was told of a fault, on a line of its
-/// own.
-fn is_front(said: &[u8], sound: &[u8], told: &[u8]) -> bool {
+/// Whether what was said is a prefix of what a sound run says, and after it what was reported of a fault, on a line of
+/// its own.
+fn is_prefix(said: &[u8], sound: &[u8], told: &[u8]) -> bool {
     match said.strip_suffix(told) {
-        Some(front) => {
-            front.len() < sound.len()
-                && sound.starts_with(front)
-                && (told.is_empty() || front.is_empty() || front.ends_with(b"\n"))
+        Some(prefix) => {
+            prefix.len() < sound.len()
+                && sound.starts_with(prefix)
+                && (told.is_empty() || prefix.is_empty() || prefix.ends_with(b"\n"))
         }
         None => false,
     }
 }
 
-/// The run broke off: what it sent and wrote is a front of what the sound one did, and so is what it said, but for
-/// these lines behind it.
+/// The run broke off: what it sent and wrote is a prefix of what the sound one did, and so is what it said, but for
+/// these lines after it.
 fn broke_off(
     rt: &impl Abort,
     alloc: Global,
@@ -186,7 +186,7 @@ fn broke_off(
     assert!(rt; sound.link.sent().starts_with(sent), "call {n}");
     assert!(rt; sound.desk.output().starts_with(desk.output()), "call {n}");
     assert!(rt;
-        is_front(desk.messages(), sound.desk.messages(), told.as_slice()),
+        is_prefix(desk.messages(), sound.desk.messages(), told.as_slice()),
         "call {n}"
     );
     Ok(())
@@ -234,7 +234,7 @@ fn each_call_of_the_link_fails_over_the_whole_eeprom(rt: HostRuntime) -> Result<
     fail_each_link_call(&rt, rt.alloc(), &EEPROM)
 }
 
-/// What is told where this call of the desk fails.
+/// What is reported where this call of the desk fails.
 fn told_of(run: &SoundRun, n: u64) -> &'static [&'static str] {
     for (call, lines) in run.told {
         if *call == n {
@@ -292,7 +292,7 @@ fn pieces_change_nothing(rt: HostRuntime) -> Result<(), Fail> {
     Ok(())
 }
 
-/// Behind the four pieces of the signature's line the desk is to write the fuse, and fails: the sixth frame is the
+/// After the four pieces of the signature's line the desk is to write the fuse, and fails: the sixth frame is the
 /// last.
 #[test]
 fn no_leave_follows_an_output_that_fails(rt: HostRuntime) -> Result<(), Fail> {

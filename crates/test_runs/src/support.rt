@@ -15,7 +15,7 @@ use stk_host::Link;
 pub(crate) const OPENING: &str =
     "1B0100010E01141B02000C0E10C8641920005303AC530000311B0300060E1B04300000003F1B0400060E1B0430000100391B0500060E1B04300002003B";
 
-/// A run: the words behind the program's name and port, what goes to standard output, the messages without the
+/// A run: the words after the program's name and port, what goes to standard output, the messages without the
 /// program's name in front, and the status.
 #[derive(Drop)]
 pub(crate) struct Row {
@@ -33,7 +33,7 @@ pub(crate) struct Over<D, L> {
     pub(crate) status: u8,
 }
 
-/// The settings of a command line with these words behind the program's name and port.
+/// The settings of a command line with these words after the program's name and port.
 pub(crate) fn settings_for(alloc: Global, words: &[&str]) -> Result<Settings, Fail> {
     let mut all: Vec<String> = Vec::new(alloc);
     for word in ["avrstk", "-P", "emu:chip.bin"] {

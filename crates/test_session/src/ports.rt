@@ -53,7 +53,7 @@ fn heard_to_the_end<R: Read + Drop, W: Write + Drop>(
     Ok(bytes)
 }
 
-/// No contract says that nobody was called: the port is opened behind the plan.
+/// No contract says that nobody was called: the port is opened after the plan.
 #[test]
 fn a_refused_plan_leaves_the_port_alone(rt: HostRuntime) -> Result<(), Fail> {
     let listener = listen(&rt, 0)?;
@@ -222,7 +222,7 @@ fn a_port_that_is_taken(rt: HostRuntime) -> Result<(), Fail> {
     Ok(())
 }
 
-/// No contract says that the port is opened behind the part and the chip.
+/// No contract says that the port is opened after the part and the chip.
 #[test]
 fn a_part_and_a_chip_are_refused_before_the_port(rt: HostRuntime) -> Result<(), Fail> {
     let listener = listen(&rt, 0)?;

@@ -234,7 +234,7 @@ fn commands_that_are_refused(rt: HostRuntime) -> Result<(), Fail> {
 }
 
 /// The first bytes of the sound answers; then the line ends.
-fn front_of_answers(alloc: Global, count: usize) -> Result<Vec<Item>, Fail> {
+fn prefix_of_answers(alloc: Global, count: usize) -> Result<Vec<Item>, Fail> {
     let mut items = Vec::new(alloc);
     for byte in hex::decode(alloc, M328P)?.into_iter().take(count) {
         items.push(Item::Byte(byte))?;
@@ -242,7 +242,7 @@ fn front_of_answers(alloc: Global, count: usize) -> Result<Vec<Item>, Fail> {
     Ok(items)
 }
 
-/// Looks at runs over answers that are cut to each of these counts of bytes, of which this front of the sound run is
+/// Looks at runs over answers that are cut to each of these counts of bytes, of which this prefix of the sound run is
 /// sent.
 fn look_at_cuts(
     rt: &impl Abort,
@@ -255,7 +255,7 @@ fn look_at_cuts(
     frames.truncate(sent);
     for count in counts {
         for cut in [1usize, 281] {
-            let over = run_over(alloc, "m328p", front_of_answers(alloc, count)?, cut)?;
+            let over = run_over(alloc, "m328p", prefix_of_answers(alloc, count)?, cut)?;
             shows(rt, &over, frames.as_slice(), messages, 1)?;
         }
     }

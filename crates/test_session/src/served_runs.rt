@@ -1,4 +1,4 @@
-//! From settings to status: how serving ends, what is told of it, and the chip file.
+//! From settings to status: how serving ends, what is reported of it, and the chip file.
 use avr_cli::{Settings, read_settings, read_words};
 use avr_desk::MemDesk;
 use avr_serve::{serve, serve_for};

@@ -1,4 +1,4 @@
-use Rattle.avr_desk.proofs.Played.{goes_without_memory}
+use Rattle.avr_desk.proofs.Stages.Played.{goes_without_memory}
 use Rattle.avr_desk.specs.Stage.{verdict_stage}
 use Rattle.avr_chip.proofs.Chips.{went_chip, chip_of_part, goes_wrong_length}
 use Rattle.avr_chip.specs.Loading.{chip_or_line}

@@ -1,6 +1,6 @@
 use Rattle.std.proofs.Common.{Ok}
 use Rattle.avr_part.specs.State.{fresh_state}
-use Rattle.avr_desk.proofs.Played.{goes_without_memory}
+use Rattle.avr_desk.proofs.Stages.Played.{goes_without_memory}
 use Rattle.avr_desk.specs.Stage.{verdict_stage}
 use Rattle.avr_chip.proofs.Chips.{went_fresh}
 use Rattle.avr_chip.proofs.loading.fresh_chip.Goals as goal

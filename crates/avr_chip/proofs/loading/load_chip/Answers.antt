@@ -1,4 +1,4 @@
-use Rattle.avr_desk.proofs.Openings.{breaks_as, counted_as}
+use Rattle.avr_desk.proofs.Stages.Openings.{breaks_as, counted_as}
 use Rattle.avr_chip.proofs.Chips.{goes_ended, goes_past}
 use Rattle.avr_chip.proofs.loading.load_chip.Goals as goal
 

@@ -1,6 +1,6 @@
 use Rattle.std.proofs.Common.{refl}
 use Rattle.avr_desk.specs.declared.record.Opening.TheVariants.{Absent}
-use Rattle.avr_desk.proofs.Openings.{goes_opened, goes_broken}
+use Rattle.avr_desk.proofs.Stages.Openings.{goes_opened, goes_broken}
 use Rattle.avr_chip.specs.Loading.{chip_given}
 use Rattle.avr_chip.proofs.loading.unread_chip.Goals as goal
 

@@ -2,7 +2,7 @@ use Rattle.std.proofs.Common.{ap, ◌∙◌, List, ℕ, map, string_bytes, subst
 use Rattle.std.proofs.lemmas.Result.{IfErr-weaker, IfOk-weaker}
 use Rattle.clap.specs.Words.{App, takes, is_simple_and_free, fault_of, FailsBy}
 use Rattle.avr_cli.specs.Command.{avrstk}
-use Rattle.avr_cli.proofs.CommandLemmas.{is_simple-avrstk, is_free-avrstk, rows_given}
+use Rattle.avr_cli.proofs.ParsedCommands.{is_simple-avrstk, is_free-avrstk, rows_given}
 use Rattle.avr_cli.proofs.command.read_words.Goals as goal
 
 pub returns-in-Ok : goal.returns-in-Ok

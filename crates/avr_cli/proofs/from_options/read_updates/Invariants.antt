@@ -1,6 +1,6 @@
 use Rattle.std.proofs.Common.{◌≡◌, ◌+◌, map, drop}
 use Rattle.avr_cli.specs.Settings.{updates_from}
-use Rattle.avr_cli.proofs.UpdatesLemmas.{onto}
+use Rattle.avr_cli.proofs.UpdateLists.{onto}
 use Rattle.avr_cli.proofs.from_options.read_updates.Given as goal
 
 abbrev pub invariant-loop-i : goal.invariant-loop-i

@@ -5,7 +5,7 @@ use Rattle.avr_cli.specs.Command.{entries_of}
 use Rattle.avr_cli.specs.Split.{Bytes}
 use Rattle.avr_cli.specs.Port.{port_given_of}
 use Rattle.avr_cli.specs.Settings.{GivesOrMemory, TellsAnyway}
-use Rattle.avr_cli.proofs.KeepingLemmas.{nothing_behind_port, port_is_told}
+use Rattle.avr_cli.proofs.KeptTexts.{nothing_behind_port, port_is_told}
 use Rattle.avr_cli.proofs.from_options.run_settings.Goals as goal
 
 pub returns-in_err-port-clause-tells : goal.returns-in_err-port-clause-tells

@@ -1,5 +1,5 @@
 use Rattle.std.proofs.Common.{sym, rules}
-use Rattle.avr_cli.proofs.PortLemmas.{port_number-refused}
+use Rattle.avr_cli.proofs.PortNumbers.{port_number-refused}
 use Rattle.avr_cli.proofs.ports.port_number.Goals as goal
 
 pub returns-in_default-2 : goal.returns-in_default-2

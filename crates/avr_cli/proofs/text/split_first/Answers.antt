@@ -1,4 +1,4 @@
-use Rattle.avr_cli.proofs.SplitLemmas.{splits_first}
+use Rattle.avr_cli.proofs.TextCuts.{splits_first}
 use Rattle.avr_cli.proofs.text.split_first.Goals as goal
 
 pub returns : goal.returns

@@ -1,4 +1,4 @@
-use Rattle.avr_cli.proofs.SplitLemmas.{splits_last}
+use Rattle.avr_cli.proofs.TextCuts.{splits_last}
 use Rattle.avr_cli.proofs.text.split_last.Goals as goal
 
 pub returns : goal.returns

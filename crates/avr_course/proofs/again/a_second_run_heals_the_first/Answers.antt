@@ -1,4 +1,4 @@
-use Rattle.avr_course.proofs.AgainStrokes.{plan_again}
+use Rattle.avr_course.proofs.SecondRun.ErasesTwice.{plan_again}
 use Rattle.avr_course.proofs.again.a_second_run_heals_the_first.Goals as goal
 
 pub returns : goal.returns

@@ -1,4 +1,4 @@
-use Rattle.avr_course.proofs.AgainWrites.{first_writes_again}
+use Rattle.avr_course.proofs.SecondRun.WritesTwice.{first_writes_again}
 use Rattle.avr_course.proofs.again.first_writes_and_then_all_are_all.Goals as goal
 
 pub returns : goal.returns

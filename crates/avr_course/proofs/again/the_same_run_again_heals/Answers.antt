@@ -1,4 +1,4 @@
-use Rattle.avr_course.proofs.AgainHeals.{healed, touched_healed, done_again}
+use Rattle.avr_course.proofs.SecondRun.Status.{healed, touched_healed, done_again}
 use Rattle.avr_course.proofs.again.the_same_run_again_heals.Goals as goal
 
 pub returns-clause-touched : goal.returns-clause-touched

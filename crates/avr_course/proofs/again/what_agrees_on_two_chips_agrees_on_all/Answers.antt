@@ -1,6 +1,6 @@
-use Rattle.avr_course.proofs.AgainAgrees.{agrees_anyway}
-use Rattle.avr_course.proofs.AgainHeals.{two_of_all}
-use Rattle.avr_course.proofs.WrittenCourse.{course_status}
+use Rattle.avr_course.proofs.SecondRun.EveryChip.{agrees_anyway}
+use Rattle.avr_course.proofs.SecondRun.Status.{two_of_all}
+use Rattle.avr_course.proofs.Memories.CourseAgrees.{course_status}
 use Rattle.avr_course.proofs.again.what_agrees_on_two_chips_agrees_on_all.Goals as goal
 
 pub returns-clause-agrees : goal.returns-clause-agrees

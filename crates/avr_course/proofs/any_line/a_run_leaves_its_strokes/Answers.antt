@@ -1,5 +1,5 @@
-use Rattle.avr_course.proofs.AnyLineAsks.{session_asks}
-use Rattle.avr_course.proofs.TellingTrue.{session_leaves}
+use Rattle.avr_course.proofs.AnyLine.FrameSizes.{session_asks}
+use Rattle.avr_course.proofs.Reports.Truth.{session_leaves}
 use Rattle.avr_course.proofs.any_line.a_run_leaves_its_strokes.Goals as goal
 
 pub returns-clause-asks : goal.returns-clause-asks

@@ -1,4 +1,4 @@
-use Rattle.avr_course.proofs.ListenBound.{session_listens}
+use Rattle.avr_course.proofs.Bounds.Listening.{session_listens}
 use Rattle.avr_course.proofs.any_line.a_run_listens_at_most_once_for_each_frame.Goals as goal
 
 pub returns : goal.returns

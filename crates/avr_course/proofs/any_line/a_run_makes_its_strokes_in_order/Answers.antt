@@ -1,4 +1,4 @@
-use Rattle.avr_course.proofs.AnyLineOrder.{session_makes}
+use Rattle.avr_course.proofs.AnyLine.StrokeOrder.{session_makes}
 use Rattle.avr_course.proofs.any_line.a_run_makes_its_strokes_in_order.Goals as goal
 
 pub returns : goal.returns

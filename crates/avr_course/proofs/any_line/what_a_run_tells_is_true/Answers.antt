@@ -1,4 +1,4 @@
-use Rattle.avr_course.proofs.TellingTrue.{session_tells}
+use Rattle.avr_course.proofs.Reports.Truth.{session_tells}
 use Rattle.avr_course.proofs.any_line.what_a_run_tells_is_true.Goals as goal
 
 pub returns : goal.returns

@@ -2,9 +2,9 @@ use Rattle.avr_session.specs.Session.{session}
 use Rattle.stk_emu.specs.Device.{device}
 use Rattle.stk_emu.specs.Effect.{memories_of}
 use Rattle.avr_course.specs.Told.{IsTrue}
-use Rattle.avr_course.proofs.AnyLineAsks.{session_asks}
-use Rattle.avr_course.proofs.TellingTrue.{session_tells}
-use Rattle.avr_course.proofs.ToldOnTape.{told_any}
+use Rattle.avr_course.proofs.AnyLine.FrameSizes.{session_asks}
+use Rattle.avr_course.proofs.Reports.Truth.{session_tells}
+use Rattle.avr_course.proofs.Reports.OverTape.{told_any}
 use Rattle.avr_course.proofs.any_line.what_is_told_over_any_line_is_true.Goals as goal
 
 pub returns : goal.returns

@@ -1,4 +1,4 @@
-use Rattle.avr_course.proofs.Wiring.{played_truly, stopped_truly}
+use Rattle.avr_course.proofs.WirePlays.{played_truly, stopped_truly}
 use Rattle.avr_course.proofs.any_line.what_was_told_was_true.Goals as goal
 
 pub returns-clause-played : goal.returns-clause-played

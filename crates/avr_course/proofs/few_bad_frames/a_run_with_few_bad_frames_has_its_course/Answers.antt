@@ -1,4 +1,4 @@
-use Rattle.avr_course.proofs.FewBad.{session_ends, session_done}
+use Rattle.avr_course.proofs.FewBad.Sessions.{session_ends, session_done}
 use Rattle.avr_course.proofs.few_bad_frames.a_run_with_few_bad_frames_has_its_course.Goals as goal
 
 pub returns-clause-status : goal.returns-clause-status

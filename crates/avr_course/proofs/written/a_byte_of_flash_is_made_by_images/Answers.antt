@@ -1,4 +1,4 @@
-use Rattle.avr_course.proofs.FlashBytes.{made, done_made, touched_made}
+use Rattle.avr_course.proofs.Memories.FlashBytes.{made, done_made, touched_made}
 use Rattle.avr_course.proofs.written.a_byte_of_flash_is_made_by_images.Goals as goal
 
 pub returns-clause-items : goal.returns-clause-items

@@ -1,4 +1,4 @@
-use Rattle.avr_course.proofs.WrittenCourse.{course_status, course_memories}
+use Rattle.avr_course.proofs.Memories.CourseAgrees.{course_status, course_memories}
 use Rattle.avr_course.proofs.written.a_course_succeeds_where_it_agrees.Goals as goal
 
 pub returns-clause-status : goal.returns-clause-status

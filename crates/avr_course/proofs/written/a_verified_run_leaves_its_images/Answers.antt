@@ -1,6 +1,6 @@
 use Rattle.avr_course.specs.Items.{asked_items}
 use Rattle.avr_course.specs.Written.{written_to}
-use Rattle.avr_course.proofs.WrittenRuns.{run_written, shown_succeeds}
+use Rattle.avr_course.proofs.Memories.VerifiedRuns.{run_written, shown_succeeds}
 use Rattle.avr_course.proofs.written.a_verified_run_leaves_its_images.Goals as goal
 
 pub returns-clause-images : goal.returns-clause-images

@@ -1,4 +1,4 @@
-use Rattle.avr_course.proofs.WrittenThere.{written_there}
+use Rattle.avr_course.proofs.Memories.WrittenThere.{written_there}
 use Rattle.avr_course.proofs.written.what_is_written_is_there.Goals as goal
 
 pub returns : goal.returns

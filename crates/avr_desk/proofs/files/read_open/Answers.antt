@@ -1,4 +1,4 @@
-use Rattle.avr_desk.proofs.ReadingLemmas.{read_piece}
+use Rattle.avr_desk.proofs.FileUses.Pieces.{read_piece}
 use Rattle.avr_desk.proofs.files.read_open.Goals as goal
 
 pub returns-then-is_err-clause-kept : goal.returns-then-is_err-clause-kept

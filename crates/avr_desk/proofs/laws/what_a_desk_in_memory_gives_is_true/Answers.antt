@@ -1,4 +1,4 @@
-use Rattle.avr_desk.proofs.Truths.{all_true, begins_true}
+use Rattle.avr_desk.proofs.Desks.InMemory.{all_true, begins_true}
 use Rattle.avr_desk.proofs.laws.what_a_desk_in_memory_gives_is_true.Goals as goal
 
 pub returns-clause-begins : goal.returns-clause-begins

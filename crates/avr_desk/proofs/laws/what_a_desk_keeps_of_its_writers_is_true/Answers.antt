@@ -1,4 +1,4 @@
-use Rattle.avr_desk.proofs.TrueStreams.{true_now}
+use Rattle.avr_desk.proofs.Desks.TwoWriters.{true_now}
 use Rattle.avr_desk.proofs.laws.what_a_desk_keeps_of_its_writers_is_true.Goals as goal
 
 pub returns : goal.returns

@@ -1,4 +1,4 @@
-use Rattle.avr_desk.proofs.Digits.{four_pairs}
+use Rattle.avr_desk.proofs.Lines.Digits.{four_pairs}
 use Rattle.avr_desk.proofs.line.address_digits.Goals as goal
 
 pub returns : goal.returns

@@ -1,7 +1,7 @@
 use Rattle.std.proofs.Common.{◌≡◌, take}
 use Rattle.avr_desk.specs.Fault.{HasSameCounts}
 use Rattle.avr_desk.specs.Record.{after_err}
-use Rattle.avr_desk.proofs.Pieces.{all_text}
+use Rattle.avr_desk.proofs.Lines.Pieces.{all_text}
 use Rattle.ghosts.specs.Stays.{Stays}
 use Rattle.avr_desk.proofs.line.write_pieces.Given as goal
 

@@ -1,4 +1,4 @@
-use Rattle.avr_desk.proofs.Telling.{tells_line}
+use Rattle.avr_desk.proofs.Lines.Told.{tells_line}
 use Rattle.avr_desk.proofs.message.refuse.Goals as goal
 
 pub returns-clause-told : goal.returns-clause-told

@@ -1,7 +1,7 @@
 use Rattle.std.proofs.Common.{arith, ◌∙◌}
 use Rattle.std.proofs.lemmas.Result.{err_from_is_err_and}
-use Rattle.avr_desk.proofs.Counting.{taken_uncounted}
-use Rattle.avr_desk.proofs.Sending.{sent_on, sent_on_part}
+use Rattle.avr_desk.proofs.Lines.FailureCounts.{taken_uncounted}
+use Rattle.avr_desk.proofs.Lines.SentBytes.{sent_on, sent_on_part}
 use Rattle.avr_desk.proofs.stream.write_all.Goals as goal
 
 pub loop-at-preserved : goal.loop-at-preserved

@@ -1,8 +1,8 @@
 use Rattle.std.proofs.Common.{◌≡◌, ◌∙◌, ap, sym, arith, ◌||◌, ◌<◌, ◌/◌, ℕ, get_or, length, refl, bit_or, Bool, set}
 use Rattle.std.proofs.lemmas.List.{length-set}
 use Rattle.avr_image.specs.Present.{is_present, is_within}
-use Rattle.avr_image.proofs.Masks.{span_word, spans_join, no_span}
-use Rattle.avr_image.proofs.Shown.{same_default}
+use Rattle.avr_image.proofs.Fields.Masks.{span_word, spans_join, no_span}
+use Rattle.avr_image.proofs.Fields.Shown.{same_default}
 use Rattle.avr_image.proofs.bits.mark_span.Goals as goal
 
 pub loop-at-init : goal.loop-at-init

@@ -1,4 +1,4 @@
-use Rattle.avr_image.proofs.Masks.{other_bit}
+use Rattle.avr_image.proofs.Fields.Masks.{other_bit}
 use Rattle.avr_image.proofs.bits.matching.Goals as goal
 
 pub returns-else-wanted : goal.returns-else-wanted

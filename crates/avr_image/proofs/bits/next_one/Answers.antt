@@ -1,4 +1,4 @@
-use Rattle.avr_image.proofs.Masks.{next_is}
+use Rattle.avr_image.proofs.Fields.Masks.{next_is}
 use Rattle.avr_image.proofs.bits.next_one.Goals as goal
 
 pub returns : goal.returns

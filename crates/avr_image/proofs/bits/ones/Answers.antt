@@ -1,4 +1,4 @@
-use Rattle.avr_image.proofs.Masks.{ones_are}
+use Rattle.avr_image.proofs.Fields.Masks.{ones_are}
 use Rattle.avr_image.proofs.bits.ones.Goals as goal
 
 pub returns : goal.returns

@@ -1,6 +1,6 @@
 use Rattle.std.proofs.Common.{◌≡◌, ◌<◌, ◌+◌, ◌-◌, ◌/◌, ◌^◌, ◌∙◌, arith, refl}
 use Rattle.std.proofs.lemmas.List.{length-set}
-use Rattle.avr_image.proofs.Numerals.{none_written, more_written, all_written, digit_left, digit_more, eq_test, ne_test}
+use Rattle.avr_image.proofs.Texts.Digits.{none_written, more_written, all_written, digit_left, digit_more, eq_test, ne_test}
 use Rattle.avr_image.proofs.digits.write_digits.Goals as goal
 
 pub loop-rest-init : goal.loop-rest-init

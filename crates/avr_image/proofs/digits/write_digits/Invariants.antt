@@ -1,5 +1,5 @@
 use Rattle.std.proofs.Common.{◌≡◌, ◌^◌, ◌<◌, ◌≤◌, length}
-use Rattle.avr_image.proofs.Numerals.{IsWritten}
+use Rattle.avr_image.proofs.Texts.Digits.{IsWritten}
 use Rattle.avr_image.proofs.digits.write_digits.Given as goal
 
 abbrev pub decreases-loop-rest : goal.decreases-loop-rest

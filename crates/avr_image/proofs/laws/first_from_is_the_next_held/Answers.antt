@@ -1,4 +1,4 @@
-use Rattle.avr_image.proofs.Walking.{next_held, none_held}
+use Rattle.avr_image.proofs.Lemmas.{next_held, none_held}
 use Rattle.avr_image.proofs.laws.first_from_is_the_next_held.Goals as goal
 
 pub returns-clause-next : goal.returns-clause-next

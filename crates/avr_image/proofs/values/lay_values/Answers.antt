@@ -2,7 +2,7 @@ use Rattle.std.proofs.Common.{◌≡◌, ◌∙◌, ◌∷◌, sym, ap, ap₂, a
 use Rattle.std.proofs.lemmas.Result.{err_from_is_err_and}
 use Rattle.std.proofs.lemmas.Bool.Decides.{nat_tests}
 use Rattle.avr_image.specs.Values.{pieces}
-use Rattle.avr_image.proofs.Immediate.{with_pieces, pieces_front, no_pieces, values_from, piece_bad, piece_good}
+use Rattle.avr_image.proofs.Texts.Values.{with_pieces, pieces_prefix, no_pieces, values_from, piece_bad, piece_good}
 use Rattle.avr_image.proofs.values.lay_values.Goals as goal
 
 pub returns-in_err-lay_value-clause-laid : goal.returns-in_err-lay_value-clause-laid
@@ -13,7 +13,7 @@ returns-in_err-lay_value-clause-laid c =
     let more = c.split_at.result.1.now in
     let p = err_from_is_err_and c.from_residual.result c.from_residual.ensures.1 in
     let first : pieces rest ≡ piece ∷ pieces more =
-    pieces_front rest c.piece_len-len.result c.piece_len-len.ensures.counted c.if-len-gt0.true
+    pieces_prefix rest c.piece_len-len.result c.piece_len-len.ensures.counted c.if-len-gt0.true
     ∙ ap₂ (λ (xs ys : List ℕ). xs ∷ pieces ys) (sym c.split_at.ensures.front) (sym c.split_at.ensures.back) in
     rw (p.1, p.2) (values_from c.args.text.now c.args.image.now _ c.requires
     (omega (arith, kept.count, ap length first))
@@ -27,7 +27,7 @@ loop-rest-preserved-then-len-gt0 c =
     let piece = c.split_at.result.0.now in
     let more = c.split_at.result.1.now in
     let first : pieces rest ≡ piece ∷ pieces more =
-    pieces_front rest c.piece_len-len.result c.piece_len-len.ensures.counted c.if-len-gt0.true
+    pieces_prefix rest c.piece_len-len.result c.piece_len-len.ensures.counted c.if-len-gt0.true
     ∙ ap₂ (λ (xs ys : List ℕ). xs ∷ pieces ys) (sym c.split_at.ensures.front) (sym c.split_at.ensures.back) in
     record {
       size = c.in_ok-lay_value.ensures.size ∙ kept.size;

@@ -1,6 +1,6 @@
 use Rattle.std.proofs.Common.{◌≡◌, ◌+◌, length}
 use Rattle.avr_image.specs.Values.{pieces}
-use Rattle.avr_image.proofs.Immediate.{with_pieces}
+use Rattle.avr_image.proofs.Texts.Values.{with_pieces}
 use Rattle.avr_image.proofs.values.lay_values.Given as goal
 
 abbrev pub decreases-loop-rest : goal.decreases-loop-rest

@@ -1,7 +1,7 @@
 use Rattle.std.proofs.Common.{◌≡◌, ◌<◌, ◌∙◌, ap, arith, get_or, length, ℕ, ◌+◌, min, drop}
 use Rattle.std.specs.Char.{digit_value}
 use Rattle.std.specs.Str.Parse.{digits_value_after}
-use Rattle.avr_image.proofs.Numerals.{value-step, digits-step, lt_test}
+use Rattle.avr_image.proofs.Texts.Digits.{value-step, digits-step, lt_test}
 use Rattle.avr_image.proofs.values.read_number.Goals as goal
 
 pub loop-c-preserved : goal.loop-c-preserved

@@ -1,5 +1,5 @@
 use Rattle.std.proofs.Common.{rules, ◌≡◌, ◌++◌, ◌∷◌, []}
-use Rattle.avr_part.proofs.Judging.{judged_next}
+use Rattle.avr_part.proofs.JudgedParts.{judged_next}
 use Rattle.avr_part.proofs.part_file.judge_all.Goals as goal
 
 pub loop-key-preserved : goal.loop-key-preserved

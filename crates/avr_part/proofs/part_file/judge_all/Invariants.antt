@@ -1,7 +1,7 @@
 use Rattle.std.proofs.Common.{◌≡◌}
 use Rattle.toml.specs.View.{members_view}
 use Rattle.avr_part.specs.PartFile.{parts_in}
-use Rattle.avr_part.proofs.Judging.{onto}
+use Rattle.avr_part.proofs.JudgedParts.{onto}
 use Rattle.avr_part.proofs.part_file.judge_all.Given as goal
 
 abbrev pub invariant-loop-key : goal.invariant-loop-key

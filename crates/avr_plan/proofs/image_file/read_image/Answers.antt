@@ -1,4 +1,4 @@
-use Rattle.avr_plan.proofs.ImageReadings.{image_is_open}
+use Rattle.avr_plan.proofs.Files.Images.{image_is_open}
 use Rattle.avr_plan.proofs.image_file.read_image.Goals as goal
 
 pub returns-in-Ok-clause-read : goal.returns-in-Ok-clause-read

@@ -1,4 +1,4 @@
-use Rattle.avr_plan.proofs.OnlyReading.{only_reads}
+use Rattle.avr_plan.proofs.Stages.OnlyReading.{only_reads}
 use Rattle.avr_plan.proofs.laws.a_plan_only_reads_and_warns.Goals as goal
 
 pub returns : goal.returns

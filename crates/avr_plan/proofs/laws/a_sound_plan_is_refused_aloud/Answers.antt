@@ -1,4 +1,4 @@
-use Rattle.avr_desk.proofs.Breaks.{sound_refusal}
+use Rattle.avr_desk.proofs.Stages.Breaks.{sound_refusal}
 use Rattle.avr_plan.specs.Planning.{planned}
 use Rattle.avr_plan.proofs.laws.a_sound_plan_is_refused_aloud.Goals as goal
 

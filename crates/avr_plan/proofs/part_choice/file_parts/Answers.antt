@@ -1,15 +1,16 @@
 use Rattle.std.proofs.Common.{subst}
 use Rattle.avr_desk.specs.Record.{Bytes}
 use Rattle.avr_part.specs.PartFile.{ReadsOrMemory, parts_of, unplaced}
-use Rattle.avr_plan.proofs.PartStages.{went_parts, goes_bad_parts, goes_long_parts}
-use Rattle.avr_desk.proofs.FileStages.{goes_file_fault}
-use Rattle.avr_desk.proofs.Openings.{breaks_as, counted_as}
+use Rattle.avr_plan.specs.declared.part_choice.TheConstants.{LARGEST_PART_FILE}
+use Rattle.avr_plan.proofs.Stages.Parts.{went_parts, goes_bad_parts, goes_long_parts}
+use Rattle.avr_desk.proofs.Stages.Files.{goes_file_fault}
+use Rattle.avr_desk.proofs.Stages.Openings.{breaks_as, counted_as}
 use Rattle.avr_plan.specs.Planning.{judged_parts}
 use Rattle.avr_plan.proofs.part_choice.file_parts.Goals as goal
 
 pub returns-in-Err-clause-goes : goal.returns-in-Err-clause-goes
 returns-in-Err-clause-goes g c =
-    goes_file_fault c.args.file.now 65536 (judged_parts c.args.file.now) c.in-Err.fault _ _ _ _
+    goes_file_fault c.args.file.now LARGEST_PART_FILE (judged_parts c.args.file.now) c.in-Err.fault _ _ _ _
     (breaks_as _ _ _ c.in-Err.fault c.in-Err.ensures.kept)
     c.in-Err.ensures.counts.0 (counted_as _ _ _ _ c.in-Err.fault c.in-Err.ensures.counts) c.refuse.ensures.status
     (rw c.file_message.ensures at c.refuse.ensures.told)

@@ -1,6 +1,6 @@
 use Rattle.std.proofs.Common.{◌∙◌}
 use Rattle.std.proofs.lemmas.Result.{err_from_is_err_and}
-use Rattle.avr_plan.proofs.Plans.{goes_without_parts, goes_without_part, goes_without_tasks, went_whole_plan, lacks_part}
+use Rattle.avr_plan.proofs.Stages.Plans.{goes_without_parts, goes_without_part, goes_without_tasks, went_whole_plan, lacks_part}
 use Rattle.avr_plan.proofs.planning.plan.Goals as goal
 
 pub returns-in_err-parts-clause-goes : goal.returns-in_err-parts-clause-goes

@@ -1,7 +1,7 @@
 use Rattle.std.proofs.Common.{sym, ap, ◌∙◌, Ok}
 use Rattle.avr_desk.specs.Record.{Bytes}
 use Rattle.avr_plan.specs.declared.planned.Task.TheVariants.{Read}
-use Rattle.avr_desk.proofs.Played.{went_settled, goes_without_memory}
+use Rattle.avr_desk.proofs.Stages.Played.{went_settled, goes_without_memory}
 use Rattle.avr_plan.proofs.planning.read_task.Goals as goal
 
 pub returns-in-Ok-clause-goes : goal.returns-in-Ok-clause-goes

@@ -3,8 +3,8 @@ use Rattle.std.proofs.lemmas.List.{drop_more, drop_all}
 use Rattle.std.proofs.lemmas.List.Elements.{All-append}
 use Rattle.std.proofs.lemmas.Result.{err_from_is_err_and}
 use Rattle.avr_cli.specs.declared.update.Update.{Update}
-use Rattle.avr_desk.proofs.Played.{went_nowhere, goes_without_memory}
-use Rattle.avr_plan.proofs.TaskStages.{goes_with_next, goes_without_next, pushed, all_one}
+use Rattle.avr_desk.proofs.Stages.Played.{went_nowhere, goes_without_memory}
+use Rattle.avr_plan.proofs.Stages.Tasks.{goes_with_next, goes_without_next, pushed, all_one}
 use Rattle.avr_plan.specs.Plan.{IsFitted}
 use Rattle.avr_plan.specs.Planning.{tasks_stage}
 use Rattle.avr_desk.specs.Playing.{Goes}

@@ -1,5 +1,5 @@
 use Rattle.std.proofs.Common.{Ok}
-use Rattle.avr_desk.proofs.Played.{went_into, goes_no_further}
+use Rattle.avr_desk.proofs.Stages.Played.{went_into, goes_no_further}
 use Rattle.avr_plan.specs.Planning.{update_image}
 use Rattle.avr_desk.specs.Stage.{verdict_stage}
 use Rattle.avr_plan.specs.declared.planned.Task.TheVariants.{Verify}

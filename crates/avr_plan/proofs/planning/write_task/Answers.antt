@@ -1,6 +1,6 @@
 use Rattle.std.proofs.Common.{Ok, Err}
-use Rattle.avr_desk.proofs.Played.{went_into, goes_no_further}
-use Rattle.avr_plan.proofs.TaskStages.{goes_writable, goes_read_only}
+use Rattle.avr_desk.proofs.Stages.Played.{went_into, goes_no_further}
+use Rattle.avr_plan.proofs.Stages.Tasks.{goes_writable, goes_read_only}
 use Rattle.avr_plan.specs.Planning.{update_image}
 use Rattle.avr_desk.specs.Stage.{verdict_stage}
 use Rattle.avr_plan.specs.declared.planned.Task.TheVariants.{Write}

@@ -1,5 +1,6 @@
-use Rattle.avr_plan.proofs.ImageStages.{went_image, goes_unwarned, goes_without_image}
-use Rattle.avr_plan.proofs.Sizes.{image-size}
+use Rattle.avr_plan.specs.declared.image_file.TheConstants.{LARGEST_IMAGE_FILE}
+use Rattle.avr_plan.proofs.Stages.Images.{went_image, goes_unwarned, goes_without_image}
+use Rattle.avr_plan.proofs.Files.Sizes.{image-size}
 use Rattle.avr_plan.proofs.update_image.file_image.Goals as goal
 
 pub returns-in-Ok-warn_of_ending-clause-goes : goal.returns-in-Ok-warn_of_ending-clause-goes
@@ -11,7 +12,7 @@ returns-in-Ok-warn_of_ending-clause-goes g c =
 pub returns-in-Ok-warn_of_ending-clause-sized : goal.returns-in-Ok-warn_of_ending-clause-sized
 returns-in-Ok-warn_of_ending-clause-sized g c =
     let reads = c.in-Ok.ensures.read in
-    image-size 4194304 c.args.format reads.bytes c.args.size c.in-Ok.image c.in-Ok.ending reads.gives
+    image-size LARGEST_IMAGE_FILE c.args.format reads.bytes c.args.size c.in-Ok.image c.in-Ok.ending reads.gives
 
 pub returns-in-Err-warn_of_ending-clause-goes : goal.returns-in-Err-warn_of_ending-clause-goes
 returns-in-Err-warn_of_ending-clause-goes g c =

@@ -1,4 +1,4 @@
-use Rattle.avr_plan.proofs.TaskStages.{goes_of_values, goes_of_file}
+use Rattle.avr_plan.proofs.Stages.Tasks.{goes_of_values, goes_of_file}
 use Rattle.avr_plan.proofs.update_image.update_image.Goals as goal
 
 pub returns-in-Immediate-clause-goes : goal.returns-in-Immediate-clause-goes

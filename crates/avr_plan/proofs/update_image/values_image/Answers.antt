@@ -1,4 +1,4 @@
-use Rattle.avr_plan.proofs.ValueStages.{went_values, goes_bad_values}
+use Rattle.avr_plan.proofs.Stages.Values.{went_values, goes_bad_values}
 use Rattle.avr_plan.proofs.update_image.values_image.Goals as goal
 
 pub returns-in-Ok-clause-goes : goal.returns-in-Ok-clause-goes

@@ -1,4 +1,4 @@
-use Rattle.avr_desk.proofs.Played.{went_silent, went_saying, goes_saying_part}
+use Rattle.avr_desk.proofs.Stages.Played.{went_silent, went_saying, goes_saying_part}
 use Rattle.avr_plan.specs.Lines.{no_end_line}
 use Rattle.avr_plan.proofs.update_image.warn_of_ending.Goals as goal
 

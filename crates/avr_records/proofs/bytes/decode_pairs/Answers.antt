@@ -1,4 +1,4 @@
-use Rattle.avr_records.proofs.Decoding.{decoded-ok, decoded-err}
+use Rattle.avr_records.proofs.Texts.Digits.{decoded-ok, decoded-err}
 use Rattle.avr_records.proofs.bytes.decode_pairs.Goals as goal
 
 pub returns-in-Ok : goal.returns-in-Ok

@@ -1,5 +1,5 @@
 use Rattle.std.proofs.Common.{◌∙◌, sym}
-use Rattle.avr_records.proofs.Fronts.{blank-first, shown-first}
+use Rattle.avr_records.proofs.Readers.FirstBytes.{blank-first, shown-first}
 use Rattle.avr_records.proofs.detection.first_shown.Goals as goal
 
 pub returns-in-Some-shown_unless_blank : goal.returns-in-Some-shown_unless_blank

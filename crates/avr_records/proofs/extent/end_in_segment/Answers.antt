@@ -1,7 +1,7 @@
 use Rattle.std.proofs.Common.{arith, ◌-◌, ◌%◌}
 use Rattle.std.proofs.lemmas.List.{take_rest}
-use Rattle.avr_records.proofs.Extents.{ends-at}
-use Rattle.avr_records.proofs.Places.{places-segment, places-wrapped-at}
+use Rattle.avr_records.proofs.Readers.Extents.{ends-at}
+use Rattle.avr_records.proofs.Texts.Places.{places-segment, places-wrapped-at}
 use Rattle.avr_records.proofs.extent.end_in_segment.Goals as goal
 
 pub returns-then-bytes-room : goal.returns-then-bytes-room

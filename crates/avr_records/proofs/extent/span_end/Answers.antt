@@ -1,6 +1,6 @@
 use Rattle.std.proofs.Common.{◌<◌, length, arith}
 use Rattle.std.proofs.lemmas.Bool.Decides.{nat_tests}
-use Rattle.avr_records.proofs.Extents.{span-inside, span-outside}
+use Rattle.avr_records.proofs.Readers.Extents.{span-inside, span-outside}
 use Rattle.avr_records.proofs.extent.span_end.Goals as goal
 
 pub returns-then-bytes-addr : goal.returns-then-bytes-addr

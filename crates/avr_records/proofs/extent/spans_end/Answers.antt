@@ -1,8 +1,8 @@
 use Rattle.std.proofs.Common.{◌∙◌}
 use Rattle.std.specs.List.{enumerate_from}
 use Rattle.avr_records.specs.Needed.{largest}
-use Rattle.avr_records.proofs.Extents.{both-inside}
-use Rattle.avr_records.proofs.Places.{beyond-append, beyond-first}
+use Rattle.avr_records.proofs.Readers.Extents.{both-inside}
+use Rattle.avr_records.proofs.Texts.Places.{beyond-append, beyond-first}
 use Rattle.avr_records.proofs.extent.spans_end.Goals as goal
 
 pub returns-in-Ok-span_end : goal.returns-in-Ok-span_end

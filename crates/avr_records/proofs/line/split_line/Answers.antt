@@ -1,6 +1,6 @@
 use Rattle.std.proofs.Common.{◌+◌}
 use Rattle.std.proofs.lemmas.List.{take_rest}
-use Rattle.avr_records.proofs.Ends.{no_end, first_end}
+use Rattle.avr_records.proofs.Texts.LineEnds.{no_end, first_end}
 use Rattle.avr_records.proofs.line.split_line.Goals as goal
 
 pub returns-in-Some : goal.returns-in-Some

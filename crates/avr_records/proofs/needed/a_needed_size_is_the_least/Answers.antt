@@ -1,4 +1,4 @@
-use Rattle.avr_records.proofs.Needs.{enough, least}
+use Rattle.avr_records.proofs.Readers.NeededSize.{enough, least}
 use Rattle.avr_records.proofs.needed.a_needed_size_is_the_least.Goals as goal
 
 pub returns-clause-enough : goal.returns-clause-enough

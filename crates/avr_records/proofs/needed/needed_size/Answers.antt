@@ -2,7 +2,7 @@ use Rattle.std.proofs.Common.{◌≡◌, ◌+◌, ◌∙◌, ap, sym, arith, ◌
 use Rattle.std.proofs.lemmas.Bool.Decides.{nat_tests}
 use Rattle.std.proofs.lemmas.List.{length-append}
 use Rattle.std.proofs.lemmas.Result.{err_from_is_err_and}
-use Rattle.avr_records.proofs.Extents.{walk-next, walk-ended, walk-fault, walk-last, walk-last-fault, walk-empty}
+use Rattle.avr_records.proofs.Readers.Extents.{walk-next, walk-ended, walk-fault, walk-last, walk-last-fault, walk-empty}
 use Rattle.avr_records.proofs.needed.needed_size.Goals as goal
 
 pub returns-in_err-take_line-clause-size : goal.returns-in_err-take_line-clause-size

@@ -1,6 +1,6 @@
 use Rattle.std.proofs.Common.{◌+◌, ◌≤◌, length}
 use Rattle.avr_records.specs.Extents.{IsNear}
-use Rattle.avr_records.proofs.Extents.{Walked}
+use Rattle.avr_records.proofs.Readers.Extents.{Walked}
 use Rattle.avr_records.proofs.needed.needed_size.Given as goal
 
 abbrev pub invariant-loop-line : goal.invariant-loop-line

@@ -1,4 +1,4 @@
-use Rattle.avr_records.proofs.Places.{lays-at, lays-linear}
+use Rattle.avr_records.proofs.Texts.Places.{lays-at, lays-linear}
 use Rattle.avr_records.proofs.progress.lay.Goals as goal
 
 pub returns-in-Linear-clause-laid : goal.returns-in-Linear-clause-laid

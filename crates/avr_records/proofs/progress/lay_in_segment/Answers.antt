@@ -1,6 +1,6 @@
 use Rattle.std.proofs.Common.{arith, ◌-◌, ◌%◌}
 use Rattle.std.proofs.lemmas.List.{take_rest}
-use Rattle.avr_records.proofs.Places.{lays-at, places-segment, places-wrapped-at}
+use Rattle.avr_records.proofs.Texts.Places.{lays-at, places-segment, places-wrapped-at}
 use Rattle.avr_records.proofs.progress.lay_in_segment.Goals as goal
 
 pub returns-then-bytes-room-clause-laid : goal.returns-then-bytes-room-clause-laid

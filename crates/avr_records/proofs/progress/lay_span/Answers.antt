@@ -1,5 +1,5 @@
 use Rattle.std.proofs.Common.{◌∙◌, ap, ℕ, max}
-use Rattle.avr_records.proofs.Places.{lays-span, leaves-span}
+use Rattle.avr_records.proofs.Texts.Places.{lays-span, leaves-span}
 use Rattle.avr_records.proofs.progress.lay_span.Goals as goal
 
 pub returns-in-Ok-clause-laid : goal.returns-in-Ok-clause-laid

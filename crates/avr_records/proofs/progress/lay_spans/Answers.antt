@@ -1,5 +1,5 @@
 use Rattle.std.specs.List.{enumerate_from}
-use Rattle.avr_records.proofs.Places.{lays-both, leaves-first}
+use Rattle.avr_records.proofs.Texts.Places.{lays-both, leaves-first}
 use Rattle.avr_records.proofs.progress.lay_spans.Goals as goal
 
 pub returns-in-Ok-clause-laid : goal.returns-in-Ok-clause-laid

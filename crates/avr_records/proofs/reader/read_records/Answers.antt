@@ -1,6 +1,6 @@
 use Rattle.std.proofs.Common.{inl}
 use Rattle.std.proofs.lemmas.Result.{err_from_is_err_and}
-use Rattle.avr_records.proofs.Whole.{new-told}
+use Rattle.avr_records.proofs.Readers.WholeFiles.{new-told}
 use Rattle.avr_records.proofs.reader.read_records.Goals as goal
 
 pub returns-in_err-feed-clause-value : goal.returns-in_err-feed-clause-value

@@ -1,5 +1,5 @@
-use Rattle.avr_records.proofs.WrittenSrec.{srec-reads-back}
-use Rattle.avr_records.proofs.WrittenIhex.{ihex-reads-back}
+use Rattle.avr_records.proofs.Writers.Srec.{srec-reads-back}
+use Rattle.avr_records.proofs.Writers.Ihex.{ihex-reads-back}
 use Rattle.avr_records.proofs.round_trip.what_is_written_reads_back.Goals as goal
 
 pub returns-clause-srec : goal.returns-clause-srec

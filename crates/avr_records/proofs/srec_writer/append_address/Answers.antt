@@ -1,7 +1,7 @@
 use Rattle.std.proofs.Common.{◌≡◌, ◌+◌, ◌-◌, ◌++◌, length, ℕ, List, ap, ◌∙◌, arith, take, drop}
 use Rattle.std.proofs.lemmas.List.{length-append, take_all}
 use Rattle.avr_records.specs.Text.{low_bytes}
-use Rattle.avr_records.proofs.Pieces.{low_bytes_is, length_low_bytes}
+use Rattle.avr_records.proofs.Writers.Pieces.{low_bytes_is, length_low_bytes}
 use Rattle.avr_records.proofs.srec_writer.append_address.Goals as goal
 
 pub returns-clause-bytes : goal.returns-clause-bytes

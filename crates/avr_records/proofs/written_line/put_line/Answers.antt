@@ -1,5 +1,5 @@
 use Rattle.std.proofs.Common.{rules, arith}
-use Rattle.avr_records.proofs.WrittenLines.{is-line}
+use Rattle.avr_records.proofs.Writers.Lines.{is-line}
 use Rattle.avr_records.proofs.written_line.put_line.Goals as goal
 
 pub returns-clause-line : goal.returns-clause-line

@@ -1,6 +1,6 @@
 use Rattle.std.proofs.Common.{◌∙◌, ap, arith, set}
 use Rattle.std.specs.Char.{to_ascii_uppercase}
-use Rattle.avr_records.proofs.Pieces.{changed_more}
+use Rattle.avr_records.proofs.Writers.Pieces.{changed_more}
 use Rattle.avr_records.proofs.written_line.raise.Goals as goal
 
 pub loop-digit-preserved : goal.loop-digit-preserved

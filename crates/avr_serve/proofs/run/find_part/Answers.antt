@@ -1,4 +1,4 @@
-use Rattle.avr_serve.proofs.Running.{goes_without_parts, goes_with_parts}
+use Rattle.avr_serve.proofs.ServedRuns.{goes_without_parts, goes_with_parts}
 use Rattle.avr_serve.proofs.run.find_part.Goals as goal
 
 pub returns-in-Err-clause-goes : goal.returns-in-Err-clause-goes

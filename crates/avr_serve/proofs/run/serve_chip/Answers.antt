@@ -1,4 +1,4 @@
-use Rattle.avr_serve.proofs.Running.{serves_chip}
+use Rattle.avr_serve.proofs.ServedRuns.{serves_chip}
 use Rattle.avr_serve.proofs.run.serve_chip.Goals as goal
 
 pub returns-clause-serves : goal.returns-clause-serves

@@ -1,6 +1,6 @@
 use Rattle.std.proofs.Common.{◌+◌, ◌∙◌, refl, arith}
 use Rattle.avr_serve.specs.declared.serving.Served.TheVariants.{TooManyReads}
-use Rattle.avr_serve.proofs.Turns.{serves_none, serves_more, serves_within, fails_more}
+use Rattle.avr_serve.proofs.ReadByRead.{serves_none, serves_more, serves_within, fails_more}
 use Rattle.avr_serve.proofs.serving.answer_all.Goals as goal
 
 pub loop-turn-init : goal.loop-turn-init

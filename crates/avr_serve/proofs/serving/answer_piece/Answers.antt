@@ -1,7 +1,7 @@
 use Rattle.std.proofs.Common.{◌∙◌, refl, arith}
 use Rattle.std.proofs.lemmas.Result.{err_from_is_err_and}
-use Rattle.stk_host.proofs.Sending.{behind, part_fits}
-use Rattle.avr_serve.proofs.Replying.{replies_none, replies_more, replies_part}
+use Rattle.stk_host.proofs.Talks.Sending.{behind, part_fits}
+use Rattle.avr_serve.proofs.Replies.{replies_none, replies_more, replies_part}
 use Rattle.avr_serve.proofs.serving.answer_piece.Goals as goal
 
 pub loop-used-init : goal.loop-used-init

@@ -1,5 +1,5 @@
 use Rattle.std.proofs.Common.{◌++◌, List, ℕ, [], refl, sym, ap, ◌∙◌, append-nil, arith}
-use Rattle.avr_desk.proofs.Sending.{sent_none}
+use Rattle.avr_desk.proofs.Lines.SentBytes.{sent_none}
 use Rattle.avr_session.proofs.file_text.make_room.Goals as goal
 
 pub returns-then-count-room-clause-sent : goal.returns-then-count-room-clause-sent

@@ -5,7 +5,7 @@ use Rattle.avr_desk.specs.Record.{Record, showing}
 use Rattle.avr_desk.specs.Stream.{after_sent, SendsPart}
 use Rattle.avr_desk.specs.declared.desk.DeskFault.{DeskFault}
 use Rattle.avr_desk.specs.declared.stream.Stream.{Stream}
-use Rattle.avr_desk.proofs.Sending.{sent_next, sent_next_part, sent_none}
+use Rattle.avr_desk.proofs.Lines.SentBytes.{sent_next, sent_next_part, sent_none}
 use Rattle.avr_session.proofs.file_text.write_pieces.Goals as goal
 
 none_left : (xs : List ℕ) (more : Bool) → more ≡ false → (0 < length xs → IsTrue more) → xs ≡ []
@@ -16,7 +16,7 @@ put_whole : {A E P : Type 0} (r : Result A E) → IsOk r → OnOk r P → P
 put_whole (Ok a) good put = put
 put_whole (Err e) good put = cc
 
--- a piece was put behind what waits, of which a front may have gone before
+-- a piece was put after what waits, of which a prefix may have gone before
 behind : (all done waiting piece rest sent waits next more : List ℕ) → all ≡ done ++ (waiting ++ rest)
     → rest ≡ piece ++ more → waiting ≡ sent ++ waits → next ≡ waits ++ piece → all ≡ (done ++ sent) ++ (next ++ more)
 behind all done waiting piece rest sent waits next more first second third fourth =

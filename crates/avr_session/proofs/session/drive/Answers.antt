@@ -1,4 +1,4 @@
-use Rattle.avr_session.proofs.Outcomes.{comes_runs}
+use Rattle.avr_session.proofs.Runs.Outcomes.{comes_runs}
 use Rattle.avr_session.proofs.session.drive.Goals as goal
 
 pub returns-clause-runs : goal.returns-clause-runs

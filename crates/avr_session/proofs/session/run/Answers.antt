@@ -1,6 +1,6 @@
 use Rattle.std.proofs.Common.{inl, inr, refl}
-use Rattle.avr_desk.proofs.Played.{goes_follows}
-use Rattle.avr_desk.proofs.Telling.{follows_on}
+use Rattle.avr_desk.proofs.Stages.Played.{goes_follows}
+use Rattle.avr_desk.proofs.Lines.Told.{follows_on}
 use Rattle.avr_plan.specs.Planning.{planned}
 use Rattle.avr_session.proofs.session.run.Goals as goal
 

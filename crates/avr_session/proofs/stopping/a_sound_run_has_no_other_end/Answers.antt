@@ -1,4 +1,4 @@
-use Rattle.avr_session.proofs.SoundRuns.{perfect_is_0, waiting_is_no_run, nothing_is_no_run}
+use Rattle.avr_session.proofs.Runs.SoundDevices.{perfect_is_0, waiting_is_no_run, nothing_is_no_run}
 use Rattle.avr_session.proofs.stopping.a_sound_run_has_no_other_end.Goals as goal
 
 pub returns-clause-perfect : goal.returns-clause-perfect

@@ -1,4 +1,4 @@
-use Rattle.avr_session.proofs.SoundRuns.{sound_run, exact_run}
+use Rattle.avr_session.proofs.Runs.SoundDevices.{sound_run, exact_run}
 use Rattle.avr_session.proofs.stopping.a_sound_run_is_played.Goals as goal
 
 pub returns-clause-played : goal.returns-clause-played

@@ -1,4 +1,4 @@
-use Rattle.avr_session.proofs.SoundRuns.{told_once, told_aloud, no_memory, its_own_file, its_own_text, half_a_line}
+use Rattle.avr_session.proofs.Runs.SoundDevices.{told_once, told_aloud, no_memory, its_own_file, its_own_text, half_a_line}
 use Rattle.avr_session.proofs.stopping.a_stop_tells_its_cause.Goals as goal
 
 pub returns-clause-once : goal.returns-clause-once

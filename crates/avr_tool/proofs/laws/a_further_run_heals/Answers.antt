@@ -1,4 +1,4 @@
-use Rattle.avr_tool.proofs.Further.{further_heals, further_heals_link}
+use Rattle.avr_tool.proofs.ChipFile.FewBadThenAgain.{further_heals, further_heals_link}
 use Rattle.avr_tool.proofs.laws.a_further_run_heals.Goals as goal
 
 pub returns-clause-wire : goal.returns-clause-wire

@@ -1,4 +1,4 @@
-use Rattle.avr_tool.proofs.MadeFrame.{made_done, promise_void, frame_made}
+use Rattle.avr_tool.proofs.Lines.MadeFrame.{made_done, promise_void, frame_made}
 use Rattle.avr_tool.proofs.laws.a_made_frame_voids_the_promise.Goals as goal
 
 pub returns-clause-ends : goal.returns-clause-ends

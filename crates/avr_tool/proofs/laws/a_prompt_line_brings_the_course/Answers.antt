@@ -1,4 +1,4 @@
-use Rattle.avr_tool.proofs.TwoProcesses.{one_course}
+use Rattle.avr_tool.proofs.TwoProcesses.Sessions.{one_course}
 use Rattle.avr_tool.proofs.laws.a_prompt_line_brings_the_course.Goals as goal
 
 pub returns : goal.returns

@@ -1,5 +1,5 @@
-use Rattle.avr_tool.proofs.ChipFound.{chip_found}
-use Rattle.avr_tool.proofs.ChipAgain.{chip_left}
+use Rattle.avr_tool.proofs.ChipFile.Found.{chip_found}
+use Rattle.avr_tool.proofs.ChipFile.SecondRun.{chip_left}
 use Rattle.avr_tool.proofs.laws.a_run_finds_and_leaves_the_chip_of_its_file.Goals as goal
 
 pub returns-clause-finds : goal.returns-clause-finds

@@ -1,4 +1,4 @@
-use Rattle.avr_tool.proofs.OneOutcome.{absent_leaves, one_outcome, worked_leaves}
+use Rattle.avr_tool.proofs.KnownFiles.OneOutcome.{absent_leaves, one_outcome, worked_leaves}
 use Rattle.avr_tool.proofs.laws.a_run_in_memory_has_one_outcome.Goals as goal
 
 pub returns-clause-one : goal.returns-clause-one

@@ -1,4 +1,4 @@
-use Rattle.avr_tool.proofs.Joining.{is_run}
+use Rattle.avr_tool.proofs.Runs.Joined.{is_run}
 use Rattle.avr_tool.proofs.laws.a_run_is_one_function.Goals as goal
 
 pub returns : goal.returns

@@ -1,5 +1,5 @@
 use Rattle.std.proofs.Common.{refl, sym}
-use Rattle.avr_course.proofs.SaidToFault.{session_succeeds}
+use Rattle.avr_course.proofs.Reports.UpToFault.{session_succeeds}
 use Rattle.avr_tool.proofs.laws.a_run_of_status_0_is_its_course.Goals as goal
 
 pub returns-clause-status : goal.returns-clause-status

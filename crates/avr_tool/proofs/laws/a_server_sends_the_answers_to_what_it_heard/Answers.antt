@@ -1,4 +1,4 @@
-use Rattle.avr_tool.proofs.Meeting.{has_served}
+use Rattle.avr_tool.proofs.TwoProcesses.Meeting.{has_served}
 use Rattle.avr_tool.proofs.laws.a_server_sends_the_answers_to_what_it_heard.Goals as goal
 use Rattle.std.proofs.Common.{sym}
 

@@ -1,4 +1,4 @@
-use Rattle.avr_tool.proofs.TwoProcesses.{one_run, stalling, saved_chip}
+use Rattle.avr_tool.proofs.TwoProcesses.Sessions.{one_run, stalling, saved_chip}
 use Rattle.avr_tool.proofs.laws.a_session_and_a_server_are_one_run.Goals as goal
 
 pub returns-clause-between : goal.returns-clause-between

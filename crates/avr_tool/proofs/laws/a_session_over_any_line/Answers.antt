@@ -1,4 +1,4 @@
-use Rattle.avr_tool.proofs.OverTalk.{over_any_line, over_bytes, over_ordered, over_any_end}
+use Rattle.avr_tool.proofs.Lines.AnyLink.{over_any_line, over_bytes, over_ordered, over_any_end}
 use Rattle.avr_tool.proofs.laws.a_session_over_any_line.Goals as goal
 
 pub returns-clause-turns : goal.returns-clause-turns
@@ -10,9 +10,9 @@ returns-clause-bytes c = λ plan s got bytes through tape left events status nex
     over_bytes plan s sound part fitted got bytes through tape came none left events status next is sent
 
 pub returns-clause-ordered : goal.returns-clause-ordered
-returns-clause-ordered c = λ plan s got later bytes tape left events status next sound part fitted front none is sent.
-    over_ordered plan s sound part fitted got later bytes tape left events status next front none is sent
+returns-clause-ordered c = λ plan s got later bytes tape left events status next sound part fitted prefix none is sent.
+    over_ordered plan s sound part fitted got later bytes tape left events status next prefix none is sent
 
 pub returns-clause-end : goal.returns-clause-end
-returns-clause-end c = λ plan s becames bytes tape sound part fitted honest front.
-    over_any_end plan s sound part fitted tape becames honest bytes front
+returns-clause-end c = λ plan s becames bytes tape sound part fitted honest prefix.
+    over_any_end plan s sound part fitted tape becames honest bytes prefix

@@ -1,4 +1,4 @@
-use Rattle.avr_tool.proofs.Further.{sound_course, sound_images}
+use Rattle.avr_tool.proofs.ChipFile.FewBadThenAgain.{sound_course, sound_images}
 use Rattle.avr_tool.proofs.laws.a_sound_run_is_its_course.Goals as goal
 
 pub returns-clause-course : goal.returns-clause-course

@@ -1,4 +1,4 @@
-use Rattle.avr_tool.proofs.Refusing.{another_status, another_frame, another_line}
+use Rattle.avr_tool.proofs.Runs.Refused.{another_status, another_frame, another_line}
 use Rattle.avr_tool.proofs.laws.a_worked_run_has_one_outcome.Goals as goal
 
 pub returns-clause-status : goal.returns-clause-status

@@ -1,4 +1,4 @@
-use Rattle.avr_tool.proofs.WorkedLine.{worked_ordered, worked_stalls, worked_answered, within_refused, lost_refused, early_refused}
+use Rattle.avr_tool.proofs.Lines.Rows.{worked_ordered, worked_stalls, worked_answered, within_refused, lost_refused, early_refused}
 use Rattle.avr_tool.proofs.laws.an_ordered_line_cuts_and_stalls.Goals as goal
 
 pub returns-clause-ordered : goal.returns-clause-ordered

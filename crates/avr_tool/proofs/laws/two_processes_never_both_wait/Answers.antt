@@ -1,5 +1,5 @@
 use Rattle.avr_tool.specs.TwoProcesses.{of_host, of_server}
-use Rattle.avr_tool.proofs.TwoProcesses.{never_both}
+use Rattle.avr_tool.proofs.TwoProcesses.Sessions.{never_both}
 use Rattle.avr_tool.proofs.laws.two_processes_never_both_wait.Goals as goal
 
 pub returns : goal.returns

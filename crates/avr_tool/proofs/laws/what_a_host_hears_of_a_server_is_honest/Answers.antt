@@ -1,4 +1,4 @@
-use Rattle.avr_tool.proofs.TwoProcesses.{honest, leaves}
+use Rattle.avr_tool.proofs.TwoProcesses.Sessions.{honest, leaves}
 use Rattle.avr_tool.proofs.laws.what_a_host_hears_of_a_server_is_honest.Goals as goal
 
 pub returns-clause-honest : goal.returns-clause-honest

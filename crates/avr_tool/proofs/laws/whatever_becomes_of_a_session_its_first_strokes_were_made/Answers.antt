@@ -1,4 +1,4 @@
-use Rattle.avr_tool.proofs.OverTalk.{over_any_run}
+use Rattle.avr_tool.proofs.Lines.AnyLink.{over_any_run}
 use Rattle.avr_tool.proofs.laws.whatever_becomes_of_a_session_its_first_strokes_were_made.Goals as goal
 
 pub returns : goal.returns

@@ -1,4 +1,4 @@
-use Rattle.avr_tool.proofs.TwoProcesses.{any_run}
+use Rattle.avr_tool.proofs.TwoProcesses.Sessions.{any_run}
 use Rattle.avr_tool.proofs.laws.whatever_becomes_of_both_some_strokes_were_made.Goals as goal
 
 pub returns : goal.returns

@@ -1,5 +1,5 @@
-use Rattle.stk_host.proofs.Streams.{true_now}
-use Rattle.avr_tool.proofs.Untaken.{untaken}
+use Rattle.stk_host.proofs.Talks.Streams.{true_now}
+use Rattle.avr_tool.proofs.Runs.Untaken.{untaken}
 use Rattle.avr_tool.proofs.program.run_words.Goals as goal
 
 pub returns-in-Err-Words-clause-runs : goal.returns-in-Err-Words-clause-runs

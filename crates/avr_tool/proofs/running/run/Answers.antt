@@ -1,4 +1,4 @@
-use Rattle.avr_tool.proofs.Joining.{is_run}
+use Rattle.avr_tool.proofs.Runs.Joined.{is_run}
 use Rattle.avr_tool.proofs.running.run.Goals as goal
 
 pub returns-clause-runs : goal.returns-clause-runs

@@ -1,5 +1,5 @@
-use Rattle.stk_host.proofs.OfTape.{of_tape_now}
-use Rattle.avr_tool.proofs.InMemory.{run_is_over_tape}
+use Rattle.stk_host.proofs.Tapes.TapeLinks.{of_tape_now}
+use Rattle.avr_tool.proofs.KnownFiles.RunsInMemory.{run_is_over_tape}
 use Rattle.avr_tool.proofs.running.run_in_memory.Goals as goal
 
 pub returns-clause-leaves : goal.returns-clause-leaves

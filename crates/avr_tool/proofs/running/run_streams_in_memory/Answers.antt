@@ -1,5 +1,5 @@
-use Rattle.stk_host.proofs.Streams.{true_now}
-use Rattle.avr_tool.proofs.InMemory.{run_is_over_streams}
+use Rattle.stk_host.proofs.Talks.Streams.{true_now}
+use Rattle.avr_tool.proofs.KnownFiles.RunsInMemory.{run_is_over_streams}
 use Rattle.avr_tool.proofs.running.run_streams_in_memory.Goals as goal
 
 pub returns-clause-tells : goal.returns-clause-tells

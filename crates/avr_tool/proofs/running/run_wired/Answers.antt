@@ -1,5 +1,5 @@
 use Rattle.std.proofs.Common.{inl, inr}
-use Rattle.avr_tool.proofs.OverWire.{is_fresh, runs_over_wire, runs_nowhere}
+use Rattle.avr_tool.proofs.Lines.Wires.{is_fresh, runs_over_wire, runs_nowhere}
 use Rattle.avr_tool.proofs.running.run_wired.Goals as goal
 
 pub drive_wired-requires : goal.drive_wired-requires

@@ -1,6 +1,6 @@
 use Rattle.std.proofs.Common.{◌≡◌, ◌+◌, ◌-◌, length}
 use Rattle.stk_emu.specs.Programmer.{eeprom_looks}
-use Rattle.stk_emu.proofs.Blocks.{LooksOn}
+use Rattle.stk_emu.proofs.Memories.Blocks.{LooksOn}
 use Rattle.stk_emu.proofs.eeprom.read.Given as goal
 
 abbrev pub invariant-loop-place : goal.invariant-loop-place

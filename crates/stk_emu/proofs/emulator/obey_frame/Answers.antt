@@ -1,6 +1,6 @@
 use Rattle.std.proofs.Common.{◌≡◌, ap, ◌∙◌}
 use Rattle.stk_emu.specs.Programmer.{obey}
-use Rattle.stk_emu.proofs.Bodies.{obey_body}
+use Rattle.stk_emu.proofs.Answers.BodySizes.{obey_body}
 use Rattle.stk_emu.proofs.emulator.obey_frame.Goals as goal
 
 pub put_frame-requires-clause-some : goal.put_frame-requires-clause-some

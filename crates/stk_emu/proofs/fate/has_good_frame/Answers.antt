@@ -1,5 +1,5 @@
 use Rattle.std.proofs.Common.{refl, arith, length-drop}
-use Rattle.stk_emu.proofs.NoiseCuts.{noise_next, good_next}
+use Rattle.stk_emu.proofs.Wires.NoiseCuts.{noise_next, good_next}
 use Rattle.stk_emu.proofs.fate.has_good_frame.Goals as goal
 
 pub loop-at-preserved : goal.loop-at-preserved

@@ -1,6 +1,6 @@
 use Rattle.std.proofs.Common.{◌≡◌, ◌<◌, ◌%◌, ◌++◌, ◌∙◌, refl, sym, ap, arith, length-append}
 use Rattle.std.proofs.lemmas.Bool.Decides.{nat_tests}
-use Rattle.stk_emu.proofs.AtOnce.{block_is_looks, block_length}
+use Rattle.stk_emu.proofs.Memories.BlocksAtOnce.{block_is_looks, block_length}
 use Rattle.stk_emu.proofs.flash.read_at_once.Goals as goal
 
 pub put_behind-requires : goal.put_behind-requires

@@ -1,6 +1,6 @@
 use Rattle.std.proofs.Common.{◌≡◌, ◌+◌, ◌-◌, length}
 use Rattle.stk_emu.specs.Programmer.{flash_looks}
-use Rattle.stk_emu.proofs.Blocks.{LooksOn}
+use Rattle.stk_emu.proofs.Memories.Blocks.{LooksOn}
 use Rattle.stk_emu.proofs.flash.read_in_turn.Given as goal
 
 abbrev pub invariant-loop-place : goal.invariant-loop-place

@@ -1,6 +1,6 @@
 use Rattle.std.proofs.Common.{arith}
 use Rattle.std.proofs.Math.ListN.{length-set}
-use Rattle.stk_emu.proofs.Waits.{taken_next}
+use Rattle.stk_emu.proofs.Wires.Waiting.{taken_next}
 use Rattle.stk_emu.proofs.segment.take_bytes.Goals as goal
 
 pub loop-count-preserved : goal.loop-count-preserved

@@ -1,6 +1,6 @@
 use Rattle.std.proofs.Common.{◌≡◌, ap, ◌∙◌, arith}
 use Rattle.stk_frame.specs.Cut.{piece_size}
-use Rattle.stk_frame.proofs.Feeding.{from_part, from_skip, from_frame}
+use Rattle.stk_frame.proofs.FedReaders.{from_part, from_skip, from_frame}
 use Rattle.stk_frame.proofs.reader.end_piece.Goals as goal
 
 pub returns-then-len-size_of_piece-clause-fed : goal.returns-then-len-size_of_piece-clause-fed

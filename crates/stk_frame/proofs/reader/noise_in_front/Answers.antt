@@ -1,4 +1,4 @@
-use Rattle.stk_frame.proofs.Feeding.{fed_up_to}
+use Rattle.stk_frame.proofs.FedReaders.{fed_up_to}
 use Rattle.stk_frame.proofs.reader.noise_in_front.Goals as goal
 
 pub returns-clause-fed : goal.returns-clause-fed

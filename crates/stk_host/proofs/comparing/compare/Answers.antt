@@ -2,9 +2,8 @@ use Rattle.std.proofs.Common.{◌≡◌, ◌∙◌, ap, sym, refl, arith, length
 use Rattle.std.proofs.lemmas.Result.{err_from_is_err_and}
 use Rattle.std.proofs.lemmas.List.{length-take-le}
 use Rattle.avr_image.specs.Runs.{runs}
-use Rattle.avr_image.proofs.RunWalk.{runs-end}
 use Rattle.stk_host.specs.Operations.{differs, difference_from}
-use Rattle.stk_host.proofs.Differences.{held_as, among, none_differs, passes_run, ends_behind, rest_is, error_differs, whole_is}
+use Rattle.stk_host.proofs.ImagePlaces.Differences.{held_as, among, none_differs, passes_run, ends_behind, runs_end, rest_is, error_differs, whole_is}
 use Rattle.stk_host.proofs.comparing.compare.Goals as goal
 
 pub loop-addr-init : goal.loop-addr-init
@@ -15,8 +14,7 @@ loop-addr-init c =
     length-take-le c.size.result c.args.bytes.now (omega (arith, c.size.ensures, c.requires)) in
     record {
       whole = refl;
-      inside = rw (into, size)
-          (runs-end c.size.result 0 c.args.image.now (omega (arith, c.size.ensures)));
+      inside = rw (into, size) (runs_end c.size.result c.args.image.now c.size.ensures);
     }
 
 pub loop-addr-preserved : goal.loop-addr-preserved

@@ -1,6 +1,5 @@
 use Rattle.std.proofs.Common.{◌≡◌, length}
-use Rattle.avr_image.proofs.RunWalk.{EndBy}
-use Rattle.stk_host.proofs.Differences.{among}
+use Rattle.stk_host.proofs.ImagePlaces.Differences.{EndBy, among}
 use Rattle.stk_host.proofs.comparing.compare.Given as goal
 
 abbrev pub invariant-loop-addr : goal.invariant-loop-addr

@@ -1,5 +1,5 @@
 use Rattle.std.proofs.Common.{◌∙◌, arith, eq-eqb}
-use Rattle.stk_host.proofs.Differences.{run_goes_on}
+use Rattle.stk_host.proofs.ImagePlaces.Differences.{run_goes_on}
 use Rattle.stk_host.proofs.comparing.compare_run.Goals as goal
 
 pub loop-i-preserved : goal.loop-i-preserved

@@ -1,6 +1,6 @@
 use Rattle.std.proofs.Common.{◌≡◌, ◌+◌, drop}
 use Rattle.stk_host.specs.Operations.{difference_from}
-use Rattle.stk_host.proofs.Differences.{held_as}
+use Rattle.stk_host.proofs.ImagePlaces.Differences.{held_as}
 use Rattle.stk_host.proofs.comparing.compare_run.Given as goal
 
 abbrev pub invariant-loop-i : goal.invariant-loop-i

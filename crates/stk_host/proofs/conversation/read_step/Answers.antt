@@ -1,6 +1,6 @@
 use Rattle.std.proofs.Common.{[], refl, length-append, rules}
 use Rattle.std.proofs.lemmas.Result.{err_from_is_err_and}
-use Rattle.stk_host.proofs.Going.{counted_data, goes_with, stops_with}
+use Rattle.stk_host.proofs.Operations.Steps.{counted_data, goes_with, stops_with}
 use Rattle.stk_host.proofs.conversation.read_step.Goals as goal
 
 pub append-requires : goal.append-requires

@@ -3,7 +3,7 @@ use Rattle.stk_host.specs.WriteSteps.{write_steps}
 use Rattle.stk_host.specs.ReadSteps.{read_steps}
 use Rattle.stk_host.specs.Operations.{opening, closing, no_result, comparison, erasing, writing, reading, verifying}
 use Rattle.stk_host.specs.Bound.{opening_steps, erasing_steps, closing_steps}
-use Rattle.stk_host.proofs.Bounds.{bounded, play_most, operation_most, opening_most, closing_most, writing_most}
+use Rattle.stk_host.proofs.Dialogs.Questions.{bounded, play_most, operation_most, opening_most, closing_most, writing_most}
 use Rattle.stk_host.proofs.laws.a_call_sends_at_most_four_times_its_commands.Goals as goal
 
 pub returns-clause-plays : goal.returns-clause-plays

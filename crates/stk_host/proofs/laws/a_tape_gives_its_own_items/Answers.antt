@@ -1,4 +1,4 @@
-use Rattle.stk_host.proofs.OfTape.{of_tape_now}
+use Rattle.stk_host.proofs.Tapes.TapeLinks.{of_tape_now}
 use Rattle.stk_host.proofs.laws.a_tape_gives_its_own_items.Goals as goal
 
 pub returns : goal.returns

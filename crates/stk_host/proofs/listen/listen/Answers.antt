@@ -1,6 +1,6 @@
 use Rattle.std.proofs.Common.{refl, arith, rules}
 use Rattle.std.proofs.lemmas.Result.{err_from_is_err_and}
-use Rattle.stk_host.proofs.Listens.{Listening, begins, heard_bytes, heard_silence, heard_end, reads_on, finds, babbles, hears_none}
+use Rattle.stk_host.proofs.Talks.Listening.{Listening, begins, heard_bytes, heard_silence, heard_end, reads_on, finds, babbles, hears_none}
 use Rattle.stk_host.proofs.listen.listen.Goals as goal
 use Rattle.stk_host.proofs.listen.listen.Goals.{then-is_empty+in_ok-hear+in-Bytes, else-is_empty}
 
@@ -16,7 +16,7 @@ loop-count-init g c = record {
 
 pub returns-in-Silence-clause-hears : goal.returns-in-Silence-clause-hears
 returns-in-Silence-clause-hears g c = record {
-  ok = heard_silence _ _ _ c.loop-count.invariant.listening (c.is_empty.ensures.0 c.if-is_empty.true) (omega arith)
+  ok = heard_silence c.loop-count.invariant.listening (c.is_empty.ensures.0 c.if-is_empty.true) (omega arith)
       c.in-Silence.is c.in_ok-hear.ensures.hears.ok;
   holds = search rules;
   err = search rules;
@@ -26,7 +26,7 @@ returns-in-Silence-clause-hears g c = record {
 
 pub returns-in-End-clause-hears : goal.returns-in-End-clause-hears
 returns-in-End-clause-hears g c = record {
-  ok = heard_end _ _ _ c.loop-count.invariant.listening (c.is_empty.ensures.0 c.if-is_empty.true) (omega arith)
+  ok = heard_end c.loop-count.invariant.listening (c.is_empty.ensures.0 c.if-is_empty.true) (omega arith)
       c.in-End.is c.in_ok-hear.ensures.hears.ok;
   holds = search rules;
   err = search rules;
@@ -40,7 +40,7 @@ returns-in_err-hear-clause-hears g c = record {
   holds = search rules;
   err =
       let p = err_from_is_err_and c.from_residual.result c.from_residual.ensures.1 in
-      rw p.1 (hears_none _ c.loop-count.invariant.listening (c.is_empty.ensures.0 c.if-is_empty.true) (omega arith)
+      rw p.1 (hears_none c.loop-count.invariant.listening (c.is_empty.ensures.0 c.if-is_empty.true) (omega arith)
       c.in_err-hear.ensures.hears.err);
   counts = search rules;
   fits = search rules;
@@ -53,7 +53,7 @@ returns-then-is_answer-clause-hears g c = record {
       c.loop-count.count c.if-is_empty.unread (g.L.Link.view c.if-is_empty.link) =
       elim c.if-is_empty.branch [
         | then-is_empty+in_ok-hear+in-Bytes w ↦ rw (w.unread-is, w.link-is)
-            (heard_bytes _ _ _ _ c.loop-count.invariant.listening (c.is_empty.ensures.0 w.if-is_empty.true)
+            (heard_bytes c.loop-count.invariant.listening (c.is_empty.ensures.0 w.if-is_empty.true)
             (omega arith) (omega (arith, w.in_ok-hear.ensures.hears.within)) w.in-Bytes.is
             w.in_ok-hear.ensures.hears.ok)
         | else-is_empty w ↦ rw (w.unread-is, w.link-is) c.loop-count.invariant.listening
@@ -72,7 +72,7 @@ loop-count-preserved g c =
     c.loop-count.count c.if-is_empty.unread (g.L.Link.view c.if-is_empty.link) =
     elim c.if-is_empty.branch [
       | then-is_empty+in_ok-hear+in-Bytes w ↦ rw (w.unread-is, w.link-is)
-          (heard_bytes _ _ _ _ c.loop-count.invariant.listening (c.is_empty.ensures.0 w.if-is_empty.true) (omega arith)
+          (heard_bytes c.loop-count.invariant.listening (c.is_empty.ensures.0 w.if-is_empty.true) (omega arith)
           (omega (arith, w.in_ok-hear.ensures.hears.within)) w.in-Bytes.is w.in_ok-hear.ensures.hears.ok)
       | else-is_empty w ↦ rw (w.unread-is, w.link-is) c.loop-count.invariant.listening
     ] in

@@ -7,14 +7,14 @@ use Rattle.stk_host.specs.Talk.{LinkView}
 use Rattle.stk_host.specs.Dialog.{Dialog, ◌>>=◌}
 use Rattle.stk_host.specs.Play.{Position, PlaysOver}
 use Rattle.stk_host.specs.Reach.{Reaches}
-use Rattle.stk_host.specs.Steps.{Outcome, if_done, step, play}
+use Rattle.stk_host.specs.Steps.{StepOutcome, if_done, step, play}
 use Rattle.stk_host.specs.ReadSteps.{signature_steps}
 use Rattle.stk_host.specs.Operations.{handshake}
-use Rattle.stk_host.proofs.Reaching.{reaches_on}
-use Rattle.stk_host.proofs.Ends.{stops_on, stops_there, goes_on, play_on, play_stops, play_done}
+use Rattle.stk_host.proofs.Talks.Reached.{reaches_on}
+use Rattle.stk_host.proofs.Operations.StepEnds.{stops_on, stops_there, goes_on, play_on, play_stops, play_done}
 use Rattle.stk_host.proofs.opening.begin.Goals as goal
 
-entering : Dialog ⊥ Outcome
+entering : Dialog ⊥ StepOutcome
 entering = step (enter ∷ []) >>= if_done (λ nothing. play signature_steps [])
 
 -- after SIGN_ON

@@ -2,8 +2,8 @@ use Rattle.std.proofs.Common.{refl, ap, arith, length, [], rules}
 use Rattle.std.proofs.lemmas.Result.{err_from_is_err_and}
 use Rattle.avr_part.specs.Part.{size_of}
 use Rattle.stk_host.specs.ReadSteps.{block_count, block_steps}
-use Rattle.stk_host.proofs.Going.{begins_at, reaches_next, stops_next, plays_all}
-use Rattle.stk_host.proofs.Pages.{next_block_is, no_more}
+use Rattle.stk_host.proofs.Operations.Steps.{begins_at, reaches_next, stops_next, plays_all}
+use Rattle.stk_host.proofs.ImagePlaces.PagesAndRuns.{next_block_is, no_more}
 use Rattle.stk_host.proofs.reading.read_blocks.Goals as goal
 
 pub loop-block-init : goal.loop-block-init
@@ -22,9 +22,9 @@ returns-in_err-read_step-clause-asks g c = record {
   played =
       let p = err_from_is_err_and c.from_residual.result c.from_residual.ensures.1 in
       let before = rw c.size_of-size.ensures.value at c.loop-block-test.true in
-      rw (p.1, p.2) (stops_next _ _ _ _ _ _ [] _ c.loop-block.invariant.reaches
+      rw (p.1, p.2) (stops_next _ c.loop-block.invariant.reaches
       (next_block_is _ _ _ _ _ _ _ _ before c.load_block-load.ensures.value c.read_block-read.ensures.value
-      c.block_size.ensures c.size_of-size.ensures.value) c.in_err-read_step.ensures.asks.played);
+      c.block_size.ensures c.size_of-size.ensures.value) _ _ _ c.in_err-read_step.ensures.asks.played);
   counted = search rules;
   bound = search rules;
 }
@@ -33,9 +33,9 @@ pub loop-block-preserved : goal.loop-block-preserved
 loop-block-preserved g c =
     let before = rw c.size_of-size.ensures.value at c.loop-block-test.true in
     record {
-      reaches = reaches_next _ _ _ _ _ c.loop-block.invariant.reaches
+      reaches = reaches_next _ c.loop-block.invariant.reaches
           (next_block_is _ _ _ _ _ _ _ _ before c.load_block-load.ensures.value c.read_block-read.ensures.value
-          c.block_size.ensures c.size_of-size.ensures.value) c.in_ok-read_step.ensures.asks.played;
+          c.block_size.ensures c.size_of-size.ensures.value) _ c.in_ok-read_step.ensures.asks.played;
       size = omega (
         arith,
         c.in_ok-read_step.ensures.size,
@@ -55,7 +55,7 @@ pub returns-clause-asks : goal.returns-clause-asks
 returns-clause-asks g c = record {
   played =
       let past = rw c.size_of-size.ensures.value at c.loop-block-test.false in
-      plays_all _ _ c.loop-block.invariant.reaches (no_more (block_steps c.args.part.now c.args.mem) _ _ past);
+      plays_all c.loop-block.invariant.reaches (no_more (block_steps c.args.part.now c.args.mem) _ _ past);
   counted = search rules;
   bound = search rules;
 }

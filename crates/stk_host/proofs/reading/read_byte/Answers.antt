@@ -1,5 +1,5 @@
 use Rattle.std.proofs.Common.{[], ◌∷◌, rules}
-use Rattle.stk_host.proofs.Going.{alone_first}
+use Rattle.stk_host.proofs.Operations.Steps.{alone_first}
 use Rattle.stk_host.proofs.reading.read_byte.Goals as goal
 
 pub returns-clause-asks : goal.returns-clause-asks

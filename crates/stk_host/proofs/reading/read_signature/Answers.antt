@@ -1,9 +1,9 @@
-use Rattle.std.proofs.Common.{refl, ap, arith, length, [], rules}
+use Rattle.std.proofs.Common.{refl, ap, arith, length, rules}
 use Rattle.std.proofs.lemmas.Result.{err_from_is_err_and}
 use Rattle.stk_host.specs.ReadSteps.{signature_step}
-use Rattle.stk_host.proofs.Reaching.{reaches_here}
-use Rattle.stk_host.proofs.Going.{reaches_next, stops_next, plays_all}
-use Rattle.stk_host.proofs.Pages.{next_signature, no_more}
+use Rattle.stk_host.proofs.Talks.Reached.{reaches_here}
+use Rattle.stk_host.proofs.Operations.Steps.{reaches_next, stops_next, plays_all}
+use Rattle.stk_host.proofs.ImagePlaces.PagesAndRuns.{next_signature, no_more}
 use Rattle.stk_host.proofs.reading.read_signature.Goals as goal
 
 pub loop-place-init : goal.loop-place-init
@@ -20,8 +20,8 @@ pub returns-in_err-read_step-clause-asks : goal.returns-in_err-read_step-clause-
 returns-in_err-read_step-clause-asks g c = record {
   played =
       let p = err_from_is_err_and c.from_residual.result c.from_residual.ensures.1 in
-      rw (p.1, p.2) (stops_next _ _ _ _ _ _ [] _ c.loop-place.invariant.reaches
-      (next_signature _ _ c.loop-place-test.true c.read_signature.ensures.value)
+      rw (p.1, p.2) (stops_next _ c.loop-place.invariant.reaches
+      (next_signature _ _ c.loop-place-test.true c.read_signature.ensures.value) _ _ _
       c.in_err-read_step.ensures.asks.played);
   counted = search rules;
   bound = search rules;
@@ -31,8 +31,8 @@ pub loop-place-preserved : goal.loop-place-preserved
 loop-place-preserved g c =
     let one = rw c.read_signature.ensures.value at c.in_ok-read_step.ensures.size in
     record {
-      reaches = reaches_next _ _ _ _ _ c.loop-place.invariant.reaches
-          (next_signature _ _ c.loop-place-test.true c.read_signature.ensures.value)
+      reaches = reaches_next _ c.loop-place.invariant.reaches
+          (next_signature _ _ c.loop-place-test.true c.read_signature.ensures.value) _
           c.in_ok-read_step.ensures.asks.played;
       size = omega (arith, one, c.loop-place.invariant.size);
       room = omega (arith, c.read_step.ensures.room, c.loop-place.invariant.room);
@@ -43,7 +43,7 @@ loop-place-preserved g c =
 
 pub returns-clause-asks : goal.returns-clause-asks
 returns-clause-asks g c = record {
-  played = plays_all _ _ c.loop-place.invariant.reaches (no_more signature_step _ _ c.loop-place-test.false);
+  played = plays_all c.loop-place.invariant.reaches (no_more signature_step _ _ c.loop-place-test.false);
   counted = search rules;
   bound = search rules;
 }

@@ -1,5 +1,5 @@
 use Rattle.std.proofs.Common.{◌∙◌, arith, length-set, sym}
-use Rattle.stk_host.proofs.Pieces.{within_bytes, copied_more, copied_all}
+use Rattle.stk_host.proofs.Tapes.Prefixes.{within_bytes, copied_more, copied_all}
 use Rattle.stk_host.proofs.tape_link.copy_bytes.Goals as goal
 
 pub returns-in_default-clause-bytes : goal.returns-in_default-clause-bytes

@@ -1,9 +1,9 @@
 use Rattle.std.proofs.Common.{refl, ◌∙◌, sym, arith, inl, [], rules}
 use Rattle.std.proofs.lemmas.Result.{err_from_is_err_and}
-use Rattle.avr_image.proofs.Walking.{next_held}
+use Rattle.avr_image.proofs.Lemmas.{next_held}
 use Rattle.stk_host.specs.WriteSteps.{run_steps_at}
-use Rattle.stk_host.proofs.Going.{begins_at, reaches_next, stops_next, plays_all}
-use Rattle.stk_host.proofs.Pages.{walks_to_run, walked_runs, zero_border}
+use Rattle.stk_host.proofs.Operations.Steps.{begins_at, reaches_next, stops_next, plays_all}
+use Rattle.stk_host.proofs.ImagePlaces.PagesAndRuns.{walks_to_run, walked_runs, zero_border}
 use Rattle.stk_host.proofs.writing.write_eeprom.Goals as goal
 
 pub loop-start-init : goal.loop-start-init
@@ -35,7 +35,7 @@ returns-in_err-program_run-clause-asks g c = record {
       c.page_size-size.result c.page_size-size.ensures.is_part c.page_size-size.ensures.value c.requires
       c.loop-start.invariant.border (sym c.first_from.ensures ∙ c.in-Some.is) c.run_from-end.ensures in
       let p = err_from_is_err_and c.from_residual.result c.from_residual.ensures.1 in
-      rw (p.1, p.2) (stops_next _ _ _ _ _ _ [] _ c.loop-start.invariant.reaches walk.steps
+      rw (p.1, p.2) (stops_next _ c.loop-start.invariant.reaches walk.steps _ _ _
       c.in_err-program_run.ensures.asks.played);
   counted = search rules;
   bound = search rules;
@@ -54,7 +54,7 @@ loop-start-preserved g c =
     c.page_size-size.result c.page_size-size.ensures.is_part c.page_size-size.ensures.value c.requires
     c.loop-start.invariant.border (sym c.first_from.ensures ∙ c.in-Some.is) c.run_from-end.ensures in
     record {
-      reaches = reaches_next _ _ _ _ _ c.loop-start.invariant.reaches walk.steps
+      reaches = reaches_next _ c.loop-start.invariant.reaches walk.steps _
           c.in_ok-program_run.ensures.asks.played;
       within = walk.within;
       border = walk.border;
@@ -65,7 +65,7 @@ loop-start-preserved g c =
 
 pub returns-clause-asks : goal.returns-clause-asks
 returns-clause-asks g c = record {
-  played = plays_all _ _ c.loop-start.invariant.reaches
+  played = plays_all c.loop-start.invariant.reaches
       (walked_runs c.args.part.now c.args.image.now c.loop-start.next _ (sym c.first_from.ensures ∙ c.in_default.is));
   counted = search rules;
   bound = search rules;

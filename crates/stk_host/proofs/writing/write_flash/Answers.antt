@@ -1,8 +1,8 @@
 use Rattle.std.proofs.Common.{refl, ◌/◌, ◌∙◌, sym, arith, [], rules}
 use Rattle.std.proofs.lemmas.Result.{err_from_is_err_and}
 use Rattle.stk_host.specs.WriteSteps.{page_steps}
-use Rattle.stk_host.proofs.Going.{begins_at, reaches_next, stops_next, plays_all}
-use Rattle.stk_host.proofs.Pages.{walks_to_page, walked_pages}
+use Rattle.stk_host.proofs.Operations.Steps.{begins_at, reaches_next, stops_next, plays_all}
+use Rattle.stk_host.proofs.ImagePlaces.PagesAndRuns.{walks_to_page, walked_pages}
 use Rattle.stk_host.proofs.writing.write_flash.Goals as goal
 
 pub loop-addr-init : goal.loop-addr-init
@@ -29,7 +29,7 @@ returns-in_err-program_page-clause-asks g c = record {
       c.page_size-size.ensures.is_part c.page_size-size.ensures.value c.requires
       (sym c.first_from.ensures ∙ c.in-Some.is) in
       let p = err_from_is_err_and c.from_residual.result c.from_residual.ensures.1 in
-      rw (p.1, p.2) (stops_next _ _ _ _ _ _ [] _ c.loop-addr.invariant.reaches walk.steps
+      rw (p.1, p.2) (stops_next _ c.loop-addr.invariant.reaches walk.steps _ _ _
       c.in_err-program_page.ensures.asks.played);
   counted = search rules;
   bound = search rules;
@@ -48,7 +48,7 @@ loop-addr-preserved g c =
     c.page_size-size.ensures.is_part c.page_size-size.ensures.value c.requires
     (sym c.first_from.ensures ∙ c.in-Some.is) in
     record {
-      reaches = reaches_next _ _ _ _ _ c.loop-addr.invariant.reaches walk.steps
+      reaches = reaches_next _ c.loop-addr.invariant.reaches walk.steps _
           c.in_ok-program_page.ensures.asks.played;
       within = omega (arith, walk.within);
       counted = omega (arith, c.in_ok-program_page.ensures.asks.counted.1, c.loop-addr.invariant.counted);
@@ -58,7 +58,7 @@ loop-addr-preserved g c =
 
 pub returns-clause-asks : goal.returns-clause-asks
 returns-clause-asks g c = record {
-  played = plays_all _ _ c.loop-addr.invariant.reaches
+  played = plays_all c.loop-addr.invariant.reaches
       (walked_pages c.args.part.now c.args.image.now c.loop-addr.next c.page_size-size.result _
       c.page_size-size.ensures.value (sym c.first_from.ensures ∙ c.in_default.is));
   counted = search rules;

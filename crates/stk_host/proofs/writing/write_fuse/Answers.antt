@@ -1,6 +1,6 @@
 use Rattle.std.proofs.Common.{[], ◌∷◌, rules}
 use Rattle.stk_frame.specs.HostCommands.{program_fuse}
-use Rattle.stk_host.proofs.Going.{alone, none_played}
+use Rattle.stk_host.proofs.Operations.Steps.{alone, none_played}
 use Rattle.stk_host.proofs.writing.write_fuse.Goals as goal
 
 pub returns-in-Some-clause-asks : goal.returns-in-Some-clause-asks

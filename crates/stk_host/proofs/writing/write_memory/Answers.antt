@@ -1,5 +1,5 @@
 use Rattle.std.proofs.Common.{inl, inr, rules}
-use Rattle.stk_host.proofs.Going.{none_played}
+use Rattle.stk_host.proofs.Operations.Steps.{none_played}
 use Rattle.stk_host.proofs.writing.write_memory.Goals as goal
 
 pub returns-in-Signature-clause-asks : goal.returns-in-Signature-clause-asks

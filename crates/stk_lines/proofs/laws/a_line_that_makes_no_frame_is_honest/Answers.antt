@@ -1,6 +1,6 @@
 use Rattle.std.proofs.Common.{[]}
 use Rattle.stk_emu.specs.Device.{device}
-use Rattle.stk_lines.proofs.NoFrame.{no_frame_honest}
+use Rattle.stk_lines.proofs.Lines.NoFrame.{no_frame_honest}
 use Rattle.stk_lines.proofs.laws.a_line_that_makes_no_frame_is_honest.Goals as goal
 
 pub returns : goal.returns

@@ -1,4 +1,4 @@
-use Rattle.stk_lines.proofs.Beginning.{steps_climb}
+use Rattle.stk_lines.proofs.Given.FirstSteps.{steps_climb}
 use Rattle.stk_lines.proofs.laws.a_play_climbs_from_step_to_step.Goals as goal
 
 pub returns : goal.returns

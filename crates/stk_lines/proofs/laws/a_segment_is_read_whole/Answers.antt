@@ -1,6 +1,6 @@
 use Rattle.stk_emu.specs.Device.{device}
-use Rattle.stk_emu.proofs.Bodies.{answers_bodies}
-use Rattle.stk_emu.proofs.Segments.{segment_read}
+use Rattle.stk_emu.proofs.Answers.BodySizes.{answers_bodies}
+use Rattle.stk_emu.proofs.Wires.Segments.{segment_read}
 use Rattle.stk_lines.proofs.laws.a_segment_is_read_whole.Goals as goal
 
 pub returns : goal.returns

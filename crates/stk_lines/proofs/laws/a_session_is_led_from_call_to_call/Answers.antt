@@ -1,4 +1,4 @@
-use Rattle.stk_lines.proofs.LeadsOn.{leads_opening, leads_operation, leads_closing}
+use Rattle.stk_lines.proofs.Hosts.Operations.{leads_opening, leads_operation, leads_closing}
 use Rattle.stk_lines.proofs.laws.a_session_is_led_from_call_to_call.Goals as goal
 
 pub returns-clause-opening : goal.returns-clause-opening

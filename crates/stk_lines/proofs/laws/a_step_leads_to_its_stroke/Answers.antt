@@ -1,4 +1,4 @@
-use Rattle.stk_lines.proofs.Outside.{step_fits}
+use Rattle.stk_lines.proofs.Strokes.OutsideMode.{step_fits}
 use Rattle.stk_lines.proofs.laws.a_step_leads_to_its_stroke.Goals as goal
 
 pub returns : goal.returns

@@ -1,4 +1,4 @@
-use Rattle.stk_lines.proofs.Turning.{never_idle}
+use Rattle.stk_lines.proofs.Lines.InTurn.{never_idle}
 use Rattle.stk_lines.proofs.laws.a_talk_in_turn_is_never_idle.Goals as goal
 
 pub returns : goal.returns

@@ -1,4 +1,4 @@
-use Rattle.stk_lines.proofs.Turning.{whole_along, broken_along}
+use Rattle.stk_lines.proofs.Lines.InTurn.{whole_along, broken_along}
 use Rattle.stk_lines.proofs.laws.a_talk_over_a_wire_goes_along_the_line.Goals as goal
 
 pub returns-clause-whole : goal.returns-clause-whole

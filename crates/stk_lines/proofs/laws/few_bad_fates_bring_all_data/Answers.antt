@@ -1,4 +1,4 @@
-use Rattle.stk_lines.proofs.FewFates.{good_few, four_too_many, second_too_many, three_of_six, few_left, step_comes, play_few}
+use Rattle.stk_lines.proofs.Given.FewBadTurns.{good_few, four_too_many, second_too_many, three_of_six, few_left, step_comes, play_few}
 use Rattle.stk_host.specs.Steps.{step}
 use Rattle.stk_lines.proofs.laws.few_bad_fates_bring_all_data.Goals as goal
 

@@ -1,4 +1,4 @@
-use Rattle.stk_lines.proofs.Comparing.{no_difference, held_same, laid_holds, blank_anded}
+use Rattle.stk_lines.proofs.Given.Comparisons.{no_difference, held_same, laid_holds, blank_anded}
 use Rattle.stk_lines.proofs.laws.no_difference_is_the_image.Goals as goal
 
 pub returns-clause-same : goal.returns-clause-same

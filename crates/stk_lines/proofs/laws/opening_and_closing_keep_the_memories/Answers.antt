@@ -1,5 +1,5 @@
-use Rattle.stk_emu.proofs.Obeying.{settled_idle}
-use Rattle.stk_lines.proofs.Striking.{sign_on_fits, sign_on_settled, enter_fits, leave_fits}
+use Rattle.stk_emu.proofs.Answers.Commands.{settled_idle}
+use Rattle.stk_lines.proofs.Strokes.Steps.{sign_on_fits, sign_on_settled, enter_fits, leave_fits}
 use Rattle.stk_lines.proofs.laws.opening_and_closing_keep_the_memories.Goals as goal
 
 pub returns-clause-sign_on : goal.returns-clause-sign_on

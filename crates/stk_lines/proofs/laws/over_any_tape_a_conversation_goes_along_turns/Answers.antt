@@ -1,5 +1,5 @@
 use Rattle.stk_emu.specs.Device.{device}
-use Rattle.stk_lines.proofs.AnyTape.{goes_as, through_after}
+use Rattle.stk_lines.proofs.Lines.AnyTape.{goes_as, through_after}
 use Rattle.stk_lines.proofs.laws.over_any_tape_a_conversation_goes_along_turns.Goals as goal
 
 pub returns-clause-goes : goal.returns-clause-goes

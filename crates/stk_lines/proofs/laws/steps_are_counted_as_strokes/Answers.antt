@@ -1,4 +1,4 @@
-use Rattle.stk_lines.proofs.Counting.{items_counted}
+use Rattle.stk_lines.proofs.Strokes.StepCounts.{items_counted}
 use Rattle.stk_lines.proofs.laws.steps_are_counted_as_strokes.Goals as goal
 
 pub returns : goal.returns

@@ -1,4 +1,4 @@
-use Rattle.stk_lines.proofs.ItemStrokes.{all_are_steps, read_are_steps, items_do, struck_all, effect_sizes}
+use Rattle.stk_lines.proofs.Strokes.Items.{all_are_steps, read_are_steps, items_do, struck_all, effect_sizes}
 use Rattle.stk_lines.proofs.laws.the_steps_of_items_do_what_they_do.Goals as goal
 
 pub returns-clause-steps : goal.returns-clause-steps

@@ -1,6 +1,6 @@
-use Rattle.stk_lines.proofs.Giving.{step_given}
-use Rattle.stk_lines.proofs.LeadsOn.{play_given}
-use Rattle.stk_lines.proofs.PlayGiven.{read_gives}
+use Rattle.stk_lines.proofs.Given.StepsGive.{step_given}
+use Rattle.stk_lines.proofs.Hosts.Operations.{play_given}
+use Rattle.stk_lines.proofs.Given.WholeMemories.{read_gives}
 use Rattle.stk_lines.proofs.laws.what_is_read_is_the_memory.Goals as goal
 
 pub returns-clause-step : goal.returns-clause-step

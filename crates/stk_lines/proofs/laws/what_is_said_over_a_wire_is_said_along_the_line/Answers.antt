@@ -1,7 +1,7 @@
 use Rattle.stk_emu.specs.Device.{device}
-use Rattle.stk_emu.proofs.Bodies.{answers_bodies}
-use Rattle.stk_lines.proofs.Turning.{whole_said}
-use Rattle.stk_lines.proofs.WirePlayed.{said_over}
+use Rattle.stk_emu.proofs.Answers.BodySizes.{answers_bodies}
+use Rattle.stk_lines.proofs.Lines.InTurn.{whole_said}
+use Rattle.stk_lines.proofs.Lines.WireTapes.{said_over}
 use Rattle.stk_lines.proofs.laws.what_is_said_over_a_wire_is_said_along_the_line.Goals as goal
 
 pub returns-clause-over : goal.returns-clause-over

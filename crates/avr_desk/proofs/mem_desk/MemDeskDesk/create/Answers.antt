@@ -1,5 +1,5 @@
 use Rattle.std.proofs.Common.{refl}
-use Rattle.avr_desk.proofs.Truths.{created_true, from_inside}
+use Rattle.avr_desk.proofs.Desks.InMemory.{created_true, from_inside}
 use Rattle.avr_desk.proofs.mem_desk.MemDeskDesk.create.Goals as goal
 
 pub returns-clause-stays : goal.returns-clause-stays

@@ -1,6 +1,6 @@
 use Rattle.std.proofs.Common.{refl, ap, sym, ◌∙◌}
 use Rattle.avr_desk.specs.Memory.{contents}
-use Rattle.avr_desk.proofs.Truths.{absent_true, from_inside, opened_true}
+use Rattle.avr_desk.proofs.Desks.InMemory.{absent_true, from_inside, opened_true}
 use Rattle.avr_desk.proofs.mem_desk.MemDeskDesk.open.Goals as goal
 
 pub returns-in_default-contents-clause-stays : goal.returns-in_default-contents-clause-stays

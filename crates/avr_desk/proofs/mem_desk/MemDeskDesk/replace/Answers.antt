@@ -1,5 +1,5 @@
 use Rattle.std.proofs.Common.{refl}
-use Rattle.avr_desk.proofs.Truths.{from_inside, replaced_true}
+use Rattle.avr_desk.proofs.Desks.InMemory.{from_inside, replaced_true}
 use Rattle.avr_desk.proofs.mem_desk.MemDeskDesk.replace.Goals as goal
 
 pub returns-clause-stays : goal.returns-clause-stays

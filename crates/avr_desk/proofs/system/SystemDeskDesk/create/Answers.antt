@@ -1,5 +1,5 @@
 use Rattle.std.proofs.Common.{refl}
-use Rattle.avr_desk.proofs.TrueStreams.{create_true, from_inside}
+use Rattle.avr_desk.proofs.Desks.TwoWriters.{create_true, from_inside}
 use Rattle.avr_desk.proofs.system.SystemDeskDesk.create.Goals as goal
 
 pub returns-then-eq-clause-stays : goal.returns-then-eq-clause-stays

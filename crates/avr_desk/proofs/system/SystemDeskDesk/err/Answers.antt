@@ -1,14 +1,14 @@
 use Rattle.std.proofs.Common.{ap, refl, subst}
-use Rattle.avr_desk.proofs.Streams.{took_front}
-use Rattle.avr_desk.proofs.TrueStreams.{err_true, from_inside}
-use Rattle.avr_desk.specs.Shown.{AppendsFront}
+use Rattle.avr_desk.proofs.Desks.Writers.{took_prefix}
+use Rattle.avr_desk.proofs.Desks.TwoWriters.{err_true, from_inside}
+use Rattle.avr_desk.specs.Shown.{AppendsPrefix}
 use Rattle.avr_desk.proofs.system.SystemDeskDesk.err.Goals as goal
 
 pub returns-in-Err-clause-messages : goal.returns-in-Err-clause-messages
 returns-in-Err-clause-messages g c = subst
-    (λ (w : g.row.E.Denot). AppendsFront (g.E.Write.contents w) (g.E.Write.contents c.write_through.new.to)
+    (λ (w : g.row.E.Denot). AppendsPrefix (g.E.Write.contents w) (g.E.Write.contents c.write_through.new.to)
     c.args.bytes.now) (ap (λ d. d.messages) c.self.view_is)
-    (took_front (g.E.Write.contents c.self.inside.messages) (g.E.Write.contents c.write_through.new.to)
+    (took_prefix (g.E.Write.contents c.self.inside.messages) (g.E.Write.contents c.write_through.new.to)
     c.in-Err.ensures.taken.0 c.args.bytes.now c.in-Err.ensures.taken.2.1)
 
 pub returns-in-Err-clause-stays : goal.returns-in-Err-clause-stays

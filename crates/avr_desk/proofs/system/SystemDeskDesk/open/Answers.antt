@@ -1,6 +1,6 @@
 use Rattle.std.proofs.Common.{refl, Ok, Err}
 use Rattle.avr_desk.specs.declared.desk.DeskFault.TheVariants.{NotFound}
-use Rattle.avr_desk.proofs.TrueStreams.{from_inside, open_true}
+use Rattle.avr_desk.proofs.Desks.TwoWriters.{from_inside, open_true}
 use Rattle.avr_desk.proofs.system.SystemDeskDesk.open.Goals as goal
 
 pub returns-then-eq-clause-stays : goal.returns-then-eq-clause-stays

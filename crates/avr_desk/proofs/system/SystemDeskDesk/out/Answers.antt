@@ -1,14 +1,14 @@
 use Rattle.std.proofs.Common.{ap, refl, subst}
-use Rattle.avr_desk.proofs.Streams.{took_front}
-use Rattle.avr_desk.proofs.TrueStreams.{from_inside, out_true}
-use Rattle.avr_desk.specs.Shown.{AppendsFront}
+use Rattle.avr_desk.proofs.Desks.Writers.{took_prefix}
+use Rattle.avr_desk.proofs.Desks.TwoWriters.{from_inside, out_true}
+use Rattle.avr_desk.specs.Shown.{AppendsPrefix}
 use Rattle.avr_desk.proofs.system.SystemDeskDesk.out.Goals as goal
 
 pub returns-in-Err-clause-output : goal.returns-in-Err-clause-output
 returns-in-Err-clause-output g c = subst
-    (λ (w : g.row.O.Denot). AppendsFront (g.O.Write.contents w) (g.O.Write.contents c.write_through.new.to)
+    (λ (w : g.row.O.Denot). AppendsPrefix (g.O.Write.contents w) (g.O.Write.contents c.write_through.new.to)
     c.args.bytes.now) (ap (λ d. d.output) c.self.view_is)
-    (took_front (g.O.Write.contents c.self.inside.output) (g.O.Write.contents c.write_through.new.to)
+    (took_prefix (g.O.Write.contents c.self.inside.output) (g.O.Write.contents c.write_through.new.to)
     c.in-Err.ensures.taken.0 c.args.bytes.now c.in-Err.ensures.taken.2.1)
 
 pub returns-in-Err-clause-stays : goal.returns-in-Err-clause-stays

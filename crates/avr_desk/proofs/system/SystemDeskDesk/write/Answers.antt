@@ -1,15 +1,15 @@
 use Rattle.std.proofs.Common.{ap, refl, subst}
-use Rattle.avr_desk.proofs.Streams.{took_front}
-use Rattle.avr_desk.proofs.TrueStreams.{from_inside, write_out_true}
-use Rattle.avr_desk.specs.Shown.{AppendsFront}
+use Rattle.avr_desk.proofs.Desks.Writers.{took_prefix}
+use Rattle.avr_desk.proofs.Desks.TwoWriters.{from_inside, write_out_true}
+use Rattle.avr_desk.specs.Shown.{AppendsPrefix}
 use Rattle.avr_desk.specs.Standing.{is_output}
 use Rattle.avr_desk.proofs.system.SystemDeskDesk.write.Goals as goal
 
 pub returns-in-Err-write_through-clause-output : goal.returns-in-Err-write_through-clause-output
 returns-in-Err-write_through-clause-output g c =
-    λ to_output. subst (λ (w : g.row.O.Denot). AppendsFront (g.O.Write.contents w)
+    λ to_output. subst (λ (w : g.row.O.Denot). AppendsPrefix (g.O.Write.contents w)
     (g.O.Write.contents c.write_through.new.to) c.args.bytes.now) (ap (λ d. d.output) c.self.view_is)
-    (took_front (g.O.Write.contents c.self.inside.output) (g.O.Write.contents c.write_through.new.to)
+    (took_prefix (g.O.Write.contents c.self.inside.output) (g.O.Write.contents c.write_through.new.to)
     c.in-Err-write_through.ensures.taken.0 c.args.bytes.now c.in-Err-write_through.ensures.taken.2.1)
 
 pub returns-in-Ok-write_through-clause-stays : goal.returns-in-Ok-write_through-clause-stays

@@ -1,5 +1,5 @@
 use Rattle.std.proofs.Common.{◌∙◌, arith}
-use Rattle.avr_image.proofs.Shown.{kept_whole, holds_bytes, sized}
+use Rattle.avr_image.proofs.Fields.Shown.{kept_whole, holds_bytes, sized}
 use Rattle.avr_image.proofs.image.Image.as_slice.Goals as goal
 
 pub returns-clause-filled : goal.returns-clause-filled

@@ -1,5 +1,5 @@
 use Rattle.std.proofs.Common.{◌∙◌, ◌+◌, ap, get_or, ℕ, List}
-use Rattle.avr_image.proofs.Shown.{filled_is, kept_byte}
+use Rattle.avr_image.proofs.Fields.Shown.{filled_is, kept_byte}
 use Rattle.avr_image.proofs.image.Image.fill.Goals as goal
 
 pub returns : goal.returns

@@ -1,6 +1,6 @@
 use Rattle.std.proofs.Common.{◌≡◌, sym, arith, length, refl, true}
-use Rattle.avr_image.proofs.Masks.{same_place}
-use Rattle.avr_image.proofs.Shown.{first_is, first_none}
+use Rattle.avr_image.proofs.Fields.Masks.{same_place}
+use Rattle.avr_image.proofs.Fields.Shown.{first_is, first_none}
 use Rattle.avr_image.proofs.image.Image.first_from.Goals as goal
 
 pub returns-then-place-size : goal.returns-then-place-size

@@ -1,5 +1,5 @@
 use Rattle.std.proofs.Common.{arith}
-use Rattle.avr_image.proofs.Overlapping.{disjoint_within}
+use Rattle.avr_image.proofs.Places.Overlaps.{disjoint_within}
 use Rattle.avr_image.proofs.image.Image.first_overlap.Goals as goal
 
 pub returns : goal.returns

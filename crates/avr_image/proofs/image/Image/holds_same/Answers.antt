@@ -1,5 +1,5 @@
 use Rattle.std.proofs.Common.{◌≡◌, refl, arith, length}
-use Rattle.avr_image.proofs.Shown.{same_items}
+use Rattle.avr_image.proofs.Fields.Shown.{same_items}
 use Rattle.avr_image.proofs.image.Image.holds_same.Goals as goal
 
 pub returns : goal.returns

@@ -1,4 +1,4 @@
-use Rattle.avr_image.proofs.RunWalk.{empty-held}
+use Rattle.avr_image.proofs.Walks.Runs.{empty-held}
 use Rattle.avr_image.proofs.image.Image.is_empty.Goals as goal
 
 pub returns : goal.returns

@@ -2,7 +2,7 @@ use Rattle.std.proofs.Common.{◌≡◌, ◌∙◌, sym, ap, refl, arith, length
 use Rattle.std.specs.List.{flat_map}
 use Rattle.avr_image.specs.Image.{laid_over}
 use Rattle.avr_image.specs.Runs.{runs, places_of}
-use Rattle.avr_image.proofs.RunWalk.{runs-end, runs-over}
+use Rattle.avr_image.proofs.Walks.Runs.{runs-end, runs-over}
 use Rattle.avr_image.proofs.image.Image.lay_runs.Goals as goal
 
 pub loop-addr-init : goal.loop-addr-init

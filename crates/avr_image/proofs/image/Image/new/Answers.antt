@@ -1,6 +1,6 @@
 use Rattle.std.proofs.Common.{arith, ℕ, ◌+◌, ◌/◌}
 use Rattle.std.proofs.lemmas.List.{length-replicate, get_or-replicate}
-use Rattle.avr_image.proofs.Shown.{shown_from-zeros, small-blank}
+use Rattle.avr_image.proofs.Fields.Shown.{shown_from-zeros, small-blank}
 use Rattle.avr_image.proofs.image.Image.new.Goals as goal
 
 pub invariant_of-result : goal.invariant_of-result

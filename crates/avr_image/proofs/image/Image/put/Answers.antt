@@ -1,7 +1,7 @@
 use Rattle.std.proofs.Common.{◌∙◌, sym, arith, length, ◌<◌}
 use Rattle.std.proofs.lemmas.Bool.Decides.{nat_tests}
 use Rattle.std.proofs.lemmas.List.{length-set}
-use Rattle.avr_image.proofs.Shown.{shown-marked, blank-marked, length-marked, length_shown, sized, small-set}
+use Rattle.avr_image.proofs.Fields.Shown.{shown-marked, blank-marked, length-marked, length_shown, sized, small-set}
 use Rattle.avr_image.proofs.image.Image.put.Goals as goal
 
 pub returns-then-at-len-clause-judged : goal.returns-then-at-len-clause-judged

@@ -3,8 +3,8 @@ use Rattle.std.proofs.lemmas.Bool.Decides.{nat_tests}
 use Rattle.std.specs.List.{enumerate_from}
 use Rattle.avr_image.specs.Image.{laid_over}
 use Rattle.avr_image.specs.Dense.{dense_image}
-use Rattle.avr_image.proofs.Shown.{sized, length_shown}
-use Rattle.avr_image.proofs.Laying.{shown-pasted, kept-pasted, length-pasted, fits_yes, fits_no}
+use Rattle.avr_image.proofs.Fields.Shown.{sized, length_shown}
+use Rattle.avr_image.proofs.Places.Laid.{shown-pasted, kept-pasted, length-pasted, fits_yes, fits_no}
 use Rattle.avr_image.proofs.image.Image.put_slice.Goals as goal
 
 pub returns-then-bytes-saturating_sub-clause-judged : goal.returns-then-bytes-saturating_sub-clause-judged

@@ -1,7 +1,7 @@
 use Rattle.std.proofs.Common.{◌∙◌, sym, arith, length, ◌<◌}
 use Rattle.std.proofs.lemmas.List.{length-set}
-use Rattle.avr_image.proofs.Shown.{length_shown, sized, small-set}
-use Rattle.avr_image.proofs.Removing.{shown-removed, blank-removed, length-cleared, removed-past}
+use Rattle.avr_image.proofs.Fields.Shown.{length_shown, sized, small-set}
+use Rattle.avr_image.proofs.Places.Removed.{shown-removed, blank-removed, length-cleared, removed-past}
 use Rattle.avr_image.proofs.image.Image.remove.Goals as goal
 
 pub returns-then-place-len-clause-removed : goal.returns-then-place-len-clause-removed

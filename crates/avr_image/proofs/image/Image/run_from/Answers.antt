@@ -1,6 +1,6 @@
 use Rattle.std.proofs.Common.{◌≡◌, ◌∙◌, ap, arith, length, refl, false, min, ℕ}
-use Rattle.avr_image.proofs.Masks.{same_place}
-use Rattle.avr_image.proofs.Shown.{run_is, no_run_past, sized}
+use Rattle.avr_image.proofs.Fields.Masks.{same_place}
+use Rattle.avr_image.proofs.Fields.Shown.{run_is, no_run_past, sized}
 use Rattle.avr_image.proofs.image.Image.run_from.Goals as goal
 
 pub returns-then-addr-size : goal.returns-then-addr-size

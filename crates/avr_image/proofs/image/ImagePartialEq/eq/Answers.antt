@@ -1,4 +1,4 @@
-use Rattle.avr_image.proofs.Sameness.{same_answer}
+use Rattle.avr_image.proofs.Fields.Equality.{same_answer}
 use Rattle.avr_image.proofs.image.ImagePartialEq.eq.Goals as goal
 
 pub returns : goal.returns

@@ -1,5 +1,5 @@
 use Rattle.std.proofs.Common.{length}
-use Rattle.avr_image.proofs.Texts.{Written}
+use Rattle.avr_image.proofs.Texts.Pieces.{Written}
 use Rattle.avr_image.proofs.pieces.Pieces.write_to.Given as goal
 
 abbrev pub invariant-pieces : goal.invariant-pieces

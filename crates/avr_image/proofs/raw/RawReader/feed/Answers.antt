@@ -1,4 +1,4 @@
-use Rattle.avr_image.proofs.Reading.{stands-fed}
+use Rattle.avr_image.proofs.Texts.RawBytes.{stands-fed}
 use Rattle.avr_image.proofs.raw.RawReader.feed.Goals as goal
 
 pub returns-in-Ok-clause-stands : goal.returns-in-Ok-clause-stands

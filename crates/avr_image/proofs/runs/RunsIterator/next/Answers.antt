@@ -2,13 +2,13 @@ use Rattle.std.proofs.Common.{◌∙◌, sym, ap, arith, ℕ, ◌∷◌, List, l
 use Rattle.std.specs.List.{slice_range}
 use Rattle.avr_image.specs.Image.{run_end}
 use Rattle.avr_image.specs.Runs.{runs}
-use Rattle.avr_image.proofs.RunWalk.{walk-none, next_run, Stepped, length-filled}
-use Rattle.avr_image.proofs.Walking.{next_held}
+use Rattle.avr_image.proofs.Walks.Runs.{runs-none, next_run, Stepped, length-filled}
+use Rattle.avr_image.proofs.Walks.Places.{next_held}
 use Rattle.avr_image.proofs.runs.RunsIterator.next.Goals as goal
 
 pub returns-in_default-clause-steps : goal.returns-in_default-clause-steps
 returns-in_default-clause-steps c =
-    let none = sym c.self.view_is ∙ walk-none c.self.inside.addr (drop c.self.inside.addr c.self.inside.image.now)
+    let none = sym c.self.view_is ∙ runs-none c.self.inside.image.now c.self.inside.addr
     (sym c.first_from.ensures ∙ c.in_default.is) in
     (none, none)
 

@@ -1,7 +1,7 @@
 use Rattle.std.proofs.Common.{◌≡◌, ◌∙◌, sym, ◌∷◌, ◌+◌, [], drop}
 use Rattle.std.proofs.lemmas.List.{nil_from_length}
 use Rattle.avr_part.specs.BuiltIn.{built_in_parts}
-use Rattle.avr_part.proofs.Finding.{left_behind}
+use Rattle.avr_part.proofs.FoundParts.{left_behind}
 use Rattle.avr_part.proofs.parts.PartIterIterator.next.Goals as goal
 
 pub returns-clause-steps : goal.returns-clause-steps

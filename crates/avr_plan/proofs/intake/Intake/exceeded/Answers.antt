@@ -1,6 +1,6 @@
 use Rattle.std.proofs.Common.{subst, ◌∙◌}
 use Rattle.avr_plan.specs.Intake.{Takes}
-use Rattle.avr_plan.proofs.Intaking.{records-long, raw-too-long, decided-long}
+use Rattle.avr_plan.proofs.Files.Prefixes.{records-long, raw-too-long, decided-long}
 use Rattle.avr_plan.proofs.intake.Intake.exceeded.Goals as goal
 
 pub returns-in-Records : goal.returns-in-Records

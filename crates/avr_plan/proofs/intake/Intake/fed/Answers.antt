@@ -1,6 +1,6 @@
 use Rattle.std.proofs.Common.{subst}
 use Rattle.avr_plan.specs.Intake.{Takes}
-use Rattle.avr_plan.proofs.Intaking.{record-decides}
+use Rattle.avr_plan.proofs.Files.Prefixes.{record-decides}
 use Rattle.avr_plan.proofs.intake.Intake.fed.Goals as goal
 
 pub returns-in-Err-clause-takes : goal.returns-in-Err-clause-takes

@@ -1,6 +1,6 @@
 use Rattle.std.proofs.Common.{subst}
 use Rattle.avr_plan.specs.Intake.{Takes}
-use Rattle.avr_plan.proofs.Intaking.{decided-whole}
+use Rattle.avr_plan.proofs.Files.Prefixes.{decided-whole}
 use Rattle.avr_plan.proofs.intake.Intake.finish.Goals as goal
 
 pub returns-in-Faulty : goal.returns-in-Faulty

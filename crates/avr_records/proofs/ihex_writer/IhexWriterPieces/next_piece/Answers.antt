@@ -3,7 +3,7 @@ use Rattle.std.proofs.lemmas.Bool.Decides.{nat_tests}
 use Rattle.std.proofs.lemmas.List.{take_rest}
 use Rattle.avr_records.specs.Text.{ihex_record, ihex_row_size, two}
 use Rattle.avr_records.specs.Writing.{ihex_rest}
-use Rattle.avr_records.proofs.Pieces.{ihex_rest-row, ihex_rest-upper, upper-new, upper-same}
+use Rattle.avr_records.proofs.Writers.Pieces.{ihex_rest-row, ihex_rest-upper, upper-new, upper-same}
 use Rattle.avr_records.proofs.ihex_writer.IhexWriterPieces.next_piece.Goals as goal
 
 pub returns-in-Some-clause-joined : goal.returns-in-Some-clause-joined
@@ -18,7 +18,7 @@ returns-in-Some-clause-joined c =
     sym c.self.view_is
     ∙ ap (λ (ended : Bool). ihex_rest ended w.upper w.addr w.bytes.now) c.if-self.false
     ∙ ihex_rest-upper w.upper w.addr w.bytes.now some told.1
-    ∙ ap (λ (front : List ℕ). front ++ ihex_rest false (w.addr / 65536) w.addr w.bytes.now) same
+    ∙ ap (λ (prefix : List ℕ). prefix ++ ihex_rest false (w.addr / 65536) w.addr w.bytes.now) same
     ∙ ap (λ (upper : ℕ). piece ++ ihex_rest false upper w.addr w.bytes.now) told.0
     ∙ ap (λ (ended : Bool). piece ++ ihex_rest ended new w.addr w.bytes.now) (sym c.if-self.false)
 
@@ -38,7 +38,7 @@ returns-clause-joined c =
     sym c.self.view_is
     ∙ ap (λ (ended : Bool). ihex_rest ended w.upper w.addr w.bytes.now) c.if-self.false
     ∙ ihex_rest-row w.upper w.addr n w.bytes.now some in_force size
-    ∙ ap (λ (front : List ℕ). front ++ ihex_rest false w.upper (w.addr + n) (drop n w.bytes.now))
+    ∙ ap (λ (prefix : List ℕ). prefix ++ ihex_rest false w.upper (w.addr + n) (drop n w.bytes.now))
     (sym c.put_row.ensures.text)
     ∙ ap (λ (bytes : List ℕ). piece ++ ihex_rest false w.upper (w.addr + n) bytes) (sym (take_rest w.bytes.now n))
     ∙ ap (λ (ended : Bool). piece ++ ihex_rest ended w.upper (w.addr + n)

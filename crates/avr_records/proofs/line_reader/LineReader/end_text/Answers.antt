@@ -1,5 +1,5 @@
 use Rattle.std.proofs.lemmas.Result.{MatchResult-weaker}
-use Rattle.avr_records.proofs.Feeding.{whole-empty, whole-good, whole-bad}
+use Rattle.avr_records.proofs.Readers.Fed.{whole-empty, whole-good, whole-bad}
 use Rattle.avr_records.proofs.line_reader.LineReader.end_text.Goals as goal
 
 pub returns-then-is_empty-clause-whole : goal.returns-then-is_empty-clause-whole

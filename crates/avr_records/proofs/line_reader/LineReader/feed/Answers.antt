@@ -1,7 +1,7 @@
 use Rattle.std.proofs.Common.{◌≡◌, ◌+◌, ◌∙◌, ap, arith, ◌∷◌, length}
 use Rattle.std.proofs.lemmas.List.{length-append}
 use Rattle.std.proofs.lemmas.Result.{err_from_is_err_and}
-use Rattle.avr_records.proofs.Feeding.{carries-next, carries-fault, carries-last}
+use Rattle.avr_records.proofs.Readers.Fed.{carries-next, carries-fault, carries-last}
 use Rattle.avr_records.proofs.line_reader.LineReader.feed.Goals as goal
 
 pub returns-in_err-end_line-clause-fault : goal.returns-in_err-end_line-clause-fault

@@ -1,6 +1,6 @@
 use Rattle.std.proofs.Common.{◌≡◌, ◌+◌, ◌<◌, ◌≤◌, ◌^◌, length}
 use Rattle.avr_records.specs.Steps.{progress_of, least_length, InRange}
-use Rattle.avr_records.proofs.Feeding.{Carries}
+use Rattle.avr_records.proofs.Readers.Fed.{Carries}
 use Rattle.avr_records.proofs.line_reader.LineReader.feed.Given as goal
 
 abbrev pub invariant-loop-line : goal.invariant-loop-line

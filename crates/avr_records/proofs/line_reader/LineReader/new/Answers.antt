@@ -1,5 +1,5 @@
 use Rattle.std.proofs.Common.{refl}
-use Rattle.avr_records.proofs.Feeding.{begins}
+use Rattle.avr_records.proofs.Readers.Fed.{begins}
 use Rattle.avr_records.proofs.line_reader.LineReader.new.Goals as goal
 
 pub returns-in-Ok : goal.returns-in-Ok

@@ -1,4 +1,4 @@
-use Rattle.avr_records.proofs.Feeding.{no_answer}
+use Rattle.avr_records.proofs.Readers.Fed.{no_answer}
 use Rattle.avr_records.proofs.reader.RecordReader.feed.Goals as goal
 
 pub returns-in-Ok-clause-answer : goal.returns-in-Ok-clause-answer

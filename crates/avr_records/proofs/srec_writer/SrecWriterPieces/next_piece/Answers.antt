@@ -2,7 +2,7 @@ use Rattle.std.proofs.Common.{◌<◌, ◌∙◌, sym, ap, arith, ℕ, ◌+◌, 
 use Rattle.std.proofs.lemmas.Bool.Decides.{nat_tests}
 use Rattle.std.proofs.lemmas.List.{take_rest}
 use Rattle.avr_records.specs.Writing.{srec_rest}
-use Rattle.avr_records.proofs.Pieces.{srec_rest-row}
+use Rattle.avr_records.proofs.Writers.Pieces.{srec_rest-row}
 use Rattle.avr_records.proofs.srec_writer.SrecWriterPieces.next_piece.Goals as goal
 
 pub returns-clause-joined : goal.returns-clause-joined
@@ -14,7 +14,7 @@ returns-clause-joined c =
     sym c.self.view_is
     ∙ ap (λ (ended : Bool). srec_rest ended w.address_size w.addr w.bytes.now) c.if-self.false
     ∙ srec_rest-row w.address_size w.addr n w.bytes.now some c.min-n.ensures
-    ∙ ap (λ (front : List ℕ). front ++ srec_rest false w.address_size (w.addr + n) (drop n w.bytes.now))
+    ∙ ap (λ (prefix : List ℕ). prefix ++ srec_rest false w.address_size (w.addr + n) (drop n w.bytes.now))
     (sym c.put_row.ensures.text)
     ∙ ap (λ (bytes : List ℕ). piece ++ srec_rest false w.address_size (w.addr + n) bytes)
     (sym (take_rest w.bytes.now n))

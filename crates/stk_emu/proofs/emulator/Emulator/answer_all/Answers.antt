@@ -1,7 +1,7 @@
 use Rattle.std.proofs.Common.{[], arith, take_all}
 use Rattle.std.proofs.lemmas.Result.{err_from_is_err_and}
-use Rattle.stk_host.proofs.Sending.{behind, part_fits}
-use Rattle.stk_emu.proofs.Answering.{appends_none, appends_on, appends_front, appends_fed, appends_all}
+use Rattle.stk_host.proofs.Talks.Sending.{behind, part_fits}
+use Rattle.stk_emu.proofs.Answers.Texts.{appends_none, appends_on, appends_prefix, appends_fed, appends_all}
 use Rattle.stk_emu.proofs.emulator.Emulator.answer_all.Goals as goal
 
 pub loop-used-init : goal.loop-used-init
@@ -25,9 +25,9 @@ returns-clause-fed c = λ p text f. appends_fed _ _ _ _ _ p text (returns-clause
 pub returns-clause-all : goal.returns-clause-all
 returns-clause-all c = λ p text f e. appends_all _ _ _ _ _ p text [] (returns-clause-appends c) f e
 
-pub returns-in_err-used-clause-front : goal.returns-in_err-used-clause-front
-returns-in_err-used-clause-front c =
+pub returns-in_err-used-clause-prefix : goal.returns-in_err-used-clause-prefix
+returns-in_err-used-clause-prefix c =
     let p = err_from_is_err_and c.from_residual.result c.from_residual.ensures.1 in
     rw p.1
     (rw (c.in_err-used.ensures.same, c.in_err-used.ensures.kept)
-    (appends_front c.args.bytes.now c.loop-used.used _ _ _ _ c.loop-used.invariant.appends c.loop-used-test.true))
+    (appends_prefix c.args.bytes.now c.loop-used.used _ _ _ _ c.loop-used.invariant.appends c.loop-used-test.true))

@@ -1,5 +1,5 @@
 use Rattle.std.proofs.Common.{ap, ◌∙◌, ◌++◌}
-use Rattle.stk_emu.proofs.Answering.{appends_one}
+use Rattle.stk_emu.proofs.Answers.Texts.{appends_one}
 use Rattle.stk_emu.proofs.emulator.Emulator.answer_next.Goals as goal
 
 pub returns-clause-appends : goal.returns-clause-appends

@@ -1,6 +1,6 @@
 use Rattle.std.proofs.Common.{sym, ◌∙◌}
 use Rattle.stk_frame.specs.Reader.{frames_of_event}
-use Rattle.stk_emu.proofs.Answering.{found_frames, found_few, answer_ends, is_fed, emulated, none_found}
+use Rattle.stk_emu.proofs.Answers.Texts.{found_frames, found_few, answer_ends, is_fed, emulated, none_found}
 use Rattle.stk_emu.proofs.emulator.Emulator.feed.Goals as goal
 
 pub returns-clause-all : goal.returns-clause-all

@@ -1,6 +1,6 @@
 use Rattle.std.proofs.Common.{ap, ◌∙◌, ◌++◌}
-use Rattle.stk_emu.proofs.Answering.{appends_one}
-use Rattle.stk_emu.proofs.Ports.{passed_in}
+use Rattle.stk_emu.proofs.Answers.Texts.{appends_one}
+use Rattle.stk_emu.proofs.Wires.Ports.{passed_in}
 use Rattle.stk_emu.proofs.port.EmulatedPortWrite.write.Goals as goal
 
 pub returns-clause-answers : goal.returns-clause-answers

@@ -1,6 +1,6 @@
 use Rattle.std.proofs.Common.{◌≡◌, true, ap, ◌∙◌}
 use Rattle.stk_emu.specs.Programmer.{eeprom_fits, sent_to, eeprom_loads, eeprom_writes}
-use Rattle.stk_emu.proofs.Blocks.{run_done}
+use Rattle.stk_emu.proofs.Memories.Blocks.{run_done}
 use Rattle.stk_emu.proofs.programmer.Programmer.program_eeprom.Goals as goal
 
 pub returns : goal.returns

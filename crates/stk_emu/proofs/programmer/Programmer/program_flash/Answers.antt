@@ -1,6 +1,6 @@
 use Rattle.std.proofs.Common.{◌≡◌, true, ap, ◌∙◌}
 use Rattle.stk_emu.specs.Programmer.{flash_fits, sent_to, flash_loads, flash_writes}
-use Rattle.stk_emu.proofs.Blocks.{page_done}
+use Rattle.stk_emu.proofs.Memories.Blocks.{page_done}
 use Rattle.stk_emu.proofs.programmer.Programmer.program_flash.Goals as goal
 
 pub returns : goal.returns

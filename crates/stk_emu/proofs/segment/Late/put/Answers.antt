@@ -1,7 +1,7 @@
 use Rattle.std.proofs.Common.{◌++◌, ◌∙◌, ap}
 use Rattle.stk_host.specs.Tape.{on_tape}
 use Rattle.stk_emu.specs.Waiting.{tape_in}
-use Rattle.stk_emu.proofs.Waits.{three_put}
+use Rattle.stk_emu.proofs.Wires.Waiting.{three_put}
 use Rattle.stk_emu.proofs.segment.Late.put.Goals as goal
 
 pub returns-clause-items : goal.returns-clause-items

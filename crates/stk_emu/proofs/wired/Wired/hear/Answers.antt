@@ -6,8 +6,8 @@ use Rattle.stk_host.specs.Tape.{on_tape}
 use Rattle.stk_host.specs.Talk as talk
 use Rattle.stk_emu.specs.Waiting.{tape_in}
 use Rattle.stk_emu.specs.WiredInside.{wired_state}
-use Rattle.stk_emu.proofs.Waits.{left_on}
-use Rattle.stk_emu.proofs.Keeping.{heard_state}
+use Rattle.stk_emu.proofs.Wires.Waiting.{left_on}
+use Rattle.stk_emu.proofs.Wires.Kept.{heard_state}
 use Rattle.stk_emu.proofs.wired.Wired.hear.Goals as goal
 
 pub returns-clause-ok : goal.returns-clause-ok

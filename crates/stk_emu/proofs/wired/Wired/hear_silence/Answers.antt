@@ -2,8 +2,8 @@ use Rattle.std.proofs.Common.{[], ◌∷◌, drop}
 use Rattle.stk_host.specs.declared.link.Item.TheVariants as item
 use Rattle.stk_emu.specs.Waiting.{tape_in}
 use Rattle.stk_emu.specs.WiredInside.{wired_state}
-use Rattle.stk_emu.proofs.Waits.{left_on}
-use Rattle.stk_emu.proofs.Keeping.{heard_state}
+use Rattle.stk_emu.proofs.Wires.Waiting.{left_on}
+use Rattle.stk_emu.proofs.Wires.Kept.{heard_state}
 use Rattle.stk_emu.proofs.wired.Wired.hear_silence.Goals as goal
 
 pub returns-clause-ok : goal.returns-clause-ok

@@ -1,9 +1,9 @@
 use Rattle.std.proofs.Common.{ap, ◌∙◌, arith, [], ◌∷◌, ◌++◌, take, length-append, rules}
 use Rattle.stk_frame.specs.Reader.{frames_of_event}
 use Rattle.stk_host.specs.Talk as talk
-use Rattle.stk_emu.proofs.Answering.{found_frames}
-use Rattle.stk_emu.proofs.Waits.{grown}
-use Rattle.stk_emu.proofs.Keeping.{keeps_passing}
+use Rattle.stk_emu.proofs.Answers.Texts.{found_frames}
+use Rattle.stk_emu.proofs.Wires.Waiting.{grown}
+use Rattle.stk_emu.proofs.Wires.Kept.{keeps_passing}
 use Rattle.stk_emu.proofs.wired.Wired.pass.Goals as goal
 
 pub invariant_of-self-2 : goal.invariant_of-self-2

@@ -1,6 +1,6 @@
 use Rattle.std.proofs.Common.{subst, sym}
 use Rattle.stk_emu.specs.Wired.{ComesOf}
-use Rattle.stk_emu.proofs.Keeping.{keeps_hearing}
+use Rattle.stk_emu.proofs.Wires.Kept.{keeps_hearing}
 use Rattle.stk_emu.proofs.wired.WiredLink.recv.Goals as goal
 
 pub returns-in-Ok-clause-comes : goal.returns-in-Ok-clause-comes

@@ -1,7 +1,7 @@
 use Rattle.std.proofs.Common.{◌≡◌, ◌-◌, ◌≤◌, length, List, ℕ, [], ◌∷◌, slice_index, take, drop, sym, ap, ◌∙◌, arith}
 use Rattle.std.proofs.lemmas.List.{take_all}
 use Rattle.stk_frame.specs.Decoding.{command_of, with_fields}
-use Rattle.stk_frame.proofs.Decoding.{is_read}
+use Rattle.stk_frame.proofs.DecodedBodies.{is_read}
 use Rattle.stk_frame.proofs.command.Command.read.Goals as goal
 
 apart : (bytes : List ℕ) → 1 ≤ length bytes

@@ -1,5 +1,5 @@
 use Rattle.std.proofs.Common.{[]}
-use Rattle.stk_frame.proofs.Feeding.{fed_span, within_span}
+use Rattle.stk_frame.proofs.FedReaders.{fed_span, within_span}
 use Rattle.stk_frame.proofs.reader.FrameReader.feed.Goals as goal
 
 pub loop-used-preserved : goal.loop-used-preserved

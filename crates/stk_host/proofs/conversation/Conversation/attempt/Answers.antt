@@ -4,8 +4,8 @@ use Rattle.std.proofs.lemmas.List.{drop_all}
 use Rattle.std.proofs.lemmas.List.Elements.{All-get_or}
 use Rattle.stk_frame.specs.declared.command.Command.{Command}
 use Rattle.stk_host.specs.Calls.{BringsNoData}
-use Rattle.stk_host.proofs.Reaching.{reaches_here}
-use Rattle.stk_host.proofs.Steps.{turn_data, turn_again, turn_stop, turn_breaks, turn_last}
+use Rattle.stk_host.proofs.Talks.Reached.{reaches_here}
+use Rattle.stk_host.proofs.Operations.Attempts.{turn_data, turn_again, turn_stop, turn_breaks, turn_last}
 use Rattle.stk_host.proofs.conversation.Conversation.attempt.Goals as goal
 
 -- the commands from the one at a place on
@@ -35,7 +35,7 @@ returns-in_err-exchange-clause-replies g c = record {
   ok = search rules;
   err =
       let p = err_from_is_err_and c.from_residual.result c.from_residual.ensures.1 in
-      rw (p.1, p.2) (turn_breaks _ _ _ c.loop-command.invariant.reaches
+      rw (p.1, p.2) (turn_breaks c.loop-command.invariant.reaches
       (next_command c.args.first.now c.args.last.now _ c.loop-command.command-index c.loop-command-test.true
       c.command-item.is) c.in_err-exchange.ensures.replies.err);
   sized = search rules;
@@ -45,9 +45,9 @@ returns-in_err-exchange-clause-replies g c = record {
 
 pub returns-in-Again-clause-replies : goal.returns-in-Again-clause-replies
 returns-in-Again-clause-replies g c = record {
-  ok = turn_again _ _ _ _ _ _ c.loop-command.invariant.reaches
+  ok = turn_again c.loop-command.invariant.reaches
       (next_command c.args.first.now c.args.last.now _ c.loop-command.command-index c.loop-command-test.true
-      c.command-item.is) c.in_ok-exchange.ensures.replies.ok c.in-Again.is;
+      c.command-item.is) _ c.in_ok-exchange.ensures.replies.ok c.in-Again.is;
   err = search rules;
   sized = search rules;
   counts = search rules;
@@ -56,9 +56,9 @@ returns-in-Again-clause-replies g c = record {
 
 pub returns-in-Stop-clause-replies : goal.returns-in-Stop-clause-replies
 returns-in-Stop-clause-replies g c = record {
-  ok = turn_stop _ _ _ _ _ _ c.loop-command.invariant.reaches
+  ok = turn_stop c.loop-command.invariant.reaches
       (next_command c.args.first.now c.args.last.now _ c.loop-command.command-index c.loop-command-test.true
-      c.command-item.is) c.in_ok-exchange.ensures.replies.ok c.in-Stop.is;
+      c.command-item.is) _ c.in_ok-exchange.ensures.replies.ok c.in-Stop.is;
   err = search rules;
   sized = search rules;
   counts = search rules;
@@ -67,7 +67,7 @@ returns-in-Stop-clause-replies g c = record {
 
 pub loop-command-preserved : goal.loop-command-preserved
 loop-command-preserved g c = record {
-  reaches = rw add-one (turn_data _ _ _ _ _ c.loop-command.invariant.reaches
+  reaches = rw add-one (turn_data c.loop-command.invariant.reaches
       (next_command c.args.first.now c.args.last.now _ c.loop-command.command-index c.loop-command-test.true
       c.command-item.is) c.in_ok-exchange.ensures.replies.ok c.in-Data.is
       (c.in_ok-exchange.ensures.quiet (its_own c.args.first.now _ c.loop-command.command-index c.loop-command-test.true
@@ -81,7 +81,7 @@ returns-in_err-reply-clause-replies g c = record {
   ok = search rules;
   err =
       let p = err_from_is_err_and c.from_residual-in_err-reply.result c.from_residual-in_err-reply.ensures.1 in
-      rw (p.1, p.2) (turn_breaks _ _ _ c.loop-command.invariant.reaches
+      rw (p.1, p.2) (turn_breaks c.loop-command.invariant.reaches
       (ap (λ cs. cs ++ c.args.last.now ∷ []) (drop_all c.loop-command.command-index c.args.first.now (omega arith)))
       c.in_err-reply.ensures.replies.err);
   sized = search rules;
@@ -91,7 +91,7 @@ returns-in_err-reply-clause-replies g c = record {
 
 pub returns-clause-replies : goal.returns-clause-replies
 returns-clause-replies g c = record {
-  ok = turn_last _ _ _ _ c.loop-command.invariant.reaches
+  ok = turn_last _ _ c.loop-command.invariant.reaches
       (ap (λ cs. cs ++ c.args.last.now ∷ []) (drop_all c.loop-command.command-index c.args.first.now (omega arith)))
       c.in_ok-reply.ensures.replies.ok;
   err = search rules;

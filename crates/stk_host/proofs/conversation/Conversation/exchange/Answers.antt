@@ -1,5 +1,5 @@
 use Rattle.std.proofs.Common.{refl, rules}
-use Rattle.stk_host.proofs.Steps.{exchange_done, exchange_unsent, exchange_unheard}
+use Rattle.stk_host.proofs.Operations.Attempts.{exchange_done, exchange_unsent, exchange_unheard}
 use Rattle.stk_host.proofs.conversation.Conversation.exchange.Goals as goal
 
 pub returns-in_default-clause-replies : goal.returns-in_default-clause-replies

@@ -1,6 +1,6 @@
 use Rattle.std.proofs.Common.{refl, arith, ◌-◌, ◌+◌, rules}
-use Rattle.stk_host.proofs.Reaching.{reaches_here}
-use Rattle.stk_host.proofs.Steps.{try_again, try_data, try_stop, try_breaks, try_end}
+use Rattle.stk_host.proofs.Talks.Reached.{reaches_here}
+use Rattle.stk_host.proofs.Operations.Attempts.{try_again, try_data, try_stop, try_breaks, try_end}
 use Rattle.stk_host.proofs.conversation.Conversation.step.Goals as goal
 
 pub loop-tried-init : goal.loop-tried-init
@@ -13,7 +13,7 @@ loop-tried-init g c = record {
 
 pub returns-in-Ok-Data-clause-asks : goal.returns-in-Ok-Data-clause-asks
 returns-in-Ok-Data-clause-asks g c = record {
-  played = try_data (4 - c.loop-tried.tried) (4 - (c.loop-tried.tried + 1)) _ _ _ _ (omega arith)
+  played = try_data {k = 4 - c.loop-tried.tried} (4 - (c.loop-tried.tried + 1)) _ _ (omega arith)
       c.loop-tried.invariant.reaches c.in-Ok-Data.ensures.replies.ok c.in-Ok-Data.field-0-is;
   counted = search rules;
   bound = search rules;
@@ -21,15 +21,15 @@ returns-in-Ok-Data-clause-asks g c = record {
 
 pub returns-in-Ok-Stop-clause-asks : goal.returns-in-Ok-Stop-clause-asks
 returns-in-Ok-Stop-clause-asks g c = record {
-  played = try_stop (4 - c.loop-tried.tried) (4 - (c.loop-tried.tried + 1)) _ _ _ _ _ (omega arith)
-      c.loop-tried.invariant.reaches c.in-Ok-Stop.ensures.replies.ok c.in-Ok-Stop.field-0-is;
+  played = try_stop {k = 4 - c.loop-tried.tried} (4 - (c.loop-tried.tried + 1)) _ _ (omega arith)
+      c.loop-tried.invariant.reaches _ c.in-Ok-Stop.ensures.replies.ok c.in-Ok-Stop.field-0-is;
   counted = search rules;
   bound = search rules;
 }
 
 pub returns-in-Err-clause-asks : goal.returns-in-Err-clause-asks
 returns-in-Err-clause-asks g c = record {
-  played = try_breaks (4 - c.loop-tried.tried) (4 - (c.loop-tried.tried + 1)) _ _ (omega arith)
+  played = try_breaks {k = 4 - c.loop-tried.tried} (4 - (c.loop-tried.tried + 1)) _ _ (omega arith)
       c.loop-tried.invariant.reaches c.in-Err.ensures.replies.err;
   counted = search rules;
   bound = search rules;
@@ -37,8 +37,8 @@ returns-in-Err-clause-asks g c = record {
 
 pub loop-tried-preserved : goal.loop-tried-preserved
 loop-tried-preserved g c = record {
-  reaches = try_again (4 - c.loop-tried.tried) (4 - (c.loop-tried.tried + 1)) _ _ _ _ _ (omega arith)
-      c.loop-tried.invariant.reaches c.in-Ok-Again.ensures.replies.ok c.in-Ok-Again.field-0-is;
+  reaches = try_again {k = 4 - c.loop-tried.tried} (4 - (c.loop-tried.tried + 1)) _ _ (omega arith)
+      c.loop-tried.invariant.reaches _ c.in-Ok-Again.ensures.replies.ok c.in-Ok-Again.field-0-is;
   bound = λ some. c.attempt.ensures.replies.bound;
   counted = omega (arith, c.in-Ok-Again.ensures.replies.counts.sound, c.loop-tried.invariant.counted);
   comes = λ start of. c.attempt.ensures.comes start (c.loop-tried.invariant.comes start of);

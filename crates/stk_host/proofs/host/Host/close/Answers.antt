@@ -1,5 +1,5 @@
 use Rattle.std.proofs.Common.{rules}
-use Rattle.stk_host.proofs.Ends.{closing_ends}
+use Rattle.stk_host.proofs.Operations.StepEnds.{closing_ends}
 use Rattle.stk_host.proofs.host.Host.close.Goals as goal
 
 pub returns-clause-calls : goal.returns-clause-calls

@@ -1,5 +1,5 @@
 use Rattle.std.proofs.Common.{rules}
-use Rattle.stk_host.proofs.Going.{done_ends}
+use Rattle.stk_host.proofs.Operations.Steps.{done_ends}
 use Rattle.stk_host.proofs.host.Host.erase.Goals as goal
 
 pub returns-clause-calls : goal.returns-clause-calls

@@ -1,5 +1,5 @@
 use Rattle.std.proofs.Common.{rules}
-use Rattle.stk_host.proofs.Ends.{opening_ends}
+use Rattle.stk_host.proofs.Operations.StepEnds.{opening_ends}
 use Rattle.stk_host.proofs.host.Host.open.Goals as goal
 
 pub returns-clause-calls : goal.returns-clause-calls

@@ -1,5 +1,5 @@
 use Rattle.std.proofs.Common.{rules}
-use Rattle.stk_host.proofs.Going.{reading_ends, read_sized, read_short, size_fits}
+use Rattle.stk_host.proofs.Operations.Steps.{reading_ends, read_sized, read_short, size_fits}
 use Rattle.stk_host.proofs.host.Host.read.Goals as goal
 
 pub returns-clause-calls : goal.returns-clause-calls

@@ -1,5 +1,5 @@
 use Rattle.std.proofs.Common.{◌∙◌, sym, rules}
-use Rattle.stk_host.proofs.Going.{writing_ends, writes_nothing}
+use Rattle.stk_host.proofs.Operations.Steps.{writing_ends, writes_nothing}
 use Rattle.stk_host.proofs.host.Host.write.Goals as goal
 
 pub returns-then-not-writable-clause-calls : goal.returns-then-not-writable-clause-calls

@@ -4,7 +4,7 @@ use Rattle.std.proofs.lemmas.List.{append-nil}
 use Rattle.stk_host.specs.Tape.{on_tape}
 use Rattle.stk_host.specs.Talk as talk
 use Rattle.stk_host.specs.declared.log.Mark.TheVariants as mark
-use Rattle.stk_host.proofs.Logs.{log_adds, counts_more}
+use Rattle.stk_host.proofs.Talks.Logs.{log_adds, counts_more}
 use Rattle.stk_host.proofs.log.Log.hear_bytes.Goals as goal
 
 pub invariant_of-self-2 : goal.invariant_of-self-2

@@ -1,7 +1,7 @@
 use Rattle.std.proofs.Common.{◌∙◌, ap, sym}
 use Rattle.stk_host.specs.Talk as talk
 use Rattle.stk_host.specs.Tape.{bytes_of}
-use Rattle.stk_host.proofs.Logs.{heard_in}
+use Rattle.stk_host.proofs.Talks.Logs.{heard_in}
 use Rattle.stk_host.proofs.log.Log.heard.Goals as goal
 
 pub returns : goal.returns

@@ -1,6 +1,6 @@
 use Rattle.std.proofs.Common.{take, refl, subst}
 use Rattle.stk_host.specs.Links.{StreamState, IsTrueSince}
-use Rattle.stk_host.proofs.Streams.{true_on, true_of_sent}
+use Rattle.stk_host.proofs.Talks.Streams.{true_on, true_of_sent}
 use Rattle.stk_host.proofs.stream_link.StreamLinkLink.send.Goals as goal
 
 pub returns-in-Ok-clause-comes : goal.returns-in-Ok-clause-comes

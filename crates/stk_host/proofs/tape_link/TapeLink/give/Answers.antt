@@ -1,5 +1,5 @@
 use Rattle.std.proofs.Common.{◌∙◌}
-use Rattle.stk_host.proofs.Pieces.{piece_alone, room_of, from_place}
+use Rattle.stk_host.proofs.Tapes.Prefixes.{piece_alone, room_of, from_place}
 use Rattle.stk_host.proofs.tape_link.TapeLink.give.Goals as goal
 
 pub returns-clause-piece : goal.returns-clause-piece

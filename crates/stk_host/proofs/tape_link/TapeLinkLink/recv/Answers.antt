@@ -1,4 +1,4 @@
-use Rattle.stk_host.proofs.OfTape.{heard_of_tape}
+use Rattle.stk_host.proofs.Tapes.TapeLinks.{heard_of_tape}
 use Rattle.stk_host.proofs.tape_link.TapeLinkLink.recv.Goals as goal
 
 pub returns-clause-comes : goal.returns-clause-comes

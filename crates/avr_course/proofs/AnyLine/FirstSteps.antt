@@ -1,0 +1,140 @@
+-- The memories of some first steps of items, and of items one after another.
+use Rattle.std.proofs.Common.{◌≡◌, ℕ, zero, suc, ◌+◌, List, [], ◌∷◌, ◌++◌, length, refl, sym, ap, ◌∙◌, subst, append_assoc}
+use Rattle.avr_part.specs.declared.part.Mem.{Mem}
+use Rattle.avr_part.specs.declared.part.Mem.TheVariants.{Flash, Eeprom, Lfuse, Hfuse, Efuse, Lock, Signature, Calibration}
+use Rattle.avr_part.specs.Part.{Part, IsPart}
+use Rattle.stk_frame.specs.declared.command.Command.{Command}
+use Rattle.stk_host.specs.Places.{each_from}
+use Rattle.stk_host.specs.ReadSteps.{block_count, block_steps, signature_step, read_steps}
+use Rattle.stk_emu.specs.Programmer.{Programmer}
+use Rattle.stk_emu.specs.Effect.{Memories, Item, effect, effects}
+use Rattle.stk_emu.specs.Settled.{Idle, FitsPart}
+use Rattle.stk_emu.specs.Strokes.{struck, struck_by, stroke_of, steps_of, all_steps, AllFitItems}
+use Rattle.stk_lines.specs.Leads.{Reached}
+use Rattle.stk_emu.proofs.Answers.Commands.{settled_idle}
+use Rattle.stk_lines.proofs.Strokes.Items.{items_do, struck_all, effect_sizes}
+
+-- the memories of the first so many of these steps, in any mode
+pub record Rests (part : Part) (steps : List (List Command)) (m : Memories) (q : Programmer) : Type 0 where
+  pub count : ℕ
+  pub stands : Idle part (struck_by part count steps m) q
+
+-- so many of the first steps, in front of others
+abbrev pub prefix : ℕ → List (List Command) → ℕ
+prefix zero steps = zero
+prefix (suc count) [] = zero
+prefix (suc count) (commands ∷ steps) = suc (prefix count steps)
+
+-- all of these, and so many more
+abbrev pub behind : List (List Command) → ℕ → ℕ
+behind [] count = count
+behind (commands ∷ steps) count = suc (behind steps count)
+
+pub struck_prefix : (part : Part) (count : ℕ) (xs ys : List (List Command)) (m : Memories)
+    → struck_by part (prefix count xs) (xs ++ ys) m ≡ struck_by part count xs m
+struck_prefix part zero xs ys m = refl
+struck_prefix part (suc count) [] ys m = refl
+struck_prefix part (suc count) (commands ∷ xs) ys m = struck_prefix part count xs ys (struck part commands m)
+
+pub struck_behind : (part : Part) (count : ℕ) (xs ys : List (List Command)) (m : Memories)
+    → struck_by part (behind xs count) (xs ++ ys) m ≡ struck_by part count ys (struck_by part (length xs) xs m)
+struck_behind part count [] ys m = refl
+struck_behind part count (commands ∷ xs) ys m = struck_behind part count xs ys (struck part commands m)
+
+pub all_on : (part : Part) (xs ys : List Item) → all_steps part (xs ++ ys) ≡ all_steps part xs ++ all_steps part ys
+all_on part [] ys = refl
+all_on part (item ∷ xs) ys = ap (λ steps. steps_of part item ++ steps) (all_on part xs ys)
+    ∙ sym (append_assoc (steps_of part item) (all_steps part xs) (all_steps part ys))
+
+module _ (part : Part) where
+  pub reached_rests : (steps : List (List Command)) (m : Memories) (q : Programmer) → Reached part steps m q
+      → Rests part steps m q
+  reached_rests steps m q r = record {
+    count = r.count;
+    stands =
+        settled_idle part (struck_by part r.count steps m) q r.stands;
+  }
+
+  pub rests_here : (steps : List (List Command)) (m : Memories) (q : Programmer) → Idle part m q → Rests part steps m q
+  rests_here steps m q idle = record { count = 0; stands = idle }
+
+  -- some first steps are some first of more
+  pub rests_before : (xs ys : List Item) (m : Memories) (q : Programmer) → Rests part (all_steps part xs) m q
+      → Rests part (all_steps part (xs ++ ys)) m q
+  rests_before xs ys m q r =
+      let steps = all_steps part xs in
+      subst (λ all. Rests part all m q) (sym (all_on part xs ys)) (record {
+        count = prefix r.count steps;
+        stands = subst (λ z. Idle part z q) (sym (struck_prefix part r.count steps (all_steps part ys) m)) r.stands;
+      })
+
+  pub effects_sizes : (sound : IsPart part) (items : List Item) (m : Memories) → FitsPart part m
+      → FitsPart part (effects part items m)
+  effects_sizes sound [] m f = f
+  effects_sizes sound (item ∷ items) m f =
+      effects_sizes sound items (effect part item m) (effect_sizes part sound item m f)
+
+  -- all steps of items do what they do
+  pub all_struck : (sound : IsPart part) (items : List Item) (m : Memories) → AllFitItems part items → FitsPart part m
+      → struck_by part (length (all_steps part items)) (all_steps part items) m ≡ effects part items m
+  all_struck sound items m fits f = struck_all part (all_steps part items) m ∙ items_do part sound items m fits f
+
+  pub rests_all : (sound : IsPart part) (items : List Item) (m : Memories) (q : Programmer) → AllFitItems part items
+      → FitsPart part m → Idle part (effects part items m) q
+      → Rests part (all_steps part items) m q
+  rests_all sound items m q fits f idle = record {
+    count = length (all_steps part items);
+    stands =
+        subst (λ z. Idle part z q) (sym (all_struck sound items m fits f)) idle;
+  }
+
+  -- all of the first steps and some of more
+  pub rests_behind : (sound : IsPart part) (xs ys : List Item) (m : Memories) (q : Programmer) → AllFitItems part xs
+      → FitsPart part m → Rests part (all_steps part ys) (effects part xs m) q
+      → Rests part (all_steps part (xs ++ ys)) m q
+  rests_behind sound xs ys m q fits f r =
+      let steps = all_steps part xs in
+      subst (λ all. Rests part all m q) (sym (all_on part xs ys)) (record {
+        count = behind steps r.count;
+        stands = subst (λ z. Idle part z q)
+            (sym (struck_behind part r.count steps (all_steps part ys) m
+            ∙ ap (struck_by part r.count (all_steps part ys)) (all_struck sound xs m fits f))) r.stands;
+      })
+
+  pub fits_on : (xs ys : List Item) → AllFitItems part xs → AllFitItems part ys → AllFitItems part (xs ++ ys)
+  fits_on [] ys f g = g
+  fits_on (item ∷ xs) ys f g = (f.0, fits_on xs ys f.1 g)
+
+-- steps that write nothing
+abbrev pub AreQuiet : List (List Command) → Type 0
+AreQuiet [] = Unit {0}
+AreQuiet (commands ∷ steps) = (stroke_of commands ≡ []) × AreQuiet steps
+
+pub quiet_stays : (part : Part) (count : ℕ) (steps : List (List Command)) (m : Memories) → AreQuiet steps
+    → struck_by part count steps m ≡ m
+quiet_stays part zero steps m quiet = refl
+quiet_stays part (suc count) [] m quiet = refl
+quiet_stays part (suc count) (commands ∷ steps) m quiet =
+    ap (λ items. struck_by part count steps (effects part items m)) quiet.0 ∙ quiet_stays part count steps m quiet.1
+
+quiet_on : (xs ys : List (List Command)) → AreQuiet xs → AreQuiet ys → AreQuiet (xs ++ ys)
+quiet_on [] ys f g = g
+quiet_on (commands ∷ xs) ys f g = (f.0, quiet_on xs ys f.1 g)
+
+each_quiet : (steps_at : ℕ → List (List Command)) (place count : ℕ) → ((i : ℕ) → AreQuiet (steps_at i))
+    → AreQuiet (each_from steps_at place count)
+each_quiet steps_at place zero each = tt
+each_quiet steps_at place (suc count) each =
+    quiet_on (steps_at place) (each_from steps_at (place + 1) count) (each place)
+    (each_quiet steps_at (place + 1) count each)
+
+-- to read writes nothing
+pub read_quiet : (part : Part) (mem : Mem) → AreQuiet (read_steps part mem)
+read_quiet part Flash = each_quiet (block_steps part Flash) 0 (block_count part.flash_size) (λ i. (refl, tt))
+read_quiet part Eeprom = each_quiet (block_steps part Eeprom) 0 (block_count part.eeprom_size) (λ i. (refl, tt))
+read_quiet part Lfuse = (refl, tt)
+read_quiet part Hfuse = (refl, tt)
+read_quiet part Efuse = (refl, tt)
+read_quiet part Lock = (refl, tt)
+read_quiet part Signature = each_quiet signature_step 0 3 (λ i. (refl, tt))
+read_quiet part Calibration = (refl, tt)

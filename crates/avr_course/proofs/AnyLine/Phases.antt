@@ -1,0 +1,332 @@
+-- The phases of a session over any line: what they leave, where all that they say is true.
+use Rattle.std.proofs.Common.{◌≡◌, ℕ, ◌≤◌, List, [], ◌∷◌, ◌++◌, length, refl, sym, ap, ◌∙◌, subst, arith, inl, inr, ◌⊎◌, Ok, Err, Result, Bool, true, false, Option, Some, None}
+use Rattle.std.proofs.lemmas.List.{append-nil}
+use Rattle.std.specs.Prelude.{⊤, if◌then◌else◌}
+use Rattle.avr_cli.specs.declared.settings.Switches.{Switches}
+use Rattle.avr_desk.specs.Said.{Saying}
+use Rattle.avr_part.specs.Mem.{is_writable}
+use Rattle.avr_part.specs.declared.part.Mem.{Mem}
+use Rattle.avr_part.specs.Part.{Part, IsPart, size_of}
+use Rattle.stk_frame.specs.declared.command.Command.{Command}
+use Rattle.stk_host.specs.declared.fault.HostFault.{HostFault}
+use Rattle.stk_host.specs.declared.fault.HostFault.TheVariants.{Differs, ReadOnly}
+use Rattle.stk_host.specs.Dialog.{Dialog, Done, ◌>>=◌}
+use Rattle.stk_host.specs.WriteSteps.{write_steps}
+use Rattle.stk_host.specs.ReadSteps.{read_steps}
+use Rattle.stk_host.specs.Operations.{Difference, opening, no_result, host_fault, signature_judged, difference_from, differs, comparison, operation}
+use Rattle.stk_emu.specs.Programmer.{Programmer}
+use Rattle.stk_emu.specs.Device.{device}
+use Rattle.stk_emu.specs.Effect.{Memories, Image, Item, Erase, Write, effects, memory_in}
+use Rattle.stk_emu.specs.Settled.{Idle, Settled, FitsPart}
+use Rattle.stk_emu.specs.Strokes.{struck_by, steps_of, all_steps, AreSteps, AllFitItems}
+use Rattle.stk_emu.specs.Given.{all_given}
+use Rattle.stk_lines.specs.Leads.{Leads, Reached, AfterBeginning}
+use Rattle.stk_emu.specs.Turn.{Turn}
+use Rattle.stk_lines.proofs.Hosts.AnyTurn.{any_turn, Keeps, leads}
+use Rattle.stk_host.proofs.Dialogs.Logic.{Upholds, done, say, bind, told, wider, call}
+use Rattle.stk_host.specs.Steps.{StepOutcome}
+use Rattle.stk_host.specs.declared.fault.StepFault.{StepFault}
+use Rattle.stk_emu.proofs.Answers.Commands.{settled_idle}
+use Rattle.stk_lines.proofs.Strokes.Pages.{effects_on}
+use Rattle.stk_lines.proofs.Strokes.Items.{write_are_steps, read_are_steps, item_are_steps}
+use Rattle.stk_lines.proofs.Given.WholeMemories.{read_gives}
+use Rattle.stk_lines.proofs.Given.Comparisons.{no_difference}
+use Rattle.stk_lines.proofs.Hosts.Operations.{AfterCall, operation_goes, beginning_goes}
+use Rattle.avr_session.specs.declared.standing.Standing.{Standing}
+use Rattle.avr_session.specs.declared.standing.Standing.TheVariants.{Fine, Faulty, Over}
+use Rattle.avr_session.specs.Actions.{Action, OpenSession, EraseChip, WriteImage, CompareImage, SaveMemory, LeaveOut}
+use Rattle.avr_session.specs.Session.{says, standing, reported, unless_fault, fault_or, opening_says, erased_says, written_says, verified_says, read_says, left_out_says, phase, phases}
+use Rattle.avr_course.specs.Items.{action_items, actions_items}
+use Rattle.avr_course.specs.Agrees.{Shows, ActionAgrees, ActionsAgree}
+use Rattle.avr_course.proofs.Plans.Standings.{after_fault}
+use Rattle.avr_course.proofs.FewBad.Calls.{signature_taken}
+use Rattle.avr_course.proofs.Plans.Fits.{FitsAction, AllFitActions, action_items_fit}
+use Rattle.avr_course.proofs.AnyLine.FirstSteps.{Rests, reached_rests, rests_here, rests_before, rests_all, rests_behind, effects_sizes, all_struck, quiet_stays, read_quiet}
+
+-- each of these sayings is true of a programmer
+abbrev pub AllTrue : (Saying → Programmer → Type 0) → List Saying → Programmer → Type 0
+AllTrue True [] q = ⊤
+AllTrue True (saying ∷ sayings) q = True saying q × AllTrue True sayings q
+
+-- After a phase of a session that does these items: where it is fine, it has done them all, and the check holds; after
+-- a
+-- fault the memories are those of some first steps.
+abbrev pub Comes : Part → Memories → List Item → Type 0 → Standing → Programmer → Type 0
+Comes part m items Check Fine q = Settled part (effects part items m) q × Check
+Comes part m items Check Faulty q = Rests part (all_steps part items) m q
+Comes part m items Check Over q = Rests part (all_steps part items) m q
+
+ok_is : {A : Type 0} (a : A) (fault : HostFault) → ◌≡◌ {A = Result A HostFault} (Ok a) (Err fault) → ⊥
+ok_is a fault e = cc
+
+pub none_differs : (mem : Mem) (d : Option Difference) (a : ⊤) → differs mem d ≡ Ok a → d ≡ None
+none_differs mem None a e = refl
+none_differs mem (Some d) a e = absurd (ok_is a (Differs mem d.addr d.want d.found) (sym e))
+
+-- a session that is opened with the part's own signature, or a step's fault
+module _ (part : Part) (sound : IsPart part) where
+  abbrev pub Opened : Memories → Result (List ℕ) HostFault → Programmer → Type 0
+  Opened m r q = (Settled part m q × (r ≡ Ok part.signature))
+      ⊎ ((fault : StepFault) × (r ≡ Err (host_fault fault)) × Idle part m q)
+
+  pub opening_comes : (force : Bool) (m : Memories) → FitsPart part m → (p : Programmer) → Idle part m p
+      → Keeps device (Idle part m) (Opened m) (opening part.signature force) p
+  unfolding opening
+  opening_comes force m f p idle = told (signature_judged part.signature force) (beginning_goes part sound m p f idle)
+      came
+    where
+      came : (o : StepOutcome) (q : Programmer) → AfterBeginning part m o q
+          → Opened m (signature_judged part.signature force o) q
+      came (Ok found) q a =
+          inl (
+            a.0,
+            subst (λ x. signature_judged part.signature force (Ok x) ≡ Ok part.signature) (sym a.1)
+                (signature_taken part.signature force),
+          )
+      came (Err fault) q i = inr (fault, refl, i)
+
+module _ (part : Part) (sound : IsPart part) (True : Saying → Programmer → Type 0) where
+  -- a dialog of a session, under one condition throughout, in which all that is said is true
+  abbrev pub Tells : {R : Type 0} → (Programmer → Type 0) → (R → Programmer → Type 0) → Dialog Saying R → Programmer
+      → Type 0
+  Tells During After d p = Upholds (any_turn device) (λ bytes q. During q) True After d p
+
+  -- a phase of a session that does these items, from such a programmer
+  abbrev pub Goes : (Programmer → Type 0) → Memories → List Item → Type 0 → Dialog Saying Standing → Type 0
+  Goes From m items Check d = (p : Programmer) → From p
+      → Tells (Rests part (all_steps part items) m) (Comes part m items Check) d p
+
+  tells_says : {R : Type 0} {During : Programmer → Type 0} {After : R → Programmer → Type 0} (r : R)
+      (sayings : List Saying) (p : Programmer) → AllTrue True sayings p → After r p
+      → Tells During After (says sayings (Done r)) p
+  tells_says r [] p all a = done a
+  tells_says r (saying ∷ sayings) p all a = say all.0 (tells_says r sayings p all.1 a)
+
+  -- a call, and what is said of its outcome
+  pub tells_reported : {A : Type 0} {During : Programmer → Type 0} {After : Result A HostFault → Programmer → Type 0}
+      {Then : Standing → Programmer → Type 0} {operation : Dialog ⊥ (Result A HostFault)}
+      (outcome_says : Result A HostFault → List Saying) (p : Programmer) → Keeps device During After operation p
+      → ((r : Result A HostFault) (q : Programmer) → After r q → AllTrue True (outcome_says r) q × Then (standing r) q)
+      → Tells During Then (reported operation outcome_says) p
+  tells_reported outcome_says p l each = bind (call l)
+      (λ r q a. let x = each r q a in tells_says (standing r) (outcome_says r) q x.0 x.1)
+
+  -- what is said of an operation that does these items is true, of its one result and of a step's fault
+  abbrev pub SaysTrue : {A : Type 0} → (Result A HostFault → List Saying) → List Item → Result A HostFault → Memories
+      → Type 0
+  SaysTrue outcome_says items r m =
+      ((q : Programmer) → Settled part (effects part items m) q → AllTrue True (outcome_says r) q)
+      × ((fault : StepFault) (q : Programmer) → AllTrue True (outcome_says (Err (host_fault fault))) q)
+
+  -- after an operation: all of its items and its one result, or a step's fault
+  abbrev Came : {A : Type 0} → List Item → Result A HostFault → Memories → Result A HostFault → Programmer → Type 0
+  Came items r m got q =
+      (Settled part (effects part items m) q × (got ≡ r))
+      ⊎ ((fault : StepFault) × (got ≡ Err (host_fault fault)) × Rests part (all_steps part items) m q)
+
+  goes_call : {A : Type 0} (From : Programmer → Type 0) (m : Memories) (items : List Item) (Check : Type 0)
+      (operation : Dialog ⊥ (Result A HostFault)) (r : Result A HostFault)
+      (outcome_says : Result A HostFault → List Saying) → AllFitItems part items → FitsPart part m
+      → SaysTrue outcome_says items r m → ((a : A) → r ≡ Ok a → Check)
+      → ((p : Programmer) → From p → Keeps device (Rests part (all_steps part items) m) (Came items r m) operation p)
+      → Goes From m items Check (reported operation outcome_says)
+  goes_call {A = A} From m items Check operation r outcome_says fits f holds check l p from =
+      tells_reported outcome_says p (l p from) each
+    where
+      comes : (x : Result A HostFault) → r ≡ x → (q : Programmer) → Settled part (effects part items m) q
+          → Comes part m items Check (standing x) q
+      comes (Ok a) e q s = (s, check a e)
+      comes (Err fault) e q s =
+          let rests = rests_all part sound items m q fits f (settled_idle part (effects part items m) q s) in
+          after_fault A (λ s. Comes part m items Check s q) fault rests rests
+
+      each : (got : Result A HostFault) (q : Programmer) → Came items r m got q
+          → AllTrue True (outcome_says got) q × Comes part m items Check (standing got) q
+      each got q (inl made) = subst (λ x. AllTrue True (outcome_says x) q × Comes part m items Check (standing x) q)
+          (sym made.1) (holds.0 q made.0, comes r refl q made.0)
+      each got q (inr broke) =
+          subst (λ x. AllTrue True (outcome_says x) q × Comes part m items Check (standing x) q) (sym broke.1)
+          (holds.1 broke.0 q, after_fault A (λ s. Comes part m items Check s q) (host_fault broke.0) broke.2 broke.2)
+
+  -- an operation, by its steps
+  goes_operation : {A : Type 0} (m : Memories) (items : List Item) (Check : Type 0) (steps : List (List Command))
+      (judge : List ℕ → Result A HostFault) (r : Result A HostFault)
+      (outcome_says : Result A HostFault → List Saying) → AllFitItems part items → FitsPart part m → AreSteps part steps
+      → SaysTrue outcome_says items r m → ((a : A) → r ≡ Ok a → Check)
+      → ((q : Programmer) → Reached part steps m q → Rests part (all_steps part items) m q)
+      → struck_by part (length steps) steps m ≡ effects part items m → judge (all_given part steps m) ≡ r
+      → Goes (Settled part m) m items Check (reported (operation steps judge) outcome_says)
+  goes_operation {A = A} m items Check steps judge r outcome_says fits f are holds check rests whole same =
+      goes_call (Settled part m) m items Check (operation steps judge) r outcome_says fits f holds check
+      (λ p s. wider (λ bytes q x. rests q x) (λ e q x. x) came (operation_goes part sound steps m judge p are f s))
+    where
+      came : (got : Result A HostFault) (q : Programmer) → AfterCall part sound steps m judge got q
+          → Came items r m got q
+      came got q (inl made) = inl (subst (λ z. Settled part z q) whole made.0, made.1 ∙ same)
+      came got q (inr broke) = inr (broke.0, broke.1, rests q broke.2)
+
+  -- along each line
+  came_rests : (m : Memories) (items : List Item) (Check : Type 0) → AllFitItems part items → FitsPart part m
+      → (s : Standing) (q : Programmer) → Comes part m items Check s q
+      → Rests part (all_steps part items) m q × Comes part m items Check s q
+  came_rests m items Check fits f Fine q came =
+      (rests_all part sound items m q fits f (settled_idle part (effects part items m) q came.0), came)
+  came_rests m items Check fits f Faulty q came = (came, came)
+  came_rests m items Check fits f Over q came = (came, came)
+
+  pub goes_leads : {From : Programmer → Type 0} (m : Memories) (items : List Item) (Check : Type 0)
+      (d : Dialog Saying Standing) (p : Programmer) (turns : List Turn) → AllFitItems part items → FitsPart part m
+      → Goes From m items Check d → From p → Leads device d p turns (Rests part (all_steps part items) m)
+      (Comes part m items Check)
+  goes_leads m items Check d p turns fits f goes from = leads device (came_rests m items Check fits f) (goes p from)
+
+  -- one phase, and the next one unless there was a fault
+  pub goes_then : (From : Programmer → Type 0) (m : Memories) (xs ys : List Item) (Check More : Type 0)
+      (d next : Dialog Saying Standing) → AllFitItems part xs → FitsPart part m
+      → Goes From m xs Check d → Goes (Settled part (effects part xs m)) (effects part xs m) ys More next
+      → Goes From m (xs ++ ys) (Check × More) (d >>= unless_fault next)
+  goes_then From m xs ys Check More d next fits f goes more p from =
+      bind (wider (λ bytes q r. rests_before part xs ys m q r) (λ e q x. x) (λ s q x. x) (goes p from)) on
+    where
+      comes : Check → (s : Standing) (q : Programmer) → Comes part (effects part xs m) ys More s q
+          → Comes part m (xs ++ ys) (Check × More) s q
+      comes check Fine q came = (subst (λ z. Settled part z q) (sym (effects_on part xs ys m)) came.0, (check, came.1))
+      comes check Faulty q rests = rests_behind part sound xs ys m q fits f rests
+      comes check Over q rests = rests_behind part sound xs ys m q fits f rests
+
+      on : (s : Standing) (q : Programmer) → Comes part m xs Check s q
+          → Tells (Rests part (all_steps part (xs ++ ys)) m) (Comes part m (xs ++ ys) (Check × More))
+          (unless_fault next s) q
+      on Fine q came = wider (λ bytes z r. rests_behind part sound xs ys m z fits f r) (λ e z x. x) (comes came.1)
+          (more q came.0)
+      on Faulty q rests = done (rests_before part xs ys m q rests)
+      on Over q rests = done (rests_before part xs ys m q rests)
+
+  -- nothing but what is said
+  pub goes_saying : (m : Memories) (sayings : List Saying)
+      → ((q : Programmer) → Settled part m q → AllTrue True sayings q)
+      → Goes (Settled part m) m [] ⊤ (says sayings (Done Fine))
+  goes_saying m sayings holds p s = tells_says Fine sayings p (holds p s) (s, tt)
+
+  -- a memory is read, and what it holds is judged
+  goes_reading : {A : Type 0} (m : Memories) (Check : Type 0) (mem : Mem) (judge : List ℕ → Result A HostFault)
+      (outcome_says : Result A HostFault → List Saying)
+      → FitsPart part m → SaysTrue outcome_says [] (judge (memory_in part mem m)) m
+      → ((a : A) → judge (memory_in part mem m) ≡ Ok a → Check)
+      → Goes (Settled part m) m [] Check (reported (operation (read_steps part mem) judge) outcome_says)
+  goes_reading m Check mem judge outcome_says f holds check =
+      let steps = read_steps part mem in
+      goes_operation m [] Check steps judge (judge (memory_in part mem m)) outcome_says tt f
+      (read_are_steps part sound mem) holds check
+      (λ q r. rests_here part [] m q (settled_idle part m q
+      (subst (λ z. Settled part z q) (quiet_stays part r.count steps m (read_quiet part mem)) r.stands)))
+      (quiet_stays part (length steps) steps m (read_quiet part mem)) (ap judge (read_gives part sound m f mem))
+
+  -- the steps of items
+  goes_items : (m : Memories) (items : List Item) (steps : List (List Command))
+      (outcome_says : Result ⊤ HostFault → List Saying) → steps ≡ all_steps part items
+      → AllFitItems part items → FitsPart part m → AreSteps part steps → SaysTrue outcome_says items (Ok tt) m
+      → Goes (Settled part m) m items ⊤ (reported (operation steps no_result) outcome_says)
+  goes_items m items steps outcome_says same fits f are holds =
+      goes_operation m items ⊤ steps no_result (Ok tt) outcome_says fits f are holds (λ a e. tt)
+      (λ q r. reached_rests part (all_steps part items) m q (subst (λ all. Reached part all m q) same r))
+      (ap (λ all. struck_by part (length all) all m) same ∙ all_struck part sound items m fits f) refl
+
+  module _ (s : Switches) where
+    pub goes_opening : (m : Memories) → FitsPart part m → SaysTrue (opening_says s.quiet part) [] (Ok part.signature) m
+        → Goes (Idle part m) m [] ⊤ (phase part s OpenSession)
+    goes_opening m f holds =
+        goes_call (Idle part m) m [] ⊤ (opening part.signature s.force) (Ok part.signature) (opening_says s.quiet part)
+        tt f holds (λ a e. tt)
+        (λ p idle. wider (λ bytes q i. rests_here part [] m q i) (λ e q x. x) came
+        (opening_comes part sound s.force m f p idle))
+      where
+        came : (r : Result (List ℕ) HostFault) (q : Programmer) → Opened part sound m r q
+            → Came [] (Ok part.signature) m r q
+        came r q (inl found) = inl found
+        came r q (inr broke) = inr (broke.0, broke.1, rests_here part [] m q broke.2)
+
+    goes_writing : (mem : Mem) (image : Image) (m : Memories) → length image ≤ size_of mem part → is_writable mem ≡ true
+        → FitsPart part m
+        → SaysTrue (written_says s.quiet part mem image) (Write mem image ∷ []) (Ok tt) m
+        → Goes (Settled part m) m (Write mem image ∷ []) ⊤ (phase part s (WriteImage mem image))
+    goes_writing mem image m fits can f holds = by_kind (is_writable mem) can
+      where
+        by_kind : (b : Bool) → b ≡ true
+            → Goes (Settled part m) m (Write mem image ∷ []) ⊤
+            (reported (if b then operation (write_steps part mem image) no_result else Done (Err (ReadOnly mem)))
+            (written_says s.quiet part mem image))
+        by_kind true e =
+            goes_items m (Write mem image ∷ []) (write_steps part mem image) (written_says s.quiet part mem image)
+            (sym (append-nil (write_steps part mem image))) (fits, tt) f
+            (write_are_steps part sound mem image fits) holds
+        by_kind false e = absurd cc
+
+    -- what a phase says is true
+    abbrev pub PhaseTrue : Action → Memories → Type 0
+    PhaseTrue OpenSession m = ⊤
+    PhaseTrue EraseChip m = SaysTrue (erased_says s.quiet part) (Erase ∷ []) (Ok tt) m
+    PhaseTrue (WriteImage mem image) m = SaysTrue (written_says s.quiet part mem image) (Write mem image ∷ []) (Ok tt) m
+    PhaseTrue (CompareImage mem image) m = SaysTrue (verified_says s.quiet part mem image) []
+        (comparison mem image (memory_in part mem m)) m
+    PhaseTrue (SaveMemory mem format file) m =
+        SaysTrue (fault_or part (read_says s mem format file)) [] (Ok (memory_in part mem m)) m
+    PhaseTrue (LeaveOut what) m = (q : Programmer) → Settled part m q → AllTrue True (left_out_says s.quiet what) q
+
+    abbrev pub PhasesTrue : List Action → Memories → Type 0
+    PhasesTrue [] m = ⊤
+    PhasesTrue (action ∷ actions) m = PhaseTrue action m × PhasesTrue actions (effects part (action_items action) m)
+
+    pub goes_phase : (action : Action) (m : Memories) → FitsAction part action → FitsPart part m → PhaseTrue action m
+        → Goes (Settled part m) m (action_items action) (ActionAgrees part action m) (phase part s action)
+    goes_phase OpenSession m fits f holds = absurd fits
+    goes_phase EraseChip m fits f holds = goes_items m (Erase ∷ []) (steps_of part Erase) (erased_says s.quiet part)
+        refl (tt, tt) f (item_are_steps part sound Erase tt) holds
+    goes_phase (WriteImage mem image) m fits f holds =
+        goes_writing mem image m (let size = fits.0 in omega (arith, size)) fits.1 f holds
+    goes_phase (CompareImage mem image) m fits f holds =
+        goes_reading m (Shows part mem image m) mem (comparison mem image) (verified_says s.quiet part mem image) f
+        holds
+        (λ a e. no_difference 0 image (memory_in part mem m)
+        (none_differs mem (difference_from 0 image (memory_in part mem m)) a e))
+    goes_phase (SaveMemory mem format file) m fits f holds =
+        goes_reading m ⊤ mem Ok (fault_or part (read_says s mem format file)) f holds (λ a e. tt)
+    goes_phase (LeaveOut what) m fits f holds = goes_saying m (left_out_says s.quiet what) holds
+
+    pub goes_phases : (actions : List Action) (m : Memories) → AllFitActions part actions → FitsPart part m
+        → PhasesTrue actions m
+        → Goes (Settled part m) m (actions_items actions) (ActionsAgree part actions m) (phases part s actions)
+    goes_phases [] m fits f holds = goes_saying m [] (λ q s. tt)
+    goes_phases (action ∷ actions) m fits f holds =
+        let items = action_items action in
+        let left = effects part items m in
+        goes_then (Settled part m) m items (actions_items actions) (ActionAgrees part action m)
+        (ActionsAgree part actions left) (phase part s action) (phases part s actions)
+        (action_items_fit part action fits.0) f (goes_phase action m fits.0 f holds.0)
+        (goes_phases actions left fits.1 (effects_sizes part sound items m f) holds.1)
+
+-- where nothing is asked of what is said
+abbrev pub Anything : Saying → Programmer → Type 0
+Anything saying q = ⊤
+
+pub any_sayings : (sayings : List Saying) (q : Programmer) → AllTrue Anything sayings q
+any_sayings [] q = tt
+any_sayings (saying ∷ sayings) q = (tt, any_sayings sayings q)
+
+module _ (part : Part) (sound : IsPart part) where
+  pub any_says : {A : Type 0} (outcome_says : Result A HostFault → List Saying) (items : List Item)
+      (r : Result A HostFault) (m : Memories) → SaysTrue part sound Anything outcome_says items r m
+  any_says outcome_says items r m = (
+    λ q s. any_sayings (outcome_says r) q,
+    λ fault q. any_sayings (outcome_says (Err (host_fault fault))) q,
+  )
+
+  pub any_phase : (s : Switches) (action : Action) (m : Memories) → PhaseTrue part sound Anything s action m
+  any_phase s OpenSession m = tt
+  any_phase s EraseChip m = any_says (erased_says s.quiet part) (Erase ∷ []) (Ok tt) m
+  any_phase s (WriteImage mem image) m = any_says (written_says s.quiet part mem image) (Write mem image ∷ []) (Ok tt) m
+  any_phase s (CompareImage mem image) m =
+      any_says (verified_says s.quiet part mem image) [] (comparison mem image (memory_in part mem m)) m
+  any_phase s (SaveMemory mem format file) m =
+      any_says (fault_or part (read_says s mem format file)) [] (Ok (memory_in part mem m)) m
+  any_phase s (LeaveOut what) m = λ q x. any_sayings (left_out_says s.quiet what) q

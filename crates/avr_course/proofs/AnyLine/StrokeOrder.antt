@@ -1,0 +1,177 @@
+-- A session makes the strokes of its plan in their order.
+use Rattle.std.proofs.Common.{◌≡◌, ℕ, ◌+◌, ◌-◌, ◌≤◌, List, [], ◌∷◌, ◌++◌, length, take, refl, sym, ◌∙◌, subst, arith, inr, Ok, Err, Bool, true, false}
+use Rattle.std.proofs.lemmas.List.{append-nil}
+use Rattle.std.specs.Prelude.{All, ⊤, if◌then◌else◌}
+use Rattle.avr_cli.specs.declared.settings.Switches.{Switches}
+use Rattle.avr_desk.specs.Said.{Saying}
+use Rattle.avr_part.specs.Mem.{is_writable}
+use Rattle.avr_part.specs.declared.part.Mem.{Mem}
+use Rattle.avr_part.specs.Part.{Part, IsPart, size_of}
+use Rattle.avr_plan.specs.Plan.{Plan, IsFitted}
+use Rattle.stk_host.specs.declared.fault.HostFault.TheVariants.{ReadOnly}
+use Rattle.stk_host.specs.Dialog.{Dialog, Done, Say, Ask}
+use Rattle.stk_host.specs.WriteSteps.{write_steps}
+use Rattle.stk_host.specs.Operations.{no_result, operation}
+use Rattle.stk_emu.specs.Turn.{Turn}
+use Rattle.stk_emu.specs.Programmer.{Programmer}
+use Rattle.stk_emu.specs.Device.{device}
+use Rattle.stk_emu.specs.Along.{along}
+use Rattle.stk_emu.specs.Effect.{Memories, Image, Item, Erase, Write, effects, memories_of}
+use Rattle.stk_emu.specs.Settled.{Idle, Settled, FitsPart}
+use Rattle.stk_emu.specs.Strokes.{struck_by, all_steps, AreSteps}
+use Rattle.stk_lines.specs.Leads.{Leads}
+use Rattle.stk_lines.specs.Tallies.{Count, with_next, then_count, Tallies, GoesOn}
+use Rattle.stk_lines.proofs.Strokes.StepCounts.{items_counted}
+use Rattle.stk_lines.proofs.Strokes.Items.{write_are_steps, item_are_steps}
+use Rattle.stk_lines.proofs.Hosts.AnyTurn.{leads}
+use Rattle.stk_lines.proofs.Strokes.Counts.{tallies_wider, tallies_told, tallies_bind}
+use Rattle.avr_session.specs.declared.standing.Standing.{Standing}
+use Rattle.avr_session.specs.declared.standing.Standing.TheVariants.{Fine}
+use Rattle.avr_session.specs.Actions.{Action, OpenSession, EraseChip, WriteImage, actions}
+use Rattle.avr_session.specs.Session.{reported, opening_says, erased_says, written_says, closed_says, phase, phases, ending, playing, status_of, session}
+use Rattle.avr_course.specs.Items.{action_items, actions_items, items}
+use Rattle.avr_course.specs.Agrees.{ActionAgrees}
+use Rattle.avr_course.specs.Made.{none_made, action_made, actions_made, made_by}
+use Rattle.avr_course.specs.Outcome.{strokes}
+use Rattle.avr_course.proofs.Plans.Fits.{FitsAction, AllFitActions, work, work_fits, action_items_fit}
+use Rattle.avr_course.proofs.AnyLine.FirstSteps.{effects_sizes}
+use Rattle.avr_course.proofs.AnyLine.Sessions.{goes_ending}
+use Rattle.avr_course.proofs.AnyLine.Phases.{Comes, Goes, goes_leads, goes_opening, goes_phase, goes_saying, Anything, any_sayings, any_says, any_phase}
+use Rattle.avr_course.proofs.AnyLine.Strokes.{Struck, Makes, tallies_same, makes_none, makes_items, makes_then}
+
+-- a phase makes the strokes of these items, from a programmer in programming mode with these memories
+abbrev Strikes : Part → Memories → List Item → Count Programmer → Dialog Saying Standing → Type 0
+Strikes part m items made d = (p : Programmer) (turns : List Turn) → Settled part m p
+    → Makes part m items d made p turns
+
+nothing_after : (x : Dialog Saying Standing) (n : ℕ) → with_next x n (λ s. 0) ≡ n
+nothing_after (Done s) n = omega arith
+nothing_after (Say s d) n = refl
+nothing_after (Ask bytes go_on) n = refl
+
+-- nothing is made where there are no items
+makes_quiet : (part : Part) (sound : IsPart part) (m : Memories) (Check : Type 0) (d : Dialog Saying Standing)
+    → FitsPart part m → Goes part sound Anything (Settled part m) m [] Check d → Strikes part m [] none_made d
+makes_quiet part sound m Check d f goes p turns settled =
+    makes_none part m d p turns (Comes part m [] Check)
+    (goes_leads part sound Anything m [] Check d p turns tt f goes settled)
+
+module _ (part : Part) (sound : IsPart part) (s : Switches) where
+  makes_writing : (mem : Mem) (image : Image) (m : Memories) → length image ≤ size_of mem part → is_writable mem ≡ true
+      → Strikes part m (Write mem image ∷ []) (action_made part (WriteImage mem image))
+      (phase part s (WriteImage mem image))
+  makes_writing mem image m fits can p turns settled = by_kind (is_writable mem) can
+    where
+      only : write_steps part mem image ++ [] ≡ write_steps part mem image
+      only = append-nil (write_steps part mem image)
+
+      by_kind : (b : Bool) → b ≡ true
+          → Makes part m (Write mem image ∷ []) (reported
+          (if b then operation (write_steps part mem image) no_result else Done (Err (ReadOnly mem)))
+          (written_says s.quiet part mem image))
+          (action_made part (WriteImage mem image)) p turns
+      by_kind true e =
+          subst (λ steps. Makes part m (Write mem image ∷ [])
+          (reported (operation steps no_result) (written_says s.quiet part mem image))
+          (action_made part (WriteImage mem image)) p turns) only
+          (makes_items part sound m (Write mem image ∷ []) no_result (written_says s.quiet part mem image) p turns
+          (subst (AreSteps part) (sym only) (write_are_steps part sound mem image fits)) settled)
+      by_kind false e = absurd cc
+
+  makes_phase : (action : Action) (m : Memories) → FitsAction part action → FitsPart part m
+      → Strikes part m (action_items action) (action_made part action) (phase part s action)
+  makes_phase EraseChip m fits f = λ p turns settled.
+      makes_items part sound m (Erase ∷ []) no_result (erased_says s.quiet part) p turns
+      (item_are_steps part sound Erase tt) settled
+  makes_phase (WriteImage mem image) m fits f =
+      makes_writing mem image m (let size = fits.0 in omega (arith, size)) fits.1
+  makes_phase action m fits f = makes_quiet part sound m (ActionAgrees part action m) (phase part s action) f
+      (goes_phase part sound Anything s action m fits f (any_phase part sound s action m))
+
+  makes_phases : (actions : List Action) (m : Memories) → AllFitActions part actions → FitsPart part m
+      → Strikes part m (actions_items actions) (actions_made part s actions) (phases part s actions)
+  makes_phases [] m fits f p turns settled =
+      makes_quiet part sound m ⊤ (Done Fine) f (goes_saying part sound Anything m [] (λ q s. tt)) p turns settled
+  makes_phases (action ∷ actions) m fits f p turns settled =
+      let items = action_items action in
+      let left = effects part items m in
+      makes_then part sound m items (actions_items actions) (ActionAgrees part action m) (phase part s action)
+      (phases part s actions) (action_made part action) (actions_made part s actions) p turns
+      (action_items_fit part action fits.0) f
+      (goes_leads part sound Anything m items (ActionAgrees part action m) (phase part s action) p turns
+      (action_items_fit part action fits.0) f
+      (goes_phase part sound Anything s action m fits.0 f (any_phase part sound s action m)) settled)
+      (makes_phase action m fits.0 f p turns settled)
+      (λ q fs there. makes_phases actions left fits.1 (effects_sizes part sound items m f) q fs there)
+
+-- the end keeps the memories
+ending_keeps : (part : Part) (sound : IsPart part) (s : Switches) (before : Memories) (standing : Standing)
+    (p : Programmer) (turns : List Turn) → Idle part before p
+    → Leads device (ending part s standing) p turns (Idle part before) (λ t q. Idle part before q)
+ending_keeps part sound s before standing p turns idle =
+    leads device (λ t q x. (x.0, x.0)) (goes_ending part sound Anything s
+    (λ r q c. any_sayings (closed_says s.quiet part r) q) before standing p idle)
+
+module _ (plan : Plan) (sound : IsPart plan.part) (fitted : All (IsFitted plan.part) plan.tasks) (m : Memories)
+    (f : FitsPart plan.part m) (p : Programmer) (turns : List Turn)
+    (idle : Idle plan.part m p) where
+  abbrev all_phases : Dialog Saying Standing
+  all_phases = phases plan.part plan.switches (actions plan)
+
+  makes_actions : Makes plan.part m (items plan) all_phases (made_by plan) p turns
+  makes_actions =
+      let part = plan.part in
+      let s = plan.switches in
+      let opened = phase part s OpenSession in
+      let opens =
+      goes_leads part sound Anything m [] ⊤ opened p turns tt f
+      (goes_opening part sound Anything s m f (any_says part sound (opening_says s.quiet part) []
+      (Ok part.signature) m)) idle in
+      makes_then part sound m [] (actions_items (work plan)) ⊤ opened (phases part s (work plan)) none_made
+      (actions_made part s (work plan)) p turns tt f
+      opens (makes_none part m opened p turns (Comes part m [] ⊤) opens)
+      (λ q fs there. makes_phases part sound s (work plan) m (work_fits plan fitted) f q fs there)
+
+  abbrev At : ℕ → Programmer → Type 0
+  At = Struck plan.part (items plan) m
+
+  ends : (k : ℕ) (s : Standing) → (along device k all_phases p turns).dialog ≡ Done s
+      → GoesOn device At (along device k all_phases p turns) (makes_actions.tally.count k)
+      (made_by plan (k - 1) p turns) (ending plan.part plan.switches s) none_made
+  ends k s e =
+      let part = plan.part in
+      let z = along device k all_phases p turns in
+      let made = makes_actions.tally.count k in
+      let struck = makes_actions.tally.stands k in
+      let before = struck_by part made (all_steps part (items plan)) m in
+      let keeps = ending_keeps part sound plan.switches before s z.programmer z.turns struck.stands in
+      record {
+        rest = record {
+          count = λ l. 0;
+          none = refl;
+          at_least = λ l. omega arith;
+          at_most = λ l. omega arith;
+          stands = λ l. subst (λ i. At i (along device l (ending part plan.switches s) z.programmer z.turns).programmer)
+              (let same : made ≡ made + 0 = omega arith in same)
+              (record { few = struck.few; stands = keeps.during l });
+        };
+        sharp = inr (λ l. refl);
+      }
+
+  session_tallies : Tallies device (session plan) (made_by plan) At p turns
+  unfolding session
+  session_tallies =
+      tallies_told device (playing plan) status_of (made_by plan) At p turns
+      (tallies_same (playing plan) (then_count device all_phases (made_by plan) (λ t. none_made)) (made_by plan) At p
+      turns
+      (λ k. nothing_after (along device k all_phases p turns).dialog (made_by plan k p turns))
+      (tallies_bind device all_phases (ending plan.part plan.switches) (made_by plan) (λ t. none_made) At p turns
+      makes_actions.tally (λ k s e. ends k s e)))
+
+  -- so many strokes of the plan, in their order
+  pub session_makes : Tallies device (session plan) (made_by plan)
+      (λ j q. memories_of q.chip ≡ effects plan.part (take j (strokes plan)) m) p turns
+  session_makes =
+      tallies_wider device (session plan) (made_by plan) At
+      (λ j q. memories_of q.chip ≡ effects plan.part (take j (strokes plan)) m) p turns
+      (λ j q struck. struck.stands.memories ∙ items_counted plan.part (items plan) j m) session_tallies

@@ -1,0 +1,324 @@
+-- The phases of a session, by the strokes that they make one after another.
+use Rattle.std.proofs.Common.{◌≡◌, ℕ, zero, suc, ◌+◌, ◌-◌, ◌≤◌, List, [], ◌∷◌, ◌++◌, length, refl, sym, ap, ◌∙◌, subst, arith, inl, inr, Ok, Err, Result}
+use Rattle.std.proofs.lemmas.List.{length-append}
+use Rattle.std.specs.Prelude.{⊤, min}
+use Rattle.avr_desk.specs.Said.{Saying}
+use Rattle.avr_part.specs.Part.{Part, IsPart}
+use Rattle.stk_frame.specs.declared.command.Command.{Command}
+use Rattle.stk_host.specs.declared.fault.HostFault.{HostFault}
+use Rattle.stk_host.specs.Dialog.{Dialog, Done, Say, Ask, ◌>>=◌}
+use Rattle.stk_host.specs.Steps.{StepOutcome, step, play}
+use Rattle.stk_host.specs.Operations.{operation}
+use Rattle.stk_emu.specs.Turn.{Turn}
+use Rattle.stk_emu.specs.Programmer.{Programmer}
+use Rattle.stk_emu.specs.Device.{device}
+use Rattle.stk_emu.specs.Along.{along}
+use Rattle.stk_lines.specs.Climbs.{step_count, steps_done}
+use Rattle.stk_emu.specs.Effect.{Memories, Item, effects}
+use Rattle.stk_emu.specs.Settled.{Idle, Settled, FitsPart}
+use Rattle.stk_emu.specs.Strokes.{struck, struck_by, all_steps, AreSteps, AllFitItems}
+use Rattle.stk_lines.specs.Leads.{Leads}
+use Rattle.stk_lines.specs.Tallies.{Count, with_next, then_count, Tallies, GoesOn}
+use Rattle.stk_lines.proofs.Hosts.Attempts.{along_bind, onward}
+use Rattle.stk_lines.proofs.Hosts.AnyTurn.{asks≢done, done_is}
+use Rattle.stk_lines.proofs.Strokes.Conditions.{along_before}
+use Rattle.stk_emu.proofs.Answers.Commands.{settled_idle}
+use Rattle.stk_lines.proofs.Strokes.Counts.{tallies_wider, tallies_bind, steps_all, tallies_play, none_left}
+use Rattle.avr_session.specs.declared.standing.Standing.{Standing}
+use Rattle.avr_session.specs.declared.standing.Standing.TheVariants.{Fine, Faulty, Over}
+use Rattle.avr_session.specs.Session.{reported, unless_fault}
+use Rattle.avr_course.specs.Made.{none_made, made_unless_fault}
+use Rattle.avr_course.proofs.Plans.Standings.{faulty_fine, over_fine}
+use Rattle.avr_course.proofs.AnyLine.FirstSteps.{Rests, prefix, behind, struck_prefix, struck_behind, all_on, all_struck}
+use Rattle.avr_course.proofs.AnyLine.Phases.{Comes}
+use Rattle.avr_course.proofs.AnyLine.Calls.{says≢done, reported_programmer, reported_fine, operation_programmer, operation_ok}
+
+-- the memories of so many first steps of these items
+pub record Struck (part : Part) (items : List Item) (m : Memories) (j : ℕ) (q : Programmer) : Type 0 where
+  pub few : j ≤ length (all_steps part items)
+  pub stands : Idle part (struck_by part j (all_steps part items) m) q
+
+-- a phase that makes the strokes of these items in their order, and where it is fine all have been completed
+pub record Makes (part : Part) (m : Memories) (items : List Item) (d : Dialog Saying Standing) (made : Count Programmer)
+    (p : Programmer) (turns : List Turn) : Type 0 where
+  pub tally : Tallies device d made (Struck part items m) p turns
+  pub complete : (k : ℕ) → (along device k d p turns).dialog ≡ Done Fine
+      → made k p turns ≡ length (all_steps part items)
+
+-- a count in other words
+pub tallies_same : {E R : Type 0} (d : Dialog E R) (made other : Count Programmer) (At : ℕ → Programmer → Type 0)
+    (p : Programmer) (turns : List Turn)
+    → ((k : ℕ) → made k p turns ≡ other k p turns)
+    → Tallies device d made At p turns → Tallies device d other At p turns
+tallies_same d made other At p turns same t = record {
+  count = t.count;
+  none = t.none;
+  at_least = λ k. subst (λ n. n ≤ t.count k) (same k) (t.at_least k);
+  at_most = λ k. subst (λ n. t.count k ≤ suc n) (same (k - 1)) (t.at_most k);
+  stands = λ k. t.stands k;
+}
+
+struck_none : (part : Part) (count : ℕ) (m : Memories) → struck_by part count [] m ≡ m
+struck_none part zero m = refl
+struck_none part (suc count) m = refl
+
+-- nothing is made where the memories stay
+pub makes_none : (part : Part) (m : Memories) (d : Dialog Saying Standing) (p : Programmer) (turns : List Turn)
+    (After : Standing → Programmer → Type 0)
+    → Leads device d p turns (Rests part [] m) After → Makes part m [] d none_made p turns
+makes_none part m d p turns After l = record {
+  tally = record {
+    count = λ k. 0;
+    none = refl;
+    at_least = λ k. omega arith;
+    at_most = λ k. omega arith;
+    stands = λ k. let r = l.during k in record {
+      few = omega arith;
+      stands = subst (λ z. Idle part z (along device k d p turns).programmer)
+          (struck_none part r.count m) r.stands;
+    };
+  };
+  complete = λ k e. refl;
+}
+
+-- counted past the last step nothing is struck
+struck_min : (part : Part) (count : ℕ) (steps : List (List Command)) (m : Memories)
+    → struck_by part (min count (length steps)) steps m ≡ struck_by part count steps m
+struck_min part zero steps m = ap (λ n. struck_by part n steps m) (let e : min 0 (length steps) ≡ 0 = omega arith in e)
+struck_min part (suc count) [] m = ap (λ n. struck_by part n [] m) (let e : min (suc count) 0 ≡ 0 = omega arith in e)
+struck_min part (suc count) (commands ∷ steps) m =
+    ap (λ n. struck_by part n (commands ∷ steps) m)
+    (let e : min (suc count) (suc (length steps)) ≡ suc (min count (length steps)) = omega arith in e)
+    ∙ struck_min part count steps (struck part commands m)
+
+counted_most : (d : Dialog ⊥ StepOutcome) (n total : ℕ) → n ≤ total → step_count d n ≤ suc total
+counted_most (Done (Ok bytes)) n total l = omega (arith, l)
+counted_most (Done (Err fault)) n total l = omega arith
+counted_most (Say s d) n total l = absurd s
+counted_most (Ask bytes go_on) n total l = omega arith
+
+steps_most : (steps : List (List Command)) (k : ℕ) (p : Programmer) (turns : List Turn)
+    → steps_done device steps k p turns ≤ length steps
+steps_most [] k p turns = omega arith
+steps_most (commands ∷ steps) k p turns =
+    let s = along device k (step commands) p turns in
+    counted_most s.dialog (steps_done device steps s.left s.programmer s.turns) (length steps)
+    (steps_most steps s.left s.programmer s.turns)
+
+module _ (part : Part) (sound : IsPart part) where
+  -- the steps of items
+  module _ (m : Memories) (items : List Item) (judge : List ℕ → Result ⊤ HostFault)
+      (outcome_says : Result ⊤ HostFault → List Saying) (p : Programmer) (turns : List Turn)
+      (are : AreSteps part (all_steps part items)) (settled : Settled part m p) where
+    abbrev steps : List (List Command)
+    steps = all_steps part items
+
+    abbrev told : Dialog Saying Standing
+    told = reported (operation steps judge) outcome_says
+
+    played : Tallies device (play steps []) (steps_done device steps) (λ j. Settled part (struck_by part j steps m)) p
+        turns
+    played = (tallies_play part steps m [] p turns sound are settled).0
+
+    moved : (k : ℕ) → (along device k (play steps []) p turns).programmer ≡ (along device k told p turns).programmer
+    moved k = sym (reported_programmer device (operation steps judge) outcome_says k p turns
+        ∙ operation_programmer device steps judge k p turns)
+
+    stands : (k : ℕ) (q : Programmer) → Settled part (struck_by part (played.count k) steps m) q
+        → Struck part items m (min (played.count k) (length steps)) q
+    stands k q at = record {
+      few = omega arith;
+      stands = subst (λ z. Idle part z q) (sym (struck_min part (played.count k) steps m))
+          (settled_idle part (struck_by part (played.count k) steps m) q at);
+    }
+
+    told_tally : Tallies device told (steps_done device steps) (Struck part items m) p turns
+    told_tally = record {
+      count = λ k. min (played.count k) (length steps);
+      none = let e = played.none in omega (arith, e);
+      at_least = λ k. let l = played.at_least k in let most = steps_most steps k p turns in omega (arith, l, most);
+      at_most = λ k. let l = played.at_most k in omega (arith, l);
+      stands = λ k. subst (Struck part items m (min (played.count k) (length steps))) (moved k)
+          (stands k (along device k (play steps []) p turns).programmer (played.stands k));
+    }
+
+    all_done : (k : ℕ) → (along device k told p turns).dialog ≡ Done Fine
+        → steps_done device steps k p turns ≡ length steps
+    all_done k e =
+        let ok = reported_fine device (operation steps judge) outcome_says k p turns e in
+        let got = operation_ok device steps judge k p turns ok.0 ok.1 in
+        steps_all device steps k [] p turns got.0 got.1
+
+    pub makes_items : Makes part m items told (steps_done device steps) p turns
+    makes_items = record { tally = told_tally; complete = λ k e. all_done k e }
+
+  prefix_is : (count : ℕ) (steps : List (List Command)) → count ≤ length steps → prefix count steps ≡ count
+  prefix_is zero steps l = refl
+  prefix_is (suc count) [] l = absurd (omega (arith, l))
+  prefix_is (suc count) (commands ∷ steps) l = ap suc (prefix_is count steps (omega (arith, l)))
+
+  behind_is : (steps : List (List Command)) (count : ℕ) → behind steps count ≡ length steps + count
+  behind_is [] count = omega arith
+  behind_is (commands ∷ steps) count = let e = behind_is steps count in omega (arith, e)
+
+  size_on : (xs ys : List Item) → length (all_steps part (xs ++ ys))
+      ≡ length (all_steps part xs) + length (all_steps part ys)
+  size_on xs ys = ap length (all_on part xs ys) ∙ length-append (all_steps part xs) (all_steps part ys)
+
+  struck_first : (xs ys : List Item) (m : Memories) (j : ℕ) (q : Programmer) → Struck part xs m j q
+      → Struck part (xs ++ ys) m j q
+  struck_first xs ys m j q s =
+      let size = size_on xs ys in
+      let few = s.few in
+      let steps = all_steps part xs in
+      record {
+        few = omega (arith, size, few);
+        stands = subst (λ z. Idle part z q)
+            (sym (ap (λ all. struck_by part j all m) (all_on part xs ys)
+            ∙ (ap (λ n. struck_by part n (steps ++ all_steps part ys) m) (sym (prefix_is j steps s.few))
+            ∙ struck_prefix part j steps (all_steps part ys) m))) s.stands;
+      }
+
+  struck_next : (xs ys : List Item) (m : Memories) (made j : ℕ) (q : Programmer) → AllFitItems part xs → FitsPart part m
+      → made ≡ length (all_steps part xs)
+      → Struck part ys (effects part xs m) j q
+      → Struck part (xs ++ ys) m (made + j) q
+  struck_next xs ys m made j q fits f whole s =
+      let size = size_on xs ys in
+      let few = s.few in
+      let steps = all_steps part xs in
+      let past : made + j ≡ behind steps j = let e = behind_is steps j in omega (arith, e, whole) in
+      record {
+        few = omega (arith, size, few, whole);
+        stands = subst (λ z. Idle part z q)
+            (sym (ap (λ all. struck_by part (made + j) all m) (all_on part xs ys)
+            ∙ (ap (λ n. struck_by part n (steps ++ all_steps part ys) m) past
+            ∙ (struck_behind part j steps (all_steps part ys) m
+            ∙ ap (struck_by part j (all_steps part ys)) (all_struck part sound xs m fits f))))) s.stands;
+      }
+
+  -- one phase, and the next one unless there was a fault
+  module _ (m : Memories) (xs ys : List Item) (Check : Type 0) (d next : Dialog Saying Standing)
+      (made later : Count Programmer) (p : Programmer) (turns : List Turn)
+      (fits : AllFitItems part xs) (f : FitsPart part m)
+      (leads : Leads device d p turns (Rests part (all_steps part xs) m) (Comes part m xs Check))
+      (first : Makes part m xs d made p turns)
+      (more : (q : Programmer) (fs : List Turn) → Settled part (effects part xs m) q
+      → Makes part (effects part xs m) ys next later q fs) where
+    abbrev after : Standing → Count Programmer
+    after = made_unless_fault later
+
+    abbrev At : ℕ → Programmer → Type 0
+    At = Struck part (xs ++ ys) m
+
+    -- where it is fine it has made all of its strokes, before the last question of what follows
+    whole : (k : ℕ) → (along device k d p turns).dialog ≡ Done Fine → first.tally.count k ≡ length (all_steps part xs)
+    whole k e =
+        let few = (first.tally.stands k).few in
+        let l = first.tally.at_least k in
+        let all = first.complete k e in
+        omega (arith, few, l, all)
+
+    sharp : (k l : ℕ) → (along device k d p turns).dialog ≡ Done Fine → (along device k d p turns).left ≡ suc l
+        → first.tally.count k ≤ made (k - 1) p turns
+    sharp zero l e n = absurd (let z = none_left device d p turns in omega (arith, z, n))
+    sharp (suc k) l e n =
+        let back : suc k - 1 ≡ k = omega arith in
+        let all : made k p turns ≡ length (all_steps part xs) =
+        first.complete k (ap (λ z. z.dialog) (along_before device k l d p turns Fine e n)) in
+        let made_all = whole (suc k) e in
+        subst (λ i. first.tally.count (suc k) ≤ made i p turns) (sym back) (omega (arith, all, made_all))
+
+    abbrev nothing_more : (n : ℕ) (s : Standing) (q : Programmer) (fs : List Turn) → At n q
+        → Tallies {E = Saying} device (Done s) none_made (λ j. At (n + j)) q fs
+    nothing_more n s q fs at = record {
+      count = λ k. 0;
+      none = refl;
+      at_least = λ k. omega arith;
+      at_most = λ k. omega arith;
+      stands = λ k. subst (λ i. At i q) (let e : n ≡ n + 0 = omega arith in e) at;
+    }
+
+    abbrev GoesFrom : ℕ → Standing → Type 0
+    GoesFrom k s = GoesOn device At (along device k d p turns) (first.tally.count k) (made (k - 1) p turns)
+        (unless_fault next s) (after s)
+
+    -- the next one goes on
+    goes_fine : (k : ℕ) → (along device k d p turns).dialog ≡ Done Fine
+        → Settled part (effects part xs m) (along device k d p turns).programmer → GoesFrom k Fine
+    goes_fine k e settled =
+        let s = along device k d p turns in
+        record {
+          rest = tallies_wider device next later (Struck part ys (effects part xs m))
+              (λ j. At (first.tally.count k + j)) s.programmer s.turns
+              (λ j q struck. struck_next xs ys m (first.tally.count k) j q fits f (whole k e) struck)
+              (more s.programmer s.turns settled).tally;
+          sharp = inl (λ l n. sharp k l e n);
+        }
+
+    goes_faulty : (k : ℕ) → GoesFrom k Faulty
+    goes_faulty k =
+        let s = along device k d p turns in
+        record {
+          rest = nothing_more (first.tally.count k) Faulty s.programmer s.turns
+              (struck_first xs ys m (first.tally.count k) s.programmer (first.tally.stands k));
+          sharp = inr (λ l. refl);
+        }
+
+    goes_over : (k : ℕ) → GoesFrom k Over
+    goes_over k =
+        let s = along device k d p turns in
+        record {
+          rest = nothing_more (first.tally.count k) Over s.programmer s.turns
+              (struck_first xs ys m (first.tally.count k) s.programmer (first.tally.stands k));
+          sharp = inr (λ l. refl);
+        }
+
+    goes_on : (k : ℕ) (s : Standing) → (along device k d p turns).dialog ≡ Done s
+        → Comes part m xs Check s (along device k d p turns).programmer → GoesFrom k s
+    goes_on k Fine e came = goes_fine k e came.0
+    goes_on k Faulty e rests = goes_faulty k
+    goes_on k Over e rests = goes_over k
+
+    -- its strokes, as the first ones of both
+    abbrev among : Tallies device d made At p turns
+    among = record {
+      count = first.tally.count;
+      none = first.tally.none;
+      at_least = first.tally.at_least;
+      at_most = first.tally.at_most;
+      stands = λ k. struck_first xs ys m (first.tally.count k) (along device k d p turns).programmer
+          (first.tally.stands k);
+    }
+
+    tally : Tallies device (d >>= unless_fault next) (then_count device d made after) At p turns
+    tally = tallies_bind device d (unless_fault next) made after At p turns among
+        (λ k s e. goes_on k s e (leads.after k s e))
+
+    abbrev Ends : ℕ → Dialog Saying Standing → Type 0
+    Ends k x = let s = along device k d p turns in
+        (onward device (unless_fault next) s.left s.turns s.programmer x).dialog ≡ Done Fine
+        → with_next x (made k p turns) (λ a. after a s.left s.programmer s.turns) ≡ length (all_steps part (xs ++ ys))
+
+    complete_fine : (k : ℕ) (s : Standing) → (along device k d p turns).dialog ≡ Done s
+        → Comes part m xs Check s (along device k d p turns).programmer → Ends k (Done s)
+    complete_fine k Fine e came = λ done.
+        let t = along device k d p turns in
+        let all = first.complete k e in
+        let rest = (more t.programmer t.turns came.0).complete t.left done in
+        let size = size_on xs ys in
+        omega (arith, all, rest, size)
+    complete_fine k Faulty e rests = λ done. faulty_fine (done_is _ _ done)
+    complete_fine k Over e rests = λ done. over_fine (done_is _ _ done)
+
+    complete_from : (k : ℕ) (x : Dialog Saying Standing) → (along device k d p turns).dialog ≡ x → Ends k x
+    complete_from k (Done s) e = complete_fine k s e (leads.after k s e)
+    complete_from k (Say s dialog) e = λ done. absurd (says≢done _ _ _ done)
+    complete_from k (Ask bytes go_on) e = λ done. absurd (asks≢done _ _ _ done)
+
+    pub makes_then : Makes part m (xs ++ ys) (d >>= unless_fault next) (then_count device d made after) p turns
+    makes_then = record {
+      tally = tally;
+      complete = λ k e. complete_from k (along device k d p turns).dialog refl
+          (sym (ap (λ z. z.dialog) (along_bind device k d (unless_fault next) p turns)) ∙ e);
+    }

@@ -1,0 +1,5 @@
+-- How much a session asks, sends and hears.
+pub mod Weights
+pub mod Questions
+pub mod Listening
+pub mod WireFrames

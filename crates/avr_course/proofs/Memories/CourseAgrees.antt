@@ -1,0 +1,109 @@
+-- A course stands fine exactly where its comparisons agree.
+use Rattle.std.proofs.Common.{◌≡◌, arith, refl, sym, ap, ◌∙◌, subst, List, [], ◌∷◌, Option, Some, None}
+use Rattle.std.specs.Prelude.{⊤, ◌↔◌}
+use Rattle.avr_cli.specs.declared.settings.Switches.{Switches}
+use Rattle.avr_part.specs.Part.{Part}
+use Rattle.avr_part.specs.declared.part.Mem.{Mem}
+use Rattle.avr_plan.specs.Plan.{Plan}
+use Rattle.avr_session.specs.declared.standing.Standing.{Standing}
+use Rattle.avr_session.specs.declared.standing.Standing.TheVariants.{Fine, Faulty, Over}
+use Rattle.avr_session.specs.Actions.{Action, OpenSession, EraseChip, WriteImage, CompareImage, SaveMemory, LeaveOut, actions}
+use Rattle.avr_session.specs.Session.{standing, status_of}
+use Rattle.stk_host.specs.Operations.{Difference, difference_from, differs}
+use Rattle.stk_emu.specs.Effect.{Memories, effects, memory_in}
+use Rattle.stk_lines.proofs.Given.Comparisons.{no_difference, held_same}
+use Rattle.stk_lines.proofs.Strokes.Pages.{effects_on}
+use Rattle.avr_course.specs.Agrees.{ActionAgrees, ActionsAgree, Agrees}
+use Rattle.avr_course.specs.Course.{Course, then_from, ◌then◌, action_course, actions_course, working_course, course}
+use Rattle.avr_course.specs.Items.{action_items, actions_items, items}
+use Rattle.avr_course.proofs.Plans.Standings.{faulty_fine, over_fine}
+
+-- A course that stands fine exactly where something agrees, and then leaves these memories.
+record Turns (c : Course) (Agree : Type 0) (left : Memories) : Type 0 where
+  if_fine : c.standing ≡ Fine → Agree
+  is_fine : Agree → c.standing ≡ Fine
+  memories : c.standing ≡ Fine → c.memories ≡ left
+
+-- one course after another
+turns_on : (first : Course) (next : Memories → Course) (A B : Type 0) (between left : Memories) (s : Standing)
+    → first.standing ≡ s
+    → Turns first A between → Turns (next between) B left → Turns (then_from first s next) (A × B) left
+turns_on first next A B between left Fine e turns more =
+    let there : first.memories ≡ between = turns.memories e in
+    let on : Turns (next first.memories) B left = subst (λ m. Turns (next m) B left) (sym there) more in
+    record {
+      if_fine = λ f. (turns.if_fine e, on.if_fine f);
+      is_fine = λ agree. on.is_fine agree.1;
+      memories = λ f. on.memories f;
+    }
+turns_on first next A B between left Faulty e turns more = record {
+  if_fine = λ f. faulty_fine (sym e ∙ f);
+  is_fine = λ agree. turns.is_fine agree.0;
+  memories = λ f. faulty_fine (sym e ∙ f);
+}
+turns_on first next A B between left Over e turns more = record {
+  if_fine = λ f. over_fine (sym e ∙ f);
+  is_fine = λ agree. turns.is_fine agree.0;
+  memories = λ f. over_fine (sym e ∙ f);
+}
+
+turns_then : (first : Course) (next : Memories → Course) (A B : Type 0) (between left : Memories)
+    → Turns first A between → Turns (next between) B left → Turns (first then next) (A × B) left
+turns_then first next A B between left turns more = turns_on first next A B between left first.standing refl turns more
+
+-- ---- an action
+
+no_difference_if_fine : (mem : Mem) (d : Option Difference) → standing (differs mem d) ≡ Fine → d ≡ None
+no_difference_if_fine mem None f = refl
+no_difference_if_fine mem (Some d) f = faulty_fine f
+
+turns_fine : (c : Course) → c.standing ≡ Fine → Turns c ⊤ c.memories
+turns_fine c is = record { if_fine = λ f. tt; is_fine = λ agree. is; memories = λ f. refl }
+
+module _ (part : Part) (s : Switches) where
+  turns_action : (action : Action) (m : Memories)
+      → Turns (action_course part s action m) (ActionAgrees part action m) (effects part (action_items action) m)
+  turns_action OpenSession m = turns_fine (action_course part s OpenSession m) refl
+  turns_action EraseChip m = turns_fine (action_course part s EraseChip m) refl
+  turns_action (WriteImage mem image) m = turns_fine (action_course part s (WriteImage mem image) m) refl
+  turns_action (CompareImage mem image) m = record {
+    if_fine = λ f. no_difference 0 image (memory_in part mem m)
+        (no_difference_if_fine mem (difference_from 0 image (memory_in part mem m)) f);
+    is_fine = λ shows. ap (λ d. standing (differs mem d)) (held_same 0 image (memory_in part mem m) shows);
+    memories = λ f. refl;
+  }
+  turns_action (SaveMemory mem format file) m = turns_fine (action_course part s (SaveMemory mem format file) m) refl
+  turns_action (LeaveOut what) m = turns_fine (action_course part s (LeaveOut what) m) refl
+
+  turns_actions : (actions : List Action) (m : Memories)
+      → Turns (actions_course part s actions m) (ActionsAgree part actions m) (effects part (actions_items actions) m)
+  turns_actions [] m = record { if_fine = λ f. tt; is_fine = λ agree. refl; memories = λ f. refl }
+  turns_actions (action ∷ actions) m =
+      let after = effects part (action_items action) m in
+      subst (Turns (actions_course part s (action ∷ actions) m) (ActionsAgree part (action ∷ actions) m))
+      (sym (effects_on part (action_items action) (actions_items actions) m))
+      (turns_then (action_course part s action m) (actions_course part s actions) (ActionAgrees part action m)
+      (ActionsAgree part actions after) after (effects part (actions_items actions) after)
+      (turns_action action m) (turns_actions actions after))
+
+-- ---- the whole
+
+turns_working : (plan : Plan) (m : Memories)
+    → Turns (working_course plan m) (Agrees plan m) (effects plan.part (items plan) m)
+turns_working plan m = turns_actions plan.part plan.switches (actions plan) m
+
+fine_of_status : (s : Standing) → status_of s ≡ 0 → s ≡ Fine
+fine_of_status Fine e = refl
+fine_of_status Faulty e = absurd (let no : ⊥ = omega (arith, e) in no)
+fine_of_status Over e = absurd (let no : ⊥ = omega (arith, e) in no)
+
+pub course_status : (plan : Plan) (m : Memories) → (course plan m).status ≡ 0 ↔ Agrees plan m
+course_status plan m =
+    let turns = turns_working plan m in (
+      λ e. turns.if_fine (fine_of_status (working_course plan m).standing e),
+      λ agree. ap status_of (turns.is_fine agree),
+    )
+
+pub course_memories : (plan : Plan) (m : Memories) → Agrees plan m
+    → (course plan m).memories ≡ effects plan.part (items plan) m
+course_memories plan m agree = let turns = turns_working plan m in turns.memories (turns.is_fine agree)

@@ -1,0 +1,4 @@
+-- What a plan's actions and items are, and that they fit the part.
+pub mod Standings
+pub mod Items
+pub mod Fits

@@ -1,0 +1,6 @@
+-- What is reported is true, and is what the course reports, up to the first fault.
+pub mod Truth
+pub mod UpToFault
+pub mod OverTape
+pub mod OverWire
+pub mod Rows

@@ -1,0 +1,8 @@
+-- A second run of the same plan, over what the first one left.
+pub mod NetWrites
+pub mod WritesTwice
+pub mod ErasesTwice
+pub mod EveryChip
+pub mod Status
+pub mod PlanRows
+pub mod CutRows

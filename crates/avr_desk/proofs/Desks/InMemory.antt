@@ -1,0 +1,253 @@
+-- A desk in memory, call after call: what it keeps stays true of what it began with.
+use Rattle.std.proofs.Common.{◌≡◌, ◌∙◌, sym, ap, subst, refl, arith, ℕ, ◌==◌, ◌&&◌, ◌||◌, not, Bool, true, false, List, [], ◌∷◌, ◌++◌, append_assoc, append-nil, take, drop, length, Some, None, if◌then◌else◌}
+use Rattle.std.proofs.Math.Seq.{drop-append_seam}
+use Rattle.std.proofs.lemmas.Bool.Decides.{nat_tests}
+use Rattle.std.proofs.lemmas.Grind.{common_steps}
+use Rattle.std.proofs.lemmas.List.{take-append-drop}
+use Rattle.ghosts.specs.Stays.{Stays}
+use Rattle.avr_desk.specs.Files.{after_reading}
+use Rattle.avr_desk.specs.Memory.{MemDeskState, Stock, stock_of, stood_for, contents, unread_bytes}
+use Rattle.avr_desk.specs.Named.{bytes_given}
+use Rattle.avr_desk.specs.Record.{Bytes, Record, all_files, all_uses, files_among, use_of, noted, nothing_kept, with_absent, with_open, with_replaced, written_on}
+use Rattle.avr_desk.proofs.FileUses.Uses.{files_used}
+use Rattle.avr_desk.specs.Truth.{IsRead, AreTrue, IsOpenTrue, HoldsTrue}
+use Rattle.avr_desk.specs.declared.record.FileUse.{FileUse}
+use Rattle.avr_desk.specs.declared.record.FileUse.TheVariants.{Opened, Created}
+use Rattle.avr_desk.specs.declared.record.Open.{Open}
+use Rattle.avr_desk.specs.declared.record.Open.TheVariants.{Closed, ToRead, ToWrite}
+use Rattle.avr_desk.specs.declared.record.Opening.TheVariants.{Absent}
+use Rattle.avr_desk.specs.declared.record.Reading.{Reading}
+use Rattle.avr_desk.specs.declared.record.Writing.{Writing}
+
+-- ---- uses that are joined
+
+-- uses after those, by the files of both
+pub true_append : (stock : Stock) (made : List Writing) (first last : List FileUse) → AreTrue stock made first
+    → AreTrue stock (made ++ files_among first) last → AreTrue stock made (first ++ last)
+true_append stock made [] last are behind = subst (λ fs. AreTrue stock fs last) (append-nil made) behind
+true_append stock made (Opened opening ∷ first) last are behind =
+    (are.0, true_append stock made first last are.1 behind)
+true_append stock made (Created file ∷ first) last are behind =
+    true_append stock (made ++ file ∷ []) first last are
+    (subst (λ fs. AreTrue stock fs last) (sym (append_assoc made (file ∷ []) (files_among first))) behind)
+
+-- the later ones were true by the files of both
+pub true_behind : (stock : Stock) (made : List Writing) (first last : List FileUse) → AreTrue stock made (first ++ last)
+    → AreTrue stock (made ++ files_among first) last
+true_behind stock made [] last are = subst (λ fs. AreTrue stock fs last) (sym (append-nil made)) are
+true_behind stock made (Opened opening ∷ first) last are = true_behind stock made first last are.1
+true_behind stock made (Created file ∷ first) last are =
+    subst (λ fs. AreTrue stock fs last) (append_assoc made (file ∷ []) (files_among first))
+    (true_behind stock (made ++ file ∷ []) first last are)
+
+-- what is open is a use too
+of_open : (stock : Stock) (m : MemDeskState) (o : Open) → IsOpenTrue stock m o
+    → AreTrue stock (files_among m.kept.uses) (use_of o)
+of_open stock m Closed is = tt
+of_open stock m (ToRead x) is = (subst (λ stood. IsRead stood x.bytes x.ended) (sym is.0) is.1, tt)
+of_open stock m (ToWrite x) is = tt
+
+-- so all openings were true, by the files that had been made
+pub all_true : (stock : Stock) (m : MemDeskState) → HoldsTrue stock m → AreTrue stock [] (all_uses m.kept)
+all_true stock m holds = true_append stock [] m.kept.uses (use_of m.kept.current) holds.uses
+    (of_open stock m m.kept.current holds.current)
+
+-- what a new desk has is what it begins with
+pub begins_true : (m : MemDeskState) → m.kept ≡ nothing_kept → HoldsTrue (stock_of m) m
+begins_true m fresh = record {
+  began = refl;
+  uses = subst (λ (r : Record). AreTrue (stock_of m) [] r.uses) (sym fresh) tt;
+  current = subst (λ (r : Record). IsOpenTrue (stock_of m) m r.current) (sym fresh) tt;
+}
+
+-- ---- one call
+
+-- what it began with is not touched
+stock_same : (old new : MemDeskState) → new.input ≡ old.input → new.stored ≡ old.stored → stock_of new ≡ stock_of old
+stock_same old new input stored = ap (λ (b : Bytes). stock b new.stored) input ∙ ap (stock old.input) stored
+  where
+    stock : Bytes → List Writing → Stock
+    stock input files = record { input = input; files = files }
+
+-- the same uses and open file
+pub same_true : (old new : MemDeskState) → new.input ≡ old.input → new.stored ≡ old.stored → new.opened ≡ old.opened
+    → new.kept.uses ≡ old.kept.uses → new.kept.current ≡ old.kept.current → Stays HoldsTrue old new
+same_true old new input stored opened uses current = λ stock holds. record {
+  began = stock_same old new input stored ∙ holds.began;
+  uses = subst (AreTrue stock []) (sym uses) holds.uses;
+  current = subst (IsOpenTrue stock new) (sym current) (open_same stock old.kept.current holds.current);
+}
+  where
+    open_same : (stock : Stock) (o : Open) → IsOpenTrue stock old o → IsOpenTrue stock new o
+    open_same stock Closed is = tt
+    open_same stock (ToRead x) is = (
+      ap (λ us. stood_for stock (files_among us) x.name) uses ∙ is.0 ∙ ap (λ (b : Bytes). Some b) (sym opened),
+      subst (λ (b : Bytes). IsRead (Some b) x.bytes x.ended) (sym opened) is.1,
+    )
+    open_same stock (ToWrite x) is = tt
+
+-- the open file is put by, perhaps after it a use that is over, and nothing is read
+pub put_by_true : (more : List FileUse) (old new : MemDeskState) → new.input ≡ old.input → new.stored ≡ old.stored
+    → new.kept.uses ≡ all_uses old.kept ++ more
+    → ((stock : Stock) → HoldsTrue stock old → AreTrue stock (all_files old.kept) more)
+    → ((stock : Stock) → IsOpenTrue stock new new.kept.current) → Stays HoldsTrue old new
+put_by_true more old new input stored uses behind current = λ stock holds. record {
+  began = stock_same old new input stored ∙ holds.began;
+  uses = subst (AreTrue stock []) (sym uses) (true_append stock [] (all_uses old.kept) more (all_true stock old holds)
+      (subst (λ fs. AreTrue stock fs more) (sym (files_used old.kept)) (behind stock holds)));
+  current = current stock;
+}
+
+-- what a name stands for is what it stood for, of all files
+stands : (stock : Stock) (m : MemDeskState) (name : Bytes) → HoldsTrue stock m
+    → contents name m ≡ stood_for stock (all_files m.kept) name
+stands stock m name holds = ap (λ (s : Stock). stood_for s (all_files m.kept) name) holds.began
+
+-- a change of what is kept, where there was memory for it, and none where there was not
+changed_true : (ok : Bool) (change : Record → Record) (old new : MemDeskState) → new.input ≡ old.input
+    → new.stored ≡ old.stored → new.opened ≡ old.opened
+    → new.kept ≡ (if ok then change old.kept else old.kept) → (new.kept ≡ change old.kept → Stays HoldsTrue old new)
+    → Stays HoldsTrue old new
+changed_true true change old new input stored opened kept done = done kept
+changed_true false change old new input stored opened kept done =
+    same_true old new input stored opened (ap (λ (r : Record). r.uses) kept) (ap (λ (r : Record). r.current) kept)
+
+-- a file is created
+pub created_true : (ok : Bool) (file : Writing) (old new : MemDeskState) → new.input ≡ old.input
+    → new.stored ≡ old.stored
+    → new.opened ≡ old.opened
+    → new.kept ≡ (if ok then with_open (ToWrite file) old.kept else old.kept) → Stays HoldsTrue old new
+created_true ok file old new input stored opened kept =
+    changed_true ok (with_open (ToWrite file)) old new input stored opened kept (λ is.
+    put_by_true [] old new input stored (ap (λ (r : Record). r.uses) is ∙ sym (append-nil (all_uses old.kept)))
+    (λ stock holds. tt) (λ stock. subst (λ (r : Record). IsOpenTrue stock new r.current) (sym is) tt))
+
+-- or made whole
+pub replaced_true : (ok : Bool) (file : Writing) (old new : MemDeskState) → new.input ≡ old.input
+    → new.stored ≡ old.stored
+    → new.opened ≡ old.opened
+    → new.kept ≡ (if ok then with_replaced file.name file.bytes old.kept else old.kept) → Stays HoldsTrue old new
+replaced_true ok file old new input stored opened kept =
+    changed_true ok (with_replaced file.name file.bytes) old new input stored opened kept (λ is.
+    put_by_true (Created file ∷ []) old new input stored (ap (λ (r : Record). r.uses) is)
+    (λ stock holds. tt) (λ stock. subst (λ (r : Record). IsOpenTrue stock new r.current) (sym is) tt))
+
+-- no file of this name is there
+pub absent_true : (ok : Bool) (name own : Bytes) (old new : MemDeskState) → own ≡ name → None ≡ contents name old
+    → new.input ≡ old.input → new.stored ≡ old.stored → new.opened ≡ old.opened
+    → new.kept ≡ (if ok then with_absent own old.kept else old.kept) → Stays HoldsTrue old new
+absent_true ok name own old new same none input stored opened kept =
+    changed_true ok (with_absent own) old new input stored opened kept (λ is.
+    put_by_true (Opened (Absent own) ∷ []) old new input stored (ap (λ (r : Record). r.uses) is)
+    (λ stock holds. (ap (stood_for stock (all_files old.kept)) same ∙ sym (stands stock old name holds) ∙ sym none, tt))
+    (λ stock. subst (λ (r : Record). IsOpenTrue stock new r.current) (sym is) tt))
+
+-- a file is opened that has these bytes
+pub opened_true : (ok : Bool) (name own bytes first : Bytes) (old new : MemDeskState) → ok ≡ true → own ≡ name
+    → first ≡ []
+    → new.opened ≡ bytes → Some bytes ≡ contents name old → new.input ≡ old.input → new.stored ≡ old.stored
+    → new.kept ≡ (if ok then with_open (ToRead (record { name = own; bytes = first; ended = false })) old.kept
+    else old.kept) → Stays HoldsTrue old new
+opened_true true name own bytes first old new ok same none has there input stored kept = λ stock holds. record {
+  began = stock_same old new input stored ∙ holds.began;
+  uses = subst (λ (r : Record). AreTrue stock [] r.uses) (sym kept) (all_true stock old holds);
+  current = subst (λ (r : Record). IsOpenTrue stock new r.current) (sym kept) (
+    ap (λ (r : Record). stood_for stock (files_among r.uses) own) kept
+        ∙ ap (λ fs. stood_for stock fs own) (files_used old.kept)
+        ∙ ap (stood_for stock (all_files old.kept)) same ∙ sym (stands stock old name holds) ∙ sym there
+        ∙ ap (λ (b : Bytes). Some b) (sym has),
+    subst (λ b. IsRead (Some new.opened) b false) (sym none)
+        (record { unread = new.opened; whole = refl; ends = λ e. absurd (cc) }),
+  );
+}
+opened_true false name own bytes first old new ok same none has there input stored kept = absurd (cc)
+
+-- what a desk shows is what it was inside
+pub from_inside : (inside now new : MemDeskState) → inside ≡ now → Stays HoldsTrue inside new → Stays HoldsTrue now new
+from_inside inside now new is stays = λ stock holds. stays stock (subst (HoldsTrue stock) (sym is) holds)
+
+-- bytes of the open file are read, or its end is seen, for which there has to be room
+module _ (old new : MemDeskState) (ends : Bool) (n room : ℕ) (whole gave next piece : Bytes)
+    (whole_is : whole ≡ old.opened)
+    (gave_is : gave ≡ bytes_given old.kept.current)
+    (next_is : next ≡ take room (drop (length gave) whole)) (count : n ≡ length next)
+    (took : piece ≡ next) (ended : ends ≡ (n == 0 && not (room == 0))) (input : new.input ≡ old.input)
+    (stored : new.stored ≡ old.stored)
+    (opened : new.opened ≡ old.opened) where
+  given : next ≡ take room (unread_bytes old)
+  given = next_is ∙ ap (λ (b : Bytes). take room (drop (length gave) b)) whole_is
+      ∙ ap (λ (b : Bytes). take room (drop (length b) old.opened)) gave_is
+
+  nothing_left : (behind : Bytes) → length behind ≡ 0 → behind ≡ []
+  nothing_left [] none = refl
+  nothing_left (b ∷ behind) none = absurd (omega (arith, none))
+
+  drop_none : (m : ℕ) (behind : Bytes) → behind ≡ [] → drop m behind ≡ []
+  drop_none m behind none = grind (arith, common_steps, none)
+
+  at_end : (behind : Bytes) → unread_bytes old ≡ behind → (n == 0 && not (room == 0)) ≡ true → behind ≡ []
+  at_end behind rest end =
+      let fit : n ≡ length (take room behind) =
+      count ∙ ap length given ∙ ap (λ (b : Bytes). length (take room b)) rest in
+      let few : length behind ≡ 0 = grind (arith, nat_tests, common_steps, end, fit) in
+      nothing_left behind few
+
+  ended_prefix : (was : Bool) (behind : Bytes) → unread_bytes old ≡ behind → (was ≡ true → behind ≡ [])
+      → (was || ends) ≡ true → drop room behind ≡ []
+  ended_prefix true behind rest before now = drop_none room behind (before refl)
+  ended_prefix false behind rest before now = drop_none room behind (at_end behind rest (sym ended ∙ now))
+
+  prefix_on : (x : Reading) → bytes_given old.kept.current ≡ x.bytes → IsRead (Some old.opened) x.bytes x.ended
+      → IsRead (Some old.opened) (x.bytes ++ piece) (x.ended || ends)
+  prefix_on x given_is is =
+      let all : old.opened ≡ x.bytes ++ is.unread = let e = is.whole in cc in
+      let rest : unread_bytes old ≡ is.unread =
+      ap (λ (b : Bytes). drop (length b) old.opened) given_is ∙ ap (λ (b : Bytes). drop (length x.bytes) b) all
+      ∙ drop-append_seam x.bytes is.unread in
+      let part : piece ≡ take room is.unread = took ∙ given ∙ ap (λ (b : Bytes). take room b) rest in
+      record {
+        unread = drop room is.unread;
+        whole = ap (λ (b : Bytes). Some b) (all ∙ ap (λ (b : Bytes). x.bytes ++ b)
+            (sym (take-append-drop room is.unread))
+            ∙ sym (append_assoc x.bytes (take room is.unread) (drop room is.unread))
+            ∙ ap (λ (b : Bytes). (x.bytes ++ b) ++ drop room is.unread) (sym part));
+        ends = ended_prefix x.ended is.unread rest is.ends;
+      }
+
+  open_on : (stock : Stock) (o : Open) → new.kept.uses ≡ old.kept.uses → old.kept.current ≡ o → IsOpenTrue stock old o
+      → IsOpenTrue stock new (noted piece ends o)
+  open_on stock Closed uses is held = tt
+  open_on stock (ToRead x) uses is held = (
+    ap (λ us. stood_for stock (files_among us) x.name) uses ∙ held.0 ∙ ap (λ (b : Bytes). Some b) (sym opened),
+    subst (λ (b : Bytes). IsRead (Some b) (x.bytes ++ piece) (x.ended || ends)) (sym opened)
+        (prefix_on x (ap bytes_given is) held.1),
+  )
+  open_on stock (ToWrite x) uses is held = tt
+
+  pub read_true : (ok : Bool) → new.kept ≡ (if ok then after_reading piece ends old.kept else old.kept)
+      → Stays HoldsTrue old new
+  read_true ok kept = changed_true ok (after_reading piece ends) old new input stored opened kept
+      (λ is stock holds. record {
+        began = stock_same old new input stored ∙ holds.began;
+        uses = subst (λ (r : Record). AreTrue stock [] r.uses) (sym is) holds.uses;
+        current = subst (λ (r : Record). IsOpenTrue stock new r.current) (sym is)
+            (open_on stock old.kept.current (ap (λ (r : Record). r.uses) is) refl holds.current);
+      })
+
+-- bytes are written to the open file
+pub written_true : (bytes : Bytes) (old new : MemDeskState) → new.input ≡ old.input → new.stored ≡ old.stored
+    → new.opened ≡ old.opened
+    → new.kept.uses ≡ old.kept.uses → new.kept.current ≡ written_on bytes old.kept.current → Stays HoldsTrue old new
+written_true bytes old new input stored opened uses current = λ stock holds. record {
+  began = stock_same old new input stored ∙ holds.began;
+  uses = subst (AreTrue stock []) (sym uses) holds.uses;
+  current = subst (IsOpenTrue stock new) (sym current) (open_on stock old.kept.current holds.current);
+}
+  where
+    open_on : (stock : Stock) (o : Open) → IsOpenTrue stock old o → IsOpenTrue stock new (written_on bytes o)
+    open_on stock Closed is = tt
+    open_on stock (ToRead x) is = (
+      ap (λ us. stood_for stock (files_among us) x.name) uses ∙ is.0 ∙ ap (λ (b : Bytes). Some b) (sym opened),
+      subst (λ (b : Bytes). IsRead (Some b) x.bytes x.ended) (sym opened) is.1,
+    )
+    open_on stock (ToWrite x) is = tt

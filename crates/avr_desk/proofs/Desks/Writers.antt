@@ -1,0 +1,21 @@
+-- What a writer whose bytes are known has taken.
+use Rattle.std.proofs.Common.{◌≡◌, ◌∙◌, refl, ap, ℕ, ◌++◌, append-nil, take, drop, take-append-drop, Option, None, Some}
+use Rattle.std.specs.Io.KnownBytes.{Keeps, Appends}
+use Rattle.avr_desk.specs.Record.{Bytes}
+use Rattle.avr_desk.specs.Shown.{AppendsPrefix}
+
+-- so many of the bytes are a prefix of them
+pub took_prefix : (a b : Option Bytes) (n : ℕ) (bytes : Bytes) → Appends a b (take n bytes) → AppendsPrefix a b bytes
+took_prefix a b n bytes took = (take n bytes, (drop n bytes, take-append-drop n bytes), took)
+
+-- nothing was written
+pub keeps : (a : Option Bytes) → Keeps a a
+keeps None = tt
+keeps (Some x) = refl
+
+pub kept_nothing : (a b c : Option Bytes) (n : ℕ) (bytes : Bytes) → Keeps a b → n ≡ 0 → Appends b c (take n bytes)
+    → Keeps a c
+kept_nothing None b c n bytes p e q = tt
+kept_nothing (Some x) None c n bytes p e q = absurd p
+kept_nothing (Some x) (Some y) None n bytes p e q = absurd q
+kept_nothing (Some x) (Some y) (Some z) n bytes p e q = q ∙ ap (λ m. y ++ take m bytes) e ∙ append-nil y ∙ p

@@ -1,0 +1,6 @@
+-- Lines and bytes that are written piece by piece.
+pub mod SentBytes
+pub mod FailureCounts
+pub mod Digits
+pub mod Pieces
+pub mod Told

@@ -1,0 +1,47 @@
+-- Pieces of a line, written one after the other.
+use Rattle.std.proofs.Common.{◌≡◌, ◌∙◌, ap, sym, refl, subst, ℕ, ◌+◌, List, [], ◌∷◌, ◌++◌, append_assoc, append-nil, take, drop, length, map, get_or, ◌<◌, OnOk, OnErr, Result, Ok, Err}
+use Rattle.std.specs.List.{concat}
+use Rattle.std.proofs.lemmas.List.{drop_more, take_more, take-append-drop}
+use Rattle.avr_desk.specs.Record.{Record, after_err, showing}
+use Rattle.avr_desk.specs.Stream.{SendsPart}
+use Rattle.avr_desk.specs.declared.stream.Stream.TheVariants.{Messages}
+use Rattle.avr_desk.specs.declared.desk.DeskFault.{DeskFault}
+use Rattle.avr_desk.proofs.Lines.SentBytes.{sent_next, sent_next_part}
+use Rattle.avr_desk.specs.Lines.{text_of}
+use Rattle.avr_desk.specs.Said.{IsPrinted}
+use Rattle.avr_desk.specs.declared.line.Piece.{Piece}
+
+-- what the pieces come to
+abbrev pub all_text : List Piece → List ℕ
+all_text ps = concat (map text_of ps)
+
+all_text-append : (ps qs : List Piece) → all_text (ps ++ qs) ≡ all_text ps ++ all_text qs
+all_text-append [] qs = refl
+all_text-append (p ∷ ps) qs = ap (λ (b : List ℕ). text_of p ++ b) (all_text-append ps qs)
+    ∙ sym (append_assoc (text_of p) (all_text ps) (all_text qs))
+
+-- the pieces before the ith, the ith and those after it
+pub all_text_at : (ps : List Piece) (i : ℕ) (d : Piece) → i < length ps
+    → all_text ps ≡ all_text (take i ps) ++ (text_of (get_or ps i d) ++ all_text (drop (i + 1) ps))
+all_text_at ps i d l =
+    ap all_text (sym (take-append-drop i ps)) ∙ all_text-append (take i ps) (drop i ps)
+    ∙ ap (λ (qs : List Piece). all_text (take i ps) ++ all_text qs) (drop_more ps i d l)
+
+pub all_text_more : (ps : List Piece) (i : ℕ) (d : Piece) → i < length ps
+    → all_text (take (i + 1) ps) ≡ all_text (take i ps) ++ text_of (get_or ps i d)
+all_text_more ps i d l =
+    ap all_text (take_more ps i d l) ∙ all_text-append (take i ps) (get_or ps i d ∷ [])
+    ∙ ap (λ (b : List ℕ). all_text (take i ps) ++ b) (append-nil (text_of (get_or ps i d)))
+
+-- the end of a line after its mark and its text (the counts say nothing here)
+pub line_ends : (old first then new : Record) (mark text : List ℕ) (result : Result (Unit {0}) DeskFault)
+    → first ≡ after_err mark old → then ≡ after_err text first
+    → OnOk result (new ≡ after_err (10 ∷ []) then)
+    → OnErr result (SendsPart Messages (showing then 0 0) (showing new 0 0) (10 ∷ []))
+    → IsPrinted (showing old 0 0) (showing new 0 0) (mark ++ (text ++ 10 ∷ [])) result
+line_ends old first then new mark text (Ok done) e f all part =
+    sent_next Messages old first new mark (text ++ 10 ∷ []) e (sent_next Messages first then new text (10 ∷ []) f all)
+line_ends old first then new mark text (Err fault) e f all part =
+    subst (SendsPart Messages (showing old 0 0) (showing new 0 0)) (append_assoc mark text (10 ∷ []))
+    (sent_next_part Messages old then new (mark ++ text) (10 ∷ []) [] (sent_next Messages old first then mark text e f)
+    part)

@@ -1,0 +1,6 @@
+-- Stages that open and judge files, one after the other, and where one broke off.
+pub mod Sayings
+pub mod Played
+pub mod Openings
+pub mod Files
+pub mod Breaks

@@ -1,0 +1,448 @@
+-- What is reported where a stage broke off, by what a desk shows.
+use Rattle.std.proofs.Common.{◌≡◌, ◌∙◌, sym, ap, subst, refl, ℕ, ◌⊎◌, inl, inr, List, [], ◌∷◌, ◌++◌, drop, append-nil, append_assoc, Result, Ok, Err, true, false}
+use Rattle.std.proofs.lemmas.List.{append_cancel_left}
+use Rattle.ghosts.specs.Failures.{HasStood}
+use Rattle.avr_desk.specs.Record.{DeskView, Record, showing, all_openings, opening_of, openings_among, after_err, written_on, Bytes}
+use Rattle.avr_desk.specs.declared.record.Open.{Open}
+use Rattle.avr_desk.specs.declared.record.Open.TheVariants.{Closed, ToRead, ToWrite}
+use Rattle.avr_desk.specs.declared.record.Opening.{Opening}
+use Rattle.avr_desk.specs.declared.record.Opening.TheVariants.{Absent, Found}
+use Rattle.avr_desk.specs.declared.record.Reading.{Reading}
+use Rattle.avr_desk.specs.Lines.{memory_line, not_opened_line}
+use Rattle.avr_desk.specs.Said.{Saying, Opens, Line, Creates, Writes, Outs, TellsLine, TellsFailure, IsPrefixOf, after, after_all}
+use Rattle.avr_desk.proofs.Stages.Sayings.{after_append}
+use Rattle.avr_desk.proofs.Lines.Told.{follows_here, not_failed}
+use Rattle.avr_desk.proofs.FileUses.Uses.{openings_absent, openings_opened}
+use Rattle.avr_desk.specs.Playing.{Break, InLine, NotOpened, NotRead, NoMemory, NoMemoryFor, last_done, IsBreak, TellsBreak, StageBrokeOff, WentRefused, Goes, part_read}
+use Rattle.avr_desk.specs.Stage.{Stage, StageAnswer, Made, Refused, Unread, StageResult, all_told, ◌>>=◌, content_stage, next_opening, file_stage}
+use Rattle.avr_desk.proofs.Stages.Played.{says_more}
+
+-- ---- where the desk did not fail
+
+-- a line reported stands at the end of the messages
+told_last : (before after : Record) (said last : List Saying) (told line : Bytes) → told ≡ line
+    → ((r : Record) → (after_all last r).messages ≡ r.messages ++ told)
+    → after ≡ after_all (said ++ last) before → (prefix : Bytes) × (after.messages ≡ prefix ++ line)
+told_last before after said last told line whole ends kept =
+    let same : after ≡ after_all (said ++ last) before = cc in (
+      (after_all said before).messages,
+      ap (λ (x : Record). x.messages) (same ∙ after_append said last before) ∙ ends (after_all said before)
+          ∙ ap (λ (xs : Bytes). (after_all said before).messages ++ xs) whole,
+    )
+
+-- of a desk that did not fail a line was reported whole
+whole_line : (line told : Bytes) (old new : DeskView) → HasStood old.failures new.failures → TellsLine line told old new
+    → told ≡ line
+whole_line line told old new sound (inl whole) = whole.0
+whole_line line told old new sound (inr part) =
+    absurd (not_failed old old new new (follows_here old) (follows_here new) sound part.1.0)
+
+-- and of the breaks only the want of memory is left
+broke_lacks : {A : Type 0} (stage : Stage A) (before after : Record) (k l m n : ℕ) → HasStood k l
+    → (b : StageBrokeOff stage (showing before k m) (showing after l n))
+    → (prefix : Bytes) × (after.messages ≡ prefix ++ memory_line)
+broke_lacks stage before after k l m n sound b = by_break b.break b.told b.tells b.kept
+  where
+    old : DeskView
+    old = showing before k m
+
+    new : DeskView
+    new = showing after l n
+
+    by_break : (break : Break) (told : Bytes) → TellsBreak break told old new
+        → after ≡ after_all (b.whole ++ last_done break told) before
+        → (prefix : Bytes) × (after.messages ≡ prefix ++ memory_line)
+    by_break (InLine line) told tells kept =
+        absurd (not_failed old old new new (follows_here old) (follows_here new) sound tells.1.0)
+    by_break (NotOpened name) told tells kept =
+        absurd (not_failed old old tells.between new (follows_here old) tells.until sound tells.failed.0)
+    by_break (NotRead name bytes) told tells kept =
+        absurd (not_failed old old tells.between new (follows_here old) tells.until sound tells.failed.0)
+    by_break NoMemory told tells kept =
+        told_last before after b.whole (Line told ∷ []) told memory_line
+        (whole_line memory_line told old new sound tells) (λ r. refl) kept
+    by_break (NoMemoryFor reading) told tells kept =
+        told_last before after b.whole (Opens (Found reading) ∷ Line told ∷ []) told memory_line
+        (whole_line memory_line told old new sound tells)
+        (λ r. refl) kept
+
+-- So a status other than that of a plan is the refusal that the stage says.
+pub sound_refusal : {A : Type 0} (stage : Stage A) (before after : Record) (k l m n status : ℕ) → HasStood k l
+    → ((prefix : Bytes) → after.messages ≡ prefix ++ memory_line → ⊥)
+    → Goes stage (showing before k m) (showing after l n) (Err status)
+    → WentRefused stage (showing before k m) (showing after l n)
+sound_refusal stage before after k l m n status sound has_memory (one, inl went) = went
+sound_refusal stage before after k l m n status sound has_memory (one, inr broke) =
+    let lacks = broke_lacks stage before after k l m n sound broke in absurd (has_memory lacks.0 lacks.1)
+
+-- ---- where the desk shows no file that was opened
+
+abbrev pub openings_in : List Saying → List Opening
+openings_in [] = []
+openings_in (Opens opening ∷ sayings) = opening ∷ openings_in sayings
+openings_in (Line bytes ∷ sayings) = openings_in sayings
+openings_in (Creates name ∷ sayings) = openings_in sayings
+openings_in (Writes bytes ∷ sayings) = openings_in sayings
+openings_in (Outs bytes ∷ sayings) = openings_in sayings
+
+written_openings : (bytes : Bytes) (o : Open) → opening_of (written_on bytes o) ≡ opening_of o
+written_openings bytes Closed = refl
+written_openings bytes (ToRead x) = refl
+written_openings bytes (ToWrite x) = refl
+
+-- one more, and those after it
+one_more : (shown now more : List Opening) (next : Opening) (all : List Opening) → now ≡ shown ++ next ∷ []
+    → all ≡ now ++ more → all ≡ shown ++ next ∷ more
+one_more shown now more next all one is =
+    is ∙ (ap (λ (os : List Opening). os ++ more) one ∙ append_assoc shown (next ∷ []) more)
+
+none_more : (shown now more all : List Opening) → now ≡ shown → all ≡ now ++ more → all ≡ shown ++ more
+none_more shown now more all same is = is ∙ ap (λ (os : List Opening). os ++ more) same
+
+-- each opening is shown
+pub openings_shown : (sayings : List Saying) (r : Record)
+    → all_openings (after_all sayings r) ≡ all_openings r ++ openings_in sayings
+openings_shown [] r = sym (append-nil (all_openings r))
+openings_shown (Opens (Absent name) ∷ sayings) r =
+    let now = after (Opens (Absent name)) r in
+    one_more (all_openings r) (all_openings now) (openings_in sayings) (Absent name)
+    (all_openings (after_all sayings now)) (openings_absent name r) (openings_shown sayings now)
+openings_shown (Opens (Found reading) ∷ sayings) r =
+    let now = after (Opens (Found reading)) r in
+    one_more (all_openings r) (all_openings now) (openings_in sayings) (Found reading)
+    (all_openings (after_all sayings now)) (openings_opened (ToRead reading) r)
+    (openings_shown sayings now)
+openings_shown (Line bytes ∷ sayings) r = openings_shown sayings (after (Line bytes) r)
+openings_shown (Creates name ∷ sayings) r =
+    let now = after (Creates name) r in
+    let file : Open = ToWrite (record { name = name; bytes = [] }) in
+    none_more (all_openings r) (all_openings now) (openings_in sayings) (all_openings (after_all sayings now))
+    (openings_opened file r ∙ append-nil (all_openings r))
+    (openings_shown sayings now)
+openings_shown (Writes bytes ∷ sayings) r =
+    let now = after (Writes bytes) r in
+    none_more (all_openings r) (all_openings now) (openings_in sayings) (all_openings (after_all sayings now))
+    (ap (λ (os : List Opening). openings_among r.uses ++ os) (written_openings bytes r.current))
+    (openings_shown sayings now)
+openings_shown (Outs bytes ∷ sayings) r = openings_shown sayings (after (Outs bytes) r)
+
+-- so the same record shows the same openings
+same_openings : (first second : List Saying) (r : Record) → after_all first r ≡ after_all second r
+    → openings_in first ≡ openings_in second
+same_openings first second r kept =
+    let same : after_all first r ≡ after_all second r = cc in
+    append_cancel_left (all_openings r) (openings_in first) (openings_in second)
+    (sym (openings_shown first r) ∙ (ap all_openings same ∙ openings_shown second r))
+
+-- ---- a stage that begins with the opening of a file
+
+-- whatever files give, the first that it says is the opening of the file of this name
+abbrev pub Begins : {A : Type 0} → Bytes → Stage A → Type 0
+Begins name stage = (openings : List Opening)
+    → (extra : List Saying) × ((stage openings).says ≡ Opens (next_opening name openings) ∷ extra)
+
+pub begins_then : {A B : Type 0} (name : Bytes) (stage : Stage A) (go_on : A → Stage B) → Begins name stage
+    → Begins name (stage >>= go_on)
+begins_then name stage go_on begins openings =
+    let p = stage openings in
+    let more = says_more p.says p.left go_on p.answer in
+    ((begins openings).0 ++ more.0, more.1 ∙ ap (λ (ss : List Saying). ss ++ more.0) (begins openings).1)
+
+pub begins_file : {A : Type 0} (name : Bytes) (limit : ℕ) (judge : Bytes → Result A Bytes)
+    → Begins name (file_stage name limit judge)
+begins_file name limit judge openings = (
+  (content_stage name limit judge (next_opening name openings)
+      (drop 1 openings)).says,
+  refl,
+)
+
+-- the one that is after them all has this name too
+same_name : (name other : Bytes) (passed : List Opening) → next_opening name (passed ++ []) ≡ Absent other
+    → name ≡ other
+same_name name other [] is = cc
+same_name name other (Absent x ∷ passed) is = cc
+same_name name other (Found x ∷ passed) is = cc
+
+-- the line of a refusal stands after what was said first
+told_first : {A : Type 0} (first : Saying) (says : List Saying) (answer : StageAnswer A)
+    → all_told (first ∷ says) answer ≡ first ∷ all_told says answer
+told_first first says (Made a) = refl
+told_first first says (Refused line) = refl
+told_first first says Unread = refl
+
+-- nothing but this line was reported since
+only_told : (r : Record) (told line : Bytes) → after_err told r ≡ after_all (Line line ∷ []) r → told ≡ line
+only_told r told line kept =
+    let same : after_err told r ≡ after_err line r = cc in
+    append_cancel_left r.messages told line (ap (λ (x : Record). x.messages) same)
+
+-- Of a stage that begins so, where the desk shows no opening: the file could not be opened, and that was reported, or
+-- memory
+-- was refused, and that was.
+module _ {A : Type 0} (name told : Bytes) (stage : Stage A) (begins : Begins name stage) (r : Record)
+    (k l m n : ℕ) where
+  abbrev pub Old : DeskView
+  Old = showing r k m
+
+  abbrev pub New : DeskView
+  New = showing (after_err told r) l n
+
+  abbrev pub Told : Type 0
+  Told = TellsFailure (not_opened_line name) told Old New ⊎ TellsLine memory_line told Old New
+
+  abbrev Leaves : List Saying → Type 0
+  Leaves sayings = after_err told r ≡ after_all sayings r
+
+  abbrev Next : List Opening → List Saying
+  Next passed = Opens (next_opening name (passed ++ [])) ∷ (begins (passed ++ [])).0
+
+  first_is : (passed : List Opening) (other : Bytes) (behind extra : List Saying)
+      → Opens (next_opening name (passed ++ [])) ∷ behind ≡ Opens (Absent other) ∷ extra → name ≡ other
+  first_is passed other behind extra is =
+      let opens : Opens (next_opening name (passed ++ [])) ≡ Opens (Absent other) = cc in
+      let opening : next_opening name (passed ++ []) ≡ Absent other = cc in
+      same_name name other passed opening
+
+  by_break : (passed : List Opening) (behind : List Saying) (break : Break) (line : Bytes)
+      → IsBreak break [] (Opens (next_opening name (passed ++ [])) ∷ behind) → TellsBreak break line Old New
+      → Leaves (last_done break line) → Told
+  by_break passed behind (InLine due) line is tells kept =
+      let clash : Opens (next_opening name (passed ++ [])) ≡ Line due = let e = is.1 in cc in absurd (cc)
+  by_break passed behind (NotOpened other) line is tells kept =
+      let named = first_is passed other behind is.0 is.1 in
+      inl (subst (λ n. TellsFailure (not_opened_line n) told Old New) (sym named)
+      (subst (λ t. TellsFailure (not_opened_line other) t Old New) (sym (only_told r told line kept)) tells))
+  by_break passed behind (NotRead other bytes) line is tells kept =
+      let none : ◌≡◌ {A = List Opening} [] (Found (record { name = other; bytes = bytes; ended = false }) ∷ []) =
+      same_openings (Line told ∷ []) (part_read other bytes ∷ Line line ∷ []) r kept in absurd (cc)
+  by_break passed behind NoMemory line is tells kept =
+      inr (subst (λ t. TellsLine memory_line t Old New) (sym (only_told r told line kept)) tells)
+  by_break passed behind (NoMemoryFor reading) line is tells kept =
+      let none : ◌≡◌ {A = List Opening} [] (Found reading ∷ []) =
+      same_openings (Line told ∷ []) (Opens (Found reading) ∷ Line line ∷ []) r kept in absurd (cc)
+
+  by_whole : (passed : List Opening) (answer : StageAnswer A) (whole later : List Saying) (break : Break) (line : Bytes)
+      → Next passed ≡ whole ++ later → IsBreak break [] (all_told later answer)
+      → TellsBreak break line Old New → Leaves (whole ++ last_done break line) → Told
+  by_whole passed answer [] later break line says is tells kept =
+      let next : IsBreak break [] (all_told (Next passed) answer) =
+      subst (λ (ls : List Saying). IsBreak break [] (all_told ls answer)) (sym says) is in
+      let behind = (begins (passed ++ [])).0 in
+      by_break passed (all_told behind answer) break line
+      (subst (IsBreak break []) (told_first (Opens (next_opening name (passed ++ []))) behind answer) next) tells
+      kept
+  by_whole passed answer (first ∷ whole) later break line says is tells kept =
+      let opens : first ≡ Opens (next_opening name (passed ++ [])) = cc in
+      let none = same_openings (Line told ∷ []) (first ∷ (whole ++ last_done break line)) r kept in
+      let some : openings_in (first ∷ (whole ++ last_done break line))
+      ≡ next_opening name (passed ++ []) ∷ openings_in (whole ++ last_done break line) =
+      ap (λ (s : Saying). openings_in (s ∷ (whole ++ last_done break line))) opens in
+      let clash : [] ≡ next_opening name (passed ++ []) ∷ openings_in (whole ++ last_done break line) = none ∙ some in
+      absurd (cc)
+
+  pub unopened : (status : ℕ) → Goes stage (showing r k m) (showing (after_err told r) l n) (Err status) → Told
+  unopened status (one, inl (line, went)) =
+      let says : went.says ≡ Next went.passed =
+      sym (ap (λ (p : StageResult A). p.says) (went.comes [])) ∙ (begins (went.passed ++ [])).1 in
+      let none = same_openings (Line told ∷ []) (went.says ++ Line line ∷ []) r went.kept in
+      let clash : [] ≡ next_opening name (went.passed ++ [])
+      ∷ openings_in ((begins (went.passed ++ [])).0 ++ Line line ∷ []) =
+      none ∙ ap (λ (ss : List Saying). openings_in (ss ++ Line line ∷ [])) says in
+      absurd (cc)
+  unopened status (one, inr b) =
+      let rest = b.rest [] in
+      by_whole b.passed (stage (b.passed ++ [])).answer b.whole rest.later b.break b.told
+      (sym (begins (b.passed ++ [])).1 ∙ rest.says_are) rest.broken b.tells b.kept
+
+-- ---- a file that was opened and is good
+
+-- it was read to its end, and this is what it comes to
+module _ {A : Type 0} (name : Bytes) (limit : ℕ) (judge : Bytes → Result A Bytes) (bytes told : Bytes) (good : A)
+    (given : judge bytes ≡ Ok good) (r : Record) (k l m n : ℕ) where
+  abbrev Before : DeskView
+  Before = showing r k m
+
+  abbrev After : DeskView
+  After = showing (after_all (Opens (Found (record { name = name; bytes = bytes; ended = true })) ∷ Line told ∷ []) r) l
+      n
+
+  abbrev reading : Reading
+  reading = record { name = name; bytes = bytes; ended = true }
+
+  abbrev done : List Saying
+  done = Opens (Found reading) ∷ Line told ∷ []
+
+  abbrev Leaves_it : List Saying → Type 0
+  Leaves_it sayings = after_all done r ≡ after_all sayings r
+
+  abbrev made : List Opening → StageResult A
+  made left = record { says = Opens (Found reading) ∷ []; answer = Made good; left = left }
+
+  -- where the next opening gives it, it is made
+  comes_to : (openings : List Opening) → next_opening name openings ≡ Found reading
+      → file_stage name limit judge openings ≡ made (drop 1 openings)
+  comes_to openings is = rw (is, given) refl
+
+  told_is : (opening : Opening) (line : Bytes) → Leaves_it (Opens opening ∷ Line line ∷ []) → told ≡ line
+  told_is (Absent other) line kept =
+      let same : after_all done r ≡ after_all (Opens (Absent other) ∷ Line line ∷ []) r = cc in
+      append_cancel_left r.messages told line (ap (λ (x : Record). x.messages) same)
+  told_is (Found x) line kept =
+      let same : after_all done r ≡ after_all (Opens (Found x) ∷ Line line ∷ []) r = cc in
+      append_cancel_left r.messages told line (ap (λ (x : Record). x.messages) same)
+
+  -- a break before the file was opened
+  before_it : (break : Break) (line : Bytes) → TellsBreak break line Before After → Leaves_it (last_done break line)
+      → TellsLine memory_line told Before After
+  before_it (InLine due) line tells kept =
+      let none : ◌≡◌ {A = List Opening} (Found reading ∷ []) [] = same_openings done (Line line ∷ []) r kept in
+      absurd (cc)
+  before_it (NotOpened other) line tells kept =
+      let none : ◌≡◌ {A = List Opening} (Found reading ∷ []) [] = same_openings done (Line line ∷ []) r kept in
+      absurd (cc)
+  before_it (NotRead other some) line tells kept =
+      let part : Reading = record { name = other; bytes = some; ended = false } in
+      let one : ◌≡◌ {A = List Opening} (Found reading ∷ []) (Found part ∷ []) =
+      same_openings done (part_read other some ∷ Line line ∷ []) r kept in
+      let same : reading ≡ part = cc in
+      let ends : true ≡ false = ap (λ (x : Reading). x.ended) same in
+      absurd (cc)
+  before_it NoMemory line tells kept =
+      let none : ◌≡◌ {A = List Opening} (Found reading ∷ []) [] = same_openings done (Line line ∷ []) r kept in
+      absurd (cc)
+  before_it (NoMemoryFor x) line tells kept =
+      subst (λ t. TellsLine memory_line t Before After) (sym (told_is (Found x) line kept)) tells
+
+  -- or after it, where nothing more is said
+  behind_it : (break : Break) (line : Bytes) (opening : Opening) → IsBreak break [] []
+      → TellsBreak break line Before After → Leaves_it (Opens opening ∷ last_done break line)
+      → TellsLine memory_line told Before After
+  behind_it (InLine due) line opening is tells kept = let e : [] ≡ Line due ∷ is.0 = is.1 in absurd (cc)
+  behind_it (NotOpened other) line opening is tells kept = let e : [] ≡ Opens (next_opening other []) ∷ is.0 = is.1 in
+      absurd (cc)
+  behind_it (NotRead other some) line opening is tells kept = let e : [] ≡ Opens (next_opening other []) ∷ is.0 =
+      is.1 in absurd (cc)
+  behind_it NoMemory line opening is tells kept =
+      subst (λ t. TellsLine memory_line t Before After) (sym (told_is opening line kept)) tells
+  behind_it (NoMemoryFor x) line opening is tells kept = let e : [] ≡ Opens (next_opening x.name []) ∷ is.0 = is.1 in
+      absurd (cc)
+
+  by_end : (first : Saying) (opening : Opening) (whole later : List Saying) (break : Break) (line : Bytes)
+      → first ≡ Opens opening → whole ++ later ≡ []
+      → IsBreak break [] later → TellsBreak break line Before After
+      → Leaves_it (first ∷ (whole ++ last_done break line)) → TellsLine memory_line told Before After
+  by_end first opening [] [] break line one none is tells kept =
+      behind_it break line opening is tells (subst (λ s. Leaves_it (s ∷ last_done break line)) one kept)
+  by_end first opening [] (x ∷ later) break line one none is tells kept = absurd (cc)
+  by_end first opening (x ∷ whole) later break line one none is tells kept = absurd (cc)
+
+  by_prefix : (openings : List Opening) (whole later : List Saying) (break : Break) (line : Bytes)
+      → (file_stage name limit judge openings).says ≡ whole ++ later
+      → IsBreak break [] (all_told later (file_stage name limit judge openings).answer)
+      → TellsBreak break line Before After → Leaves_it (whole ++ last_done break line)
+      → TellsLine memory_line told Before After
+  by_prefix openings [] later break line says is tells kept = before_it break line tells kept
+  by_prefix openings (first ∷ whole) later break line says is tells kept =
+      let extra = (begins_file name limit judge openings).0 in
+      let both : first ∷ (whole ++ later) ≡ Opens (next_opening name openings) ∷ extra =
+      sym says ∙ (begins_file name limit judge openings).1 in
+      let first_is : first ≡ Opens (next_opening name openings) = cc in
+      let shown : Found reading ∷ [] ≡ next_opening name openings ∷ openings_in (whole ++ last_done break line) =
+      same_openings done (first ∷ (whole ++ last_done break line)) r kept
+      ∙ ap (λ (s : Saying). openings_in (s ∷ (whole ++ last_done break line))) first_is in
+      let opening : next_opening name openings ≡ Found reading = cc in
+      let all : first ∷ (whole ++ later) ≡ Opens (Found reading) ∷ [] =
+      sym says ∙ ap (λ (p : StageResult A). p.says) (comes_to openings opening) in
+      let none : whole ++ later ≡ [] = cc in
+      let is_made : IsBreak break [] later =
+      subst (λ (answer : StageAnswer A). IsBreak break [] (all_told later answer))
+      (ap (λ (p : StageResult A). p.answer) (comes_to openings opening)) is in
+      by_end first (next_opening name openings) whole later break line first_is none is_made tells kept
+
+  -- So the desk was shown to open it, to its end, and what was reported is the line of memory.
+  pub opened_is_told : (status : ℕ) → Goes (file_stage name limit judge) (showing r k m)
+      (showing (after_all done r) l n) (Err status) → TellsLine memory_line told Before After
+  opened_is_told status (one, inl (line, went)) =
+      let openings = went.passed ++ [] in
+      let begun = begins_file name limit judge openings in
+      let says : went.says ≡ Opens (next_opening name openings) ∷ begun.0 =
+      sym (ap (λ (p : StageResult A). p.says) (went.comes [])) ∙ begun.1 in
+      let shown : Found reading ∷ [] ≡ next_opening name openings ∷ openings_in (begun.0 ++ Line line ∷ []) =
+      same_openings done (went.says ++ Line line ∷ []) r went.kept
+      ∙ ap (λ (ss : List Saying). openings_in (ss ++ Line line ∷ [])) says in
+      let opening : next_opening name openings ≡ Found reading = cc in
+      let answers : Made good ≡ Refused line =
+      sym (ap (λ (p : StageResult A). p.answer) (comes_to openings opening))
+      ∙ ap (λ (p : StageResult A). p.answer) (went.comes []) in
+      absurd (cc)
+  opened_is_told status (one, inr b) =
+      let rest = b.rest [] in by_prefix (b.passed ++ []) b.whole rest.later b.break b.told rest.says_are rest.broken
+      b.tells b.kept
+
+-- ---- a stage that is refused at once
+
+same_refusal : {A : Type 0} (line other : Bytes) → ◌≡◌ {A = StageAnswer A} (Refused line) (Refused other) → line ≡ other
+same_refusal line other is = cc
+
+-- Whatever files give, it is refused by this line, and says nothing before it: so of it nothing was reported but that
+-- line, or that memory was refused.
+module _ {A : Type 0} (line told : Bytes) (stage : Stage A)
+    (refuses : (openings : List Opening) → stage openings
+    ≡ record { says = []; answer = Refused line; left = openings })
+    (r : Record) (k l m n : ℕ) where
+  abbrev Here : DeskView
+  Here = showing r k m
+
+  abbrev There : DeskView
+  There = showing (after_err told r) l n
+
+  abbrev pub TellsOne : Type 0
+  TellsOne = TellsLine line told Here There ⊎ TellsLine memory_line told Here There
+
+  abbrev Only : List Saying → Type 0
+  Only sayings = after_err told r ≡ after_all sayings r
+
+  -- what is reported of a break there
+  at_once : (break : Break) (some : Bytes) → IsBreak break [] (Line line ∷ []) → TellsBreak break some Here There
+      → Only (last_done break some) → TellsOne
+  at_once (InLine due) some is tells kept =
+      let same : Line line ≡ Line due = let e = is.1 in cc in
+      let lines : line ≡ due = cc in
+      inl (inr (
+        subst (λ t. IsPrefixOf t line) (sym (only_told r told some kept))
+            (subst (IsPrefixOf some) (sym lines) tells.0),
+        tells.1,
+      ))
+  at_once (NotOpened name) some is tells kept = let clash : Line line ≡ Opens (next_opening name []) = let e = is.1 in
+      cc in absurd (cc)
+  at_once (NotRead name bytes) some is tells kept = let clash : Line line ≡ Opens (next_opening name []) = let e =
+      is.1 in cc in absurd (cc)
+  at_once NoMemory some is tells kept = inr
+      (subst (λ t. TellsLine memory_line t Here There) (sym (only_told r told some kept)) tells)
+  at_once (NoMemoryFor reading) some is tells kept = let clash : Line line ≡ Opens (next_opening reading.name []) =
+      let e = is.1 in cc in absurd (cc)
+
+  in_front : (whole later : List Saying) (break : Break) (some : Bytes) → [] ≡ whole ++ later
+      → IsBreak break [] (all_told {A = A} later (Refused line)) → TellsBreak break some Here There
+      → Only (whole ++ last_done break some) → TellsOne
+  in_front [] [] break some says is tells kept = at_once break some is tells kept
+  in_front [] (x ∷ later) break some says is tells kept = absurd (cc)
+  in_front (x ∷ whole) later break some says is tells kept = absurd (cc)
+
+  pub refused_once : (status : ℕ) → Goes stage Here There (Err status) → TellsOne
+  refused_once status (one, inl (other, went)) =
+      let openings = went.passed ++ [] in
+      let says : [] ≡ went.says = sym (ap (λ (p : StageResult A). p.says) (refuses openings))
+      ∙ ap (λ (p : StageResult A). p.says) (went.comes []) in
+      let lines : line ≡ other = same_refusal {A = A} line other
+      (sym (ap (λ (p : StageResult A). p.answer) (refuses openings))
+      ∙ ap (λ (p : StageResult A). p.answer) (went.comes [])) in
+      let kept : Only (Line other ∷ []) = subst (λ (ss : List Saying). Only (ss ++ Line other ∷ [])) (sym says)
+      went.kept in
+      inl (inl (only_told r told other kept ∙ sym lines, went.sound))
+  refused_once status (one, inr b) =
+      let rest = b.rest [] in
+      let is = refuses (b.passed ++ []) in
+      in_front b.whole rest.later b.break b.told (sym (ap (λ (p : StageResult A). p.says) is) ∙ rest.says_are)
+      (subst (λ (answer : StageAnswer A). IsBreak b.break [] (all_told rest.later answer))
+      (ap (λ (p : StageResult A). p.answer) is) rest.broken) b.tells b.kept

@@ -1,0 +1,283 @@
+-- Stages that were played, one after the other.
+use Rattle.std.proofs.Common.{◌≡◌, ◌∙◌, sym, subst, inl, inr, ap, List, [], ◌∷◌, ◌++◌, ℕ, take, drop, refl, Ok, Err, Result, append_assoc, append-nil}
+use Rattle.std.proofs.lemmas.List.{take-append-drop}
+use Rattle.avr_desk.specs.Record.{DeskView, Passes}
+use Rattle.avr_desk.specs.Fault.{HasFailedToSay, HasSameCounts, Counts, Follows}
+use Rattle.avr_desk.specs.declared.desk.DeskFault.{DeskFault}
+use Rattle.avr_desk.specs.declared.desk.DeskFault.TheVariants.{NotFound, Failed}
+use Rattle.avr_desk.specs.Stream.{SendsPart}
+use Rattle.avr_desk.specs.declared.stream.Stream.TheVariants.{Messages}
+use Rattle.avr_desk.specs.declared.record.Opening.{Opening}
+use Rattle.avr_desk.specs.Said.{Saying, Line, Opens, TellsLine, Tells, after_all}
+use Rattle.avr_desk.proofs.Stages.Sayings.{kept_none, kept_append}
+use Rattle.avr_desk.proofs.Lines.Told.{follows_on, follows_same, same_here, same_on, unsaid_since, tells_since, failure_since}
+use Rattle.avr_desk.specs.Lines.{memory_line, not_opened_line, not_read_line}
+use Rattle.avr_desk.specs.Playing.{Went, Break, InLine, NotOpened, NotRead, NoMemory, NoMemoryFor, last_done, IsNextSaying, IsBreak, TellsBreak, Rest, StageBrokeOff, Goes}
+use Rattle.avr_desk.specs.Stage.{Stage, StageAnswer, Made, Refused, Unread, StageResult, all_told, behind_sayings, going_on, ◌>>=◌, verdict_stage, saying_stage, next_opening}
+
+-- ---- counts
+
+break_since : (break : Break) (told : List ℕ) (first old new : DeskView) → HasSameCounts first old
+    → TellsBreak break told old new → TellsBreak break told first new
+break_since (InLine line) told first old new same tells = (tells.0, unsaid_since first old new same tells.1)
+break_since (NotOpened name) told first old new same tells =
+    failure_since (not_opened_line name) told first old new same tells
+break_since (NotRead name bytes) told first old new same tells =
+    failure_since (not_read_line name) told first old new same tells
+break_since NoMemory told first old new same tells = tells_since memory_line told first old new same tells
+break_since (NoMemoryFor reading) told first old new same tells = tells_since memory_line told first old new same tells
+
+-- ---- a stage after another one
+
+next_more : (next : Saying) (later extra : List Saying) → IsNextSaying next later → IsNextSaying next (later ++ extra)
+next_more next later extra is = (is.0 ++ extra, ap (λ (ss : List Saying). ss ++ extra) is.1)
+
+break_more : (break : Break) (more : List Opening) (later extra : List Saying) → IsBreak break more later
+    → IsBreak break more (later ++ extra)
+break_more (InLine line) more later extra is = next_more (Line line) later extra is
+break_more (NotOpened name) more later extra is = next_more (Opens (next_opening name more)) later extra is
+break_more (NotRead name bytes) more later extra is = next_more (Opens (next_opening name more)) later extra is
+break_more NoMemory more later extra is = is
+break_more (NoMemoryFor reading) more later extra is = next_more (Opens (next_opening reading.name more)) later extra is
+
+-- what a stage says, the stage after it says after that
+pub says_more : {A B : Type 0} (says : List Saying) (left : List Opening) (go_on : A → Stage B) (answer : StageAnswer A)
+    → (extra : List Saying) × ((going_on says left go_on answer).says ≡ says ++ extra)
+says_more says left go_on (Made a) = ((go_on a left).says, refl)
+says_more says left go_on (Refused line) = ([], sym (append-nil says))
+says_more says left go_on Unread = ([], sym (append-nil says))
+
+-- the line of a refusal stands after both
+pub told_append : {A : Type 0} (first second : List Saying) (answer : StageAnswer A)
+    → all_told (first ++ second) answer ≡ first ++ all_told second answer
+told_append first second (Made a) = refl
+told_append first second (Refused line) = append_assoc first second (Line line ∷ [])
+told_append first second Unread = refl
+
+rest_on : {A B : Type 0} (says : List Saying) (left : List Opening) (go_on : A → Stage B) (answer : StageAnswer A)
+    (whole later : List Saying) (break : Break)
+    (more : List Opening)
+    → says ≡ whole ++ later → IsBreak break more (all_told later answer)
+    → Rest (going_on says left go_on answer) whole break more
+rest_on says left go_on (Made a) whole later break more is broken =
+    let q = go_on a left in
+    record {
+      later = later ++ q.says;
+      says_are = ap (λ (ss : List Saying). ss ++ q.says) is ∙ append_assoc whole later q.says;
+      broken = subst (IsBreak break more) (sym (told_append later q.says q.answer))
+          (break_more break more later (all_told q.says q.answer) broken);
+    }
+rest_on says left go_on (Refused line) whole later break more is broken =
+    record { later = later; says_are = is; broken = broken }
+rest_on says left go_on Unread whole later break more is broken =
+    record { later = later; says_are = is; broken = broken }
+
+rest_more : {A B : Type 0} (p : StageResult A) (go_on : A → Stage B) (whole : List Saying) (break : Break)
+    (more : List Opening)
+    → Rest p whole break more
+    → Rest (going_on p.says p.left go_on p.answer) whole break more
+rest_more p go_on whole break more rest =
+    rest_on p.says p.left go_on p.answer whole rest.later break more rest.says_are rest.broken
+
+rest_behind : {A : Type 0} (says whole : List Saying) (p : StageResult A) (break : Break) (more : List Opening)
+    → Rest p whole break more
+    → Rest (behind_sayings says p) (says ++ whole) break more
+rest_behind says whole p break more rest = record {
+  later = rest.later;
+  says_are = ap (λ (ss : List Saying). says ++ ss) rest.says_are ∙ sym (append_assoc says whole rest.later);
+  broken = rest.broken;
+}
+
+-- a stage that made something, and openings after its own
+made_then : {A B : Type 0} (stage : Stage A) (go_on : A → Stage B) (old new : DeskView) (a : A)
+    (w : Went stage old new (Made a))
+    (later : List Opening)
+    → (stage >>= go_on) (w.passed ++ later) ≡ behind_sayings w.says (go_on a later)
+made_then stage go_on old new a w later = ap (λ p. going_on p.says p.left go_on p.answer) (w.comes later)
+
+pub went_went : {A B : Type 0} (stage : Stage A) (go_on : A → Stage B) (old mid new : DeskView) (a : A)
+    (answer : StageAnswer B)
+    → Went stage old mid (Made a)
+    → Went (go_on a) mid new answer → Went (stage >>= go_on) old new answer
+went_went stage go_on old mid new a answer first then = record {
+  passed = first.passed ++ then.passed;
+  says = first.says ++ then.says;
+  comes = λ more.
+      ap (stage >>= go_on) (append_assoc first.passed then.passed more)
+      ∙ made_then stage go_on old mid a first (then.passed ++ more)
+      ∙ ap (behind_sayings first.says) (then.comes more);
+  kept = subst (λ ss. Passes (after_all ss) old new) (sym (told_append first.says then.says answer))
+      (kept_append first.says (all_told then.says answer) old.kept mid.kept new.kept first.kept then.kept);
+  sound = same_on old mid new first.sound then.sound;
+}
+
+went_broke : {A B : Type 0} (stage : Stage A) (go_on : A → Stage B) (old mid new : DeskView) (a : A)
+    → Went stage old mid (Made a)
+    → StageBrokeOff (go_on a) mid new → StageBrokeOff (stage >>= go_on) old new
+went_broke stage go_on old mid new a first then = record {
+  passed = first.passed ++ then.passed;
+  whole = first.says ++ then.whole;
+  break = then.break;
+  rest = λ more.
+      let is = ap (stage >>= go_on) (append_assoc first.passed then.passed more)
+      ∙ made_then stage go_on old mid a first (then.passed ++ more) in
+      subst (λ p. Rest p (first.says ++ then.whole) then.break more) (sym is)
+      (rest_behind first.says then.whole _ then.break more (then.rest more));
+  told = then.told;
+  tells = break_since then.break then.told old mid new first.sound then.tells;
+  kept = subst (λ ss. Passes (after_all ss) old new)
+      (sym (append_assoc first.says then.whole (last_done then.break then.told)))
+      (kept_append first.says (then.whole ++ last_done then.break then.told) old.kept mid.kept new.kept first.kept
+      then.kept);
+  follows = follows_on old mid new (follows_same old mid first.sound) then.follows;
+}
+
+refused_then : {A B : Type 0} (stage : Stage A) (go_on : A → Stage B) (old new : DeskView) (line : List ℕ)
+    → Went stage old new (Refused line)
+    → Went (stage >>= go_on) old new (Refused line)
+refused_then stage go_on old new line first = record {
+  passed = first.passed;
+  says = first.says;
+  comes = λ more. ap (λ p. going_on p.says p.left go_on p.answer) (first.comes more);
+  kept = first.kept;
+  sound = first.sound;
+}
+
+broke_then : {A B : Type 0} (stage : Stage A) (go_on : A → Stage B) (old new : DeskView) → StageBrokeOff stage old new
+    → StageBrokeOff (stage >>= go_on) old new
+broke_then stage go_on old new first = record {
+  passed = first.passed;
+  whole = first.whole;
+  break = first.break;
+  rest = λ more. rest_more (stage (first.passed ++ more)) go_on first.whole first.break more (first.rest more);
+  told = first.told;
+  tells = first.tells;
+  kept = first.kept;
+  follows = first.follows;
+}
+
+-- a stage that made something, and how the next one goes
+pub goes_on : {A B : Type 0} (stage : Stage A) (go_on : A → Stage B) (old mid new : DeskView) (a : A)
+    (result : Result B ℕ)
+    → Went stage old mid (Made a) → Goes (go_on a) mid new result → Goes (stage >>= go_on) old new result
+goes_on stage go_on old mid new a (Ok b) went then = went_went stage go_on old mid new a (Made b) went then
+goes_on stage go_on old mid new a (Err status) went (one, inl then) =
+    (one, inl (then.0, went_went stage go_on old mid new a (Refused then.0) went then.1))
+goes_on stage go_on old mid new a (Err status) went (one, inr then) =
+    (one, inr (went_broke stage go_on old mid new a went then))
+
+-- a stage that made nothing
+pub goes_no_further : {A B : Type 0} (stage : Stage A) (go_on : A → Stage B) (old new : DeskView) (status : ℕ)
+    → Goes stage old new (Err status)
+    → Goes (stage >>= go_on) old new (Err status)
+goes_no_further stage go_on old new status (one, inl went) =
+    (one, inl (went.0, refused_then stage go_on old new went.0 went.1))
+goes_no_further stage go_on old new status (one, inr broke) = (one, inr (broke_then stage go_on old new broke))
+
+-- ---- stages that read nothing
+
+-- nothing is said or read
+pub went_nowhere : {A : Type 0} (d : DeskView) (a : A) → Went (verdict_stage (Ok a)) d d (Made a)
+went_nowhere d a = record { passed = []; says = []; comes = λ more. refl; kept = kept_none d.kept; sound = same_here d }
+
+-- a line was printed whole
+told_whole : {A : Type 0} (old new : DeskView) (line : List ℕ) → Passes (after_all (Line line ∷ [])) old new
+    → HasSameCounts old new
+    → Went {A = A} (verdict_stage (Err line)) old new (Refused line)
+told_whole old new line kept same =
+    record { passed = []; says = []; comes = λ more. refl; kept = kept; sound = same }
+
+-- or it broke off there
+broke_here : {A : Type 0} (stage : Stage A) (old new : DeskView) (break : Break) (told : List ℕ)
+    → ((more : List Opening) → IsBreak break more (all_told (stage more).says (stage more).answer))
+    → TellsBreak break told old new
+    → Passes (after_all (last_done break told)) old new → Follows old new → StageBrokeOff stage old new
+broke_here stage old new break told is tells kept follows = record {
+  passed = [];
+  whole = [];
+  break = break;
+  told = told;
+  rest = λ more. record { later = (stage more).says; says_are = refl; broken = is more };
+  tells = tells;
+  kept = kept;
+  follows = follows;
+}
+
+-- a refusal that was reported, or a prefix of its line
+refused_by : {A : Type 0} (old new : DeskView) (line told : List ℕ) → TellsLine line told old new
+    → Passes (after_all (Line told ∷ [])) old new → Follows old new
+    → Goes {A = A} (verdict_stage (Err line)) old new (Err 1)
+refused_by {A} old new line told (inl whole) kept follows = (
+  refl,
+  inl (
+    line,
+    told_whole {A = A} old new line
+        (subst (λ bytes. Passes (after_all (Line bytes ∷ [])) old new) whole.0 kept) whole.1,
+  ),
+)
+refused_by {A} old new line told (inr part) kept follows = (
+  refl,
+  inr (broke_here (verdict_stage {A = A} (Err line)) old new (InLine line) told (λ more. ([], refl)) part kept
+      follows),
+)
+
+pub goes_refused : {A : Type 0} (old new : DeskView) (line : List ℕ) (status : ℕ) → status ≡ 1 → Tells old new line
+    → Goes {A = A} (verdict_stage (Err line)) old new (Err status)
+goes_refused {A} old new line status one told =
+    (one, (refused_by {A = A} old new line told.told told.tells told.kept told.follows).1)
+
+-- memory that was refused
+pub goes_without_memory : {A : Type 0} (stage : Stage A) (old new : DeskView) (status : ℕ) → status ≡ 1
+    → Tells old new memory_line
+    → Goes stage old new (Err status)
+goes_without_memory stage old new status one told =
+    (one, inr (broke_here stage old new NoMemory told.told (λ more. tt) told.tells told.kept told.follows))
+
+-- ---- judgments, and what is said
+
+pub went_settled : {A : Type 0} (r : Result A (List ℕ)) (a : A) (d : DeskView) → r ≡ Ok a
+    → Went (verdict_stage r) d d (Made a)
+went_settled r a d is = subst (λ x. Went (verdict_stage x) d d (Made a)) (sym is) (went_nowhere d a)
+
+pub goes_unsettled : {A : Type 0} (r : Result A (List ℕ)) (line : List ℕ) (old new : DeskView) (status : ℕ)
+    → r ≡ Err line
+    → status ≡ 1 → Tells old new line
+    → Goes (verdict_stage r) old new (Err status)
+goes_unsettled r line old new status is one told =
+    subst (λ x. Goes (verdict_stage x) old new (Err status)) (sym is) (goes_refused old new line status one told)
+
+pub went_silent : (d : DeskView) → Went (saying_stage []) d d (Made tt)
+went_silent d = record { passed = []; says = []; comes = λ more. refl; kept = kept_none d.kept; sound = same_here d }
+
+pub went_saying : (old new : DeskView) (line : List ℕ) → Passes (after_all (Line line ∷ [])) old new
+    → HasSameCounts old new → Went (saying_stage (Line line ∷ [])) old new (Made tt)
+went_saying old new line kept same =
+    record { passed = []; says = Line line ∷ []; comes = λ more. refl; kept = kept; sound = same }
+
+-- a failed call is counted
+failed_counts : (old new : DeskView) (fault : DeskFault) → fault ≡ Failed
+    → Counts {T = Unit {0}} Messages old new (Err fault) → HasFailedToSay old new
+failed_counts old new NotFound is counts = cc
+failed_counts old new Failed is counts = counts.1
+
+pub goes_saying_part : (old new : DeskView) (line : List ℕ) (fault : DeskFault) → SendsPart Messages old new line
+    → fault ≡ Failed
+    → Counts {T = Unit {0}} Messages old new (Err fault) → Goes (saying_stage (Line line ∷ [])) old new (Err 1)
+goes_saying_part old new line fault part is counts = (
+  refl,
+  inr (broke_here (saying_stage (Line line ∷ [])) old new (InLine line) (take part.0 line) (λ more. ([], refl))
+      ((drop part.0 line, take-append-drop part.0 line), failed_counts old new fault is counts) part.2 counts.0),
+)
+
+-- what was made, made into something else
+pub went_into : {A B : Type 0} (stage : Stage A) (f : A → B) (old new : DeskView) (a : A) → Went stage old new (Made a)
+    → Went (stage >>= λ x. verdict_stage (Ok (f x))) old new (Made (f a))
+went_into stage f old new a went = went_went stage (λ x. verdict_stage (Ok (f x))) old new new a (Made (f a)) went
+    (went_nowhere new (f a))
+
+-- however a stage goes, the counts of failures never fall
+pub goes_follows : {A : Type 0} (stage : Stage A) (old new : DeskView) (result : Result A ℕ) → Goes stage old new result
+    → Follows old new
+goes_follows stage old new (Ok a) went = follows_same old new went.sound
+goes_follows stage old new (Err status) (one, inl went) = follows_same old new went.1.sound
+goes_follows stage old new (Err status) (one, inr broke) = broke.follows

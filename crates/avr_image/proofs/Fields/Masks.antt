@@ -1,0 +1,202 @@
+-- Bits of words, as the code finds and makes them.
+use Rattle.std.proofs.Common.{◌≡◌, ◌∙◌, sym, ap, refl, arith, ℕ, ◌+◌, ◌-◌, ◌*◌, ◌/◌, ◌%◌, ◌^◌, ◌<◌, ◌≤◌, nat_le, nat_lt, not, min, eqb, List, length, get_or, Bool, true, false, bit_and, bit_or, ◌||◌, set, inl, inr, w64}
+use lib.Count.{trailing_of_zero}
+use Rattle.std.specs.Int.{bit_at, trailing_zeros}
+use Rattle.std.proofs.lemmas.Nat.{and_le_l}
+use Rattle.std.proofs.lemmas.Nat.Bits.{bit_at_and, bit_at_or, bit_at-lt, bit_at-zero, bit_at_not, bit_at_mask_inside, bit_at_mask_below, bit_at_ones, bit_at_ones_above, ones_shl, ones_shr, bit_at-trailing_zeros}
+use Rattle.std.proofs.lemmas.List.{get_or-set_same, get_or-set_other}
+use Rattle.std.proofs.lemmas.Bool.{cases_eq, cases_lt}
+use Rattle.std.proofs.lemmas.Bool.Decides.{nat_tests}
+use Rattle.avr_image.specs.Present.{is_present, is_within, NextOne, FirstPlace}
+
+-- a word whose bits below `from` are cleared
+abbrev pub above : ℕ → ℕ → ℕ
+above n from = bit_and n ((2 ^ 64 - 1) * 2 ^ from % 2 ^ 64)
+
+pub above_is : (n from i : ℕ) → from < 64 → i < 64 → from ≤ i → bit_at (above n from) i ≡ bit_at n i
+above_is n from i f l le =
+    let mask = ones_shl 64 from (omega arith) in
+    let one : bit_at ((2 ^ 64 - 1) * 2 ^ from % 2 ^ 64) i ≡ 1 = rw mask (bit_at_mask_inside from 64 i le l) in
+    omega (arith, bit_at_and n ((2 ^ 64 - 1) * 2 ^ from % 2 ^ 64) i, one, bit_at-lt n i)
+
+pub above_low : (n from i : ℕ) → from < 64 → i < from → bit_at (above n from) i ≡ 0
+above_low n from i f l =
+    let mask = ones_shl 64 from (omega arith) in
+    let none : bit_at ((2 ^ 64 - 1) * 2 ^ from % 2 ^ 64) i ≡ 0 = rw mask (bit_at_mask_below from 64 i l) in
+    omega (arith, bit_at_and n ((2 ^ 64 - 1) * 2 ^ from % 2 ^ 64) i, none)
+
+next_of_none : (n from : ℕ) → from < 64 → above n from ≡ 0 → NextOne n from 64
+next_of_none n from f e = record {
+  after = omega (arith, f);
+  bound = omega arith;
+  zeros = λ i le l. sym (above_is n from i f l le) ∙ ap (λ (m : ℕ). bit_at m i) e ∙ bit_at-zero i;
+  one = λ l. absurd (omega (arith, l));
+}
+
+next_of_some : (n from r : ℕ) → from < 64 → r < 64 → bit_at (above n from) r ≡ 1
+    → ((i : ℕ) → i < r → bit_at (above n from) i ≡ 0) → NextOne n from r
+next_of_some n from r f l here before =
+    let after : from ≤ r = elim (cases_lt r from) [
+      | inl low ↦ absurd (omega (arith, here, above_low n from r f low))
+      | inr high ↦ high
+    ] in
+    record {
+      after = after;
+      bound = omega (arith, l);
+      zeros = λ i le j. sym (above_is n from i f (omega (arith, j, l)) le) ∙ before i j;
+      one = λ _. sym (above_is n from r f l after) ∙ here;
+    }
+
+pub next_is : (n from : ℕ) → n < 2 ^ 64 → from < 64 → NextOne n from (trailing_zeros w64 (above n from))
+next_is n from fits f = elim (cases_eq (above n from) 0) [
+  | inl none ↦ rw (none, trailing_of_zero) (next_of_none n from f none)
+  | inr some ↦
+      let found = bit_at-trailing_zeros w64 (above n from) (omega (arith, some))
+      (omega (arith, and_le_l n ((2 ^ 64 - 1) * 2 ^ from % 2 ^ 64), fits)) in
+      next_of_some n from _ f found.0 found.1 found.2
+]
+
+-- the other bits
+pub other_bit : (n i : ℕ) → n < 2 ^ 64 → i < 64 → eqb (bit_at (2 ^ 64 - 1 - n) i) 1 ≡ not (eqb (bit_at n i) 1)
+other_bit n i fits l =
+    let flipped = bit_at_not w64 n i fits l in
+    elim (cases_eq (bit_at n i) 1) [
+      | inl one ↦ let none : bit_at (2 ^ 64 - 1 - n) i ≡ 0 = omega (arith, flipped, one) in rw (none, one) refl
+      | inr some ↦
+          let zero_bit : bit_at n i ≡ 0 = omega (arith, some, bit_at-lt n i) in
+          let one : bit_at (2 ^ 64 - 1 - n) i ≡ 1 = omega (arith, flipped, zero_bit) in rw (one, zero_bit) refl
+    ]
+
+-- a run of ones
+pub ones_are : (low high i : ℕ) → low < 64 → high ≤ 64 → i < 64
+    → eqb (bit_at (bit_and ((2 ^ 64 - 1) * 2 ^ low % 2 ^ 64) ((2 ^ 64 - 1) / 2 ^ (64 - high))) i) 1
+    ≡ is_within low high i
+ones_are low high i a b l =
+    let left = (2 ^ 64 - 1) * 2 ^ low % 2 ^ 64 in
+    let right = (2 ^ 64 - 1) / 2 ^ (64 - high) in
+    let left_is : left ≡ 2 ^ 64 - 2 ^ low = ones_shl 64 low (omega arith) in
+    let high_is : 64 - (64 - high) ≡ high = omega (arith, b) in
+    let right_is : right ≡ 2 ^ high - 1 = ones_shr 64 (64 - high) (omega arith) ∙ ap (λ (n : ℕ). 2 ^ n - 1) high_is in
+    let both : bit_at (bit_and left right) i ≡ min (bit_at left i) (bit_at right i) = bit_at_and left right i in
+    elim (cases_lt i low) [
+      | inl below ↦
+          let none : bit_at left i ≡ 0 = rw left_is (bit_at_mask_below low 64 i below) in
+          let zero_bit : bit_at (bit_and left right) i ≡ 0 = omega (arith, both, none) in
+          let test : nat_le low i ≡ false = grind (arith, nat_tests, below) in
+          rw (zero_bit, test) refl
+      | inr from ↦ elim (cases_lt i high) [
+        | inl inside ↦
+            let one_left : bit_at left i ≡ 1 = rw left_is (bit_at_mask_inside low 64 i from l) in
+            let one_right : bit_at right i ≡ 1 = rw right_is (bit_at_ones high i inside) in
+            let one_bit : bit_at (bit_and left right) i ≡ 1 = omega (arith, both, one_left, one_right) in
+            let first : nat_le low i ≡ true = grind (arith, nat_tests, from) in
+            let second : nat_lt i high ≡ true = grind (arith, nat_tests, inside) in
+            rw (one_bit, first, second) refl
+        | inr past ↦
+            let none : bit_at right i ≡ 0 = rw right_is (bit_at_ones_above high i past) in
+            let zero_bit : bit_at (bit_and left right) i ≡ 0 = omega (arith, both, none) in
+            let first : nat_le low i ≡ true = grind (arith, nat_tests, from) in
+            let second : nat_lt i high ≡ false = grind (arith, nat_tests, past) in
+            rw (zero_bit, first, second) refl
+      ]
+    ]
+
+-- a bit of two words laid over each other
+one_of_two : (a b i : ℕ) → eqb (bit_at (bit_or a b) i) 1 ≡ (eqb (bit_at b i) 1 || eqb (bit_at a i) 1)
+one_of_two a b i =
+    let both = bit_at_or a b i in
+    let left = bit_at-lt a i in
+    let right = bit_at-lt b i in
+    elim (cases_eq (bit_at b i) 1) [
+      | inl one ↦ let here : bit_at (bit_or a b) i ≡ 1 = omega (arith, both, one, left) in rw (here, one) refl
+      | inr other ↦
+          let none : bit_at b i ≡ 0 = omega (arith, other, right) in
+          let here : bit_at (bit_or a b) i ≡ bit_at a i = omega (arith, both, none) in
+          rw (here, none) refl
+    ]
+
+pub within_yes : (from end k : ℕ) → from ≤ k → k < end → is_within from end k ≡ true
+within_yes from end k a b =
+    let first : nat_le from k ≡ true = grind (arith, nat_tests, a) in
+    let second : nat_lt k end ≡ true = grind (arith, nat_tests, b) in
+    rw (first, second) refl
+
+pub within_low : (from end k : ℕ) → k < from → is_within from end k ≡ false
+within_low from end k a = let first : nat_le from k ≡ false = grind (arith, nat_tests, a) in rw first refl
+
+pub within_high : (from end k : ℕ) → end ≤ k → is_within from end k ≡ false
+within_high from end k b =
+    let second : nat_lt k end ≡ false = grind (arith, nat_tests, b) in
+    elim (cases_lt k from) [
+      | inl low ↦ within_low from end k low
+      | inr high ↦ let first : nat_le from k ≡ true = grind (arith, nat_tests, high) in rw (first, second) refl
+    ]
+
+-- the part of a word's bits that a span has, against the span
+in_word : (at stop k : ℕ) → at < stop → stop ≤ at / 64 * 64 + 64 → k / 64 ≡ at / 64
+    → is_within (at % 64) (stop - at / 64 * 64) (k % 64) ≡ is_within at stop k
+in_word at stop k l room same = elim (cases_lt k at) [
+  | inl low ↦ within_low (at % 64) _ (k % 64) (omega (arith, low, same)) ∙ sym (within_low at stop k low)
+  | inr high ↦ elim (cases_lt k stop) [
+    | inl inside ↦
+        within_yes (at % 64) (stop - at / 64 * 64) (k % 64) (omega (arith, high, same)) (omega (arith, inside, same))
+        ∙ sym (within_yes at stop k high inside)
+    | inr past ↦
+        within_high (at % 64) (stop - at / 64 * 64) (k % 64) (omega (arith, past, same, room))
+        ∙ sym (within_high at stop k past)
+  ]
+]
+
+-- one word of a span
+pub span_word : (words : List ℕ) (at stop bits k : ℕ) → at < stop → stop ≤ at / 64 * 64 + 64 → at / 64 < length words
+    → ((i : ℕ) → i < 64 → eqb (bit_at bits i) 1 ≡ is_within (at % 64) (stop - at / 64 * 64) i)
+    → is_present (set words (at / 64) (bit_or (get_or words (at / 64) 0) bits)) k
+    ≡ (is_within at stop k || is_present words k)
+span_word words at stop bits k l room within ones = elim (cases_eq (k / 64) (at / 64)) [
+  | inl same ↦
+      let here = get_or-set_same words (at / 64) (bit_or (get_or words (at / 64) 0) bits) 0 within in
+      let span : eqb (bit_at bits (k % 64)) 1 ≡ is_within at stop k =
+      ones (k % 64) (omega arith) ∙ in_word at stop k l room same in
+      rw (same, here) (one_of_two (get_or words (at / 64) 0) bits (k % 64) ∙ rw span refl)
+  | inr differ ↦
+      let there = get_or-set_other words (at / 64) (k / 64) (bit_or (get_or words (at / 64) 0) bits) 0 differ in
+      let outside : is_within at stop k ≡ false = elim (cases_lt k at) [
+        | inl low ↦ within_low at stop k low
+        | inr high ↦ within_high at stop k (omega (arith, high, differ, room))
+      ] in
+      rw (there, outside) refl
+]
+
+-- two spans, the one after the other
+pub spans_join : (from at stop k : ℕ) (b : Bool) → from ≤ at → at ≤ stop
+    → (is_within at stop k || (is_within from at k || b)) ≡ (is_within from stop k || b)
+spans_join from at stop k b le more = elim (cases_lt k from) [
+  | inl low ↦ rw (within_low at stop k (omega (arith, low, le)), within_low from at k low, within_low from stop k low)
+      refl
+  | inr after ↦ elim (cases_lt k at) [
+    | inl first ↦ rw (
+      within_low at stop k first,
+      within_yes from at k after first,
+      within_yes from stop k after (omega (arith, first, more)),
+    ) refl
+    | inr second ↦ elim (cases_lt k stop) [
+      | inl inside ↦ rw (within_yes at stop k second inside, within_yes from stop k after inside) refl
+      | inr past ↦ rw (
+        within_high at stop k past,
+        within_high from at k (omega (arith, second)),
+        within_high from stop k past,
+      ) refl
+    ]
+  ]
+]
+
+pub no_span : (from k : ℕ) (b : Bool) → (is_within from from k || b) ≡ b
+no_span from k b = elim (cases_lt k from) [
+  | inl low ↦ rw (within_low from from k low) refl
+  | inr high ↦ rw (within_high from from k high) refl
+]
+
+pub same_place : (words words' : List ℕ) (wanted : Bool) (from from' end end' place place' : ℕ) → words ≡ words'
+    → from ≡ from' → end ≡ end' → place ≡ place'
+    → FirstPlace words wanted from end place → FirstPlace words' wanted from' end' place'
+same_place words words' wanted from from' end end' place place' a b c d found = rw (← a, ← b, ← c, ← d) found

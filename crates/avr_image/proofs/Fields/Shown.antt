@@ -1,0 +1,321 @@
+-- How the fields of an image are seen.
+use Rattle.std.proofs.Common.{◌≡◌, ◌≢◌, ◌∙◌, sym, ap, ap₂, refl, arith, ℕ, suc, zero, ◌+◌, ◌*◌, ◌/◌, ◌%◌, ◌^◌, ◌<◌, ◌≤◌, List, [], ◌∷◌, length, get_or, set, Bool, true, false, cond, Option, Some, None, replicate, bit_or, is_some, count_by, inl, inr, w64, min, take, drop, ◌++◌, ◌-◌}
+use Rattle.std.proofs.Math.ListN.{get_or-eq_default}
+use Rattle.std.proofs.lemmas.Bool.{cases_eq, cases_lt, cases_Bool, true≢false}
+use Rattle.std.proofs.lemmas.List.{get_or-set_same, get_or-set_other, length-set, length-drop, length-take, get_or-take, get_or-drop, drop_all}
+use Rattle.std.proofs.lemmas.Nat.Bits.{bit_at_set_same, bit_at_set_other, bit_at-zero}
+use Rattle.std.proofs.lemmas.List.Sums.{prefix_len_is}
+use Rattle.std.specs.List.{position_from, prefix_len}
+use Rattle.avr_image.specs.Image.{byte_at, or_blank, filled_bytes, first_from, run_end, HoldsBytes}
+use Rattle.avr_image.specs.Present.{is_present, with_mark, FirstPlace}
+use Rattle.avr_image.specs.Dense.{shown_byte, shown_from, dense_image, with_span}
+
+pub length-shown_from : (k : ℕ) (words bytes : List ℕ) → length (shown_from k words bytes) ≡ length bytes
+length-shown_from k words [] = refl
+length-shown_from k words (b ∷ bs) = ap suc (length-shown_from (suc k) words bs)
+
+pub length_shown : (words bytes : List ℕ) → length (dense_image words bytes) ≡ length bytes
+length_shown = length-shown_from 0
+
+pub get_or-shown_from : (k : ℕ) (words bytes : List ℕ) (i : ℕ) → i < length bytes
+    → get_or (shown_from k words bytes) i None ≡ shown_byte words (k + i) (get_or bytes i 0)
+get_or-shown_from k words [] i l = absurd (omega (arith, l))
+get_or-shown_from k words (b ∷ bs) zero l = ap (λ (n : ℕ). shown_byte words n b) (omega arith)
+get_or-shown_from k words (b ∷ bs) (suc i) l =
+    get_or-shown_from (suc k) words bs i (omega (arith, l))
+    ∙ ap (λ (n : ℕ). shown_byte words n (get_or bs i 0)) (omega arith)
+
+pub byte_at-shown : (words bytes : List ℕ) (i : ℕ) → i < length bytes
+    → byte_at (dense_image words bytes) i ≡ shown_byte words i (get_or bytes i 0)
+byte_at-shown words bytes i l = get_or-shown_from 0 words bytes i l
+    ∙ ap (λ (n : ℕ). shown_byte words n (get_or bytes i 0)) (omega arith)
+
+pub byte_at-past : (image : List (Option ℕ)) (i : ℕ) → length image ≤ i → byte_at image i ≡ None
+byte_at-past [] i l = refl
+byte_at-past (b ∷ bs) zero l = absurd (omega (arith, l))
+byte_at-past (b ∷ bs) (suc i) l = byte_at-past bs i (omega (arith, l))
+
+pub held_within : (image : List (Option ℕ)) (addr : ℕ) → is_some (byte_at image addr) ≡ true → addr < length image
+held_within [] addr held = absurd (cc held)
+held_within (b ∷ bs) zero held = omega arith
+held_within (b ∷ bs) (suc addr) held = let rest = held_within bs addr held in omega (arith, rest)
+
+-- lists of optional bytes with the same items
+pub same_items : (xs ys : List (Option ℕ)) → length xs ≡ length ys
+    → ((i : ℕ) → i < length ys → get_or xs i None ≡ get_or ys i None) → xs ≡ ys
+same_items [] [] len each = refl
+same_items [] (y ∷ ys) len each = absurd (omega (arith, len))
+same_items (x ∷ xs) [] len each = absurd (omega (arith, len))
+same_items (x ∷ xs) (y ∷ ys) len each =
+    ap₂ (λ (z : Option ℕ) (zs : List (Option ℕ)). z ∷ zs) (each 0 (omega arith))
+    (same_items xs ys (omega (arith, len)) (λ i l. each (suc i) (omega (arith, l))))
+
+pub filled_is : (image : List (Option ℕ)) (start n : ℕ) (ys : List ℕ) → length ys ≡ n
+    → ((i : ℕ) → i < n → get_or ys i 0 ≡ or_blank (byte_at image (start + i))) → ys ≡ filled_bytes image start n
+filled_is image start zero [] len each = refl
+filled_is image start zero (y ∷ ys) len each = absurd (omega (arith, len))
+filled_is image start (suc n) [] len each = absurd (omega (arith, len))
+filled_is image start (suc n) (y ∷ ys) len each =
+    let first : y ≡ or_blank (byte_at image start) =
+    each 0 (omega arith) ∙ ap (λ (k : ℕ). or_blank (byte_at image k)) (omega arith) in
+    let rest : ys ≡ filled_bytes image (start + 1) n = filled_is image (start + 1) n ys (omega (arith, len))
+    (λ i l. each (suc i) (omega (arith, l)) ∙ ap (λ (k : ℕ). or_blank (byte_at image k)) (omega arith)) in
+    ap₂ (λ (z : ℕ) (zs : List ℕ). z ∷ zs) first rest
+
+pub get_or-zeros : (n i : ℕ) → ◌≡◌ {A = ℕ} (get_or {A = ℕ} (replicate {A = ℕ} n 0) i 0) 0
+get_or-zeros zero i = refl
+get_or-zeros (suc n) zero = refl
+get_or-zeros (suc n) (suc i) = get_or-zeros n i
+
+pub shown_from-zeros : (k n m b : ℕ) → shown_from k (replicate m 0) (replicate n b) ≡ replicate n None
+shown_from-zeros k zero m b = refl
+shown_from-zeros k (suc n) m b =
+    let none : shown_byte (replicate m 0) k b ≡ None = rw (get_or-zeros m (k / 64), bit_at-zero (k % 64)) refl in
+    ap₂ (λ (z : Option ℕ) (zs : List (Option ℕ)). z ∷ zs) none (shown_from-zeros (suc k) n m b)
+
+pub count-none : (n : ℕ) → count_by is_some (replicate {A = Option ℕ} n None) ≡ 0
+count-none zero = refl
+count-none (suc n) = count-none n
+
+pub present-same : (words : List ℕ) (a : ℕ) → a / 64 < length words → is_present (with_mark words a) a ≡ true
+present-same words a within =
+    let here = get_or-set_same words (a / 64) (bit_or (get_or words (a / 64) 0) (1 * 2 ^ (a % 64) % 2 ^ 64)) 0 within in
+    rw here (rw (bit_at_set_same w64 (get_or words (a / 64) 0) (a % 64) (omega arith)) refl)
+
+pub present-other : (words : List ℕ) (a i : ℕ) → a / 64 < length words → i ≢ a
+    → is_present (with_mark words a) i ≡ is_present words i
+present-other words a i within other =
+    elim (cases_eq (i / 64) (a / 64)) [
+      | inl same ↦
+          let here = get_or-set_same words (a / 64) (bit_or (get_or words (a / 64) 0) (1 * 2 ^ (a % 64) % 2 ^ 64)) 0
+          within in
+          rw (same, here) (rw (bit_at_set_other w64 (get_or words (a / 64) 0) (a % 64) (omega arith) (i % 64)
+          (λ e. other (omega (arith, e, same)))) refl)
+      | inr differ ↦ rw (get_or-set_other words (a / 64) (i / 64)
+          (bit_or (get_or words (a / 64) 0) (1 * 2 ^ (a % 64) % 2 ^ 64)) 0 differ) refl
+    ]
+
+pub length-marked : (words : List ℕ) (a : ℕ) → length (with_mark words a) ≡ length words
+length-marked words a = length-set words (a / 64) _
+
+pub shown-marked : (words bytes : List ℕ) (a b : ℕ) → a < length bytes → a / 64 < length words
+    → dense_image (with_mark words a) (set bytes a b) ≡ set (dense_image words bytes) a (Some b)
+shown-marked words bytes a b l within =
+    let len-left = length_shown (with_mark words a) (set bytes a b) ∙ length-set bytes a b in
+    let len-right = length-set (dense_image words bytes) a (Some b) ∙ length_shown words bytes in
+    same_items _ _ (len-left ∙ sym len-right) (λ i j.
+    let in-bytes : i < length bytes = omega (arith, j, len-right) in
+    let left = byte_at-shown (with_mark words a) (set bytes a b) i (omega (arith, in-bytes, length-set bytes a b)) in
+    elim (cases_eq i a) [
+      | inl same ↦ left ∙ rw same (rw (present-same words a within, get_or-set_same bytes a b 0 l)
+          (sym (get_or-set_same (dense_image words bytes) a (Some b) None
+          (omega (arith, l, length_shown words bytes)))))
+      | inr differ ↦ left ∙ rw (present-other words a i within differ, get_or-set_other bytes a i b 0 differ)
+          (sym (byte_at-shown words bytes i in-bytes)
+          ∙ sym (get_or-set_other (dense_image words bytes) a i (Some b) None differ))
+    ])
+
+pub sized : (words bytes : List ℕ) {image : List (Option ℕ)} → dense_image words bytes ≡ image
+    → length image ≡ length bytes
+sized words bytes {image} seen = rw (← seen) (length_shown words bytes)
+
+pub same_default : (xs : List ℕ) (i d e : ℕ) → i < length xs → get_or xs i d ≡ get_or xs i e
+same_default [] i d e l = absurd (omega (arith, l))
+same_default (x ∷ xs) zero d e l = refl
+same_default (x ∷ xs) (suc i) d e l = same_default xs i d e (omega (arith, l))
+
+pub got : (words bytes : List ℕ) {image : List (Option ℕ)} (i b : ℕ) → dense_image words bytes ≡ image
+    → i < length bytes
+    → is_present words i ≡ true → b ≡ get_or bytes i b → Some b ≡ byte_at image i
+got words bytes {image} i b seen l present item =
+    rw (← seen) (ap (λ (n : ℕ). Some n) (item ∙ same_default bytes i b 0 l)
+    ∙ sym (ap (λ (t : Bool). cond t (Some (get_or bytes i 0)) None) present) ∙ sym (byte_at-shown words bytes i l))
+
+pub absent : (words bytes : List ℕ) {image : List (Option ℕ)} (i : ℕ) → dense_image words bytes ≡ image
+    → i < length bytes
+    → is_present words i ≡ false → None ≡ byte_at image i
+absent words bytes {image} i seen l present =
+    rw (← seen) (sym (ap (λ (t : Bool). cond t (Some (get_or bytes i 0)) None) present)
+    ∙ sym (byte_at-shown words bytes i l))
+
+pub past : (words bytes : List ℕ) {image : List (Option ℕ)} (i : ℕ) → dense_image words bytes ≡ image → length bytes ≤ i
+    → None ≡ byte_at image i
+past words bytes {image} i seen l = rw (← seen)
+    (sym (byte_at-past (dense_image words bytes) i (omega (arith, l, length_shown words bytes))))
+
+-- FF stays where no byte is, when a byte is laid down
+pub blank-marked : (words bytes : List ℕ) (a b : ℕ) → a < length bytes → a / 64 < length words
+    → ((i : ℕ) → i < length bytes → is_present words i ≡ false → get_or bytes i 0 ≡ 255)
+    → (i : ℕ) → i < length (set bytes a b) → is_present (with_mark words a) i ≡ false → get_or (set bytes a b) i 0 ≡ 255
+blank-marked words bytes a b l within blank i j none = elim (cases_eq i a) [
+  | inl same ↦
+      let here : is_present (with_mark words a) i ≡ true = rw same (present-same words a within) in
+      absurd (true≢false (sym here ∙ none))
+  | inr differ ↦
+      rw (get_or-set_other bytes a i b 0 differ)
+      (blank i (omega (arith, j, length-set bytes a b)) (sym (present-other words a i within differ) ∙ none))
+]
+
+-- a byte as it is kept is what `fill` writes for its address
+pub kept_byte : (words bytes : List ℕ) {image : List (Option ℕ)} (a : ℕ) → dense_image words bytes ≡ image
+    → ((i : ℕ) → i < length bytes → is_present words i ≡ false → get_or bytes i 0 ≡ 255)
+    → get_or bytes a 255 ≡ or_blank (byte_at image a)
+kept_byte words bytes {image} a seen blank = rw (← seen) (elim (cases_lt a (length bytes)) [
+  | inl inside ↦
+      let there = byte_at-shown words bytes a inside in
+      elim (cases_Bool (is_present words a)) [
+        | inl held_bit ↦ rw (there, held_bit) (same_default bytes a 255 0 inside)
+        | inr no_bit ↦ rw (there, no_bit) (same_default bytes a 255 0 inside ∙ blank a inside no_bit)
+      ]
+  | inr past ↦ rw (
+    get_or-eq_default bytes 255 past,
+    byte_at-past (dense_image words bytes) a (omega (arith, past, length_shown words bytes)),
+  ) refl
+])
+
+-- the presence of a byte is its bit
+pub presence : (words bytes : List ℕ) {image : List (Option ℕ)} (a : ℕ) → dense_image words bytes ≡ image
+    → a < length bytes
+    → is_some (byte_at image a) ≡ is_present words a
+presence words bytes {image} a seen l = rw (← seen) (elim (cases_Bool (is_present words a)) [
+  | inl held_bit ↦ rw (byte_at-shown words bytes a l, held_bit) refl
+  | inr no_bit ↦ rw (byte_at-shown words bytes a l, no_bit) refl
+])
+
+-- a run of places of a list, found by its first and its last
+position-at : {X : Type 0} (p : X → Bool) (xs : List X) (i n : ℕ) (d : X) → n < length xs
+    → ((k : ℕ) → k < n → p (get_or xs k d) ≡ false) → p (get_or xs n d) ≡ true → position_from p i xs ≡ Some (i + n)
+position-at p [] i n d l before here = absurd (omega (arith, l))
+position-at p (x ∷ xs) i zero d l before here = rw here (ap (λ (k : ℕ). Some k) (omega arith))
+position-at p (x ∷ xs) i (suc n) d l before here =
+    let first : p x ≡ false = before 0 (omega arith) in
+    rw first (position-at p xs (i + 1) n d (omega (arith, l)) (λ k j. before (suc k) (omega (arith, j))) here
+    ∙ ap (λ (k : ℕ). Some k) (omega arith))
+
+position-none : {X : Type 0} (p : X → Bool) (xs : List X) (i : ℕ) (d : X)
+    → ((k : ℕ) → k < length xs → p (get_or xs k d) ≡ false) → position_from p i xs ≡ None
+position-none p [] i d before = refl
+position-none p (x ∷ xs) i d before =
+    let first : p x ≡ false = before 0 (omega arith) in
+    rw first (position-none p xs (i + 1) d (λ k j. before (suc k) (omega (arith, j))))
+
+-- the least address from `addr` on that holds a byte
+pub first_is : (words bytes : List ℕ) {image : List (Option ℕ)} (addr place : ℕ) → dense_image words bytes ≡ image
+    → FirstPlace words true addr (length bytes) place → place < length bytes → first_from image addr ≡ Some place
+first_is words bytes {image} addr place seen found l =
+    let size : length image ≡ length bytes = sized words bytes seen in
+    let left = length-drop addr image in
+    let rest : addr + (place - addr) ≡ place = omega (arith, found.after) in
+    position-at is_some (drop addr image) addr (place - addr) None (omega (arith, left, size, l, found.after))
+    (λ k j. ap is_some (get_or-drop addr image k None)
+    ∙ presence words bytes (addr + k) seen (omega (arith, j, l))
+    ∙ found.others (addr + k) (omega arith) (omega (arith, j)))
+    (ap is_some (get_or-drop addr image (place - addr) None) ∙ ap (λ (k : ℕ). is_some (byte_at image k)) rest
+    ∙ presence words bytes place seen l ∙ found.here l)
+    ∙ ap (λ (k : ℕ). Some k) rest
+
+pub first_none : (words bytes : List ℕ) {image : List (Option ℕ)} (addr from : ℕ) → dense_image words bytes ≡ image
+    → from ≤ addr → FirstPlace words true from (length bytes) (length bytes) → first_from image addr ≡ None
+first_none words bytes {image} addr from seen le found =
+    let size : length image ≡ length bytes = sized words bytes seen in
+    let left = length-drop addr image in
+    position-none is_some (drop addr image) addr None
+    (λ k j. ap is_some (get_or-drop addr image k None)
+    ∙ presence words bytes (addr + k) seen (omega (arith, j, left, size))
+    ∙ found.others (addr + k) (omega (arith, le)) (omega (arith, j, left, size)))
+
+-- the end of a run
+pub run_is : (words bytes : List ℕ) {image : List (Option ℕ)} (addr end place : ℕ) → dense_image words bytes ≡ image
+    → FirstPlace words false addr (min (length bytes) end) place → addr < length bytes → place ≡ run_end image addr end
+run_is words bytes {image} addr end place seen found l =
+    let size : length image ≡ length bytes = sized words bytes seen in
+    let left = length-drop addr image in
+    let row = take (end - addr) (drop addr image) in
+    let row_len = length-take (end - addr) (drop addr image) in
+    let at : (k : ℕ) → k < end - addr → get_or row k None ≡ byte_at image (addr + k) =
+    λ k j. get_or-take (end - addr) (drop addr image) k None j ∙ get_or-drop addr image k None in
+    let count : prefix_len is_some row ≡ place - addr =
+    prefix_len_is is_some row (place - addr) None (omega (arith, row_len, left, size, found.bound))
+    (λ k j. ap is_some (at k (omega (arith, j, found.bound)))
+    ∙ presence words bytes (addr + k) seen (omega (arith, j, found.bound))
+    ∙ found.others (addr + k) (omega arith) (omega (arith, j)))
+    (λ j. let rest : addr + (place - addr) ≡ place = omega (arith, found.after) in
+    ap is_some (at (place - addr) (omega (arith, j, row_len))) ∙ ap (λ (k : ℕ). is_some (byte_at image k)) rest
+    ∙ presence words bytes place seen (omega (arith, j, row_len, left, size, found.after))
+    ∙ found.here (omega (arith, j, row_len, left, size, found.after))) in
+    omega (arith, count, found.after)
+
+none_taken : (n : ℕ) → prefix_len is_some (take {A = Option ℕ} n []) ≡ 0
+none_taken zero = refl
+none_taken (suc n) = refl
+
+pub no_run_past : (image : List (Option ℕ)) (addr end : ℕ) → length image ≤ addr → addr ≡ run_end image addr end
+no_run_past image addr end l =
+    let none : prefix_len is_some (take (end - addr) (drop addr image)) ≡ 0 =
+    ap (λ (xs : List (Option ℕ)). prefix_len is_some (take (end - addr) xs)) (drop_all addr image l)
+    ∙ none_taken (end - addr) in
+    omega (arith, none)
+
+-- all bytes as they are kept are what `fill` writes for all addresses
+pub kept_whole : (words bytes : List ℕ) {image : List (Option ℕ)} → dense_image words bytes ≡ image
+    → ((i : ℕ) → i < length bytes → is_present words i ≡ false → get_or bytes i 0 ≡ 255)
+    → bytes ≡ filled_bytes image 0 (length image)
+kept_whole words bytes {image} seen blank =
+    let size : length image ≡ length bytes = sized words bytes seen in
+    filled_is image 0 (length image) bytes (sym size) (λ i l.
+    same_default bytes i 0 255 (omega (arith, l, size))
+    ∙ kept_byte words bytes i seen blank
+    ∙ ap (λ (k : ℕ). or_blank (byte_at image k)) (omega arith))
+
+-- what is kept as bytes is seen as bytes
+pub holds_bytes : (words bytes : List ℕ) {image : List (Option ℕ)} → dense_image words bytes ≡ image
+    → ((i : ℕ) → get_or bytes i 0 < 256) → HoldsBytes image
+holds_bytes words bytes {image} seen small addr byte is = elim (cases_lt addr (length bytes)) [
+  | inl inside ↦
+      let there : byte_at image addr ≡ shown_byte words addr (get_or bytes addr 0) =
+      rw (← seen) (byte_at-shown words bytes addr inside) in
+      elim (cases_Bool (is_present words addr)) [
+        | inl held_bit ↦
+            let same : Some byte ≡ Some (get_or bytes addr 0) = sym is ∙ there ∙ rw held_bit refl in
+            let equal : byte ≡ get_or bytes addr 0 = cc in
+            omega (arith, equal, small addr)
+        | inr no_bit ↦ let bad : Some byte ≡ None = sym is ∙ there ∙ rw no_bit refl in absurd (cc)
+      ]
+  | inr past ↦ let bad : Some byte ≡ None =
+      sym is ∙ byte_at-past image addr (omega (arith, past, sized words bytes seen)) in absurd (cc)
+]
+
+-- ---- bytes stay bytes
+
+pub small-blank : (n i : ℕ) → get_or {A = ℕ} (replicate {A = ℕ} n 255) i 0 < 256
+small-blank zero i = omega arith
+small-blank (suc n) zero = omega arith
+small-blank (suc n) (suc i) = small-blank n i
+
+pub small-set : (xs : List ℕ) (at byte : ℕ) → byte < 256 → ((i : ℕ) → get_or xs i 0 < 256) → (i : ℕ)
+    → get_or (set xs at byte) i 0 < 256
+small-set [] at byte l all i = omega arith
+small-set (x ∷ xs) zero byte l all zero = l
+small-set (x ∷ xs) zero byte l all (suc i) = all (suc i)
+small-set (x ∷ xs) (suc at) byte l all zero = all zero
+small-set (x ∷ xs) (suc at) byte l all (suc i) = small-set xs at byte l (λ k. all (suc k)) i
+
+small-append : (xs ys : List ℕ) → ((i : ℕ) → get_or xs i 0 < 256) → ((i : ℕ) → get_or ys i 0 < 256) → (i : ℕ)
+    → get_or (xs ++ ys) i 0 < 256
+small-append [] ys prefix back i = back i
+small-append (x ∷ xs) ys prefix back zero = prefix zero
+small-append (x ∷ xs) ys prefix back (suc i) = small-append xs ys (λ k. prefix (suc k)) back i
+
+small-take : (n : ℕ) (xs : List ℕ) → ((i : ℕ) → get_or xs i 0 < 256) → (i : ℕ) → get_or (take n xs) i 0 < 256
+small-take zero xs all i = omega arith
+small-take (suc n) [] all i = omega arith
+small-take (suc n) (x ∷ xs) all zero = all zero
+small-take (suc n) (x ∷ xs) all (suc i) = small-take n xs (λ k. all (suc k)) i
+
+pub small-pasted : (start : ℕ) (span bytes : List ℕ) → ((i : ℕ) → get_or span i 0 < 256)
+    → ((i : ℕ) → get_or bytes i 0 < 256)
+    → (i : ℕ) → get_or (with_span start span bytes) i 0 < 256
+small-pasted start span bytes new old =
+    small-append (take start bytes) (span ++ drop (start + length span) bytes) (small-take start bytes old)
+    (small-append span (drop (start + length span) bytes) new
+    (λ i. rw (get_or-drop (start + length span) bytes i 0) (old (start + length span + i))))

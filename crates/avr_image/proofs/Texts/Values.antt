@@ -1,0 +1,168 @@
+-- Values laid down one after the other are the values of the text.
+use Rattle.std.proofs.Common.{◌≡◌, ◌∙◌, sym, ap, refl, arith, ℕ, suc, zero, ◌+◌, ◌<◌, ◌≤◌, List, [], ◌∷◌, ◌++◌, length, map, filter, take, drop, replicate, eqb, Bool, true, false, cond, not, nat_lt, nat_le, Option, Some, None, Result, Ok, Err, inl, inr}
+use Rattle.std.proofs.lemmas.List.{length-append, append_assoc, append-nil, length-take}
+use Rattle.std.proofs.lemmas.Bool.{cases_Bool, cases_lt}
+use Rattle.std.proofs.lemmas.List.Sums.{prefix_len-le-length}
+use Rattle.std.proofs.lemmas.Bool.Decides.{nat_tests}
+use Rattle.std.specs.List.{enumerate_from, slice_split, position_or_len, onto_first}
+use Rattle.avr_image.specs.Image.{empty, from_zero, with_byte}
+use Rattle.avr_image.specs.Values.{is_separator, fitting, fitting_value, value_of, all_ok, onto_ok, image_of_bytes, pieces, values}
+use Rattle.avr_image.specs.Placing.{with_value, with_piece}
+use Rattle.avr_image.specs.declared.fault.ImageFault.{ImageFault}
+use Rattle.avr_image.specs.declared.fault.ImageFault.TheVariants.{BadNumber}
+use Rattle.avr_image.proofs.Texts.Digits.{ne_test, lt_test}
+use Rattle.avr_image.proofs.Places.Laid.{from_zero-next, length-from_zero}
+
+-- what follows an image, if it came
+abbrev pub then_on : Result (List (Option ℕ)) ImageFault → (List (Option ℕ) → Result (List (Option ℕ)) ImageFault)
+    → Result (List (Option ℕ)) ImageFault
+then_on (Ok image) more = more image
+then_on (Err fault) more = Err fault
+
+-- an image with the values of some pieces, from an address on
+abbrev pub with_pieces : List (Option ℕ) → ℕ → List (List ℕ) → Result (List (Option ℕ)) ImageFault
+with_pieces image addr [] = Ok image
+with_pieces image addr (piece ∷ more) = then_on (with_piece image addr piece) (λ next. with_pieces next (addr + 1) more)
+
+-- bytes before those that follow
+abbrev pub before : List ℕ → Result (List ℕ) ImageFault → Result (List ℕ) ImageFault
+before bytes (Ok more) = Ok (bytes ++ more)
+before bytes (Err fault) = Err fault
+
+abbrev ok_of : List ℕ → Result (List ℕ) ImageFault
+ok_of xs = Ok xs
+
+before-onto : (bytes : List ℕ) (byte : ℕ) (rest : Result (List ℕ) ImageFault)
+    → before (bytes ++ byte ∷ []) rest ≡ before bytes (onto_ok (Ok byte) rest)
+before-onto bytes byte (Ok more) = ap ok_of (append_assoc bytes (byte ∷ []) more)
+before-onto bytes byte (Err fault) = refl
+
+pub before-none : (rest : Result (List ℕ) ImageFault) → before [] rest ≡ rest
+before-none (Ok more) = refl
+before-none (Err fault) = refl
+
+-- a good value has an address below the size
+fitting_below : (size addr : ℕ) (value : Option ℕ) (byte : ℕ) → fitting size addr value ≡ Ok byte → addr < size
+fitting_below size addr None byte e = cc
+fitting_below size addr (Some value) byte e = elim (cases_lt addr size) [
+  | inl low ↦ low
+  | inr high ↦
+      let test : nat_lt addr size ≡ false = grind (arith, nat_tests, high) in
+      elim (cases_Bool (nat_le value 255)) [
+        | inl small ↦ let h = rw (small, test) at e in cc
+        | inr large ↦ let h = rw large at e in cc
+      ]
+]
+
+with_next : (bytes : List ℕ) (size addr : ℕ) (parts : List (List ℕ)) (rest : Result (List ℕ) ImageFault)
+    (r : Result ℕ ImageFault)
+    → ((byte : ℕ) → r ≡ Ok byte → addr < size) → addr ≡ length bytes
+    → ((byte : ℕ) → addr < size → with_pieces (from_zero (bytes ++ byte ∷ []) size) (addr + 1) parts
+    ≡ image_of_bytes size (before (bytes ++ byte ∷ []) rest))
+    → then_on (with_value (from_zero bytes size) addr r) (λ next. with_pieces next (addr + 1) parts)
+    ≡ image_of_bytes size (before bytes (onto_ok r rest))
+with_next bytes size addr parts rest (Err fault) below here more = refl
+with_next bytes size addr parts rest (Ok byte) below here more =
+    let low : addr < size = below byte refl in
+    ap (λ (n : ℕ). with_pieces (with_byte (from_zero bytes size) n byte) (addr + 1) parts) here
+    ∙ ap (λ (image : List (Option ℕ)). with_pieces image (addr + 1) parts)
+    (from_zero-next bytes byte size (omega (arith, low, here)))
+    ∙ more byte low ∙ ap (image_of_bytes size) (before-onto bytes byte rest)
+
+pub with_pieces_is : (bytes : List ℕ) (size addr : ℕ) (parts : List (List ℕ)) → addr ≡ length bytes
+    → length bytes ≤ size
+    → with_pieces (from_zero bytes size) addr parts
+    ≡ image_of_bytes size (before bytes (all_ok (map (fitting_value size) (enumerate_from addr parts))))
+with_pieces_is bytes size addr [] here l = ap (λ (xs : List ℕ). image_of_bytes size (ok_of xs)) (sym (append-nil bytes))
+with_pieces_is bytes size addr (piece ∷ parts) here l =
+    let size_is : length (from_zero bytes size) ≡ size = length-from_zero bytes size l in
+    ap (λ (n : ℕ). then_on (with_value (from_zero bytes size) addr (fitting_value n (addr, piece)))
+    (λ next. with_pieces next (addr + 1) parts)) size_is
+    ∙ with_next bytes size addr parts (all_ok (map (fitting_value size) (enumerate_from (addr + 1) parts)))
+    (fitting_value size (addr, piece))
+    (λ byte e. fitting_below size addr (value_of piece) byte e) here
+    (λ byte low. with_pieces_is (bytes ++ byte ∷ []) size (addr + 1) parts
+    (omega (arith, here, length-append bytes (byte ∷ []))) (omega (arith, here, low, length-append bytes (byte ∷ []))))
+
+values_of_some : (size : ℕ) (parts : List (List ℕ)) (one : Result (List (Option ℕ)) ImageFault) → 0 < length parts
+    → cond (eqb (length parts) 0) one (image_of_bytes size (all_ok (map (fitting_value size) (enumerate_from 0 parts))))
+    ≡ with_pieces (empty size) 0 parts
+values_of_some size [] one some = absurd (omega (arith, some))
+values_of_some size (piece ∷ parts) one some =
+    let none : from_zero [] size ≡ empty size = ap (λ (n : ℕ). replicate {A = Option ℕ} n None) (omega arith) in
+    let more : eqb (length (piece ∷ parts)) 0 ≡ false = ne_test (length (piece ∷ parts)) 0 (omega (arith, some)) in
+    let whole : image_of_bytes size (all_ok (map (fitting_value size) (enumerate_from 0 (piece ∷ parts))))
+    ≡ with_pieces (empty size) 0 (piece ∷ parts) =
+    ap (image_of_bytes size) (sym (before-none _)) ∙ sym (with_pieces_is [] size 0 (piece ∷ parts) refl (omega arith))
+    ∙ ap (λ (image : List (Option ℕ)). with_pieces image 0 (piece ∷ parts)) none in
+    ap (λ (b : Bool). cond b one (image_of_bytes size
+    (all_ok (map (fitting_value size) (enumerate_from 0 (piece ∷ parts)))))) more ∙ whole
+
+pub values_are : (text : List ℕ) (size : ℕ) → 0 < length (pieces text)
+    → values text size ≡ with_pieces (empty size) 0 (pieces text)
+values_are text size some = values_of_some size (pieces text) _ some
+
+-- ---- the first piece
+
+-- what is cut after an element that cuts
+abbrev tails : (ℕ → Bool) → List ℕ → List (List ℕ)
+tails p [] = []
+tails p (x ∷ xs) = slice_split p xs
+
+prefix : (p : ℕ → Bool) (xs : List ℕ) → slice_split p xs
+    ≡ take (position_or_len p xs) xs ∷ tails p (drop (position_or_len p xs) xs)
+prefix p [] = refl
+prefix p (x ∷ xs) = elim (cases_Bool (p x)) [
+  | inl cut ↦ rw cut refl
+  | inr kept ↦
+      let len : 1 + position_or_len p xs ≡ suc (position_or_len p xs) = omega arith in
+      rw (kept, len) (ap (onto_first x) (prefix p xs))
+]
+
+pub no_pieces : (xs : List ℕ) → length xs ≡ 0 → pieces xs ≡ []
+no_pieces [] none = refl
+no_pieces (x ∷ xs) none = absurd (omega (arith, none))
+
+pieces_tails : (xs : List ℕ) (n : ℕ) → n ≡ position_or_len is_separator xs
+    → filter (λ piece. nat_lt 0 (length piece)) (tails is_separator (drop n xs)) ≡ pieces (drop n xs)
+pieces_tails [] zero here = refl
+pieces_tails [] (suc n) here = refl
+pieces_tails (x ∷ xs) n here = elim (cases_Bool (is_separator x)) [
+  | inl cut ↦
+      let len : n ≡ 0 = here ∙ rw cut refl in
+      rw (len, cut) refl
+  | inr kept ↦
+      let len : n ≡ suc (position_or_len is_separator xs) = here ∙ rw kept (omega arith) in
+      rw len (pieces_tails xs (position_or_len is_separator xs) refl)
+]
+
+pub pieces_prefix : (xs : List ℕ) (n : ℕ) → n ≡ position_or_len is_separator xs → 0 < n
+    → pieces xs ≡ take n xs ∷ pieces (drop n xs)
+pieces_prefix xs n here some =
+    let within : n ≤ length xs = omega (arith, here, prefix_len-le-length (λ (c : ℕ). not (is_separator c)) xs) in
+    let size : length (take n xs) ≡ n = length-take n xs ∙ omega (arith, within) in
+    let test : nat_lt 0 (length (take n xs)) ≡ true = lt_test 0 (length (take n xs)) (omega (arith, size, some)) in
+    ap (filter (λ piece. nat_lt 0 (length piece))) (prefix is_separator xs)
+    ∙ ap (λ (k : ℕ). filter (λ piece. nat_lt 0 (length piece)) (take k xs ∷ tails is_separator (drop k xs))) (sym here)
+    ∙ ap (λ (b : Bool). cond b (take n xs ∷ filter (λ piece. nat_lt 0 (length piece)) (tails is_separator (drop n xs)))
+    (filter (λ piece. nat_lt 0 (length piece)) (tails is_separator (drop n xs)))) test
+    ∙ ap (λ (rest : List (List ℕ)). take n xs ∷ rest) (pieces_tails xs n here)
+
+-- one piece more, at fault or not
+pub piece_bad : (image : List (Option ℕ)) (addr : ℕ) (piece : List ℕ) (more : List (List ℕ)) (fault : ImageFault)
+    → with_piece image addr piece ≡ Err fault → with_pieces image addr (piece ∷ more) ≡ Err fault
+piece_bad image addr piece more fault e =
+    ap (λ (r : Result (List (Option ℕ)) ImageFault). then_on r (λ next. with_pieces next (addr + 1) more)) e
+
+pub piece_good : (image : List (Option ℕ)) (addr : ℕ) (piece : List ℕ) (more : List (List ℕ)) (next : List (Option ℕ))
+    → with_piece image addr piece ≡ Ok next → with_pieces image addr (piece ∷ more) ≡ with_pieces next (addr + 1) more
+piece_good image addr piece more next e =
+    ap (λ (r : Result (List (Option ℕ)) ImageFault). then_on r (λ next. with_pieces next (addr + 1) more)) e
+
+-- an image that holds nothing, by its length
+pub values_from : (text : List ℕ) (image : List (Option ℕ)) (answer : Result (List (Option ℕ)) ImageFault)
+    → image ≡ empty (length image)
+    → 0 < length (pieces text) → with_pieces image 0 (pieces text) ≡ answer → values text (length image) ≡ answer
+values_from text image answer none some e =
+    values_are text (length image) some ∙ ap (λ (start : List (Option ℕ)). with_pieces start 0 (pieces text)) (sym none)
+    ∙ e

@@ -1,0 +1,129 @@
+-- The walks over an image are what they say, place by place.
+use Rattle.std.proofs.Common.{◌≡◌, ◌∙◌, sym, ap, refl, arith, ℕ, suc, zero, ◌+◌, ◌-◌, ◌<◌, ◌≤◌, List, [], ◌∷◌, length, get_or, take, drop, Bool, true, false, Option, Some, None, is_some, inl, inr}
+use Rattle.std.proofs.lemmas.Bool.{cases_Bool, cases_lt}
+use Rattle.std.proofs.lemmas.List.{length-drop, length-take, get_or-drop, get_or-take}
+use Rattle.std.proofs.lemmas.List.Sums.{prefix_len-le-length, prefix_len_passes, prefix_len_stops}
+use Rattle.std.specs.List.{position_from, prefix_len}
+use Rattle.avr_image.specs.Image.{byte_at, first_from, run_end, filled_bytes, or_blank}
+use Rattle.avr_image.specs.Walk.{IsNextHeld, IsByteRun, IsFilled}
+use Rattle.avr_image.proofs.Fields.Shown.{byte_at-past}
+
+none_is : (byte : Option ℕ) → is_some byte ≡ false → byte ≡ None
+none_is None e = refl
+none_is (Some n) e = cc
+
+-- the place that a search gives
+record Found {X : Type 0} (p : X → Bool) (xs : List X) (d : X) (place : ℕ) : Type 0 where
+  within : place < length xs
+  here : p (get_or xs place d) ≡ true
+  before : (k : ℕ) → k < place → p (get_or xs k d) ≡ false
+
+found_later : {X : Type 0} (p : X → Bool) (x : X) (xs : List X) (d : X) (place : ℕ) → p x ≡ false → Found p xs d place
+    → Found p (x ∷ xs) d (suc place)
+found_later p x xs d place first found = record {
+  within = omega (arith, found.within);
+  here = found.here;
+  before = later;
+}
+  where
+    later : (k : ℕ) → k < suc place → p (get_or (x ∷ xs) k d) ≡ false
+    later zero l = first
+    later (suc k) l = found.before k (omega (arith, l))
+
+found_at : {X : Type 0} (p : X → Bool) (xs : List X) (d : X) (i n : ℕ) → position_from p i xs ≡ Some n
+    → (place : ℕ) × (n ≡ i + place) × Found p xs d place
+found_at p [] d i n e = cc
+found_at p (x ∷ xs) d i n e = elim (cases_Bool (p x)) [
+  | inl passes ↦
+      let same : Some i ≡ Some n = rw passes at e in
+      let here : i ≡ n = cc in (
+        0,
+        omega (arith, here),
+        record {
+          within = omega arith;
+          here = passes;
+          before =
+              λ k l. absurd (omega (arith, l));
+        },
+      )
+  | inr fails ↦
+      let rest : position_from p (i + 1) xs ≡ Some n = rw fails at e in
+      let found = found_at p xs d (i + 1) n rest in
+      (suc found.0, omega (arith, found.1), found_later p x xs d found.0 fails found.2)
+]
+
+none_found : {X : Type 0} (p : X → Bool) (xs : List X) (d : X) (i : ℕ) → position_from p i xs ≡ None → (k : ℕ)
+    → k < length xs → p (get_or xs k d) ≡ false
+none_found p [] d i e k l = absurd (omega (arith, l))
+none_found p (x ∷ xs) d i e zero l = elim (cases_Bool (p x)) [
+  | inl passes ↦ let bad : Some i ≡ None = rw passes at e in cc
+  | inr fails ↦ fails
+]
+none_found p (x ∷ xs) d i e (suc k) l = elim (cases_Bool (p x)) [
+  | inl passes ↦ let bad : Some i ≡ None = rw passes at e in cc
+  | inr fails ↦
+      let rest : position_from p (i + 1) xs ≡ None = rw fails at e in
+      none_found p xs d (i + 1) rest k (omega (arith, l))
+]
+
+pub next_held : (image : List (Option ℕ)) (addr place : ℕ) → first_from image addr ≡ Some place
+    → IsNextHeld image addr place
+next_held image addr place e =
+    let found = found_at is_some (drop addr image) None addr place e in
+    let left = length-drop addr image in
+    record {
+      after = omega (arith, found.1);
+      within = omega (arith, found.1, found.2.within, left);
+      held = ap (λ (k : ℕ). is_some (byte_at image k)) found.1 ∙ sym (ap is_some (get_or-drop addr image found.0 None))
+          ∙ found.2.here;
+      gap = λ k a l.
+          let there : addr + (k - addr) ≡ k = omega (arith, a) in
+          none_is (byte_at image k) (sym (ap is_some
+          (get_or-drop addr image (k - addr) None ∙ ap (byte_at image) there))
+          ∙ found.2.before (k - addr) (omega (arith, found.1, l, a)));
+    }
+
+pub none_held : (image : List (Option ℕ)) (addr : ℕ) → first_from image addr ≡ None → (k : ℕ) → addr ≤ k
+    → byte_at image k ≡ None
+none_held image addr e k a = elim (cases_lt k (length image)) [
+  | inl inside ↦
+      let there : addr + (k - addr) ≡ k = omega (arith, a) in
+      none_is (byte_at image k) (sym (ap is_some (get_or-drop addr image (k - addr) None ∙ ap (byte_at image) there))
+      ∙ none_found is_some (drop addr image) None addr e (k - addr) (omega (arith, length-drop addr image, inside, a)))
+  | inr past ↦ byte_at-past image k past
+]
+
+pub run_ends : (image : List (Option ℕ)) (addr end : ℕ) → addr ≤ end → IsByteRun image addr end (run_end image addr end)
+run_ends image addr end room =
+    let row = take (end - addr) (drop addr image) in
+    let len = prefix_len is_some row in
+    let row_len = length-take (end - addr) (drop addr image) in
+    let left = length-drop addr image in
+    let fits = prefix_len-le-length is_some row in
+    let at : (k : ℕ) → k < end - addr → get_or row k None ≡ byte_at image (addr + k) =
+    λ k j. get_or-take (end - addr) (drop addr image) k None j ∙ get_or-drop addr image k None in
+    record {
+      after = omega arith;
+      bound = omega (arith, fits, row_len, room);
+      held = λ k a l.
+          let there : addr + (k - addr) ≡ k = omega (arith, a) in
+          sym (ap is_some (at (k - addr) (omega (arith, l, a, fits, row_len)) ∙ ap (byte_at image) there))
+          ∙ prefix_len_passes is_some row (k - addr) None (omega (arith, l, a));
+      stop = λ l. elim (cases_lt (addr + len) (length image)) [
+        | inl inside ↦
+            none_is (byte_at image (addr + len)) (sym (ap is_some (at len (omega (arith, l))))
+            ∙ prefix_len_stops is_some row None (omega (arith, row_len, left, inside, l)))
+        | inr past ↦ byte_at-past image (addr + len) past
+      ];
+    }
+
+pub is_filled : (image : List (Option ℕ)) (start n : ℕ) → IsFilled image start n (filled_bytes image start n)
+is_filled image start zero = record { size = refl; byte = λ i l. absurd (omega (arith, l)) }
+is_filled image start (suc n) =
+    let rest = is_filled image (start + 1) n in
+    record { size = ap suc rest.size; byte = one rest }
+  where
+    one : IsFilled image (start + 1) n (filled_bytes image (start + 1) n) → (i : ℕ) → i < suc n
+        → get_or (filled_bytes image start (suc n)) i 0 ≡ or_blank (byte_at image (start + i))
+    one rest zero l = ap (λ (k : ℕ). or_blank (byte_at image k)) (omega arith)
+    one rest (suc i) l = rest.byte i (omega (arith, l)) ∙ ap (λ (k : ℕ). or_blank (byte_at image k)) (omega arith)

@@ -1,0 +1,468 @@
+-- The runs of an image, and a walk over them.
+use Rattle.std.proofs.Common.{◌≡◌, ◌∙◌, sym, ap, ap₂, refl, arith, ℕ, zero, suc, ◌+◌, ◌-◌, ◌<◌, ◌≤◌, ◌==◌, Bool, true, false, cond, not, List, [], ◌∷◌, ◌++◌, length, take, drop, fold, min, Option, Some, None, is_some, inl, inr, add-zero, get_or, All, ◌⊎◌}
+use Rattle.std.specs.List.{position_from, prefix_len, flat_map, enumerate_from, slice_range}
+use Rattle.std.proofs.lemmas.List.Recursion.{is_count_by}
+use Rattle.std.proofs.lemmas.Bool.{cases_eq, cases_lt, true≢false}
+use Rattle.std.proofs.lemmas.Bool.Decides.{nat_tests}
+use Rattle.std.proofs.lemmas.List.{append_assoc, drop-drop, get_or-drop, length-drop, length-append, set_at, take_all}
+use Rattle.avr_image.specs.Image.{empty, byte_at, with_byte, first_from, run_end, filled_bytes, or_blank, image_of_pairs, laid_over, over, byte_count}
+use Rattle.avr_image.specs.Runs.{onto_runs, runs, lead, places_of}
+use Rattle.avr_image.proofs.Places.Laid.{laid_over_laid}
+use Rattle.avr_image.specs.Walk.{IsLongestRun, IsByteRun}
+use Rattle.avr_image.proofs.Fields.Shown.{byte_at-past}
+use Rattle.avr_image.proofs.Walks.Places.{next_held, run_ends, is_filled}
+
+-- ---- the first run, and what stands after it
+
+-- the first run begins here or after
+abbrev Begins : ℕ → List (ℕ × List ℕ) → Type 0
+Begins addr [] = Unit {0}
+Begins addr (run ∷ more) = addr ≤ run.0
+
+begins-down : (addr : ℕ) (cut : List (ℕ × List ℕ)) → Begins (addr + 1) cut → Begins addr cut
+begins-down addr [] at = tt
+begins-down addr (run ∷ more) at = omega (arith, at)
+
+begins-onto : (addr b : ℕ) (cut : List (ℕ × List ℕ)) → Begins addr (onto_runs addr b cut)
+begins-onto addr b [] = omega arith
+begins-onto addr b ((next, bytes) ∷ more) = elim (cases_eq next (addr + 1)) [
+  | inl same ↦ let test : (next == addr + 1) ≡ true = grind (arith, nat_tests) in rw test (omega arith)
+  | inr other ↦ let test : (next == addr + 1) ≡ false = grind (arith, nat_tests) in rw test (omega arith)
+]
+
+runs-begin : (addr : ℕ) (image : List (Option ℕ)) → Begins addr (runs addr image)
+runs-begin addr [] = tt
+runs-begin addr (None ∷ image) = begins-down addr (runs (addr + 1) image) (runs-begin (addr + 1) image)
+runs-begin addr (Some b ∷ image) = begins-onto addr b (runs (addr + 1) image)
+
+onto-apart : (addr b : ℕ) (cut : List (ℕ × List ℕ)) → Begins (addr + 1 + 1) cut
+    → onto_runs addr b cut ≡ (addr, b ∷ []) ∷ cut
+onto-apart addr b [] at = refl
+onto-apart addr b ((next, bytes) ∷ more) at =
+    let test : (next == addr + 1) ≡ false = grind (arith, nat_tests, at) in
+    rw test refl
+
+onto-joins : (addr b : ℕ) (bytes : List ℕ) (more : List (ℕ × List ℕ))
+    → onto_runs addr b ((addr + 1, bytes) ∷ more) ≡ (addr, b ∷ bytes) ∷ more
+onto-joins addr b bytes more =
+    let test : (addr + 1 == addr + 1) ≡ true = grind (arith, nat_tests) in
+    rw test refl
+
+abbrev after : List (Option ℕ) → List (Option ℕ)
+after image = drop (length (lead image)) image
+
+runs-lead : (addr b : ℕ) (image : List (Option ℕ))
+    → runs addr (Some b ∷ image) ≡ (addr, b ∷ lead image) ∷ runs (addr + 1 + length (lead image)) (after image)
+runs-lead addr b [] = refl
+runs-lead addr b (None ∷ image) =
+    onto-apart addr b (runs (addr + 1 + 1) image) (runs-begin (addr + 1 + 1) image)
+    ∙ ap (λ (n : ℕ). (addr, b ∷ []) ∷ runs (n + 1) image) (sym (add-zero (addr + 1)))
+runs-lead addr b (Some c ∷ image) =
+    let next : addr + 1 + 1 + length (lead image) ≡ addr + 1 + suc (length (lead image)) = omega arith in
+    ap (onto_runs addr b) (runs-lead (addr + 1) c image)
+    ∙ onto-joins addr b (c ∷ lead image) (runs (addr + 1 + 1 + length (lead image)) (after image))
+    ∙ ap (λ (n : ℕ). (addr, b ∷ c ∷ lead image) ∷ runs n (after image)) next
+
+pub runs-first : (image : List (Option ℕ)) (addr : ℕ) → 0 < length (lead image)
+    → runs addr image ≡ (addr, lead image) ∷ runs (addr + length (lead image)) (drop (length (lead image)) image)
+runs-first [] addr some = absurd (omega (arith, some))
+runs-first (None ∷ image) addr some = absurd (omega (arith, some))
+runs-first (Some b ∷ image) addr some =
+    let next : addr + 1 + length (lead image) ≡ addr + suc (length (lead image)) = omega arith in
+    runs-lead addr b image ∙ ap (λ (n : ℕ). (addr, b ∷ lead image) ∷ runs n (after image)) next
+
+-- ---- as the walk finds them
+
+-- nothing from here on
+walk-none : (addr : ℕ) (image : List (Option ℕ)) → position_from is_some addr image ≡ None → runs addr image ≡ []
+walk-none addr [] is = refl
+walk-none addr (None ∷ image) is = walk-none (addr + 1) image is
+walk-none addr (Some b ∷ image) is = absurd (cc is)
+
+record Next (addr place : ℕ) (image : List (Option ℕ)) : Type 0 where
+  from : addr ≤ place
+  same : runs addr image ≡ runs place (drop (place - addr) image)
+  some : 0 < length (lead (drop (place - addr) image))
+
+walk-next : (addr place : ℕ) (image : List (Option ℕ)) → position_from is_some addr image ≡ Some place
+    → Next addr place image
+walk-next addr place [] is = absurd (cc is)
+walk-next addr place (None ∷ image) is =
+    let more = walk-next (addr + 1) place image is in
+    let one : place - addr ≡ suc (place - (addr + 1)) = omega (arith, more.from) in
+    record {
+      from = omega (arith, more.from);
+      same = more.same ∙ ap (λ (n : ℕ). runs place (drop n (None ∷ image))) (sym one);
+      some = rw one more.some;
+    }
+walk-next addr place (Some b ∷ image) is =
+    let here : addr ≡ place = cc is in
+    let none : place - addr ≡ 0 = omega (arith, here) in
+    record {
+      from = omega (arith, here);
+      same = ap (λ (n : ℕ). runs n (Some b ∷ image)) here
+          ∙ ap (λ (n : ℕ). runs place (drop n (Some b ∷ image))) (sym none);
+      some = rw none (omega arith);
+    }
+
+-- in the whole image
+pub runs-none : (image : List (Option ℕ)) (addr : ℕ) → first_from image addr ≡ None → runs addr (drop addr image) ≡ []
+runs-none image addr none = walk-none addr (drop addr image) none
+
+found-there : (image : List (Option ℕ)) (addr place : ℕ) → first_from image addr ≡ Some place
+    → drop (place - addr) (drop addr image) ≡ drop place image
+found-there image addr place found =
+    let next = walk-next addr place (drop addr image) found in
+    drop-drop (place - addr) addr image ∙ ap (λ (k : ℕ). drop k image) (omega (arith, next.from))
+
+pub runs-next : (image : List (Option ℕ)) (addr place : ℕ) → first_from image addr ≡ Some place
+    → runs addr (drop addr image) ≡ runs place (drop place image)
+runs-next image addr place found =
+    let next = walk-next addr place (drop addr image) found in
+    next.same ∙ ap (runs place) (found-there image addr place found)
+
+pub lead-some : (image : List (Option ℕ)) (addr place : ℕ) → first_from image addr ≡ Some place
+    → 0 < length (lead (drop place image))
+lead-some image addr place found =
+    let next = walk-next addr place (drop addr image) found in
+    rw (← found-there image addr place found) next.some
+
+drop-next : (image xs : List (Option ℕ)) (place : ℕ) (x : Option ℕ) → drop place image ≡ x ∷ xs
+    → drop (place + 1) image ≡ xs
+drop-next image xs place x is = sym (drop-drop 1 place image) ∙ ap (drop 1) is
+
+pub filled-lead : (image xs : List (Option ℕ)) (n place : ℕ) → drop place image ≡ xs → n ≤ length (lead xs)
+    → filled_bytes image place n ≡ take n (lead xs)
+filled-lead image xs zero place is l = refl
+filled-lead image [] (suc n) place is l = absurd (omega (arith, l))
+filled-lead image (None ∷ xs) (suc n) place is l = absurd (omega (arith, l))
+filled-lead image (Some b ∷ xs) (suc n) place is l =
+    let here : byte_at image place ≡ Some b =
+    ap (byte_at image) (sym (add-zero place)) ∙ sym (get_or-drop place image 0 None)
+    ∙ ap (λ (zs : List (Option ℕ)). byte_at zs 0) is in
+    ap (λ (byte : Option ℕ). or_blank byte ∷ filled_bytes image (place + 1) n) here
+    ∙ ap (λ (more : List ℕ). b ∷ more) (filled-lead image xs n (place + 1) (drop-next image xs place (Some b) is)
+    (omega (arith, l)))
+
+prefix-lead : (k : ℕ) (image : List (Option ℕ)) → prefix_len is_some (take k image) ≡ min k (length (lead image))
+prefix-lead zero image = omega arith
+prefix-lead (suc k) [] = omega arith
+prefix-lead (suc k) (None ∷ image) = omega arith
+prefix-lead (suc k) (Some b ∷ image) = let more = prefix-lead k image in omega (arith, more)
+
+pub lead-run : (image : List (Option ℕ)) (addr end : ℕ)
+    → run_end image addr end ≡ addr + min (end - addr) (length (lead (drop addr image)))
+lead-run image addr end = ap (λ (n : ℕ). addr + n) (prefix-lead (end - addr) (drop addr image))
+
+pub lead-short : (image : List (Option ℕ)) → length (lead image) ≤ length image
+lead-short [] = omega arith
+lead-short (None ∷ image) = omega arith
+lead-short (Some b ∷ image) = let more = lead-short image in omega (arith, more)
+
+-- ---- the bytes of an image at their addresses
+
+-- those that are there, where the image's part begins at `addr`
+abbrev held_places : ℕ → List (Option ℕ) → List (ℕ × ℕ)
+held_places addr [] = []
+held_places addr (None ∷ image) = held_places (addr + 1) image
+held_places addr (Some b ∷ image) = (addr, b) ∷ held_places (addr + 1) image
+
+abbrev put : List (Option ℕ) → ℕ × ℕ → List (Option ℕ)
+put image place = with_byte image place.0 place.1
+
+laid-held : (prefix image : List (Option ℕ)) (addr : ℕ) → length prefix ≡ addr
+    → fold put (prefix ++ empty (length image)) (held_places addr image) ≡ prefix ++ image
+laid-held prefix [] addr at = refl
+laid-held prefix (None ∷ image) addr at =
+    let gap : List (Option ℕ) = None ∷ [] in
+    let next : length (prefix ++ gap) ≡ addr + 1 = length-append prefix gap ∙ omega (arith, at) in
+    ap (λ (whole : List (Option ℕ)). fold put whole (held_places (addr + 1) image))
+    (sym (append_assoc prefix (None ∷ []) (empty (length image))))
+    ∙ laid-held (prefix ++ None ∷ []) image (addr + 1) next
+    ∙ append_assoc prefix (None ∷ []) image
+laid-held prefix (Some b ∷ image) addr at =
+    let next : length (prefix ++ Some b ∷ []) ≡ addr + 1 = length-append prefix (Some b ∷ []) ∙ omega (arith, at) in
+    ap (λ (whole : List (Option ℕ)). fold put whole (held_places (addr + 1) image))
+    (set_at prefix None (empty (length image)) (Some b) addr at
+    ∙ sym (append_assoc prefix (Some b ∷ []) (empty (length image))))
+    ∙ laid-held (prefix ++ Some b ∷ []) image (addr + 1) next
+    ∙ append_assoc prefix (Some b ∷ []) image
+
+-- an image is that of its bytes
+laid-image : (image : List (Option ℕ)) → image_of_pairs (length image) (held_places 0 image) ≡ image
+laid-image image = laid-held [] image 0 refl
+
+-- ---- its runs hold them
+
+onto-holds : (addr b : ℕ) (more : List (ℕ × List ℕ))
+    → flat_map places_of (onto_runs addr b more) ≡ (addr, b) ∷ flat_map places_of more
+onto-holds addr b [] = refl
+onto-holds addr b ((next, bytes) ∷ more) = elim (cases_eq next (addr + 1)) [
+  | inl same ↦
+      let test : (next == addr + 1) ≡ true = grind (arith, nat_tests) in
+      rw test (ap (λ (n : ℕ). (addr, b) ∷ (enumerate_from n bytes ++ flat_map places_of more)) (sym same))
+  | inr other ↦ let test : (next == addr + 1) ≡ false = grind (arith, nat_tests) in rw test refl
+]
+
+runs-hold : (addr : ℕ) (image : List (Option ℕ)) → flat_map places_of (runs addr image) ≡ held_places addr image
+runs-hold addr [] = refl
+runs-hold addr (None ∷ image) = runs-hold (addr + 1) image
+runs-hold addr (Some b ∷ image) =
+    onto-holds addr b (runs (addr + 1) image)
+    ∙ ap (λ (places : List (ℕ × ℕ)). (addr, b) ∷ places) (runs-hold (addr + 1) image)
+
+pub runs_image : (image : List (Option ℕ)) → image_of_pairs (length image) (flat_map places_of (runs 0 image)) ≡ image
+runs_image image = ap (image_of_pairs (length image)) (runs-hold 0 image) ∙ laid-image image
+
+-- ---- a walk from run to run
+
+pub length-filled : (image : List (Option ℕ)) (start n : ℕ) → length (filled_bytes image start n) ≡ n
+length-filled image start zero = refl
+length-filled image start (suc n) = ap suc (length-filled image (start + 1) n)
+
+drop-filled : (image : List (Option ℕ)) (i start n : ℕ)
+    → drop i (filled_bytes image start n) ≡ filled_bytes image (start + i) (n - i)
+drop-filled image zero start n = ap₂ (λ (s k : ℕ). filled_bytes image s k) (sym (add-zero start)) (omega arith)
+drop-filled image (suc i) start zero = let none : zero - suc i ≡ zero = omega arith in rw none refl
+drop-filled image (suc i) start (suc n) =
+    drop-filled image i (start + 1) n ∙ ap₂ (λ (s k : ℕ). filled_bytes image s k) (omega arith) (omega arith)
+
+take-filled : (image : List (Option ℕ)) (k start n : ℕ) → k ≤ n
+    → take k (filled_bytes image start n) ≡ filled_bytes image start k
+take-filled image zero start n l = refl
+take-filled image (suc k) start zero l = absurd (omega (arith, l))
+take-filled image (suc k) start (suc n) l =
+    ap (λ (more : List ℕ). or_blank (byte_at image start) ∷ more) (take-filled image k (start + 1) n (omega (arith, l)))
+
+-- a part of the bytes of all addresses
+pub range-filled : (image : List (Option ℕ)) (place end : ℕ) → place ≤ end → end ≤ length image
+    → slice_range (filled_bytes image 0 (length image)) place end ≡ filled_bytes image place (end - place)
+range-filled image place end rises within =
+    ap (take (end - place)) (drop-filled image place 0 (length image))
+    ∙ ap (λ (s : ℕ). take (end - place) (filled_bytes image s (length image - place))) (omega arith)
+    ∙ take-filled image (end - place) place (length image - place) (omega (arith, within))
+
+-- the run that is found is the first of those left
+pub record Stepped (addr place end : ℕ) (image : List (Option ℕ)) : Type 0 where
+  pub is : runs addr (drop addr image) ≡ (place, slice_range (filled_bytes image 0 (length image)) place end)
+      ∷ runs end (drop end image)
+  pub rises : place < end
+  pub within : end ≤ length image
+
+pub next_run : (addr place end : ℕ) (image : List (Option ℕ)) → first_from image addr ≡ Some place
+    → end ≡ run_end image place (length image)
+    → Stepped addr place end image
+next_run addr place end image found is =
+    let some = lead-some image addr place found in
+    let run : ℕ = length (lead (drop place image)) in
+    let short = lead-short (drop place image) in
+    let left = length-drop place image in
+    let far : end ≡ place + min (length image - place) run = is ∙ lead-run image place (length image) in
+    let ends : place + run ≡ end = omega (arith, far, short, left) in
+    let rises : place < end = omega (arith, ends, some) in
+    let within : end ≤ length image = omega (arith, ends, short, left, some) in
+    let bytes_are : lead (drop place image) ≡ slice_range (filled_bytes image 0 (length image)) place end =
+    sym (range-filled image place end (omega (arith, rises)) within
+    ∙ filled-lead image (drop place image) (end - place) place refl (omega (arith, ends))
+    ∙ take_all (end - place) (lead (drop place image)) (omega (arith, ends))) in
+    let behind : after (drop place image) ≡ drop end image =
+    drop-drop run place image ∙ ap (λ (k : ℕ). drop k image) ends in
+    record {
+      is =
+          runs-next image addr place found ∙ runs-first (drop place image) place some
+          ∙ ap (λ (bytes : List ℕ). (place, bytes) ∷ runs (place + run) (after (drop place image))) bytes_are
+          ∙ ap₂ (λ (n : ℕ) (image' : List (Option ℕ)).
+          (place, slice_range (filled_bytes image 0 (length image)) place end) ∷ runs n image') ends behind;
+      rises = rises;
+      within = within;
+    }
+
+-- ---- an image laid over another
+
+-- the runs end inside a memory of this size
+abbrev pub EndBy : ℕ → List (ℕ × List ℕ) → Type 0
+EndBy size [] = Unit {0}
+EndBy size (run ∷ more) = (run.0 + length run.1 ≤ size) × EndBy size more
+
+onto-end : (size addr b : ℕ) (more : List (ℕ × List ℕ)) → addr < size → EndBy size more
+    → EndBy size (onto_runs addr b more)
+onto-end size addr b [] inside all = (omega (arith, inside), tt)
+onto-end size addr b ((next, bytes) ∷ more) inside all = elim (cases_eq next (addr + 1)) [
+  | inl same ↦
+      let test : (next == addr + 1) ≡ true = grind (arith, nat_tests) in
+      rw test (omega (arith, same, all.0), all.1)
+  | inr other ↦
+      let test : (next == addr + 1) ≡ false = grind (arith, nat_tests) in
+      rw test (omega (arith, inside), all)
+]
+
+pub runs-end : (size addr : ℕ) (image : List (Option ℕ)) → addr + length image ≤ size → EndBy size (runs addr image)
+runs-end size addr [] room = tt
+runs-end size addr (None ∷ image) room = runs-end size (addr + 1) image (omega (arith, room))
+runs-end size addr (Some b ∷ image) room =
+    onto-end size addr b (runs (addr + 1) image) (omega (arith, room))
+    (runs-end size (addr + 1) image (omega (arith, room)))
+
+pub runs-inside : (image : List (Option ℕ)) → All (λ run. run.0 + length run.1 ≤ length image) (runs 0 image)
+runs-inside image = each (runs 0 image) (runs-end (length image) 0 image (omega arith))
+  where
+    each : (cut : List (ℕ × List ℕ)) → EndBy (length image) cut → All (λ run. run.0 + length run.1 ≤ length image) cut
+    each [] ends k d l = absurd (omega (arith, l))
+    each (run ∷ more) ends zero d l = ends.0
+    each (run ∷ more) ends (suc k) d l = each more ends.1 k d (omega (arith, l))
+
+-- an image laid over one of its size, run by run
+pub runs-over : (image other : List (Option ℕ)) → length other ≡ length image
+    → laid_over image (flat_map places_of (runs 0 other)) ≡ over image other
+runs-over image other same =
+    ap (laid_over image) (runs-hold 0 other)
+    ∙ laid_over_laid image (held_places 0 other)
+    ∙ ap (λ (n : ℕ). over image (image_of_pairs n (held_places 0 other))) (sym same)
+    ∙ ap (over image) (laid-image other)
+
+-- ---- no byte at all
+
+pub none-held : (addr : ℕ) (image : List (Option ℕ)) → position_from is_some addr image ≡ None → byte_count image ≡ 0
+none-held addr [] none = refl
+none-held addr (None ∷ image) none = none-held (addr + 1) image none
+none-held addr (Some b ∷ image) none = absurd (cc none)
+
+count-least : (n : ℕ) (image : List (Option ℕ)) → n ≤ fold (λ total byte. total + cond (is_some byte) 1 0) n image
+count-least n [] = omega arith
+count-least n (None ∷ image) = let more = count-least (n + 0) image in omega (arith, more)
+count-least n (Some b ∷ image) = let more = count-least (n + 1) image in omega (arith, more)
+
+pub some-held : (addr place : ℕ) (image : List (Option ℕ)) → position_from is_some addr image ≡ Some place
+    → 0 < byte_count image
+some-held addr place [] some = absurd (cc some)
+some-held addr place (None ∷ image) some = some-held (addr + 1) place image some
+some-held addr place (Some b ∷ image) some = count-least 1 image
+
+pub empty-held : (image : List (Option ℕ)) (found : Option ℕ) (none : Bool) → found ≡ first_from image 0
+    → is_some found ≡ not none → none ≡ (byte_count image == 0)
+empty-held image None true is told =
+    let none : byte_count image ≡ 0 = none-held 0 image (sym is) in
+    let test : (byte_count image == 0) ≡ true = grind (arith, nat_tests, none) in
+    sym test
+empty-held image None false is told = absurd (cc told)
+empty-held image (Some place) true is told = absurd (cc told)
+empty-held image (Some place) false is told =
+    let some : 0 < byte_count image = some-held 0 place image (sym is) in
+    let test : (byte_count image == 0) ≡ false = grind (arith, nat_tests, some) in
+    sym test
+
+-- ---- the runs are the longest
+
+gives_byte : (byte : Option ℕ) → is_some byte ≡ true → byte ≡ Some (or_blank byte)
+gives_byte None some = absurd (cc some)
+gives_byte (Some b) some = refl
+
+longest_run : (addr place end : ℕ) (image : List (Option ℕ)) → (addr ≡ 0) ⊎ (byte_at image addr ≡ None)
+    → first_from image addr ≡ Some place
+    → end ≡ run_end image place (length image)
+    → IsLongestRun image (place, slice_range (filled_bytes image 0 (length image)) place end)
+longest_run addr place end image gap found is =
+    let next = next_held image addr place found in
+    let stepped = next_run addr place end image found is in
+    let run : IsByteRun image place (length image) end =
+    rw is (run_ends image place (length image) (omega (arith, next.within))) in
+    let cut = range-filled image place end (omega (arith, stepped.rises)) stepped.within in
+    let bytes = is_filled image place (end - place) in
+    let size : length (slice_range (filled_bytes image 0 (length image)) place end) ≡ end - place =
+    ap length cut ∙ bytes.size in
+    record {
+      some = omega (arith, size, stepped.rises);
+      bytes = λ i l.
+          gives_byte (byte_at image (place + i)) (run.held (place + i) (omega arith) (omega (arith, l, size)))
+          ∙ ap (λ (b : ℕ). Some b) (sym (ap (λ (xs : List ℕ). get_or xs i 0) cut
+          ∙ bytes.byte i (omega (arith, l, size))));
+      before = λ k at. elim (cases_lt k addr) [
+        | inl low ↦ elim gap [
+          | inl zero_is ↦ absurd (omega (arith, low, zero_is))
+          | inr none ↦
+              let here : place ≡ addr = omega (arith, next.after, low, at) in
+              let held : is_some (byte_at image place) ≡ true = next.held in
+              let bad : is_some (byte_at image addr) ≡ true = rw here at held in
+              absurd (true≢false (sym bad ∙ ap is_some none))
+        ]
+        | inr from ↦ next.gap k from (omega (arith, at))
+      ];
+      behind =
+          let there : place + length (slice_range (filled_bytes image 0 (length image)) place end) ≡ end =
+          omega (arith, size, stepped.rises) in
+          rw there (elim (cases_lt end (length image)) [
+            | inl inside ↦ run.stop inside
+            | inr past ↦ byte_at-past image end past
+          ]);
+    }
+
+none-behind : (addr place end : ℕ) (image : List (Option ℕ))
+    → IsLongestRun image (place, slice_range (filled_bytes image 0 (length image)) place end)
+    → place < end → end ≤ length image → byte_at image end ≡ None
+none-behind addr place end image longest rises within =
+    let cut = range-filled image place end (omega (arith, rises)) within in
+    let there : place + length (slice_range (filled_bytes image 0 (length image)) place end) ≡ end =
+    omega (arith, ap length cut, length-filled image place (end - place), rises) in
+    rw there at longest.behind
+
+all-cons : {X : Type 0} (P : X → Type 0) (x : X) (xs : List X) → P x → All P xs → All P (x ∷ xs)
+all-cons P x xs first rest zero d l = first
+all-cons P x xs first rest (suc k) d l = rest k d (omega (arith, l))
+
+longest-from : (n addr : ℕ) (image : List (Option ℕ)) → length image ≤ addr + n
+    → (addr ≡ 0) ⊎ (byte_at image addr ≡ None)
+    → (found : Option ℕ) → first_from image addr ≡ found → All (IsLongestRun image) (runs addr (drop addr image))
+longest-from n addr image room gap None found =
+    rw (runs-none image addr found) (λ k d l. absurd (omega (arith, l)))
+longest-from zero addr image room gap (Some place) found =
+    let next = next_held image addr place found in
+    absurd (omega (arith, next.after, next.within, room))
+longest-from (suc n) addr image room gap (Some place) found =
+    let end : ℕ = run_end image place (length image) in
+    let stepped = next_run addr place end image found refl in
+    let next = next_held image addr place found in
+    let run : List ℕ = slice_range (filled_bytes image 0 (length image)) place end in
+    let longest = longest_run addr place end image gap found refl in
+    let none = none-behind addr place end image longest stepped.rises stepped.within in
+    rw stepped.is
+    (all-cons (IsLongestRun image) (place, run) (runs end (drop end image)) longest
+    (longest-from n end image (omega (arith, room, next.after, stepped.rises)) (inr none) (first_from image end) refl))
+
+pub runs-longest : (image : List (Option ℕ)) → All (IsLongestRun image) (runs 0 image)
+runs-longest image = longest-from (length image) 0 image (omega arith) (inl refl) (first_from image 0) refl
+
+-- ---- how many bytes there are
+
+-- address by address
+abbrev held_in : List (Option ℕ) → ℕ
+held_in [] = 0
+held_in (None ∷ image) = held_in image
+held_in (Some b ∷ image) = suc (held_in image)
+
+first_counted : (byte : Option ℕ) (image : List (Option ℕ))
+    → held_in (byte ∷ image) ≡ cond (is_some byte) (1 + held_in image) (held_in image)
+first_counted None image = refl
+first_counted (Some b) image = omega arith
+
+held_is_counted : (image : List (Option ℕ)) → held_in image ≡ byte_count image
+held_is_counted = is_count_by held_in is_some refl first_counted
+
+abbrev pub held_by : List (ℕ × List ℕ) → ℕ
+held_by [] = 0
+held_by (run ∷ more) = length run.1 + held_by more
+
+held_by-onto : (addr b : ℕ) (cut : List (ℕ × List ℕ)) → held_by (onto_runs addr b cut) ≡ suc (held_by cut)
+held_by-onto addr b [] = refl
+held_by-onto addr b ((next, bytes) ∷ more) = elim (cases_eq next (addr + 1)) [
+  | inl same ↦ let test : (next == addr + 1) ≡ true = grind (arith, nat_tests) in rw test (omega arith)
+  | inr other ↦ let test : (next == addr + 1) ≡ false = grind (arith, nat_tests) in rw test (omega arith)
+]
+
+held_by-each : (addr : ℕ) (image : List (Option ℕ)) → held_by (runs addr image) ≡ held_in image
+held_by-each addr [] = refl
+held_by-each addr (None ∷ image) = held_by-each (addr + 1) image
+held_by-each addr (Some b ∷ image) = held_by-onto addr b (runs (addr + 1) image)
+    ∙ ap suc (held_by-each (addr + 1) image)
+
+pub held_by-runs : (addr : ℕ) (image : List (Option ℕ)) → held_by (runs addr image) ≡ byte_count image
+held_by-runs addr image = held_by-each addr image ∙ held_is_counted image

@@ -1,0 +1,72 @@
+-- The first fault of a record file stays its fault, whatever follows.
+use Rattle.std.proofs.Common.{◌≡◌, ◌∙◌, sym, ap, refl, ℕ, ◌+◌, List, [], ◌∷◌, ◌++◌, map, Some, Err}
+use Rattle.std.proofs.lemmas.List.{append-nil, map-append}
+use Rattle.avr_records.proofs.Readers.LaterLines.{parts-some}
+use Rattle.avr_records.proofs.Readers.Fed.{goes-on, closed-prefix}
+use Rattle.avr_records.proofs.Readers.WholeFiles.{among-stands}
+use Rattle.avr_records.specs.Closed.{all_but_last, fault_among, closed_fault}
+use Rattle.avr_records.specs.Lines.{lines, is_line_end}
+use Rattle.avr_records.specs.Reading.{said_by_line, image_in_text}
+use Rattle.avr_records.specs.declared.kind.Kind.{Kind}
+use Rattle.avr_records.specs.declared.fault.RecordFault.{RecordFault}
+
+-- a text has a last line
+cut_last : (first : List ℕ) (more : List (List ℕ))
+    → (prefix : List (List ℕ)) × (last : List ℕ) × (first ∷ more ≡ prefix ++ last ∷ [])
+cut_last first [] = ([], first, refl)
+cut_last first (next ∷ more) =
+    let rest = cut_last next more in (first ∷ rest.0, rest.1, ap (λ (zs : List (List ℕ)). first ∷ zs) rest.2)
+
+record Lengthened (kind : Kind) (text more : List ℕ) : Type 0 where
+  prefix : List (List ℕ)
+  goes_on : List ℕ
+  behind : List (List ℕ)
+  closed : all_but_last (lines text) ≡ prefix
+  lines_are : lines (text ++ more) ≡ prefix ++ goes_on ∷ behind
+
+lengthened : (kind : Kind) (text more : List ℕ) → Lengthened kind text more
+lengthened kind text more =
+    let some = parts-some is_line_end text in
+    let cut = cut_last some.0 some.1 in
+    let next = parts-some is_line_end more in
+    let is : lines text ≡ cut.0 ++ cut.1 ∷ [] = some.2 ∙ cut.2 in
+    record {
+      prefix = cut.0;
+      goes_on = cut.1 ++ next.0;
+      behind = next.1;
+      closed = ap all_but_last is ∙ closed-prefix cut.0 cut.1 [] ∙ append-nil cut.0;
+      lines_are = goes-on text more cut.0 cut.1 next.0 next.1 is next.2;
+    }
+
+own_fault : (kind : Kind) (text more : List ℕ) (size : ℕ) (fault : RecordFault) (l : Lengthened kind text more)
+    → closed_fault kind text size ≡ Some fault → fault_among size (map (said_by_line kind) l.prefix) ≡ Some fault
+own_fault kind text more size fault l is =
+    ap (λ (zs : List (List ℕ)). fault_among size (map (said_by_line kind) zs)) (sym l.closed) ∙ is
+
+-- a line that has ended and is at fault is the first one still when more has come
+pub closed_fault-more : (kind : Kind) (text more : List ℕ) (size : ℕ) (fault : RecordFault)
+    → closed_fault kind text size ≡ Some fault
+    → closed_fault kind (text ++ more) size ≡ Some fault
+closed_fault-more kind text more size fault is =
+    let l = lengthened kind text more in
+    let closed = ap all_but_last l.lines_are ∙ closed-prefix l.prefix l.goes_on l.behind in
+    let said = ap (map (said_by_line kind)) closed
+    ∙ map-append (said_by_line kind) l.prefix (all_but_last (l.goes_on ∷ l.behind)) in
+    ap (fault_among size) said
+    ∙ among-stands size (map (said_by_line kind) l.prefix)
+    (map (said_by_line kind) (all_but_last (l.goes_on ∷ l.behind))) fault
+    (own_fault kind text more size fault l is)
+
+-- and it is the fault of the whole file
+pub closed_fault-whole : (kind : Kind) (text more : List ℕ) (size : ℕ) (fault : RecordFault)
+    → closed_fault kind text size ≡ Some fault
+    → image_in_text kind (text ++ more) size ≡ Err fault
+closed_fault-whole kind text more size fault is =
+    let l = lengthened kind text more in
+    let said = ap (map (said_by_line kind)) l.lines_are
+    ∙ map-append (said_by_line kind) l.prefix (l.goes_on ∷ l.behind) in
+    rw (
+      said,
+      among-stands size (map (said_by_line kind) l.prefix) (map (said_by_line kind) (l.goes_on ∷ l.behind)) fault
+          (own_fault kind text more size fault l is),
+    ) refl

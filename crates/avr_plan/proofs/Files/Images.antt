@@ -1,0 +1,217 @@
+-- An image file that is read in pieces.
+use Rattle.std.proofs.Common.{◌≡◌, ◌∙◌, sym, ap, ap₂, refl, arith, ℕ, ◌+◌, ◌≤◌, ◌<◌, [], ◌++◌, length, take, Bool, true, false, nat_le, not, ◌==◌, ◌&&◌, ◌||◌, Ok, Err, append_assoc, append-nil, subst, length-append}
+use Rattle.std.proofs.Math.Seq.{take-append-add}
+use Rattle.std.proofs.lemmas.Bool.Decides.{nat_tests}
+use Rattle.std.proofs.lemmas.List.{take-take, length-take-le, take-append-le}
+use Rattle.avr_desk.proofs.FileUses.Pieces.{read_next, read_piece, opened_read}
+use Rattle.avr_cli.specs.declared.update.Format.{Format}
+use Rattle.avr_cli.specs.declared.update.Format.TheVariants as letter
+use Rattle.avr_desk.specs.Files.{after_reading}
+use Rattle.avr_desk.specs.Record.{DeskView, Record, Passes, after_open, after_read, noted, is_nil, Bytes}
+use Rattle.avr_desk.specs.declared.record.Open.{Open}
+use Rattle.avr_desk.specs.declared.record.Open.TheVariants.{Closed, ToRead, ToWrite}
+use Rattle.avr_desk.specs.declared.files.FileFault.TheVariants.{Absent, NotOpened, NotRead, Memory}
+use Rattle.avr_records.specs.Detect.{kind_of_file}
+use Rattle.avr_records.specs.declared.kind.Found.{Found}
+use Rattle.avr_plan.specs.ImageFile.{Given, whole_file, long_file, file_within, kind_of}
+use Rattle.avr_plan.specs.ImageReading.{Going, ImageOrFault, ReadsRest, RestIsRead, ReadsOpenImage, OpenIsRead, ReadsImage, ImageIsRead, IsGiven}
+use Rattle.avr_plan.specs.Intake.{Takes}
+use Rattle.avr_plan.specs.declared.intake.BadFile.{BadFile}
+use Rattle.avr_plan.specs.declared.image_file.ReadFault.TheVariants.{File, Image}
+use Rattle.avr_plan.specs.declared.intake.Intake.{Intake}
+
+-- ---- a call of `read`
+
+or-false : (e : Bool) → e ≡ (e || false)
+or-false true = refl
+or-false false = refl
+
+noted-none : (o : Open) → o ≡ noted [] false o
+noted-none Closed = refl
+noted-none (ToRead x) = ap₂ (λ (bytes : Bytes) (ended : Bool). ToRead (record x { bytes = bytes; ended = ended }))
+    (sym (append-nil x.bytes))
+    (or-false x.ended)
+noted-none (ToWrite x) = refl
+
+pub read_nothing : (d : Record) → d ≡ after_reading [] false d
+read_nothing d = ap (λ (o : Open). record d { current = o }) (noted-none d.current)
+
+pub read_end : (old now new : Record) (a buf : Bytes) (n : ℕ) → now ≡ after_reading a false old
+    → new ≡ after_read buf (Ok n) now
+    → n ≡ 0 → 0 < length buf → new ≡ after_reading a true old
+read_end old now new a buf n first then zero some =
+    let ends : (n == 0 && not (is_nil buf)) ≡ true = grind (arith, nat_tests) in
+    let none : take n buf ≡ [] = rw zero refl in
+    let last : new ≡ after_reading [] true now =
+    then ∙ ap₂ (λ (b : Bytes) (e : Bool). after_reading b e now) none ends in
+    subst (λ (b : Bytes). new ≡ after_reading b true old) (append-nil a) (read_next old now new a [] true first last)
+
+-- ---- the rest of a file
+
+pub going_begins : (d : DeskView) (intake : Intake) (room : ℕ) → Going d d intake intake room room
+going_begins d intake room = record {
+  bytes = [];
+  kept = read_nothing d.kept;
+  feeds = λ found size text takes. subst (Takes found size intake) (sym (append-nil text)) takes;
+  count = omega arith;
+}
+
+within : (limit : ℕ) (found : Found) (bytes : Bytes) (size : ℕ) → length bytes ≤ limit
+    → whole_file found bytes size ≡ file_within limit found bytes size
+within limit found bytes size len = let fits : nat_le (length bytes) limit ≡ true = grind (arith, nat_tests) in
+    rw fits refl
+
+rest-is : (limit : ℕ) (found : Found) (size : ℕ) (before : Bytes) (old new : DeskView) (given : Given)
+    (result : ImageOrFault)
+    → IsGiven given result
+    → ReadsRest limit found size before old new given → RestIsRead limit found size before old new result
+rest-is limit found size before old new given (Ok good) is reads =
+    subst (ReadsRest limit found size before old new) (sym is) reads
+rest-is limit found size before old new given (Err (Image bad)) is reads =
+    subst (ReadsRest limit found size before old new) (sym is) reads
+rest-is limit found size before old new given (Err (File fault)) is reads = absurd is
+
+take-prefix : (all buf : Bytes) (limit left n : ℕ) → length all + left ≡ limit → left ≤ n
+    → take limit (all ++ take n buf) ≡ all ++ take left buf
+take-prefix all buf limit left n count less =
+    subst (λ k. take k (all ++ take n buf) ≡ all ++ take left buf) count
+    (take-append-add all (take n buf) left ∙ ap (λ (b : Bytes). all ++ b) (take-take left n buf less))
+
+-- so far it went, and then n bytes were read
+module _ (old now new : DeskView) (first last : Intake) (room left n : ℕ) (buf : Bytes)
+    (going : Going old now first last room left) (then : Passes (after_read buf (Ok n)) now new) where
+  pub going_on : (next : Intake) (rest : ℕ) → (n ≡ 0 → ⊥) → length (take n buf) + rest ≡ left
+      → ((found : Found) (size : ℕ) (text : Bytes) → Takes found size last text
+      → Takes found size next (text ++ take n buf))
+      → Going old new first next room rest
+  going_on next rest some count feeds = record {
+    bytes = going.bytes ++ take n buf;
+    kept = read_piece old.kept now.kept new.kept going.bytes buf n going.kept then some;
+    feeds = λ found size text takes.
+        subst (Takes found size next) (append_assoc text going.bytes (take n buf))
+        (feeds found size (text ++ going.bytes) (going.feeds found size text takes));
+    count = omega (arith, going.count, length-append going.bytes (take n buf));
+  }
+
+  module _ (limit : ℕ) (found : Found) (size : ℕ) (before : Bytes) (takes : Takes found size first before)
+      (count : length before + room ≡ limit) where
+    -- the end was seen
+    pub rest_ends : (result : ImageOrFault) → n ≡ 0 → 0 < length buf
+        → ((found : Found) (size : ℕ) (text : Bytes) → Takes found size last text
+        → IsGiven (whole_file found text size) result)
+        → RestIsRead limit found size before old new result
+    rest_ends result zero some gives =
+        let all = before ++ going.bytes in
+        let len : length all ≤ limit = omega (arith, going.count, count, length-append before going.bytes) in
+        rest-is limit found size before old new (whole_file found all size) result
+        (gives found size all (going.feeds found size before takes))
+        (record {
+          bytes = going.bytes;
+          ended = true;
+          kept = read_end old.kept now.kept new.kept going.bytes buf n going.kept then zero some;
+          whole = len;
+          gives = within limit found all size len;
+        })
+
+    -- more came than may
+    pub rest_long : (bad : BadFile) → left < n → n ≤ length buf → length buf ≤ 4096
+        → ((found : Found) (size : ℕ) (text : Bytes) → Takes found size last text
+        → bad ≡ long_file found (text ++ take left buf) size)
+        → ReadsRest limit found size before old new (Err bad)
+    rest_long bad more within' most gives =
+        let bytes = going.bytes ++ take n buf in
+        let all = before ++ going.bytes in
+        let whole : before ++ bytes ≡ all ++ take n buf = sym (append_assoc before going.bytes (take n buf)) in
+        let piece : length (take n buf) ≡ n = length-take-le n buf within' in
+        let len : length (before ++ bytes) ≡ length before + length going.bytes + n = omega
+        (arith, piece, length-append before bytes, length-append going.bytes (take n buf)) in
+        let sum : length (before ++ bytes) + left ≡ limit + n = omega (arith, len, going.count, count) in
+        let past : nat_le (length (before ++ bytes)) limit ≡ false = grind (arith, nat_tests, sum, more) in
+        let together : length all + left ≡ limit =
+        omega (arith, going.count, count, length-append before going.bytes) in
+        let prefix : take limit (before ++ bytes) ≡ all ++ take left buf =
+        ap (take limit) whole ∙ take-prefix all buf limit left n together (omega (arith, more)) in
+        record {
+          bytes = bytes;
+          ended = false;
+          kept = read_piece old.kept now.kept new.kept going.bytes buf n going.kept
+              then (λ zero. absurd (omega (arith, zero, more)));
+          whole = (omega (arith, sum, more), omega (arith, sum, within', most));
+          gives = rw past (ap (λ (b : BadFile). Err b) (gives found size all (going.feeds found size before takes) ∙ ap
+              (λ (t : Bytes). long_file found t size) (sym prefix)));
+        }
+
+-- ---- a whole file
+
+detected-prefix : (prefix more : Bytes) → length prefix ≡ 1024 → kind_of_file (prefix ++ more) ≡ kind_of_file prefix
+detected-prefix prefix more len =
+    rw (take-append-le 4 prefix more (omega (arith, len)), take-append-le 1024 prefix more (omega (arith, len))) refl
+
+pub kind-prefix : (format : Format) (prefix more : Bytes) → length prefix ≡ 1024
+    → kind_of format (prefix ++ more) ≡ kind_of format prefix
+kind-prefix letter.Ihex prefix more len = refl
+kind-prefix letter.Srec prefix more len = refl
+kind-prefix letter.Raw prefix more len = refl
+kind-prefix letter.Auto prefix more len = detected-prefix prefix more len
+kind-prefix letter.Immediate prefix more len = detected-prefix prefix more len
+kind-prefix letter.Decimal prefix more len = detected-prefix prefix more len
+kind-prefix letter.Hexadecimal prefix more len = detected-prefix prefix more len
+kind-prefix letter.Octal prefix more len = detected-prefix prefix more len
+kind-prefix letter.Binary prefix more len = detected-prefix prefix more len
+
+-- the prefix, and after it the rest
+open_rest : (limit : ℕ) (format : Format) (size : ℕ) (prefix : Bytes) (old now new : DeskView) (given : Given)
+    → Passes (after_reading prefix false) old now
+    → length prefix ≡ 1024 → ReadsRest limit (kind_of format prefix) size prefix now new given
+    → ReadsOpenImage limit format size old new given
+open_rest limit format size prefix old now new given first len rest = record {
+  bytes = prefix ++ rest.bytes;
+  ended = rest.ended;
+  kept = read_next old.kept now.kept new.kept prefix rest.bytes rest.ended first rest.kept;
+  whole = rest.whole;
+  gives = rest.gives ∙ ap (λ k. file_within limit k (prefix ++ rest.bytes) size)
+      (sym (kind-prefix format prefix rest.bytes len));
+}
+
+pub open_is_rest : (limit : ℕ) (format : Format) (size : ℕ) (prefix : Bytes) (old now new : DeskView)
+    (result : ImageOrFault)
+    → Passes (after_reading prefix false) old now
+    → length prefix ≡ 1024 → RestIsRead limit (kind_of format prefix) size prefix now new result
+    → OpenIsRead limit format size old new result
+open_is_rest limit format size prefix old now new (Ok good) first len rest =
+    open_rest limit format size prefix old now new (Ok good) first len rest
+open_is_rest limit format size prefix old now new (Err (Image bad)) first len rest =
+    open_rest limit format size prefix old now new (Err bad) first
+    len rest
+open_is_rest limit format size prefix old now new (Err (File Absent)) first len rest = cc rest.0
+open_is_rest limit format size prefix old now new (Err (File NotOpened)) first len rest = cc rest.0
+open_is_rest limit format size prefix old now new (Err (File NotRead)) first len rest =
+    (prefix ++ rest.1.0, read_next old.kept now.kept new.kept prefix rest.1.0 false first rest.1.1)
+open_is_rest limit format size prefix old now new (Err (File Memory)) first len rest = cc rest.0
+
+opened_image : (limit : ℕ) (format : Format) (size : ℕ) (name : Bytes) (old now new : DeskView) (given : Given)
+    → Passes (after_open name (Ok tt)) old now
+    → ReadsOpenImage limit format size now new given → ReadsImage limit format size name old new given
+opened_image limit format size name old now new given opened reads = record {
+  bytes = reads.bytes;
+  ended = reads.ended;
+  kept = opened_read name old.kept now.kept new.kept reads.bytes reads.ended opened reads.kept;
+  whole = reads.whole;
+  gives = reads.gives;
+}
+
+pub image_is_open : (limit : ℕ) (format : Format) (size : ℕ) (name : Bytes) (old now new : DeskView)
+    (result : ImageOrFault)
+    → Passes (after_open name (Ok tt)) old now
+    → OpenIsRead limit format size now new result → ImageIsRead limit format size name old new result
+image_is_open limit format size name old now new (Ok good) opened reads =
+    opened_image limit format size name old now new (Ok good) opened reads
+image_is_open limit format size name old now new (Err (Image bad)) opened reads =
+    opened_image limit format size name old now new (Err bad) opened
+    reads
+image_is_open limit format size name old now new (Err (File Absent)) opened reads = absurd reads
+image_is_open limit format size name old now new (Err (File NotOpened)) opened reads = absurd reads
+image_is_open limit format size name old now new (Err (File NotRead)) opened reads =
+    (reads.0, opened_read name old.kept now.kept new.kept reads.0 false opened reads.1)
+image_is_open limit format size name old now new (Err (File Memory)) opened reads =
+    (reads.0, reads.1, opened_read name old.kept now.kept new.kept reads.0 reads.1 opened reads.2)

@@ -1,0 +1,70 @@
+-- What the bytes of a file that came so far say of the whole.
+use Rattle.std.proofs.Common.{◌≡◌, ◌∙◌, sym, ap, refl, ℕ, [], ◌++◌, Some, None, Err, append-nil, subst}
+use Rattle.avr_image.specs.Raw as raw_file
+use Rattle.avr_desk.specs.Record.{Bytes}
+use Rattle.avr_records.proofs.Readers.Fed.{reads-sound}
+use Rattle.avr_records.specs.Closed.{closed_fault, ok_unless}
+use Rattle.avr_records.specs.Reader.{ReaderState, memory_size}
+use Rattle.avr_records.specs.declared.kind.Found.{Found}
+use Rattle.avr_records.specs.declared.kind.Kind.{Kind}
+use Rattle.avr_records.specs.declared.kind.Kind.TheVariants as records
+use Rattle.avr_records.specs.declared.fault.RecordFault.{RecordFault}
+use Rattle.avr_records.proofs.Readers.WholeFiles.{none-or}
+use Rattle.avr_plan.proofs.Files.FirstFaults.{closed_fault-more, closed_fault-whole}
+use Rattle.avr_plan.specs.ImageFile.{whole_file, long_file, of_records, or_too_long}
+use Rattle.avr_plan.specs.Intake.{Decides, TakesRecords, TakesRaw, found_as, in_long_file}
+use Rattle.avr_plan.specs.declared.intake.BadFile.{BadFile}
+use Rattle.avr_plan.specs.declared.intake.BadFile.TheVariants.{Record, TooLong}
+
+decides-record : (kind : Kind) (size : ℕ) (fault : RecordFault) (text : Bytes)
+    → closed_fault kind text size ≡ Some fault
+    → Decides (found_as kind) size (Record fault) text
+decides-record records.Ihex size fault text is = record {
+  whole = λ more. ap of_records (closed_fault-whole records.Ihex text more size fault is);
+  long = λ more. ap or_too_long (closed_fault-more records.Ihex text more size fault is);
+}
+decides-record records.Srec size fault text is = record {
+  whole = λ more. ap of_records (closed_fault-whole records.Srec text more size fault is);
+  long = λ more. ap or_too_long (closed_fault-more records.Srec text more size fault is);
+}
+
+-- a line is at fault
+pub record-decides : (found : Found) (size : ℕ) (reader : ReaderState) (fault : RecordFault) (text piece : Bytes)
+    → TakesRecords found size reader text
+    → Err fault ≡ ok_unless (closed_fault reader.kind (text ++ piece) (memory_size reader))
+    → Decides found size (Record fault) (text ++ piece)
+record-decides found size reader fault text piece takes is =
+    let own : closed_fault reader.kind (text ++ piece) size ≡ Some fault =
+    ap (closed_fault reader.kind (text ++ piece)) (sym takes.of_size)
+    ∙ none-or (closed_fault reader.kind (text ++ piece) (memory_size reader))
+    fault is in
+    subst (λ f. Decides f size (Record fault) (text ++ piece)) (sym takes.of_kind)
+    (decides-record reader.kind size fault (text ++ piece) own)
+
+pub decided-whole : (found : Found) (size : ℕ) (fault : BadFile) (text : Bytes) → Decides found size fault text
+    → Err fault ≡ whole_file found text size
+decided-whole found size fault text d = sym (ap (λ t. whole_file found t size) (sym (append-nil text)) ∙ d.whole [])
+
+pub decided-long : (found : Found) (size : ℕ) (fault : BadFile) (text : Bytes) → Decides found size fault text
+    → in_long_file fault ≡ long_file found text size
+decided-long found size fault text d = sym (ap (λ t. long_file found t size) (sym (append-nil text)) ∙ d.long [])
+
+sound-long : (kind : Kind) (size : ℕ) (text : Bytes) → closed_fault kind text size ≡ None
+    → TooLong ≡ long_file (found_as kind) text size
+sound-long records.Ihex size text none = ap or_too_long (sym none)
+sound-long records.Srec size text none = ap or_too_long (sym none)
+
+-- no line is at fault
+pub records-long : (found : Found) (size : ℕ) (reader : ReaderState) (text : Bytes)
+    → TakesRecords found size reader text
+    → TooLong ≡ long_file found text size
+records-long found size reader text takes =
+    let none : closed_fault reader.kind text size ≡ None =
+    ap (closed_fault reader.kind text) (sym takes.of_size)
+    ∙ reads-sound reader.kind reader.progress reader.part text takes.stands.reads in
+    subst (λ f. TooLong ≡ long_file f text size) (sym takes.of_kind) (sound-long reader.kind size text none)
+
+pub raw-too-long : (found : Found) (size : ℕ) (reader : raw_file.Holding) (text : Bytes)
+    → TakesRaw found size reader text
+    → TooLong ≡ long_file found text size
+raw-too-long found size reader text takes = subst (λ f. TooLong ≡ long_file f text size) (sym takes.of_kind) refl

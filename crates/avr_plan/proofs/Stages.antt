@@ -1,0 +1,8 @@
+-- Planning, stage by stage.
+pub mod Images
+pub mod Parts
+pub mod Values
+pub mod Tasks
+pub mod Plans
+pub mod OnlyReading
+pub mod FilesRead

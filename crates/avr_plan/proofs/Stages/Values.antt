@@ -1,0 +1,43 @@
+-- The image of values.
+use Rattle.std.proofs.Common.{◌≡◌, sym, ap, ℕ, List, Option, Ok, Err, inl, inr, subst}
+use Rattle.avr_cli.specs.declared.settings.Switches.{Switches}
+use Rattle.avr_cli.specs.declared.update.Format.TheVariants.{Immediate}
+use Rattle.avr_desk.specs.Record.{DeskView, Bytes}
+use Rattle.avr_image.specs.Fault.{OrMemory}
+use Rattle.avr_image.specs.Values.{values}
+use Rattle.avr_image.specs.declared.fault.ImageFault.{ImageFault}
+use Rattle.avr_image.specs.declared.fault.ImageFault.TheVariants.{Memory}
+use Rattle.avr_desk.specs.Said.{Tells}
+use Rattle.avr_part.specs.declared.part.Mem.{Mem}
+use Rattle.avr_desk.proofs.Stages.Played.{went_settled, goes_unsettled, goes_without_memory}
+use Rattle.avr_plan.specs.Lines.{values_line}
+use Rattle.avr_plan.specs.Planning.{image_stage, values_or_line}
+use Rattle.avr_desk.specs.Playing.{Goes, Went}
+use Rattle.avr_desk.specs.Stage.{Made, verdict_stage}
+
+abbrev Image : Type 0
+Image = List (Option ℕ)
+
+pub given_values : (text : Bytes) (size : ℕ) (image : Image) → OrMemory (Ok image) (values text size)
+    → Ok image ≡ values text size
+given_values text size image (inl is) = is
+given_values text size image (inr memory) = cc
+
+pub went_values : (switches : Switches) (memory : Mem) (size : ℕ) (text : Bytes) (d : DeskView) (image : Image)
+    → OrMemory (Ok image) (values text size)
+    → Went (image_stage switches memory size text Immediate) d d (Made image)
+went_values switches memory size text d image gives =
+    went_settled (values_or_line memory (values text size)) image d
+    (ap (values_or_line memory) (sym (given_values text size image gives)))
+
+pub goes_bad_values : (switches : Switches) (memory : Mem) (size : ℕ) (text : Bytes) (old new : DeskView) (status : ℕ)
+    (fault : ImageFault)
+    → OrMemory (Err fault) (values text size) → status ≡ 1 → Tells old new (values_line memory fault)
+    → Goes (image_stage switches memory size text Immediate) old new (Err status)
+goes_bad_values switches memory size text old new status fault (inl is) one told =
+    goes_unsettled (values_or_line memory (values text size)) (values_line memory fault) old new status
+    (ap (values_or_line memory) (sym is)) one told
+goes_bad_values switches memory size text old new status fault (inr refused) one told =
+    let same : fault ≡ Memory = cc in
+    goes_without_memory (verdict_stage (values_or_line memory (values text size))) old new status one
+    (subst (λ f. Tells old new (values_line memory f)) same told)

@@ -1,0 +1,8 @@
+-- What a reader holds of the lines that it was fed, and which fault comes first.
+pub mod LaterLines
+pub mod Held
+pub mod Fed
+pub mod Extents
+pub mod NeededSize
+pub mod WholeFiles
+pub mod FirstBytes

@@ -1,0 +1,45 @@
+-- What the first bytes of a file show.
+use Rattle.std.proofs.Common.{◌≡◌, ◌∙◌, ap, refl, arith, ℕ, zero, suc, ◌+◌, ◌≤◌, ◌<◌, List, [], ◌∷◌, ◌++◌, length, take, Bool, true, false, nat_le, not, find, Some, inl, inr}
+use Rattle.std.proofs.lemmas.Bool.{cases_Bool}
+use Rattle.std.proofs.lemmas.Bool.Decides.{nat_tests}
+use Rattle.std.proofs.lemmas.List.{length-append}
+use Rattle.std.proofs.lemmas.List.Sums.{prefix_len-le-length}
+use Rattle.std.specs.List.{list_all, prefix_len}
+use Rattle.avr_records.proofs.Readers.Fed.{line-first}
+use Rattle.avr_records.specs.Detect.{kind_of_line}
+use Rattle.avr_records.specs.Lines.{lines, is_blank}
+use Rattle.avr_records.specs.declared.kind.Found.{Found}
+use Rattle.avr_records.specs.declared.kind.Found.TheVariants.{Raw}
+
+le-both : (n a : ℕ) → nat_le n a ≡ nat_le (suc n) (1 + a)
+le-both n a = grind (arith, nat_tests)
+
+not-le-zero : (n : ℕ) → false ≡ nat_le (suc n) 0
+not-le-zero n = grind (arith, nat_tests)
+
+pub too-few : (p : ℕ → Bool) (n : ℕ) (xs : List ℕ) → length xs < n → false ≡ nat_le n (prefix_len p xs)
+too-few p n xs len = let bound = prefix_len-le-length p xs in grind (arith, nat_tests, len, bound)
+
+-- the first n elements pass where at least n in front do
+pub all_of_prefix : (p : ℕ → Bool) (n : ℕ) (xs : List ℕ) → n ≤ length xs
+    → list_all p (take n xs) ≡ nat_le n (prefix_len p xs)
+all_of_prefix p zero xs len = grind (arith, nat_tests)
+all_of_prefix p (suc n) [] len = absurd (omega (arith, len))
+all_of_prefix p (suc n) (x ∷ xs) len =
+    let rest = all_of_prefix p n xs (omega (arith, len)) in
+    elim (cases_Bool (p x)) [
+      | inl t ↦ rw t (rest ∙ le-both n (prefix_len p xs))
+      | inr f ↦ rw f (not-le-zero n)
+    ]
+
+-- what the first line of a text shows that isn't blank
+abbrev pub first_of : List ℕ → Found
+first_of text = kind_of_line (find (λ line. not (list_all is_blank line)) (lines text))
+
+pub blank-first : (text line more : List ℕ) → lines line ≡ line ∷ [] → text ≡ line ++ 10 ∷ more
+    → list_all is_blank line ≡ true → first_of text ≡ first_of more
+blank-first text line more one cut blank = rw (cut, line-first line more one, blank) refl
+
+pub shown-first : (text line more : List ℕ) → lines line ≡ line ∷ [] → text ≡ line ++ 10 ∷ more
+    → list_all is_blank line ≡ false → first_of text ≡ kind_of_line (Some line)
+shown-first text line more one cut blank = rw (cut, line-first line more one, blank) refl

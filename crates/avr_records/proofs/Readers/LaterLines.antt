@@ -1,0 +1,118 @@
+-- How lines that follow change what the lines before them say.
+use Rattle.std.proofs.Common.{◌≡◌, ◌∙◌, sym, ap, refl, arith, ℕ, ◌+◌, List, [], ◌∷◌, ◌++◌, length, Bool, true, false, Option, Some, None, inl, inr}
+use Rattle.std.proofs.lemmas.Bool.{cases_Bool}
+use Rattle.std.proofs.lemmas.List.Splits.{slice_split-cons_yes, slice_split-cons_no}
+use Rattle.std.specs.List.{list_any, slice_split, onto_first}
+use Rattle.avr_records.specs.Reading.{Said, is_end, up_to_end, in_place, first_fault, fault_in, or_later}
+use Rattle.avr_records.specs.declared.fault.LineFault.{LineFault}
+use Rattle.avr_records.specs.declared.fault.RecordFault.{RecordFault}
+
+pub append-nil : {A : Type 0} (xs : List A) → xs ++ [] ≡ xs
+append-nil [] = refl
+append-nil {A} (x ∷ xs) = ap (λ (zs : List A). x ∷ zs) (append-nil xs)
+
+pub append-assoc : {A : Type 0} (xs ys zs : List A) → (xs ++ ys) ++ zs ≡ xs ++ (ys ++ zs)
+append-assoc [] ys zs = refl
+append-assoc {A} (x ∷ xs) ys zs = ap (λ (us : List A). x ∷ us) (append-assoc xs ys zs)
+
+pub in_place-append : (before xs ys : List Said)
+    → in_place before (xs ++ ys) ≡ in_place before xs ++ in_place (before ++ xs) ys
+in_place-append before [] ys = ap (λ (b : List Said). in_place b ys) (sym (append-nil before))
+in_place-append before (x ∷ xs) ys =
+    ap (λ (ps : List (List Said × Said)). (before, x) ∷ ps)
+    (in_place-append (before ++ x ∷ []) xs ys
+    ∙ ap (λ (b : List Said). in_place (before ++ x ∷ []) xs ++ in_place b ys) (append-assoc before (x ∷ []) xs))
+
+pub or_later-none : (n : ℕ) (fault : Option LineFault) (later : Option RecordFault) → or_later n fault later ≡ None
+    → (fault ≡ None) × (later ≡ None)
+or_later-none n None later e = (refl, e)
+or_later-none n (Some f) later e = absurd (grind (arith, e))
+
+pub first_fault-append : (size : ℕ) (ps qs : List (List Said × Said)) → first_fault size ps ≡ None
+    → first_fault size (ps ++ qs) ≡ first_fault size qs
+first_fault-append size [] qs none = refl
+first_fault-append size (p ∷ ps) qs none =
+    let parts = or_later-none (length p.0 + 1) (fault_in size p) (first_fault size ps) none in
+    rw parts.0 (first_fault-append size ps qs parts.1)
+
+pub up_to_end-open : (xs ys : List Said) → list_any is_end xs ≡ false → up_to_end (xs ++ ys) ≡ xs ++ up_to_end ys
+up_to_end-open [] ys none = refl
+up_to_end-open (x ∷ xs) ys none =
+    elim (cases_Bool (is_end x)) [
+      | inl t ↦ absurd (grind (arith, t, none))
+      | inr f ↦
+          let more : list_any is_end xs ≡ false = rw f at none in
+          rw f (ap (λ (zs : List Said). x ∷ zs) (up_to_end-open xs ys more))
+    ]
+
+pub up_to_end-done : (xs ys : List Said) → list_any is_end xs ≡ true → up_to_end (xs ++ ys) ≡ up_to_end xs
+up_to_end-done [] ys some = absurd (grind (arith, some))
+up_to_end-done (x ∷ xs) ys some =
+    elim (cases_Bool (is_end x)) [
+      | inl t ↦ rw t refl
+      | inr f ↦
+          let more : list_any is_end xs ≡ true = rw f at some in
+          rw f (ap (λ (zs : List Said). x ∷ zs) (up_to_end-done xs ys more))
+    ]
+
+pub parts-some : (p : ℕ → Bool) (xs : List ℕ)
+    → (first : List ℕ) × (more : List (List ℕ)) × (slice_split p xs ≡ first ∷ more)
+parts-some p [] = ([], [], refl)
+parts-some p (x ∷ xs) =
+    elim (cases_Bool (p x)) [
+      | inl t ↦ ([], slice_split p xs, slice_split-cons_yes p x xs t)
+      | inr f ↦ let rest = parts-some p xs in (
+        x ∷ rest.0,
+        rest.1,
+        slice_split-cons_no p x xs f ∙ ap (onto_first x) rest.2,
+      )
+    ]
+
+-- parts of a text, and the parts of what follows it: the last one goes on with the first one after it
+abbrev pub pasted : List (List ℕ) → List (List ℕ) → List (List ℕ)
+pasted [] more = more
+pasted (part ∷ []) [] = part ∷ []
+pasted (part ∷ []) (first ∷ more) = (part ++ first) ∷ more
+pasted (part ∷ next ∷ parts) more = part ∷ pasted (next ∷ parts) more
+
+pub onto-pasted : (x : ℕ) (part : List ℕ) (parts more : List (List ℕ))
+    → onto_first x (pasted (part ∷ parts) more) ≡ pasted (onto_first x (part ∷ parts)) more
+onto-pasted x part [] [] = refl
+onto-pasted x part [] (first ∷ more) = refl
+onto-pasted x part (next ∷ parts) more = refl
+
+pub nil-pasted : (parts more : List (List ℕ)) (first : List ℕ) (rest : List (List ℕ)) → parts ≡ first ∷ rest
+    → pasted ([] ∷ parts) more ≡ [] ∷ pasted parts more
+nil-pasted [] more first rest e = absurd (grind (arith, e))
+nil-pasted (part ∷ parts) more first rest e = refl
+
+pub pasted-nil : (more : List (List ℕ)) (first : List ℕ) (rest : List (List ℕ)) → more ≡ first ∷ rest
+    → pasted ([] ∷ []) more ≡ more
+pasted-nil [] first rest e = absurd (grind (arith, e))
+pasted-nil (m ∷ more) first rest e = refl
+
+-- the lines of a text and what follows it
+pub slice_split-append : (p : ℕ → Bool) (xs ys : List ℕ)
+    → slice_split p (xs ++ ys) ≡ pasted (slice_split p xs) (slice_split p ys)
+slice_split-append p [] ys = let some = parts-some p ys in sym (pasted-nil (slice_split p ys) some.0 some.1 some.2)
+slice_split-append p (x ∷ xs) ys =
+    let some = parts-some p xs in
+    elim (cases_Bool (p x)) [
+      | inl t ↦
+          slice_split-cons_yes p x (xs ++ ys) t
+          ∙ ap (λ (zs : List (List ℕ)). [] ∷ zs) (slice_split-append p xs ys)
+          ∙ sym (nil-pasted (slice_split p xs) (slice_split p ys) some.0 some.1 some.2)
+          ∙ ap (λ (zs : List (List ℕ)). pasted zs (slice_split p ys)) (sym (slice_split-cons_yes p x xs t))
+      | inr f ↦
+          slice_split-cons_no p x (xs ++ ys) f
+          ∙ ap (onto_first x) (slice_split-append p xs ys)
+          ∙ rw some.2 (onto-pasted x some.0 some.1 (slice_split p ys))
+          ∙ ap (λ (zs : List (List ℕ)). pasted zs (slice_split p ys)) (sym (slice_split-cons_no p x xs f))
+    ]
+
+pub pasted-last : (prefix : List (List ℕ)) (last first : List ℕ) (more : List (List ℕ))
+    → pasted (prefix ++ last ∷ []) (first ∷ more) ≡ prefix ++ (last ++ first) ∷ more
+pasted-last [] last first more = refl
+pasted-last (part ∷ []) last first more = refl
+pasted-last (part ∷ next ∷ prefix) last first more =
+    ap (λ (zs : List (List ℕ)). part ∷ zs) (pasted-last (next ∷ prefix) last first more)

@@ -1,0 +1,73 @@
+-- A fault of the closed lines is that of the whole file.
+use Rattle.std.proofs.Common.{◌≡◌, ◌∙◌, sym, ap, refl, ℕ, ◌+◌, List, [], ◌∷◌, ◌++◌, length, map, Option, Some, None, Err, inl, inr}
+use Rattle.std.specs.List.{list_any}
+use Rattle.std.proofs.lemmas.Bool.{cases_Bool}
+use Rattle.std.proofs.lemmas.List.{append-nil, map-append}
+use Rattle.avr_records.specs.Lines.{lines, is_line_end}
+use Rattle.avr_records.specs.Reading.{Said, is_end, up_to_end, in_place, first_fault, fault_in, or_later, said_by_line, image_in_text}
+use Rattle.avr_records.specs.Closed.{all_but_last, fault_among, closed_fault, ok_unless}
+use Rattle.avr_records.specs.Reader.{ReaderState, StandsFor, IsNewReader, memory_size}
+use Rattle.avr_records.specs.declared.kind.Kind.{Kind}
+use Rattle.avr_records.specs.declared.fault.LineFault.{LineFault}
+use Rattle.avr_records.specs.declared.fault.RecordFault.{RecordFault}
+use Rattle.avr_records.proofs.Readers.Fed.{but_last}
+use Rattle.avr_records.proofs.Readers.LaterLines.{in_place-append, up_to_end-open, up_to_end-done, parts-some}
+
+later-stands : (n : ℕ) (fault : Option LineFault) (first more : Option RecordFault) (told : RecordFault)
+    → (first ≡ Some told → more ≡ Some told) → or_later n fault first ≡ Some told → or_later n fault more ≡ Some told
+later-stands n (Some f) first more told on is = is
+later-stands n None first more told on is = on is
+
+first_fault-stands : (size : ℕ) (ps qs : List (List Said × Said)) (told : RecordFault) → first_fault size ps ≡ Some told
+    → first_fault size (ps ++ qs) ≡ Some told
+first_fault-stands size [] qs told is = absurd (cc is)
+first_fault-stands size (p ∷ ps) qs told is =
+    later-stands (length p.0 + 1) (fault_in size p) (first_fault size ps) (first_fault size (ps ++ qs)) told
+    (first_fault-stands size ps qs told) is
+
+-- lines after a fault change nothing
+pub among-stands : (size : ℕ) (said more : List Said) (told : RecordFault) → fault_among size said ≡ Some told
+    → fault_among size (said ++ more) ≡ Some told
+among-stands size said more told is = elim (cases_Bool (list_any is_end said)) [
+  | inl done ↦ ap (λ (zs : List Said). first_fault size (in_place [] zs)) (up_to_end-done said more done) ∙ is
+  | inr on ↦
+      let alone : up_to_end said ≡ said = ap up_to_end (sym (append-nil said)) ∙ up_to_end-open said [] on
+      ∙ append-nil said in
+      let prefix : first_fault size (in_place [] said) ≡ Some told =
+      ap (λ (zs : List Said). first_fault size (in_place [] zs)) (sym alone) ∙ is in
+      ap (λ (zs : List Said). first_fault size (in_place [] zs)) (up_to_end-open said more on)
+      ∙ ap (first_fault size) (in_place-append [] said (up_to_end more))
+      ∙ first_fault-stands size (in_place [] said) (in_place said (up_to_end more)) told prefix
+]
+
+pub closed-told : (kind : Kind) (size : ℕ) (text : List ℕ) (told : RecordFault)
+    → closed_fault kind text size ≡ Some told → image_in_text kind text size ≡ Err told
+closed-told kind size text told is =
+    let some = parts-some is_line_end text in
+    let cut = but_last some.0 some.1 in
+    let closed : List (List ℕ) = all_but_last (lines text) in
+    let same : lines text ≡ closed ++ cut.0 ∷ [] =
+    some.2 ∙ cut.1 ∙ ap (λ (ls : List (List ℕ)). all_but_last ls ++ cut.0 ∷ []) (sym some.2) in
+    let said : map (said_by_line kind) (lines text) ≡ map (said_by_line kind) closed ++ said_by_line kind cut.0 ∷ [] =
+    ap (map (said_by_line kind)) same ∙ map-append (said_by_line kind) closed (cut.0 ∷ []) in
+    let whole : fault_among size (map (said_by_line kind) (lines text)) ≡ Some told =
+    ap (fault_among size) said ∙ among-stands size (map (said_by_line kind) closed) (said_by_line kind cut.0 ∷ []) told
+    is in
+    rw whole refl
+
+pub none-or : (fault : Option RecordFault) (told : RecordFault) → Err told ≡ ok_unless fault → fault ≡ Some told
+none-or None told is = absurd (cc is)
+none-or (Some f) told is = let same : told ≡ f = cc is in ap (λ (x : RecordFault). Some x) (sym same)
+
+-- the fault that a new reader answers for a whole file
+pub new-told : (kind : Kind) (size : ℕ) (s : ReaderState) (text : List ℕ) (told : RecordFault) → IsNewReader kind size s
+    → ((before : List ℕ) → StandsFor s before
+    → Err told ≡ ok_unless (closed_fault s.kind (before ++ text) (memory_size s)))
+    → Err told ≡ image_in_text kind text size
+new-told kind size s text told new is =
+    let of_s : closed_fault s.kind text (memory_size s) ≡ Some told =
+    none-or (closed_fault s.kind text (memory_size s)) told (is [] new.nothing_fed) in
+    let kind_is : s.kind ≡ kind = new.of_kind in
+    let size_is : memory_size s ≡ size = new.of_size in
+    sym (closed-told kind size text told
+    (ap (λ (k : Kind). closed_fault k text size) (sym kind_is) ∙ ap (closed_fault s.kind text) (sym size_is) ∙ of_s))

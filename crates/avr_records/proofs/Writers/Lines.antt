@@ -1,0 +1,138 @@
+-- How a written line reads.
+use Rattle.std.proofs.Common.{◌≡◌, ◌∙◌, sym, ap, refl, arith, ℕ, ◌+◌, ◌-◌, ◌≤◌, nat_lt, Bool, true, false, not, ◌&&◌, List, [], ◌∷◌, ◌++◌, length, take, get_or, fold, inl, inr, Ok, Err}
+use Rattle.std.specs.Prelude.{if◌then◌else◌}
+use Rattle.std.specs.List.{list_all, onto_first, suffix_len}
+use Rattle.std.proofs.lemmas.Bool.{cases_eq, and_parts}
+use Rattle.std.proofs.lemmas.Bool.Decides.{nat_tests}
+use Rattle.std.proofs.lemmas.List.{take_all, take_at, append_assoc, length-append}
+use Rattle.std.proofs.lemmas.List.Splits.{slice_split-cons_no}
+use Rattle.std.proofs.lemmas.List.Sums.{list_all-from_AllPass, AllPass-from_list_all, suffix_len_is, fold-append}
+use Rattle.hex.specs.Hex.{IsBytes, is_hex_digit, decode_of, encode_upper}
+use Rattle.hex.proofs.HexLemmas.{decode_of-encode_upper, decode_of-ok}
+use Rattle.avr_records.specs.Lines.{lines, is_line_end, is_blank, trimmed_line}
+use Rattle.avr_records.specs.Text.{IsLine}
+use Rattle.avr_records.specs.Record.{bytes_of_digits, decoded_bytes, longest, unless_long}
+use Rattle.avr_records.specs.Line.{bare_record}
+use Rattle.avr_records.specs.Reading.{said_by_line, bare_says, record_meaning}
+use Rattle.avr_records.specs.declared.kind.Kind.{Kind}
+use Rattle.avr_records.specs.declared.kind.Kind.TheVariants.{Ihex, Srec}
+use Rattle.avr_records.specs.declared.fault.LineFault.TheVariants.{Digit, TooLong}
+
+-- neither a line end nor a blank
+abbrev pub is_plain : ℕ → Bool
+is_plain c = not (is_line_end c) && not (is_blank c)
+
+plain-digit : (c : ℕ) → is_hex_digit c ≡ true → is_plain c ≡ true
+plain-digit c digit =
+    elim (cases_eq c 10) [
+      | inl is ↦ let no : false ≡ true = rw is at digit in absurd (cc no)
+      | inr line_end ↦
+          elim (cases_eq c 32) [
+            | inl is ↦ let no : false ≡ true = rw is at digit in absurd (cc no)
+            | inr space ↦
+                elim (cases_eq c 9) [
+                  | inl is ↦ let no : false ≡ true = rw is at digit in absurd (cc no)
+                  | inr tab ↦
+                      elim (cases_eq c 13) [
+                        | inl is ↦ let no : false ≡ true = rw is at digit in absurd (cc no)
+                        | inr return ↦ grind (arith, nat_tests, line_end, space, tab, return)
+                      ]
+                ]
+          ]
+    ]
+
+pub plain-digits : (cs : List ℕ) → list_all is_hex_digit cs ≡ true → list_all is_plain cs ≡ true
+plain-digits [] all = refl
+plain-digits (c ∷ cs) all =
+    let parts = and_parts (is_hex_digit c) (list_all is_hex_digit cs) all in
+    rw (plain-digit c parts.0) (plain-digits cs parts.1)
+
+pub encode-digits : (bytes : List ℕ) → IsBytes bytes → list_all is_hex_digit (encode_upper bytes) ≡ true
+encode-digits bytes all =
+    list_all-from_AllPass is_hex_digit (encode_upper bytes)
+    (decode_of-ok (encode_upper bytes) bytes (decode_of-encode_upper bytes all)).1
+
+-- the digits of bytes read as those bytes
+pub bytes_of-encode : (bytes : List ℕ) → IsBytes bytes → bytes_of_digits (encode_upper bytes) ≡ Ok bytes
+bytes_of-encode bytes all =
+    ap (λ (digits : Bool). if not digits then Err Digit else decoded_bytes (decode_of (encode_upper bytes)))
+    (encode-digits bytes all)
+    ∙ ap decoded_bytes (decode_of-encode_upper bytes all)
+
+not-blank : (c : ℕ) → is_plain c ≡ true → is_blank c ≡ false
+not-blank c plain = grind (arith, (and_parts (not (is_line_end c)) (not (is_blank c)) plain).1)
+
+-- nothing is trimmed from a line without blanks
+trimmed-plain : (line : List ℕ) → list_all is_plain line ≡ true → trimmed_line line ≡ line
+trimmed-plain line plain =
+    let all = AllPass-from_list_all is_plain line plain in
+    let none : suffix_len is_blank line ≡ length line - length line =
+    suffix_len_is is_blank line (length line) 0 (omega arith) (λ k from below. absurd (omega arith))
+    (λ some. not-blank (get_or line (length line - 1) 0) (all (length line - 1) 0 (omega arith))) in
+    take_all (length line - suffix_len is_blank line) line (omega (arith, none))
+
+says-bare : (kind : Kind) (line : List ℕ) → said_by_line kind line ≡ unless_long (bare_says kind) line
+says-bare Ihex line = refl
+says-bare Srec line = refl
+
+-- a line that isn't too long says what its record means
+pub says-plain : (kind : Kind) (c : ℕ) (cs : List ℕ) → list_all is_plain (c ∷ cs) ≡ true
+    → length (c ∷ cs) ≤ 600 → said_by_line kind (c ∷ cs) ≡ record_meaning kind (bare_record kind (c ∷ cs))
+says-plain kind c cs plain short =
+    let bare : said_by_line kind (c ∷ cs) ≡ unless_long (bare_says kind) (c ∷ cs) = says-bare kind (c ∷ cs) in
+    let test : nat_lt longest (length (c ∷ cs)) ≡ false = grind (arith, nat_tests) in
+    bare
+    ∙ ap (λ (long : Bool). if long then Err TooLong else bare_says kind (trimmed_line (c ∷ cs))) test
+    ∙ ap (bare_says kind) (trimmed-plain (c ∷ cs) plain)
+
+-- a written line is the first of the lines
+pub lines-plain : (line rest : List ℕ) → list_all is_plain line ≡ true → lines (line ++ 10 ∷ rest) ≡ line ∷ lines rest
+lines-plain [] rest plain = refl
+lines-plain (c ∷ cs) rest plain =
+    let parts = and_parts (is_plain c) (list_all is_plain cs) plain in
+    let goes_on : is_line_end c ≡ false = grind (arith, parts.0) in
+    slice_split-cons_no is_line_end c (cs ++ 10 ∷ rest) goes_on ∙ ap (onto_first c) (lines-plain cs rest parts.1)
+
+pub lines-written : (line rest : List ℕ) → list_all is_plain line ≡ true
+    → lines ((line ++ 10 ∷ []) ++ rest) ≡ line ∷ lines rest
+lines-written line rest plain = ap lines (append_assoc line (10 ∷ []) rest) ∙ lines-plain line rest plain
+
+-- ---- a record is one line
+
+open-lines : (line : List ℕ) → list_all (λ c. not (is_line_end c)) line ≡ true
+    → lines (line ++ 10 ∷ []) ≡ line ∷ [] ∷ []
+open-lines [] all = refl
+open-lines (c ∷ cs) all =
+    let parts = and_parts (not (is_line_end c)) (list_all (λ c. not (is_line_end c)) cs) all in
+    let goes_on : is_line_end c ≡ false = grind (arith, parts.0) in
+    slice_split-cons_no is_line_end c (cs ++ 10 ∷ []) goes_on ∙ ap (onto_first c) (open-lines cs parts.1)
+
+open-plain : (cs : List ℕ) → list_all is_plain cs ≡ true → list_all (λ c. not (is_line_end c)) cs ≡ true
+open-plain [] all = refl
+open-plain (c ∷ cs) all =
+    let parts = and_parts (is_plain c) (list_all is_plain cs) all in
+    rw (and_parts (not (is_line_end c)) (not (is_blank c)) parts.0).0 (open-plain cs parts.1)
+
+open-append : (prefix back : List ℕ) → list_all (λ c. not (is_line_end c)) prefix ≡ true
+    → list_all (λ c. not (is_line_end c)) back ≡ true
+    → list_all (λ c. not (is_line_end c)) (prefix ++ back) ≡ true
+open-append [] back all more = more
+open-append (c ∷ cs) back all more =
+    let parts = and_parts (not (is_line_end c)) (list_all (λ c. not (is_line_end c)) cs) all in
+    rw parts.0 (open-append cs back parts.1 more)
+
+pub is-line : (marks bytes text : List ℕ) → list_all (λ c. not (is_line_end c)) marks ≡ true → IsBytes bytes
+    → text ≡ (marks ++ encode_upper bytes) ++ 10 ∷ [] → IsLine text
+is-line marks bytes text plain all is =
+    let line : List ℕ = marks ++ encode_upper bytes in
+    let whole : lines (line ++ 10 ∷ []) ≡ line ∷ [] ∷ [] =
+    open-lines line (open-append marks (encode_upper bytes) plain
+    (open-plain (encode_upper bytes) (plain-digits (encode_upper bytes) (encode-digits bytes all)))) in
+    let prefix : take (length (line ++ 10 ∷ []) - 1) (line ++ 10 ∷ []) ≡ line =
+    ap (λ (n : ℕ). take n (line ++ 10 ∷ [])) (omega (arith, length-append line (10 ∷ [])))
+    ∙ take_at line (10 ∷ []) (length line) refl in
+    rw is (whole ∙ ap (λ (first : List ℕ). first ∷ [] ∷ []) (sym prefix))
+
+-- the sum with one more byte
+pub sum-push : (xs : List ℕ) (n x : ℕ) → fold (λ (a b : ℕ). a + b) n (xs ++ x ∷ []) ≡ fold (λ (a b : ℕ). a + b) n xs + x
+sum-push xs n x = fold-append (λ (a b : ℕ). a + b) n xs (x ∷ [])

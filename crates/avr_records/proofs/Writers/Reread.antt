@@ -1,0 +1,204 @@
+-- Lines of data records that follow on each other, and the image that they make.
+use Rattle.std.proofs.Common.{◌≡◌, ◌∙◌, sym, ap, refl, arith, ℕ, ◌+◌, ◌-◌, ◌*◌, ◌≤◌, nat_lt, Bool, true, List, [], ◌∷◌, ◌++◌, length, map, drop, replicate, fold, Option, Some, None, Ok, Err, inl, inr, add-zero}
+use Rattle.std.specs.Prelude.{option_map, if◌then◌else◌}
+use Rattle.std.specs.List.{enumerate_from, flat_map, list_any}
+use Rattle.std.proofs.lemmas.Bool.{cases_Bool}
+use Rattle.std.proofs.lemmas.Bool.Decides.{nat_tests}
+use Rattle.std.proofs.lemmas.List.{append_assoc, set_at, length-append, replicate-append-replicate, drop-replicate, length-replicate}
+use Rattle.std.proofs.lemmas.List.Sums.{fold-append}
+use Rattle.avr_image.specs.Image.{empty, image_of_pairs, with_byte}
+use Rattle.avr_records.specs.Meaning.{Nothing, Data, Rebase, Counted, End}
+use Rattle.avr_records.specs.Reading.{Said, is_end, up_to_end, in_place, next_base, base_after, address, places, placed_bytes, beyond, fault_in, or_later, first_fault, file_ending, image_or_fault, together}
+use Rattle.avr_records.specs.RoundTrip.{image_at_base, HasAddresses}
+use Rattle.avr_records.specs.declared.kind.Base.{Base}
+use Rattle.avr_records.specs.declared.kind.Base.TheVariants.{Linear}
+use Rattle.avr_records.specs.declared.kind.Ending.{Ending}
+use Rattle.avr_records.specs.declared.kind.Ending.TheVariants.{Ended, NoEnd}
+use Rattle.avr_records.specs.declared.fault.LineFault.{LineFault}
+use Rattle.avr_records.specs.declared.fault.LineFault.TheVariants as line
+use Rattle.avr_records.specs.declared.fault.RecordFault.{RecordFault}
+
+-- ---- an image of bytes at addresses that follow on each other
+
+abbrev put : List (Option ℕ) → ℕ × ℕ → List (Option ℕ)
+put image place = with_byte image place.0 place.1
+
+laid-behind : (prefix rest : List (Option ℕ)) (addr : ℕ) (bytes : List ℕ) → length prefix ≡ addr
+    → length bytes ≤ length rest
+    → fold put (prefix ++ rest) (enumerate_from addr bytes)
+    ≡ prefix ++ (map (λ byte. Some byte) bytes ++ drop (length bytes) rest)
+laid-behind prefix rest addr [] at room = refl
+laid-behind prefix [] addr (b ∷ bs) at room = absurd (omega arith)
+laid-behind prefix (r ∷ rest) addr (b ∷ bs) at room =
+    let next : length (prefix ++ Some b ∷ []) ≡ addr + 1 = length-append prefix (Some b ∷ []) ∙ omega arith in
+    ap (λ (image : List (Option ℕ)). fold put image (enumerate_from (addr + 1) bs))
+    (set_at prefix r rest (Some b) addr at ∙ sym (append_assoc prefix (Some b ∷ []) rest))
+    ∙ laid-behind (prefix ++ Some b ∷ []) rest (addr + 1) bs next (omega arith)
+    ∙ append_assoc prefix (Some b ∷ []) (map (λ byte. Some byte) bs ++ drop (length bs) rest)
+
+pub laid-standing : (base size : ℕ) (bytes : List ℕ) → HasAddresses size base bytes
+    → image_of_pairs size (enumerate_from base bytes) ≡ image_at_base base bytes size
+laid-standing base size [] held = refl
+laid-standing base size (b ∷ bs) held =
+    let bytes : List ℕ = b ∷ bs in
+    let room : base + length bytes ≤ size = held (omega arith) in
+    let prefix : List (Option ℕ) = replicate base None in
+    let rest : List (Option ℕ) = replicate (size - base) None in
+    let whole : base + (size - base) ≡ size = omega arith in
+    let split : empty size ≡ prefix ++ rest =
+    ap (λ (n : ℕ). replicate n None) (sym whole) ∙ sym (replicate-append-replicate base (size - base) None) in
+    let width : length rest ≡ size - base = length-replicate (size - base) None in
+    let left : size - base - length bytes ≡ size - (base + length bytes) = omega arith in
+    ap (λ (image : List (Option ℕ)). fold put image (enumerate_from base bytes)) split
+    ∙ laid-behind prefix rest base bytes (length-replicate base None) (omega arith)
+    ∙ ap (λ (tail : List (Option ℕ)). prefix ++ (map (λ byte. Some byte) bytes ++ tail))
+    (drop-replicate (length bytes) (size - base) None)
+    ∙ ap (λ (n : ℕ). prefix ++ (map (λ byte. Some byte) bytes ++ replicate n None)) left
+    ∙ sym (append_assoc prefix (map (λ byte. Some byte) bytes) (replicate (size - (base + length bytes)) None))
+
+pub beyond-none : (size addr : ℕ) (bytes : List ℕ) → addr + length bytes ≤ size
+    → beyond size (enumerate_from addr bytes) ≡ None
+beyond-none size addr [] room = refl
+beyond-none size addr (b ∷ bs) room =
+    let test : nat_lt addr size ≡ true = grind (arith, nat_tests) in
+    rw test (beyond-none size (addr + 1) bs (omega arith))
+
+beyond-held : (size base : ℕ) (bytes : List ℕ) → HasAddresses size base bytes
+    → beyond size (enumerate_from base bytes) ≡ None
+beyond-held size base [] held = refl
+beyond-held size base (b ∷ bs) held = beyond-none size base (b ∷ bs) (held (omega arith))
+
+beyond-parts : (size : ℕ) (xs ys : List (ℕ × ℕ)) → beyond size (xs ++ ys) ≡ None
+    → (beyond size xs ≡ None) × (beyond size ys ≡ None)
+beyond-parts size [] ys none = (refl, none)
+beyond-parts size (p ∷ xs) ys none =
+    elim (cases_Bool (nat_lt p.0 size)) [
+      | inl t ↦ let more : beyond size (xs ++ ys) ≡ None = rw t at none in rw t (beyond-parts size xs ys more)
+      | inr f ↦ let no : Some p.0 ≡ None = rw f at none in absurd (cc no)
+    ]
+
+-- ---- lines, one after the other
+
+-- the bytes of a line where this base is in force
+abbrev pub under : Base → Said → List (ℕ × ℕ)
+under base (Ok (Data offset bytes)) = places base offset bytes
+under base said = []
+
+-- the bytes of lines, from a base on
+abbrev pub threaded : Base → List Said → List (ℕ × ℕ)
+threaded base [] = []
+threaded base (said ∷ more) = under base said ++ threaded (next_base base said) more
+
+placed-under : (before : List Said) (said : Said) → placed_bytes (before, said) ≡ under (base_after before) said
+placed-under before (Err fault) = refl
+placed-under before (Ok Nothing) = refl
+placed-under before (Ok (Data offset bytes)) = refl
+placed-under before (Ok (Rebase base)) = refl
+placed-under before (Ok (Counted n)) = refl
+placed-under before (Ok End) = refl
+
+placed-threaded : (before said : List Said)
+    → flat_map placed_bytes (in_place before said) ≡ threaded (base_after before) said
+placed-threaded before [] = refl
+placed-threaded before (s ∷ more) =
+    ap (λ (prefix : List (ℕ × ℕ)). prefix ++ flat_map placed_bytes (in_place (before ++ s ∷ []) more))
+    (placed-under before s)
+    ∙ ap (λ (back : List (ℕ × ℕ)). under (base_after before) s ++ back) (placed-threaded (before ++ s ∷ []) more)
+    ∙ ap (λ (base : Base). under (base_after before) s ++ threaded base more)
+    (fold-append next_base (Linear 0) before (s ∷ []))
+
+-- a line that is no fault, no count and no end
+abbrev pub GoesOn : Said → Type 0
+GoesOn (Err fault) = ⊥
+GoesOn (Ok (Counted n)) = ⊥
+GoesOn (Ok End) = ⊥
+GoesOn (Ok Nothing) = Unit {0}
+GoesOn (Ok (Data offset bytes)) = Unit {0}
+GoesOn (Ok (Rebase base)) = Unit {0}
+
+abbrev pub AllGoOn : List Said → Type 0
+AllGoOn [] = Unit {0}
+AllGoOn (s ∷ more) = GoesOn s × AllGoOn more
+
+-- the lines and the end record after them
+abbrev pub then_end : List Said → List Said
+then_end prefix = prefix ++ Ok End ∷ []
+
+pub stops : (prefix more : List Said) → AllGoOn prefix → up_to_end (prefix ++ Ok End ∷ more) ≡ then_end prefix
+stops [] more on = refl
+stops (Err fault ∷ prefix) more on = absurd on.0
+stops (Ok (Counted n) ∷ prefix) more on = absurd on.0
+stops (Ok End ∷ prefix) more on = absurd on.0
+stops (Ok Nothing ∷ prefix) more on = ap (λ (zs : List Said). Ok Nothing ∷ zs) (stops prefix more on.1)
+stops (Ok (Data offset bytes) ∷ prefix) more on =
+    ap (λ (zs : List Said). Ok (Data offset bytes) ∷ zs) (stops prefix more on.1)
+stops (Ok (Rebase base) ∷ prefix) more on = ap (λ (zs : List Said). Ok (Rebase base) ∷ zs) (stops prefix more on.1)
+
+has_end : (prefix more : List Said) → list_any is_end (prefix ++ Ok End ∷ more) ≡ true
+has_end [] more = refl
+has_end (s ∷ prefix) more =
+    elim (cases_Bool (is_end s)) [ inl t ↦ rw t refl | inr f ↦ rw f (has_end prefix more) ]
+
+pub ended : (prefix more : List Said) → file_ending (prefix ++ Ok End ∷ more) ≡ Ended
+ended prefix more = ap (λ (b : Bool). if b then Ended else NoEnd) (has_end prefix more)
+
+fault-none : (size : ℕ) (before : List Said) (s : Said) → GoesOn s → beyond size (placed_bytes (before, s)) ≡ None
+    → fault_in size (before, s) ≡ None
+fault-none size before (Err fault) on inside = absurd on
+fault-none size before (Ok (Counted n)) on inside = absurd on
+fault-none size before (Ok End) on inside = absurd on
+fault-none size before (Ok Nothing) on inside = refl
+fault-none size before (Ok (Data offset bytes)) on inside = ap (option_map line.Range) inside
+fault-none size before (Ok (Rebase base)) on inside = refl
+
+pub first_fault-none : (size : ℕ) (before prefix : List Said) → AllGoOn prefix
+    → beyond size (flat_map placed_bytes (in_place before (then_end prefix))) ≡ None
+    → first_fault size (in_place before (then_end prefix)) ≡ None
+first_fault-none size before [] on inside = refl
+first_fault-none size before (s ∷ prefix) on inside =
+    let parts = beyond-parts size (placed_bytes (before, s))
+    (flat_map placed_bytes (in_place (before ++ s ∷ []) (then_end prefix))) inside in
+    ap (λ (fault : Option LineFault). or_later (length before + 1) fault
+    (first_fault size (in_place (before ++ s ∷ []) (then_end prefix)))) (fault-none size before s on.0 parts.0)
+    ∙ first_fault-none size (before ++ s ∷ []) prefix on.1 parts.1
+
+-- Lines of data, the end record and whatever stands after it: they read as the image of their bytes, where all lie
+-- inside.
+pub together-laid : (size : ℕ) (image : List (Option ℕ)) (places : List (ℕ × ℕ)) (prefix more : List Said)
+    → AllGoOn prefix
+    → threaded (Linear 0) (then_end prefix) ≡ places → beyond size places ≡ None → image_of_pairs size places ≡ image
+    → together size (prefix ++ Ok End ∷ more) ≡ Ok (image, Ended)
+together-laid size image places prefix more on follow inside_is laid_is =
+    let taken : List (List Said × Said) = in_place [] (then_end prefix) in
+    let bytes_are : flat_map placed_bytes taken ≡ places = placed-threaded [] (then_end prefix) ∙ follow in
+    let inside : beyond size (flat_map placed_bytes taken) ≡ None = ap (beyond size) bytes_are ∙ inside_is in
+    ap (λ (lines : List Said). image_or_fault (first_fault size (in_place [] lines))
+    (image_of_pairs size (flat_map placed_bytes (in_place [] lines)), file_ending (prefix ++ Ok End ∷ more)))
+    (stops prefix more on)
+    ∙ ap (λ (fault : Option RecordFault). image_or_fault fault
+    (image_of_pairs size (flat_map placed_bytes taken), file_ending (prefix ++ Ok End ∷ more)))
+    (first_fault-none size [] prefix on inside)
+    ∙ ap (λ (places : List (ℕ × ℕ)). Ok (image_of_pairs size places, file_ending (prefix ++ Ok End ∷ more))) bytes_are
+    ∙ ap (λ (end : Ending). Ok (image_of_pairs size places, end)) (ended prefix more)
+    ∙ ap (λ (image : List (Option ℕ)). Ok (image, Ended)) laid_is
+
+-- Lines of bytes that follow on each other, the end record and whatever stands after it: they read as the image of
+-- these bytes.
+pub together-standing : (base size : ℕ) (bytes : List ℕ) (prefix more : List Said) → AllGoOn prefix
+    → threaded (Linear 0) (then_end prefix) ≡ enumerate_from base bytes → HasAddresses size base bytes
+    → together size (prefix ++ Ok End ∷ more) ≡ Ok (image_at_base base bytes size, Ended)
+together-standing base size bytes prefix more on follow held =
+    together-laid size (image_at_base base bytes size) (enumerate_from base bytes) prefix more on follow
+    (beyond-held size base bytes held) (laid-standing base size bytes held)
+
+-- the places of a data record where a linear base is in force
+pub places-linear : (upper offset addr : ℕ) (bytes : List ℕ) → upper * 65536 + offset ≡ addr
+    → places (Linear upper) offset bytes ≡ enumerate_from addr bytes
+places-linear upper offset addr bytes is =
+    from 0 bytes ∙ ap (λ (a : ℕ). enumerate_from a bytes) (add-zero (upper * 65536 + offset) ∙ is)
+  where
+    from : (i : ℕ) (bs : List ℕ) → map (λ p. (address (Linear upper) offset p.0, p.1)) (enumerate_from i bs)
+        ≡ enumerate_from (upper * 65536 + offset + i) bs
+    from i [] = refl
+    from i (b ∷ bs) = ap (λ (zs : List (ℕ × ℕ)). (upper * 65536 + offset + i, b) ∷ zs)
+        (from (i + 1) bs ∙ ap (λ (a : ℕ). enumerate_from a bs) (omega arith))

@@ -1,0 +1,154 @@
+-- What is written of an image with gaps reads back as it was.
+use Rattle.std.proofs.Common.{◌≡◌, ◌∙◌, ap, refl, arith, ℕ, suc, ◌+◌, ◌^◌, ◌<◌, ◌≤◌, ◌==◌, nat_lt, All, true, false, List, [], ◌∷◌, ◌++◌, length, map, Option, Some, None, Ok, inl, inr}
+use Rattle.std.specs.List.{flat_map, enumerate_from}
+use Rattle.std.proofs.lemmas.Bool.{cases_eq}
+use Rattle.std.proofs.lemmas.Bool.Decides.{nat_tests}
+use Rattle.std.proofs.lemmas.Grind.{flat_map-append}
+use Rattle.avr_image.specs.Runs.{onto_runs, runs, places_of}
+use Rattle.avr_image.proofs.Lemmas.{runs_are_whole, runs_inside}
+use Rattle.hex.specs.Hex.{IsBytes}
+use Rattle.avr_image.specs.Image.{HoldsBytes}
+use Rattle.avr_records.specs.Meaning.{Nothing}
+use Rattle.avr_records.specs.Reading.{beyond, together}
+use Rattle.avr_records.specs.Text.{rows, ihex_row_size, address_size}
+use Rattle.avr_records.specs.Sparse.{rows_of, last_held, ihex_image_text, srec_image_text, ImageReadsBack}
+use Rattle.avr_records.specs.declared.kind.Kind.TheVariants.{Ihex, Srec}
+use Rattle.avr_records.proofs.Rows.Cuts.{IsBytes-nil, IsBytes-cons, IsRow, Every, rows_behind-are, rows-hold}
+use Rattle.avr_records.proofs.Writers.Reread.{together-laid}
+use Rattle.avr_records.proofs.Writers.Ihex as hex
+use Rattle.avr_records.proofs.Writers.Srec as srec
+
+-- ---- the bytes of an image at their addresses
+
+beyond-run : (size addr : ℕ) (bytes : List ℕ) (more : List (ℕ × ℕ)) → addr + length bytes ≤ size
+    → beyond size more ≡ None → beyond size (enumerate_from addr bytes ++ more) ≡ None
+beyond-run size addr [] more room none = none
+beyond-run size addr (b ∷ bytes) more room none =
+    let test : nat_lt addr size ≡ true = grind (arith, nat_tests, room) in
+    rw test (beyond-run size (addr + 1) bytes more (omega (arith, room)) none)
+
+beyond-cut : (size : ℕ) (cut : List (ℕ × List ℕ)) → All (λ run. run.0 + length run.1 ≤ size) cut
+    → beyond size (flat_map places_of cut) ≡ None
+beyond-cut size [] inside = refl
+beyond-cut size (run ∷ cut) inside =
+    beyond-run size run.0 run.1 (flat_map places_of cut) (inside 0 run (omega arith))
+    (beyond-cut size cut (λ k d l. inside (suc k) d (omega (arith, l))))
+
+beyond-image : (image : List (Option ℕ)) → beyond (length image) (flat_map places_of (runs 0 image)) ≡ None
+beyond-image image = beyond-cut (length image) (runs 0 image) (runs_inside image)
+
+-- cutting into rows keeps them
+pub rows_of-hold : (size : ℕ → ℕ) (cut : List (ℕ × List ℕ)) → ((a : ℕ) → 0 < size a)
+    → flat_map places_of (rows_of size cut) ≡ flat_map places_of cut
+rows_of-hold size [] wide = refl
+rows_of-hold size (run ∷ cut) wide =
+    flat_map-append places_of (rows size run.0 run.1) (rows_of size cut)
+    ∙ ap (λ (prefix : List (ℕ × ℕ)). prefix ++ flat_map places_of (rows_of size cut)) (rows-hold size run.0 run.1 wide)
+    ∙ ap (λ (back : List (ℕ × ℕ)). places_of run ++ back) (rows_of-hold size cut wide)
+
+-- ---- runs are bytes that end where the image does, at the latest
+
+pub record IsIn (end : ℕ) (run : ℕ × List ℕ) : Type 0 where
+  pub below : run.0 + length run.1 ≤ end
+  pub bytes : IsBytes run.1
+
+onto-in : (end addr b : ℕ) (more : List (ℕ × List ℕ)) → addr < end → b < 256 → Every (IsIn end) more
+    → Every (IsIn end) (onto_runs addr b more)
+onto-in end addr b [] inside byte all = (
+  record
+      { below = omega (arith, inside); bytes = IsBytes-cons b [] byte IsBytes-nil },
+  tt,
+)
+onto-in end addr b ((next, bytes) ∷ more) inside byte all = elim (cases_eq next (addr + 1)) [
+  | inl same ↦
+      let test : (next == addr + 1) ≡ true = grind (arith, nat_tests) in
+      rw test (
+        record { below = omega (arith, same, all.0.below); bytes = IsBytes-cons b bytes byte all.0.bytes },
+        all.1,
+      )
+  | inr other ↦
+      let test : (next == addr + 1) ≡ false = grind (arith, nat_tests) in
+      rw test (record { below = omega (arith, inside); bytes = IsBytes-cons b [] byte IsBytes-nil }, all)
+]
+
+last-least : (last addr : ℕ) (image : List (Option ℕ)) → last ≤ addr → last ≤ last_held last addr image
+last-least last addr [] l = omega arith
+last-least last addr (None ∷ image) l = last-least last (addr + 1) image (omega (arith, l))
+last-least last addr (Some b ∷ image) l =
+    let more : addr ≤ last_held addr (addr + 1) image = last-least addr (addr + 1) image (omega arith) in
+    omega (arith, l, more)
+
+last-most : (last addr end : ℕ) (image : List (Option ℕ)) → last < end → addr + length image ≤ end
+    → last_held last addr image < end
+last-most last addr end [] l room = l
+last-most last addr end (None ∷ image) l room = last-most last (addr + 1) end image l (omega (arith, room))
+last-most last addr end (Some b ∷ image) l room =
+    last-most addr (addr + 1) end image (omega (arith, room)) (omega (arith, room))
+
+pub runs-in : (last addr : ℕ) (image : List (Option ℕ)) → HoldsBytes image
+    → Every (IsIn (last_held last addr image + 1)) (runs addr image)
+runs-in last addr [] all = tt
+runs-in last addr (None ∷ image) all = runs-in last (addr + 1) image (λ k byte is. all (suc k) byte is)
+runs-in last addr (Some b ∷ image) all =
+    let end : ℕ = last_held addr (addr + 1) image + 1 in
+    let first : addr ≤ last_held addr (addr + 1) image = last-least addr (addr + 1) image (omega arith) in
+    onto-in end addr b (runs (addr + 1) image) (omega (arith, first)) (all 0 b refl)
+    (runs-in addr (addr + 1) image (λ k byte is. all (suc k) byte is))
+
+-- ---- so are their rows
+
+rows-up : (size : ℕ → ℕ) (low high : ℕ) (cut : List (ℕ × List ℕ)) → low ≤ high → Every (IsRow size low) cut
+    → Every (IsRow size high) cut
+rows-up size low high [] l all = tt
+rows-up size low high (row ∷ cut) l all =
+    let is = all.0 in (
+      record { some = is.some; few = is.few; below = omega (arith, is.below, l); bytes = is.bytes },
+      rows-up size low high cut l all.1,
+    )
+
+every-append : (P : ℕ × List ℕ → Type 0) (xs ys : List (ℕ × List ℕ)) → Every P xs → Every P ys → Every P (xs ++ ys)
+every-append P [] ys prefix back = back
+every-append P (x ∷ xs) ys prefix back = (prefix.0, every-append P xs ys prefix.1 back)
+
+pub rows_of-are : (size : ℕ → ℕ) (end : ℕ) (cut : List (ℕ × List ℕ)) → ((a : ℕ) → 0 < size a) → Every (IsIn end) cut
+    → Every (IsRow size end) (rows_of size cut)
+rows_of-are size end [] wide all = tt
+rows_of-are size end (run ∷ cut) wide all =
+    let own : Every (IsRow size (run.0 + length run.1)) (rows size run.0 run.1) =
+    rows_behind-are 0 size run.0 (run.0 + length run.1) run.1 wide refl all.0.bytes in
+    every-append (IsRow size end) (rows size run.0 run.1) (rows_of size cut)
+    (rows-up size (run.0 + length run.1) end (rows size run.0 run.1) all.0.below own)
+    (rows_of-are size end cut wide all.1)
+
+-- ---- the two formats
+
+-- the last address of an image that isn't empty, or 0 of one that is
+last-below : (image : List (Option ℕ)) → length image ≤ 2 ^ 32 → last_held 0 0 image < 2 ^ 32
+last-below image fits = last-most 0 0 (2 ^ 32) image (omega arith) (omega (arith, fits))
+
+pub ihex-image-reads-back : ImageReadsBack Ihex ihex_image_text
+ihex-image-reads-back image fits bytes =
+    let size : ℕ = length image in
+    let cut : List (ℕ × List ℕ) = rows_of ihex_row_size (runs 0 image) in
+    let last : ℕ = last_held 0 0 image in
+    let are : Every (IsRow ihex_row_size (last + 1)) cut =
+    rows_of-are ihex_row_size (last + 1) (runs 0 image) (λ a. omega arith) (runs-in 0 0 image bytes) in
+    ap (together size) (hex.lines-said 0 (last + 1) cut (omega (arith, last-below image fits)) are)
+    ∙ together-laid size image (flat_map places_of (runs 0 image)) (hex.rows_said 0 cut) (Ok Nothing ∷ [])
+    (hex.rows-go_on 0 cut)
+    (hex.rows-threaded 0 cut ∙ rows_of-hold ihex_row_size (runs 0 image) (λ a. omega arith))
+    (beyond-image image) (runs_are_whole image)
+
+pub srec-image-reads-back : ImageReadsBack Srec srec_image_text
+srec-image-reads-back image fits bytes =
+    let size : ℕ = length image in
+    let cut : List (ℕ × List ℕ) = rows_of (λ _. 32) (runs 0 image) in
+    let last : ℕ = last_held 0 0 image in
+    let wide = srec.wide_enough last (last-below image fits) in
+    let are : Every (IsRow (λ _. 32) (last + 1)) cut =
+    rows_of-are (λ _. 32) (last + 1) (runs 0 image) (λ a. omega arith) (runs-in 0 0 image bytes) in
+    ap (together size) (srec.lines-said (address_size last) (last + 1) cut wide.least wide.most
+    (omega (arith, wide.fits)) are)
+    ∙ together-laid size image (flat_map places_of (runs 0 image)) (map srec.said_of cut) (Ok Nothing ∷ [])
+    (srec.rows-go_on cut) (srec.rows-threaded cut ∙ rows_of-hold (λ _. 32) (runs 0 image) (λ a. omega arith))
+    (beyond-image image) (runs_are_whole image)

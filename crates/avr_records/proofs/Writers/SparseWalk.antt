@@ -1,0 +1,265 @@
+-- How the text of an image with gaps begins, as a walk over the image finds it.
+use Rattle.std.proofs.Common.{◌≡◌, ◌∙◌, sym, ap, ap₂, refl, arith, ℕ, zero, suc, ◌+◌, ◌-◌, ◌/◌, ◌%◌, ◌<◌, ◌≤◌, false, List, [], ◌∷◌, ◌++◌, length, take, drop, min, Option, Some, None, is_some, add-zero}
+use Rattle.std.specs.List.{position_from, flat_map, slice_range}
+use Rattle.std.proofs.lemmas.List.{append_assoc, drop-drop, length-drop, length-take, take_min}
+use Rattle.avr_image.specs.Image.{first_from, run_end, filled_bytes}
+use Rattle.avr_records.specs.Text.{rows, srec_rows, srec_record, low_bytes, ihex_rows, ihex_row_size, ihex_record, two}
+use Rattle.avr_image.specs.Runs.{runs, lead}
+use Rattle.avr_image.proofs.Lemmas.{next_held, filled_is, filled_part, runs_none, runs_next, runs_first, lead_some, lead_is_run, lead_is_filled, lead_within}
+use Rattle.avr_records.specs.Sparse.{rows_of, last_held}
+use Rattle.avr_records.specs.Writing.{ihex_image_rest, srec_image_rest}
+use Rattle.avr_records.proofs.Writers.Pieces.{rows-next, wide_row, same_upper, other_upper}
+
+-- ---- the first run, and what stands after it
+
+abbrev after : List (Option ℕ) → List (Option ℕ)
+after image = drop (length (lead image)) image
+
+lead-drop : (n : ℕ) (image : List (Option ℕ)) → n ≤ length (lead image) → lead (drop n image) ≡ drop n (lead image)
+lead-drop zero image l = refl
+lead-drop (suc n) [] l = absurd (omega (arith, l))
+lead-drop (suc n) (None ∷ image) l = absurd (omega (arith, l))
+lead-drop (suc n) (Some b ∷ image) l = lead-drop n image (omega (arith, l))
+
+after-drop : (n : ℕ) (image : List (Option ℕ)) → n ≤ length (lead image) → after (drop n image) ≡ after image
+after-drop zero image l = refl
+after-drop (suc n) [] l = absurd (omega (arith, l))
+after-drop (suc n) (None ∷ image) l = absurd (omega (arith, l))
+after-drop (suc n) (Some b ∷ image) l = after-drop n image (omega (arith, l))
+
+pub rows-lead : (size : ℕ → ℕ) (addr : ℕ) (image : List (Option ℕ))
+    → rows_of size (runs addr image) ≡ rows size addr (lead image)
+    ++ rows_of size (runs (addr + length (lead image)) (after image))
+rows-lead size addr [] = refl
+rows-lead size addr (None ∷ image) = ap (λ (n : ℕ). rows_of size (runs n (None ∷ image))) (sym (add-zero addr))
+rows-lead size addr (Some b ∷ image) = ap (rows_of size) (runs_first (Some b ∷ image) addr (omega arith))
+
+-- the first row is the first bytes of the first run
+pub rows-step : (size : ℕ → ℕ) (addr n : ℕ) (image : List (Option ℕ)) → 0 < length (lead image) → 0 < size addr
+    → n ≡ min (size addr) (length (lead image))
+    → rows_of size (runs addr image) ≡ (addr, take n (lead image)) ∷ rows_of size (runs (addr + n) (drop n image))
+rows-step size addr n image some wide is =
+    let few : n ≤ length (lead image) = omega (arith, is) in
+    let rest : List (ℕ × List ℕ) = rows_of size (runs (addr + length (lead image)) (after image)) in
+    let back : addr + n + length (drop n (lead image)) ≡ addr + length (lead image) =
+    omega (arith, length-drop n (lead image), few) in
+    let there : rows_of size (runs (addr + n) (drop n image)) ≡ rows size (addr + n) (drop n (lead image)) ++ rest =
+    rows-lead size (addr + n) (drop n image)
+    ∙ ap (λ (bytes : List ℕ). rows size (addr + n) bytes
+    ++ rows_of size (runs (addr + n + length bytes) (after (drop n image)))) (lead-drop n image few)
+    ∙ ap (λ (xs : List (Option ℕ)). rows size (addr + n) (drop n (lead image))
+    ++ rows_of size (runs (addr + n + length (drop n (lead image))) xs)) (after-drop n image few)
+    ∙ ap (λ (k : ℕ). rows size (addr + n) (drop n (lead image)) ++ rows_of size (runs k (after image))) back in
+    rows-lead size addr image
+    ∙ ap (λ (prefix : List (ℕ × List ℕ)). prefix ++ rest) (rows-next size addr n (lead image) some wide is)
+    ∙ ap (λ (more : List (ℕ × List ℕ)). (addr, take n (lead image)) ∷ more) (sym there)
+
+-- ---- as the walk finds them
+
+-- the run that a walk finds, as far as a row goes
+pub run-is : (size place most : ℕ) (image : List (Option ℕ)) → most ≡ min size (length image - place)
+    → run_end image place (place + most) ≡ place + min size (length (lead (drop place image)))
+run-is size place most image is =
+    let short = lead_within (drop place image) in
+    let left = length-drop place image in
+    lead_is_run image place (place + most) ∙ omega (arith, is, short, left)
+
+-- a row lies inside the image, as long as it may be
+pub record IsPart (place most end : ℕ) (bytes : List ℕ) (image : List (Option ℕ)) : Type 0 where
+  pub within : end ≤ length bytes
+  pub part : slice_range bytes place end ≡ take most (lead (drop place image))
+
+pub row-part : (place most end : ℕ) (bytes : List ℕ) (image : List (Option ℕ)) → place < length image
+    → end ≡ place + min most (length (lead (drop place image))) → bytes ≡ filled_bytes image 0 (length image)
+    → IsPart place most end bytes image
+row-part place most end bytes image inside is whole =
+    let run : List ℕ = lead (drop place image) in
+    let short = lead_within (drop place image) in
+    let left = length-drop place image in
+    let within : end ≤ length image = omega (arith, is, short, left, inside) in
+    let size : end - place ≡ min most (length run) = omega (arith, is) in
+    record {
+      within = omega (arith, within, ap length whole ∙ (filled_is image 0 (length image)).size);
+      part =
+          ap (λ (xs : List ℕ). slice_range xs place end) whole
+          ∙ filled_part image place end (omega (arith, is)) within
+          ∙ lead_is_filled image place (end - place) (omega (arith, size))
+          ∙ ap (λ (n : ℕ). take n run) size ∙ take_min most run;
+    }
+
+-- the next row: the bytes from the next address that holds one
+pub rows-walk : (size : ℕ → ℕ) (addr place n : ℕ) (image : List (Option ℕ)) → first_from image addr ≡ Some place
+    → 0 < size place
+    → n ≡ min (size place) (length (lead (drop place image)))
+    → rows_of size (runs addr (drop addr image))
+    ≡ (place, filled_bytes image place n) ∷ rows_of size (runs (place + n) (drop (place + n) image))
+rows-walk size addr place n image found wide is =
+    let some = lead_some image addr place found in
+    let few : n ≤ length (lead (drop place image)) = omega (arith, is) in
+    ap (rows_of size) (runs_next image addr place found)
+    ∙ rows-step size place n (drop place image) some wide is
+    ∙ ap (λ (bytes : List ℕ). (place, bytes) ∷ rows_of size (runs (place + n) (drop n (drop place image))))
+    (sym (lead_is_filled image place n few))
+    ∙ ap (λ (xs : List (Option ℕ)). (place, filled_bytes image place n) ∷ rows_of size (runs (place + n) xs))
+    (drop-drop n place image)
+
+-- ---- the text of Intel HEX still to come
+
+pub ihex_image-end : (upper addr : ℕ) (image : List (Option ℕ)) → first_from image addr ≡ None
+    → ihex_image_rest false upper addr image ≡ ihex_record 1 0 []
+ihex_image-end upper addr image none = ap (λ (cut : List (ℕ × List ℕ)). ihex_rows upper (rows_of ihex_row_size cut))
+    (runs_none image addr none)
+
+pub ihex_image-row : (upper addr place n : ℕ) (image : List (Option ℕ)) → first_from image addr ≡ Some place
+    → place / 65536 ≡ upper
+    → n ≡ min (ihex_row_size place) (length (lead (drop place image)))
+    → ihex_image_rest false upper addr image
+    ≡ ihex_record 0 (place % 65536) (filled_bytes image place n) ++ ihex_image_rest false upper (place + n) image
+ihex_image-row upper addr place n image found in_force is =
+    let row : List ℕ = ihex_record 0 (place % 65536) (filled_bytes image place n) in
+    let more : List (ℕ × List ℕ) = rows_of ihex_row_size (runs (place + n) (drop (place + n) image)) in
+    ap (ihex_rows upper) (rows-walk ihex_row_size addr place n image found (wide_row place) is)
+    ∙ ap (λ (prefix : List ℕ). prefix ++ row ++ ihex_rows (place / 65536) more) (same_upper upper place in_force)
+    ∙ ap (λ (high : ℕ). row ++ ihex_rows high more) in_force
+
+pub ihex_image-upper : (upper addr place : ℕ) (image : List (Option ℕ)) → first_from image addr ≡ Some place
+    → (place / 65536 ≡ upper → ⊥)
+    → ihex_image_rest false upper addr image
+    ≡ ihex_record 4 0 (two (place / 65536)) ++ ihex_image_rest false (place / 65536) addr image
+ihex_image-upper upper addr place image found other =
+    let n : ℕ = min (ihex_row_size place) (length (lead (drop place image))) in
+    let high : List ℕ = ihex_record 4 0 (two (place / 65536)) in
+    let row : List ℕ = ihex_record 0 (place % 65536) (filled_bytes image place n) in
+    let more : List ℕ = ihex_rows (place / 65536) (rows_of ihex_row_size (runs (place + n) (drop (place + n) image))) in
+    let cut = rows-walk ihex_row_size addr place n image found (wide_row place) refl in
+    ap (ihex_rows upper) cut
+    ∙ ap (λ (prefix : List ℕ). prefix ++ row ++ more) (other_upper upper place other)
+    ∙ append_assoc high row more
+    ∙ ap (λ (prefix : List ℕ). high ++ (prefix ++ row ++ more)) (sym (same_upper (place / 65536) place refl))
+    ∙ ap (λ (rows : List (ℕ × List ℕ)). high ++ ihex_rows (place / 65536) rows) (sym cut)
+
+-- a row that is lent, as long as it may be
+row-lent : (size place : ℕ) (row : List ℕ) (image : List (Option ℕ)) → row ≡ take size (lead (drop place image))
+    → (length row ≡ min size (length (lead (drop place image)))) × (filled_bytes image place (length row) ≡ row)
+row-lent size place row image is =
+    let long : length row ≡ min size (length (lead (drop place image))) =
+    ap length is ∙ length-take size (lead (drop place image)) in (
+      long,
+      lead_is_filled image place (length row) (omega (arith, long))
+          ∙ ap (λ (n : ℕ). take n (lead (drop place image))) long
+          ∙ take_min size (lead (drop place image)) ∙ sym is,
+    )
+
+pub ihex_image-next : (upper addr place : ℕ) (row : List ℕ) (image : List (Option ℕ))
+    → first_from image addr ≡ Some place
+    → place / 65536 ≡ upper
+    → row ≡ take (ihex_row_size place) (lead (drop place image))
+    → ihex_image_rest false upper addr image
+    ≡ ihex_record 0 (place % 65536) row ++ ihex_image_rest false upper (place + length row) image
+ihex_image-next upper addr place row image found in_force is =
+    let lent = row-lent (ihex_row_size place) place row image is in
+    ihex_image-row upper addr place (length row) image found in_force lent.0
+    ∙ ap (λ (bytes : List ℕ). ihex_record 0 (place % 65536) bytes
+    ++ ihex_image_rest false upper (place + length row) image) lent.1
+
+-- ---- the text of S-records still to come
+
+pub srec_image-end : (size addr : ℕ) (image : List (Option ℕ)) → first_from image addr ≡ None
+    → srec_image_rest false size addr image ≡ srec_record (11 - size) (low_bytes size 0)
+srec_image-end size addr image none = ap (λ (cut : List (ℕ × List ℕ)). srec_rows size (rows_of (λ _. 32) cut))
+    (runs_none image addr none)
+
+pub srec_image-row : (size addr place n : ℕ) (image : List (Option ℕ)) → first_from image addr ≡ Some place
+    → n ≡ min 32 (length (lead (drop place image)))
+    → srec_image_rest false size addr image ≡ srec_record (size - 1)
+    (low_bytes size place ++ filled_bytes image place n) ++ srec_image_rest false size (place + n) image
+srec_image-row size addr place n image found is =
+    let more : List (ℕ × List ℕ) = rows_of (λ _. 32) (runs (place + n) (drop (place + n) image)) in
+    ap (srec_rows size) (rows-walk (λ _. 32) addr place n image found (omega arith) is)
+    ∙ append_assoc (srec_record (size - 1) (low_bytes size place ++ filled_bytes image place n))
+    (flat_map (λ row. srec_record (size - 1) (low_bytes size row.0 ++ row.1)) more)
+    (srec_record (11 - size) (low_bytes size 0))
+
+pub srec_image-next : (size addr place : ℕ) (row : List ℕ) (image : List (Option ℕ))
+    → first_from image addr ≡ Some place
+    → row ≡ take 32 (lead (drop place image))
+    → srec_image_rest false size addr image
+    ≡ srec_record (size - 1) (low_bytes size place ++ row) ++ srec_image_rest false size (place + length row) image
+srec_image-next size addr place row image found is =
+    let lent = row-lent 32 place row image is in
+    srec_image-row size addr place (length row) image found lent.0
+    ∙ ap (λ (bytes : List ℕ). srec_record (size - 1) (low_bytes size place ++ bytes)
+    ++ srec_image_rest false size (place + length row) image) lent.1
+
+-- ---- the last address that holds a byte
+
+last-none : (last addr : ℕ) (image : List (Option ℕ)) → position_from is_some addr image ≡ None
+    → last_held last addr image ≡ last
+last-none last addr [] is = refl
+last-none last addr (None ∷ image) is = last-none last (addr + 1) image is
+last-none last addr (Some b ∷ image) is = absurd (cc is)
+
+found-from : (addr place : ℕ) (image : List (Option ℕ)) → position_from is_some addr image ≡ Some place → addr ≤ place
+found-from addr place [] is = absurd (cc is)
+found-from addr place (None ∷ image) is = let more = found-from (addr + 1) place image is in omega (arith, more)
+found-from addr place (Some b ∷ image) is = let here : addr ≡ place = cc is in omega (arith, here)
+
+last-next : (last addr place : ℕ) (image : List (Option ℕ)) → position_from is_some addr image ≡ Some place
+    → last_held last addr image ≡ last_held last place (drop (place - addr) image)
+last-next last addr place [] is = absurd (cc is)
+last-next last addr place (None ∷ image) is =
+    let one : suc (place - (addr + 1)) ≡ place - addr = omega (arith, found-from (addr + 1) place image is) in
+    last-next last (addr + 1) place image is ∙ ap (λ (n : ℕ). last_held last place (drop n (None ∷ image))) one
+last-next last addr place (Some b ∷ image) is =
+    let here : addr ≡ place = cc is in
+    let none : 0 ≡ place - addr = omega (arith, here) in
+    ap (λ (n : ℕ). last_held last n (Some b ∷ image)) here
+    ∙ ap (λ (n : ℕ). last_held last place (drop n (Some b ∷ image))) none
+
+last-prefix : (last addr n : ℕ) (image : List (Option ℕ)) → n < length (lead image)
+    → last_held last addr image ≡ last_held (addr + n) (addr + suc n) (drop (suc n) image)
+last-prefix last addr n [] some = absurd (omega (arith, some))
+last-prefix last addr n (None ∷ image) some = absurd (omega (arith, some))
+last-prefix last addr zero (Some b ∷ image) some =
+    ap (λ (k : ℕ). last_held k (addr + 1) image) (sym (add-zero addr))
+last-prefix last addr (suc n) (Some b ∷ image) some =
+    let here : addr + 1 + n ≡ addr + suc n = omega arith in
+    let next : addr + 1 + suc n ≡ addr + suc (suc n) = omega arith in
+    last-prefix addr (addr + 1) n image (omega (arith, some))
+    ∙ ap₂ (λ (k m : ℕ). last_held k m (drop (suc n) image)) here next
+
+pub last-done : (last addr : ℕ) (image : List (Option ℕ)) → first_from image addr ≡ None
+    → last_held last addr (drop addr image) ≡ last
+last-done last addr image none = last-none last addr (drop addr image) none
+
+-- over the row that is found
+pub record Walked (last addr end : ℕ) (image : List (Option ℕ)) : Type 0 where
+  pub on : last_held last addr (drop addr image) ≡ last_held (end - 1) end (drop end image)
+  pub rises : addr < end
+  pub inside : end ≤ length image
+
+pub last-walk : (last addr place end : ℕ) (row : List ℕ) (image : List (Option ℕ)) → first_from image addr ≡ Some place
+    → row ≡ take 32 (lead (drop place image)) → end ≡ place + length row → Walked last addr end image
+last-walk last addr place end row image found is ends =
+    let next = next_held image addr place found in
+    let there : drop (place - addr) (drop addr image) ≡ drop place image =
+    drop-drop (place - addr) addr image ∙ ap (λ (k : ℕ). drop k image) (omega (arith, next.after)) in
+    let some = lead_some image addr place found in
+    let short = lead_within (drop place image) in
+    let left = length-drop place image in
+    let long = (row-lent 32 place row image is).0 in
+    let n : ℕ = length row - 1 in
+    let within : n < length (lead (drop place image)) = omega (arith, long, some) in
+    let last_is : place + n ≡ end - 1 = omega (arith, long, some, ends) in
+    let behind : place + suc n ≡ end = omega (arith, long, some, ends) in
+    record {
+      on =
+          last-next last addr place (drop addr image) found
+          ∙ ap (last_held last place) there
+          ∙ last-prefix last place n (drop place image) within
+          ∙ ap (last_held (place + n) (place + suc n))
+          (drop-drop (suc n) place image ∙ ap (λ (k : ℕ). drop k image) behind)
+          ∙ ap₂ (λ (k m : ℕ). last_held k m (drop end image)) last_is behind;
+      rises = omega (arith, next.after, some, long, ends);
+      inside = omega (arith, short, left, some, long, ends);
+    }

@@ -1,0 +1,121 @@
+-- A text that is put into a room line by line.
+use Rattle.std.proofs.Common.{◌≡◌, ◌∙◌, ap, ap₂, sym, refl, arith, ℕ, ◌+◌, ◌-◌, ◌<◌, ◌≤◌, List, ◌++◌, length, take, drop, min, Bool, false, inl, inr}
+use Rattle.std.specs.Prelude.{◌↔◌, IsTrue}
+use lib.Seq.{take-append-add, drop-append-add}
+use Rattle.std.proofs.lemmas.Bool.{cases_lt, true≢false}
+use Rattle.std.proofs.lemmas.List.{append_assoc, drop-drop, length-drop, length-take-le, length-append, take_all, take-append-le, drop-append-le, take-append-drop}
+use Rattle.avr_records_c.specs.Writing.{PutsOn}
+
+-- so far so many bytes of a text stand in the room, and this is left of it
+pub record IsPut (text rest room : List ℕ) (put : ℕ) (now : List ℕ) : Type 0 where
+  pub fits : put ≤ length room
+  pub most : put ≤ length text
+  pub left : rest ≡ drop put text
+  pub stands : now ≡ take put text ++ drop put room
+
+pub none-put : (text room : List ℕ) → IsPut text text room 0 room
+none-put text room = record { fits = omega arith; most = omega arith; left = refl; stands = refl }
+
+pub room-length : {text rest room : List ℕ} {put : ℕ} {now : List ℕ} → IsPut text rest room put now
+    → length now ≡ length room
+room-length {text} {rest} {room} {put} {now} is =
+    ap length is.stands ∙ length-append (take put text) (drop put room)
+    ∙ omega (arith, length-take-le put text is.most, length-drop put room, is.fits)
+
+take-more : (put count : ℕ) (text : List ℕ) → put ≤ length text
+    → take (put + count) text ≡ take put text ++ take count (drop put text)
+take-more put count text few =
+    let prefix : List ℕ = take put text in
+    ap (take (put + count)) (sym (take-append-drop put text))
+    ∙ ap (λ (n : ℕ). take (n + count) (prefix ++ drop put text)) (sym (length-take-le put text few))
+    ∙ take-append-add prefix (drop put text) count
+
+part-of-line : (gone count : ℕ) (line more : List ℕ) → count ≤ length (drop gone line)
+    → take count (drop gone line) ≡ take count (drop gone (line ++ more))
+part-of-line gone count line more few = elim (cases_lt gone (length line)) [
+  | inl within ↦
+      sym (ap (take count) (drop-append-le gone line more (omega (arith, within)))
+      ∙ take-append-le count (drop gone line) more few)
+  | inr past ↦
+      let none : count ≡ 0 = omega (arith, few, length-drop gone line, past) in
+      rw none refl
+]
+
+-- the part of a line that fits
+pub more-put : (text whole line more room now after : List ℕ) (put gone count : ℕ)
+    → IsPut text (drop gone whole) room put now → whole ≡ line ++ more
+    → count ≡ min (length now - put) (length (drop gone line))
+    → after ≡ take put now ++ (take count (drop gone line) ++ drop (put + count) now)
+    → IsPut text (drop (gone + count) whole) room (put + count) after
+more-put text whole line more room now after put gone count is split fit put_is =
+    let long = room-length is in
+    let prefix : List ℕ = take put text in
+    let prefix_long : length prefix ≡ put = length-take-le put text is.most in
+    let few : count ≤ length (drop gone line) = omega (arith, fit) in
+    let whole_long : length whole ≡ length line + length more = ap length split ∙ length-append line more in
+    let line_left = length-drop gone line in
+    let whole_left = length-drop gone whole in
+    let text_left : length (drop gone whole) ≡ length text - put = ap length is.left ∙ length-drop put text in
+    let most : put + count ≤ length text =
+    omega (arith, few, whole_long, line_left, whole_left, text_left, is.most) in
+    let kept : take put now ≡ prefix =
+    ap (take put) is.stands
+    ∙ take-append-le put prefix (drop put room) (omega (arith, prefix_long))
+    ∙ take_all put prefix (omega (arith, prefix_long)) in
+    let behind : drop (put + count) now ≡ drop (put + count) room =
+    ap (drop (put + count)) is.stands
+    ∙ ap (λ (n : ℕ). drop (n + count) (prefix ++ drop put room)) (sym prefix_long)
+    ∙ drop-append-add prefix (drop put room) count
+    ∙ drop-drop count put room in
+    let part : take count (drop gone line) ≡ take count (drop put text) =
+    part-of-line gone count line more few
+    ∙ ap (λ (xs : List ℕ). take count (drop gone xs)) (sym split)
+    ∙ ap (take count) is.left in
+    record {
+      fits = omega (arith, fit, long, is.fits);
+      most = most;
+      left =
+          sym (drop-drop count gone whole) ∙ ap (drop count) is.left ∙ drop-drop count put text;
+      stands =
+          put_is
+          ∙ ap₂ (λ (xs ys : List ℕ). xs ++ (take count (drop gone line) ++ ys)) kept behind
+          ∙ ap (λ (xs : List ℕ). prefix ++ (xs ++ drop (put + count) room)) part
+          ∙ sym (append_assoc prefix (take count (drop put text)) (drop (put + count) room))
+          ∙ ap (λ (xs : List ℕ). xs ++ drop (put + count) room) (sym (take-more put count text is.most));
+    }
+
+-- the whole line is out
+pub line-out : (text whole line more room now : List ℕ) (put gone left : ℕ)
+    → IsPut text (drop gone whole) room put now → whole ≡ line ++ more → length line ≤ gone
+    → left ≡ gone - length line
+    → IsPut text (drop left more) room put now
+line-out text whole line more room now put gone left is split past left_is =
+    let there : gone ≡ length line + left = omega (arith, past, left_is) in
+    record {
+      fits = is.fits;
+      most = is.most;
+      left =
+          sym (drop-append-add line more left) ∙ ap₂ drop (sym there) (sym split) ∙ is.left;
+      stands = is.stands;
+    }
+
+-- a room that is full, and a text that is over
+pub all-put : (text left room now : List ℕ) (put : ℕ) → IsPut text left room put now
+    → put ≡ min (length room) (length text) → PutsOn text left room put now
+all-put text left room now put is far = record { count = far; left = is.left; stands = is.stands }
+
+pub is-full : (text left room now : List ℕ) (put : ℕ) → IsPut text left room put now → length now ≤ put
+    → PutsOn text left room put now
+is-full text left room now put is full =
+    all-put text left room now put is (omega (arith, full, room-length is, is.fits, is.most))
+
+pub is-over : (text whole room now : List ℕ) (put gone : ℕ) (some : Bool)
+    → IsPut text (drop gone whole) room put now → IsTrue some ↔ (0 < length whole) → some ≡ false
+    → PutsOn text (drop gone whole) room put now
+is-over text whole room now put gone some is ends none = elim (cases_lt 0 (length whole)) [
+  | inl more ↦ absurd (true≢false (sym (ends.1 more) ∙ none))
+  | inr over ↦
+      let left : length (drop gone whole) ≡ length text - put = ap length is.left ∙ length-drop put text in
+      all-put text (drop gone whole) room now put is
+      (omega (arith, over, left, length-drop gone whole, is.fits, is.most))
+]

@@ -1,0 +1,95 @@
+//! A memory as C has it, as the writers of record files walk over it.
+ghost use Rattle.std.specs.Prelude.{◌≡◌, ◌⊎◌, ◌+◌, ◌^◌, ◌<◌, ◌≤◌, length, take, drop, min};
+ghost use Rattle.avr_image.specs.Image.{first_from};
+ghost use Rattle.avr_image.specs.Runs.{lead};
+ghost use Rattle.avr_records_c.specs.Bitmap.{image_of, octets_of};
+
+use crate::bitmap::is_there;
+use avr_records::Sparse;
+use std::marker::Model;
+
+/// The bytes of a memory, and the bitmap of those that are there.
+#[derive(Drop)]
+pub(crate) struct Memory<'a> {
+    present: &'a [u8],
+    bytes: &'a [u8],
+}
+
+impl<'a> Model for Memory<'a> {
+    ghost use Rattle.std.specs.Prelude.{ℕ, List, Option};
+    ghost use Rattle.avr_records_c.specs.Bitmap.{image_of, HasBitmap};
+
+    ghost Value = { List (Option ℕ) };
+
+    ghost view = { λ m. image_of m.present.now m.bytes.now };
+
+    ghost invariant = { λ m. HasBitmap m.present.now m.bytes.now };
+}
+
+impl<'a> Memory<'a> {
+    /// The memory of these bytes, as far as they are there.
+    pub(crate) fn new(present: &'a [u8], bytes: &'a [u8]) -> Memory<'a>
+        requires below { length bytes.now < 2 ^ 32 }
+        requires octets { length present.now ≡ octets_of (length bytes.now) }
+        ensures { result ≡ image_of present.now bytes.now }
+    {
+        Memory { present, bytes }
+    }
+}
+
+/// The least address from one on whose byte is there.
+fn next_there(present: &[u8], bytes: &[u8], addr: usize) -> Option<usize>
+    requires { length present.now ≡ octets_of (length bytes.now) }
+    ensures { result ≡ first_from (image_of present.now bytes.now) addr }
+{
+    let mut at = addr;
+    'gap: while at < bytes.len() {
+        if is_there(present, at) {
+            return Some(at);
+        }
+        at += 1;
+    }
+    None
+}
+
+/// The end of a row of at most so many bytes that begins at an address of the memory.
+fn row_end(present: &[u8], bytes: &[u8], addr: usize, most: usize) -> usize
+    requires octets { length present.now ≡ octets_of (length bytes.now) }
+    requires inside { addr ≤ length bytes.now }
+    ensures { result ≡ addr + min most (length (lead (drop addr (image_of present.now bytes.now)))) }
+{
+    let stop = addr + most.min(bytes.len() - addr);
+    let mut end = addr;
+    'row: while end < stop && is_there(present, end) {
+        end += 1;
+    }
+    end
+}
+
+/// The bytes from an address on, as far as they are there, and at most so many.
+fn row_there<'a>(present: &[u8], bytes: &'a [u8], addr: usize, most: usize) -> &'a [u8]
+    requires { length present.now ≡ octets_of (length bytes.now) }
+    ensures row { result.now ≡ take most (lead (drop addr (image_of present.now bytes.now))) }
+    ensures inside { length result.now ≡ 0 ⊎ addr + length result.now ≤ length bytes.now }
+{
+    if addr >= bytes.len() {
+        return &[];
+    }
+    let end = row_end(present, bytes, addr, most);
+    &bytes[addr..end]
+}
+
+impl Sparse for Memory<'_> {
+    ghost held = { λ memory. memory };
+
+    fn next_held(&self, addr: u32) -> Option<u32> {
+        match next_there(self.present, self.bytes, addr as usize) {
+            Some(place) => Some(place as u32),
+            None => None,
+        }
+    }
+
+    fn row_at(&self, addr: u32, most: u32) -> &[u8] {
+        row_there(self.present, self.bytes, addr as usize, most as usize)
+    }
+}

@@ -1,0 +1,8 @@
+-- Actions, operations and reports of a session, one after another.
+pub mod Actions
+pub mod FaultsTold
+pub mod Reports
+pub mod Operations
+pub mod Sequences
+pub mod Saves
+pub mod Trimmed

@@ -1,0 +1,636 @@
+-- Phases of a session, one after another.
+use Rattle.std.proofs.Common.{◌≡◌, ℕ, Bool, true, false, ◌||◌, ◌++◌, ◌≤◌, arith, List, [], ◌∷◌, length, refl, sym, ap, ◌∙◌, subst, subst₂, append_assoc, Option, Some, None, Result, Ok, Err, inl, get_or, take, drop, ◌<◌, ◌-◌}
+use Rattle.std.specs.List.{list_any}
+use Rattle.std.proofs.lemmas.Grind.{common_steps}
+use Rattle.std.proofs.lemmas.List.Folds.{list_any-append}
+use Rattle.avr_desk.specs.Fault.{Follows}
+use Rattle.avr_desk.specs.Record.{DeskView}
+use Rattle.avr_cli.specs.declared.settings.Switches.{Switches}
+use Rattle.avr_cli.specs.declared.update.Format.{Format}
+use Rattle.avr_part.specs.Part.{Part}
+use Rattle.avr_part.specs.declared.part.Mem.{Mem}
+use Rattle.stk_host.specs.declared.fault.HostFault.{HostFault}
+use Rattle.stk_host.specs.declared.fault.HostFault.TheVariants.{NoAnswer, LinkEnded, SendFailed, Babble, Refused, BadAnswer, WrongSignature, Differs, ReadOnly, Memory, RecvFailed}
+use Rattle.stk_host.specs.State.{HostState, lasting_fault}
+use Rattle.stk_host.specs.Talk as link
+use Rattle.stk_host.specs.Play.{Position}
+use Rattle.stk_host.specs.Talk.{Talk, LinkView, heard}
+use Rattle.stk_host.specs.Tape.{Tape, on_tape}
+use Rattle.stk_host.proofs.Talks.InDialogs.{followed, played_bind}
+use Rattle.stk_host.proofs.Talks.Laws.{heard_append}
+use Rattle.stk_host.specs.Calls.{IsBroken, EndsCall, Calls, CallsBy, given_or_fault}
+use Rattle.stk_host.specs.Dialog.{Dialog, Done, ◌>>=◌, Event, Played, played, behind, sayings}
+use Rattle.avr_desk.specs.Said.{Saying, Tells}
+use Rattle.avr_plan.specs.Plan.{Plan}
+use Rattle.avr_plan.specs.declared.planned.Task.{Task}
+use Rattle.avr_session.specs.declared.standing.Standing.{Standing}
+use Rattle.avr_session.specs.declared.standing.Standing.TheVariants.{Fine, Faulty, Over}
+use Rattle.avr_session.specs.declared.standing.Stopped.{Stopped}
+use Rattle.avr_session.specs.Actions.{Action, action_takes_memory, actions, takes_memory}
+use Rattle.avr_session.specs.Concluding.{HostServes, after_outcome, conclusion, fine_if_said}
+use Rattle.avr_session.specs.Lines.{fault_line}
+use Rattle.avr_session.specs.Session.{says, standing, reported, unless_fault, fault_or, read_says, opening_says, phase, phases, playing, session, status_of}
+use Rattle.avr_session.specs.Runs.{Cause, OfSending, OfListening, OfFile, OfPrinting, OfMemory, cause_line, tells_fault, Devices, devices, start, Terms, untold, TellsCause, StopsBehind, DeskStops, PrintStops, ReadStops, Reports, Lacking, BrokeOff, Ran, Runs}
+use Rattle.avr_session.specs.Run.{StopsSession}
+use Rattle.avr_session.specs.Stopping.{IsPlayed}
+use Rattle.avr_session.specs.Taking.{AtOnce, AtTaking}
+use Rattle.avr_session.specs.Phases.{is_told, PerformsBehind, Performs, Does, LeavesOut}
+use Rattle.avr_session.proofs.PhaseByPhase.Reports.{told_some, kept_nothing}
+use Rattle.avr_desk.proofs.Stages.Sayings.{kept_none}
+use Rattle.avr_desk.proofs.Lines.Told.{follows_here, follows_on, same_here}
+use Rattle.avr_session.proofs.Runs.Calls.{none_failed_here, came_here, came_said, came_part, ran_from, ran_on, stops_in, stops_since, broke_after, broke_part, broke_saying, StopsReport, ToldBy}
+use Rattle.avr_session.proofs.PhaseByPhase.FaultsTold.{Foretells, foretold, prefix_tells_none, read_none, phases_foretells}
+use Rattle.avr_session.proofs.PhaseByPhase.Actions.{phases-one, phases-append}
+use Rattle.avr_session.proofs.PhaseByPhase.Operations.{IsStop, IsMemory, cause_of, Ended, lacks_where, only_broken, sound_lack, operation_runs, stop_is, told_of}
+
+-- a desk that failed as it printed stops the run, whatever was reported
+printing_tells : (flag : Bool) (told : List ℕ) (d : DeskView) → told ≡ [] → TellsCause flag OfPrinting told d d
+unfolding cause_line
+printing_tells false told d none = inl (none, same_here d)
+printing_tells true told d none = none
+
+pub print_stops_run : (terms : Terms) (o : LinkView) (d e : DeskView) → Follows d e
+    → (said : List Saying) (cause : Cause) (told : List ℕ) → PrintStops d e cause told
+    → StopsBehind terms (devices o d) (devices o e) said cause told
+print_stops_run terms o d e le said OfSending told stops = absurd stops
+print_stops_run terms o d e le said OfListening told stops = absurd stops
+print_stops_run terms o d e le said (OfFile file trouble) told stops = absurd stops
+print_stops_run terms o d e le said OfPrinting told stops =
+    record {
+      between = e;
+      has_come = (stops.0, refl);
+      tells =
+          printing_tells (terms.was_told || tells_fault said) told e stops.1;
+      since = le;
+      until = follows_here e;
+    }
+print_stops_run terms o d e le said OfMemory told stops = absurd stops
+
+-- at a file too, where no fault was reported
+desk_stops_run : (takes : Bool) (o : LinkView) (d e : DeskView) → Follows d e → (said : List Saying)
+    → tells_fault said ≡ false → (cause : Cause) (told : List ℕ) → DeskStops d e cause told
+    → StopsBehind (untold takes) (devices o d) (devices o e) said cause told
+desk_stops_run takes o d e le said none OfSending told stops = absurd stops
+desk_stops_run takes o d e le said none OfListening told stops = absurd stops
+desk_stops_run takes o d e le said none (OfFile file trouble) told stops = record {
+  between = stops.between;
+  has_come = (stops.failed, refl);
+  tells = subst (λ x. TellsCause x (OfFile file trouble) told stops.between e) (sym none) stops.tells;
+  since = stops.since;
+  until = stops.until;
+}
+desk_stops_run takes o d e le said none OfPrinting told stops =
+    print_stops_run (untold takes) o d e le said OfPrinting told stops
+desk_stops_run takes o d e le said none OfMemory told stops = absurd stops
+
+-- what a report stops by, after a prefix of what it says
+
+pub print_stops_report : (takes : Bool) (o : LinkView) {d e : DeskView} {sayings : List Saying}
+    {told : Result (Unit {0}) Stopped} → Reports PrintStops d e sayings told
+    → StopsReport (untold takes) o d e sayings PrintStops
+print_stops_report takes o {d = d} {e = e} reports mid cause prefix told stops =
+    print_stops_run (untold takes) o d e reports.follows (prefix.whole ++ prefix.begun) cause told stops
+
+desk_stops_report : (takes : Bool) (o : LinkView) (d e : DeskView) (sayings : List Saying) → Follows d e
+    → tells_fault sayings ≡ false → StopsReport (untold takes) o d e sayings DeskStops
+desk_stops_report takes o d e sayings le none mid cause prefix told stops =
+    desk_stops_run takes o d e le (prefix.whole ++ prefix.begun) (prefix_tells_none prefix none) cause told stops
+
+-- the line of another fault than a signature's stands alone
+pub opening_told : (old new : DeskView) (quiet : ℕ) (part : Part) (outcome : Result (List ℕ) HostFault)
+    (told : Result (Unit {0}) Stopped) → Reports PrintStops old new (opening_says quiet part outcome) told
+    → IsStop outcome → Tells old new (cause_line (cause_of outcome))
+unfolding cause_line fault_line
+opening_told old new quiet part (Ok x) told reports stop = absurd stop
+opening_told old new quiet part (Err NoAnswer) told reports stop = absurd stop
+opening_told old new quiet part (Err LinkEnded) told reports stop = absurd stop
+opening_told old new quiet part (Err SendFailed) told reports stop =
+    told_some old new (fault_line part SendFailed) told reports
+opening_told old new quiet part (Err Babble) told reports stop = absurd stop
+opening_told old new quiet part (Err (Refused command status)) told reports stop = absurd stop
+opening_told old new quiet part (Err (BadAnswer command)) told reports stop = absurd stop
+opening_told old new quiet part (Err (WrongSignature found)) told reports stop = absurd stop
+opening_told old new quiet part (Err (Differs mem address want found)) told reports stop = absurd stop
+opening_told old new quiet part (Err (ReadOnly mem)) told reports stop = absurd stop
+opening_told old new quiet part (Err Memory) told reports stop = told_some old new (fault_line part Memory) told reports
+opening_told old new quiet part (Err RecvFailed) told reports stop =
+    told_some old new (fault_line part RecvFailed) told reports
+
+-- the host serves after any outcome that leaves the line
+serves_after : {A : Type 0} (outcome : Result A HostFault) (told : Result (Unit {0}) Stopped)
+    (broken : Option HostFault) → broken ≡ lasting_fault outcome → HostServes (conclusion outcome told) broken
+serves_after (Ok a) (Ok ok) broken is = is
+serves_after (Err NoAnswer) (Ok ok) broken is = is
+serves_after (Err LinkEnded) (Ok ok) broken is = tt
+serves_after (Err SendFailed) (Ok ok) broken is = tt
+serves_after (Err Babble) (Ok ok) broken is = is
+serves_after (Err (Refused command status)) (Ok ok) broken is = is
+serves_after (Err (BadAnswer command)) (Ok ok) broken is = is
+serves_after (Err (WrongSignature found)) (Ok ok) broken is = is
+serves_after (Err (Differs mem address want found)) (Ok ok) broken is = is
+serves_after (Err (ReadOnly mem)) (Ok ok) broken is = is
+serves_after (Err Memory) (Ok ok) broken is = tt
+serves_after (Err RecvFailed) (Ok ok) broken is = tt
+serves_after outcome (Err stopped) broken is = tt
+
+-- a cause that was reported
+told_by : {A : Type 0} (takes : Bool) (outcome : Result A HostFault) (o p : LinkView) (d e : DeskView)
+    → (IsBroken outcome → link.HasFailed o p) → (IsMemory outcome → (takes ≡ true) × (p.failures ≡ o.failures))
+    → IsStop outcome → Tells d e (cause_line (cause_of outcome))
+    → ToldBy (untold takes) (cause_of outcome) (devices o d) (devices p e)
+told_by takes outcome o p d e failed lacks stop some = (
+  some.told,
+  record {
+    between = d;
+    has_come = stop_is outcome takes o p d failed lacks stop;
+    tells = some.tells;
+    since = follows_here d;
+    until = some.follows;
+  },
+  some.kept,
+)
+
+-- an operation of the host and its report
+pub operation_performs : {A : Type 0} {Ends : Position → LinkView → LinkView → Result A HostFault → Position → Type 0}
+    (takes : Bool) (operation : Dialog ⊥ (Result A HostFault)) (outcome_says : Result A HostFault → List Saying)
+    {old new : HostState} {o p : LinkView} {d e : DeskView} (outcome : Result A HostFault)
+    (told : Result (Unit {0}) Stopped) (result : Result Standing Stopped)
+    (By : DeskView → DeskView → Cause → List ℕ → Type 0)
+    → StopsReport (untold takes) p d e (outcome_says outcome) By
+    → old.broken ≡ None → CallsBy Ends old new o p outcome
+    → (Ends old.progress o p outcome new.progress → Ended takes operation old.progress o p outcome new.progress)
+    → Reports By d e (outcome_says outcome) told → (IsStop outcome → Tells d e (cause_line (cause_of outcome)))
+    → result ≡ conclusion outcome told
+    → Performs takes (reported operation outcome_says) old new (devices o d) (devices p e) result
+operation_performs takes operation outcome_says {old = old} {new = new} {o = o} {p = p} {d = d} {e = e} outcome told
+    result By why sound calls ends reports some is =
+    let ended = ends (calls.played sound) in
+    let takes_where = lacks_where takes operation old.progress o p outcome new.progress ended in
+    let lacks : IsMemory outcome → (takes ≡ true) × (p.failures ≡ o.failures) =
+    λ is. (takes_where is, sound_lack outcome is (calls.sound sound)) in
+    record {
+      runs = subst (λ r. Runs (reported operation outcome_says) old.progress (devices o d) (devices p e) (untold takes)
+          (AtOnce takes) r new.progress) (sym is)
+          (operation_runs takes outcome_says outcome told (untold takes) By why ended (calls.bound sound)
+          (calls.sound sound) reports.says (λ stop. told_by takes outcome o p d e (calls.failed sound) lacks stop
+          (some stop)));
+      serves = subst (λ r. HostServes r new.broken) (sym is) (serves_after outcome told new.broken (calls.lasts sound));
+      part = calls.part;
+      link = calls.counted;
+      desk = reports.follows;
+    }
+
+left_out_runs : (takes : Bool) (sayings : List Saying) (m : Position) (o : LinkView) (d e : DeskView)
+    (told : Result (Unit {0}) Stopped) → Reports PrintStops d e sayings told
+    → Runs (says sayings (Done Fine)) m (devices o d) (devices o e) (untold takes) (AtOnce takes) (fine_if_said told) m
+left_out_runs takes sayings m o d e (Ok done) reports = ran_from (came_said sayings (Done Fine) m o reports.says)
+left_out_runs takes sayings m o d e (Err stopped) reports =
+    broke_saying sayings (Done Fine) m o (print_stops_report takes o reports) reports.says
+
+left_out_serves : (told : Result (Unit {0}) Stopped) (broken : Option HostFault) → broken ≡ None
+    → HostServes (fine_if_said told) broken
+left_out_serves (Ok done) broken sound = sound
+left_out_serves (Err stopped) broken sound = tt
+
+-- something said in its place
+pub left_out_performs : (takes : Bool) (sayings : List Saying) {host : HostState} {o : LinkView} {d e : DeskView}
+    (result : Result Standing Stopped) → host.broken ≡ None → LeavesOut sayings d e result
+    → Performs takes (says sayings (Done Fine)) host host (devices o d) (devices o e) result
+left_out_performs takes sayings {host = host} {o = o} {d = d} {e = e} result sound leaves = record {
+  runs = subst (λ r. Runs (says sayings (Done Fine)) host.progress (devices o d) (devices o e) (untold takes)
+      (AtOnce takes) r host.progress) (sym leaves.result_is)
+      (left_out_runs takes sayings host.progress o d e leaves.told leaves.reports);
+  serves = subst (λ r. HostServes r host.broken) (sym leaves.result_is) (left_out_serves leaves.told host.broken sound);
+  part = refl;
+  link = omega arith;
+  desk = leaves.reports.follows;
+}
+
+-- nothing
+nothing_performs : {L : Lacking} (takes : Bool) (host : HostState) (o : Devices) → host.broken ≡ None
+    → PerformsBehind (untold takes) L (Done Fine) host host o o (Ok Fine)
+nothing_performs takes host o sound = record {
+  runs = ran_from (came_here (Done Fine) host.progress o);
+  serves = sound;
+  part = refl;
+  link = omega arith;
+  desk = follows_here o.desk;
+}
+
+-- any phase goes on as its result chooses
+pub performs_on : {first : Dialog Saying Standing} {K L M : Lacking} (takes more_takes : Bool)
+    (go_on : Standing → Dialog Saying Standing) {x y z : HostState} {o p q : Devices} (standing : Standing)
+    (result : Result Standing Stopped)
+    → (more_takes ≡ true → takes ≡ true) → Foretells first
+    → (done : PerformsBehind (untold takes) K first x y o p (Ok standing))
+    → ((during : Talk) (shown : List (Event Saying)) → M y.progress during shown
+    → L x.progress (done.runs.during ++ during) (done.runs.events ++ shown))
+    → PerformsBehind (record { takes = more_takes; was_told = is_told standing }) M (go_on standing) y z p q result
+    → PerformsBehind (untold takes) L (first >>= go_on) x z o q result
+performs_on takes more_takes go_on {o = o} {p = p} {q = q} standing (Ok then) both foretells done lack rest = record {
+  runs = ran_on (came_part go_on done.runs) rest.runs;
+  serves = rest.serves;
+  part = rest.part ∙ done.part;
+  link = omega (arith, done.link, rest.link);
+  desk = follows_on o.desk p.desk q.desk done.desk rest.desk;
+}
+performs_on takes more_takes go_on {o = o} {p = p} {q = q} standing (Err stopped) both foretells done lack rest =
+    record {
+      runs = broke_after go_on done.runs (stops_in (record { takes = more_takes; was_told = is_told standing })
+          (untold takes) (sayings done.runs.events) o p q both done.runs.sound (foretold foretells done.runs)) lack
+          rest.runs;
+      serves = tt;
+      part = rest.part ∙ done.part;
+      link = omega (arith, done.link, rest.link);
+      desk = follows_on o.desk p.desk q.desk done.desk rest.desk;
+    }
+
+-- memory is taken in the one or in the other
+
+or_first : (b c : Bool) → b ≡ true → (b || c) ≡ true
+or_first true c is = refl
+or_first false c is = absurd (cc)
+
+or_then : (b c : Bool) → c ≡ true → (b || c) ≡ true
+or_then true c is = refl
+or_then false c is = is
+
+performs_with : {dialog : Dialog Saying Standing} {L : Lacking} (takes more_takes : Bool) {x y : HostState}
+    {o p : Devices} (standing : Standing) → PerformsBehind (untold takes) L dialog x y o p (Ok standing)
+    → PerformsBehind (untold (takes || more_takes)) L dialog x y o p (Ok standing)
+performs_with takes more_takes standing done =
+    record { runs = done.runs; serves = done.serves; part = done.part; link = done.link; desk = done.desk }
+
+-- one phase after another
+performs_then : {first more : Dialog Saying Standing} {K L M : Lacking} (takes more_takes : Bool) {x y z : HostState}
+    {o p q : Devices} (result : Result Standing Stopped)
+    → Foretells first → (done : PerformsBehind (untold takes) K first x y o p (Ok Fine))
+    → ((during : Talk) (shown : List (Event Saying)) → M y.progress during shown
+    → L x.progress (done.runs.during ++ during) (done.runs.events ++ shown))
+    → PerformsBehind (untold more_takes) M more y z p q result
+    → PerformsBehind (untold (takes || more_takes)) L (first >>= unless_fault more) x z o q result
+unfolding performs_with
+performs_then {more = more} takes more_takes result foretells done lack rest =
+    performs_on (takes || more_takes) more_takes (unless_fault more) Fine result (or_then takes more_takes) foretells
+    (performs_with takes more_takes Fine done) lack rest
+
+-- a phase that is the last
+performs_last : {first : Dialog Saying Standing} {L M : Lacking} (takes more_takes : Bool)
+    (more : Dialog Saying Standing) {x y : HostState} {o p : Devices} (result : Result Standing Stopped)
+    → (result ≡ Ok Fine → ⊥)
+    → ((during : Talk) (shown : List (Event Saying)) → M x.progress during shown → L x.progress during shown)
+    → PerformsBehind (untold takes) M first x y o p result
+    → PerformsBehind (untold (takes || more_takes)) L (first >>= unless_fault more) x y o p result
+performs_last takes more_takes more (Ok Fine) not lack done = absurd (not refl)
+performs_last takes more_takes more (Ok Faulty) not lack done =
+    record {
+      runs = ran_from (came_part (unless_fault more) done.runs);
+      serves = done.serves;
+      part = done.part;
+      link =
+          done.link;
+      desk = done.desk;
+    }
+performs_last takes more_takes more (Ok Over) not lack done =
+    record {
+      runs = ran_from (came_part (unless_fault more) done.runs);
+      serves = done.serves;
+      part = done.part;
+      link =
+          done.link;
+      desk = done.desk;
+    }
+performs_last takes more_takes more {o = o} {p = p} (Err stopped) not lack done = record {
+  runs = broke_part (unless_fault more) (stops_since takes (takes || more_takes) false o o p (or_first takes more_takes)
+      (none_failed_here o)) lack done.runs;
+  serves = done.serves;
+  part = done.part;
+  link = done.link;
+  desk = done.desk;
+}
+
+-- ---- where memory is taken
+
+-- at once in the only action
+taking_one : (part : Part) (s : Switches) (action : Action) (m : Position) (during : Talk) (shown : List (Event Saying))
+    → AtOnce (action_takes_memory action) m during shown → AtTaking part s (action ∷ []) m during shown
+taking_one part s action m during shown at = record {
+  done = [];
+  due = action;
+  more = [];
+  actions_are = refl;
+  takes = at.0;
+  next = m.next;
+  left = on_tape m.unread ++ heard during;
+  is_played = ap (λ (es : List (Event Saying)). record
+      { events = es; outcome = Some (Fine, m.next, on_tape m.unread ++ heard during) }) (sym at.1);
+}
+
+-- in the first of more
+taking_prefix : (part : Part) (s : Switches) (xs ys : List Action) (m : Position) (during : Talk)
+    (shown : List (Event Saying)) → AtTaking part s xs m during shown → AtTaking part s (xs ++ ys) m during shown
+taking_prefix part s xs ys m during shown at = record {
+  done = at.done;
+  due = at.due;
+  more = at.more ++ ys;
+  actions_are = ap (λ (every : List Action). every ++ ys) at.actions_are ∙ append_assoc at.done (at.due ∷ at.more) ys;
+  takes = at.takes;
+  next = at.next;
+  left = at.left;
+  is_played = at.is_played;
+}
+
+-- after others that were played
+taking_then : (part : Part) (s : Switches) (xs ys : List Action) {m n : Position} {o p : Devices}
+    (ran : Ran (phases part s xs) m o p Fine n) (during : Talk) (shown : List (Event Saying))
+    → AtTaking part s ys n during shown → AtTaking part s (xs ++ ys) m (ran.during ++ during) (ran.events ++ shown)
+taking_then part s xs ys {m = m} {n = n} ran during shown at =
+    let go_on : Standing → Dialog Saying Standing = unless_fault (phases part s at.done) in
+    let tape : Tape = on_tape m.unread ++ heard (ran.during ++ during) in
+    let first = ap (λ (t : Tape). played (phases part s xs) m.next (on_tape m.unread ++ t))
+    (heard_append ran.during during) ∙ ran.plays.plays (heard during) in
+    record {
+      done = xs ++ at.done;
+      due = at.due;
+      more = at.more;
+      actions_are = ap (λ (every : List Action). xs ++ every) at.actions_are
+          ∙ sym (append_assoc xs at.done (at.due ∷ at.more));
+      takes = at.takes;
+      next = at.next;
+      left = at.left;
+      is_played = ap (λ (d : Dialog Saying Standing). played d m.next tape) (phases-append part s xs at.done)
+          ∙ (played_bind (phases part s xs) go_on m.next tape
+          ∙ (ap (λ (q : Played Saying Standing). followed q (λ st. played (go_on st))) first
+          ∙ ap (behind ran.events) at.is_played));
+    }
+
+-- ---- the actions of a plan
+
+or_false : (b : Bool) → (b || false) ≡ b
+or_false true = refl
+or_false false = refl
+
+-- none
+pub does_nothing : (plan : Plan) (host : HostState) (o : Devices) → host.broken ≡ None
+    → Does plan [] host host o o (Ok Fine)
+does_nothing plan host o sound = nothing_performs false host o sound
+
+-- the same phase, by where else memory may be taken
+performs_lacking : {terms : Terms} {L M : Lacking} {dialog : Dialog Saying Standing} {x y : HostState} {o p : Devices}
+    → ((during : Talk) (shown : List (Event Saying)) → M x.progress during shown → L x.progress during shown)
+    → (result : Result Standing Stopped) → PerformsBehind terms M dialog x y o p result
+    → PerformsBehind terms L dialog x y o p result
+performs_lacking lack (Ok standing) done =
+    record { runs = done.runs; serves = done.serves; part = done.part; link = done.link; desk = done.desk }
+performs_lacking lack (Err stopped) done =
+    let f = done.runs in
+    record {
+      runs = record {
+        during = f.during;
+        shown = f.shown;
+        cause = f.cause;
+        told = f.told;
+        grows = f.grows;
+        breaks = f.breaks;
+        place = f.place;
+        listens = f.listens;
+        stops = f.stops;
+        kept = f.kept;
+        lacks = λ is. lack f.during f.shown (f.lacks is);
+      };
+      serves = done.serves;
+      part = done.part;
+      link = done.link;
+      desk = done.desk;
+    }
+
+-- one
+pub does_one : (plan : Plan) (action : Action) {x y : HostState} {o p : Devices} {result : Result Standing Stopped}
+    → Performs (action_takes_memory action) (phase plan.part plan.switches action) x y o p result
+    → Does plan (action ∷ []) x y o p result
+does_one plan action {x = x} {y = y} {o = o} {p = p} {result = result} done =
+    subst₂ (λ (takes : Bool) (dialog : Dialog Saying Standing). PerformsBehind (untold takes)
+    (AtTaking plan.part plan.switches (action ∷ [])) dialog x y o p result)
+    (sym (or_false (action_takes_memory action))) (sym (phases-one plan.part plan.switches action))
+    (performs_lacking (taking_one plan.part plan.switches action x.progress) result done)
+
+does_both : (plan : Plan) (xs ys : List Action) {x y : HostState} {o p : Devices} {result : Result Standing Stopped}
+    → PerformsBehind (untold (list_any action_takes_memory xs || list_any action_takes_memory ys))
+    (AtTaking plan.part plan.switches (xs ++ ys))
+    (phases plan.part plan.switches xs >>= unless_fault (phases plan.part plan.switches ys)) x y o p result
+    → Does plan (xs ++ ys) x y o p result
+does_both plan xs ys {x = x} {y = y} {o = o} {p = p} {result = result} done =
+    subst₂ (λ (takes : Bool) (dialog : Dialog Saying Standing). PerformsBehind (untold takes)
+    (AtTaking plan.part plan.switches (xs ++ ys)) dialog x y o p result)
+    (sym (list_any-append action_takes_memory xs ys)) (sym (phases-append plan.part plan.switches xs ys)) done
+
+-- the same actions, as they are written elsewhere
+pub does_same : (plan : Plan) (xs ys : List Action) {x y : HostState} {o p : Devices} {result : Result Standing Stopped}
+    → xs ≡ ys → Does plan xs x y o p result → Does plan ys x y o p result
+does_same plan xs ys {x = x} {y = y} {o = o} {p = p} {result = result} same done =
+    subst (λ (every : List Action). Does plan every x y o p result) same done
+
+-- these, and then those
+pub does_then : (plan : Plan) (xs ys : List Action) {x y z : HostState} {o p q : Devices}
+    (result : Result Standing Stopped) → Does plan xs x y o p (Ok Fine) → Does plan ys y z p q result
+    → Does plan (xs ++ ys) x z o q result
+does_then plan xs ys result done rest =
+    does_both plan xs ys (performs_then (list_any action_takes_memory xs) (list_any action_takes_memory ys) result
+    (phases_foretells plan.part plan.switches xs) done (taking_then plan.part plan.switches xs ys done.runs) rest)
+
+-- after these the others are left out
+pub does_last : (plan : Plan) (xs ys : List Action) {x y : HostState} {o p : Devices} (result : Result Standing Stopped)
+    → (result ≡ Ok Fine → ⊥) → Does plan xs x y o p result → Does plan (xs ++ ys) x y o p result
+does_last plan xs ys {x = x} result not done =
+    does_both plan xs ys (performs_last (list_any action_takes_memory xs) (list_any action_takes_memory ys)
+    (phases plan.part plan.switches ys) result not (taking_prefix plan.part plan.switches xs ys x.progress) done)
+
+-- a read, whose data stand in a vector
+
+given_goes : {A : Type 0} (a : A) (outcome : Result (Unit {0}) HostFault)
+    → after_outcome (given_or_fault a outcome) ≡ after_outcome outcome
+given_goes a (Ok ok) = refl
+given_goes a (Err NoAnswer) = refl
+given_goes a (Err LinkEnded) = refl
+given_goes a (Err SendFailed) = refl
+given_goes a (Err Babble) = refl
+given_goes a (Err (Refused command status)) = refl
+given_goes a (Err (BadAnswer command)) = refl
+given_goes a (Err (WrongSignature found)) = refl
+given_goes a (Err (Differs mem address want found)) = refl
+given_goes a (Err (ReadOnly mem)) = refl
+given_goes a (Err Memory) = refl
+given_goes a (Err RecvFailed) = refl
+
+pub given_concluded : {A : Type 0} (a : A) (outcome : Result (Unit {0}) HostFault) (told : Result (Unit {0}) Stopped)
+    → conclusion (given_or_fault a outcome) told ≡ conclusion outcome told
+given_concluded a outcome (Ok ok) = given_goes a outcome
+given_concluded a outcome (Err stopped) = refl
+
+-- a fault alone tells why a run stops
+pub given_told : {A : Type 0} (a : A) (good : A → List Saying) (old new : DeskView) (part : Part)
+    (outcome : Result (Unit {0}) HostFault) (told : Result (Unit {0}) Stopped)
+    → Reports (ReadStops outcome) old new (fault_or part good (given_or_fault a outcome)) told
+    → IsStop (given_or_fault a outcome) → Tells old new (cause_line (cause_of (given_or_fault a outcome)))
+given_told a good old new part (Ok ok) told reports stop = absurd stop
+given_told a good old new part (Err fault) told reports stop = told_of old new part good (Err fault) told reports stop
+
+-- only where bytes were read there is something to save
+pub read_stops_report : (part : Part) (s : Switches) (mem : Mem) (format : Format) (file items : List ℕ)
+    (outcome : Result (Unit {0}) HostFault) (takes : Bool) (o : LinkView) {d e : DeskView}
+    {told : Result (Unit {0}) Stopped}
+    → Reports (ReadStops outcome) d e (fault_or part (read_says s mem format file) (given_or_fault items outcome)) told
+    → StopsReport (untold takes) o d e (fault_or part (read_says s mem format file) (given_or_fault items outcome))
+    (ReadStops outcome)
+read_stops_report part s mem format file items (Ok done) takes o {d = d} {e = e} reports =
+    desk_stops_report takes o d e (read_says s mem format file items) reports.follows
+    (read_none s mem format file items)
+read_stops_report part s mem format file items (Err fault) takes o reports = print_stops_report takes o reports
+
+-- the tasks are the first and those after it
+pub first_task : (tasks : List Task) (task : Task) → 1 ≤ length tasks → task ≡ get_or tasks 0 task
+    → task ∷ drop 1 tasks ≡ tasks
+first_task [] task some is = absurd (omega (arith, some))
+first_task (t ∷ tasks) task some is = ap (λ x. x ∷ tasks) is
+
+pub no_task : (tasks : List Task) → length tasks < 1 → [] ≡ tasks
+no_task [] few = refl
+no_task (t ∷ tasks) few = absurd (omega (arith, few))
+
+pub tasks_behind : (tasks : List Task) → take (length tasks - 1) (drop 1 tasks) ≡ drop 1 tasks
+tasks_behind tasks = grind (arith, common_steps)
+
+-- the end of a session
+
+pub performs_until : {terms : Terms} {L : Lacking} {first : Dialog Saying Standing}
+    (go_on : Standing → Dialog Saying Standing) {x y : HostState} {o p : Devices} (stopped : Stopped)
+    → PerformsBehind terms L first x y o p (Err stopped)
+    → PerformsBehind terms L (first >>= go_on) x y o p (Err stopped)
+performs_until go_on stopped done = record {
+  runs = broke_part go_on (λ said cause told s. s) (λ during shown lack. lack) done.runs;
+  serves = tt;
+  part =
+      done.part;
+  link = done.link;
+  desk = done.desk;
+}
+
+pub over_performs : {L : Lacking} (terms : Terms) (host : HostState) (o : Devices)
+    → PerformsBehind terms L (Done Over) host host o o (Ok Over)
+over_performs terms host o = record {
+  runs = ran_from (came_here (Done Over) host.progress o);
+  serves = tt;
+  part = refl;
+  link = omega arith;
+  desk = follows_here o.desk;
+}
+
+-- after a fault that was reported
+abbrev told_before : Terms
+told_before = record { takes = false; was_told = true }
+
+-- nothing is reported there of a link that failed
+told_nothing : {A : Type 0} (outcome : Result A HostFault) {o p : LinkView} (d : DeskView)
+    → (IsBroken outcome → link.HasFailed o p) → IsBroken outcome
+    → ToldBy told_before (cause_of outcome) (devices o d) (devices p d)
+told_nothing (Ok x) d failed broken = absurd broken
+told_nothing (Err NoAnswer) d failed broken = absurd broken
+told_nothing (Err LinkEnded) d failed broken = absurd broken
+told_nothing (Err SendFailed) d failed broken = (
+  [],
+  record {
+    between = d;
+    has_come = (failed tt, same_here d);
+    tells = refl;
+    since = follows_here d;
+    until =
+        follows_here d;
+  },
+  kept_nothing d.kept,
+)
+told_nothing (Err Babble) d failed broken = absurd broken
+told_nothing (Err (Refused command status)) d failed broken = absurd broken
+told_nothing (Err (BadAnswer command)) d failed broken = absurd broken
+told_nothing (Err (WrongSignature found)) d failed broken = absurd broken
+told_nothing (Err (Differs mem address want found)) d failed broken = absurd broken
+told_nothing (Err (ReadOnly mem)) d failed broken = absurd broken
+told_nothing (Err Memory) d failed broken = absurd broken
+told_nothing (Err RecvFailed) d failed broken = (
+  [],
+  record {
+    between = d;
+    has_come = (failed tt, same_here d);
+    tells = refl;
+    since = follows_here d;
+    until =
+        follows_here d;
+  },
+  kept_nothing d.kept,
+)
+
+-- an operation of which nothing is reported
+pub quietly_performs : (operation : Dialog ⊥ (Result (Unit {0}) HostFault)) {old new : HostState} {o p : LinkView}
+    (d : DeskView) (outcome : Result (Unit {0}) HostFault) (result : Result Standing Stopped)
+    → old.broken ≡ None → Calls operation old new o p outcome
+    → (EndsCall operation old.progress o p outcome new.progress
+    → Ended false operation old.progress o p outcome new.progress) → result ≡ conclusion outcome (Ok tt)
+    → PerformsBehind told_before (AtOnce false) (reported operation (λ _. [])) old new (devices o d) (devices p d)
+    result
+quietly_performs operation {old = old} {new = new} {o = o} {p = p} d outcome result sound calls ends is =
+    let ended = ends (calls.played sound) in
+    let only = only_broken operation old.progress o p outcome new.progress ended in
+    record {
+      runs = subst (λ r. Runs (reported operation (λ _. [])) old.progress (devices o d) (devices p d) told_before
+          (AtOnce false) r new.progress) (sym is)
+          (operation_runs false (λ _. []) outcome (Ok tt) told_before PrintStops
+          (λ mid cause prefix told stops. print_stops_run told_before p d d (follows_here d)
+          (prefix.whole ++ prefix.begun)
+          cause told stops) ended (calls.bound sound) (calls.sound sound) (kept_none d.kept, same_here d)
+          (λ stop. told_nothing outcome d (calls.failed sound) (only stop)));
+      serves = subst (λ r. HostServes r new.broken) (sym is)
+          (serves_after outcome (Ok tt) new.broken (calls.lasts sound));
+      part = calls.part;
+      link = calls.counted;
+      desk = follows_here d;
+    }
+
+-- what follows a quiet operation is done
+pub quietly_on : {first : Dialog Saying Standing} {L : Lacking} (go_on : Standing → Dialog Saying Standing)
+    {x y : HostState} {o p : Devices} (standing then : Standing) → go_on standing ≡ Done then
+    → HostServes (Ok then) y.broken
+    → PerformsBehind told_before L first x y o p (Ok standing)
+    → PerformsBehind told_before L (first >>= go_on) x y o p (Ok then)
+quietly_on go_on {y = y} {p = p} standing then is serves done = record {
+  runs = ran_on (came_part go_on done.runs)
+      (subst (λ dialog. Ran dialog y.progress p p then y.progress) (sym is)
+      (ran_from (came_here (Done then) y.progress p)));
+  serves = serves;
+  part = done.part;
+  link = done.link;
+  desk = done.desk;
+}
+
+-- a whole session, played to its status, or stopped where it stood
+pub session_played : (plan : Plan) {x y : HostState} {o p : Devices} (standing : Standing) → x.progress ≡ start
+    → PerformsBehind (untold (takes_memory plan)) (AtTaking plan.part plan.switches (actions plan)) (playing plan) x y o
+    p (Ok standing)
+    → IsPlayed (session plan) o p (status_of standing)
+unfolding session
+session_played plan {x = x} {y = y} {o = o} {p = p} standing first done =
+    let ran = ran_on (came_part (λ standing. Done (status_of standing)) done.runs)
+    (ran_from (came_here (Done (status_of standing)) y.progress p)) in (
+      y.progress,
+      subst (λ n. Ran (playing plan >>= λ standing. Done (status_of standing)) n o p (status_of standing) y.progress)
+          first ran,
+    )
+
+pub session_stopped : (plan : Plan) {x y : HostState} {o p : Devices} (stopped : Stopped) → x.progress ≡ start
+    → PerformsBehind (untold (takes_memory plan)) (AtTaking plan.part plan.switches (actions plan)) (playing plan) x y o
+    p (Err stopped)
+    → StopsSession plan o p
+unfolding session
+session_stopped plan {o = o} {p = p} stopped first done =
+    let broke = broke_part (λ standing. Done (status_of standing)) (λ said cause told s. s) (λ during shown lack. lack)
+    done.runs in
+    subst (λ n. BrokeOff (playing plan >>= λ standing. Done (status_of standing)) n o p (untold (takes_memory plan))
+    (AtTaking plan.part plan.switches (actions plan))) first broke

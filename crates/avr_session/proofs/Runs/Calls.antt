@@ -1,0 +1,500 @@
+-- How a call over a link and a desk goes on in its dialog.
+use Rattle.std.proofs.Common.{◌≡◌, ℕ, ◌≤◌, Bool, true, ◌||◌, List, [], ◌∷◌, ◌++◌, append_assoc, append-nil, length, map, refl, sym, ap, ◌∙◌, subst, Option, None}
+use Rattle.std.proofs.Math.Bool.{or_assoc}
+use Rattle.std.proofs.lemmas.List.Folds.{list_any-append}
+use Rattle.ghosts.specs.Failures.{HasRisen}
+use Rattle.avr_desk.specs.Fault.{HasSameCounts}
+use Rattle.avr_desk.specs.Record.{Record, DeskView, Passes, after_err}
+use Rattle.stk_host.specs.declared.fault.Broken.{Broken}
+use Rattle.stk_host.specs.declared.fault.Broken.TheVariants.{Send, Recv}
+use Rattle.stk_host.specs.Tape.{Tape, on_tape}
+use Rattle.stk_host.specs.Talk.{Talk, LinkView, Grows, heard}
+use Rattle.stk_host.specs.Dialog.{Dialog, Done, ◌>>=◌, lifted, Event, Frame, Said, Played, played, bytes_sent, sayings}
+use Rattle.stk_host.specs.Play.{Position, PlaysOver, FailsOver}
+use Rattle.stk_host.specs.Reach.{TalkLeads}
+use Rattle.stk_host.proofs.Talks.Laws.{grows_none, grows_on}
+use Rattle.stk_host.proofs.Talks.InDialogs.{continued, played_bind, leads_here, leads_on, leads_bind, leads_say, leads_from, plays_from, breaks_on, breaks_bind}
+use Rattle.stk_host.proofs.Dialogs.Lifted.{raised, plays_lifted, by_lifted, sayings_raised}
+use Rattle.stk_host.proofs.Talks.Laws.{heard_append}
+use Rattle.avr_desk.specs.Said.{Saying, SaidPart, after_all}
+use Rattle.avr_desk.proofs.Stages.Sayings.{kept_on, kept_none, after_append}
+use Rattle.avr_desk.proofs.Lines.Told.{failed_since, follows_on, follows_same, same_here, same_on, unsaid_since}
+use Rattle.avr_session.specs.Session.{says}
+use Rattle.avr_session.specs.Runs.{Devices, devices, NoneFailed, Cause, OfSending, OfListening, OfFile, OfPrinting, OfMemory, is_error, tells_fault, HasCome, TellsCause, Listens, IsOfDesk, Lacking, Terms, StopsBehind, SaysPrefix, Ran, BrokeOff, SaidSome}
+use Rattle.avr_session.proofs.Runs.Stops.{place_more, place_behind, place_part, desk_says, desk_listens, sayings_said, map_append}
+
+-- a call has come so far: what is left of its dialog, and what was sent and said
+pub record Came {R : Type 0} (dialog : Dialog Saying R) (before : Position) (old new : Devices) (rest : Dialog Saying R)
+    (after : Position) : Type 0 where
+  pub during : Talk
+  pub events : List (Event Saying)
+  pub grows : Grows old.link.talk during new.link.talk
+  pub leads : TalkLeads dialog before during events rest after
+  pub few : length before.unread ≤ 281 → length after.unread ≤ 281
+  pub kept : Passes (after_all (sayings events)) old.desk new.desk
+  pub sound : NoneFailed old new
+
+-- no call failed, and none after that
+pub none_failed_here : (o : Devices) → NoneFailed o o
+none_failed_here o = (refl, same_here o.desk)
+
+pub none_failed_on : (o p q : Devices) → NoneFailed o p → NoneFailed p q → NoneFailed o q
+none_failed_on o p q first then = (then.0 ∙ first.0, same_on o.desk p.desk q.desk first.1 then.1)
+
+-- sayings among events
+
+pub sayings_append : (x y : List (Event Saying)) → sayings (x ++ y) ≡ sayings x ++ sayings y
+sayings_append [] y = refl
+sayings_append (Said saying ∷ x) y = ap (λ ss. saying ∷ ss) (sayings_append x y)
+sayings_append (_ ∷ x) y = sayings_append x y
+
+after_both : (x y : List (Event Saying)) (r : Record)
+    → after_all (sayings (x ++ y)) r ≡ after_all (sayings y) (after_all (sayings x) r)
+after_both x y r = ap (λ ss. after_all ss r) (sayings_append x y) ∙ after_append (sayings x) (sayings y) r
+
+-- how far a call has come
+
+pub came_here : {R : Type 0} (dialog : Dialog Saying R) (m : Position) (o : Devices) → Came dialog m o o dialog m
+came_here dialog m o = record {
+  during = [];
+  events = [];
+  grows = grows_none o.link.talk;
+  leads = leads_here dialog m;
+  few = λ f. f;
+  kept = kept_none o.desk.kept;
+  sound = none_failed_here o;
+}
+
+pub came_on : {R : Type 0} {a b c : Dialog Saying R} {l m n : Position} {o p q : Devices} → Came a l o p b m
+    → Came b m p q c n → Came a l o q c n
+came_on {o = o} {p = p} {q = q} x y = record {
+  during = x.during ++ y.during;
+  events = x.events ++ y.events;
+  grows = grows_on o.link.talk p.link.talk q.link.talk x.during y.during x.grows y.grows;
+  leads = leads_on x.leads y.leads;
+  few = λ few. y.few (x.few few);
+  kept = kept_on (after_all (sayings x.events)) (after_all (sayings y.events))
+      (after_all (sayings (x.events ++ y.events))) o.desk.kept p.desk.kept q.desk.kept (after_both x.events y.events)
+      x.kept y.kept;
+  sound = none_failed_on o p q x.sound y.sound;
+}
+
+-- an operation of the host, and what follows it
+pub came_lifted : {A R : Type 0} {dialog : Dialog ⊥ A} {m n : Position} {o p : LinkView} {result : A}
+    (go_on : A → Dialog Saying R) (d : DeskView)
+    → PlaysOver dialog m o p result n → length n.unread ≤ 281 → p.failures ≡ o.failures
+    → Came (lifted dialog >>= go_on) m (devices o d) (devices p d) (go_on result) n
+came_lifted go_on d f few same = record {
+  during = f.during;
+  events = raised f.events;
+  grows = f.grows;
+  leads = leads_bind go_on (leads_from (plays_lifted f.plays));
+  few = λ _. few;
+  kept = subst (λ ss. Passes (after_all ss) d d) (sym (sayings_raised f.events)) (kept_none d.kept);
+  sound = (same, same_here d);
+}
+
+leads_says : {R : Type 0} (xs : List Saying) (dialog : Dialog Saying R) (m : Position)
+    → TalkLeads (says xs dialog) m [] (map Said xs) dialog m
+leads_says [] dialog m = leads_here dialog m
+leads_says (x ∷ xs) dialog m = leads_on (leads_say x (says xs dialog) m) (leads_says xs dialog m)
+
+-- what is said
+pub came_said : {R : Type 0} (xs : List Saying) (dialog : Dialog Saying R) (m : Position) (o : LinkView)
+    {d e : DeskView} → Passes (after_all xs) d e × HasSameCounts d e
+    → Came (says xs dialog) m (devices o d) (devices o e) dialog m
+came_said xs dialog m o {d = d} {e = e} said = record {
+  during = [];
+  events = map Said xs;
+  grows = grows_none o.talk;
+  leads = leads_says xs dialog m;
+  few = λ f. f;
+  kept = subst (λ ss. Passes (after_all ss) d e) (sym (sayings_said xs)) said.0;
+  sound = (refl, said.1);
+}
+
+pub ran_from : {R : Type 0} {a : Dialog Saying R} {m n : Position} {o p : Devices} {result : R}
+    → Came a m o p (Done result) n → Ran a m o p result n
+ran_from f = record {
+  during = f.during;
+  events = f.events;
+  grows = f.grows;
+  plays = plays_from f.leads;
+  few = f.few;
+  kept = f.kept;
+  sound = f.sound;
+}
+
+came_from : {R : Type 0} {a : Dialog Saying R} {m n : Position} {o p : Devices} {result : R} → Ran a m o p result n
+    → Came a m o p (Done result) n
+came_from f = record {
+  during = f.during;
+  events = f.events;
+  grows = f.grows;
+  leads = leads_from f.plays;
+  few = f.few;
+  kept = f.kept;
+  sound = f.sound;
+}
+
+-- a part of a dialog was played whole
+pub came_part : {A R : Type 0} {a : Dialog Saying A} {m n : Position} {o p : Devices} {result : A}
+    (go_on : A → Dialog Saying R) → Ran a m o p result n → Came (a >>= go_on) m o p (go_on result) n
+came_part go_on f = record {
+  during = f.during;
+  events = f.events;
+  grows = f.grows;
+  leads =
+      leads_bind go_on (leads_from f.plays);
+  few = f.few;
+  kept = f.kept;
+  sound = f.sound;
+}
+
+pub ran_on : {R : Type 0} {a b : Dialog Saying R} {l m n : Position} {o p q : Devices} {result : R} → Came a l o p b m
+    → Ran b m p q result n → Ran a l o q result n
+ran_on x y = ran_from (came_on x (came_from y))
+
+-- breaking off
+
+-- what stops such a part stops the whole, after these sayings
+abbrev pub StopsWhole : Terms → Terms → List Saying → Devices → Devices → Devices → Type 0
+StopsWhole some all before o p q = (said : List Saying) (cause : Cause) (told : List ℕ)
+    → StopsBehind some p q said cause told → StopsBehind all o q (before ++ said) cause told
+
+-- a cause that comes in a part comes in the whole
+has_come_in : (some all : Bool) (o p then : Devices) → (some ≡ true → all ≡ true) → NoneFailed o p → (cause : Cause)
+    → HasCome some p then cause → HasCome all o then cause
+has_come_in some all o p then takes same OfSending come =
+    (subst (λ n. HasRisen n then.link.failures) same.0 come.0, same_on o.desk p.desk then.desk same.1 come.1)
+has_come_in some all o p then takes same OfListening come =
+    (subst (λ n. HasRisen n then.link.failures) same.0 come.0, same_on o.desk p.desk then.desk same.1 come.1)
+has_come_in some all o p then takes same (OfFile file trouble) come =
+    (failed_since o.desk p.desk then.desk same.1 come.0, come.1 ∙ same.0)
+has_come_in some all o p then takes same OfPrinting come =
+    (unsaid_since o.desk p.desk then.desk same.1 come.0, come.1 ∙ same.0)
+has_come_in some all o p then takes same OfMemory come = (takes come.0, none_failed_on o p then same come.1)
+
+-- after other sayings, where they tell what is taken to be reported
+pub stops_in : (some all : Terms) (before : List Saying) (o p q : Devices) → (some.takes ≡ true → all.takes ≡ true)
+    → NoneFailed o p → (all.was_told || tells_fault before) ≡ some.was_told
+    → StopsWhole some all before o p q
+stops_in some all before o p q takes sound same said cause told stops =
+    let flags : (some.was_told || tells_fault said) ≡ (all.was_told || tells_fault (before ++ said)) =
+    ap (λ x. x || tells_fault said) (sym same)
+    ∙ (or_assoc all.was_told (tells_fault before) (tells_fault said)
+    ∙ ap (λ x. all.was_told || x) (sym (list_any-append is_error before said))) in
+    record {
+      between = stops.between;
+      has_come = has_come_in some.takes all.takes o p (devices q.link stops.between) takes sound cause stops.has_come;
+      tells = subst (λ x. TellsCause x cause told stops.between q.desk) flags stops.tells;
+      since = follows_on o.desk p.desk stops.between (follows_same o.desk p.desk sound.1) stops.since;
+      until = stops.until;
+    }
+
+-- since before, or where more may take memory
+pub stops_since : (takes more told : Bool) (o p q : Devices) → (takes ≡ true → more ≡ true) → NoneFailed o p
+    → (said : List Saying) (cause : Cause) (line : List ℕ)
+    → StopsBehind (record { takes = takes; was_told = told }) p q said cause line
+    → StopsBehind (record { takes = more; was_told = told }) o q said cause line
+stops_since takes more told o p q also sound said cause line stops = record {
+  between = stops.between;
+  has_come = has_come_in takes more o p (devices q.link stops.between) also sound cause stops.has_come;
+  tells = stops.tells;
+  since = follows_on o.desk p.desk stops.between (follows_same o.desk p.desk sound.1) stops.since;
+  until = stops.until;
+}
+
+pub broke_on : {R : Type 0} {a b : Dialog Saying R} {m n : Position} {o p q : Devices} {some all : Terms}
+    {L M : Lacking} (x : Came a m o p b n) → StopsWhole some all (sayings x.events) o p q
+    → ((during : Talk) (shown : List (Event Saying)) → M n during shown → L m (x.during ++ during) (x.events ++ shown))
+    → BrokeOff b n p q some M → BrokeOff a m o q all L
+broke_on {a = a} {m = m} {o = o} {p = p} {q = q} {all = all} x why lack y =
+    let prefix = y.breaks.prefix in
+    let whole = breaks_on SaidPart x.leads y.breaks in
+    let play = ap (λ t. played a m.next (on_tape m.unread ++ t)) (heard_append x.during y.during)
+    ∙ x.leads.goes_on (heard y.during) in
+    record {
+      during = x.during ++ y.during;
+      shown = x.events ++ y.shown;
+      cause = y.cause;
+      told = y.told;
+      grows = grows_on o.link.talk p.link.talk q.link.talk x.during y.during x.grows y.grows;
+      breaks = record {
+        prefix = record {
+          whole = x.events ++ prefix.whole;
+          begun = prefix.begun;
+          later = prefix.later;
+          shown_is = ap (λ es. x.events ++ es) prefix.shown_is ∙ sym (append_assoc x.events prefix.whole prefix.begun);
+          events_are = ap (λ (play : Played Saying _). play.events) play
+              ∙ (ap (λ es. x.events ++ es) prefix.events_are ∙ sym (append_assoc x.events prefix.whole prefix.later));
+          part = prefix.part;
+        };
+        all_sent = whole.all_sent;
+        in_turn = whole.in_turn;
+      };
+      place = place_behind y.cause x.events prefix.whole prefix.begun prefix.later y.place;
+      listens = subst (Listens y.cause) (sym (ap (λ (play : Played Saying _). play.outcome) play)) y.listens;
+      stops = subst (λ said. StopsBehind all o q said y.cause y.told) (sym (sayings_append x.events y.shown))
+          (why (sayings y.shown) y.cause y.told y.stops);
+      kept = kept_on (after_all (sayings x.events)) (λ r. after_err y.told (after_all (sayings y.shown) r))
+          (λ r. after_err y.told (after_all (sayings (x.events ++ y.shown)) r)) o.desk.kept p.desk.kept q.desk.kept
+          (λ r. ap (after_err y.told) (after_both x.events y.shown r)) x.kept y.kept;
+      lacks = λ is. lack y.during y.shown (y.lacks is);
+    }
+
+-- memory is taken nowhere
+abbrev pub Never : Lacking
+Never before during shown = ⊥
+
+-- after an operation of the host
+pub broke_lifted : {A R : Type 0} {dialog : Dialog ⊥ A} {m n : Position} {o p : LinkView} {d e : DeskView} {result : A}
+    {terms : Terms} {L : Lacking} (go_on : A → Dialog Saying R) → PlaysOver dialog m o p result n
+    → length n.unread ≤ 281
+    → p.failures ≡ o.failures → BrokeOff (go_on result) n (devices p d) (devices p e) terms Never
+    → BrokeOff (lifted dialog >>= go_on) m (devices o d) (devices p e) terms L
+unfolding came_lifted
+broke_lifted {o = o} {p = p} {d = d} {e = e} {terms = terms} go_on f few link y =
+    broke_on (came_lifted go_on d f few link)
+    (λ said cause told s. subst (λ (ss : List Saying). StopsBehind terms (devices o d) (devices p e) (ss ++ said)
+    cause told) (sym (sayings_raised f.events))
+    (stops_since terms.takes terms.takes terms.was_told (devices o d) (devices p d) (devices p e) (λ t. t)
+    (link, same_here d) said cause told s)) (λ during shown never. absurd never) y
+
+-- after a part that was played whole
+pub broke_after : {A R : Type 0} {a : Dialog Saying A} {m n : Position} {o p q : Devices} {result : A}
+    {some all : Terms} {L M : Lacking} (go_on : A → Dialog Saying R) (ran : Ran a m o p result n)
+    → StopsWhole some all (sayings ran.events) o p q
+    → ((during : Talk) (shown : List (Event Saying)) → M n during shown
+    → L m (ran.during ++ during) (ran.events ++ shown))
+    → BrokeOff (go_on result) n p q some M → BrokeOff (a >>= go_on) m o q all L
+unfolding came_part
+broke_after go_on ran why lack y = broke_on (came_part go_on ran) why lack y
+
+-- a dialog that listens has nothing after it yet
+none_behind : {A R : Type 0} (cause : Cause) (outcome : Option (A × ℕ × Tape)) (go_on : A → ℕ → Tape → Played Saying R)
+    → Listens cause outcome → cause ≡ OfListening → (continued outcome go_on).events ≡ []
+none_behind cause outcome go_on listens is =
+    let waits : outcome ≡ None = subst (λ (c : Cause). Listens c outcome) is listens in
+    ap (λ o. (continued o go_on).events) waits
+
+listens_behind : {A R : Type 0} (cause : Cause) (outcome : Option (A × ℕ × Tape))
+    (go_on : A → ℕ → Tape → Played Saying R) → Listens cause outcome → Listens cause (continued outcome go_on).outcome
+listens_behind OfSending outcome go_on listens = tt
+listens_behind OfListening outcome go_on listens = ap (λ o. (continued o go_on).outcome) listens
+listens_behind (OfFile file trouble) outcome go_on listens = tt
+listens_behind OfPrinting outcome go_on listens = tt
+listens_behind OfMemory outcome go_on listens = tt
+
+-- in a part of a dialog
+pub broke_part : {A R : Type 0} {a : Dialog Saying A} {m : Position} {o p : Devices} {some all : Terms} {L M : Lacking}
+    (go_on : A → Dialog Saying R) → ((said : List Saying) (cause : Cause) (told : List ℕ)
+    → StopsBehind some o p said cause told → StopsBehind all o p said cause told)
+    → ((during : Talk) (shown : List (Event Saying)) → M m during shown → L m during shown) → BrokeOff a m o p some M
+    → BrokeOff (a >>= go_on) m o p all L
+broke_part {a = a} {m = m} go_on why lack f =
+    let prefix = f.breaks.prefix in
+    let tape = on_tape m.unread ++ heard f.during in
+    let more = (continued (played a m.next tape).outcome (λ r. played (go_on r))).events in
+    let quiet = none_behind f.cause (played a m.next tape).outcome (λ r. played (go_on r)) f.listens in
+    let place = place_more f.cause prefix.whole prefix.begun prefix.later more quiet f.place in
+    record {
+      during = f.during;
+      shown = f.shown;
+      cause = f.cause;
+      told = f.told;
+      grows = f.grows;
+      breaks = record {
+        prefix = record {
+          whole = prefix.whole;
+          begun = prefix.begun;
+          later = prefix.later ++ more;
+          shown_is = prefix.shown_is;
+          events_are = ap (λ (play : Played Saying _). play.events) (played_bind a go_on m.next tape)
+              ∙ (ap (λ es. es ++ more) prefix.events_are ∙ append_assoc prefix.whole prefix.later more);
+          part = place_part f.cause prefix.whole prefix.begun (prefix.later ++ more) place;
+        };
+        all_sent = f.breaks.all_sent;
+        in_turn = (breaks_bind SaidPart go_on f.breaks).in_turn;
+      };
+      place = place;
+      listens = subst (Listens f.cause) (sym (ap (λ (play : Played Saying _). play.outcome)
+          (played_bind a go_on m.next tape))) (listens_behind f.cause (played a m.next tape).outcome
+          (λ r. played (go_on r)) f.listens);
+      stops = why (sayings f.shown) f.cause f.told f.stops;
+      kept = f.kept;
+      lacks = λ is. lack f.during f.shown (f.lacks is);
+    }
+
+-- in an operation of the host; what was reported of it stands after it
+
+abbrev pub broken_cause : Broken → Cause
+broken_cause Send = OfSending
+broken_cause Recv = OfListening
+
+-- of a cause this was reported, after nothing that was said
+abbrev pub ToldBy : Terms → Cause → Devices → Devices → Type 0
+ToldBy terms cause o p = (told : List ℕ) × StopsBehind terms o p [] cause told × Passes (after_err told) o.desk p.desk
+
+broke_raised : {A : Type 0} (by : Broken) {dialog : Dialog ⊥ A} {m : Position} {o p : Devices} {terms : Terms}
+    {L : Lacking} → FailsOver by dialog m o.link p.link → ToldBy terms (broken_cause by) o p
+    → BrokeOff (lifted dialog) m o p terms L
+broke_raised Send {dialog = dialog} {m = m} {o = o} {p = p} {terms = terms} f some =
+    let g = by_lifted Saying Send dialog m f.during f.shown f.breaks in
+    record {
+      during = f.during;
+      shown = raised f.shown;
+      cause = OfSending;
+      told = some.0;
+      grows = f.grows;
+      breaks = record {
+        prefix = record {
+          whole = g.whole;
+          begun = Frame g.part ∷ [];
+          later = Frame (g.part ++ g.unsent) ∷ g.later;
+          shown_is = g.shown_is;
+          events_are = g.events_are;
+          part = (g.unsent, refl);
+        };
+        all_sent = g.all_sent;
+        in_turn = g.in_turn;
+      };
+      place = record {
+        done = g.part;
+        unsent = g.unsent;
+        more = g.later;
+        due = refl;
+        part = refl;
+        not_whole =
+            g.not_whole;
+      };
+      listens = tt;
+      stops = subst (λ said. StopsBehind terms o p said OfSending some.0) (sym (sayings_raised f.shown)) some.1;
+      kept = subst (λ ss. Passes (λ r. after_err some.0 (after_all ss r)) o.desk p.desk) (sym (sayings_raised f.shown))
+          some.2;
+      lacks = λ is. absurd (cc);
+    }
+broke_raised Recv {dialog = dialog} {m = m} {o = o} {p = p} {terms = terms} f some =
+    let g = by_lifted Saying Recv dialog m f.during f.shown f.breaks in
+    record {
+      during = f.during;
+      shown = raised f.shown;
+      cause = OfListening;
+      told = some.0;
+      grows = f.grows;
+      breaks = record {
+        prefix = record {
+          whole = raised f.shown;
+          begun = [];
+          later = [];
+          shown_is = sym (append-nil (raised f.shown));
+          events_are = sym g.shown_is ∙ sym (append-nil (raised f.shown));
+          part = tt;
+        };
+        all_sent = g.all_sent;
+        in_turn = g.in_turn;
+      };
+      place = (refl, refl);
+      listens = g.waits;
+      stops = subst (λ said. StopsBehind terms o p said OfListening some.0) (sym (sayings_raised f.shown)) some.1;
+      kept = subst (λ ss. Passes (λ r. after_err some.0 (after_all ss r)) o.desk p.desk) (sym (sayings_raised f.shown))
+          some.2;
+      lacks = λ is. absurd (cc);
+    }
+
+pub broke_operation : {A R : Type 0} (by : Broken) {dialog : Dialog ⊥ A} {m : Position} {o p : Devices} {terms : Terms}
+    {L : Lacking} (go_on : A → Dialog Saying R)
+    → FailsOver by dialog m o.link p.link → ToldBy terms (broken_cause by) o p
+    → BrokeOff (lifted dialog >>= go_on) m o p terms L
+broke_operation by {L = L} go_on f some =
+    broke_part {M = L} go_on (λ said cause told s. s) (λ during shown lack. lack) (broke_raised by f some)
+
+-- in what is said
+
+says_events : {R : Type 0} (xs : List Saying) (dialog : Dialog Saying R) (seq : ℕ) (u : List ℕ)
+    → (played (says xs dialog) seq (on_tape u ++ [])).events
+    ≡ map Said xs ++ (played dialog seq (on_tape u ++ [])).events
+says_events [] dialog seq u = refl
+says_events (x ∷ xs) dialog seq u = ap (λ es. Said x ∷ es) (says_events xs dialog seq u)
+
+no_bytes : (xs : List Saying) → bytes_sent (map {B = Event Saying} Said xs) ≡ []
+no_bytes [] = refl
+no_bytes (x ∷ xs) = no_bytes xs
+
+-- what stops a report stops it after a prefix of what it says
+abbrev pub StopsReport : Terms → LinkView → DeskView → DeskView → List Saying
+    → (DeskView → DeskView → Cause → List ℕ → Type 0) → Type 0
+StopsReport terms o d e sayings By = (mid : DeskView) (cause : Cause) (prefix : SaysPrefix cause d mid sayings)
+    (told : List ℕ) → By d e cause told → StopsBehind terms (devices o d) (devices o e) (prefix.whole ++ prefix.begun)
+    cause told
+
+pub broke_saying : {R : Type 0} {By : DeskView → DeskView → Cause → List ℕ → Type 0} {terms : Terms} {L : Lacking}
+    {d e : DeskView} (xs : List Saying) (dialog : Dialog Saying R) (m : Position) (o : LinkView)
+    → StopsReport terms o d e xs By → SaidSome By d e xs
+    → BrokeOff (says xs dialog) m (devices o d) (devices o e) terms L
+broke_saying {terms = terms} {d = d} {e = e} xs dialog m o why f =
+    let prefix = f.prefix in
+    let shown : List Saying = prefix.whole ++ prefix.begun in
+    let more = (played dialog m.next (on_tape m.unread ++ [])).events in
+    let place = place_more f.cause (map Said prefix.whole) (map Said prefix.begun) (map Said prefix.later) more
+    (λ listens. absurd (desk_says f.cause prefix.by_desk listens)) prefix.place in
+    record {
+      during = [];
+      shown = map Said shown;
+      cause = f.cause;
+      told = f.told;
+      grows = grows_none o.talk;
+      breaks = record {
+        prefix = record {
+          whole = map Said prefix.whole;
+          begun = map Said prefix.begun;
+          later = map Said prefix.later ++ more;
+          shown_is = map_append prefix.whole prefix.begun;
+          events_are = says_events xs dialog m.next m.unread
+              ∙ (ap (λ es. es ++ more) (ap (map {B = Event Saying} Said) prefix.sayings_are
+              ∙ map_append prefix.whole prefix.later) ∙ append_assoc (map Said prefix.whole) (map Said prefix.later)
+              more);
+          part = place_part f.cause (map Said prefix.whole) (map Said prefix.begun) (map Said prefix.later ++ more)
+              place;
+        };
+        all_sent = no_bytes shown;
+        in_turn = tt;
+      };
+      place = place;
+      listens = desk_listens f.cause (played (says xs dialog) m.next (on_tape m.unread ++ [])).outcome prefix.by_desk;
+      stops = subst (λ said. StopsBehind terms (devices o d) (devices o e) said f.cause f.told)
+          (sym (sayings_said shown)) (why f.between f.cause f.prefix f.told f.stops);
+      kept = kept_on (after_all shown) (after_err f.told)
+          (λ r. after_err f.told (after_all (sayings (map Said shown)) r)) d.kept f.between.kept e.kept
+          (λ r. ap (after_err f.told) (ap (λ ss. after_all ss r) (sayings_said shown))) f.prefix.kept f.kept;
+      lacks = λ is. absurd (subst IsOfDesk is prefix.by_desk);
+    }
+
+-- at once, for want of memory
+pub broke_lacking : {R : Type 0} {terms : Terms} {L : Lacking} {o p : Devices} (dialog : Dialog Saying R) (m : Position)
+    → p.link ≡ o.link → ToldBy terms OfMemory o p → L m [] [] → BrokeOff dialog m o p terms L
+broke_lacking {o = o} dialog m same some lack = record {
+  during = [];
+  shown = [];
+  cause = OfMemory;
+  told = some.0;
+  grows = subst (λ (v : LinkView). Grows o.link.talk [] v.talk) (sym same) (grows_none o.link.talk);
+  breaks = record {
+    prefix = record {
+      whole = [];
+      begun = [];
+      later = (played dialog m.next (on_tape m.unread ++ [])).events;
+      shown_is =
+          refl;
+      events_are = refl;
+      part = tt;
+    };
+    all_sent = refl;
+    in_turn = tt;
+  };
+  place = refl;
+  listens = tt;
+  stops = some.1;
+  kept = some.2;
+  lacks = λ is. lack;
+}

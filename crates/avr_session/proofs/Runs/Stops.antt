@@ -1,0 +1,226 @@
+-- Where a run stops: what stands before it and what follows it changes nothing.
+use Rattle.std.proofs.Common.{◌≡◌, ◌∙◌, List, [], ◌∷◌, ◌++◌, map, refl, sym, ap, subst, append_assoc, take, drop, Option, inl, inr, codes}
+use Rattle.std.proofs.lemmas.List.{take-append-drop}
+use Rattle.avr_desk.specs.Record.{DeskView, Passes, Bytes}
+use Rattle.avr_desk.specs.Stream.{SendsPart}
+use Rattle.avr_desk.specs.declared.stream.Stream.TheVariants.{File, Output, Messages}
+use Rattle.stk_host.specs.Dialog.{Event, Said, sayings}
+use Rattle.stk_host.specs.Play as play
+use Rattle.avr_desk.specs.Said.{Saying, Line, Creates, Writes, Outs, SaidPart, after_all}
+use Rattle.avr_desk.proofs.Stages.Sayings.{kept_append}
+use Rattle.avr_session.specs.Runs.{Cause, OfSending, OfListening, OfFile, OfPrinting, OfMemory, NotCreated, NotWritten, AtFrame, StopsAt, Listens, IsOfDesk, SaysPrefix}
+
+-- ---- events
+
+frame_more : {begun later : List (Event Saying)} (more : List (Event Saying)) → AtFrame begun later
+    → AtFrame begun (later ++ more)
+frame_more more x = record {
+  done = x.done;
+  unsent = x.unsent;
+  more = x.more ++ more;
+  due = ap (λ es. es ++ more) x.due;
+  part = x.part;
+  not_whole = x.not_whole;
+}
+
+-- more that is due after it, unless it listens
+pub place_more : (cause : Cause) (whole begun later more : List (Event Saying)) → (cause ≡ OfListening → more ≡ [])
+    → StopsAt cause whole begun later → StopsAt cause whole begun (later ++ more)
+place_more OfSending whole begun later more none x = frame_more more x
+place_more OfListening whole begun later more none x = (x.0, ap (λ es. es ++ more) x.1 ∙ none refl)
+place_more (OfFile file NotCreated) whole begun later more none x =
+    record { more = x.more ++ more; due = ap (λ es. es ++ more) x.due; none = x.none }
+place_more (OfFile file NotWritten) whole begun later more none (inl x) =
+    inl (record {
+      bytes = x.bytes;
+      done = x.done;
+      before = x.before;
+      more = x.more ++ more;
+      created = x.created;
+      due =
+          ap (λ es. es ++ more) x.due;
+      part = x.part;
+      prefix = x.prefix;
+    })
+place_more (OfFile file NotWritten) whole begun later more none (inr x) =
+    inr (record {
+      bytes = x.bytes;
+      done = x.done;
+      more = x.more ++ more;
+      named = x.named;
+      due =
+          ap (λ es. es ++ more) x.due;
+      part = x.part;
+      prefix = x.prefix;
+    })
+place_more OfPrinting whole begun later more none x =
+    record {
+      bytes = x.bytes;
+      done = x.done;
+      more = x.more ++ more;
+      due = ap (λ es. es ++ more) x.due;
+      part = x.part;
+      prefix = x.prefix;
+    }
+place_more OfMemory whole begun later more none x = x
+
+-- more that happened before it
+pub place_behind : (cause : Cause) (before whole begun later : List (Event Saying)) → StopsAt cause whole begun later
+    → StopsAt cause (before ++ whole) begun later
+place_behind OfSending before whole begun later x = x
+place_behind OfListening before whole begun later x = x
+place_behind (OfFile file NotCreated) before whole begun later x = x
+place_behind (OfFile file NotWritten) before whole begun later (inl x) = inl (record {
+  bytes = x.bytes;
+  done = x.done;
+  before = before ++ x.before;
+  more = x.more;
+  created = ap (λ es. before ++ es) x.created ∙ sym (append_assoc before x.before (Said (Creates file) ∷ []));
+  due = x.due;
+  part = x.part;
+  prefix = x.prefix;
+})
+place_behind (OfFile file NotWritten) before whole begun later (inr x) = inr x
+place_behind OfPrinting before whole begun later x = x
+place_behind OfMemory before whole begun later none = none
+
+-- what was done in part is a part of what was due
+frame_part : (begun later : List (Event Saying)) → AtFrame begun later → play.IsBegun SaidPart begun later
+frame_part begun later x = rw (x.part, x.due) (x.unsent, refl)
+
+pub place_part : (cause : Cause) (whole begun later : List (Event Saying)) → StopsAt cause whole begun later
+    → play.IsBegun SaidPart begun later
+place_part OfSending whole begun later x = frame_part begun later x
+place_part OfListening whole begun later x = rw (x.0) tt
+place_part (OfFile file NotCreated) whole begun later x = rw (x.none) tt
+place_part (OfFile file NotWritten) whole begun later (inl x) = rw (x.part, x.due) x.prefix
+place_part (OfFile file NotWritten) whole begun later (inr x) = rw (x.part, x.due) x.prefix
+place_part OfPrinting whole begun later x = rw (x.part, x.due) x.prefix
+place_part OfMemory whole begun later none = rw none tt
+
+-- a desk doesn't listen
+
+pub desk_says : (cause : Cause) → IsOfDesk cause → cause ≡ OfListening → ⊥
+desk_says OfSending desk is = desk
+desk_says OfListening desk is = desk
+desk_says (OfFile file trouble) desk is = cc
+desk_says OfPrinting desk is = cc
+desk_says OfMemory desk is = desk
+
+pub desk_listens : {A : Type 0} (cause : Cause) (outcome : Option A) → IsOfDesk cause → Listens cause outcome
+desk_listens OfSending outcome desk = tt
+desk_listens OfListening outcome desk = absurd desk
+desk_listens (OfFile file trouble) outcome desk = tt
+desk_listens OfPrinting outcome desk = tt
+desk_listens OfMemory outcome desk = tt
+
+-- ---- sayings
+
+pub sayings_said : (xs : List Saying) → sayings (map Said xs) ≡ xs
+sayings_said [] = refl
+sayings_said (x ∷ xs) = ap (λ ss. x ∷ ss) (sayings_said xs)
+
+pub map_append : (x y : List Saying) → map {B = Event Saying} Said (x ++ y) ≡ map Said x ++ map Said y
+map_append [] y = refl
+map_append (s ∷ x) y = ap (λ es. Said s ∷ es) (map_append x y)
+
+-- sayings, by their events
+pub sayings_by : (xs : List Saying) (events : List (Event Saying)) → map Said xs ≡ events → xs ≡ sayings events
+sayings_by xs events is = sym (sayings_said xs) ∙ ap sayings is
+
+-- sayings that were done, and a prefix of others after them
+pub prefix_behind : {cause : Cause} {d e f : DeskView} (done more : List Saying) → Passes (after_all done) d e
+    → SaysPrefix cause e f more → SaysPrefix cause d f (done ++ more)
+prefix_behind {cause = cause} {d = d} {e = e} {f = f} done more kept x = record {
+  whole = done ++ x.whole;
+  begun = x.begun;
+  later = x.later;
+  sayings_are = ap (λ (ss : List Saying). done ++ ss) x.sayings_are ∙ sym (append_assoc done x.whole x.later);
+  place = subst (λ (whole : List (Event Saying)). StopsAt cause whole (map Said x.begun) (map Said x.later))
+      (sym (map_append done x.whole))
+      (place_behind cause (map Said done) (map Said x.whole) (map Said x.begun) (map Said x.later) x.place);
+  by_desk = x.by_desk;
+  kept = subst (λ ss. Passes (after_all ss) d f) (sym (append_assoc done x.whole x.begun))
+      (kept_append done (x.whole ++ x.begun) d.kept e.kept f.kept kept x.kept);
+}
+
+-- a prefix of some sayings is a prefix of more
+pub prefix_of : {cause : Cause} {d e : DeskView} (some more : List Saying) → SaysPrefix cause d e some
+    → SaysPrefix cause d e (some ++ more)
+prefix_of {cause = cause} some more x = record {
+  whole = x.whole;
+  begun = x.begun;
+  later = x.later ++ more;
+  sayings_are = ap (λ (ss : List Saying). ss ++ more) x.sayings_are ∙ append_assoc x.whole x.later more;
+  place = subst (λ (later : List (Event Saying)). StopsAt cause (map Said x.whole) (map Said x.begun) later)
+      (sym (map_append x.later more))
+      (place_more cause (map Said x.whole) (map Said x.begun) (map Said x.later) (map Said more)
+      (λ listens. absurd (desk_says cause x.by_desk listens)) x.place);
+  by_desk = x.by_desk;
+  kept = x.kept;
+}
+
+-- a line of which a prefix was printed
+pub line_part : (old new : DeskView) (bytes : Bytes) → SendsPart Messages old new bytes
+    → SaysPrefix OfPrinting old new (Line bytes ∷ [])
+line_part old new bytes part = record {
+  whole = [];
+  begun = Line (take part.0 bytes) ∷ [];
+  later = Line bytes ∷ [];
+  sayings_are = refl;
+  place = record {
+    bytes = bytes;
+    done = take part.0 bytes;
+    more = [];
+    due = refl;
+    part = refl;
+    prefix =
+        (drop part.0 bytes, take-append-drop part.0 bytes);
+  };
+  by_desk = tt;
+  kept = part.2;
+}
+
+-- a file that was created, and of whose bytes a prefix was written
+pub file_part : (old mid new : DeskView) (file bytes : Bytes) → Passes (after_all (Creates file ∷ [])) old mid
+    → SendsPart File mid new bytes
+    → SaysPrefix (OfFile file NotWritten) old new (Creates file ∷ Writes bytes ∷ [])
+file_part old mid new file bytes created part = record {
+  whole = Creates file ∷ [];
+  begun = Writes (take part.0 bytes) ∷ [];
+  later = Writes bytes ∷ [];
+  sayings_are = refl;
+  place = inl (record {
+    bytes = bytes;
+    done = take part.0 bytes;
+    before = [];
+    more = [];
+    created = refl;
+    due = refl;
+    part = refl;
+    prefix = (drop part.0 bytes, take-append-drop part.0 bytes);
+  });
+  by_desk = tt;
+  kept = kept_append (Creates file ∷ []) (Writes (take part.0 bytes) ∷ []) old.kept mid.kept new.kept created part.2;
+}
+
+-- bytes of the output of which a prefix was written
+pub output_part : (old new : DeskView) (file bytes : Bytes) → file ≡ codes "-" → SendsPart Output old new bytes
+    → SaysPrefix (OfFile file NotWritten) old new (Outs bytes ∷ [])
+output_part old new file bytes named part = record {
+  whole = [];
+  begun = Outs (take part.0 bytes) ∷ [];
+  later = Outs bytes ∷ [];
+  sayings_are = refl;
+  place = inr (record {
+    bytes = bytes;
+    done = take part.0 bytes;
+    more = [];
+    named = named;
+    due = refl;
+    part = refl;
+    prefix = (drop part.0 bytes, take-append-drop part.0 bytes);
+  });
+  by_desk = tt;
+  kept = part.2;
+}

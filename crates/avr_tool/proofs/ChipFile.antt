@@ -1,0 +1,4 @@
+-- Runs over the emulator and its chip file.
+pub mod FewBadThenAgain
+pub mod Found
+pub mod SecondRun

@@ -1,0 +1,96 @@
+-- A run over a line on which few frames go wrong, and the same one once more, over the chip that a first one left.
+use Rattle.std.proofs.Common.{◌≡◌, ◌⊎◌, ℕ, List, All, ◌∙◌, inl, inr, true, false}
+use Rattle.avr_desk.specs.Record.{DeskView, Record}
+use Rattle.avr_desk.specs.Said.{Saying}
+use Rattle.avr_part.specs.Part.{IsPart}
+use Rattle.avr_plan.specs.Plan.{Plan, IsFitted}
+use Rattle.avr_session.specs.Runs.{start}
+use Rattle.avr_session.specs.Actions.{takes_memory}
+use Rattle.avr_session.specs.Session.{session}
+use Rattle.avr_session.specs.Stopping.{IsSound, LacksMemory, keeping}
+use Rattle.avr_session.proofs.Runs.SoundDevices.{broke_lacks}
+use Rattle.stk_host.specs.Dialog.{Event}
+use Rattle.stk_emu.specs.Wire.{turns_of}
+use Rattle.stk_emu.specs.Effect.{erase_keeps_eeprom, memories_of}
+use Rattle.stk_lines.specs.Few.{AreFew}
+use Rattle.stk_emu.specs.Programmer.{Programmer}
+use Rattle.stk_emu.specs.Settled.{FitsPart}
+use Rattle.stk_emu.specs.Turn.{Turn}
+use Rattle.stk_emu.specs.Wired.{WiredState, wired_view}
+use Rattle.avr_course.specs.Again.{AreKeeping, AgreesAnyway}
+use Rattle.avr_course.specs.AnyLine.{Stopped, OverAnyLine, memories}
+use Rattle.avr_course.specs.Items.{items, asked_items, has_erase}
+use Rattle.avr_course.specs.Outcome.{IsTouched, IsDone, IsCourse}
+use Rattle.avr_course.specs.Written.{IsWritten}
+use Rattle.avr_course.proofs.SecondRun.EveryChip.{agrees_anyway}
+use Rattle.avr_course.proofs.SecondRun.Status.{done_again}
+use Rattle.avr_tool.specs.Headline.{OverAnyLink, OverAnyEnd, wire_and_desk}
+
+module _ (plan : Plan) (w v : WiredState) (d e : Record) (a b : ℕ × ℕ) (status : ℕ)
+    (few : AreFew (turns_of w.wire.fates)) (sound : IsSound (wire_and_desk w (keeping d a))
+    (wire_and_desk v (keeping e b))) (has_memory : LacksMemory e.messages → ⊥) where
+  abbrev old : DeskView
+  old = keeping d a
+
+  abbrev now : DeskView
+  now = keeping e b
+
+  goes_on : Stopped plan w v old now → ⊥
+  goes_on broke = has_memory (broke_lacks (session plan) start (wired_view w) (wired_view v) d e a b (takes_memory plan)
+      sound broke)
+
+  pub sound_course : OverAnyLine plan w v old now status → IsCourse plan (memories w) (memories v) old now status
+  sound_course is_over = elim (is_over.few_bad few) [ inl is ↦ is | inr stopped ↦ absurd (goes_on stopped) ]
+
+  pub sound_images : plan.switches.no_verify ≡ false → has_erase (items plan) ≡ true → AgreesAnyway plan
+      → OverAnyLine plan w v old now status → (status ≡ 0)
+      × IsWritten plan.part (asked_items plan) (memories w) (memories v)
+  sound_images verified erases both is_over =
+      elim (is_over.again few erases both) [
+        | inl zero ↦ (zero, is_over.images zero verified)
+        | inr stopped ↦ absurd (goes_on stopped)
+      ]
+
+pub further_heals : (plan : Plan) (w v x y : WiredState) (d e f g : DeskView) (status further : ℕ)
+    → IsPart plan.part → All (IsFitted plan.part) plan.tasks → FitsPart plan.part (memories w)
+    → has_erase (items plan) ≡ true → AgreesAnyway plan
+    → (erase_keeps_eeprom plan.part (memories w) ≡ true → AreKeeping plan.part (items plan))
+    → OverAnyLine plan w v d e status
+    → memories x ≡ memories v → AreFew (turns_of x.wire.fates) → OverAnyLine plan x y f g further
+    → ((further ≡ 0) × IsDone plan (memories w) (memories y)) ⊎ Stopped plan x y f g
+further_heals plan w v x y d e f g status further sound fitted fits erases both kept first same few second =
+    let touched : IsTouched plan (memories w) (memories x) =
+    record { count = first.strokes.count; memories = same ∙ first.strokes.memories } in
+    elim (second.again few erases both) [
+      | inl zero ↦ inl (
+        zero,
+        record {
+          memories = done_again plan (memories w) (memories x) (memories y) sound fitted fits (λ _. kept) touched
+              (second.done zero);
+          agrees = agrees_anyway plan (memories w) fits erases both;
+        },
+      )
+      | inr stopped ↦ inr stopped
+    ]
+
+-- the same over any link, also where nobody knows how the first run ended
+pub further_heals_link : (plan : Plan) (p q x y : Programmer) (turns more : List Turn) (bytes others : List ℕ)
+    (says : List Saying) (events : List (Event Saying)) (further : ℕ)
+    → IsPart plan.part → All (IsFitted plan.part) plan.tasks → FitsPart plan.part (memories_of p.chip)
+    → has_erase (items plan) ≡ true → AgreesAnyway plan
+    → (erase_keeps_eeprom plan.part (memories_of p.chip) ≡ true → AreKeeping plan.part (items plan))
+    → OverAnyEnd plan p q turns bytes says
+    → memories_of x.chip ≡ memories_of q.chip → AreFew more → OverAnyLink plan x y more others events further
+    → (further ≡ 0) × IsDone plan (memories_of p.chip) (memories_of y.chip)
+further_heals_link plan p q x y turns more bytes others says events further sound fitted fits erases both kept first
+    same few second =
+    let touched : IsTouched plan (memories_of p.chip) (memories_of x.chip) =
+    record { count = first.strokes.count; memories = same ∙ first.strokes.memories } in
+    let zero = second.again few erases both in (
+      zero,
+      record {
+        memories = done_again plan (memories_of p.chip) (memories_of x.chip) (memories_of y.chip) sound fitted fits
+            (λ _. kept) touched (second.done zero);
+        agrees = agrees_anyway plan (memories_of p.chip) fits erases both;
+      },
+    )

@@ -1,0 +1,171 @@
+-- A run over the emulator finds the chip of its file, and leaves it there.
+use Rattle.std.proofs.Common.{◌≡◌, ◌∙◌, ap, subst, sym, refl, arith, ℕ, ◌==◌, ◌||◌, Bool, true, false, not, nat_le, nat_lt, length, List, [], ◌∷◌, ◌++◌, append_assoc, append-nil, Some, Result, Ok, Err, if◌then◌else◌}
+use Rattle.std.proofs.lemmas.Bool.Decides.{nat_tests}
+use Rattle.std.proofs.lemmas.Grind.{common_steps}
+use Rattle.avr_chip.specs.Loading.{chip_given, chip_stage, judged_chip}
+use Rattle.avr_cli.specs.declared.settings.Settings.{Settings}
+use Rattle.avr_desk.proofs.Desks.InMemory.{all_true, true_behind}
+use Rattle.avr_desk.proofs.FileUses.Uses.{files_append, files_used}
+use Rattle.avr_desk.specs.Lines.{too_long_line}
+use Rattle.avr_desk.specs.Memory.{MemDeskState, Stock, memory_view, stood_for}
+use Rattle.avr_desk.specs.Playing.{Went}
+use Rattle.avr_desk.specs.Record.{Bytes, DeskView, all_files, all_uses, files_among}
+use Rattle.avr_desk.specs.Said.{Saying, Opens, after_all, after_opening}
+use Rattle.avr_desk.specs.Stage.{Made, StageResult, next_opening, unread_stage, verdict_stage}
+use Rattle.avr_desk.specs.Truth.{AreTrue, HoldsTrue, IsTrueOpening}
+use Rattle.avr_desk.specs.declared.record.FileUse.{FileUse}
+use Rattle.avr_desk.specs.declared.record.FileUse.TheVariants.{Opened}
+use Rattle.avr_desk.specs.declared.record.Opening.{Opening}
+use Rattle.avr_desk.specs.declared.record.Opening.TheVariants.{Absent, Found}
+use Rattle.avr_desk.specs.declared.record.Writing.{Writing}
+use Rattle.avr_emulated.specs.Emulated.{RunsOverEmulator}
+use Rattle.avr_part.specs.ChipFile.{chip_file_size, state_in}
+use Rattle.avr_part.specs.Part.{Part}
+use Rattle.avr_part.specs.State.{ChipState as Chip, fresh_state}
+use Rattle.avr_plan.proofs.Stages.OnlyReading.{only_reads}
+use Rattle.avr_plan.specs.OnlyReading.{OnlyReads}
+use Rattle.avr_plan.specs.Plan.{Plan}
+use Rattle.avr_desk.specs.Stage.{told_in}
+use Rattle.avr_tool.proofs.KnownFiles.PastUses.{ArePast, none_made, only_opened, opened, opened_past, past_shown, run_past, saved_past}
+use Rattle.avr_tool.specs.ChipFound.{IsChipOf, file_held}
+
+-- ---- the chip that an opening gives
+
+-- the name that was opened
+abbrev opened_name : Opening → Bytes
+opened_name (Absent name) = name
+opened_name (Found x) = x.name
+
+named : (name : Bytes) (openings : List Opening) → opened_name (next_opening name openings) ≡ name
+named name [] = refl
+named name (Absent other ∷ openings) = refl
+named name (Found x ∷ openings) = refl
+
+-- a file that made a chip was read to its end, and has the part's length
+chip_made : (ended long fits right : Bool) (good chip : Chip) (far wrong : Bytes) (left : List Opening)
+    → long ≡ not fits
+    → ((if ended || long then verdict_stage (if fits then (if right then Ok good else Err wrong) else Err far)
+    else unread_stage) left).answer ≡ Made chip
+    → (ended ≡ true) × (right ≡ true) × (good ≡ chip)
+chip_made true long true true good chip far wrong left test is = (refl, refl, cc)
+chip_made true long true false good chip far wrong left test is = absurd (cc)
+chip_made true long false right good chip far wrong left test is = absurd (cc)
+chip_made false true true right good chip far wrong left test is = absurd (cc)
+chip_made false true false right good chip far wrong left test is = absurd (cc)
+chip_made false false fits right good chip far wrong left test is = absurd (cc)
+
+-- so by a true opening it is the chip of what the name stood for
+chip_is : (part : Part) (file : Bytes) (stock : Stock) (made : List Writing) (o : Opening) (left : List Opening)
+    (chip : Chip) → opened_name o ≡ file
+    → IsTrueOpening stock made o → (chip_given part file o left).answer ≡ Made chip
+    → IsChipOf part (stood_for stock made file) chip
+chip_is part file stock made (Absent name) left chip name_is gave is =
+    subst (λ stood. IsChipOf part stood chip) (sym gave ∙ ap (stood_for stock made) name_is)
+    (let e : fresh_state part ≡ chip = cc in sym e)
+chip_is part file stock made (Found x) left chip name_is gave is =
+    let fits = nat_le (length x.bytes) 4194304 in
+    let long : nat_lt 4194304 (length x.bytes) ≡ not fits = grind (arith, nat_tests, common_steps) in
+    let right = length x.bytes == chip_file_size part in
+    let all = chip_made x.ended (nat_lt 4194304 (length x.bytes)) fits right (state_in part x.bytes) chip
+    (too_long_line file 4194304) _ left long is in
+    let none : gave.unread ≡ [] = gave.ends all.0 in
+    let size : length x.bytes ≡ chip_file_size part = let e : right ≡ true = all.1 in
+    grind (arith, nat_tests, common_steps, e) in
+    let stood : stood_for stock made file ≡ Some (x.bytes ++ gave.unread) =
+    ap (stood_for stock made) (sym name_is) ∙ gave.whole in
+    subst (λ s. IsChipOf part s chip) (sym (stood ∙ ap (λ (b : Bytes). Some (x.bytes ++ b)) none
+    ∙ ap (λ (b : Bytes). Some b) (append-nil x.bytes)))
+    (size, sym all.2)
+
+-- ---- the chip that is loaded
+
+given_says : (part : Part) (file : Bytes) (o : Opening) (left : List Opening) → (chip_given part file o left).says ≡ []
+given_says part file (Absent name) left = refl
+given_says part file (Found x) left =
+    content_says (x.ended || nat_lt 4194304 (length x.bytes)) (judged_chip part file x.bytes) left
+  where
+    judged_says : (judged : Result Chip Bytes) (left : List Opening) → (verdict_stage judged left).says ≡ []
+    judged_says (Ok chip) left = refl
+    judged_says (Err line) left = refl
+
+    content_says : (whole : Bool) (judged : Result Chip Bytes) (left : List Opening)
+        → ((if whole then verdict_stage judged else unread_stage) left).says ≡ []
+    content_says true judged left = judged_says judged left
+    content_says false judged left = refl
+
+-- the next opening is the chip's
+module _ (part : Part) (file : Bytes) (old new : DeskView) (chip : Chip)
+    (went : Went (chip_stage part file) old new (Made chip)) where
+  abbrev pub found : Opening
+  found = next_opening file (went.passed ++ [])
+
+  pub found_chip : (stock : Stock) (made : List Writing) → IsTrueOpening stock made found
+      → IsChipOf part (stood_for stock made file) chip
+  found_chip stock made gave =
+      chip_is part file stock made found _ chip (named file (went.passed ++ [])) gave
+      (ap (λ (p : StageResult Chip). p.answer) (went.comes []))
+
+  pub found_kept : new.kept ≡ after_opening found old.kept
+  found_kept =
+      let said : went.says ≡ Opens found ∷ [] =
+      sym (ap (λ (p : StageResult Chip). p.says) (went.comes []))
+      ∙ ap (λ (ss : List Saying). Opens found ∷ ss) (given_says part file found _) in
+      went.kept ∙ ap (λ (ss : List Saying). after_all ss old.kept) said
+
+-- ---- a run
+
+module _ (settings : Settings) (file : Bytes) (stock : Stock) (old new : MemDeskState) (status : ℕ)
+    (holds : HoldsTrue stock new)
+    (r : RunsOverEmulator settings file (memory_view old) (memory_view new) status) where
+  only_read : OnlyReads r.made.says
+  only_read = subst OnlyReads (ap (λ (p : StageResult Plan). told_in p) (r.made.comes []))
+      (only_reads settings (r.made.passed ++ []))
+
+  -- what was opened before the chip's file
+  before : (openings : List Opening) × (all_uses r.planned_desk.kept ≡ all_uses old.kept ++ opened openings)
+  before =
+      let said = only_opened r.made.says old.kept only_read in
+      (said.0, ap all_uses r.made.kept ∙ said.1)
+
+  abbrev first_uses : List FileUse
+  first_uses = all_uses old.kept ++ opened before.0
+
+  abbrev opening : Opening
+  opening = found r.plan.part file r.loaded.held_desk r.loaded_desk r.chip r.loaded.loaded
+
+  loaded_past : ArePast (first_uses ++ Opened opening ∷ []) r.loaded_desk.kept
+  loaded_past =
+      let held : all_uses r.loaded.held_desk.kept ≡ first_uses = ap all_uses r.loaded.held.0 ∙ before.1 in
+      subst (ArePast (first_uses ++ Opened opening ∷ []))
+      (sym (found_kept r.plan.part file r.loaded.held_desk r.loaded_desk r.chip r.loaded.loaded))
+      (subst (λ us. ArePast (us ++ Opened opening ∷ []) (after_opening opening r.loaded.held_desk.kept)) held
+      (opened_past opening r.loaded.held_desk.kept))
+
+  played_past : ArePast (first_uses ++ Opened opening ∷ []) r.played_desk.kept
+  played_past = run_past (first_uses ++ Opened opening ∷ []) _ _ _ _ _ r.ran r.runs loaded_past
+
+  ended : (more : List FileUse) × (all_uses new.kept ≡ (first_uses ++ Opened opening ∷ []) ++ more)
+  ended =
+      past_shown (first_uses ++ Opened opening ∷ []) new.kept
+      (saved_past (first_uses ++ Opened opening ∷ []) _ r.played_desk (memory_view new) file _ r.ran status r.saved
+      played_past)
+
+  first_files : files_among first_uses ≡ all_files old.kept
+  first_files =
+      files_append (all_uses old.kept) (opened before.0)
+      ∙ ap (λ (fs : List Writing). files_among (all_uses old.kept) ++ fs) (none_made before.0)
+      ∙ append-nil (files_among (all_uses old.kept)) ∙ files_used old.kept
+
+  -- its opening was true when what was there before the run was there
+  gave : IsTrueOpening stock (all_files old.kept) opening
+  gave =
+      let all : AreTrue stock [] ((first_uses ++ Opened opening ∷ []) ++ ended.0) =
+      subst (AreTrue stock []) ended.1 (all_true stock new holds) in
+      let later : AreTrue stock (files_among first_uses) (Opened opening ∷ ended.0) =
+      true_behind stock [] first_uses (Opened opening ∷ ended.0)
+      (subst (AreTrue stock []) (append_assoc first_uses (Opened opening ∷ []) ended.0) all) in
+      subst (λ fs. IsTrueOpening stock fs opening) first_files later.0
+
+  pub chip_found : IsChipOf r.plan.part (file_held stock old.kept file) r.chip
+  chip_found = found_chip r.plan.part file r.loaded.held_desk r.loaded_desk r.chip r.loaded.loaded stock
+      (all_files old.kept) gave

@@ -1,0 +1,205 @@
+-- The same run once more, over the chip file that a first one left.
+use Rattle.std.proofs.Common.{◌≡◌, ◌∙◌, ◌⊎◌, ap, subst, sym, refl, inl, inr, arith, ℕ, ◌+◌, Bool, true, false, length, List, [], ◌∷◌, ◌++◌, take, Option, Some, None, if◌then◌else◌}
+use Rattle.std.proofs.lemmas.Slice.Eq.{bytes_eq-Decides}
+use Rattle.ghosts.specs.Stays.{Stays}
+use Rattle.avr_cli.specs.declared.settings.Settings.{Settings}
+use Rattle.avr_desk.proofs.FileUses.Names.{newest_append}
+use Rattle.avr_desk.proofs.FileUses.Uses.{files_replaced}
+use Rattle.avr_desk.specs.Memory.{MemDeskState, Stock, file_named, memory_view, stood_for}
+use Rattle.avr_desk.specs.Named.{is_dash, newest}
+use Rattle.avr_desk.specs.Record.{Bytes, DeskView, Record, all_files, with_replaced}
+use Rattle.avr_desk.specs.Truth.{HoldsTrue}
+use Rattle.avr_desk.specs.declared.record.Writing.{Writing}
+use Rattle.avr_course.proofs.SecondRun.EveryChip.{agrees_anyway}
+use Rattle.avr_course.proofs.SecondRun.Status.{done_again}
+use Rattle.avr_course.specs.Again.{AgreesAnyway, AreKeeping}
+use Rattle.avr_course.specs.AnyLine.{OverAnyLine, Stopped, memories}
+use Rattle.avr_emulated.specs.Emulated.{IsSaved, RunsOverEmulator, new_wire}
+use Rattle.avr_course.specs.Items.{items, has_erase}
+use Rattle.avr_course.specs.Outcome.{IsDone, IsTouched, strokes}
+use Rattle.avr_course.proofs.AnyLine.FirstSteps.{effects_sizes}
+use Rattle.avr_part.specs.ChipFile.{chip_file, state_in}
+use Rattle.avr_part.specs.Part.{Part, IsPart}
+use Rattle.avr_part.specs.State.{ChipState as Chip}
+use Rattle.avr_part.proofs.ChipFiles.{flash_part, eeprom_part, fuse_part}
+use Rattle.avr_plan.specs.Plan.{Plan}
+use Rattle.avr_session.specs.Run.{RunsSession}
+use Rattle.avr_session.specs.Runs.{devices}
+use Rattle.avr_session.specs.Session.{session}
+use Rattle.stk_emu.specs.Effect.{Memories, memories_of, erase_keeps_eeprom}
+use Rattle.stk_emu.specs.Settled.{FitsPart}
+use Rattle.stk_emu.specs.Wired.{WiredState, wired_view}
+use Rattle.stk_host.specs.Dialog.{bytes_sent, played}
+use Rattle.stk_host.specs.Operations.{handshake, opening}
+use Rattle.stk_host.specs.Steps.{attempt, exchange, tries}
+use Rattle.stk_host.specs.Talk.{heard, sent}
+use Rattle.stk_host.specs.Tape.{Tape}
+use Rattle.avr_tool.proofs.ChipFile.Found.{chip_found}
+use Rattle.avr_tool.specs.ChipFound.{IsChipOf, file_held}
+
+-- ---- the chip of a chip's own file has its memories
+
+same_memories : (part : Part) (s : Chip) → FitsPart part (memories_of s)
+    → memories_of (state_in part (chip_file s)) ≡ memories_of s
+same_memories part s fits =
+    let fuses = s.lfuse ∷ s.hfuse ∷ s.efuse ∷ s.lock ∷ [] in
+    let flash_size : length s.flash ≡ part.flash_size = fits.flash in
+    let eeprom_size : length s.eeprom ≡ part.eeprom_size = fits.eeprom in
+    let at = part.flash_size + part.eeprom_size in
+    let flash = flash_part s.flash s.eeprom fuses part.flash_size flash_size in
+    let eeprom = eeprom_part s.flash s.eeprom fuses part.flash_size part.eeprom_size flash_size eeprom_size in
+    let lfuse = fuse_part s.flash s.eeprom fuses at 0 (omega arith) in
+    let hfuse = fuse_part s.flash s.eeprom fuses (at + 1) 1 (omega arith) in
+    let efuse = fuse_part s.flash s.eeprom fuses (at + 2) 2 (omega arith) in
+    let lock = fuse_part s.flash s.eeprom fuses (at + 3) 3 (omega arith) in
+    rw (flash, eeprom, lfuse, hfuse, efuse, lock) refl
+
+-- ---- what is in the file after a run
+
+-- a name that is not that of standard input
+module _ (file : Bytes) (stock : Stock) (no_dash : is_dash file ≡ false) where
+  stands : (made : List Writing) → stood_for stock made file ≡ file_named file stock made
+  stands made = ap (λ (b : Bool). if b then Some stock.input else file_named file stock made) no_dash
+
+  replaced : (bytes : Bytes) (r : Record) → file_held stock (with_replaced file bytes r) file ≡ Some bytes
+  replaced bytes r =
+      let own : Writing = record { name = file; bytes = bytes } in
+      stands (all_files (with_replaced file bytes r)) ∙ ap (file_named file stock) (files_replaced file bytes r)
+      ∙ newest_append file None stock.files (all_files r ++ own ∷ [])
+      ∙ newest_append file (newest file None stock.files) (all_files r) (own ∷ [])
+      ∙ ap (λ (b : Bool). if b then Some bytes else newest file (newest file None stock.files) (all_files r))
+      ((bytes_eq-Decides file file).1 refl)
+
+  -- the chip's, or what it was
+  saved_held : (out : List ℕ) (old new : DeskView) (bytes : Bytes) (ran status : ℕ)
+      → IsSaved out old new file bytes ran status
+      → (file_held stock new.kept file ≡ Some bytes) ⊎ (file_held stock new.kept file ≡ file_held stock old.kept file)
+  saved_held [] old new bytes ran status saved = inr (ap (λ (v : DeskView). file_held stock v.kept file) saved.0)
+  saved_held (b ∷ out) old new bytes ran status (inl (saves, is)) =
+      inl (ap (λ r. file_held stock r file) saves.0 ∙ replaced bytes old.kept)
+  saved_held (b ∷ out) old new bytes ran status (inr (fault, saves, is)) =
+      inr (ap (λ r. file_held stock r file) saves.1.kept)
+
+  -- with status 0 the chip's, as a session of status 0 has sent something
+  zero_held : (out : List ℕ) (old new : DeskView) (bytes : Bytes) (ran : ℕ) → (out ≡ [] → ran ≡ 0 → ⊥)
+      → IsSaved out old new file bytes ran 0
+      → file_held stock new.kept file ≡ Some bytes
+  zero_held [] old new bytes ran some saved = absurd (some refl (sym saved.1))
+  zero_held (b ∷ out) old new bytes ran some (inl (saves, is)) =
+      ap (λ r. file_held stock r file) saves.0 ∙ replaced bytes old.kept
+  zero_held (b ∷ out) old new bytes ran some (inr (fault, saves, is)) = absurd (cc)
+
+-- a session that was played begins with a frame
+first_frame : (plan : Plan) (tape : Tape)
+    → (rest : List ℕ) × (bytes_sent (played (session plan) 1 tape).events ≡ 27 ∷ rest)
+unfolding session opening handshake tries attempt exchange
+first_frame plan tape = (_, refl)
+
+no_silence : (plan : Plan) (chip : Chip) (after : WiredState) (d e : DeskView) (ran : ℕ)
+    → RunsSession plan (devices (wired_view (new_wire chip [])) d) (devices (wired_view after) e) ran
+    → sent after.talk ≡ [] → ran ≡ 0 → ⊥
+no_silence plan chip after d e ran (inl (place, whole)) none zero =
+    let first = first_frame plan (heard whole.during ++ []) in
+    let begun : bytes_sent whole.events ≡ 27 ∷ first.0 =
+    sym (ap (λ p. bytes_sent p.events) (whole.plays.plays [])) ∙ first.1 in
+    let silent : sent whole.during ≡ [] = ap sent (sym whole.grows) ∙ none in
+    let clash : 27 ∷ first.0 ≡ [] = sym begun ∙ whole.plays.all_sent ∙ silent in
+    cc
+no_silence plan chip after d e ran (inr (broke, one)) none zero = let e : 1 ≡ 0 = sym one ∙ zero in omega (arith, e)
+
+-- so the chip is in its file after a run of status 0
+pub chip_left : (settings : Settings) (file : Bytes) (stock : Stock) (old new : MemDeskState) (status : ℕ)
+    → is_dash file ≡ false → status ≡ 0
+    → (r : RunsOverEmulator settings file (memory_view old) (memory_view new) status)
+    → file_held stock new.kept file ≡ Some (chip_file r.after.wire.programmer.chip)
+chip_left settings file stock old new status no_dash zero r =
+    zero_held file stock no_dash (sent r.after.talk) r.played_desk (memory_view new)
+    (chip_file r.after.wire.programmer.chip) r.ran
+    (no_silence r.plan r.chip r.after r.loaded_desk r.played_desk r.ran r.runs)
+    (subst (IsSaved (sent r.after.talk) r.played_desk (memory_view new) file (chip_file r.after.wire.programmer.chip)
+    r.ran) zero r.saved)
+
+-- ---- two runs
+
+-- one file has one chip
+same_chip : (part : Part) (held : Option Bytes) (a b : Chip) → IsChipOf part held a → IsChipOf part held b → a ≡ b
+same_chip part None a b is other = is ∙ sym other
+same_chip part (Some bytes) a b is other = is.1 ∙ sym other.1
+
+module _ (settings : Settings) (file : Bytes) (stock : Stock) (old mid new : MemDeskState) (status further : ℕ)
+    (no_dash : is_dash file ≡ false)
+    (began : HoldsTrue stock old) (first_stays : Stays HoldsTrue old mid) (then_stays : Stays HoldsTrue mid new)
+    (one : RunsOverEmulator settings file (memory_view old) (memory_view mid) status)
+    (two : RunsOverEmulator settings file (memory_view mid) (memory_view new) further)
+    (same_plan : two.plan ≡ one.plan) (own : file_held stock one.played_desk.kept file
+    ≡ file_held stock old.kept file) where
+  abbrev plan : Plan
+  plan = one.plan
+
+  abbrev before : Memories
+  before = memories_of one.chip
+
+  holds_mid : HoldsTrue stock mid
+  holds_mid = first_stays stock began
+
+  first_chip : IsChipOf plan.part (file_held stock old.kept file) one.chip
+  first_chip = chip_found settings file stock old mid status holds_mid one
+
+  second_chip : IsChipOf plan.part (file_held stock mid.kept file) two.chip
+  second_chip =
+      subst (λ (p : Plan). IsChipOf p.part (file_held stock mid.kept file) two.chip) same_plan
+      (chip_found settings file stock mid new further (then_stays stock holds_mid) two)
+
+  is_part : IsPart plan.part
+  is_part = subst IsPart one.part one.sound.part
+
+  fits : FitsPart plan.part before
+  fits = record {
+    flash = one.sound.flash_size ∙ ap (λ (p : Part). p.flash_size) one.part;
+    eeprom = one.sound.eeprom_size ∙ ap (λ (p : Part). p.eeprom_size) one.part;
+    bytes = one.sound.flash;
+  }
+
+  left : FitsPart plan.part (memories one.after)
+  left = subst (FitsPart plan.part) (sym one.line.strokes.memories)
+      (effects_sizes plan.part is_part (take one.line.strokes.count (strokes plan)) before fits)
+
+  -- the second run begins with what some first strokes of the first one left
+  touched : IsTouched plan before (memories_of two.chip)
+  touched = elim (saved_held file stock no_dash (sent one.after.talk) one.played_desk (memory_view mid)
+      (chip_file one.after.wire.programmer.chip) one.ran status one.saved) [
+        | inl is ↦
+            (let held : IsChipOf plan.part (Some (chip_file one.after.wire.programmer.chip)) two.chip =
+            subst (λ h. IsChipOf plan.part h two.chip) is second_chip in
+            record {
+              count = one.line.strokes.count;
+              memories = ap memories_of held.1 ∙ same_memories plan.part one.after.wire.programmer.chip left
+                  ∙ one.line.strokes.memories;
+            })
+        | inr same ↦
+            record {
+              count = 0;
+              memories = ap memories_of (same_chip plan.part (file_held stock old.kept file) two.chip one.chip
+                  (subst (λ h. IsChipOf plan.part h two.chip) (same ∙ own) second_chip) first_chip);
+            }
+      ]
+
+  second : OverAnyLine plan (new_wire two.chip []) two.after two.loaded_desk two.played_desk two.ran
+  second = subst (λ (p : Plan). OverAnyLine p (new_wire two.chip []) two.after two.loaded_desk two.played_desk two.ran)
+      same_plan two.line
+
+  pub heals_file : has_erase (items plan) ≡ true → AgreesAnyway plan
+      → (erase_keeps_eeprom plan.part before ≡ true → AreKeeping plan.part (items plan))
+      → ((two.ran ≡ 0) × IsDone plan before (memories two.after))
+      ⊎ Stopped plan (new_wire two.chip []) two.after two.loaded_desk two.played_desk
+  heals_file erases both kept = elim (second.again tt erases both) [
+    | inl zero ↦ inl (
+      zero,
+      record {
+        memories = done_again plan before (memories_of two.chip) (memories two.after) is_part one.fitted fits
+            (λ _. kept) touched (second.done zero);
+        agrees = agrees_anyway plan before fits erases both;
+      },
+    )
+    | inr stopped ↦ inr stopped
+  ]

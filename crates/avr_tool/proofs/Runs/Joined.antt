@@ -1,0 +1,159 @@
+-- Planning and playing as one run.
+use Rattle.std.proofs.Common.{◌≡◌, ℕ, ◌⊎◌, inl, inr, List, [], ◌∷◌, ◌++◌, map, Some, refl, sym, ap, ◌∙◌, subst, arith, append_assoc}
+use Rattle.avr_cli.specs.declared.settings.Settings.{Settings}
+use Rattle.avr_desk.specs.Record.{DeskView}
+use Rattle.avr_desk.specs.declared.record.Opening.{Opening}
+use Rattle.avr_desk.specs.Said.{Saying, Line, SaidPart, after_all}
+use Rattle.avr_desk.proofs.Stages.Sayings.{kept_append}
+use Rattle.avr_desk.proofs.Lines.Told.{same_on}
+use Rattle.avr_plan.specs.Plan.{Plan}
+use Rattle.avr_plan.specs.Planning.{planned}
+use Rattle.avr_desk.specs.Playing.{Went, WentRefused}
+use Rattle.avr_desk.specs.Stage.{Made}
+use Rattle.stk_host.specs.Dialog.{Event, Said, played, behind, bytes_sent, sayings}
+use Rattle.stk_host.specs.Talk.{LinkView, Talk, Sent, Got, heard, Grows}
+use Rattle.stk_host.specs.Tape.{Tape, on_tape}
+use Rattle.stk_host.specs.Play.{TurnsFrom, IsPrefixOfEvents}
+use Rattle.stk_host.proofs.Talks.Laws.{grows_none}
+use Rattle.avr_session.specs.Run.{RunsSettings}
+use Rattle.avr_session.specs.Runs.{Devices, devices}
+use Rattle.avr_session.specs.Session.{session}
+use Rattle.avr_session.specs.Stopping.{IsPlayed}
+use Rattle.avr_tool.specs.Headline.{run, after_planning, IsInTurn, IsRun, IsPrefixOfRun, StoppedPlaying, IsStopped}
+
+pub said_sayings : (says : List Saying) (events : List (Event Saying))
+    → sayings (map Said says ++ events) ≡ says ++ sayings events
+said_sayings [] events = refl
+said_sayings (saying ∷ says) events = ap (λ rest. saying ∷ rest) (said_sayings says events)
+
+pub said_bytes : (says : List Saying) (events : List (Event Saying))
+    → bytes_sent (map Said says ++ events) ≡ bytes_sent events
+said_bytes [] events = refl
+said_bytes (saying ∷ says) events = said_bytes says events
+
+-- turns of the session are turns of the run
+turns : (settings : Settings) (openings : List Opening) (says : List Saying) (left : List Opening) (plan : Plan)
+    → planned settings openings ≡ record { says = says; answer = Made plan; left = left }
+    → (tape : Tape) (bytes : List ℕ) (talk : Talk) → TurnsFrom (session plan) 1 tape bytes talk
+    → IsInTurn (run settings openings) tape bytes talk
+turns settings openings says left plan is tape bytes [] due = tt
+turns settings openings says left plan is tape bytes (Sent more ∷ talk) due =
+    turns settings openings says left plan is tape (bytes ++ more) talk due
+turns settings openings says left plan is tape bytes (Got items ∷ talk) due =
+    let e : run settings openings tape ≡ behind (map Said says) (played (session plan) 1 tape) =
+    ap (λ p. after_planning p tape) is in (
+      record {
+        waits = ap (λ p. p.outcome) e ∙ due.0.waits;
+        all_sent =
+            ap (λ p. bytes_sent p.events) e ∙ (said_bytes says (played (session plan) 1 tape).events ∙ due.0.all_sent);
+      },
+      turns settings openings says left plan is (tape ++ items) bytes talk due.1,
+    )
+
+-- what a plan made, and its session whole
+pub ran_whole : (settings : Settings) (plan : Plan) (x y : Devices) (between : DeskView) (status : ℕ)
+    → Went (planned settings) x.desk between (Made plan) → IsPlayed (session plan) (devices x.link between) y status
+    → IsRun settings x y status
+ran_whole settings plan x y between status went whole =
+    let ran = whole.1 in
+    record {
+      openings = went.passed;
+      during = ran.during;
+      events = map Said went.says ++ ran.events;
+      next = whole.0.next;
+      left = whole.0.unread;
+      is = λ later more. ap (λ q. after_planning q (heard ran.during ++ more)) (went.comes later)
+          ∙ ap (behind (map Said went.says)) (ran.plays.plays more);
+      in_turn = λ later. turns settings (went.passed ++ later) went.says later plan (went.comes later) [] [] ran.during
+          ran.plays.in_turn;
+      all_sent = said_bytes went.says ran.events ∙ ran.plays.all_sent;
+      grows = ran.grows;
+      kept = kept_append went.says (sayings ran.events) x.desk.kept between.kept y.desk.kept went.kept ran.kept
+          ∙ ap (λ says. after_all says x.desk.kept) (sym (said_sayings went.says ran.events));
+      few = ran.few (omega arith);
+      sound = (ran.sound.0, same_on x.desk between y.desk went.sound ran.sound.1);
+    }
+
+pub ran_openings : (settings : Settings) (plan : Plan) (x y : Devices) (between : DeskView) (status : ℕ)
+    (went : Went (planned settings) x.desk between (Made plan))
+    (whole : IsPlayed (session plan) (devices x.link between) y status)
+    → (ran_whole settings plan x y between status went whole).openings ≡ went.passed
+unfolding ran_whole
+ran_openings settings plan x y between status went whole = refl
+
+pub refused_whole : (settings : Settings) (x y : Devices) → y.link ≡ x.link
+    → WentRefused (planned settings) x.desk y.desk → IsRun settings x y 1
+refused_whole settings x y same (line, went) = record {
+  openings = went.passed;
+  during = [];
+  events = map Said went.says ++ Said (Line line) ∷ [];
+  next = 1;
+  left = [];
+  is = λ later more. ap (λ q. after_planning q more) (went.comes later);
+  in_turn = λ later. tt;
+  all_sent = said_bytes went.says (Said (Line line) ∷ []);
+  grows = subst (λ (l : LinkView). Grows x.link.talk [] l.talk) (sym same) (grows_none x.link.talk);
+  kept = went.kept ∙ ap (λ says. after_all says x.desk.kept) (sym (said_sayings went.says (Said (Line line) ∷ [])));
+  few = omega arith;
+  sound = (ap (λ (l : LinkView). l.failures) same, went.sound);
+}
+
+pub is_run : (settings : Settings) (x : Devices) (between : DeskView) (y : Devices) (status : ℕ)
+    → RunsSettings settings x between y status
+    → IsRun settings x y status ⊎ IsStopped settings x y status
+is_run settings x between y status (inl runs) = elim runs.runs [
+  | inl whole ↦ inl (ran_whole settings runs.plan x y between status runs.made whole)
+  | inr broke ↦ inr (inl (record {
+    plan = runs.plan;
+    between = between;
+    made = runs.made;
+    broke = broke.0;
+    status_is =
+        broke.1;
+  }))
+]
+is_run settings x between y status (inr none) = elim none.refused [
+  | inl went ↦ inl (subst (IsRun settings x y) (sym none.status_is) (refused_whole settings x y none.same went))
+  | inr broke ↦ inr (inr (record { broke = broke; bare = none.bare; same = none.same; status_is = none.status_is }))
+]
+
+behind_prefix : (says : List Saying) {shown events : List (Event Saying)} → IsPrefixOfEvents SaidPart shown events
+    → IsPrefixOfEvents SaidPart (map Said says ++ shown) (map Said says ++ events)
+behind_prefix says f = record {
+  whole = map Said says ++ f.whole;
+  begun = f.begun;
+  later = f.later;
+  shown_is = ap (λ es. map Said says ++ es) f.shown_is ∙ sym (append_assoc (map Said says) f.whole f.begun);
+  events_are = ap (λ es. map Said says ++ es) f.events_are ∙ sym (append_assoc (map Said says) f.whole f.later);
+  part = f.part;
+}
+
+pub stopped_prefix : (settings : Settings) (x y : Devices) (status : ℕ) → StoppedPlaying settings x y status
+    → IsPrefixOfRun settings x y
+stopped_prefix settings x y status stopped = record {
+  openings = stopped.made.passed;
+  during = stopped.broke.during;
+  shown = map Said stopped.made.says ++ stopped.broke.shown;
+  prefix = λ later. subst (λ q. IsPrefixOfEvents SaidPart (map Said stopped.made.says ++ stopped.broke.shown) q.events)
+      (sym (ap (λ q. after_planning q (heard stopped.broke.during)) (stopped.made.comes later)))
+      (behind_prefix stopped.made.says stopped.broke.breaks.prefix);
+  in_turn = λ later. turns settings (stopped.made.passed ++ later) stopped.made.says later stopped.plan
+      (stopped.made.comes later) [] [] stopped.broke.during stopped.broke.breaks.in_turn;
+  all_sent = said_bytes stopped.made.says stopped.broke.shown ∙ stopped.broke.breaks.all_sent;
+  grows = stopped.broke.grows;
+}
+
+some_is : {A : Type 0} (a b : A) → Some a ≡ Some b → a ≡ b
+some_is a b e = cc
+
+-- the same openings and the same items heard come to one status
+pub one_status : (settings : Settings) (h i j k : Devices) (m n : ℕ) (x : IsRun settings h i m)
+    (y : IsRun settings j k n) → x.openings ≡ y.openings → heard x.during ≡ heard y.during → m ≡ n
+one_status settings h i j k m n x y same alike =
+    let both : run settings (x.openings ++ []) (heard x.during ++ [])
+    ≡ run settings (y.openings ++ []) (heard y.during ++ []) =
+    ap (λ os. run settings (os ++ []) (heard x.during ++ [])) same
+    ∙ ap (λ t. run settings (y.openings ++ []) (t ++ [])) alike in
+    let outcomes = sym (ap (λ z. z.outcome) (x.is [] []))
+    ∙ (ap (λ z. z.outcome) both ∙ ap (λ z. z.outcome) (y.is [] [])) in
+    ap (λ z. z.0) (some_is (m, x.next, on_tape x.left ++ []) (n, y.next, on_tape y.left ++ []) outcomes)

@@ -1,0 +1,266 @@
+-- What the programmer is after each command of a host.
+use Rattle.std.proofs.Common.{◌≡◌, ℕ, zero, suc, ◌<◌, ◌^◌, [], ◌∷◌, length, refl, sym, ap, ◌∙◌, subst, ◌⊎◌, inl, inr, true, cond, replicate, None, Option}
+use Rattle.std.proofs.lemmas.List.{length-replicate}
+use Rattle.std.proofs.lemmas.Bool.{cond-true}
+use Rattle.avr_part.specs.Part.{Part}
+use Rattle.avr_part.specs.State as chip
+use Rattle.stk_frame.specs.declared.command.Command.{Command}
+use Rattle.stk_frame.specs.declared.command.Command.TheVariants.{SignOn, LoadAddress}
+use Rattle.stk_frame.specs.declared.host_command.Fuse.{Fuse}
+use Rattle.stk_frame.specs.declared.host_command.Fuse.TheVariants.{Low, High, Extended}
+use Rattle.stk_frame.specs.Commands.{body}
+use Rattle.stk_frame.specs.Decoding as decoding
+use Rattle.stk_frame.specs.HostCommands.{enter, leave, erase, program_fuse, program_lock, read_fuse, read_lock, read_signature, read_calibration}
+use Rattle.stk_frame.proofs.DecodedBodies.{read_back}
+use Rattle.stk_emu.specs.Programmer.{Programmer, Response, obey, obey_command, read_as}
+use Rattle.stk_emu.specs.Device.{Device, device}
+use Rattle.stk_emu.specs.Fits.{after_commands, Fits}
+use Rattle.stk_emu.specs.Effect.{Memories, memories_of}
+use Rattle.stk_emu.specs.Strokes.{struck}
+use Rattle.stk_emu.specs.Settled.{Idle, Settled, Ready}
+
+-- a body is obeyed as its command
+pub obeys : (c : Command) (p : Programmer) → decoding.FieldsFit c → obey (body c) p ≡ obey_command c p
+obeys c p fits = ap (λ o. read_as o (body c) p) (read_back c fits)
+
+module _ {P : Type 0} (m : Device P) where
+  pub obeyed_none : (i : ℕ) (p : P) → after_commands m i [] p ≡ p
+  obeyed_none zero p = refl
+  obeyed_none (suc i) p = refl
+
+  -- a step of one command
+  pub one_fits : (c : Command) (Before After : P → Type 0) → ((p : P) → Before p → After (m.after (body c) p))
+      → ((p : P) → After p → After (m.after (body c) p))
+      → ((p : P) → Before p → Before (m.reset p)) → ((p : P) → After p → After (m.reset p))
+      → Fits m (c ∷ []) Before After
+  one_fits c Before After does again anew anew_again = record {
+    prefix = λ p i b. prefixes p i b;
+    again = λ p i a. agains p i a;
+    whole = λ p bytes has b. does p b;
+    anew = anew;
+    anew_again = anew_again;
+  }
+    where
+      prefixes : (p : P) (i : ℕ) → Before p → Before (after_commands m i (c ∷ []) p)
+          ⊎ After (after_commands m i (c ∷ []) p)
+      prefixes p zero b = inl b
+      prefixes p (suc i) b = inr (subst After (sym (obeyed_none i (m.after (body c) p))) (does p b))
+
+      agains : (p : P) (i : ℕ) → After p → After (after_commands m i (c ∷ []) p)
+      agains p zero a = a
+      agains p (suc i) a = subst After (sym (obeyed_none i (m.after (body c) p))) (again p a)
+
+  -- a step of two
+  pub two_fits : (c d : Command) (Before After : P → Type 0) → ((p : P) → Before p → Before (m.after (body c) p))
+      → ((p : P) → After p → After (m.after (body c) p))
+      → ((p : P) → Before p → After (m.after (body d) (m.after (body c) p)))
+      → ((p : P) → After p → After (m.after (body d) (m.after (body c) p)))
+      → ((p : P) → Before p → Before (m.reset p)) → ((p : P) → After p → After (m.reset p))
+      → Fits m (c ∷ d ∷ []) Before After
+  two_fits c d Before After first first_again does again anew anew_again = record {
+    prefix = λ p i b. prefixes p i b;
+    again = λ p i a. agains p i a;
+    whole = λ p bytes has b. does p b;
+    anew = anew;
+    anew_again = anew_again;
+  }
+    where
+      prefixes : (p : P) (i : ℕ) → Before p → Before (after_commands m i (c ∷ d ∷ []) p)
+          ⊎ After (after_commands m i (c ∷ d ∷ []) p)
+      prefixes p zero b = inl b
+      prefixes p (suc zero) b = inl (first p b)
+      prefixes p (suc (suc i)) b = inr (subst After (sym (obeyed_none i (m.after (body d) (m.after (body c) p))))
+          (does p b))
+
+      agains : (p : P) (i : ℕ) → After p → After (after_commands m i (c ∷ d ∷ []) p)
+      agains p zero a = a
+      agains p (suc zero) a = first_again p a
+      agains p (suc (suc i)) a = subst After (sym (obeyed_none i (m.after (body d) (m.after (body c) p)))) (again p a)
+
+-- the device as it goes along where it never begins anew
+abbrev pub steady : Device Programmer
+steady = record { answer = device.answer; after = device.after; reset = λ p. p }
+
+-- its steps
+pub one_steady : (c : Command) (Before After : Programmer → Type 0)
+    → ((p : Programmer) → Before p → After (device.after (body c) p))
+    → ((p : Programmer) → After p → After (device.after (body c) p)) → Fits steady (c ∷ []) Before After
+one_steady c Before After does again = one_fits steady c Before After does again (λ p b. b) (λ p a. a)
+
+pub two_steady : (c d : Command) (Before After : Programmer → Type 0)
+    → ((p : Programmer) → Before p → Before (device.after (body c) p))
+    → ((p : Programmer) → After p → After (device.after (body c) p))
+    → ((p : Programmer) → Before p → After (device.after (body d) (device.after (body c) p)))
+    → ((p : Programmer) → After p → After (device.after (body d) (device.after (body c) p)))
+    → Fits steady (c ∷ d ∷ []) Before After
+two_steady c d Before After first first_again does again =
+    two_fits steady c d Before After first first_again does again (λ p b. b) (λ p a. a)
+
+-- a command of programming mode, in it
+pub in_mode_is : (p : Programmer) (x y : Response) → p.mode ≡ true → (cond p.mode x y).1 ≡ x.1
+in_mode_is p x y e = ap (λ z. z.1) (cond-true p.mode x y e)
+
+module _ (part : Part) where
+  -- what is settled is idle
+  pub settled_idle : (m : Memories) (p : Programmer) → Settled part m p → Idle part m p
+  settled_idle m p s = record {
+    memories = s.memories;
+    part_is = s.part_is;
+    flash_buffer = ap length s.flash_buffer ∙ length-replicate part.flash_page 255;
+    eeprom_buffer = ap length s.eeprom_buffer ∙ length-replicate {A = Option ℕ} part.eeprom_page None;
+  }
+
+  -- what is ready is settled, and what is settled is ready in programming mode
+  pub ready_settled : (m : Memories) (p : Programmer) → Ready part m p → Settled part m p
+  ready_settled m p s = record {
+    memories = s.memories;
+    part_is = s.part_is;
+    flash_buffer = s.flash_buffer;
+    eeprom_buffer = s.eeprom_buffer;
+    extended = s.extended;
+  }
+
+  pub settled_ready : (m : Memories) (p : Programmer) → p.mode ≡ true → Settled part m p → Ready part m p
+  settled_ready m p mode s = record {
+    memories = s.memories;
+    part_is = s.part_is;
+    mode = mode;
+    flash_buffer =
+        s.flash_buffer;
+    eeprom_buffer = s.eeprom_buffer;
+    extended = s.extended;
+  }
+
+  pub ready_idle : (m : Memories) (p : Programmer) → Ready part m p → Idle part m p
+  ready_idle m p s = settled_idle m p (ready_settled m p s)
+
+  -- what begins anew keeps its memories, and nothing is loaded
+  pub anew_idle : (m : Memories) (p : Programmer) → Idle part m p → Idle part m (device.reset p)
+  anew_idle m p s = record {
+    memories = s.memories;
+    part_is = s.part_is;
+    flash_buffer = length-replicate (length p.chip.flash_buffer) 255 ∙ s.flash_buffer;
+    eeprom_buffer = length-replicate {A = Option ℕ} (length p.chip.eeprom_buffer) None ∙ s.eeprom_buffer;
+  }
+
+  pub anew_settled : (m : Memories) (p : Programmer) → Settled part m p → Settled part m (device.reset p)
+  anew_settled m p s =
+      let idle = settled_idle m p s in
+      record {
+        memories = s.memories;
+        part_is = s.part_is;
+        flash_buffer = ap (λ n. replicate n 255) idle.flash_buffer;
+        eeprom_buffer = ap (λ n. replicate {A = Option ℕ} n None) idle.eeprom_buffer;
+        extended = λ narrow. refl;
+      }
+
+  pub sign_on_keeps : (m : Memories) (p : Programmer) → Idle part m p → Idle part m (device.after (body SignOn) p)
+  sign_on_keeps m p s = s
+
+  pub sign_on_stays : (m : Memories) (p : Programmer) → Settled part m p → Settled part m (device.after (body SignOn) p)
+  sign_on_stays m p s = s
+
+  -- ENTER puts the mode on, and empties the buffers
+  pub enter_does : (m : Memories) (p : Programmer) → Idle part m p → Ready part m (device.after (body enter) p)
+  enter_does m p s = record {
+    memories = s.memories;
+    part_is = s.part_is;
+    mode = refl;
+    flash_buffer = ap (λ n. replicate n 255) s.flash_buffer;
+    eeprom_buffer = ap (λ n. replicate {A = Option ℕ} n None) s.eeprom_buffer;
+    extended = λ narrow. refl;
+  }
+
+  pub leave_keeps : (m : Memories) (p : Programmer) → Idle part m p → Idle part m (device.after (body leave) p)
+  leave_keeps m p s = record {
+    memories = s.memories;
+    part_is = s.part_is;
+    flash_buffer = s.flash_buffer;
+    eeprom_buffer = s.eeprom_buffer;
+  }
+
+  pub load_keeps : (address : ℕ) (m : Memories) (p : Programmer) → address < 2 ^ 32 → Ready part m p
+      → Ready part m (device.after (body (LoadAddress address)) p)
+  load_keeps address m p fits s = subst (λ z. Ready part m z) (sym (ap (λ z. z.1) (obeys (LoadAddress address) p fits)))
+      (record {
+        memories = s.memories;
+        part_is = s.part_is;
+        mode = s.mode;
+        flash_buffer = s.flash_buffer;
+        eeprom_buffer = s.eeprom_buffer;
+        extended = s.extended;
+      })
+
+  -- the fuses
+  pub fuse_does : (f : Fuse) (v : ℕ) (m : Memories) (p : Programmer) → Ready part m p
+      → Ready part (struck part (program_fuse f v ∷ []) m) (device.after (body (program_fuse f v)) p)
+  fuse_does Low v m p s = subst (Ready part (struck part (program_fuse Low v ∷ []) m)) (sym (in_mode_is p _ _ s.mode))
+      (record {
+        memories = ap (struck part (program_fuse Low v ∷ [])) s.memories;
+        part_is = s.part_is;
+        mode = s.mode;
+        flash_buffer = s.flash_buffer;
+        eeprom_buffer = s.eeprom_buffer;
+        extended = s.extended;
+      })
+  fuse_does High v m p s = subst (Ready part (struck part (program_fuse High v ∷ []) m)) (sym (in_mode_is p _ _ s.mode))
+      (record {
+        memories = ap (struck part (program_fuse High v ∷ [])) s.memories;
+        part_is = s.part_is;
+        mode = s.mode;
+        flash_buffer = s.flash_buffer;
+        eeprom_buffer = s.eeprom_buffer;
+        extended = s.extended;
+      })
+  fuse_does Extended v m p s = subst (Ready part (struck part (program_fuse Extended v ∷ []) m))
+      (sym (in_mode_is p _ _ s.mode)) (record {
+        memories = ap (struck part (program_fuse Extended v ∷ [])) s.memories;
+        part_is = s.part_is;
+        mode = s.mode;
+        flash_buffer = s.flash_buffer;
+        eeprom_buffer = s.eeprom_buffer;
+        extended = s.extended;
+      })
+
+  pub lock_does : (v : ℕ) (m : Memories) (p : Programmer) → Ready part m p
+      → Ready part (struck part (program_lock v ∷ []) m) (device.after (body (program_lock v)) p)
+  lock_does v m p s = subst (Ready part (struck part (program_lock v ∷ []) m)) (sym (in_mode_is p _ _ s.mode)) (record {
+    memories = ap (struck part (program_lock v ∷ [])) s.memories;
+    part_is = s.part_is;
+    mode = s.mode;
+    flash_buffer = s.flash_buffer;
+    eeprom_buffer = s.eeprom_buffer;
+    extended = s.extended;
+  })
+
+  -- the EESAVE bit is the part's
+  erase_memories : (s : chip.ChipState) → s.part ≡ part
+      → memories_of (chip.with_erased s) ≡ struck part (erase ∷ []) (memories_of s)
+  erase_memories s e = ap (λ (q : Part). struck q (erase ∷ []) (memories_of s)) e
+
+  pub erase_does : (m : Memories) (p : Programmer) → Ready part m p
+      → Ready part (struck part (erase ∷ []) m) (device.after (body erase) p)
+  erase_does m p s = subst (Ready part (struck part (erase ∷ []) m)) (sym (in_mode_is p _ _ s.mode)) (record {
+    memories = erase_memories p.chip s.part_is ∙ ap (struck part (erase ∷ [])) s.memories;
+    part_is = s.part_is;
+    mode = s.mode;
+    flash_buffer = s.flash_buffer;
+    eeprom_buffer = s.eeprom_buffer;
+    extended = s.extended;
+  })
+
+-- a byte that is read changes nothing
+pub fuse_read_after : (f : Fuse) (p : Programmer) → p.mode ≡ true → device.after (body (read_fuse f)) p ≡ p
+fuse_read_after Low p e = in_mode_is p _ _ e
+fuse_read_after High p e = in_mode_is p _ _ e
+fuse_read_after Extended p e = in_mode_is p _ _ e
+
+pub lock_read_after : (p : Programmer) → p.mode ≡ true → device.after (body read_lock) p ≡ p
+lock_read_after p e = in_mode_is p _ _ e
+
+pub signature_read_after : (place : ℕ) (p : Programmer) → p.mode ≡ true
+    → device.after (body (read_signature place)) p ≡ p
+signature_read_after place p e = in_mode_is p _ _ e
+
+pub calibration_read_after : (p : Programmer) → p.mode ≡ true → device.after (body read_calibration) p ≡ p
+calibration_read_after p e = in_mode_is p _ _ e

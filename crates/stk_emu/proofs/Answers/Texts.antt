@@ -1,0 +1,166 @@
+-- Answers to texts, piece by piece.
+use Rattle.std.proofs.Common.{◌≡◌, ℕ, ◌+◌, List, [], ◌∷◌, ◌++◌, ◌<◌, ◌≤◌, length, take, drop, refl, ap, sym, ◌∙◌, subst, append_assoc, arith, length-drop}
+use Rattle.std.specs.Prelude.{filter}
+use Rattle.std.proofs.lemmas.List.{append-nil, take-append-drop}
+use Rattle.std.proofs.lemmas.List.Elements.{filter-append}
+use Rattle.std.proofs.Math.Seq.{take-add}
+use Rattle.std.proofs.lemmas.Bool.{cond-true}
+use Rattle.stk_frame.specs.declared.reader.Event.{Event}
+use Rattle.stk_frame.specs.declared.reader.Event.TheVariants.{More, Frame, Spoiled}
+use Rattle.stk_frame.specs.Cut.{cut, frames, is_frame}
+use Rattle.stk_frame.specs.Reader.{HoldsFrame, Stands, Fed, TellsEvent, frames_of_event}
+use Rattle.stk_emu.specs.Programmer.{Programmer}
+use Rattle.stk_emu.specs.Device.{Device, device, answers, after_frames, answer_frame, after_frame}
+use Rattle.stk_emu.specs.Emulator.{Machine, IsFed, Answers, AppendsAnswers, AnswersPrefix, emulate}
+
+pub answers_more : {P : Type 0} (m : Device P) (xs ys : List (List ℕ)) (p : P)
+    → answers m (xs ++ ys) p ≡ answers m xs p ++ answers m ys (after_frames m xs p)
+answers_more m [] ys p = refl
+answers_more m (x ∷ xs) ys p =
+    ap (λ t. answer_frame m x p ++ t) (answers_more m xs ys (after_frame m x p))
+    ∙ sym (append_assoc (answer_frame m x p) (answers m xs (after_frame m x p))
+    (answers m ys (after_frames m xs (after_frame m x p))))
+
+pub after_more : {P : Type 0} (m : Device P) (xs ys : List (List ℕ)) (p : P)
+    → after_frames m (xs ++ ys) p ≡ after_frames m ys (after_frames m xs p)
+after_more m [] ys p = refl
+after_more m (x ∷ xs) ys p = after_more m xs ys (after_frame m x p)
+
+-- what an event tells of is a frame, and at most one
+pub found_frames : (event : Event) (held : List ℕ) → TellsEvent event held
+    → filter is_frame (frames_of_event event held) ≡ frames_of_event event held
+found_frames More held tells = refl
+found_frames Frame held tells = cond-true (is_frame held) _ _ tells.0.frame
+found_frames Spoiled held tells = cond-true (is_frame held) _ _ tells.0.frame
+
+pub found_few : (event : Event) (held : List ℕ) → length (frames_of_event event held) ≤ 1
+found_few More held = omega arith
+found_few Frame held = omega arith
+found_few Spoiled held = omega arith
+
+-- an answer is one to a frame that is held whole
+pub answer_ends : (event : Event) (held out : List ℕ) (p : Programmer) → TellsEvent event held
+    → out ≡ answers device (frames_of_event event held) p → 0 < length out → HoldsFrame held
+answer_ends More held out p tells e some = absurd (let none : length out ≡ 0 = ap length e in omega (arith, none, some))
+answer_ends Frame held out p tells e some = tells.0
+answer_ends Spoiled held out p tells e some = tells.0
+
+-- the frames of a text with these bytes after it
+pub frames_fed : (old used new : List ℕ) (fs : List (List ℕ)) (text : List ℕ) → Fed old used new fs
+    → filter is_frame fs ≡ fs → Stands old text → frames (text ++ used) ≡ frames text ++ fs
+frames_fed old used new fs text fed are stands =
+    ap (filter is_frame) (fed.pieces text stands)
+    ∙ (filter-append is_frame (cut text) (fed.skipped ++ fs)
+    ∙ ap (λ t. frames text ++ t) (filter-append is_frame fed.skipped fs
+    ∙ (ap (λ t. t ++ filter is_frame fs) fed.no_frames ∙ are)))
+
+pub is_fed : (old new : Machine) (used out : List ℕ) (p : Programmer) (text : List ℕ) → Answers old used new out
+    → IsFed p text old → IsFed p (text ++ used) new
+is_fed old new used out p text a f = record {
+  stands = a.fed.stands text f.stands;
+  obeyed =
+      a.obeyed
+      ∙ (ap (after_frames device a.found) f.obeyed
+      ∙ (sym (after_more device (frames text) a.found p)
+      ∙ ap (λ fs. after_frames device fs p) (sym
+      (frames_fed old.held used new.held a.found text a.fed a.are_frames f.stands))));
+}
+
+pub emulated : (old new : Machine) (used out : List ℕ) (p : Programmer) (text : List ℕ) → Answers old used new out
+    → IsFed p text old → emulate p (text ++ used) ≡ emulate p text ++ out
+emulated old new used out p text a f =
+    ap (λ fs. answers device fs p) (frames_fed old.held used new.held a.found text a.fed a.are_frames f.stands)
+    ∙ (answers_more device (frames text) a.found p
+    ∙ ap (λ t. emulate p text ++ t) (ap (answers device a.found) (sym f.obeyed) ∙ sym a.answered))
+
+-- where nothing is answered no frame ended
+pub none_found : (event : Event) (held : List ℕ) (p : Programmer) → answers device (frames_of_event event held) p ≡ []
+    → event ≡ More
+none_found More held p e = refl
+none_found Frame held p e = absurd (cc)
+none_found Spoiled held p e = absurd (cc)
+
+-- no bytes bring no answers
+pub appends_none : (machine : Machine) (before : List ℕ) → AppendsAnswers machine [] machine before before
+appends_none machine before = record {
+  found = [];
+  ends = λ text stands. ap frames (append-nil text) ∙ sym (append-nil (frames text));
+  stands = λ text stands. subst (λ t. Stands machine.held t) (sym (append-nil text)) stands;
+  appended = sym (append-nil before);
+  obeyed = refl;
+}
+
+-- what one call answers, appended
+pub appends_one : (old new : Machine) (used out before after : List ℕ) → Answers old used new out
+    → after ≡ before ++ out → AppendsAnswers old used new before after
+appends_one old new used out before after a is = record {
+  found = a.found;
+  ends = λ text stands. frames_fed old.held used new.held a.found text a.fed a.are_frames stands;
+  stands = λ text stands. a.fed.stands text stands;
+  appended = is ∙ ap (λ o. before ++ o) a.answered;
+  obeyed = a.obeyed;
+}
+
+pub appends_both : (old mid new : Machine) (x y a b c : List ℕ) → AppendsAnswers old x mid a b
+    → AppendsAnswers mid y new b c → AppendsAnswers old (x ++ y) new a c
+appends_both old mid new x y a b c first then = record {
+  found = first.found ++ then.found;
+  ends = λ text stands.
+      ap frames (sym (append_assoc text x y))
+      ∙ (then.ends (text ++ x) (first.stands text stands)
+      ∙ (ap (λ fs. fs ++ then.found) (first.ends text stands) ∙ append_assoc (frames text) first.found then.found));
+  stands = λ text stands. subst (λ t. Stands new.held t) (append_assoc text x y)
+      (then.stands (text ++ x) (first.stands text stands));
+  appended =
+      then.appended
+      ∙ (ap (λ o. o ++ answers device then.found mid.programmer) first.appended
+      ∙ (append_assoc a (answers device first.found old.programmer) (answers device then.found mid.programmer)
+      ∙ ap (λ o. a ++ o) (ap (λ p. answers device first.found old.programmer ++ answers device then.found p)
+      first.obeyed ∙ sym (answers_more device first.found then.found old.programmer))));
+  obeyed = then.obeyed ∙ (ap (after_frames device then.found) first.obeyed
+      ∙ sym (after_more device first.found then.found old.programmer));
+}
+
+-- after the first n bytes, so many more
+pub appends_on : (bytes part : List ℕ) (n used : ℕ) (old mid new : Machine) (a b c : List ℕ)
+    → AppendsAnswers old (take n bytes) mid a b → part ≡ drop n bytes → AppendsAnswers mid (take used part) new b c
+    → AppendsAnswers old (take (n + used) bytes) new a c
+appends_on bytes part n used old mid new a b c first is then =
+    subst (λ bs. AppendsAnswers old bs new a c)
+    (ap (λ bs. take n bytes ++ take used bs) is ∙ sym (take-add n used bytes))
+    (appends_both old mid new (take n bytes) (take used part) a b c first then)
+
+-- a prefix of the bytes, after which some are left
+pub appends_prefix : (bytes : List ℕ) (n : ℕ) (old new : Machine) (a b : List ℕ)
+    → AppendsAnswers old (take n bytes) new a b → n < length bytes → AnswersPrefix old bytes new a b
+appends_prefix bytes n old new a b appends some = record {
+  used = take n bytes;
+  unused = drop n bytes;
+  bytes_are = sym (take-append-drop n bytes);
+  some_left = rw length-drop (omega (arith, some));
+  appends = appends;
+}
+
+-- it stays an emulator that was fed a text
+pub appends_fed : (old new : Machine) (bytes a b : List ℕ) (p : Programmer) (text : List ℕ)
+    → AppendsAnswers old bytes new a b → IsFed p text old → IsFed p (text ++ bytes) new
+appends_fed old new bytes a b p text appends f = record {
+  stands = appends.stands text f.stands;
+  obeyed =
+      appends.obeyed
+      ∙ (ap (after_frames device appends.found) f.obeyed
+      ∙ (sym (after_more device (frames text) appends.found p)
+      ∙ ap (λ fs. after_frames device fs p) (sym (appends.ends text f.stands))));
+}
+
+-- and a list of all answers stays one
+pub appends_all : (old new : Machine) (bytes a b : List ℕ) (p : Programmer) (text given : List ℕ)
+    → AppendsAnswers old bytes new a b → IsFed p text old → given ++ a ≡ emulate p text
+    → given ++ b ≡ emulate p (text ++ bytes)
+appends_all old new bytes a b p text given appends f all =
+    ap (λ o. given ++ o) appends.appended
+    ∙ (sym (append_assoc given a (answers device appends.found old.programmer))
+    ∙ (ap (λ o. o ++ answers device appends.found old.programmer) all
+    ∙ (ap (λ q. emulate p text ++ answers device appends.found q) f.obeyed
+    ∙ (sym (answers_more device (frames text) appends.found p)
+    ∙ ap (λ fs. answers device fs p) (sym (appends.ends text f.stands))))))

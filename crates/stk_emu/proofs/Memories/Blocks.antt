@@ -1,0 +1,119 @@
+-- Blocks, byte by byte.
+use Rattle.std.proofs.Common.{true, false, if◌then◌else◌, ◌/◌, subst, ◌≡◌, ℕ, suc, ◌+◌, ◌<◌, Bool, List, [], ◌∷◌, ◌++◌, length, get_or, drop, refl, ap, ap₂, sym, ◌∙◌, add-one, drop-cons, append_assoc}
+use Rattle.avr_part.specs.State.{ChipState, spi_of}
+use Rattle.stk_frame.specs.declared.command.ProgramBlock.{ProgramBlock}
+use Rattle.stk_emu.specs.Programmer.{Programmer, with_address_moved, with_instructions, flash_fits, eeprom_fits, program_flash, program_eeprom, flash_writes, eeprom_writes, is_written, writes_page, sent_to, flash_loads, eeprom_loads, flash_looks, eeprom_looks, extension, look, at_address, for_half, word_at, byte_address}
+
+pub sent-append : (xs ys : List (List ℕ)) (chip : ChipState) → sent_to (xs ++ ys) chip ≡ sent_to ys (sent_to xs chip)
+sent-append [] ys chip = refl
+sent-append (x ∷ xs) ys chip = sent-append xs ys ((spi_of x chip).1)
+
+module _ (wide : Bool) (cmd address i : ℕ) where
+  -- the byte i is loaded
+  pub flash_load : (bytes out : List ℕ) (chip after whole : ChipState) → i < length bytes
+      → sent_to (flash_loads wide cmd address i (drop i bytes)) chip ≡ whole
+      → (out, after) ≡ spi_of (at_address (for_half cmd i) (word_at address i) (get_or bytes i 0))
+      (sent_to (extension wide (word_at address i)) chip)
+      → sent_to (flash_loads wide cmd address (i + 1) (drop (i + 1) bytes)) after ≡ whole
+  flash_load bytes out chip after whole h so_far spi =
+      let x = at_address (for_half cmd i) (word_at address i) (get_or bytes i 0) in
+      let left = flash_loads wide cmd address (suc i) (drop (suc i) bytes) in
+      let was : sent_to (extension wide (word_at address i) ++ (x ∷ left)) chip ≡ whole =
+      rw (drop-cons bytes i 0 h) at so_far in
+      rw add-one (
+      ap (λ s. sent_to left s) (ap (λ p. p.1) spi)
+      ∙ (sym (sent-append (extension wide (word_at address i)) (x ∷ left) chip) ∙ was))
+
+  -- the instruction as the code makes and sends it
+  pub flash_sent : (word half byte : ℕ) (x : List ℕ) (chip extended : ChipState) → word ≡ word_at address i
+      → half ≡ for_half cmd i → x ≡ at_address half word byte → extended ≡ sent_to (extension wide word) chip
+      → spi_of x extended ≡ spi_of (at_address (for_half cmd i) (word_at address i) byte)
+      (sent_to (extension wide (word_at address i)) chip)
+  flash_sent word half byte x chip extended w h is ext =
+      ap₂ (λ y s. spi_of y s)
+      (is ∙ (ap (λ k. at_address k word byte) h ∙ ap (λ a. at_address (for_half cmd i) a byte) w))
+      (ext ∙ ap (λ a. sent_to (extension wide a) chip) w)
+
+pub record LooksOn (before : List ℕ) (whole : List ℕ × ChipState) (out : List ℕ) (more : List ℕ × ChipState) : Type
+    0 where
+  pub bytes : out ++ more.0 ≡ before ++ whole.0
+  pub chip : more.1 ≡ whole.1
+
+-- one byte more was read: an instruction was sent, and its fourth byte out put after those so far
+pub record PutsLook (x : List ℕ) (chip after : ChipState) (out new : List ℕ) : Type 0 where
+  pub answer : List ℕ
+  pub obeyed : (answer, after) ≡ spi_of x chip
+  pub put : new ≡ out ++ get_or answer 3 0 ∷ []
+
+looked_on : (before : List ℕ) (whole : List ℕ × ChipState) (x : List ℕ) (chip after : ChipState) (out new : List ℕ)
+    (more : ChipState → List ℕ × ChipState) → LooksOn before whole out (look x chip more)
+    → PutsLook x chip after out new
+    → LooksOn before whole new (more after)
+looked_on before whole x chip after out new more on p =
+    let out_is : p.answer ≡ (spi_of x chip).0 = ap (λ q. q.0) p.obeyed in
+    let after_is : after ≡ (spi_of x chip).1 = ap (λ q. q.1) p.obeyed in
+    rw (p.put, out_is, after_is) (record { bytes = append_assoc out _ _ ∙ on.bytes; chip = on.chip })
+
+module _ (before : List ℕ) (whole : List ℕ × ChipState) (cmd address i : ℕ) where
+  -- the byte i is read
+  pub flash_look : (wide : Bool) (n m : ℕ) (chip after : ChipState) (out new : List ℕ) → n ≡ suc m
+      → LooksOn before whole out (flash_looks wide cmd address i n chip)
+      → PutsLook (at_address (for_half cmd i) (word_at address i) 0)
+      (sent_to (extension wide (word_at address i)) chip) after out new
+      → LooksOn before whole new (flash_looks wide cmd address (i + 1) m after)
+  flash_look wide n m chip after out new e on p =
+      let P : ℕ → Type 0 = λ k. LooksOn before whole out (flash_looks wide cmd address i k chip) in
+      let before_step : LooksOn before whole out (flash_looks wide cmd address i (suc m) chip) = subst P e on in
+      rw add-one (looked_on before whole (at_address (for_half cmd i) (word_at address i) 0)
+      (sent_to (extension wide (word_at address i)) chip) after out new (flash_looks wide cmd address (suc i) m)
+      before_step p)
+
+  pub eeprom_look : (n m : ℕ) (chip after : ChipState) (out new : List ℕ) → n ≡ suc m
+      → LooksOn before whole out (eeprom_looks cmd address i n chip)
+      → PutsLook (at_address cmd (byte_address address i) 0) chip after out new
+      → LooksOn before whole new (eeprom_looks cmd address (i + 1) m after)
+  eeprom_look n m chip after out new e on p =
+      let P : ℕ → Type 0 = λ k. LooksOn before whole out (eeprom_looks cmd address i k chip) in
+      let before_step : LooksOn before whole out (eeprom_looks cmd address i (suc m) chip) = subst P e on in
+      rw add-one (looked_on before whole (at_address cmd (byte_address address i) 0) chip after out new
+      (eeprom_looks cmd address (suc i) m) before_step p)
+
+pub chosen : {A : Type 0} (b : Bool) (x y : A) → b ≡ true → (if b then x else y) ≡ x
+chosen true x y e = refl
+chosen false x y e = absurd (cc)
+
+-- a page was loaded, and written if that was asked for
+pub page_done : (f : ProgramBlock) (p new : Programmer) (loaded written : ChipState) (out : List ℕ) → p.mode ≡ true
+    → flash_fits f ≡ true
+    → loaded ≡ sent_to (flash_loads p.wide f.cmd1 p.address 0 f.bytes) p.chip
+    → written ≡ sent_to (flash_writes p.wide f.cmd2 p.address (is_written f)) loaded
+    → new ≡ with_address_moved (f.count / 2) (record p { chip = written }) → out ≡ 0x13 ∷ 0 ∷ []
+    → (out, new) ≡ program_flash f p
+page_done f p new loaded written out mode fits load write is answer =
+    let loads = flash_loads p.wide f.cmd1 p.address 0 f.bytes in
+    let writes = flash_writes p.wide f.cmd2 p.address (is_written f) in
+    let chip_is : written ≡ sent_to (loads ++ writes) p.chip =
+    write ∙ (ap (λ s. sent_to writes s) load ∙ sym (sent-append loads writes p.chip)) in
+    let new_is : new ≡ with_address_moved (f.count / 2) (with_instructions (loads ++ writes) p) =
+    is ∙ ap (λ s. with_address_moved (f.count / 2) (record p { chip = s })) chip_is in
+    let pair_is : (out, new) ≡ (0x13 ∷ 0 ∷ [], with_address_moved (f.count / 2) (with_instructions (loads ++ writes) p))
+    = rw (answer, new_is) refl in
+    pair_is ∙ sym (chosen p.mode _ _ mode ∙ chosen (flash_fits f) _ _ fits)
+
+-- a block of EEPROM bytes was loaded, and written if that was asked for
+pub run_done : (f : ProgramBlock) (p new : Programmer) (loaded written : ChipState) (out : List ℕ) → p.mode ≡ true
+    → eeprom_fits f ≡ true
+    → loaded ≡ sent_to (eeprom_loads f.cmd1 p.address 0 f.bytes) p.chip
+    → written ≡ sent_to (eeprom_writes f.cmd2 p.address (writes_page f)) loaded
+    → new ≡ with_address_moved f.count (record p { chip = written }) → out ≡ 0x15 ∷ 0 ∷ []
+    → (out, new) ≡ program_eeprom f p
+run_done f p new loaded written out mode fits load write is answer =
+    let loads = eeprom_loads f.cmd1 p.address 0 f.bytes in
+    let writes = eeprom_writes f.cmd2 p.address (writes_page f) in
+    let chip_is : written ≡ sent_to (loads ++ writes) p.chip =
+    write ∙ (ap (λ s. sent_to writes s) load ∙ sym (sent-append loads writes p.chip)) in
+    let new_is : new ≡ with_address_moved f.count (with_instructions (loads ++ writes) p) =
+    is ∙ ap (λ s. with_address_moved f.count (record p { chip = s })) chip_is in
+    let pair_is : (out, new) ≡ (0x15 ∷ 0 ∷ [], with_address_moved f.count (with_instructions (loads ++ writes) p)) =
+    rw (answer, new_is) refl in
+    pair_is ∙ sym (chosen p.mode _ _ mode ∙ chosen (eeprom_fits f) _ _ fits)

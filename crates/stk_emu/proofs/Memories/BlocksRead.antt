@@ -1,0 +1,167 @@
+-- Blocks that are read: the bytes, and the chip after them.
+use Rattle.std.proofs.Common.{◌≡◌, ℕ, zero, suc, ◌+◌, ◌*◌, ◌/◌, ◌%◌, ◌≤◌, ◌<◌, List, [], ◌∷◌, length, get_or, take, drop, refl, sym, ap, ◌∙◌, arith, inl, inr, Bool, true, false, cond, drop-cons}
+use Rattle.std.proofs.Math.Nat.{mod-eq_of_lt}
+use Rattle.std.proofs.lemmas.Bool.{eqb-true, eqb-false, cases_Bool, cond-true, cond-false}
+use Rattle.std.specs.Prelude.{◌==◌, bit_or, slice_index}
+use Rattle.avr_part.specs.State as chip
+use Rattle.stk_emu.specs.Programmer.{sent_to, extension, flash_looks, eeprom_looks, for_half, word_at, byte_address, at_address, high, low}
+use Rattle.stk_emu.proofs.Memories.Pages.{extended_is}
+
+-- a memory from a place on, by its first byte
+one_more : (xs : List ℕ) (j n : ℕ) → j < length xs → get_or xs j 0 ∷ take n (drop (suc j) xs) ≡ take (suc n) (drop j xs)
+one_more xs j n l = ap (take (suc n)) (sym (drop-cons xs j 0 l))
+
+-- one byte of flash is read
+pub look_byte : (i h lo : ℕ) (s : chip.ChipState) → chip.spi_of (for_half 0x20 i ∷ h ∷ lo ∷ 0 ∷ []) s
+    ≡ (
+      0 ∷ for_half 0x20 i ∷ h ∷ get_or s.flash
+          ((s.extended * 65536 + (h * 256 + lo)) % (s.part.flash_size / 2) * 2 + i % 2) 0 ∷ [],
+      s,
+    )
+look_byte i h lo s = elim (cases_Bool (i % 2 == 0)) [
+  | inl e ↦
+      let even : 0 ≡ i % 2 = sym (eqb-true (i % 2) 0 e) in
+      let is : for_half 0x20 i ≡ 0x20 = cond-true (i % 2 == 0) 0x20 (bit_or 0x20 8) e in
+      ap (λ c. chip.spi_of (c ∷ h ∷ lo ∷ 0 ∷ []) s) is
+      ∙ (ap (λ c. (
+        0 ∷ c ∷ h ∷ get_or s.flash ((s.extended * 65536 + (h * 256 + lo)) % (s.part.flash_size / 2) * 2 + 0)
+            0 ∷ [],
+        s,
+      )) (sym is)
+      ∙ ap (λ n. (
+        0 ∷ for_half 0x20 i ∷ h ∷ get_or s.flash
+            ((s.extended * 65536 + (h * 256 + lo)) % (s.part.flash_size / 2) * 2 + n) 0 ∷ [],
+        s,
+      )) even)
+  | inr e ↦
+      let odd : 1 ≡ i % 2 = let ne = eqb-false (i % 2) 0 e in omega arith in
+      let is : for_half 0x20 i ≡ 0x28 = cond-false (i % 2 == 0) 0x20 (bit_or 0x20 8) e in
+      ap (λ c. chip.spi_of (c ∷ h ∷ lo ∷ 0 ∷ []) s) is
+      ∙ (ap (λ c. (
+        0 ∷ c ∷ h ∷ get_or s.flash ((s.extended * 65536 + (h * 256 + lo)) % (s.part.flash_size / 2) * 2 + 1)
+            0 ∷ [],
+        s,
+      )) (sym is)
+      ∙ ap (λ n. (
+        0 ∷ for_half 0x20 i ∷ h ∷ get_or s.flash
+            ((s.extended * 65536 + (h * 256 + lo)) % (s.part.flash_size / 2) * 2 + n) 0 ∷ [],
+        s,
+      )) odd)
+]
+
+-- a word's address, from the extended address and the two bytes of an instruction
+word_whole : (wide : Bool) (s : chip.ChipState) (w : ℕ) → w < 16777216 → (wide ≡ false → (s.extended ≡ 0) × (w < 65536))
+    → cond wide (w / 65536 % 256) s.extended * 65536 + (high w * 256 + low w) ≡ w
+word_whole true s w few n = let e : w / 65536 % 256 * 65536 + (w / 256 % 256 * 256 + w % 256) ≡ w = omega arith in e
+word_whole false s w few n =
+    let zero_is = (n refl).0 in
+    let few' = (n refl).1 in
+    let e : s.extended * 65536 + (w / 256 % 256 * 256 + w % 256) ≡ w = omega arith in
+    e
+
+-- the bytes of a block, and the chip with some extended address
+pub record Looked (wide : Bool) (j n : ℕ) (s : chip.ChipState) (looked : List ℕ × chip.ChipState) : Type 0 where
+  pub bytes : looked.0 ≡ take n (drop j s.flash)
+  pub value : ℕ
+  pub kept : wide ≡ false → value ≡ s.extended
+  pub is : looked.1 ≡ record s { extended = value }
+
+-- where the byte of an address lies
+flash_place : (wide : Bool) (a i size : ℕ) (s : chip.ChipState) → s.part.flash_size ≡ size → a + i / 2 < 2147483648
+    → a + i / 2 < 16777216 → a + i / 2 < size / 2
+    → (wide ≡ false → (s.extended ≡ 0) × (a + i / 2 < 65536))
+    → (cond wide (word_at a i / 65536 % 256) s.extended * 65536 + (high (word_at a i) * 256 + low (word_at a i))) %
+    (s.part.flash_size / 2) * 2 + i % 2 ≡ a * 2 + i
+flash_place wide a i size s is few low_enough inside narrow =
+    ap (λ w. (cond wide (w / 65536 % 256) s.extended * 65536 + (high w * 256 + low w)) % (s.part.flash_size / 2) * 2 + i
+    % 2) (mod-eq_of_lt few)
+    ∙ (ap (λ w. w % (s.part.flash_size / 2) * 2 + i % 2) (word_whole wide s (a + i / 2) low_enough narrow)
+    ∙ (ap (λ z. (a + i / 2) % (z / 2) * 2 + i % 2) is
+    ∙ (ap (λ w. w * 2 + i % 2) (mod-eq_of_lt inside)
+    ∙ (let e : (a + i / 2) * 2 + i % 2 ≡ a * 2 + i = omega arith in e))))
+
+pub flash_looked : (wide : Bool) (a i n size : ℕ) (s : chip.ChipState) → s.part.flash_size ≡ size
+    → length s.flash ≡ size → size ≤ 262144 → size % 2 ≡ 0 → a * 2 + i + n ≤ size
+    → (wide ≡ false → (s.extended ≡ 0) × (size ≤ 131072)) → Looked wide (a * 2 + i) n s (flash_looks wide 0x20 a i n s)
+flash_looked wide a i zero size s is long most even fits narrow =
+    record { bytes = refl; value = s.extended; kept = λ e. refl; is = refl }
+flash_looked wide a i (suc n) size s is long most even fits narrow =
+    let x = cond wide (word_at a i / 65536 % 256) s.extended in
+    let s₁ : chip.ChipState = record s { extended = x } in
+    let place = flash_place wide a i size s is (omega arith) (omega arith) (omega arith)
+    (λ e. ((narrow e).0, (let l = (narrow e).1 in omega arith))) in
+    let byte = get_or s.flash (a * 2 + i) 0 in
+    let spi : chip.spi_of (at_address (for_half 0x20 i) (word_at a i) 0) (sent_to (extension wide (word_at a i)) s)
+    ≡ (0 ∷ for_half 0x20 i ∷ high (word_at a i) ∷ byte ∷ [], s₁) =
+    ap (chip.spi_of (at_address (for_half 0x20 i) (word_at a i) 0)) (extended_is wide (word_at a i) s)
+    ∙ (look_byte i (high (word_at a i)) (low (word_at a i)) s₁
+    ∙ ap (λ j. (0 ∷ for_half 0x20 i ∷ high (word_at a i) ∷ get_or s.flash j 0 ∷ [], s₁)) place) in
+    let more : Looked wide (a * 2 + suc i) n s₁ (flash_looks wide 0x20 a (suc i) n s₁) =
+    flash_looked wide a (suc i) n size s₁ is long most even (omega arith)
+    (λ e. (cond-false wide (word_at a i / 65536 % 256) s.extended e ∙ (narrow e).0, (narrow e).1)) in
+    let looks : flash_looks wide 0x20 a i (suc n) s
+    ≡ (byte ∷ (flash_looks wide 0x20 a (suc i) n s₁).0, (flash_looks wide 0x20 a (suc i) n s₁).1) =
+    ap (λ (z : List ℕ × chip.ChipState). (
+      slice_index z.0 3 ∷ (flash_looks wide 0x20 a (suc i) n z.1).0,
+      (flash_looks wide 0x20 a (suc i) n z.1).1,
+    )) spi in
+    record {
+      bytes = ap (λ z. z.0) looks ∙ (ap (λ bs. byte ∷ bs)
+          (more.bytes ∙ ap (λ j. take n (drop j s.flash)) (let e : a * 2 + suc i ≡ suc (a * 2 + i) = omega arith in e))
+          ∙ one_more s.flash (a * 2 + i) n (omega arith));
+      value = more.value;
+      kept = λ e. more.kept e ∙ cond-false wide (word_at a i / 65536 % 256) s.extended e;
+      is = ap (λ z. z.1) looks ∙ more.is;
+    }
+
+eeprom_place : (a i size : ℕ) (s : chip.ChipState) → s.part.eeprom_size ≡ size → a + i < size → size ≤ 4096
+    → (high (byte_address a i) * 256 + low (byte_address a i)) % s.part.eeprom_size ≡ a + i
+eeprom_place a i size s is inside most =
+    let few : (a + i) % 2147483648 ≡ a + i = mod-eq_of_lt (omega arith) in
+    ap (λ w. (high w * 256 + low w) % s.part.eeprom_size) few
+    ∙ (ap (λ w. w % s.part.eeprom_size) (let e : (a + i) / 256 % 256 * 256 + (a + i) % 256 ≡ a + i = omega arith in e)
+    ∙ (ap (λ z. (a + i) % z) is ∙ mod-eq_of_lt inside))
+
+pub eeprom_looked : (a i n size : ℕ) (s : chip.ChipState) → s.part.eeprom_size ≡ size → length s.eeprom ≡ size
+    → size ≤ 4096 → a + i + n ≤ size → eeprom_looks 0xA0 a i n s ≡ (take n (drop (a + i) s.eeprom), s)
+eeprom_looked a i zero size s is long most fits = refl
+eeprom_looked a i (suc n) size s is long most fits =
+    let place = eeprom_place a i size s is (omega arith) most in
+    let byte = get_or s.eeprom (a + i) 0 in
+    let spi : chip.spi_of (at_address 0xA0 (byte_address a i) 0) s
+    ≡ (0 ∷ 0xA0 ∷ high (byte_address a i) ∷ byte ∷ [], s) =
+    ap (λ j. (0 ∷ 0xA0 ∷ high (byte_address a i) ∷ get_or s.eeprom j 0 ∷ [], s)) place in
+    let more = eeprom_looked a (suc i) n size s is long most (omega arith) in
+    ap (λ (z : List ℕ × chip.ChipState). (
+      slice_index z.0 3 ∷ (eeprom_looks 0xA0 a (suc i) n z.1).0,
+      (eeprom_looks 0xA0 a (suc i) n z.1).1,
+    )) spi
+    ∙ (ap (λ (z : List ℕ × chip.ChipState). (byte ∷ z.0, z.1)) more
+    ∙ ap (λ bs. (bs, s)) (ap (λ j. byte ∷ take n (drop j s.eeprom)) (let e : a + suc i ≡ suc (a + i) = omega arith in e)
+    ∙ one_more s.eeprom (a + i) n (omega arith)))
+
+-- whatever is read, nothing but the extended address changes
+pub record Left (wide : Bool) (s t : chip.ChipState) : Type 0 where
+  pub value : ℕ
+  pub kept : wide ≡ false → value ≡ s.extended
+  pub is : t ≡ record s { extended = value }
+
+pub flash_left : (wide : Bool) (a i n : ℕ) (s : chip.ChipState) → Left wide s (flash_looks wide 0x20 a i n s).1
+flash_left wide a i zero s = record { value = s.extended; kept = λ e. refl; is = refl }
+flash_left wide a i (suc n) s =
+    let x = cond wide (word_at a i / 65536 % 256) s.extended in
+    let s₁ : chip.ChipState = record s { extended = x } in
+    let after : (chip.spi_of (at_address (for_half 0x20 i) (word_at a i) 0)
+    (sent_to (extension wide (word_at a i)) s)).1 ≡ s₁ =
+    ap (λ t. (chip.spi_of (at_address (for_half 0x20 i) (word_at a i) 0) t).1) (extended_is wide (word_at a i) s)
+    ∙ ap (λ z. z.1) (look_byte i (high (word_at a i)) (low (word_at a i)) s₁) in
+    let more : Left wide s₁ (flash_looks wide 0x20 a (suc i) n s₁).1 = flash_left wide a (suc i) n s₁ in
+    record {
+      value = more.value;
+      kept = λ e. more.kept e ∙ cond-false wide (word_at a i / 65536 % 256) s.extended e;
+      is = ap (λ t. (flash_looks wide 0x20 a (suc i) n t).1) after ∙ more.is;
+    }
+
+pub eeprom_left : (a i n : ℕ) (s : chip.ChipState) → (eeprom_looks 0xA0 a i n s).1 ≡ s
+eeprom_left a i zero s = refl
+eeprom_left a i (suc n) s = eeprom_left a (suc i) n s

@@ -1,0 +1,168 @@
+-- Images laid over memories, and buffers that are loaded byte by byte.
+use Rattle.std.proofs.Common.{◌≡◌, ℕ, zero, suc, ◌+◌, ◌-◌, ◌≤◌, ◌<◌, List, [], ◌∷◌, ◌++◌, length, get_or, set, map, refl, sym, ap, ap₂, ◌∙◌, append_assoc, arith, replicate, Option, Some, None, unwrap_or, bit_and, length-append}
+use Rattle.std.proofs.lemmas.List.{length-replicate, length-map, length-set, get_or-replicate, get_or_append_left, get_or-append_right, get_or_past, set_at, replicate-append-replicate}
+use Rattle.std.proofs.lemmas.Nat.{and_assoc}
+use Rattle.std.specs.Int.Bits.{and_self}
+use Rattle.avr_part.specs.Memory.{map_indexed, overlaid, byte_and_page}
+use Rattle.avr_part.proofs.Changes.{changed_is, overlaid_is, anded_is}
+use Rattle.stk_emu.specs.Effect.{Image, with_image, and_in, and_with}
+use Rattle.stk_emu.specs.Strokes.{image_at}
+
+pub length-laid : (image : Image) (xs : List ℕ) → length (with_image image xs) ≡ length xs
+length-laid [] [] = refl
+length-laid [] (x ∷ xs) = refl
+length-laid (b ∷ image) [] = refl
+length-laid (b ∷ image) (x ∷ xs) = ap suc (length-laid image xs)
+
+pub length-and_in : (image : Image) (xs : List ℕ) → length (and_in image xs) ≡ length xs
+length-and_in [] [] = refl
+length-and_in [] (x ∷ xs) = refl
+length-and_in (b ∷ image) [] = refl
+length-and_in (b ∷ image) (x ∷ xs) = ap suc (length-and_in image xs)
+
+pub get_laid : (image : Image) (xs : List ℕ) (i : ℕ) → i < length xs
+    → get_or (with_image image xs) i 0 ≡ unwrap_or (get_or image i None) (get_or xs i 0)
+get_laid image [] i l = absurd (omega arith)
+get_laid [] (x ∷ xs) i l = refl
+get_laid (b ∷ image) (x ∷ xs) zero l = refl
+get_laid (b ∷ image) (x ∷ xs) (suc i) l = get_laid image xs i (omega arith)
+
+pub get_and_in : (image : Image) (xs : List ℕ) (i : ℕ) → i < length xs
+    → get_or (and_in image xs) i 0 ≡ and_with (get_or image i None) (get_or xs i 0)
+get_and_in image [] i l = absurd (omega arith)
+get_and_in [] (x ∷ xs) i l = refl
+get_and_in (b ∷ image) (x ∷ xs) zero l = refl
+get_and_in (b ∷ image) (x ∷ xs) (suc i) l = get_and_in image xs i (omega arith)
+
+-- laid twice is laid once
+pub laid_byte : (b : Option ℕ) (x : ℕ) → unwrap_or b (unwrap_or b x) ≡ unwrap_or b x
+laid_byte None x = refl
+laid_byte (Some y) x = refl
+
+pub laid_twice : (image : Image) (xs : List ℕ) → with_image image (with_image image xs) ≡ with_image image xs
+laid_twice [] [] = refl
+laid_twice [] (x ∷ xs) = refl
+laid_twice (b ∷ image) [] = refl
+laid_twice (b ∷ image) (x ∷ xs) = ap₂ (λ y ys. y ∷ ys) (laid_byte b x) (laid_twice image xs)
+
+pub and_byte : (b : Option ℕ) (x : ℕ) → and_with b (and_with b x) ≡ and_with b x
+and_byte None x = refl
+and_byte (Some y) x = and_assoc y x y ∙ ap (bit_and x) (and_self y)
+
+pub and_in_twice : (image : Image) (xs : List ℕ) → and_in image (and_in image xs) ≡ and_in image xs
+and_in_twice [] [] = refl
+and_in_twice [] (x ∷ xs) = refl
+and_in_twice (b ∷ image) [] = refl
+and_in_twice (b ∷ image) (x ∷ xs) = ap₂ (λ y ys. y ∷ ys) (and_byte b x) (and_in_twice image xs)
+
+-- no bytes at the end of an image don't matter
+nothing_laid : (k : ℕ) (xs : List ℕ) → with_image (replicate k None) xs ≡ xs
+nothing_laid zero [] = refl
+nothing_laid zero (x ∷ xs) = refl
+nothing_laid (suc k) [] = refl
+nothing_laid (suc k) (x ∷ xs) = ap (λ ys. x ∷ ys) (nothing_laid k xs)
+
+laid_nothing : (image : Image) (k : ℕ) (xs : List ℕ) → with_image (image ++ replicate k None) xs ≡ with_image image xs
+laid_nothing [] k [] = refl
+laid_nothing [] k (x ∷ xs) = nothing_laid k (x ∷ xs)
+laid_nothing (b ∷ image) k [] = refl
+laid_nothing (b ∷ image) k (x ∷ xs) = ap (λ ys. unwrap_or b x ∷ ys) (laid_nothing image k xs)
+
+-- the bytes loaded for a page, laid over a memory
+pub before_part : (start : ℕ) (loads : Image) (i : ℕ) → i < start → get_or (replicate start None ++ loads) i None ≡ None
+before_part start loads i l =
+    get_or_append_left (replicate start None) loads None i
+    (let n = length-replicate {A = Option ℕ} start None in omega arith)
+    ∙ get_or-replicate start i None None l
+
+pub in_part : (start : ℕ) (loads : Image) (i : ℕ) → start ≤ i
+    → get_or (replicate start None ++ loads) i None ≡ get_or loads (i - start) None
+in_part start loads i l = get_or-append_right (replicate start None) loads start i None
+    (length-replicate {A = Option ℕ} start None) l
+
+pub overlaid_laid : (start : ℕ) (loads : Image) (xs : List ℕ)
+    → map_indexed (overlaid start loads) xs ≡ with_image (replicate start None ++ loads) xs
+overlaid_laid start loads xs =
+    sym (changed_is (overlaid start loads) xs (with_image (replicate start None ++ loads) xs)
+    (length-laid (replicate start None ++ loads) xs)
+    (λ i l. overlaid_is start loads i (get_or xs i 0) _
+    (λ before. get_laid (replicate start None ++ loads) xs i l
+    ∙ ap (λ b. unwrap_or b (get_or xs i 0)) (before_part start loads i before))
+    (λ from to. get_laid (replicate start None ++ loads) xs i l
+    ∙ ap (λ b. unwrap_or b (get_or xs i 0)) (in_part start loads i from))
+    (λ after. get_laid (replicate start None ++ loads) xs i l
+    ∙ ap (λ b. unwrap_or b (get_or xs i 0)) (in_part start loads i (omega arith)
+    ∙ get_or_past loads (i - start) None (omega arith)))))
+
+pub some_at : (page : List ℕ) (j : ℕ) → j < length page → get_or (map Some page) j None ≡ Some (get_or page j 0)
+some_at [] j l = absurd (omega arith)
+some_at (x ∷ page) zero l = refl
+some_at (x ∷ page) (suc j) l = some_at page j (omega arith)
+
+more_than : (page : List ℕ) (j : ℕ) → length page ≤ j → length (map {B = Option ℕ} Some page) ≤ j
+more_than page j l = rw length-map l
+
+pub anded_in : (start : ℕ) (page xs : List ℕ)
+    → map_indexed (byte_and_page start page) xs ≡ and_in (image_at start page) xs
+anded_in start page xs =
+    sym (changed_is (byte_and_page start page) xs (and_in (image_at start page) xs)
+    (length-and_in (image_at start page) xs)
+    (λ i l. anded_is start page i (get_or xs i 0) _
+    (λ before. get_and_in (image_at start page) xs i l
+    ∙ ap (λ b. and_with b (get_or xs i 0)) (before_part start (map Some page) i before))
+    (λ from to. get_and_in (image_at start page) xs i l
+    ∙ ap (λ b. and_with b (get_or xs i 0)) (in_part start (map Some page) i from
+    ∙ some_at page (i - start) (omega arith)))
+    (λ after. get_and_in (image_at start page) xs i l
+    ∙ ap (λ b. and_with b (get_or xs i 0)) (in_part start (map Some page) i (omega arith)
+    ∙ get_or_past (map Some page) (i - start) None (more_than page (i - start) (omega arith))))))
+
+-- a buffer into which bytes are loaded from one place on
+abbrev pub put : {A : Type 0} → (ℕ → A) → ℕ → List ℕ → List A → List A
+put f place [] buffer = buffer
+put f place (d ∷ ds) buffer = put f (suc place) ds (set buffer place (f d))
+
+at_end : {A : Type 0} (prefix : List A) (a : A) (place : ℕ) → length prefix ≡ place
+    → length (prefix ++ a ∷ []) ≡ suc place
+at_end prefix a place at = rw length-append (omega arith)
+
+pub put_is : {A : Type 0} (f : ℕ → A) (e : A) (ds : List ℕ) (prefix : List A) (place k : ℕ) → length prefix ≡ place
+    → put f place ds (prefix ++ replicate (length ds + k) e) ≡ prefix ++ (map f ds ++ replicate k e)
+put_is f e [] prefix place k at = ap (λ n. prefix ++ replicate n e) (omega arith)
+put_is f e (d ∷ ds) prefix place k at =
+    let count : suc (length ds) + k ≡ suc (length ds + k) = omega arith in
+    ap (λ n. put f (suc place) ds (set (prefix ++ replicate n e) place (f d))) count
+    ∙ (ap (put f (suc place) ds) (set_at prefix e (replicate (length ds + k) e) (f d) place at
+    ∙ sym (append_assoc prefix (f d ∷ []) (replicate (length ds + k) e)))
+    ∙ (put_is f e ds (prefix ++ f d ∷ []) (suc place) k (at_end prefix (f d) place at)
+    ∙ append_assoc prefix (f d ∷ []) (map f ds ++ replicate k e)))
+
+-- the bytes loaded for a run within a page, laid over a memory
+pub run_laid : (start off : ℕ) (run : List ℕ) (page : ℕ) (xs : List ℕ) → off + length run ≤ page
+    → map_indexed (overlaid start (put Some off run (replicate page None))) xs
+    ≡ with_image (image_at (start + off) run) xs
+run_laid start off run page xs fits =
+    let split : page ≡ off + (length run + (page - (off + length run))) = omega arith in
+    let buffer : put Some off run (replicate page None)
+    ≡ replicate off None ++ (map Some run ++ replicate (page - (off + length run)) None) =
+    ap (put Some off run) (ap (λ n. replicate {A = Option ℕ} n None) split
+    ∙ sym (replicate-append-replicate {A = Option ℕ} off (length run + (page - (off + length run))) None))
+    ∙ put_is Some None run (replicate off None) off (page - (off + length run))
+    (length-replicate {A = Option ℕ} off None) in
+    ap (λ b. map_indexed (overlaid start b) xs) buffer
+    ∙ (overlaid_laid start (replicate off None ++ (map Some run ++ replicate (page - (off + length run)) None)) xs
+    ∙ (ap (λ b. with_image b xs)
+    (ap (λ b. replicate start None ++ b) (sym
+    (append_assoc (replicate off None) (map Some run) (replicate (page - (off + length run)) None)))
+    ∙ (sym (append_assoc (replicate start None) (replicate off None ++ map Some run)
+    (replicate (page - (off + length run)) None))
+    ∙ ap (λ b. b ++ replicate (page - (off + length run)) None)
+    (sym (append_assoc (replicate start None) (replicate off None) (map Some run))
+    ∙ ap (λ b. b ++ map Some run) (replicate-append-replicate {A = Option ℕ} start off None))))
+    ∙ laid_nothing (image_at (start + off) run) (page - (off + length run)) xs))
+
+pub length_put : {A : Type 0} (f : ℕ → A) (place : ℕ) (ds : List ℕ) (buffer : List A)
+    → length (put f place ds buffer) ≡ length buffer
+length_put f place [] buffer = refl
+length_put f place (d ∷ ds) buffer = length_put f (suc place) ds (set buffer place (f d))
+    ∙ length-set buffer place (f d)

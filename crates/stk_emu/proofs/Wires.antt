@@ -1,0 +1,6 @@
+-- What a wire brings and keeps.
+pub mod Ports
+pub mod NoiseCuts
+pub mod Waiting
+pub mod Kept
+pub mod Segments

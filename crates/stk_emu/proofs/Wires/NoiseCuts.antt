@@ -1,0 +1,87 @@
+-- Noise, cut piece by piece.
+use Rattle.std.proofs.Common.{◌≡◌, ◌≢◌, ℕ, ◌+◌, ◌-◌, ◌≤◌, subst, arith, length-drop, List, [], ◌∷◌, ◌++◌, length, take, drop, refl, ap, sym, ◌∙◌, true, false, inl, inr}
+use Rattle.std.specs.Prelude.{filter}
+use Rattle.std.proofs.lemmas.Bool.{cases_Bool, cond-true, cond-false}
+use Rattle.std.proofs.lemmas.List.{take-append-drop, take_all}
+use Rattle.std.proofs.Math.Seq.{take-add}
+use Rattle.std.proofs.lemmas.List.Elements.{filter-append}
+use Rattle.stk_frame.specs.Cut.{cut, rest, is_frame, is_good}
+use Rattle.stk_frame.specs.Reader.{Stands, Fed}
+use Rattle.stk_frame.proofs.Cuts.{cut_append}
+
+-- no frames, so no good ones
+pub no_good : (pieces : List (List ℕ)) → filter is_frame pieces ≡ [] → filter is_good pieces ≡ []
+no_good [] e = refl
+no_good (piece ∷ pieces) e = elim (cases_Bool (is_frame piece)) [
+  | inl t ↦
+      let kept = sym (cond-true (is_frame piece) (piece ∷ filter is_frame pieces) (filter is_frame pieces) t) ∙ e in
+      cc
+  | inr f ↦
+      let more : filter is_frame pieces ≡ [] =
+      sym (cond-false (is_frame piece) (piece ∷ filter is_frame pieces) (filter is_frame pieces) f) ∙ e in
+      let bad : is_good piece ≡ false = rw f refl in
+      cond-false (is_good piece) (piece ∷ filter is_good pieces) (filter is_good pieces) bad ∙ no_good pieces more
+]
+
+good_fed : (old used new : List ℕ) (fs : List (List ℕ)) (text : List ℕ) → Fed old used new fs → Stands old text
+    → filter is_good (cut text) ≡ [] → filter is_good (cut (text ++ used)) ≡ filter is_good fs
+good_fed old used new fs text fed stands none =
+    ap (filter is_good) (fed.pieces text stands)
+    ∙ (filter-append is_good (cut text) (fed.skipped ++ fs)
+    ∙ (ap (λ t. t ++ filter is_good (fed.skipped ++ fs)) none
+    ∙ (filter-append is_good fed.skipped fs ∙ ap (λ t. t ++ filter is_good fs) (no_good fed.skipped fed.no_frames))))
+
+pub take_on : (at used : ℕ) (xs : List ℕ) → at ≤ length xs → take at xs ++ take used (drop at xs) ≡ take (at + used) xs
+take_on at used xs le = sym (take-add at used xs)
+
+-- no good frame was found
+noise_on : (old new noise : List ℕ) (at used : ℕ) (fs : List (List ℕ)) → at ≤ length noise
+    → Fed old (take used (drop at noise)) new fs → filter is_good fs ≡ [] → Stands old (take at noise)
+    → filter is_good (cut (take at noise)) ≡ []
+    → Stands new (take (at + used) noise) × (filter is_good (cut (take (at + used) noise)) ≡ [])
+noise_on old new noise at used fs le fed bad stands none =
+    rw (← take_on at used noise le) (
+      fed.stands (take at noise) stands,
+      good_fed old (take used (drop at noise)) new fs (take at noise) fed stands none ∙ bad,
+    )
+
+-- a good one was found
+good_found : (old new noise : List ℕ) (at used : ℕ) (fs : List (List ℕ)) → at ≤ length noise
+    → Fed old (take used (drop at noise)) new fs → fs ≡ new ∷ [] → is_good new ≡ true → Stands old (take at noise)
+    → filter is_good (cut (take at noise)) ≡ []
+    → filter is_good (cut noise) ≢ []
+good_found old new noise at used fs le fed one good stands none e =
+    let prefix = take at noise ++ take used (drop at noise) in
+    let here : filter is_good (cut prefix) ≡ new ∷ [] =
+    good_fed old (take used (drop at noise)) new fs (take at noise) fed stands none
+    ∙ (ap (filter is_good) one ∙ cond-true (is_good new) (new ∷ []) [] good) in
+    let all : prefix ++ drop (at + used) noise ≡ noise =
+    ap (λ x. x ++ drop (at + used) noise) (take_on at used noise le) ∙ take-append-drop (at + used) noise in
+    let cuts : cut noise ≡ cut prefix ++ cut (rest prefix ++ drop (at + used) noise) =
+    ap cut (sym all) ∙ cut_append prefix (drop (at + used) noise) in
+    let kept : new ∷ filter is_good (cut (rest prefix ++ drop (at + used) noise)) ≡ [] =
+    ap (λ x. x ++ filter is_good (cut (rest prefix ++ drop (at + used) noise))) (sym here)
+    ∙ (sym (filter-append is_good (cut prefix) (cut (rest prefix ++ drop (at + used) noise)))
+    ∙ (ap (filter is_good) (sym cuts) ∙ e)) in
+    cc
+
+-- the rest of the noise, as the code cuts it
+fed_rest : (old new noise : List ℕ) (at used : ℕ) (fs : List (List ℕ))
+    → Fed old (take used (take (length noise - at) (drop at noise))) new fs → Fed old (take used (drop at noise)) new fs
+fed_rest old new noise at used fs fed =
+    subst (λ rest. Fed old (take used rest) new fs)
+    (take_all (length noise - at) (drop at noise) (omega (arith, length-drop at noise))) fed
+
+pub noise_next : (old new noise : List ℕ) (at used : ℕ) (fs : List (List ℕ)) → at ≤ length noise
+    → Fed old (take used (take (length noise - at) (drop at noise))) new fs → filter is_good fs ≡ []
+    → Stands old (take at noise) → filter is_good (cut (take at noise)) ≡ []
+    → Stands new (take (at + used) noise) × (filter is_good (cut (take (at + used) noise)) ≡ [])
+noise_next old new noise at used fs le fed bad stands none =
+    noise_on old new noise at used fs le (fed_rest old new noise at used fs fed) bad stands none
+
+pub good_next : (old new noise : List ℕ) (at used : ℕ) (fs : List (List ℕ)) → at ≤ length noise
+    → Fed old (take used (take (length noise - at) (drop at noise))) new fs → (fs ≡ new ∷ []) × (is_good new ≡ true)
+    → Stands old (take at noise) → filter is_good (cut (take at noise)) ≡ []
+    → filter is_good (cut noise) ≢ []
+good_next old new noise at used fs le fed good stands none =
+    good_found old new noise at used fs le (fed_rest old new noise at used fs fed) good.0 good.1 stands none

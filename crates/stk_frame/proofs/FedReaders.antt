@@ -1,0 +1,147 @@
+-- What one more byte brings to a reader.
+use Rattle.std.proofs.Common.{◌≡◌, ℕ, zero, suc, ◌-◌, length-drop, take, slice_index, ◌+◌, ◌<◌, ◌≤◌, List, [], ◌∷◌, ◌++◌, length, drop, refl, sym, ap, ◌∙◌, append_assoc, arith, true, false, Bool, Option, Some, None}
+use Rattle.std.proofs.lemmas.Bool.{le-leb, lt-leb, le-ltb, cond-false}
+use Rattle.std.proofs.lemmas.List.{append-nil, take_all, drop_all}
+use Rattle.std.proofs.Math.Seq.{take-add}
+use Rattle.std.proofs.lemmas.List.Elements.{filter-append}
+use Rattle.std.specs.Prelude.{filter, ◌==◌}
+use Rattle.std.specs.Option.{unwrap_or}
+use Rattle.memchr.specs.Find.{IsFirstByte, is_byte}
+use Rattle.stk_frame.specs.Cut.{cut, rest, piece_size, has_piece, is_frame, IsPiece}
+use Rattle.stk_frame.specs.Reader.{Fed}
+use Rattle.stk_frame.proofs.Cuts.{cut_append, rest_append, cut_piece, rest_piece, cut_none, rest_none}
+
+part_is : (h : List ℕ) → length h < piece_size h → has_piece h ≡ false
+part_is h part = lt-leb (piece_size h) (length h) part
+
+whole_is : (h : List ℕ) → piece_size h ≤ length h → has_piece h ≡ true
+whole_is h whole = le-leb (piece_size h) (length h) whole
+
+-- of a part all is left
+pub rest_part : (h : List ℕ) → length h < piece_size h → rest h ≡ h
+rest_part h part = rest_none h (part_is h part)
+
+-- of one piece nothing is left
+pub rest_whole : (h : List ℕ) → IsPiece h → rest h ≡ []
+rest_whole h whole = rest_piece h (whole_is h (omega arith)) ∙ ap rest (drop_all (piece_size h) h (omega arith))
+
+pub cut_whole : (h : List ℕ) → IsPiece h → cut h ≡ h ∷ []
+cut_whole h whole =
+    cut_piece h (whole_is h (omega arith))
+    ∙ (ap (λ p. p ∷ cut (drop (piece_size h) h)) (take_all (piece_size h) h (omega arith))
+    ∙ ap (λ r. h ∷ cut r) (drop_all (piece_size h) h (omega arith)))
+
+-- what the part that is left and the bytes give, every text gives
+pub fed_from : (old used new : List ℕ) (skipped found : List (List ℕ)) → filter is_frame skipped ≡ []
+    → cut (rest old ++ used) ≡ skipped ++ found → rest (rest old ++ used) ≡ rest new → Fed old used new found
+fed_from old used new skipped found none p r = record {
+  skipped = skipped;
+  no_frames = none;
+  pieces = λ t s. cut_append t used ∙ (ap (λ part. cut t ++ cut (part ++ used)) s ∙ ap (λ ps. cut t ++ ps) p);
+  stands = λ t s. rest_append t used ∙ (ap (λ part. rest (part ++ used)) s ∙ r);
+}
+
+pub fed_none : (held : List ℕ) → Fed held [] held []
+fed_none held = record {
+  skipped = [];
+  no_frames = refl;
+  pieces = λ t s. ap cut (append-nil t) ∙ sym (append-nil (cut t));
+  stands = λ t s. ap rest (append-nil t) ∙ s;
+}
+
+pub fed_on : (a x b y c : List ℕ) (found : List (List ℕ)) → Fed a x b [] → Fed b y c found → Fed a (x ++ y) c found
+fed_on a x b y c found f g = record {
+  skipped = f.skipped ++ g.skipped;
+  no_frames = filter-append is_frame f.skipped g.skipped
+      ∙ (ap (λ ps. ps ++ filter is_frame g.skipped) f.no_frames ∙ g.no_frames);
+  pieces = λ t s. ap cut (sym (append_assoc t x y))
+      ∙ (g.pieces (t ++ x) (f.stands t s) ∙ (ap (λ ps. ps ++ (g.skipped ++ found))
+      (f.pieces t s ∙ ap (λ ps. cut t ++ ps) (append-nil f.skipped)) ∙ simp append_assoc));
+  stands = λ t s. ap rest (sym (append_assoc t x y)) ∙ g.stands (t ++ x) (f.stands t s);
+}
+
+-- a whole frame is done with when the next byte comes
+pub fed_cleared : (held used new : List ℕ) (found : List (List ℕ)) → IsPiece held → Fed [] used new found
+    → Fed held used new found
+fed_cleared held used new found whole f = record {
+  skipped = f.skipped;
+  no_frames = f.no_frames;
+  pieces = λ t s. f.pieces t (s ∙ rest_whole held whole);
+  stands = λ t s. f.stands t (s ∙ rest_whole held whole);
+}
+
+-- still a part
+pub fed_part : (h u : List ℕ) → length h < piece_size h → length (h ++ u) < piece_size (h ++ u) → Fed h u (h ++ u) []
+fed_part h u part more =
+    fed_from h u (h ++ u) [] [] refl
+    (ap (λ p. cut (p ++ u)) (rest_part h part) ∙ cut_none (h ++ u) (part_is (h ++ u) more))
+    (ap (λ p. rest (p ++ u)) (rest_part h part))
+
+-- a piece that is no frame
+pub fed_skip : (h u : List ℕ) → length h < piece_size h → IsPiece (h ++ u) → length (h ++ u) ≤ 5 → Fed h u [] []
+fed_skip h u part whole few =
+    fed_from h u [] ((h ++ u) ∷ []) []
+    (cond-false (is_frame (h ++ u)) _ _ (le-ltb 5 (length (h ++ u)) few))
+    (ap (λ p. cut (p ++ u)) (rest_part h part) ∙ cut_whole (h ++ u) whole)
+    (ap (λ p. rest (p ++ u)) (rest_part h part) ∙ rest_whole (h ++ u) whole)
+
+-- a frame
+pub fed_frame : (h u : List ℕ) → length h < piece_size h → IsPiece (h ++ u) → Fed h u (h ++ u) ((h ++ u) ∷ [])
+fed_frame h u part whole =
+    fed_from h u (h ++ u) [] ((h ++ u) ∷ []) refl
+    (ap (λ p. cut (p ++ u)) (rest_part h part) ∙ cut_whole (h ++ u) whole)
+    (ap (λ p. rest (p ++ u)) (rest_part h part))
+
+-- a byte that is no start byte, in front of a piece
+fed_noise_byte : (b : ℕ) → (b == 27) ≡ false → Fed [] (b ∷ []) [] []
+fed_noise_byte b other = fed_skip [] (b ∷ []) (omega arith) (rw other refl) (omega arith)
+
+-- bytes without a start byte
+pub fed_noise : (n : ℕ) (bytes : List ℕ) → n ≤ length bytes → ((i : ℕ) → i < n → (slice_index bytes i == 27) ≡ false)
+    → Fed [] (take n bytes) [] []
+fed_noise zero bytes within none = fed_none []
+fed_noise (suc n) [] within none = absurd (omega arith)
+fed_noise (suc n) (b ∷ bytes) within none =
+    fed_on [] (b ∷ []) [] (take n bytes) [] [] (fed_noise_byte b (none 0 (omega arith)))
+    (fed_noise n bytes (omega arith) (λ i below. none (suc i) (omega arith)))
+
+not_true : (b : Bool) → ¬ (b ≡ true) → b ≡ false
+not_true true h = absurd (h refl)
+not_true false h = refl
+
+-- bytes up to the first start byte, or all of them
+pub fed_up_to : (bytes : List ℕ) (place : Option ℕ) → IsFirstByte (is_byte 27) bytes place
+    → Fed [] (take (unwrap_or place (length bytes)) bytes) [] []
+fed_up_to bytes None none = fed_noise (length bytes) bytes (omega arith)
+    (λ i below. not_true _ (none i (omega arith) below))
+fed_up_to bytes (Some n) first = fed_noise n bytes (let high = first.0.high in omega arith)
+    (λ i below. not_true _ (first.0.before i (omega arith) below))
+
+-- the same of a list that is known to be the part and the bytes
+pub from_part : (h u held : List ℕ) → length h < piece_size h → held ≡ h ++ u → length held < piece_size held
+    → Fed h u held []
+from_part h u held part is more = rw is (fed_part h u part (rw is at more))
+
+pub from_skip : (h u held : List ℕ) → length h < piece_size h → held ≡ h ++ u → IsPiece held → length held ≤ 5
+    → Fed h u [] []
+from_skip h u held part is whole few = fed_skip h u part (rw is at whole) (rw is at few)
+
+pub from_frame : (h u held : List ℕ) → length h < piece_size h → held ≡ h ++ u → IsPiece held → Fed h u held (held ∷ [])
+from_frame h u held part is whole = rw is (fed_frame h u part (rw is at whole))
+
+-- one span more of a piece
+rest_of : (piece : List ℕ) (used : ℕ) → take (length piece - used) (drop used piece) ≡ drop used piece
+rest_of piece used = take_all (length piece - used) (drop used piece) (omega (arith, length-drop used piece))
+
+pub within_span : (piece : List ℕ) (used taken : ℕ) → used ≤ length piece
+    → taken ≤ length (take (length piece - used) (drop used piece)) → used + taken ≤ length piece
+within_span piece used taken within few =
+    let at_most : taken ≤ length (drop used piece) = rw (rest_of piece used) at few in
+    omega (arith, length-drop used piece)
+
+pub fed_span : (a b c piece : List ℕ) (used taken : ℕ) (found : List (List ℕ)) → Fed a (take used piece) b []
+    → Fed b (take taken (take (length piece - used) (drop used piece))) c found
+    → Fed a (take (used + taken) piece) c found
+fed_span a b c piece used taken found first second =
+    rw take-add (fed_on a (take used piece) b (take taken (drop used piece)) c found first
+    (rw (rest_of piece used) at second))

@@ -1,0 +1,94 @@
+-- A dialog that says nothing beside the line, as a part of one that does: laws for the crates above.
+use Rattle.std.proofs.Common.{◌≡◌, ℕ, List, [], ◌∷◌, ◌++◌, refl, sym, ap, ◌∙◌, Some, None}
+use Rattle.stk_frame.specs.Frame.{frame}
+use Rattle.stk_host.specs.declared.fault.Broken.{Broken}
+use Rattle.stk_host.specs.declared.fault.Broken.TheVariants as broken
+use Rattle.stk_host.specs.Tape.{Tape, on_tape, answer}
+use Rattle.stk_host.specs.Talk.{Talk, heard}
+use Rattle.stk_host.specs.Dialog.{Dialog, Done, Say, Ask, lifted, Event, Frame, Said, Played, played, behind, by_answer, next, bytes_sent, sayings}
+use Rattle.stk_host.specs.Play.{Position, IsDue, InTurn, Plays, BreaksBy}
+use Rattle.stk_host.proofs.Talks.InDialogs.{turns_behind}
+
+-- events among which nothing is said
+abbrev pub raised : {E : Type 0} → List (Event ⊥) → List (Event E)
+raised [] = []
+raised (Frame bytes ∷ events) = Frame bytes ∷ raised events
+raised (Said e ∷ events) = absurd e
+
+abbrev pub raised_play : {E R : Type 0} → Played ⊥ R → Played E R
+raised_play p = record { events = raised p.events; outcome = p.outcome }
+
+pub played_lifted : {E R : Type 0} (dialog : Dialog ⊥ R) (seq : ℕ) (tape : Tape)
+    → played {E = E} (lifted dialog) seq tape ≡ raised_play (played dialog seq tape)
+played_lifted (Done r) seq tape = refl
+played_lifted (Say e dialog) seq tape = absurd e
+played_lifted {E = E} (Ask body answered) seq tape =
+    ap (behind (Frame (frame seq body) ∷ []))
+    (elim (answer seq tape) as (λ o. by_answer (λ r. played {E = E} (lifted (answered r)) (next seq)) o
+    ≡ raised_play (by_answer (λ r. played (answered r) (next seq)) o)) [
+      | None ↦ refl
+      | Some got ↦ played_lifted (answered got.0) (next seq) got.1
+    ])
+
+pub bytes_raised : (E : Type 0) (events : List (Event ⊥)) → bytes_sent (raised {E = E} events) ≡ bytes_sent events
+bytes_raised E [] = refl
+bytes_raised E (Frame bytes ∷ events) = ap (λ bs. bytes ++ bs) (bytes_raised E events)
+bytes_raised E (Said e ∷ events) = absurd e
+
+pub sayings_raised : {E : Type 0} (events : List (Event ⊥)) → sayings (raised {E = E} events) ≡ []
+sayings_raised [] = refl
+sayings_raised (Frame bytes ∷ events) = sayings_raised events
+sayings_raised (Said e ∷ events) = absurd e
+
+raised_append : {E : Type 0} (x y : List (Event ⊥)) → raised {E = E} (x ++ y) ≡ raised x ++ raised y
+raised_append [] y = refl
+raised_append (Frame bytes ∷ x) y = ap (λ es. Frame bytes ∷ es) (raised_append x y)
+raised_append (Said e ∷ x) y = absurd e
+
+due_lifted : {E R : Type 0} (dialog : Dialog ⊥ R) (seq : ℕ) (tape : Tape) (bytes : List ℕ) → IsDue dialog seq tape bytes
+    → IsDue {E = E} (lifted dialog) seq tape bytes
+due_lifted {E = E} dialog seq tape bytes due = record {
+  waits = ap (λ p. p.outcome) (played_lifted {E = E} dialog seq tape) ∙ due.waits;
+  all_sent = ap (λ p. bytes_sent p.events) (played_lifted {E = E} dialog seq tape)
+      ∙ (bytes_raised E (played dialog seq tape).events ∙ due.all_sent);
+}
+
+turns_lifted : {R : Type 0} (E : Type 0) (dialog : Dialog ⊥ R) (m : Position) (talk : Talk) → InTurn dialog m talk
+    → InTurn {E = E} (lifted dialog) m talk
+turns_lifted E dialog m talk f =
+    turns_behind {E = E} (lifted dialog) dialog m.next m.next (on_tape m.unread) (on_tape m.unread) []
+    (λ x bytes. due_lifted {E = E} dialog m.next (on_tape m.unread ++ x) bytes) talk f
+
+pub plays_lifted : {E R : Type 0} {dialog : Dialog ⊥ R} {m n : Position} {talk : Talk} {events : List (Event ⊥)}
+    {result : R}
+    → Plays dialog m talk events result n → Plays {E = E} (lifted dialog) m talk (raised events) result n
+plays_lifted {E = E} {dialog = dialog} {m = m} {talk = talk} {events = events} f = record {
+  plays = λ more. played_lifted {E = E} dialog m.next (on_tape m.unread ++ (heard talk ++ more))
+      ∙ ap raised_play (f.plays more);
+  all_sent = bytes_raised E events ∙ f.all_sent;
+  in_turn = turns_lifted E dialog m talk f.in_turn;
+}
+
+pub by_lifted : {R : Type 0} (E : Type 0) (by : Broken) (dialog : Dialog ⊥ R) (m : Position) (talk : Talk)
+    (shown : List (Event ⊥))
+    → BreaksBy by dialog m talk shown → BreaksBy {E = E} by (lifted dialog) m talk (raised shown)
+by_lifted E broken.Send dialog m talk shown f = record {
+  whole = raised f.whole;
+  part = f.part;
+  unsent = f.unsent;
+  later = raised f.later;
+  shown_is = ap raised f.shown_is ∙ raised_append f.whole (Frame f.part ∷ []);
+  events_are =
+      ap (λ p. p.events) (played_lifted {E = E} dialog m.next (on_tape m.unread ++ heard talk))
+      ∙ (ap raised f.events_are ∙ raised_append f.whole (Frame (f.part ++ f.unsent) ∷ f.later));
+  not_whole = f.not_whole;
+  all_sent = bytes_raised E shown ∙ f.all_sent;
+  in_turn = turns_lifted E dialog m talk f.in_turn;
+}
+by_lifted E broken.Recv dialog m talk shown f = record {
+  waits = ap (λ p. p.outcome) (played_lifted {E = E} dialog m.next (on_tape m.unread ++ heard talk)) ∙ f.waits;
+  shown_is = ap raised f.shown_is ∙ sym (ap (λ p. p.events)
+      (played_lifted {E = E} dialog m.next (on_tape m.unread ++ heard talk)));
+  all_sent = bytes_raised E shown ∙ f.all_sent;
+  in_turn = turns_lifted E dialog m talk f.in_turn;
+}

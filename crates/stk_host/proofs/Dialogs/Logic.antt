@@ -1,0 +1,131 @@
+-- One logic of dialogs: what holds of a dialog from a state on, whatever the other side does.
+use Rattle.std.proofs.Common.{ℕ, zero, suc, List, [], Ok, Err, subst}
+use Rattle.stk_frame.specs.declared.command.Command.{Command}
+use Rattle.stk_host.specs.declared.fault.StepFault.{StepFault}
+use Rattle.stk_host.specs.Tape.{Reading}
+use Rattle.stk_host.specs.Dialog.{Dialog, Done, Say, Ask, ◌>>=◌, lifted}
+use Rattle.stk_host.specs.Steps.{Reply, Data, Again, Stop, attempt, StepOutcome, end_or_again, tries, if_done}
+use Rattle.stk_host.proofs.Dialogs.Bound.{bind_done}
+
+-- The other side, by a state: what is read at each move that it may make at a question, and the state after it. The
+-- state is whatever a proof wants to know: a programmer, or what is left of a budget.
+pub record World (S M : Type 0) : Type 0 where
+  pub reads : List ℕ → S → M → Reading
+  pub after : List ℕ → S → M → S
+
+module _ {E S M : Type 0} (w : World S M) (Asks : List ℕ → S → Type 0) (Says : E → S → Type 0) where
+  -- From this state on each question and each saying is made where its condition holds, and each result is come to
+  -- where its own does, whatever moves are made.
+  abbrev pub HoldsFrom : {R : Type 0} → (R → S → Type 0) → Dialog E R → S → Type 0
+  HoldsFrom After (Done r) s = After r s
+  HoldsFrom After (Say e dialog) s = Says e s × HoldsFrom After dialog s
+  HoldsFrom After (Ask bytes go_on) s =
+      Asks bytes s × ((move : M) → HoldsFrom After (go_on (w.reads bytes s move)) (w.after bytes s move))
+
+  -- the same as a record: so that dialogs, conditions and states are found as implicit arguments
+  pub record Upholds {R : Type 0} (After : R → S → Type 0) (dialog : Dialog E R) (s : S) : Type 0 where
+    pub holds : HoldsFrom After dialog s
+
+-- a call says nothing beside the line
+abbrev pub NoSays : {S : Type 0} → ⊥ → S → Type 0
+NoSays e s = ⊥
+
+-- after an attempt: what stands where another one may follow, else what the step comes to
+abbrev pub OnReply : {S : Type 0} → (S → Type 0) → (StepOutcome → S → Type 0) → Reply → S → Type 0
+OnReply Stands After (Data bytes) s = After (Ok bytes) s
+OnReply Stands After (Again fault) s = Stands s
+OnReply Stands After (Stop fault) s = After (Err fault) s
+
+-- after a step: what stands after its data, else what all comes to
+abbrev pub OnOutcome : {S : Type 0} → (List ℕ → S → Type 0) → (StepOutcome → S → Type 0) → StepOutcome → S → Type 0
+OnOutcome Then After (Ok bytes) s = Then bytes s
+OnOutcome Then After (Err fault) s = After (Err fault) s
+
+module _ {E S M : Type 0} (w : World S M) (Asks : List ℕ → S → Type 0) (Says : E → S → Type 0) where
+  -- a dialog and the next one, under conditions that follow
+  module _ {A B : Type 0} (Asks' : List ℕ → S → Type 0) (Says' : E → S → Type 0) (Between : A → S → Type 0)
+      (After : B → S → Type 0) (next : A → Dialog E B)
+      (f : (bytes : List ℕ) (t : S) → Asks bytes t → Asks' bytes t) (g : (e : E) (t : S) → Says e t → Says' e t)
+      (more : (a : A) (t : S) → Between a t → Upholds w Asks' Says' After (next a) t) where
+    on_bind : (d : Dialog E A) (s : S) → HoldsFrom w Asks Says Between d s
+        → HoldsFrom w Asks' Says' After (d >>= next) s
+    on_bind (Done a) s h = (more a s h).holds
+    on_bind (Say e d) s h = (g e s h.0, on_bind d s h.1)
+    on_bind (Ask bytes go_on) s h = (f bytes s h.0, λ move. on_bind (go_on _) (w.after bytes s move) (h.1 move))
+
+  -- a call, as a part of a dialog that says something too
+  on_lifted : {R : Type 0} (After : R → S → Type 0) (d : Dialog ⊥ R) (s : S)
+      → HoldsFrom w Asks NoSays After d s → HoldsFrom w Asks Says After (lifted d) s
+  on_lifted After (Done r) s h = h
+  on_lifted After (Say e d) s h = absurd e
+  on_lifted After (Ask bytes go_on) s h = (h.0, λ move. on_lifted After (go_on _) (w.after bytes s move) (h.1 move))
+
+module _ {E S M : Type 0} {w : World S M} {Asks : List ℕ → S → Type 0} {Says : E → S → Type 0} where
+  -- a dialog that is done, one that says something first, and one that asks
+  pub done : {R : Type 0} {After : R → S → Type 0} {r : R} {s : S} → After r s → Upholds w Asks Says After (Done r) s
+  done a = record { holds = a }
+
+  pub say : {R : Type 0} {After : R → S → Type 0} {e : E} {d : Dialog E R} {s : S}
+      → Says e s → Upholds w Asks Says After d s → Upholds w Asks Says After (Say e d) s
+  say f l = record { holds = (f, l.holds) }
+
+  pub ask : {R : Type 0} {After : R → S → Type 0} {bytes : List ℕ} {go_on : Reading → Dialog E R} {s : S} → Asks bytes s
+      → ((move : M) → Upholds w Asks Says After (go_on (w.reads bytes s move)) (w.after bytes s move))
+      → Upholds w Asks Says After (Ask bytes go_on) s
+  ask f l = record { holds = (f, λ move. (l move).holds) }
+
+  -- one dialog, and the next one from where it comes to its result
+  pub bind : {A B : Type 0} {Between : A → S → Type 0} {After : B → S → Type 0} {d : Dialog E A} {next : A → Dialog E B}
+      {s : S} → Upholds w Asks Says Between d s → ((a : A) (t : S) → Between a t → Upholds w Asks Says After (next a) t)
+      → Upholds w Asks Says After (d >>= next) s
+  bind {Between = Between} {After = After} {d = d} {next = next} {s = s} l more = record {
+    holds = on_bind w Asks Says Asks Says Between After next (λ b t x. x) (λ e t x. x) more d s l.holds;
+  }
+
+  -- a result that is only reported otherwise
+  pub told : {A B : Type 0} {Between : A → S → Type 0} {After : B → S → Type 0} {d : Dialog E A} {s : S} (tell : A → B)
+      → Upholds w Asks Says Between d s → ((a : A) (t : S) → Between a t → After (tell a) t)
+      → Upholds w Asks Says After (d >>= (λ a. Done (tell a))) s
+  told tell l more = bind l (λ a t b. done (more a t b))
+
+  -- conditions that follow
+  pub wider : {R : Type 0} {Asks' : List ℕ → S → Type 0} {Says' : E → S → Type 0} {After After' : R → S → Type 0}
+      {d : Dialog E R} {s : S} → ((bytes : List ℕ) (t : S) → Asks bytes t → Asks' bytes t)
+      → ((e : E) (t : S) → Says e t → Says' e t) → ((r : R) (t : S) → After r t → After' r t)
+      → Upholds w Asks Says After d s → Upholds w Asks' Says' After' d s
+  wider {Asks' = Asks'} {Says' = Says'} {After = After} {After' = After'} {d = d} {s = s} f g h l =
+      subst (λ d. Upholds w Asks' Says' After' d s) (bind_done d) (record {
+        holds = on_bind w Asks Says Asks' Says' After After' Done f g (λ r t x. record { holds = h r t x }) d s l.holds;
+      })
+
+  pub call : {R : Type 0} {After : R → S → Type 0} {d : Dialog ⊥ R} {s : S}
+      → Upholds w Asks NoSays After d s → Upholds w Asks Says After (lifted d) s
+  call {After = After} {d = d} {s = s} l = record { holds = on_lifted w Asks Says After d s l.holds }
+
+module _ {S M : Type 0} (w : World S M) (Asks : List ℕ → S → Type 0) where
+  abbrev Calls : {R : Type 0} → (R → S → Type 0) → Dialog ⊥ R → S → Type 0
+  Calls After d s = Upholds w Asks NoSays After d s
+
+  -- Attempts: what stands before each, by how many are left, stands after one that may be begun again, and with no
+  -- more of them it is what a fault may leave.
+  module _ (commands : List Command) (Stands : ℕ → S → Type 0) (After : StepOutcome → S → Type 0)
+      (once : (more : ℕ) (t : S) → Stands (suc more) t → Calls (OnReply (Stands more) After) (attempt commands []) t)
+      (none : (fault : StepFault) (t : S) → Stands 0 t → After (Err fault) t) where
+    by_reply : (more : ℕ) → ((fault : StepFault) (t : S) → Stands more t → Calls After (tries more commands fault) t)
+        → (reply : Reply) (t : S) → OnReply (Stands more) After reply t
+        → Calls After (end_or_again (tries more commands) reply) t
+    by_reply more each (Data bytes) t x = done x
+    by_reply more each (Again fault) t x = each fault t x
+    by_reply more each (Stop fault) t x = done x
+
+    pub attempts : (more : ℕ) (fault : StepFault) (s : S) → Stands more s → Calls After (tries more commands fault) s
+    unfolding tries
+    attempts zero fault s stands = done (none fault s stands)
+    attempts (suc more) fault s stands = bind (once more s stands) (by_reply more (attempts more))
+
+  -- what a fault leaves is left, and with data the next dialog goes on
+  pub on_data : {Then : List ℕ → S → Type 0} {After : StepOutcome → S → Type 0} (go_on : List ℕ → Dialog ⊥ StepOutcome)
+      → ((bytes : List ℕ) (t : S) → Then bytes t → Calls After (go_on bytes) t)
+      → (outcome : StepOutcome) (t : S) → OnOutcome Then After outcome t → Calls After (if_done go_on outcome) t
+  on_data go_on each (Ok bytes) t x = each bytes t x
+  on_data go_on each (Err fault) t x = done x

@@ -1,0 +1,222 @@
+-- How much dialogs ask: laws for the crates above, and the bounds of steps and of the operations.
+use Rattle.std.proofs.Common.{◌≡◌, ℕ, zero, suc, ◌+◌, ◌*◌, ◌-◌, ◌≤◌, List, [], ◌∷◌, ◌++◌, length, length-append, refl, ap, subst, arith, Bool, true, false, Result, Ok, Err, Option, Some, None}
+use Rattle.std.proofs.Math.Nat.{suc-mul}
+use Rattle.std.specs.Prelude.{if◌then◌else◌}
+use Rattle.avr_part.specs.declared.part.Mem.{Mem}
+use Rattle.avr_part.specs.Mem.{is_writable}
+use Rattle.avr_part.specs.Part.{Part}
+use Rattle.stk_frame.specs.declared.command.Command.{Command}
+use Rattle.stk_frame.specs.declared.command.Command.TheVariants.{SignOn}
+use Rattle.stk_frame.specs.HostCommands.{enter, leave}
+use Rattle.stk_host.specs.declared.fault.HostFault.{HostFault}
+use Rattle.stk_host.specs.declared.fault.HostFault.TheVariants.{ReadOnly}
+use Rattle.stk_host.specs.declared.fault.StepFault.{StepFault}
+use Rattle.stk_host.specs.declared.fault.StepFault.TheVariants.{NoAnswer}
+use Rattle.stk_host.specs.Tape.{Tape, Reading, answer, on_tape}
+use Rattle.stk_host.specs.Talk.{heard}
+use Rattle.stk_host.specs.Dialog.{Dialog, Done, Say, Ask, ◌>>=◌, Event, Frame, Said, Played, played, by_answer, next, frames_in}
+use Rattle.stk_host.specs.Play.{IsBegun, IsPrefixOfEvents, NoPart}
+use Rattle.stk_host.specs.Steps.{exchange, Reply, Data, Again, Stop, reading_reply, with_data, attempt, StepOutcome, end_or_again, tries, step, if_done, play}
+use Rattle.stk_host.specs.WriteSteps.{write_steps}
+use Rattle.stk_host.specs.ReadSteps.{signature_steps}
+use Rattle.stk_host.specs.Operations.{handshake, signature_judged, opening, without_bytes, closing, judged_by, operation, no_result, writing}
+use Rattle.stk_host.specs.Bound.{AsksAtMost, SendsAtMost, commands_in, opening_steps, closing_steps, IsBoundedBy}
+
+-- questions
+
+asks_next : {E R : Type 0} (n : ℕ) (body : List ℕ) (answered : Reading → Dialog E R)
+    → ((reading : Reading) → AsksAtMost n (answered reading)) → AsksAtMost (suc n) (Ask body answered)
+asks_next n body answered f = f
+
+asks_more : {E R : Type 0} (n k : ℕ) (d : Dialog E R) → AsksAtMost n d → AsksAtMost (n + k) d
+asks_more n k (Done r) f = tt
+asks_more n k (Say e d) f = asks_more n k d f
+asks_more zero k (Ask body answered) f = absurd f
+asks_more (suc n) k (Ask body answered) f =
+    let e : suc (n + k) ≡ suc n + k = omega arith in
+    subst (λ z. AsksAtMost z (Ask body answered)) e
+    (asks_next (n + k) body answered (λ reading. asks_more n k (answered reading) (f reading)))
+
+pub asks_within : {E R : Type 0} (n m : ℕ) (d : Dialog E R) → n ≤ m → AsksAtMost n d → AsksAtMost m d
+asks_within n m d le f =
+    let e : n + (m - n) ≡ m = omega arith in
+    subst (λ z. AsksAtMost z d) e (asks_more n (m - n) d f)
+
+pub asks_bind : {E A B : Type 0} (n k : ℕ) (d : Dialog E A) (go_on : A → Dialog E B) → AsksAtMost n d
+    → ((a : A) → AsksAtMost k (go_on a)) → AsksAtMost (n + k) (d >>= go_on)
+asks_bind n k (Done a) go_on f g = asks_within k (n + k) (go_on a) (omega arith) (g a)
+asks_bind n k (Say e d) go_on f g = asks_bind n k d go_on f g
+asks_bind zero k (Ask body answered) go_on f g = absurd f
+asks_bind (suc n) k (Ask body answered) go_on f g =
+    let e : suc (n + k) ≡ suc n + k = omega arith in
+    subst (λ z. AsksAtMost z (Ask body (λ reading. answered reading >>= go_on))) e
+    (asks_next (n + k) body (λ reading. answered reading >>= go_on)
+    (λ reading. asks_bind n k (answered reading) go_on (f reading) g))
+
+-- frames
+
+heard_most : {E R : Type 0} (n : ℕ) (go_on : Reading → Tape → Played E R) (got : Option (Reading × Tape))
+    → ((reading : Reading) (left : Tape) → length (frames_in (go_on reading left).events) ≤ n)
+    → length (frames_in (by_answer go_on got).events) ≤ n
+heard_most n go_on None f = omega arith
+heard_most n go_on (Some (reading, left)) f = f reading left
+
+-- a dialog sends no more frames than it asks
+pub sends_most : {E R : Type 0} (n : ℕ) (d : Dialog E R) (seq : ℕ) (tape : Tape) → AsksAtMost n d
+    → length (frames_in (played d seq tape).events) ≤ n
+sends_most n (Done r) seq tape f = omega arith
+sends_most n (Say e d) seq tape f = sends_most n d seq tape f
+sends_most zero (Ask body answered) seq tape f = absurd f
+sends_most (suc n) (Ask body answered) seq tape f =
+    let l = heard_most n (λ reading. played (answered reading) (next seq)) (answer seq tape)
+    (λ reading left. sends_most n (answered reading) (next seq) left (f reading)) in
+    omega arith
+
+frames_append : {E : Type 0} (x y : List (Event E)) → frames_in (x ++ y) ≡ frames_in x ++ frames_in y
+frames_append [] y = refl
+frames_append (Frame bytes ∷ x) y = ap (λ frames. bytes ∷ frames) (frames_append x y)
+frames_append (Said e ∷ x) y = frames_append x y
+
+begun_most : {E : Type 0} (SaidPart : E → E → Type 0) (begun later : List (Event E)) → IsBegun SaidPart begun later
+    → length (frames_in begun) ≤ length (frames_in later)
+begun_most SaidPart [] later f = omega arith
+begun_most SaidPart (e ∷ []) [] f = absurd f
+begun_most SaidPart (Frame part ∷ []) (Frame whole ∷ later) f = omega arith
+begun_most SaidPart (Frame part ∷ []) (Said whole ∷ later) f = absurd f
+begun_most SaidPart (Said part ∷ []) (Frame whole ∷ later) f = absurd f
+begun_most SaidPart (Said part ∷ []) (Said whole ∷ later) f = omega arith
+begun_most SaidPart (e ∷ d ∷ begun) later f = absurd f
+
+-- a prefix of events has no more frames
+pub prefix_most : {E : Type 0} {SaidPart : E → E → Type 0} {shown events : List (Event E)}
+    → IsPrefixOfEvents SaidPart shown events → length (frames_in shown) ≤ length (frames_in events)
+prefix_most {SaidPart = SaidPart} {shown = shown} {events = events} f =
+    let b = begun_most SaidPart f.begun f.later f.part in
+    rw (
+      f.shown_is,
+      f.events_are,
+      frames_append f.whole f.begun,
+      frames_append f.whole f.later,
+      length-append (frames_in f.whole) (frames_in f.begun),
+      length-append (frames_in f.whole) (frames_in f.later),
+    )
+    (omega arith)
+
+-- what a dialog asks bounds what it sends
+pub sends_asked : {E R : Type 0} (SaidPart : E → E → Type 0) (n : ℕ) (d : Dialog E R) → AsksAtMost n d
+    → SendsAtMost SaidPart n d
+sends_asked SaidPart n d f = record {
+  over_tape = λ seq tape. sends_most n d seq tape f;
+  whole = λ before talk events result after p.
+      rw (← ap (λ x. x.events) (p.plays [])) (sends_most n d before.next (on_tape before.unread ++ (heard talk ++ []))
+      f);
+  broken_off = λ before talk shown b.
+      let prefix = prefix_most b.prefix in
+      let most = sends_most n d before.next (on_tape before.unread ++ heard talk) f in
+      omega arith;
+}
+
+-- steps
+
+most_reply : (n : ℕ) (go_on : List ℕ → Dialog ⊥ Reply) (reply : Reply) → ((bytes : List ℕ) → AsksAtMost n (go_on bytes))
+    → AsksAtMost n (with_data go_on reply)
+most_reply n go_on (Data bytes) f = f bytes
+most_reply n go_on (Again fault) f = tt
+most_reply n go_on (Stop fault) f = tt
+
+attempt_most : (commands : List Command) (before : List ℕ) → AsksAtMost (length commands) (attempt commands before)
+unfolding attempt exchange
+attempt_most [] before = tt
+attempt_most (command ∷ commands) before = λ reading.
+    most_reply (length commands) (λ bytes. attempt commands (before ++ bytes)) (reading_reply command reading)
+    (λ bytes. attempt_most commands (before ++ bytes))
+
+most_settled : (n : ℕ) (again : StepFault → Dialog ⊥ StepOutcome) (reply : Reply)
+    → ((fault : StepFault) → AsksAtMost n (again fault)) → AsksAtMost n (end_or_again again reply)
+most_settled n again (Data bytes) f = tt
+most_settled n again (Again fault) f = f fault
+most_settled n again (Stop fault) f = tt
+
+tries_most : (more : ℕ) (commands : List Command) (fault : StepFault)
+    → AsksAtMost (more * length commands) (tries more commands fault)
+unfolding tries
+tries_most zero commands fault = tt
+tries_most (suc more) commands fault =
+    let e : length commands + more * length commands ≡ suc more * length commands =
+    omega (arith, suc-mul more (length commands)) in
+    subst (λ z. AsksAtMost z (attempt commands [] >>= end_or_again (tries more commands))) e
+    (asks_bind (length commands) (more * length commands) (attempt commands []) (end_or_again (tries more commands))
+    (attempt_most commands [])
+    (λ reply. most_settled (more * length commands) (tries more commands) reply
+    (λ again. tries_most more commands again)))
+
+pub step_most : (commands : List Command) → AsksAtMost (4 * length commands) (step commands)
+step_most commands = tries_most 4 commands NoAnswer
+
+pub done_most : (n : ℕ) (go_on : List ℕ → Dialog ⊥ StepOutcome) (outcome : StepOutcome)
+    → ((bytes : List ℕ) → AsksAtMost n (go_on bytes)) → AsksAtMost n (if_done go_on outcome)
+done_most n go_on (Ok bytes) f = f bytes
+done_most n go_on (Err fault) f = tt
+
+-- a step, and then the dialog that its data choose
+pub then_most : (commands : List Command) (steps : List (List Command)) (go_on : List ℕ → Dialog ⊥ StepOutcome)
+    → ((bytes : List ℕ) → AsksAtMost (4 * commands_in steps) (go_on bytes))
+    → AsksAtMost (4 * commands_in (commands ∷ steps)) (step commands >>= if_done go_on)
+then_most commands steps go_on f =
+    let e : 4 * length commands + 4 * commands_in steps ≡ 4 * (length commands + commands_in steps) = omega arith in
+    subst (λ z. AsksAtMost z (step commands >>= if_done go_on)) e
+    (asks_bind (4 * length commands) (4 * commands_in steps) (step commands) (if_done go_on) (step_most commands)
+    (λ outcome. done_most (4 * commands_in steps) go_on outcome f))
+
+pub play_most : (steps : List (List Command)) (before : List ℕ) → AsksAtMost (4 * commands_in steps) (play steps before)
+unfolding play
+play_most [] before = tt
+play_most (commands ∷ steps) before = then_most commands steps (λ bytes. play steps (before ++ bytes))
+    (λ bytes. play_most steps (before ++ bytes))
+
+pub bounded : {R : Type 0} (steps : List (List Command)) (d : Dialog ⊥ R) → AsksAtMost (4 * commands_in steps) d
+    → IsBoundedBy steps d
+bounded steps d f = record { asks = f; sends = sends_asked NoPart (4 * commands_in steps) d f }
+
+-- a dialog whose result is judged
+pub judged_most : {A B : Type 0} (n : ℕ) (d : Dialog ⊥ A) (judge : A → B) → AsksAtMost n d
+    → AsksAtMost n (d >>= λ outcome. Done (judge outcome))
+judged_most n d judge f =
+    let e : n + 0 ≡ n = omega arith in
+    subst (λ z. AsksAtMost z (d >>= λ outcome. Done (judge outcome))) e
+    (asks_bind n 0 d (λ outcome. Done (judge outcome)) f (λ outcome. tt))
+
+-- the operations
+
+pub operation_most : {A : Type 0} (steps : List (List Command)) (judge : List ℕ → Result A HostFault)
+    → AsksAtMost (4 * commands_in steps) (operation steps judge)
+unfolding operation
+operation_most steps judge = judged_most (4 * commands_in steps) (play steps []) (judged_by judge) (play_most steps [])
+
+beginning_most : AsksAtMost (4 * commands_in opening_steps) handshake
+unfolding handshake
+beginning_most =
+    then_most (SignOn ∷ []) ((enter ∷ []) ∷ signature_steps)
+    (λ name. step (enter ∷ []) >>= if_done (λ nothing. play signature_steps []))
+    (λ name. then_most (enter ∷ []) signature_steps (λ nothing. play signature_steps [])
+    (λ nothing. play_most signature_steps []))
+
+pub opening_most : (signature : List ℕ) (force : Bool)
+    → AsksAtMost (4 * commands_in opening_steps) (opening signature force)
+unfolding opening
+opening_most signature force = judged_most (4 * commands_in opening_steps) handshake (signature_judged signature force)
+    beginning_most
+
+pub closing_most : AsksAtMost (4 * commands_in closing_steps) closing
+unfolding closing
+closing_most = judged_most (4 * commands_in closing_steps) (step (leave ∷ [])) without_bytes (step_most (leave ∷ []))
+
+-- a memory that can't be written is asked nothing
+pub writing_most : (part : Part) (mem : Mem) (image : List (Option ℕ))
+    → AsksAtMost (4 * commands_in (write_steps part mem image)) (writing part mem image)
+writing_most part mem image = by_kind (is_writable mem)
+  where
+    by_kind : (b : Bool) → AsksAtMost (4 * commands_in (write_steps part mem image))
+        (if b then operation (write_steps part mem image) no_result else Done (Err (ReadOnly mem)))
+    by_kind true = operation_most (write_steps part mem image) no_result
+    by_kind false = tt

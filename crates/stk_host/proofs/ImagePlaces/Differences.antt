@@ -1,0 +1,173 @@
+-- Comparing from the lowest address up, run by run.
+use Rattle.std.proofs.Common.{◌≡◌, ◌≤◌, ◌∙◌, ap, sym, refl, arith, ℕ, suc, ◌+◌, ◌-◌, ◌<◌, All, List, [], ◌∷◌, length, get_or, map, take, drop, drop-cons, add-one, Bool, true, false, Option, Some, None, inl, inr}
+use Rattle.std.specs.Prelude.{◌==◌, if◌then◌else◌}
+use Rattle.std.proofs.lemmas.Bool.{cases_eq}
+use Rattle.std.proofs.lemmas.Bool.Decides.{nat_tests}
+use Rattle.std.proofs.lemmas.List.{length-drop, length-take-le, take_all}
+use Rattle.std.specs.Prelude.{⊤, Result, Ok, Err}
+use Rattle.avr_image.specs.Runs.{onto_runs, runs}
+use Rattle.avr_image.proofs.Lemmas.{runs_inside}
+use Rattle.avr_part.specs.declared.part.Mem.{Mem}
+use Rattle.stk_host.specs.declared.fault.HostFault.{HostFault}
+use Rattle.stk_host.specs.Operations.{Difference, difference_from, differs}
+
+-- at one address more
+abbrev decided : Bool → ℕ → ℕ → ℕ → Option Difference → Option Difference
+decided same addr want found later = if same then later else Some (record { addr = addr; want = want; found = found })
+
+-- the bytes of a run, as an image holds them
+abbrev pub held_as : List ℕ → List (Option ℕ)
+held_as run = map (λ byte. Some byte) run
+
+-- ---- a run
+
+first_byte : (addr b : ℕ) (run bytes : List ℕ) (at : ℕ) → at < length bytes
+    → difference_from addr (held_as (b ∷ run)) (drop at bytes)
+    ≡ decided (get_or bytes at 0 == b) addr b (get_or bytes at 0)
+    (difference_from (addr + 1) (held_as run) (drop (at + 1) bytes))
+first_byte addr b run bytes at there =
+    let of_bytes : drop at bytes ≡ get_or bytes at 0 ∷ drop (at + 1) bytes = rw add-one (drop-cons bytes at 0 there) in
+    ap (λ (bs : List ℕ). difference_from addr (held_as (b ∷ run)) bs) of_bytes
+
+-- the byte i of a run
+pub run_byte : (addr i : ℕ) (run found : List ℕ) → i < length run → i < length found
+    → difference_from (addr + i) (held_as (drop i run)) (drop i found)
+    ≡ decided (get_or found i 0 == get_or run i 0) (addr + i) (get_or run i 0) (get_or found i 0)
+    (difference_from (addr + (i + 1)) (held_as (drop (i + 1) run)) (drop (i + 1) found))
+run_byte addr i run found within there =
+    let of_run : drop i run ≡ get_or run i 0 ∷ drop (i + 1) run = rw add-one (drop-cons run i 0 within) in
+    let next : addr + i + 1 ≡ addr + (i + 1) = omega arith in
+    ap (λ (bs : List ℕ). difference_from (addr + i) (held_as bs) (drop i found)) of_run
+    ∙ first_byte (addr + i) (get_or run i 0) (drop (i + 1) run) found i there
+    ∙ ap (λ (n : ℕ). decided (get_or found i 0 == get_or run i 0) (addr + i) (get_or run i 0) (get_or found i 0)
+    (difference_from n (held_as (drop (i + 1) run)) (drop (i + 1) found))) next
+
+pub run_goes_on : (addr i : ℕ) (run found : List ℕ) → i < length run → i < length found
+    → (get_or found i 0 == get_or run i 0) ≡ true
+    → difference_from (addr + i) (held_as (drop i run)) (drop i found)
+    ≡ difference_from (addr + (i + 1)) (held_as (drop (i + 1) run)) (drop (i + 1) found)
+run_goes_on addr i run found within there same = run_byte addr i run found within there ∙ rw same refl
+
+-- ---- the runs of an image
+
+abbrev pub earlier : Option Difference → Option Difference → Option Difference
+earlier None later = later
+earlier (Some d) later = Some d
+
+-- the first difference in runs
+abbrev pub among : List (ℕ × List ℕ) → List ℕ → Option Difference
+among [] bytes = None
+among ((addr, run) ∷ more) bytes = earlier (difference_from addr (held_as run) (drop addr bytes)) (among more bytes)
+
+earlier_decided : (same : Bool) (addr want found : ℕ) (x y : Option Difference)
+    → earlier (decided same addr want found x) y ≡ decided same addr want found (earlier x y)
+earlier_decided true addr want found x y = refl
+earlier_decided false addr want found x y = refl
+
+among-onto : (addr b : ℕ) (cut : List (ℕ × List ℕ)) (bytes : List ℕ) → addr < length bytes
+    → among (onto_runs addr b cut) bytes ≡ decided (get_or bytes addr 0 == b) addr b (get_or bytes addr 0)
+    (among cut bytes)
+among-onto addr b [] bytes there =
+    ap (λ (d : Option Difference). earlier d None) (first_byte addr b [] bytes addr there)
+    ∙ earlier_decided (get_or bytes addr 0 == b) addr b (get_or bytes addr 0) None None
+among-onto addr b ((next, run) ∷ more) bytes there =
+    let found = get_or bytes addr 0 in
+    elim (cases_eq next (addr + 1)) [
+      | inl same ↦
+          let test : (next == addr + 1) ≡ true = grind (arith, nat_tests) in
+          let here : earlier (difference_from addr (held_as (b ∷ run)) (drop addr bytes)) (among more bytes)
+          ≡ decided (found == b) addr b found (earlier
+          (difference_from (addr + 1) (held_as run) (drop (addr + 1) bytes)) (among more bytes)) =
+          ap (λ (d : Option Difference). earlier d (among more bytes)) (first_byte addr b run bytes addr there)
+          ∙ earlier_decided (found == b) addr b found (difference_from (addr + 1) (held_as run) (drop (addr + 1) bytes))
+          (among more bytes) in
+          rw test (here ∙ ap (λ (n : ℕ). decided (found == b) addr b found
+          (earlier (difference_from n (held_as run) (drop n bytes)) (among more bytes))) (sym same))
+      | inr other ↦
+          let test : (next == addr + 1) ≡ false = grind (arith, nat_tests) in
+          rw test (ap (λ (d : Option Difference). earlier d (among ((next, run) ∷ more) bytes))
+          (first_byte addr b [] bytes addr there)
+          ∙ earlier_decided (found == b) addr b found None (among ((next, run) ∷ more) bytes))
+    ]
+
+pub among-runs : (addr : ℕ) (image : List (Option ℕ)) (bytes : List ℕ) → addr + length image ≤ length bytes
+    → among (runs addr image) bytes ≡ difference_from addr image (drop addr bytes)
+among-runs addr [] bytes there = refl
+among-runs addr (None ∷ image) bytes there =
+    let of_bytes : drop addr bytes ≡ get_or bytes addr 0 ∷ drop (addr + 1) bytes =
+    rw add-one (drop-cons bytes addr 0 (omega (arith, there))) in
+    among-runs (addr + 1) image bytes (omega (arith, there))
+    ∙ sym (ap (λ (bs : List ℕ). difference_from addr (None ∷ image) bs) of_bytes)
+among-runs addr (Some b ∷ image) bytes there =
+    let found = get_or bytes addr 0 in
+    let of_bytes : drop addr bytes ≡ found ∷ drop (addr + 1) bytes =
+    rw add-one (drop-cons bytes addr 0 (omega (arith, there))) in
+    among-onto addr b (runs (addr + 1) image) bytes (omega (arith, there))
+    ∙ ap (decided (found == b) addr b found) (among-runs (addr + 1) image bytes (omega (arith, there)))
+    ∙ sym (ap (λ (bs : List ℕ). difference_from addr (Some b ∷ image) bs) of_bytes)
+
+-- what lies after the image is not compared
+pub within_image : (addr : ℕ) (image : List (Option ℕ)) (bytes : List ℕ)
+    → difference_from addr image (take (length image) bytes) ≡ difference_from addr image bytes
+within_image addr [] bytes = refl
+within_image addr (byte ∷ image) [] = refl
+within_image addr (None ∷ image) (found ∷ bytes) = within_image (addr + 1) image bytes
+within_image addr (Some want ∷ image) (found ∷ bytes) =
+    ap (decided (found == want) addr want found) (within_image (addr + 1) image bytes)
+
+earlier_none : (d later : Option Difference) → d ≡ None → earlier d later ≡ later
+earlier_none d later none = rw none refl
+
+-- ---- a walk over the runs
+
+-- from a place up to the end
+pub rest_is : (at : ℕ) (bytes : List ℕ) → take (length bytes - at) (drop at bytes) ≡ drop at bytes
+rest_is at bytes = take_all (length bytes - at) (drop at bytes) (omega (arith, length-drop at bytes))
+
+pub none_differs : (mem : Mem) (d : Option Difference) (r : Result ⊤ HostFault) (x : ⊤) → r ≡ differs mem d → r ≡ Ok x
+    → d ≡ None
+none_differs mem None r x is ok = refl
+none_differs mem (Some d) r x is ok = absurd (cc (is, ok))
+
+-- each run ends inside a memory of this size
+abbrev pub EndBy : ℕ → List (ℕ × List ℕ) → Type 0
+EndBy size [] = Unit {0}
+EndBy size (run ∷ more) = (run.0 + length run.1 ≤ size) × EndBy size more
+
+all_end : (size : ℕ) (cut : List (ℕ × List ℕ)) → All (λ run. run.0 + length run.1 ≤ size) cut → EndBy size cut
+all_end size [] inside = tt
+all_end size (run ∷ more) inside =
+    (inside 0 run (omega arith), all_end size more (λ k d l. inside (suc k) d (omega (arith, l))))
+
+pub runs_end : (size : ℕ) (image : List (Option ℕ)) → size ≡ length image → EndBy size (runs 0 image)
+runs_end size image is = rw is (all_end (length image) (runs 0 image) (runs_inside image))
+
+pub passes_run : (left more : List (ℕ × List ℕ)) (addr : ℕ) (run bytes : List ℕ) → left ≡ (addr, run) ∷ more
+    → difference_from addr (held_as run) (drop addr bytes) ≡ None
+    → among left bytes ≡ among more bytes
+passes_run left more addr run bytes is none =
+    rw is (earlier_none (difference_from addr (held_as run) (drop addr bytes)) (among more bytes) none)
+
+pub ends_behind : (size : ℕ) (left more : List (ℕ × List ℕ)) (run : ℕ × List ℕ) → left ≡ run ∷ more → EndBy size left
+    → EndBy size more
+ends_behind size left more run is ends = let all : EndBy size (run ∷ more) = rw is at ends in all.1
+
+error_first : (mem : Mem) (d later : Option Difference) (r : Result ⊤ HostFault) (e : HostFault) → r ≡ differs mem d
+    → r ≡ Err e → r ≡ differs mem (earlier d later)
+error_first mem None later r e is err = absurd (cc (is, err))
+error_first mem (Some d) later r e is err = is
+
+pub error_differs : (mem : Mem) (left more : List (ℕ × List ℕ)) (addr : ℕ) (run bytes : List ℕ) (r : Result ⊤ HostFault)
+    (e : HostFault)
+    → left ≡ (addr, run) ∷ more → r ≡ differs mem (difference_from addr (held_as run) (drop addr bytes)) → r ≡ Err e
+    → r ≡ differs mem (among left bytes)
+error_differs mem left more addr run bytes r e left_is is err =
+    rw left_is (error_first mem (difference_from addr (held_as run) (drop addr bytes)) (among more bytes) r e is err)
+
+pub whole_is : (image : List (Option ℕ)) (bytes : List ℕ) (size : ℕ) → size ≡ length image → length image ≤ length bytes
+    → among (runs 0 image) (take size bytes) ≡ difference_from 0 image bytes
+whole_is image bytes size is there =
+    among-runs 0 image (take size bytes) (omega
+    (arith, is, there, length-take-le size bytes (omega (arith, is, there))))
+    ∙ ap (λ (n : ℕ). difference_from 0 image (take n bytes)) is
+    ∙ within_image 0 image bytes

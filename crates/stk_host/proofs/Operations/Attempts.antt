@@ -1,0 +1,179 @@
+-- Commands, attempts and steps, as the code goes through them.
+use Rattle.std.proofs.Common.{◌≡◌, ℕ, zero, suc, List, [], ◌∷◌, ◌++◌, refl, ap, ◌∙◌, subst, Ok, Err}
+use Rattle.stk_frame.specs.declared.command.Command.{Command}
+use Rattle.stk_frame.specs.Frame.{frame}
+use Rattle.stk_frame.specs.Commands.{body}
+use Rattle.stk_host.specs.declared.fault.StepFault.{StepFault}
+use Rattle.stk_host.specs.Tape.{Reading}
+use Rattle.stk_host.specs.Talk.{LinkView}
+use Rattle.stk_host.specs.Dialog.{Dialog, Done, Frame, next}
+use Rattle.stk_host.specs.declared.fault.Broken.{Broken}
+use Rattle.stk_host.specs.declared.fault.Broken.TheVariants as broken
+use Rattle.stk_host.specs.Play.{Position, PlaysOver, FailsOver}
+use Rattle.stk_host.specs.Reach.{Reaches, Says, SaysPart, Hears, HearsNone}
+use Rattle.stk_host.specs.declared.conversation.Reply as said
+use Rattle.stk_host.specs.declared.conversation.Reply.TheVariants as replies
+use Rattle.stk_host.specs.Calls.{reply_of}
+use Rattle.stk_host.specs.Steps.{exchange, attempt, tries, Reply, Data, Again, Stop, reading_reply, with_data, end_or_again, StepOutcome}
+use Rattle.stk_host.proofs.Talks.Laws.{grows_on}
+use Rattle.stk_host.proofs.Talks.InDialogs.{leads_ask, plays_from, breaks_asking, breaks_listening}
+use Rattle.stk_host.proofs.Talks.Reached.{reaches_on, played_from, broken_on, broken_bind, then_reaches}
+
+-- one command
+
+pub exchange_done : (seq then : ℕ) (command : Command) {u v : List ℕ} {o p q : LinkView} {reading : Reading}
+    → Says (frame seq (body command)) o.talk p.talk → Hears seq u p q reading v → then ≡ next seq
+    → PlaysOver (exchange command) (record { next = seq; unread = u }) o q (reading_reply command reading)
+    (record { next = then; unread = v })
+unfolding exchange
+exchange_done seq then command {u = u} {v = v} {o = o} {p = p} {q = q} {reading = reading} says hears is = record {
+  during = says.during ++ hears.during;
+  events = Frame (frame seq (body command)) ∷ [];
+  grows = grows_on o.talk p.talk q.talk says.during hears.during says.grows hears.grows;
+  plays = rw is (plays_from (leads_ask (body command) (λ r. Done (reading_reply command r)) seq u v says.during
+      hears.during reading says.quiet says.bytes_sent hears.waits hears.answers));
+}
+
+pub exchange_unsent : (seq : ℕ) (command : Command) (u : List ℕ) {o p : LinkView}
+    → SaysPart (frame seq (body command)) o.talk p.talk
+    → FailsOver broken.Send (exchange command) (record { next = seq; unread = u }) o p
+unfolding exchange
+exchange_unsent seq command u says = record {
+  during = says.says.during;
+  shown = Frame says.part ∷ [];
+  grows = says.says.grows;
+  breaks = breaks_asking (body command) (λ r. Done (reading_reply command r)) seq u says.part says.unsent
+      says.says.during says.says.quiet says.says.bytes_sent says.bytes_are says.not_whole;
+}
+
+pub exchange_unheard : (seq : ℕ) (command : Command) {u : List ℕ} {o p q : LinkView}
+    → Says (frame seq (body command)) o.talk p.talk → HearsNone seq u p q
+    → FailsOver broken.Recv (exchange command) (record { next = seq; unread = u }) o q
+unfolding exchange
+exchange_unheard seq command {u = u} {o = o} {p = p} {q = q} says hears = record {
+  during = says.during ++ hears.during;
+  shown = Frame (frame seq (body command)) ∷ [];
+  grows = grows_on o.talk p.talk q.talk says.during hears.during says.grows hears.grows;
+  breaks = breaks_listening (body command) (λ r. Done (reading_reply command r)) seq u says.during hears.during
+      says.quiet says.bytes_sent hears.waits hears.no_answer;
+}
+
+-- an attempt, whose next command was sent and answered
+
+attempt_on : (command : Command) (commands : List Command) (before : List ℕ) {seq n : Position} {o q : LinkView}
+    (reply : Reply) → PlaysOver (exchange command) seq o q reply n
+    → Reaches (attempt (command ∷ commands) before) seq o
+    (with_data (λ bytes. attempt commands (before ++ bytes)) reply) n q
+unfolding attempt
+attempt_on command commands before reply f = then_reaches (with_data (λ bytes. attempt commands (before ++ bytes))) f
+
+attempt_none : (before : List ℕ) → attempt [] before ≡ Done (Data before)
+unfolding attempt
+attempt_none before = refl
+
+attempt_off : {by : Broken} (command : Command) (commands : List Command) (before : List ℕ) {seq : Position}
+    {o q : LinkView} → FailsOver by (exchange command) seq o q
+    → FailsOver by (attempt (command ∷ commands) before) seq o q
+unfolding attempt
+attempt_off command commands before f = broken_bind (with_data (λ bytes. attempt commands (before ++ bytes))) f
+
+-- a turn of the loop over the commands, as the code takes it: it has come so far, and this command is next
+module _ {a : Dialog ⊥ Reply} {m seq : Position} {k o : LinkView} {commands rest : List Command} {command : Command}
+    (come : Reaches a m k (attempt commands []) seq o) (is : commands ≡ command ∷ rest) where
+  next_is : Reaches a m k (attempt (command ∷ rest) []) seq o
+  next_is = subst (λ cs. Reaches a m k (attempt cs []) seq o) is come
+
+  turn : {n : Position} {q : LinkView} (reply : Reply) → PlaysOver (exchange command) seq o q reply n
+      → Reaches a m k (with_data (λ bytes. attempt rest ([] ++ bytes)) reply) n q
+  turn reply f = reaches_on next_is (attempt_on command rest [] reply f)
+
+  pub turn_data : {n : Position} {q : LinkView} {reply : said.Reply} {bytes : List ℕ}
+      → PlaysOver (exchange command) seq o q (reply_of reply bytes) n → reply ≡ replies.Data → bytes ≡ []
+      → Reaches a m k (attempt rest []) n q
+  turn_data {n = n} {q = q} {bytes = bytes} f is_data none =
+      turn (Data []) (subst (λ bs. PlaysOver (exchange command) seq o q (Data bs) n) none
+      (subst (λ r. PlaysOver (exchange command) seq o q (reply_of r bytes) n) is_data f))
+
+  pub turn_again : {n : Position} {q : LinkView} {reply : said.Reply} {fault : StepFault} (bytes : List ℕ)
+      → PlaysOver (exchange command) seq o q (reply_of reply bytes) n → reply ≡ replies.Again fault
+      → PlaysOver a m k q (Again fault) n
+  turn_again {n = n} {q = q} {fault = fault} bytes f again =
+      played_from (turn (Again fault)
+      (subst (λ r. PlaysOver (exchange command) seq o q (reply_of r bytes) n) again f))
+
+  pub turn_stop : {n : Position} {q : LinkView} {reply : said.Reply} {fault : StepFault} (bytes : List ℕ)
+      → PlaysOver (exchange command) seq o q (reply_of reply bytes) n → reply ≡ replies.Stop fault
+      → PlaysOver a m k q (Stop fault) n
+  turn_stop {n = n} {q = q} {fault = fault} bytes f stop =
+      played_from (turn (Stop fault)
+      (subst (λ r. PlaysOver (exchange command) seq o q (reply_of r bytes) n) stop f))
+
+  pub turn_breaks : {by : Broken} {q : LinkView} → FailsOver by (exchange command) seq o q → FailsOver by a m k q
+  turn_breaks f = broken_on next_is (attempt_off command rest [] f)
+
+-- the last command, whatever its answer comes to
+pub turn_last : {a : Dialog ⊥ Reply} {m seq n : Position} {k o q : LinkView} {commands : List Command}
+    {command : Command} (reply : said.Reply) (bytes : List ℕ)
+    → Reaches a m k (attempt commands []) seq o → commands ≡ command ∷ []
+    → PlaysOver (exchange command) seq o q (reply_of reply bytes) n
+    → PlaysOver a m k q (reply_of reply bytes) n
+turn_last {a = a} {m = m} {n = n} {k = k} {q = q} replies.Data bytes come is f =
+    played_from (subst (λ d. Reaches a m k d n q) (attempt_none bytes) (turn come is (Data bytes) f))
+turn_last (replies.Again fault) bytes come is f = played_from (turn come is (Again fault) f)
+turn_last (replies.Stop fault) bytes come is f = played_from (turn come is (Stop fault) f)
+
+-- a turn of the loop over the attempts
+
+tries_on : (more : ℕ) (commands : List Command) (last : StepFault) {seq n : Position} {o q : LinkView} (reply : Reply)
+    → PlaysOver (attempt commands []) seq o q reply n
+    → Reaches (tries (suc more) commands last) seq o (end_or_again (tries more commands) reply) n q
+unfolding tries
+tries_on more commands last reply f = then_reaches (end_or_again (tries more commands)) f
+
+tries_none : (commands : List Command) (last : StepFault) → tries zero commands last ≡ Done (Err last)
+unfolding tries
+tries_none commands last = refl
+
+tries_off : {by : Broken} (more : ℕ) (commands : List Command) (last : StepFault) {seq : Position} {o q : LinkView}
+    → FailsOver by (attempt commands []) seq o q → FailsOver by (tries (suc more) commands last) seq o q
+unfolding tries
+tries_off more commands last f = broken_bind (end_or_again (tries more commands)) f
+
+-- as the code takes it: it has come so far, and an attempt is left
+module _ {a : Dialog ⊥ StepOutcome} {l seq : Position} {j o : LinkView} {k : ℕ} (more : ℕ) (commands : List Command)
+    (last : StepFault) (count : k ≡ suc more) (come : Reaches a l j (tries k commands last) seq o) where
+  next_try : Reaches a l j (tries (suc more) commands last) seq o
+  next_try = subst (λ t. Reaches a l j (tries t commands last) seq o) count come
+
+  try : {n : Position} {q : LinkView} (reply : Reply) → PlaysOver (attempt commands []) seq o q reply n
+      → Reaches a l j (end_or_again (tries more commands) reply) n q
+  try reply f = reaches_on next_try (tries_on more commands last reply f)
+
+  pub try_again : {n : Position} {q : LinkView} {fault : StepFault} {reply : said.Reply} (bytes : List ℕ)
+      → PlaysOver (attempt commands []) seq o q (reply_of reply bytes) n → reply ≡ replies.Again fault
+      → Reaches a l j (tries more commands fault) n q
+  try_again {n = n} {q = q} {fault = fault} bytes f again =
+      try (Again fault) (subst (λ r. PlaysOver (attempt commands []) seq o q (reply_of r bytes) n) again f)
+
+  pub try_data : {n : Position} {q : LinkView} {bytes : List ℕ} {reply : said.Reply}
+      → PlaysOver (attempt commands []) seq o q (reply_of reply bytes) n → reply ≡ replies.Data
+      → PlaysOver a l j q (Ok bytes) n
+  try_data {n = n} {q = q} {bytes = bytes} f is_data =
+      played_from (try (Data bytes)
+      (subst (λ r. PlaysOver (attempt commands []) seq o q (reply_of r bytes) n) is_data f))
+
+  pub try_stop : {n : Position} {q : LinkView} {fault : StepFault} {reply : said.Reply} (bytes : List ℕ)
+      → PlaysOver (attempt commands []) seq o q (reply_of reply bytes) n → reply ≡ replies.Stop fault
+      → PlaysOver a l j q (Err fault) n
+  try_stop {n = n} {q = q} {fault = fault} bytes f stop =
+      played_from (try (Stop fault)
+      (subst (λ r. PlaysOver (attempt commands []) seq o q (reply_of r bytes) n) stop f))
+
+  pub try_breaks : {by : Broken} {q : LinkView} → FailsOver by (attempt commands []) seq o q → FailsOver by a l j q
+  try_breaks f = broken_on next_try (tries_off more commands last f)
+
+pub try_end : {a : Dialog ⊥ StepOutcome} {l seq : Position} {j o : LinkView} (k : ℕ) (commands : List Command)
+    (last : StepFault)
+    → Reaches a l j (tries k commands last) seq o → k ≡ 0 → PlaysOver a l j o (Err last) seq
+try_end {a = a} {l = l} {seq = seq} {j = j} {o = o} k commands last f is =
+    played_from (subst (λ d. Reaches a l j d seq o) (ap (λ t. tries t commands last) is ∙ tries_none commands last) f)

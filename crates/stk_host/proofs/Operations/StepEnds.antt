@@ -1,0 +1,109 @@
+-- One step after another, from what each call ensures.
+use Rattle.std.proofs.Common.{ℕ, Bool, true, false, if◌then◌else◌, List, [], ◌∷◌, ◌++◌, Ok, Err, Result}
+use Rattle.std.specs.Str.{bytes_eq}
+use Rattle.stk_frame.specs.declared.command.Command.{Command}
+use Rattle.stk_frame.specs.HostCommands.{leave}
+use Rattle.stk_host.specs.declared.fault.Broken.TheVariants as broken
+use Rattle.stk_host.specs.declared.fault.Stop.{Stop}
+use Rattle.stk_host.specs.declared.fault.Stop.TheVariants.{Fault, Link}
+use Rattle.stk_host.specs.declared.fault.StepFault.TheVariants as of_step
+use Rattle.stk_host.specs.declared.fault.HostFault.{HostFault}
+use Rattle.stk_host.specs.declared.fault.HostFault.TheVariants.{WrongSignature}
+use Rattle.stk_host.specs.Talk.{LinkView}
+use Rattle.stk_host.specs.Dialog.{Dialog, Done, ◌>>=◌}
+use Rattle.stk_host.specs.Play.{Position, PlaysOver}
+use Rattle.stk_host.specs.Reach.{Reaches}
+use Rattle.stk_host.specs.Steps.{StepOutcome, if_done, step, play}
+use Rattle.stk_host.specs.Operations.{signature_judged, handshake, opening, without_bytes, closing}
+use Rattle.stk_host.specs.Calls.{StopsSteps, EndsSteps, EndsCall, opening_result, closing_result}
+use Rattle.stk_host.proofs.Talks.Reached.{reaches_on, reaches_from, played_from, broken_on, broken_bind, then_reaches}
+
+-- a stop in a dialog that was reached
+pub stops_on : {a b : Dialog ⊥ StepOutcome} {m n : Position} {o p : LinkView} (k : Position) (q : LinkView)
+    (stop : Stop)
+    → Reaches a m o b n p → StopsSteps b n p q stop k → StopsSteps a m o q stop k
+stops_on k q (Fault fault) f e = played_from (reaches_on f (reaches_from e))
+stops_on k q (Link broken) f e = broken_on f e
+
+-- a stop, after which nothing follows
+pub stops_there : (a : Dialog ⊥ StepOutcome) (go_on : List ℕ → Dialog ⊥ StepOutcome) (m n : Position) (o p : LinkView)
+    (stop : Stop)
+    → StopsSteps a m o p stop n → StopsSteps (a >>= if_done go_on) m o p stop n
+stops_there a go_on m n o p (Fault fault) e = played_from (then_reaches (if_done go_on) e)
+stops_there a go_on m n o p (Link broken) e = broken_bind (if_done go_on) e
+
+-- steps that came to their data
+pub goes_on : {a : Dialog ⊥ StepOutcome} {m n : Position} {o p : LinkView} (go_on : List ℕ → Dialog ⊥ StepOutcome)
+    (bytes : List ℕ)
+    → PlaysOver a m o p (Ok bytes) n → Reaches (a >>= if_done go_on) m o (go_on bytes) n p
+goes_on go_on bytes f = then_reaches (if_done go_on) f
+
+-- a step of a list of steps
+pub play_on : (commands : List Command) (steps : List (List Command)) (before bytes : List ℕ) {m n : Position}
+    {o p : LinkView}
+    → PlaysOver (step commands) m o p (Ok bytes) n
+    → Reaches (play (commands ∷ steps) before) m o (play steps (before ++ bytes)) n p
+unfolding play
+play_on commands steps before bytes f = goes_on (λ bs. play steps (before ++ bs)) bytes f
+
+pub play_stops : (commands : List Command) (steps : List (List Command)) (before : List ℕ) (m n : Position)
+    (o p : LinkView) (stop : Stop)
+    → StopsSteps (step commands) m o p stop n → StopsSteps (play (commands ∷ steps) before) m o p stop n
+unfolding play
+play_stops commands steps before m n o p stop e =
+    stops_there (step commands) (λ bs. play steps (before ++ bs)) m n o p stop e
+
+pub play_done : (bytes : List ℕ) {a : Dialog ⊥ StepOutcome} {m n : Position} {o p : LinkView}
+    → Reaches a m o (play [] bytes) n p → PlaysOver a m o p (Ok bytes) n
+unfolding play
+play_done bytes f = played_from f
+
+-- what opening and closing a session come to
+
+-- a signature is judged good or wrong, and this is no fault of the link
+judged_ends : {dialog : Dialog ⊥ (Result (List ℕ) HostFault)} {m n : Position} {o p : LinkView} (wanted found : List ℕ)
+    (force same : Bool)
+    → PlaysOver dialog m o p (if force then Ok found else if same then Ok found else Err (WrongSignature found)) n
+    → EndsCall dialog m o p (if force then Ok found else if same then Ok found else Err (WrongSignature found)) n
+judged_ends wanted found true same e = e
+judged_ends wanted found false true e = e
+judged_ends wanted found false false e = e
+
+pub opening_ends : (wanted : List ℕ) (force : Bool) (begun : Result (List ℕ) Stop) (m n : Position) (o p : LinkView)
+    → EndsSteps handshake (λ found. found) m o p begun n
+    → EndsCall (opening wanted force) m o p (opening_result wanted force begun) n
+unfolding opening
+opening_ends wanted force (Ok found) m n o p e =
+    judged_ends wanted found force (bytes_eq found wanted)
+    (played_from (then_reaches (λ outcome. Done (signature_judged wanted force outcome)) e))
+opening_ends wanted force (Err (Fault of_step.NoAnswer)) m n o p e =
+    played_from (then_reaches (λ outcome. Done (signature_judged wanted force outcome)) e)
+opening_ends wanted force (Err (Fault of_step.LinkEnded)) m n o p e =
+    played_from (then_reaches (λ outcome. Done (signature_judged wanted force outcome)) e)
+opening_ends wanted force (Err (Fault of_step.Babble)) m n o p e =
+    played_from (then_reaches (λ outcome. Done (signature_judged wanted force outcome)) e)
+opening_ends wanted force (Err (Fault (of_step.Refused command status))) m n o p e =
+    played_from (then_reaches (λ outcome. Done (signature_judged wanted force outcome)) e)
+opening_ends wanted force (Err (Fault (of_step.BadAnswer command))) m n o p e =
+    played_from (then_reaches (λ outcome. Done (signature_judged wanted force outcome)) e)
+opening_ends wanted force (Err (Link broken.Send)) m n o p e =
+    broken_bind (λ outcome. Done (signature_judged wanted force outcome)) e
+opening_ends wanted force (Err (Link broken.Recv)) m n o p e =
+    broken_bind (λ outcome. Done (signature_judged wanted force outcome)) e
+
+pub closing_ends : (result : Result (Unit {0}) Stop) (m n : Position) (o p : LinkView)
+    → EndsSteps (step (leave ∷ [])) (λ done. []) m o p result n → EndsCall closing m o p (closing_result result) n
+unfolding closing
+closing_ends (Ok done) m n o p e = played_from (then_reaches (λ outcome. Done (without_bytes outcome)) e)
+closing_ends (Err (Fault of_step.NoAnswer)) m n o p e =
+    played_from (then_reaches (λ outcome. Done (without_bytes outcome)) e)
+closing_ends (Err (Fault of_step.LinkEnded)) m n o p e =
+    played_from (then_reaches (λ outcome. Done (without_bytes outcome)) e)
+closing_ends (Err (Fault of_step.Babble)) m n o p e =
+    played_from (then_reaches (λ outcome. Done (without_bytes outcome)) e)
+closing_ends (Err (Fault (of_step.Refused command status))) m n o p e =
+    played_from (then_reaches (λ outcome. Done (without_bytes outcome)) e)
+closing_ends (Err (Fault (of_step.BadAnswer command))) m n o p e =
+    played_from (then_reaches (λ outcome. Done (without_bytes outcome)) e)
+closing_ends (Err (Link broken.Send)) m n o p e = broken_bind (λ outcome. Done (without_bytes outcome)) e
+closing_ends (Err (Link broken.Recv)) m n o p e = broken_bind (λ outcome. Done (without_bytes outcome)) e

@@ -1,0 +1,220 @@
+-- The steps of an operation, one after another.
+use Rattle.std.proofs.Common.{◌≡◌, ℕ, ◌<◌, ◌^◌, lit≤, arith, List, [], ◌∷◌, ◌++◌, length, subst, sym, ◌-◌, Bool, true, false, None, Some, ◌∙◌, Option, Ok, Err, Result}
+use Rattle.std.proofs.lemmas.List.{nil_from_length}
+use Rattle.std.specs.Prelude.{OnOk, if◌then◌else◌}
+use Rattle.avr_part.specs.declared.part.Mem.{Mem}
+use Rattle.avr_part.specs.Mem.{is_writable}
+use Rattle.avr_part.specs.declared.part.Mem.TheVariants.{Flash, Eeprom, Lfuse, Hfuse, Efuse, Lock, Signature, Calibration}
+use Rattle.avr_part.specs.Part.{Part, IsPart, size_of}
+use Rattle.stk_frame.specs.declared.command.Command.{Command}
+use Rattle.stk_frame.specs.declared.answer.Shape.{Shape}
+use Rattle.stk_frame.specs.declared.answer.Shape.TheVariants.{Name, Bytes, Closed}
+use Rattle.stk_frame.specs.Commands.{SizedBy}
+use Rattle.stk_host.specs.declared.fault.Broken.TheVariants as broken
+use Rattle.stk_host.specs.declared.fault.Stop.{Stop}
+use Rattle.stk_host.specs.declared.fault.Stop.TheVariants.{Fault, Link}
+use Rattle.stk_host.specs.declared.fault.StepFault.TheVariants as of_step
+use Rattle.stk_host.specs.declared.fault.HostFault.{HostFault}
+use Rattle.stk_host.specs.declared.fault.HostFault.TheVariants.{ReadOnly}
+use Rattle.stk_host.specs.Talk.{LinkView}
+use Rattle.stk_host.specs.Dialog.{Dialog, Done}
+use Rattle.stk_host.specs.Play.{Position, PlaysOver}
+use Rattle.stk_host.specs.Reach.{Reaches}
+use Rattle.stk_host.specs.Steps.{StepOutcome, step, play}
+use Rattle.stk_host.specs.Places.{each_from}
+use Rattle.stk_host.specs.WriteSteps.{write_steps}
+use Rattle.stk_host.specs.Operations.{judged_by, operation, writing, Difference, difference_from, differs, comparison}
+use Rattle.stk_host.specs.Calls.{StopsSteps, EndsSteps, EndsCall, EndsOrLacks, EndsInnerStep, with_step, without_step, IsSizedShape, data_count, fault_of_stop, closing_result, given_or_fault, vector_after, verifying_result}
+use Rattle.stk_host.proofs.Talks.Reached.{reaches_here, reaches_on, played_from, broken_bind, then_reaches}
+use Rattle.stk_host.proofs.Operations.StepEnds.{stops_on, play_on, play_stops, play_done}
+
+-- data of this size
+pub counted_data : (of : Shape) (bytes : List ℕ) → IsSizedShape of → SizedBy of bytes → length bytes ≡ data_count of
+counted_data Name bytes counted sized = absurd counted
+counted_data (Bytes n) bytes counted sized = sized
+counted_data (Closed n) bytes counted sized = sized
+
+-- a step that was played goes on with those that follow
+pub goes_with : (commands : List Command) (before bytes : List ℕ) {m n : Position} {o p : LinkView}
+    → PlaysOver (step commands) m o p (Ok bytes) n
+    → EndsInnerStep (with_step commands before) (without_step (before ++ bytes)) m o p (Ok tt) n
+goes_with commands before bytes f = λ steps. play_on commands steps before bytes f
+
+pub stops_with : (commands : List Command) (before after : List ℕ) (m n : Position) (o p : LinkView) (stop : Stop)
+    → StopsSteps (step commands) m o p stop n
+    → EndsInnerStep (with_step commands before) (without_step after) m o p (Err stop) n
+stops_with commands before after m n o p stop e = λ steps. play_stops commands steps before m n o p stop e
+
+-- a step that brings no data
+pub goes_quietly : (commands : List Command) (of : Shape) (bytes : List ℕ) (result : Result (Unit {0}) Stop)
+    (m n : Position) (o p : LinkView)
+    → IsSizedShape of → data_count of ≡ 0 → OnOk result (SizedBy of bytes)
+    → EndsSteps (step commands) (λ done. bytes) m o p result n
+    → EndsInnerStep (with_step commands []) (without_step []) m o p result n
+goes_quietly commands of bytes (Ok done) m n o p counted zero sized e =
+    subst (λ bs. EndsInnerStep (with_step commands []) (without_step bs) m o p (Ok tt) n)
+    (nil_from_length bytes (counted_data of bytes counted sized ∙ zero)) (goes_with commands [] bytes e)
+goes_quietly commands of bytes (Err stop) m n o p counted zero sized e = stops_with commands [] [] m n o p stop e
+
+-- a step that nothing follows
+pub alone : (commands : List Command) (before after : List ℕ) (result : Result (Unit {0}) Stop) (m n : Position)
+    (o p : LinkView)
+    → EndsInnerStep (with_step commands before) (without_step after) m o p result n
+    → EndsSteps (play (commands ∷ []) before) (λ done. after) m o p result n
+alone commands before after (Ok done) m n o p e = play_done after (e [])
+alone commands before after (Err stop) m n o p e = e []
+
+pub alone_first : (commands : List Command) (before after : List ℕ) (result : Result (Unit {0}) Stop) (m n : Position)
+    (o p : LinkView)
+    → before ≡ [] → EndsInnerStep (with_step commands before) (without_step after) m o p result n
+    → EndsSteps (play (commands ∷ []) []) (λ done. after) m o p result n
+alone_first commands before after result m n o p is e =
+    subst (λ (b : List ℕ). EndsSteps (play (commands ∷ []) b) (λ done. after) m o p result n) is
+    (alone commands before after result m n o p e)
+
+-- no step at all
+pub none_played : (m : Position) (o : LinkView) → PlaysOver (play [] []) m o o (Ok []) m
+none_played m o = play_done [] (reaches_here (play [] []) m o)
+
+-- a step among the steps that are left of a dialog
+module _ {a : Dialog ⊥ StepOutcome} {k m : Position} {r o : LinkView} {steps rest : List (List Command)}
+    {commands : List Command} (before : List ℕ)
+    (come : Reaches a k r (play steps before) m o) (is : steps ≡ commands ∷ rest) where
+  next_is : Reaches a k r (play (commands ∷ rest) before) m o
+  next_is = subst (λ ss. Reaches a k r (play ss before) m o) is come
+
+  pub reaches_next : {n : Position} {p : LinkView} (after : List ℕ)
+      → EndsInnerStep (with_step commands before) (without_step after) m o p (Ok tt) n
+      → Reaches a k r (play rest after) n p
+  reaches_next after e = reaches_on next_is (e rest)
+
+  pub stops_next : (n : Position) (p : LinkView) (stop : Stop)
+      → ((more : List (List Command)) → StopsSteps (with_step commands before more) m o p stop n)
+      → StopsSteps a k r p stop n
+  stops_next n p stop e = stops_on n p stop next_is (e rest)
+
+-- the steps are at their end
+pub plays_all : {a : Dialog ⊥ StepOutcome} {k m : Position} {r o : LinkView} {steps : List (List Command)}
+    {before : List ℕ}
+    → Reaches a k r (play steps before) m o → steps ≡ [] → PlaysOver a k r o (Ok before) m
+plays_all {a = a} {k = k} {m = m} {r = r} {o = o} {before = before} come is =
+    play_done before (subst (λ ss. Reaches a k r (play ss before) m o) is come)
+
+-- what an operation comes to, from what its steps come to
+
+-- a stop, as the host tells it
+told_ends : {A : Type 0} (steps : List (List Command)) (judge : List ℕ → Result A HostFault) (stop : Stop)
+    (m n : Position) (o p : LinkView)
+    → StopsSteps (play steps []) m o p stop n → EndsCall (operation steps judge) m o p (Err (fault_of_stop stop)) n
+unfolding operation
+told_ends steps judge (Fault of_step.NoAnswer) m n o p e =
+    played_from (then_reaches (λ outcome. Done (judged_by judge outcome)) e)
+told_ends steps judge (Fault of_step.LinkEnded) m n o p e =
+    played_from (then_reaches (λ outcome. Done (judged_by judge outcome)) e)
+told_ends steps judge (Fault of_step.Babble) m n o p e =
+    played_from (then_reaches (λ outcome. Done (judged_by judge outcome)) e)
+told_ends steps judge (Fault (of_step.Refused command status)) m n o p e =
+    played_from (then_reaches (λ outcome. Done (judged_by judge outcome)) e)
+told_ends steps judge (Fault (of_step.BadAnswer command)) m n o p e =
+    played_from (then_reaches (λ outcome. Done (judged_by judge outcome)) e)
+told_ends steps judge (Link broken.Send) m n o p e = broken_bind (λ outcome. Done (judged_by judge outcome)) e
+told_ends steps judge (Link broken.Recv) m n o p e = broken_bind (λ outcome. Done (judged_by judge outcome)) e
+
+judged_from : {A : Type 0} (steps : List (List Command)) (judge : List ℕ → Result A HostFault) (bytes : List ℕ)
+    {m n : Position} {o p : LinkView}
+    → PlaysOver (play steps []) m o p (Ok bytes) n → PlaysOver (operation steps judge) m o p (judge bytes) n
+unfolding operation
+judged_from steps judge bytes e = played_from (then_reaches (λ outcome. Done (judged_by judge outcome)) e)
+
+-- an operation that reads nothing
+pub done_ends : (steps : List (List Command)) (result : Result (Unit {0}) Stop) (m n : Position) (o p : LinkView)
+    → EndsSteps (play steps []) (λ done. []) m o p result n
+    → EndsCall (operation steps (λ bytes. Ok tt)) m o p (closing_result result) n
+done_ends steps (Ok done) m n o p e = judged_from steps (λ bytes. Ok tt) [] e
+done_ends steps (Err stop) m n o p e = told_ends steps (λ bytes. Ok tt) stop m n o p e
+
+-- a write
+pub writing_ends : (part : Part) (mem : Mem) (image : List (Option ℕ)) (result : Result (Unit {0}) Stop)
+    (m n : Position) (o p : LinkView) → is_writable mem ≡ true
+    → EndsSteps (play (write_steps part mem image) []) (λ done. []) m o p result n
+    → EndsCall (writing part mem image) m o p (closing_result result) n
+writing_ends part mem image result m n o p can e =
+    subst (λ (can : Bool). EndsCall (if can then operation (write_steps part mem image) (λ bytes. Ok tt)
+    else Done (Err (ReadOnly mem))) m o p (closing_result result) n) (sym can)
+    (done_ends (write_steps part mem image) result m n o p e)
+
+pub writes_nothing : (part : Part) (mem : Mem) (image : List (Option ℕ)) (m : Position) (o : LinkView)
+    → is_writable mem ≡ false → EndsCall (writing part mem image) m o o (Err (ReadOnly mem)) m
+writes_nothing part mem image m o cannot =
+    subst (λ (can : Bool). PlaysOver (if can then operation (write_steps part mem image) (λ bytes. Ok tt)
+    else Done (Err (ReadOnly mem))) m o o (Err (ReadOnly mem)) m) (sym cannot)
+    (played_from (reaches_here (Done (Err (ReadOnly mem))) m o))
+
+-- a stop is no want of memory
+not_lacking : {A : Type 0} (dialog : Dialog ⊥ (Result A HostFault)) (stop : Stop) (m n : Position) (o p : LinkView)
+    → EndsCall dialog m o p (Err (fault_of_stop stop)) n → EndsOrLacks dialog m o p (Err (fault_of_stop stop)) n
+not_lacking dialog (Fault of_step.NoAnswer) m n o p e = e
+not_lacking dialog (Fault of_step.LinkEnded) m n o p e = e
+not_lacking dialog (Fault of_step.Babble) m n o p e = e
+not_lacking dialog (Fault (of_step.Refused command status)) m n o p e = e
+not_lacking dialog (Fault (of_step.BadAnswer command)) m n o p e = e
+not_lacking dialog (Link broken.Send) m n o p e = e
+not_lacking dialog (Link broken.Recv) m n o p e = e
+
+-- a read
+pub reading_ends : (steps : List (List Command)) (bytes : List ℕ) (result : Result (Unit {0}) Stop) (m n : Position)
+    (o p : LinkView)
+    → EndsSteps (play steps []) (λ done. bytes) m o p result n
+    → EndsOrLacks (operation steps Ok) m o p
+    (given_or_fault (vector_after (closing_result result) bytes) (closing_result result)) n
+reading_ends steps bytes (Ok done) m n o p e = judged_from steps Ok bytes e
+reading_ends steps bytes (Err stop) m n o p e =
+    not_lacking (operation steps Ok) stop m n o p (told_ends steps Ok stop m n o p e)
+
+-- a comparison
+differs_ends : (dialog : Dialog ⊥ (Result (Unit {0}) HostFault)) (mem : Mem) (found : Option Difference)
+    {m n : Position} {o p : LinkView}
+    → PlaysOver dialog m o p (differs mem found) n → EndsOrLacks dialog m o p (differs mem found) n
+differs_ends dialog mem None e = e
+differs_ends dialog mem (Some d) e = e
+
+pub verifying_ends : (steps : List (List Command)) (mem : Mem) (image : List (Option ℕ)) (bytes : List ℕ)
+    (result : Result (Unit {0}) Stop) (m n : Position) (o p : LinkView)
+    → EndsSteps (play steps []) (λ done. bytes) m o p result n
+    → EndsOrLacks (operation steps (comparison mem image)) m o p (verifying_result mem image bytes result) n
+verifying_ends steps mem image bytes (Ok done) m n o p e =
+    differs_ends (operation steps (comparison mem image)) mem (difference_from 0 image bytes)
+    (judged_from steps (comparison mem image) bytes e)
+verifying_ends steps mem image bytes (Err stop) m n o p e =
+    not_lacking (operation steps (comparison mem image)) stop m n o p
+    (told_ends steps (comparison mem image) stop m n o p e)
+
+-- a loop over places begins
+pub begins_at : (steps_at : ℕ → List (List Command)) (count : ℕ) (before : List ℕ) (m : Position) (o : LinkView)
+    → Reaches (play (each_from steps_at 0 count) before) m o (play (each_from steps_at 0 (count - 0)) before) m o
+begins_at steps_at count before m o =
+    let all : count ≡ count - 0 = omega arith in
+    subst (λ (n : ℕ). Reaches (play (each_from steps_at 0 count) before) m o (play (each_from steps_at 0 n) before) m o)
+    all (reaches_here (play (each_from steps_at 0 count) before) m o)
+
+-- how many bytes are kept of a memory that was read
+
+pub read_sized : (taken : Result (Unit {0}) Stop) (items : List ℕ) (n : ℕ) → OnOk taken (length items ≡ n)
+    → OnOk (closing_result taken) (length (vector_after (closing_result taken) items) ≡ n)
+read_sized (Ok done) items n size = size
+read_sized (Err stop) items n size = tt
+
+pub read_short : (taken : Result (Unit {0}) Stop) (items : List ℕ) (n : ℕ) → n < 2 ^ 32 → OnOk taken (length items ≡ n)
+    → length (vector_after (closing_result taken) items) < 2 ^ 32
+read_short (Ok done) items n bound size = omega (arith, size)
+read_short (Err stop) items n bound size = lit≤ tt
+
+pub size_fits : (mem : Mem) (part : Part) → IsPart part → size_of mem part < 2 ^ 32
+size_fits Flash part is = omega (arith, is.flash_most)
+size_fits Eeprom part is = omega (arith, is.eeprom_most)
+size_fits Lfuse part is = lit≤ tt
+size_fits Hfuse part is = lit≤ tt
+size_fits Efuse part is = lit≤ tt
+size_fits Lock part is = lit≤ tt
+size_fits Signature part is = lit≤ tt
+size_fits Calibration part is = lit≤ tt

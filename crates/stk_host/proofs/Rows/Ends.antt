@@ -1,0 +1,130 @@
+-- A call breaks off in one way: laws of every dialog, and LEAVE as a worked call.
+use Rattle.std.proofs.Common.{◌≡◌, ℕ, ◌<◌, List, [], ◌∷◌, ◌++◌, length, length-append, refl, sym, ap, ◌∙◌, subst, arith, Err}
+use Rattle.stk_host.specs.declared.fault.Broken.TheVariants as broken
+use Rattle.stk_host.specs.declared.fault.HostFault.TheVariants.{SendFailed, RecvFailed}
+use Rattle.stk_host.specs.declared.link.Item.TheVariants.{Silence}
+use Rattle.stk_host.specs.Tape.{answer}
+use Rattle.stk_host.specs.Talk.{Talk, LinkView, Sent, Got, sent}
+use Rattle.stk_host.specs.Dialog.{Dialog, Event, Frame, bytes_sent}
+use Rattle.stk_host.specs.Play.{Position, position, InTurn, played_over, BreaksSending, BreaksListening, FailsOver}
+use Rattle.stk_host.specs.Steps.{exchange, attempt, tries}
+use Rattle.stk_host.specs.Operations.{closing}
+use Rattle.stk_host.specs.Calls.{EndsCall}
+use Rattle.stk_host.proofs.Talks.InDialogs.{bytes_append}
+
+-- what broke off in a frame has sent less than its play sends
+pub sent_less : {E R : Type 0} {dialog : Dialog E R} {before : Position} {talk : Talk} {shown : List (Event E)}
+    → BreaksSending dialog before talk shown
+    → length (sent talk) < length (bytes_sent (played_over dialog before talk).events)
+sent_less {dialog = dialog} {before = before} {talk = talk} f =
+    let all : bytes_sent (played_over dialog before talk).events
+    ≡ bytes_sent f.whole ++ ((f.part ++ f.unsent) ++ bytes_sent f.later) =
+    ap bytes_sent f.events_are ∙ bytes_append f.whole (Frame (f.part ++ f.unsent) ∷ f.later) in
+    let some : sent talk ≡ bytes_sent f.whole ++ (f.part ++ []) =
+    sym f.all_sent ∙ (ap bytes_sent f.shown_is ∙ bytes_append f.whole (Frame f.part ∷ [])) in
+    rw (all, some)
+    (omega (
+      arith,
+      f.not_whole,
+      length-append (bytes_sent f.whole) (f.part ++ []),
+      length-append f.part [],
+      length-append (bytes_sent f.whole) ((f.part ++ f.unsent) ++ bytes_sent f.later),
+      length-append (f.part ++ f.unsent) (bytes_sent f.later),
+      length-append f.part f.unsent,
+    ))
+
+-- so it doesn't listen
+pub never_both : {E R : Type 0} {dialog : Dialog E R} {before : Position} {talk : Talk} {some others : List (Event E)}
+    → BreaksSending dialog before talk some → BreaksListening dialog before talk others → ⊥
+never_both f g =
+    let less = sent_less f in
+    let all = ap length (sym g.all_sent ∙ ap bytes_sent g.shown_is) in
+    omega (arith, less, all)
+
+-- a link by what passed over it
+abbrev showing : Talk → LinkView
+showing talk = record { talk = talk; failures = 0 }
+
+-- nor does a call over it
+pub never_either : {R : Type 0} (dialog : Dialog ⊥ R) (before : Position) (talk : Talk)
+    → FailsOver broken.Send dialog before (showing []) (showing talk)
+    → FailsOver broken.Recv dialog before (showing []) (showing talk) → ⊥
+never_either dialog before talk f g =
+    never_both
+    (subst (λ t. BreaksSending dialog before t f.shown) (sym f.grows) f.breaks)
+    (subst (λ t. BreaksListening dialog before t g.shown) (sym g.grows) g.breaks)
+
+abbrev sixth : Position
+sixth = position 6 []
+
+abbrev leaving : List ℕ
+leaving = 0x1B ∷ 0x06 ∷ 0x00 ∷ 0x03 ∷ 0x0E ∷ 0x11 ∷ 0x01 ∷ 0x01 ∷ 0x01 ∷ []
+
+-- the frame was sent, and its answer not heard
+pub unheard : EndsCall closing sixth (showing []) (showing (Sent leaving ∷ [])) (Err RecvFailed) sixth
+unfolding exchange attempt tries answer closing
+unheard = record {
+  during = Sent leaving ∷ [];
+  shown = Frame leaving ∷ [];
+  grows = refl;
+  breaks = record { waits = refl; shown_is = refl; all_sent = refl; in_turn = tt };
+}
+
+-- which is no failure to send it
+pub not_unsent : (after : Position) → EndsCall closing sixth (showing []) (showing (Sent leaving ∷ [])) (Err SendFailed)
+    after → ⊥
+not_unsent after f = never_either closing sixth (Sent leaving ∷ []) f unheard
+
+-- two bytes of it were sent
+pub unsent : EndsCall closing sixth (showing []) (showing (Sent (0x1B ∷ 0x06 ∷ []) ∷ [])) (Err SendFailed) sixth
+unfolding exchange attempt tries answer closing
+unsent = record {
+  during = Sent (0x1B ∷ 0x06 ∷ []) ∷ [];
+  shown = Frame (0x1B ∷ 0x06 ∷ []) ∷ [];
+  grows = refl;
+  breaks = record {
+    whole = [];
+    part = 0x1B ∷ 0x06 ∷ [];
+    unsent = 0x00 ∷ 0x03 ∷ 0x0E ∷ 0x11 ∷ 0x01 ∷ 0x01 ∷ 0x01 ∷ [];
+    later = [];
+    shown_is = refl;
+    events_are = refl;
+    not_whole = omega arith;
+    all_sent = refl;
+    in_turn = tt;
+  };
+}
+
+-- which is no failure to hear its answer
+pub not_unheard : (after : Position) → EndsCall closing sixth (showing []) (showing (Sent (0x1B ∷ 0x06 ∷ []) ∷ []))
+    (Err RecvFailed) after → ⊥
+not_unheard after f = never_either closing sixth (Sent (0x1B ∷ 0x06 ∷ []) ∷ []) unsent f
+
+-- nothing was sent at all, and nothing heard
+pub unsent_at_all : EndsCall closing sixth (showing []) (showing []) (Err SendFailed) sixth
+unfolding exchange attempt tries answer closing
+unsent_at_all = record {
+  during = [];
+  shown = Frame [] ∷ [];
+  grows = refl;
+  breaks = record {
+    whole = [];
+    part = [];
+    unsent = leaving;
+    later = [];
+    shown_is = refl;
+    events_are = refl;
+    not_whole =
+        omega arith;
+    all_sent = refl;
+    in_turn = tt;
+  };
+}
+
+pub not_unasked : (after : Position) → EndsCall closing sixth (showing []) (showing []) (Err RecvFailed) after → ⊥
+not_unasked after f = never_either closing sixth [] unsent_at_all f
+
+-- who listens before the frame is sent whole isn't in turn
+pub not_early : InTurn closing sixth (Sent (0x1B ∷ 0x06 ∷ []) ∷ (Got (Silence ∷ []) ∷ [])) → ⊥
+unfolding exchange attempt tries answer closing
+not_early in_turn = let all : leaving ≡ 0x1B ∷ 0x06 ∷ [] = in_turn.0.all_sent in absurd (cc)

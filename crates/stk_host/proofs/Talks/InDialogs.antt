@@ -1,0 +1,416 @@
+-- How a talk goes on in a dialog: laws over talks alone.
+use Rattle.std.proofs.Common.{◌≡◌, ℕ, ◌<◌, List, [], ◌∷◌, ◌++◌, length, refl, sym, ap, ◌∙◌, subst, append_assoc, Option, Some, None}
+use Rattle.std.proofs.lemmas.List.{append-nil}
+use Rattle.stk_frame.specs.Frame.{frame}
+use Rattle.stk_host.specs.declared.fault.Broken.{Broken}
+use Rattle.stk_host.specs.declared.fault.Broken.TheVariants as broken
+use Rattle.stk_host.specs.Tape.{Tape, Reading, on_tape, answer}
+use Rattle.stk_host.specs.Talk.{Talk, Sent, Got, sent, heard}
+use Rattle.stk_host.specs.Dialog.{Dialog, Done, Say, Ask, ◌>>=◌, Event, Frame, Said, Played, played, behind, by_answer, next, bytes_sent}
+use Rattle.stk_host.specs.Play.{Position, position, IsDue, TurnsFrom, InTurn, played_over, Plays, Breaks, BreaksSending, BreaksListening, BreaksBy, IsPrefixOfEvents, IsBegun}
+use Rattle.stk_host.specs.Reach.{TalkLeads, IsQuiet, WaitsFrom}
+use Rattle.stk_host.proofs.Talks.Laws.{sent_append, heard_append, heard_both, heard_quiet, sent_waiting}
+
+-- plays
+
+abbrev pub continued : {E A B : Type 0} → Option (A × ℕ × Tape) → (A → ℕ → Tape → Played E B) → Played E B
+continued None go_on = record { events = []; outcome = None }
+continued (Some (a, seq, tape)) go_on = go_on a seq tape
+
+-- a play, and then the play from its result
+abbrev pub followed : {E A B : Type 0} → Played E A → (A → ℕ → Tape → Played E B) → Played E B
+followed p go_on = behind p.events (continued p.outcome go_on)
+
+pub played_bind : {E A B : Type 0} (dialog : Dialog E A) (go_on : A → Dialog E B) (seq : ℕ) (tape : Tape)
+    → played (dialog >>= go_on) seq tape ≡ followed (played dialog seq tape) (λ a. played (go_on a))
+played_bind (Done a) go_on seq tape = refl
+played_bind (Say e dialog) go_on seq tape = ap (behind (Said e ∷ [])) (played_bind dialog go_on seq tape)
+played_bind (Ask body answered) go_on seq tape =
+    ap (behind (Frame (frame seq body) ∷ []))
+    (elim (answer seq tape) as (λ o. by_answer (λ r. played (answered r >>= go_on) (next seq)) o
+    ≡ followed (by_answer (λ r. played (answered r) (next seq)) o) (λ a. played (go_on a))) [
+      | None ↦ refl
+      | Some got ↦ played_bind (answered got.0) go_on (next seq) got.1
+    ])
+
+pub bytes_append : {E : Type 0} (x y : List (Event E)) → bytes_sent (x ++ y) ≡ bytes_sent x ++ bytes_sent y
+bytes_append [] y = refl
+bytes_append (Frame bytes ∷ x) y = ap (λ bs. bytes ++ bs) (bytes_append x y)
+    ∙ sym (append_assoc bytes (bytes_sent x) (bytes_sent y))
+bytes_append (Said e ∷ x) y = bytes_append x y
+
+behind_behind : {E R : Type 0} (x y : List (Event E)) (p : Played E R) → behind x (behind y p) ≡ behind (x ++ y) p
+behind_behind x y p = ap (λ es. record { events = es; outcome = p.outcome }) (sym (append_assoc x y p.events))
+
+followed_behind : {E A B : Type 0} (events : List (Event E)) (p : Played E A) (go_on : A → ℕ → Tape → Played E B)
+    → followed (behind events p) go_on ≡ behind events (followed p go_on)
+followed_behind events p go_on = sym (behind_behind events p.events (continued p.outcome go_on))
+
+-- turns
+
+turns_quiet : {E R : Type 0} (dialog : Dialog E R) (seq : ℕ) (tape : Tape) (bytes : List ℕ) (talk : Talk) → IsQuiet talk
+    → TurnsFrom dialog seq tape bytes talk
+turns_quiet dialog seq tape bytes [] quiet = tt
+turns_quiet dialog seq tape bytes (Sent more ∷ talk) quiet = turns_quiet dialog seq tape (bytes ++ more) talk quiet
+turns_quiet dialog seq tape bytes (Got items ∷ talk) quiet = absurd quiet
+
+-- one talk after another
+pub turns_append : {E R : Type 0} (dialog : Dialog E R) (seq : ℕ) (tape : Tape) (bytes : List ℕ) (x y : Talk)
+    → TurnsFrom dialog seq tape bytes x → TurnsFrom dialog seq (tape ++ heard x) (bytes ++ sent x) y
+    → TurnsFrom dialog seq tape bytes (x ++ y)
+turns_append dialog seq tape bytes [] y f g =
+    subst (λ t. TurnsFrom dialog seq t bytes y) (append-nil tape)
+    (subst (λ s. TurnsFrom dialog seq (tape ++ []) s y) (append-nil bytes) g)
+turns_append dialog seq tape bytes (Sent more ∷ x) y f g =
+    turns_append dialog seq tape (bytes ++ more) x y f
+    (subst (λ s. TurnsFrom dialog seq (tape ++ heard x) s y) (sym (append_assoc bytes more (sent x))) g)
+turns_append dialog seq tape bytes (Got items ∷ x) y f g = (
+  f.0,
+  turns_append dialog seq (tape ++ items) bytes x y f.1
+      (subst (λ t. TurnsFrom dialog seq t (bytes ++ sent x) y) (sym (append_assoc tape items (heard x))) g),
+)
+
+-- where the one is due whenever the other is
+module _ {E F A B : Type 0} (dialog : Dialog E A) (inner : Dialog F B) (m n : ℕ) (tape inner_tape : Tape)
+    (before : List ℕ)
+    (due : (x : Tape) (bytes : List ℕ) → IsDue inner n (inner_tape ++ x) bytes
+    → IsDue dialog m (tape ++ x) (before ++ bytes)) where
+  turns_lift : (x : Tape) (bytes : List ℕ) (talk : Talk) → TurnsFrom inner n (inner_tape ++ x) bytes talk
+      → TurnsFrom dialog m (tape ++ x) (before ++ bytes) talk
+  turns_lift x bytes [] f = tt
+  turns_lift x bytes (Sent more ∷ talk) f =
+      subst (λ s. TurnsFrom dialog m (tape ++ x) s talk) (sym (append_assoc before bytes more))
+      (turns_lift x (bytes ++ more) talk f)
+  turns_lift x bytes (Got items ∷ talk) f = (
+    due x bytes f.0,
+    subst (λ t. TurnsFrom dialog m t (before ++ bytes) talk) (sym (append_assoc tape x items))
+        (turns_lift (x ++ items) bytes talk
+        (subst (λ t. TurnsFrom inner n t bytes talk) (append_assoc inner_tape x items) f.1)),
+  )
+
+  -- the same from the start
+  pub turns_behind : (talk : Talk) → TurnsFrom inner n inner_tape [] talk → TurnsFrom dialog m tape before talk
+  turns_behind talk f =
+      subst (λ t. TurnsFrom dialog m t before talk) (append-nil tape)
+      (subst (λ s. TurnsFrom dialog m (tape ++ []) s talk) (append-nil before)
+      (turns_lift [] [] talk (subst (λ t. TurnsFrom inner n t [] talk) (sym (append-nil inner_tape)) f)))
+
+-- a play that waits, whatever follows its dialog
+waits_bind : {E A B : Type 0} (dialog : Dialog E A) (go_on : A → Dialog E B) (seq : ℕ) (x : Tape)
+    → (played dialog seq x).outcome ≡ None
+    → played (dialog >>= go_on) seq x ≡ record { events = (played dialog seq x).events; outcome = None }
+waits_bind dialog go_on seq x waits =
+    played_bind dialog go_on seq x
+    ∙ (ap (λ o. behind (played dialog seq x).events (continued o (λ a. played (go_on a)))) waits
+    ∙ ap (λ es. record { events = es; outcome = None }) (append-nil (played dialog seq x).events))
+
+due_bind : {E A B : Type 0} (dialog : Dialog E A) (go_on : A → Dialog E B) (seq : ℕ) (x : Tape) (bytes : List ℕ)
+    → IsDue dialog seq x bytes → IsDue (dialog >>= go_on) seq x bytes
+due_bind dialog go_on seq x bytes due =
+    let e = waits_bind dialog go_on seq x due.waits in
+    record {
+      waits = ap (λ p. p.outcome) e;
+      all_sent = ap (λ p. bytes_sent p.events) e ∙ due.all_sent;
+    }
+
+turns_bind : {E A B : Type 0} (dialog : Dialog E A) (go_on : A → Dialog E B) (m : Position) (talk : Talk)
+    → InTurn dialog m talk → InTurn (dialog >>= go_on) m talk
+turns_bind dialog go_on m talk f =
+    turns_behind (dialog >>= go_on) dialog m.next m.next (on_tape m.unread) (on_tape m.unread) []
+    (λ x bytes. due_bind dialog go_on m.next (on_tape m.unread ++ x) bytes) talk f
+
+-- while the answer is awaited it is in turn to listen
+due_asking : {E R : Type 0} (body : List ℕ) (answered : Reading → Dialog E R) (seq : ℕ) (tape : Tape)
+    → answer seq tape ≡ None → IsDue (Ask body answered) seq tape (frame seq body)
+due_asking body answered seq tape none = record {
+  waits = ap (λ o. (by_answer (λ r. played (answered r) (next seq)) o).outcome) none;
+  all_sent = ap (λ o. frame seq body ++ bytes_sent (by_answer (λ r. played (answered r) (next seq)) o).events) none
+      ∙ append-nil (frame seq body);
+}
+
+turns_waiting : {E R : Type 0} (body : List ℕ) (answered : Reading → Dialog E R) (seq : ℕ) (tape : Tape) (talk : Talk)
+    → WaitsFrom seq tape talk → TurnsFrom (Ask body answered) seq tape (frame seq body) talk
+turns_waiting body answered seq tape [] waits = tt
+turns_waiting body answered seq tape (Sent bytes ∷ talk) waits = absurd waits
+turns_waiting body answered seq tape (Got items ∷ talk) waits =
+    (due_asking body answered seq tape waits.0, turns_waiting body answered seq (tape ++ items) talk waits.1)
+
+-- a frame was sent whole, and its answer awaited
+turns_asking : {E R : Type 0} (body : List ℕ) (answered : Reading → Dialog E R) (seq : ℕ) (u : List ℕ) (x y : Talk)
+    → IsQuiet x → sent x ≡ frame seq body → WaitsFrom seq (on_tape u) y
+    → InTurn (Ask body answered) (position seq u) (x ++ y)
+turns_asking body answered seq u x y quiet is waits =
+    turns_append (Ask body answered) seq (on_tape u) [] x y (turns_quiet (Ask body answered) seq (on_tape u) [] x quiet)
+    (subst (λ t. TurnsFrom (Ask body answered) seq t (sent x) y)
+    (sym (append-nil (on_tape u)) ∙ ap (λ t. on_tape u ++ t) (sym (heard_quiet x quiet)))
+    (subst (λ bs. TurnsFrom (Ask body answered) seq (on_tape u) bs y) (sym is)
+    (turns_waiting body answered seq (on_tape u) y waits)))
+
+-- prefixes of events
+
+begun_more : {E : Type 0} (SaidPart : E → E → Type 0) (begun later more : List (Event E)) → IsBegun SaidPart begun later
+    → IsBegun SaidPart begun (later ++ more)
+begun_more SaidPart [] later more part = tt
+begun_more SaidPart (e ∷ []) [] more part = absurd part
+begun_more SaidPart (e ∷ []) (x ∷ later) more part = part
+begun_more SaidPart (e ∷ f ∷ begun) later more part = absurd part
+
+-- a prefix of the events is one where more follow
+pub prefix_more : {E : Type 0} (SaidPart : E → E → Type 0) {shown events : List (Event E)} (more : List (Event E))
+    → IsPrefixOfEvents SaidPart shown events → IsPrefixOfEvents SaidPart shown (events ++ more)
+prefix_more SaidPart more f = record {
+  whole = f.whole;
+  begun = f.begun;
+  later = f.later ++ more;
+  shown_is = f.shown_is;
+  events_are = ap (λ es. es ++ more) f.events_are ∙ append_assoc f.whole f.later more;
+  part = begun_more SaidPart f.begun f.later more f.part;
+}
+
+-- and one after others that happened whole
+pub prefix_behind : {E : Type 0} (SaidPart : E → E → Type 0) {shown events : List (Event E)} (before : List (Event E))
+    → IsPrefixOfEvents SaidPart shown events → IsPrefixOfEvents SaidPart (before ++ shown) (before ++ events)
+prefix_behind SaidPart before f = record {
+  whole = before ++ f.whole;
+  begun = f.begun;
+  later = f.later;
+  shown_is = ap (λ es. before ++ es) f.shown_is ∙ sym (append_assoc before f.whole f.begun);
+  events_are = ap (λ es. before ++ es) f.events_are ∙ sym (append_assoc before f.whole f.later);
+  part = f.part;
+}
+
+-- leading
+
+pub leads_here : {E R : Type 0} (dialog : Dialog E R) (m : Position) → TalkLeads dialog m [] [] dialog m
+leads_here dialog m = record { goes_on = λ more. refl; all_sent = refl; in_turn = tt }
+
+-- after a talk that leads on
+module _ {E R : Type 0} {a b : Dialog E R} {m n : Position} {x : Talk} {events : List (Event E)}
+    (f : TalkLeads a m x events b n) where
+  -- what is due there
+  due_behind : (tape : Tape) (bytes : List ℕ) → IsDue b n.next (on_tape n.unread ++ tape) bytes
+      → IsDue a m.next ((on_tape m.unread ++ heard x) ++ tape) (sent x ++ bytes)
+  due_behind tape bytes due =
+      let e : played a m.next ((on_tape m.unread ++ heard x) ++ tape)
+      ≡ behind events (played b n.next (on_tape n.unread ++ tape)) =
+      ap (played a m.next) (append_assoc (on_tape m.unread) (heard x) tape) ∙ f.goes_on tape in
+      record {
+        waits = ap (λ p. p.outcome) e ∙ due.waits;
+        all_sent =
+            ap (λ p. bytes_sent p.events) e
+            ∙ (bytes_append events (played b n.next (on_tape n.unread ++ tape)).events
+            ∙ (ap (λ bs. bs ++ bytes_sent (played b n.next (on_tape n.unread ++ tape)).events) f.all_sent
+            ∙ ap (λ bs. sent x ++ bs) due.all_sent));
+      }
+
+  -- what is played over both talks, what they send, and that both listen in turn
+  led : (y : Talk) → played_over a m (x ++ y) ≡ behind events (played_over b n y)
+  led y = ap (λ t. played a m.next (on_tape m.unread ++ t)) (heard_append x y) ∙ f.goes_on (heard y)
+
+  led_bytes : (y : Talk) (later : List (Event E)) → bytes_sent later ≡ sent y
+      → bytes_sent (events ++ later) ≡ sent (x ++ y)
+  led_bytes y later is =
+      bytes_append events later ∙ (ap (λ bs. bs ++ bytes_sent later) f.all_sent
+      ∙ (ap (λ bs. sent x ++ bs) is ∙ sym (sent_append x y)))
+
+  led_turns : (y : Talk) → InTurn b n y → InTurn a m (x ++ y)
+  led_turns y in_turn =
+      turns_append a m.next (on_tape m.unread) [] x y f.in_turn
+      (turns_behind a b m.next n.next (on_tape m.unread ++ heard x) (on_tape n.unread) (sent x) due_behind y in_turn)
+
+  pub leads_on : {c : Dialog E R} {l : Position} {y : Talk} {ys : List (Event E)}
+      → TalkLeads b n y ys c l → TalkLeads a m (x ++ y) (events ++ ys) c l
+  leads_on {c = c} {l = l} {y = y} {ys = ys} g = record {
+    goes_on = λ more.
+        ap (played a m.next) (heard_both (on_tape m.unread) x y more)
+        ∙ (f.goes_on (heard y ++ more)
+        ∙ (ap (behind events) (g.goes_on more)
+        ∙ behind_behind events ys (played c l.next (on_tape l.unread ++ more))));
+    all_sent = led_bytes y ys g.all_sent;
+    in_turn = led_turns y g.in_turn;
+  }
+
+  pub by_on : (by : Broken) (y : Talk) (shown : List (Event E)) → BreaksBy by b n y shown
+      → BreaksBy by a m (x ++ y) (events ++ shown)
+  by_on broken.Send y shown g = record {
+    whole = events ++ g.whole;
+    part = g.part;
+    unsent = g.unsent;
+    later = g.later;
+    shown_is = ap (λ es. events ++ es) g.shown_is ∙ sym (append_assoc events g.whole (Frame g.part ∷ []));
+    events_are =
+        ap (λ p. p.events) (led y)
+        ∙ (ap (λ es. events ++ es) g.events_are ∙ sym
+        (append_assoc events g.whole (Frame (g.part ++ g.unsent) ∷ g.later)));
+    not_whole = g.not_whole;
+    all_sent = led_bytes y shown g.all_sent;
+    in_turn = led_turns y g.in_turn;
+  }
+  by_on broken.Recv y shown g = record {
+    waits = ap (λ p. p.outcome) (led y) ∙ g.waits;
+    shown_is = ap (λ es. events ++ es) g.shown_is ∙ sym (ap (λ p. p.events) (led y));
+    all_sent = led_bytes y shown g.all_sent;
+    in_turn = led_turns y g.in_turn;
+  }
+
+pub leads_bind : {E A B : Type 0} {a b : Dialog E A} {m n : Position} {talk : Talk} {events : List (Event E)}
+    (go_on : A → Dialog E B)
+    → TalkLeads a m talk events b n → TalkLeads (a >>= go_on) m talk events (b >>= go_on) n
+leads_bind {a = a} {b = b} {m = m} {n = n} {talk = talk} {events = events} go_on f = record {
+  goes_on = λ more.
+      played_bind a go_on m.next (on_tape m.unread ++ (heard talk ++ more))
+      ∙ (ap (λ q. followed q (λ r. played (go_on r))) (f.goes_on more)
+      ∙ (followed_behind events (played b n.next (on_tape n.unread ++ more)) (λ r. played (go_on r))
+      ∙ ap (behind events) (sym (played_bind b go_on n.next (on_tape n.unread ++ more)))));
+  all_sent = f.all_sent;
+  in_turn = turns_bind a go_on m talk f.in_turn;
+}
+
+-- something is said beside the line
+pub leads_say : {E R : Type 0} (e : E) (dialog : Dialog E R) (m : Position)
+    → TalkLeads (Say e dialog) m [] (Said e ∷ []) dialog m
+leads_say e dialog m = record { goes_on = λ more. refl; all_sent = refl; in_turn = tt }
+
+-- a command is sent and its answer read
+pub leads_ask : {E R : Type 0} (body : List ℕ) (answered : Reading → Dialog E R) (seq : ℕ) (u v : List ℕ) (x y : Talk)
+    (reading : Reading)
+    → IsQuiet x → sent x ≡ frame seq body → WaitsFrom seq (on_tape u) y
+    → ((more : Tape) → answer seq (on_tape u ++ (heard y ++ more)) ≡ Some (reading, on_tape v ++ more))
+    → TalkLeads (Ask body answered) (position seq u) (x ++ y) (Frame (frame seq body) ∷ []) (answered reading)
+    (position (next seq) v)
+leads_ask body answered seq u v x y reading quiet is waits answers = record {
+  goes_on = λ more.
+      ap (played (Ask body answered) seq) (heard_both (on_tape u) x y more
+      ∙ ap (λ t. on_tape u ++ (t ++ (heard y ++ more))) (heard_quiet x quiet))
+      ∙ ap (λ o. behind (Frame (frame seq body) ∷ []) (by_answer (λ r. played (answered r) (next seq)) o))
+      (answers more);
+  all_sent = append-nil (frame seq body) ∙
+      (sym is ∙ (sym (append-nil (sent x)) ∙ (ap (λ bs. sent x ++ bs) (sym (sent_waiting seq (on_tape u) y waits))
+      ∙ sym (sent_append x y))));
+  in_turn = turns_asking body answered seq u x y quiet is waits;
+}
+
+-- a result was reached
+pub plays_from : {E R : Type 0} {a : Dialog E R} {m n : Position} {talk : Talk} {events : List (Event E)} {result : R}
+    → TalkLeads a m talk events (Done result) n → Plays a m talk events result n
+plays_from {n = n} {events = events} {result = result} f = record {
+  plays = λ more. f.goes_on more ∙ ap (λ es. record
+      { events = es; outcome = Some (result, n.next, on_tape n.unread ++ more) }) (append-nil events);
+  all_sent = f.all_sent;
+  in_turn = f.in_turn;
+}
+
+pub leads_from : {E R : Type 0} {a : Dialog E R} {m n : Position} {talk : Talk} {events : List (Event E)} {result : R}
+    → Plays a m talk events result n → TalkLeads a m talk events (Done result) n
+leads_from {n = n} {events = events} {result = result} f = record {
+  goes_on = λ more. f.plays more ∙ ap (λ es. record
+      { events = es; outcome = Some (result, n.next, on_tape n.unread ++ more) }) (sym (append-nil events));
+  all_sent = f.all_sent;
+  in_turn = f.in_turn;
+}
+
+-- breaking off
+
+pub breaks_on : {E R : Type 0} (SaidPart : E → E → Type 0) {a b : Dialog E R} {m n : Position} {x y : Talk}
+    {events shown : List (Event E)}
+    → TalkLeads a m x events b n → Breaks SaidPart b n y shown → Breaks SaidPart a m (x ++ y) (events ++ shown)
+breaks_on SaidPart {y = y} {events = events} {shown = shown} f g = record {
+  prefix = subst (λ p. IsPrefixOfEvents SaidPart (events ++ shown) p.events) (sym (led f y))
+      (prefix_behind SaidPart events g.prefix);
+  all_sent = led_bytes f y shown g.all_sent;
+  in_turn = led_turns f y g.in_turn;
+}
+
+pub breaks_bind : {E A B : Type 0} (SaidPart : E → E → Type 0) {a : Dialog E A} {m : Position} {talk : Talk}
+    {shown : List (Event E)} (go_on : A → Dialog E B)
+    → Breaks SaidPart a m talk shown → Breaks SaidPart (a >>= go_on) m talk shown
+breaks_bind SaidPart {a = a} {m = m} {talk = talk} {shown = shown} go_on f = record {
+  prefix =
+      let p = played_over a m talk in
+      subst (λ q. IsPrefixOfEvents SaidPart shown q.events)
+      (sym (played_bind a go_on m.next (on_tape m.unread ++ heard talk)))
+      (prefix_more SaidPart (continued p.outcome (λ r. played (go_on r))).events f.prefix);
+  all_sent = f.all_sent;
+  in_turn = turns_bind a go_on m talk f.in_turn;
+}
+
+-- nothing of the dialog has happened
+pub breaks_here : {E R : Type 0} (SaidPart : E → E → Type 0) (dialog : Dialog E R) (m : Position)
+    → Breaks SaidPart dialog m [] []
+breaks_here SaidPart dialog m = record {
+  prefix = record {
+    whole = [];
+    begun = [];
+    later = (played_over dialog m []).events;
+    shown_is = refl;
+    events_are = refl;
+    part = tt;
+  };
+  all_sent = refl;
+  in_turn = tt;
+}
+
+pub by_bind : {E A B : Type 0} (by : Broken) (a : Dialog E A) (m : Position) (talk : Talk) (shown : List (Event E))
+    (go_on : A → Dialog E B)
+    → BreaksBy by a m talk shown → BreaksBy by (a >>= go_on) m talk shown
+by_bind broken.Send a m talk shown go_on f =
+    let p = played_over a m talk in
+    let more = (continued p.outcome (λ r. played (go_on r))).events in
+    record {
+      whole = f.whole;
+      part = f.part;
+      unsent = f.unsent;
+      later = f.later ++ more;
+      shown_is = f.shown_is;
+      events_are =
+          ap (λ q. q.events) (played_bind a go_on m.next (on_tape m.unread ++ heard talk))
+          ∙ (ap (λ es. es ++ more) f.events_are ∙ append_assoc f.whole (Frame (f.part ++ f.unsent) ∷ f.later) more);
+      not_whole = f.not_whole;
+      all_sent = f.all_sent;
+      in_turn = turns_bind a go_on m talk f.in_turn;
+    }
+by_bind broken.Recv a m talk shown go_on f =
+    let e = waits_bind a go_on m.next (on_tape m.unread ++ heard talk) f.waits in
+    record {
+      waits = ap (λ p. p.outcome) e;
+      shown_is = f.shown_is ∙ sym (ap (λ p. p.events) e);
+      all_sent = f.all_sent;
+      in_turn = turns_bind a go_on m talk f.in_turn;
+    }
+
+-- a part of a frame was sent
+pub breaks_asking : {E R : Type 0} (body : List ℕ) (answered : Reading → Dialog E R) (seq : ℕ) (u part unsent : List ℕ)
+    (x : Talk)
+    → IsQuiet x → sent x ≡ part → frame seq body ≡ part ++ unsent → 0 < length unsent
+    → BreaksSending (Ask body answered) (position seq u) x (Frame part ∷ [])
+breaks_asking body answered seq u part unsent x quiet is frame_is not_whole =
+    let later = (by_answer (λ r. played (answered r) (next seq)) (answer seq (on_tape u ++ heard x))).events in
+    record {
+      whole = [];
+      part = part;
+      unsent = unsent;
+      later = later;
+      shown_is = refl;
+      events_are = ap (λ bs. Frame bs ∷ later) frame_is;
+      not_whole = not_whole;
+      all_sent = append-nil part ∙ sym is;
+      in_turn = turns_quiet (Ask body answered) seq (on_tape u) [] x quiet;
+    }
+
+-- a frame was sent, and listening broke off
+pub breaks_listening : {E R : Type 0} (body : List ℕ) (answered : Reading → Dialog E R) (seq : ℕ) (u : List ℕ)
+    (x y : Talk)
+    → IsQuiet x → sent x ≡ frame seq body → WaitsFrom seq (on_tape u) y → answer seq (on_tape u ++ heard y) ≡ None
+    → BreaksListening (Ask body answered) (position seq u) (x ++ y) (Frame (frame seq body) ∷ [])
+breaks_listening body answered seq u x y quiet is waits none =
+    let all : heard (x ++ y) ≡ heard y = heard_append x y ∙ ap (λ t. t ++ heard y) (heard_quiet x quiet) in
+    let unheard : answer seq (on_tape u ++ heard (x ++ y)) ≡ None = ap (λ t. answer seq (on_tape u ++ t)) all ∙ none in
+    record {
+      waits = ap (λ o. (by_answer (λ r. played (answered r) (next seq)) o).outcome) unheard;
+      shown_is = ap (λ o. Frame (frame seq body) ∷ (by_answer (λ r. played (answered r) (next seq)) o).events)
+          (sym unheard);
+      all_sent = append-nil (frame seq body) ∙
+          (sym is ∙ (sym (append-nil (sent x)) ∙ (ap (λ bs. sent x ++ bs) (sym (sent_waiting seq (on_tape u) y waits))
+          ∙ sym (sent_append x y))));
+      in_turn = turns_asking body answered seq u x y quiet is waits;
+    }

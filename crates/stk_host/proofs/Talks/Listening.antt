@@ -1,0 +1,239 @@
+-- Listening for an answer, as the code takes it turn by turn.
+use Rattle.std.proofs.Common.{◌≡◌, ℕ, ◌+◌, ◌<◌, ◌≤◌, List, [], ◌∷◌, ◌++◌, length, refl, sym, ap, ◌∙◌, subst, append_assoc, arith, length-append, Some, None, true}
+use Rattle.std.proofs.lemmas.List.{append-nil, length-map, nil_from_length}
+use Rattle.stk_frame.specs.declared.reader.Event.{Event}
+use Rattle.stk_frame.specs.declared.reader.Event.TheVariants as event
+use Rattle.stk_frame.specs.Cut.{cut, rest, body_of}
+use Rattle.stk_frame.specs.Reader.{Fed, HoldsFrame, Stands, frames_of_event}
+use Rattle.stk_frame.proofs.FedReaders.{rest_whole}
+use Rattle.stk_host.specs.declared.link.Heard.{Heard}
+use Rattle.stk_host.specs.declared.link.Heard.TheVariants as heard
+use Rattle.stk_host.specs.declared.link.Item.{Item}
+use Rattle.stk_host.specs.declared.link.Item.TheVariants.{Byte, Silence, End}
+use Rattle.stk_host.specs.Tape.{Tape, Reading, on_tape, answer, first_answer, is_answer, limit, Answered, Silent, Ended, Babbled}
+use Rattle.stk_host.specs.Talk.{Talk, LinkView, Got, heard as heard_in, Grows}
+use Rattle.stk_host.specs.Reach.{WaitsFrom, Hears, HearsNone}
+use Rattle.stk_host.specs.Calls.{HearsPiece}
+use Rattle.stk_host.proofs.Tapes.Answers.{on_tape_append, answer_silent, answer_ended, answer_waits, answer_babbled, answer_found, still_none, now_found}
+use Rattle.stk_host.proofs.Talks.Laws.{heard_append, heard_both, grows_none, grows_on, waits_append}
+
+-- An answer is listened for: so many bytes of a text were read, no answer is in them, a reader holds what is left of
+-- them, and after them come the bytes that are still unread.
+pub record Listening (seq : ℕ) (unread : List ℕ) (old : LinkView) (held : List ℕ) (count : ℕ) (left : List ℕ)
+    (new : LinkView) : Type 0 where
+  pub text : List ℕ
+  pub stands : Stands held text
+  pub counted : length text ≡ count
+  pub few : count + length left ≤ limit
+  pub no_answer : first_answer seq (cut text) ≡ None
+  pub during : Talk
+  pub grows : Grows old.talk during new.talk
+  pub waits : WaitsFrom seq (on_tape unread) during
+  pub all_heard : on_tape unread ++ heard_in during ≡ on_tape (text ++ left)
+
+pub begins : (seq : ℕ) (u : List ℕ) (o : LinkView) → length u ≤ limit → Listening seq u o [] 0 u o
+begins seq u o few = record {
+  text = [];
+  stands = refl;
+  counted = refl;
+  few = omega (arith, few);
+  no_answer = refl;
+  during = [];
+  grows = grows_none o.talk;
+  waits = tt;
+  all_heard = append-nil (on_tape u);
+}
+
+-- the unread bytes that a turn of reading took
+abbrev pub ReadOn : List ℕ → List ℕ → ℕ → List ℕ → List ℕ → Event → Type 0
+ReadOn left new_left n held new what = (used : List ℕ) × (length used ≡ n) × (left ≡ used ++ new_left)
+    × Fed held used new (frames_of_event what new)
+
+-- laws of a listening
+module _ {seq : ℕ} {u : List ℕ} {o : LinkView} where
+  -- where nothing is unread, the answer isn't there yet
+  not_yet : {held : List ℕ} {count : ℕ} {p : LinkView}
+      (l : Listening seq u o held count [] p)
+      → count < limit → answer seq (on_tape u ++ heard_in l.during) ≡ None
+  not_yet l few = ap (answer seq) (l.all_heard ∙ ap on_tape (append-nil l.text))
+      ∙ answer_waits seq l.text l.no_answer (omega (arith, l.counted))
+
+  -- and one more piece may be heard
+  waits_more : {held : List ℕ} {count : ℕ} {p : LinkView}
+      (l : Listening seq u o held count [] p) (items : Tape)
+      → count < limit → WaitsFrom seq (on_tape u) (l.during ++ Got items ∷ [])
+  waits_more l items few =
+      waits_append seq (on_tape u) l.during (Got items ∷ []) l.waits (not_yet l few, tt)
+
+  hears_bytes : {held : List ℕ} {count : ℕ} {p q : LinkView} (bytes : List ℕ)
+      → Listening seq u o held count [] p → count < limit → count + length bytes ≤ limit
+      → Grows p.talk (Got (on_tape bytes) ∷ []) q.talk → Listening seq u o held count bytes q
+  hears_bytes {p = p} {q = q} bytes l few most g = record {
+    text = l.text;
+    stands = l.stands;
+    counted = l.counted;
+    few = most;
+    no_answer = l.no_answer;
+    during = l.during ++ Got (on_tape bytes) ∷ [];
+    grows = grows_on o.talk p.talk q.talk l.during (Got (on_tape bytes) ∷ []) l.grows g;
+    waits = waits_more l (on_tape bytes) few;
+    all_heard =
+        ap (λ t. on_tape u ++ t) (heard_append l.during (Got (on_tape bytes) ∷ [])
+        ∙ ap (λ t. heard_in l.during ++ t) (append-nil (on_tape bytes)))
+        ∙ (sym (append_assoc (on_tape u) (heard_in l.during) (on_tape bytes))
+        ∙ (ap (λ t. t ++ on_tape bytes) (l.all_heard ∙ ap on_tape (append-nil l.text))
+        ∙ sym (on_tape_append l.text bytes)));
+  }
+
+  -- how much was heard
+  heard_count : {held : List ℕ} {count : ℕ} {left : List ℕ} {p : LinkView}
+      (l : Listening seq u o held count left p)
+      → length u + length (heard_in l.during) ≡ count + length left
+  heard_count {left = left} l =
+      let all : length (on_tape u ++ heard_in l.during) ≡ length (on_tape (l.text ++ left)) = ap length l.all_heard in
+      omega (
+        arith,
+        all,
+        length-append (on_tape u) (heard_in l.during),
+        length-map u Byte,
+        length-map (l.text ++ left) Byte,
+        length-append l.text left,
+        l.counted,
+      )
+
+  -- a silence or an end
+  stops : {held : List ℕ} {count : ℕ} {p q : LinkView} (item : Item)
+      (reading : Reading)
+      → (l : Listening seq u o held count [] p) → count < limit → Grows p.talk (Got (item ∷ []) ∷ []) q.talk
+      → ((more : Tape) → answer seq (on_tape l.text ++ item ∷ more) ≡ Some (reading, more)) → Hears seq u o q reading []
+  stops {p = p} {q = q} item reading l few g answers = record {
+    during = l.during ++ Got (item ∷ []) ∷ [];
+    grows = grows_on o.talk p.talk q.talk l.during (Got (item ∷ []) ∷ []) l.grows g;
+    waits = waits_more l (item ∷ []) few;
+    few = omega (
+      arith,
+      heard_count l,
+      few,
+      ap length (heard_append l.during (Got (item ∷ []) ∷ [])),
+      length-append (heard_in l.during) (item ∷ []),
+    );
+    answers = λ more.
+        ap (answer seq)
+        (heard_both (on_tape u) l.during (Got (item ∷ []) ∷ []) more
+        ∙ (sym (append_assoc (on_tape u) (heard_in l.during) (item ∷ more))
+        ∙ ap (λ t. t ++ item ∷ more) (l.all_heard ∙ ap on_tape (append-nil l.text))))
+        ∙ answers more;
+  }
+
+  none_left : {held : List ℕ} {count : ℕ} {left : List ℕ} {p : LinkView}
+      → Listening seq u o held count left p → length left ≡ 0 → Listening seq u o held count [] p
+  none_left {held = held} {count = count} {left = left} {p = p} l none =
+      subst (λ bs. Listening seq u o held count bs p) (nil_from_length left none) l
+
+  -- where nothing is left unread, and a piece is heard
+  module _ {held : List ℕ} {count : ℕ} {left : List ℕ} {p : LinkView} (l : Listening seq u o held count left p)
+      (none : length left ≡ 0) (few : count < limit) where
+    pub heard_bytes : {q : LinkView} {what : Heard} {n : ℕ} {new : List ℕ} → count + length new ≤ limit
+        → what ≡ heard.Bytes n → HearsPiece what new p q → Listening seq u o held count new q
+    heard_bytes {new = new} most is piece = let h = rw is at piece in hears_bytes new (none_left l none) few most h.1
+
+    pub heard_silence : {q : LinkView} {what : Heard} {new : List ℕ} → what ≡ heard.Silence → HearsPiece what new p q
+        → Hears seq u o q Silent new
+    heard_silence {q = q} is piece =
+        let h = rw is at piece in
+        let m = none_left l none in
+        subst (λ bs. Hears seq u o q Silent bs) (sym h.0)
+        (stops Silence Silent m few h.1 (λ more. answer_silent seq m.text more m.no_answer (omega (arith, m.counted))))
+
+    pub heard_end : {q : LinkView} {what : Heard} {new : List ℕ} → what ≡ heard.End → HearsPiece what new p q
+        → Hears seq u o q Ended new
+    heard_end {q = q} is piece =
+        let h = rw is at piece in
+        let m = none_left l none in
+        subst (λ bs. Hears seq u o q Ended bs) (sym h.0)
+        (stops End Ended m few h.1 (λ more. answer_ended seq m.text more m.no_answer (omega (arith, m.counted))))
+
+    -- nothing is heard: the link failed
+    pub hears_none : {q : LinkView} → Grows p.talk [] q.talk → HearsNone seq u o q
+    hears_none {q = q} g =
+        let m = none_left l none in
+        record {
+          during = m.during;
+          grows = subst (λ d. Grows o.talk d q.talk) (append-nil m.during)
+              (grows_on o.talk p.talk q.talk m.during [] m.grows g);
+          waits = m.waits;
+          few = omega (arith, heard_count m, m.few);
+          no_answer = not_yet m few;
+        }
+
+  -- bytes that bring no answer
+  reads : {held : List ℕ} {count : ℕ} {p : LinkView} (used left new : List ℕ)
+      (found : List (List ℕ))
+      → Listening seq u o held count (used ++ left) p → Fed held used new found → first_answer seq found ≡ None
+      → Listening seq u o new (count + length used) left p
+  reads used left new found l fed other = record {
+    text = l.text ++ used;
+    stands = fed.stands l.text l.stands;
+    counted = length-append l.text used ∙ ap (λ n. n + length used) l.counted;
+    few = omega (arith, l.few, length-append used left);
+    no_answer = still_none seq l.text used fed.skipped found l.no_answer fed.no_frames (fed.pieces l.text l.stands)
+        other;
+    during = l.during;
+    grows = l.grows;
+    waits = l.waits;
+    all_heard = l.all_heard ∙ ap on_tape (sym (append_assoc l.text used left));
+  }
+
+  pub reads_on : {held : List ℕ} {count : ℕ} {left : List ℕ} {p : LinkView} (n : ℕ)
+      (new_left new : List ℕ) (what : Event)
+      → Listening seq u o held count left p → ReadOn left new_left n held new what
+      → first_answer seq (frames_of_event what new) ≡ None → Listening seq u o new (count + n) new_left p
+  reads_on {held = held} {count = count} {p = p} n new_left new what l read other =
+      subst (λ m. Listening seq u o new (count + m) new_left p) read.1
+      (reads read.0 new_left new (frames_of_event what new) (subst (λ bs. Listening seq u o held count bs p) read.2 l)
+      read.3 other)
+
+  -- a listening whose reading is known
+  gives : {held : List ℕ} {count : ℕ} {left : List ℕ} {p : LinkView}
+      (x rest_left : List ℕ) (reading : Reading)
+      → (l : Listening seq u o held count left p) → on_tape u ++ heard_in l.during ≡ on_tape (x ++ rest_left)
+      → ((more : Tape) → answer seq (on_tape x ++ more) ≡ Some (reading, more)) → Hears seq u o p reading rest_left
+  gives x rest_left reading l all answers = record {
+    during = l.during;
+    grows = l.grows;
+    waits = l.waits;
+    few = omega (arith, heard_count l, l.few);
+    answers = λ more.
+        ap (answer seq)
+        (sym (append_assoc (on_tape u) (heard_in l.during) more)
+        ∙ (ap (λ t. t ++ more) (all ∙ on_tape_append x rest_left)
+        ∙ append_assoc (on_tape x) (on_tape rest_left) more))
+        ∙ answers (on_tape rest_left ++ more);
+  }
+
+  finds_in : {held : List ℕ} {count : ℕ} {p : LinkView} (used left new : List ℕ)
+      → Listening seq u o held count (used ++ left) p → Fed held used new (new ∷ []) → HoldsFrame new
+      → is_answer seq new ≡ true → count + length used ≤ limit
+      → Hears seq u o p (Answered (body_of new)) left
+  finds_in used left new l fed frame good few =
+      let whole : rest (l.text ++ used) ≡ [] = fed.stands l.text l.stands ∙ rest_whole new frame.whole in
+      let size : length (l.text ++ used) ≤ limit = rw length-append (omega (arith, l.counted)) in
+      gives (l.text ++ used) left (Answered (body_of new)) l
+      (l.all_heard ∙ ap on_tape (sym (append_assoc l.text used left)))
+      (λ more. answer_found seq (l.text ++ used) more (body_of new)
+      (now_found seq l.text used fed.skipped new l.no_answer fed.no_frames (fed.pieces l.text l.stands) good whole)
+      size)
+
+  pub finds : {held : List ℕ} {count : ℕ} {left : List ℕ} {p : LinkView} (n : ℕ)
+      (new_left new : List ℕ) (what : Event)
+      → Listening seq u o held count left p → ReadOn left new_left n held new what
+      → (what ≡ event.Frame) × HoldsFrame new × (is_answer seq new ≡ true) → count + n ≤ limit
+      → Hears seq u o p (Answered (body_of new)) new_left
+  finds {held = held} {count = count} {p = p} n new_left new what l read is few =
+      finds_in read.0 new_left new (subst (λ bs. Listening seq u o held count bs p) read.2 l)
+      (subst (λ e. Fed held read.0 new (frames_of_event e new)) is.0 read.3) is.1 is.2 (omega (arith, read.1))
+
+  pub babbles : {held : List ℕ} {count : ℕ} {left : List ℕ} {p : LinkView}
+      → Listening seq u o held count left p → count ≡ limit → Hears seq u o p Babbled left
+  babbles {left = left} l full =
+      gives l.text left Babbled l l.all_heard (λ more. answer_babbled seq l.text more l.no_answer (l.counted ∙ full))

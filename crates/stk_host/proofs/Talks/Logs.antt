@@ -1,0 +1,98 @@
+-- A log with one mark more.
+use Rattle.std.proofs.Common.{◌≡◌, ℕ, zero, suc, ◌+◌, ◌≤◌, List, [], ◌∷◌, ◌++◌, length, take, drop, refl, ap, ◌∙◌, arith, length-append}
+use Rattle.std.proofs.lemmas.List.{take-append-le, take-append-drop, length-drop}
+use Rattle.stk_host.specs.declared.log.Mark.{Mark}
+use Rattle.stk_host.specs.declared.log.Mark.TheVariants as mark
+use Rattle.stk_host.specs.declared.link.Item.TheVariants as item
+use Rattle.stk_host.specs.Tape.{on_tape, bytes_of}
+use Rattle.stk_host.specs.Talk.{Talk, Sent, Got, sent, heard}
+use Rattle.stk_host.specs.Log.{talk_of, out_count, back_count}
+use Rattle.stk_host.proofs.Tapes.Answers.{bytes_of_append, bytes_of_on_tape}
+
+drop_prefix : (n : ℕ) (xs ys : List ℕ) → n ≤ length xs → drop n (xs ++ ys) ≡ drop n xs ++ ys
+drop_prefix zero xs ys le = refl
+drop_prefix (suc n) [] ys le = absurd (omega arith)
+drop_prefix (suc n) (x ∷ xs) ys le = drop_prefix n xs ys (omega arith)
+
+-- what the new mark and its bytes add
+pub log_more : (marks : List Mark) (out back more_out more_back : List ℕ) (m : Mark) → out_count marks ≡ length out
+    → back_count marks ≡ length back
+    → talk_of (marks ++ m ∷ []) (out ++ more_out) (back ++ more_back)
+    ≡ talk_of marks out back ++ talk_of (m ∷ []) more_out more_back
+log_more [] [] [] more_out more_back m o b = refl
+log_more [] (x ∷ out) back more_out more_back m o b = absurd (omega arith)
+log_more [] [] (x ∷ back) more_out more_back m o b = absurd (omega arith)
+log_more (mark.Sent n ∷ marks) out back more_out more_back m o b =
+    ap (λ bs. Sent bs ∷ talk_of (marks ++ m ∷ []) (drop n (out ++ more_out)) (back ++ more_back))
+    (take-append-le n out more_out (omega arith))
+    ∙ (ap (λ bs. Sent (take n out) ∷ talk_of (marks ++ m ∷ []) bs (back ++ more_back))
+    (drop_prefix n out more_out (omega arith))
+    ∙ ap (λ t. Sent (take n out) ∷ t) (log_more marks (drop n out) back more_out more_back m
+    (rw length-drop (omega arith)) b))
+log_more (mark.Got n ∷ marks) out back more_out more_back m o b =
+    ap (λ bs. Got (on_tape bs) ∷ talk_of (marks ++ m ∷ []) (out ++ more_out) (drop n (back ++ more_back)))
+    (take-append-le n back more_back (omega arith))
+    ∙ (ap (λ bs. Got (on_tape (take n back)) ∷ talk_of (marks ++ m ∷ []) (out ++ more_out) bs)
+    (drop_prefix n back more_back (omega arith))
+    ∙ ap (λ t. Got (on_tape (take n back)) ∷ t)
+    (log_more marks out (drop n back) more_out more_back m o (rw length-drop (omega arith))))
+log_more (mark.Silence ∷ marks) out back more_out more_back m o b =
+    ap (λ t. Got (item.Silence ∷ []) ∷ t) (log_more marks out back more_out more_back m o b)
+log_more (mark.End ∷ marks) out back more_out more_back m o b =
+    ap (λ t. Got (item.End ∷ []) ∷ t) (log_more marks out back more_out more_back m o b)
+
+pub out_more : (marks : List Mark) (m : Mark) → out_count (marks ++ m ∷ []) ≡ out_count marks + out_count (m ∷ [])
+out_more [] m = omega arith
+out_more (mark.Sent n ∷ marks) m = omega (arith, out_more marks m)
+out_more (mark.Got n ∷ marks) m = out_more marks m
+out_more (mark.Silence ∷ marks) m = out_more marks m
+out_more (mark.End ∷ marks) m = out_more marks m
+
+pub back_more : (marks : List Mark) (m : Mark) → back_count (marks ++ m ∷ []) ≡ back_count marks + back_count (m ∷ [])
+back_more [] m = omega arith
+back_more (mark.Sent n ∷ marks) m = back_more marks m
+back_more (mark.Got n ∷ marks) m = omega (arith, back_more marks m)
+back_more (mark.Silence ∷ marks) m = back_more marks m
+back_more (mark.End ∷ marks) m = back_more marks m
+
+pub sent_in : (marks : List Mark) (out back : List ℕ) → out_count marks ≡ length out
+    → sent (talk_of marks out back) ≡ out
+sent_in [] [] back o = refl
+sent_in [] (x ∷ out) back o = absurd (omega arith)
+sent_in (mark.Sent n ∷ marks) out back o =
+    ap (λ bs. take n out ++ bs) (sent_in marks (drop n out) back (rw length-drop (omega arith)))
+    ∙ take-append-drop n out
+sent_in (mark.Got n ∷ marks) out back o = sent_in marks out (drop n back) o
+sent_in (mark.Silence ∷ marks) out back o = sent_in marks out back o
+sent_in (mark.End ∷ marks) out back o = sent_in marks out back o
+
+pub heard_in : (marks : List Mark) (out back : List ℕ) → back_count marks ≡ length back
+    → bytes_of (heard (talk_of marks out back)) ≡ back
+heard_in [] out [] b = refl
+heard_in [] out (x ∷ back) b = absurd (omega arith)
+heard_in (mark.Sent n ∷ marks) out back b = heard_in marks (drop n out) back b
+heard_in (mark.Got n ∷ marks) out back b =
+    bytes_of_append (on_tape (take n back)) (heard (talk_of marks out (drop n back)))
+    ∙ (ap (λ bs. bs ++ bytes_of (heard (talk_of marks out (drop n back)))) (bytes_of_on_tape (take n back))
+    ∙ (ap (λ bs. take n back ++ bs) (heard_in marks out (drop n back) (rw length-drop (omega arith)))
+    ∙ take-append-drop n back))
+heard_in (mark.Silence ∷ marks) out back b = heard_in marks out back b
+heard_in (mark.End ∷ marks) out back b = heard_in marks out back b
+
+-- the whole of it, as the code goes on
+pub log_adds : (marks new_marks : List Mark) (out new_out back new_back x y : List ℕ) (m : Mark) (old : Talk)
+    → out_count marks ≡ length out → back_count marks ≡ length back
+    → talk_of marks out back ≡ old → new_marks ≡ marks ++ m ∷ [] → new_out ≡ out ++ x → new_back ≡ back ++ y
+    → talk_of new_marks new_out new_back ≡ old ++ talk_of (m ∷ []) x y
+log_adds marks new_marks out new_out back new_back x y m old o b view ms os bs =
+    rw (ms, os, bs) (log_more marks out back x y m o b ∙ ap (λ t. t ++ talk_of (m ∷ []) x y) view)
+
+pub counts_more : (marks new_marks : List Mark) (out new_out back new_back x y : List ℕ) (m : Mark)
+    → out_count marks ≡ length out → back_count marks ≡ length back
+    → out_count (m ∷ []) ≡ length x → back_count (m ∷ []) ≡ length y → new_marks ≡ marks ++ m ∷ [] → new_out ≡ out ++ x
+    → new_back ≡ back ++ y
+    → (out_count new_marks ≡ length new_out) × (back_count new_marks ≡ length new_back)
+counts_more marks new_marks out new_out back new_back x y m o b mo mb ms os bs = (
+  rw (ms, os, length-append) (omega (arith, out_more marks m)),
+  rw (ms, bs, length-append) (omega (arith, back_more marks m)),
+)

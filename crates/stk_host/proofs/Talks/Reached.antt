@@ -1,0 +1,72 @@
+-- How far a call has come, over a link.
+use Rattle.std.proofs.Common.{[], ◌++◌}
+use Rattle.stk_host.specs.declared.fault.Broken.{Broken}
+use Rattle.stk_host.specs.Talk.{LinkView}
+use Rattle.stk_host.specs.Dialog.{Dialog, Done, ◌>>=◌}
+use Rattle.stk_host.specs.Play.{Position, PlaysOver, FailsOver}
+use Rattle.stk_host.specs.Reach.{Reaches}
+use Rattle.stk_host.proofs.Talks.Laws.{grows_none, grows_on}
+use Rattle.stk_host.proofs.Talks.InDialogs.{leads_here, leads_on, leads_bind, leads_from, plays_from, by_on, by_bind}
+
+pub reaches_here : {R : Type 0} (dialog : Dialog ⊥ R) (before : Position) (o : LinkView)
+    → Reaches dialog before o dialog before o
+reaches_here dialog before o = record {
+  during = [];
+  events = [];
+  grows = grows_none o.talk;
+  leads =
+      leads_here dialog before;
+}
+
+pub reaches_on : {R : Type 0} {a b c : Dialog ⊥ R} {l m n : Position} {o p q : LinkView} → Reaches a l o b m p
+    → Reaches b m p c n q → Reaches a l o c n q
+reaches_on {o = o} {p = p} {q = q} f g = record {
+  during = f.during ++ g.during;
+  events = f.events ++ g.events;
+  grows = grows_on o.talk p.talk q.talk f.during g.during f.grows g.grows;
+  leads = leads_on f.leads g.leads;
+}
+
+pub reaches_bind : {A B : Type 0} {a b : Dialog ⊥ A} {m n : Position} {o p : LinkView} (go_on : A → Dialog ⊥ B)
+    → Reaches a m o b n p → Reaches (a >>= go_on) m o (b >>= go_on) n p
+reaches_bind go_on f = record {
+  during = f.during;
+  events = f.events;
+  grows = f.grows;
+  leads =
+      leads_bind go_on f.leads;
+}
+
+-- what a call that played a dialog ensures is how far its caller has come
+pub reaches_from : {R : Type 0} {a : Dialog ⊥ R} {m n : Position} {o p : LinkView} {result : R}
+    → PlaysOver a m o p result n → Reaches a m o (Done result) n p
+reaches_from f = record { during = f.during; events = f.events; grows = f.grows; leads = leads_from f.plays }
+
+pub played_from : {R : Type 0} {a : Dialog ⊥ R} {m n : Position} {o p : LinkView} {result : R}
+    → Reaches a m o (Done result) n p → PlaysOver a m o p result n
+played_from f = record { during = f.during; events = f.events; grows = f.grows; plays = plays_from f.leads }
+
+pub broken_on : {R : Type 0} {by : Broken} {a b : Dialog ⊥ R} {m n : Position} {o p q : LinkView} → Reaches a m o b n p
+    → FailsOver by b n p q → FailsOver by a m o q
+broken_on {by = by} {o = o} {p = p} {q = q} f g = record {
+  during = f.during ++ g.during;
+  shown = f.events ++ g.shown;
+  grows = grows_on o.talk p.talk q.talk f.during g.during f.grows g.grows;
+  breaks = by_on f.leads by g.during g.shown g.breaks;
+}
+
+pub broken_bind : {A B : Type 0} {by : Broken} {a : Dialog ⊥ A} {m : Position} {o p : LinkView} (go_on : A → Dialog ⊥ B)
+    → FailsOver by a m o p → FailsOver by (a >>= go_on) m o p
+broken_bind {by = by} {a = a} {m = m} go_on f =
+    record {
+      during = f.during;
+      shown = f.shown;
+      grows = f.grows;
+      breaks =
+          by_bind by a m f.during f.shown go_on f.breaks;
+    }
+
+-- a dialog played, and what follows it
+pub then_reaches : {A B : Type 0} {a : Dialog ⊥ A} {m n : Position} {o p : LinkView} {result : A}
+    (go_on : A → Dialog ⊥ B) → PlaysOver a m o p result n → Reaches (a >>= go_on) m o (go_on result) n p
+then_reaches go_on f = reaches_bind go_on (reaches_from f)

@@ -1,0 +1,73 @@
+-- What was sent in parts, and what is left of a range.
+use Rattle.std.proofs.Common.{◌≡◌, ℕ, ◌+◌, ◌-◌, ◌<◌, ◌≤◌, List, [], ◌∷◌, ◌++◌, length, take, drop, sym, ap, ◌∙◌, subst, arith, Err}
+use Rattle.std.proofs.lemmas.List.{append-nil, drop-take, drop-drop, take-append-drop, length-take, length-drop, take_all}
+use Rattle.std.proofs.Math.Seq.{take-add}
+use Rattle.std.specs.Prelude.{slice_range}
+use Rattle.ghosts.specs.Failures.{HasRisen}
+use Rattle.stk_host.specs.Talk.{Talk, LinkView, Sent, sent, Grows, LinkCounts}
+use Rattle.stk_host.specs.Reach.{Says, SaysPart}
+use Rattle.stk_host.proofs.Talks.Laws.{sent_append, grows_on, quiet_append}
+
+pub says_more : (x y : List ℕ) (o p q : Talk) → Says x o p → Grows p (Sent y ∷ []) q → Says (x ++ y) o q
+says_more x y o p q says g = record {
+  during = says.during ++ Sent y ∷ [];
+  grows = grows_on o p q says.during (Sent y ∷ []) says.grows g;
+  quiet = quiet_append says.during (Sent y ∷ []) says.quiet tt;
+  bytes_sent = sent_append says.during (Sent y ∷ [])
+      ∙ (ap (λ bs. sent says.during ++ bs) (append-nil y) ∙ ap (λ bs. bs ++ y) says.bytes_sent);
+}
+
+pub says_still : (x : List ℕ) (o p q : Talk) → Says x o p → Grows p [] q → Says x o q
+says_still x o p q says g = record {
+  during = says.during ++ [];
+  grows = grows_on o p q says.during [] says.grows g;
+  quiet = quiet_append says.during [] says.quiet tt;
+  bytes_sent = sent_append says.during [] ∙ (append-nil (sent says.during) ∙ says.bytes_sent);
+}
+
+-- one more part
+pub says_part : (bytes : List ℕ) (n m : ℕ) (part : List ℕ) (o p q : Talk) → Says (take n bytes) o p
+    → part ≡ drop n bytes → Grows p (Sent (take m part) ∷ []) q → Says (take (n + m) bytes) o q
+says_part bytes n m part o p q says is g =
+    subst (λ bs. Says bs o q) (ap (λ bs. take n bytes ++ take m bs) is ∙ sym (take-add n m bytes))
+    (says_more (take n bytes) (take m part) o p q says g)
+
+-- so many bytes were sent, and not all
+pub part_of : (bytes : List ℕ) (n : ℕ) (o q : Talk) → n < length bytes → Says (take n bytes) o q → SaysPart bytes o q
+part_of bytes n o q few says = record {
+  part = take n bytes;
+  unsent = drop n bytes;
+  bytes_are = sym (take-append-drop n bytes);
+  not_whole = rw length-drop (omega arith);
+  says = says;
+}
+
+-- a link that has failed since some earlier time, when its count was the same
+pub fails_since : {A E : Type 0} (a c : LinkView) (count : ℕ) (error : E) → count ≡ a.failures → count ≤ c.failures
+    → HasRisen count c.failures → LinkCounts {A = A} a c (Err error)
+fails_since a c count error same counted failed = record {
+  counted = omega (arith, same, counted);
+  sound = tt;
+  failed = subst (λ n. HasRisen n c.failures) same failed;
+}
+
+-- what is left of a range after its first places
+pub range_later : (xs : List ℕ) (a b n : ℕ) → a + n ≤ b → slice_range xs (a + n) b ≡ drop n (slice_range xs a b)
+range_later xs a b n le =
+    ap (take (b - (a + n))) (sym (drop-drop n a xs))
+    ∙ (sym (drop-take n (b - (a + n)) (drop a xs))
+    ∙ ap (λ m. drop n (take m (drop a xs))) (omega arith))
+
+pub range_consumed : (xs : List ℕ) (a b n : ℕ) (all : List ℕ) → a ≤ b → slice_range xs a b ≡ all → n ≤ length all
+    → slice_range xs (a + n) b ≡ drop n all
+range_consumed xs a b n all order is le =
+    let size : length all ≤ b - a = rw (← is, length-take) (omega arith) in
+    range_later xs a b n (omega arith) ∙ ap (drop n) is
+
+-- the bytes after the first n, as a slice of them is written
+pub behind : (bytes : List ℕ) (n : ℕ) → take (length bytes - n) (drop n bytes) ≡ drop n bytes
+behind bytes n = take_all (length bytes - n) (drop n bytes) (rw length-drop (omega arith))
+
+pub part_fits : (bytes : List ℕ) (n m : ℕ) → n ≤ length bytes → m ≤ length (take (length bytes - n) (drop n bytes))
+    → n + m ≤ length bytes
+part_fits bytes n m le part = let fits = rw (behind bytes n, length-drop) at part in omega arith

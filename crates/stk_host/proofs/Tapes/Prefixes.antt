@@ -1,0 +1,80 @@
+-- The bytes in front of a tape.
+use Rattle.std.proofs.Common.{◌≡◌, ◌∙◌, ◌-◌, min, drop, length-append, length-drop, sym, set, add-one, ◌≤◌, ◌<◌, ◌+◌, ℕ, zero, suc, List, [], ◌∷◌, ◌++◌, length, take, slice_get, Some, None, refl, ap, arith}
+use Rattle.std.proofs.lemmas.List.{take_all, take_more_set, take-append-le, length-take, take_rest}
+use Rattle.stk_host.specs.declared.link.Heard.{Heard}
+use Rattle.stk_host.specs.declared.link.Heard.TheVariants as heard
+use Rattle.stk_host.specs.declared.link.Item.TheVariants.{Byte, Silence, End}
+use Rattle.stk_host.specs.Tape.{Tape, bytes_in, on_tape}
+use Rattle.stk_host.specs.Talk.{items_of, FitsBuffer}
+use Rattle.stk_host.specs.Links.{byte_of, next_piece}
+
+-- a byte after bytes alone is one of them
+pub within_bytes : (tape : Tape) (i byte : ℕ) → i ≤ length (bytes_in tape) → byte_of (slice_get tape i) ≡ Some byte
+    → i < length (bytes_in tape)
+within_bytes [] i byte le is = cc
+within_bytes (Byte b ∷ tape) zero byte le is = omega arith
+within_bytes (Byte b ∷ tape) (suc i) byte le is = omega (arith, within_bytes tape i byte (omega arith) is)
+within_bytes (Silence ∷ tape) zero byte le is = cc
+within_bytes (Silence ∷ tape) (suc i) byte le is = absurd (omega arith)
+within_bytes (End ∷ tape) zero byte le is = cc
+within_bytes (End ∷ tape) (suc i) byte le is = absurd (omega arith)
+
+-- and the next of them
+pub next_byte : (tape : Tape) (i byte : ℕ) → i ≤ length (bytes_in tape) → byte_of (slice_get tape i) ≡ Some byte
+    → take (suc i) (bytes_in tape) ≡ take i (bytes_in tape) ++ byte ∷ []
+next_byte [] i byte le is = cc
+next_byte (Byte b ∷ tape) zero byte le is = cc
+next_byte (Byte b ∷ tape) (suc i) byte le is = ap (λ bytes. b ∷ bytes) (next_byte tape i byte (omega arith) is)
+next_byte (Silence ∷ tape) zero byte le is = cc
+next_byte (Silence ∷ tape) (suc i) byte le is = absurd (omega arith)
+next_byte (End ∷ tape) zero byte le is = cc
+next_byte (End ∷ tape) (suc i) byte le is = absurd (omega arith)
+
+-- where no byte stands after bytes alone, they end
+pub no_byte : (tape : Tape) (i : ℕ) → i ≤ length (bytes_in tape) → byte_of (slice_get tape i) ≡ None
+    → length (bytes_in tape) ≡ i
+no_byte [] i le is = omega arith
+no_byte (Byte b ∷ tape) zero le is = cc
+no_byte (Byte b ∷ tape) (suc i) le is = ap suc (no_byte tape i (omega arith) is)
+no_byte (Silence ∷ tape) i le is = omega arith
+no_byte (End ∷ tape) i le is = omega arith
+
+-- one byte more is copied
+pub copied_more : (tape : Tape) (buffer : List ℕ) (i byte : ℕ) → i < length buffer → i ≤ length (bytes_in tape)
+    → byte_of (slice_get tape i) ≡ Some byte
+    → take i buffer ≡ take i (bytes_in tape) → take (i + 1) (set buffer i byte) ≡ take (i + 1) (bytes_in tape)
+copied_more tape buffer i byte room le is same =
+    take_more_set buffer i byte room ∙ ap (λ bytes. bytes ++ byte ∷ []) same ∙ sym (next_byte tape i byte le is)
+    ∙ ap (λ n. take n (bytes_in tape)) (sym (add-one i))
+
+-- all bytes are copied
+pub copied_all : (tape : Tape) (buffer : List ℕ) (i : ℕ) → i < length buffer → i ≤ length (bytes_in tape)
+    → byte_of (slice_get tape i) ≡ None
+    → take i buffer ≡ take i (bytes_in tape) → take i buffer ≡ take (length buffer) (bytes_in tape)
+copied_all tape buffer i room le is same =
+    let e = no_byte tape i le is in
+    same ∙ take_all i (bytes_in tape) (omega (arith, e))
+    ∙ sym (take_all (length buffer) (bytes_in tape) (omega (arith, e)))
+
+-- what stands after a piece in its buffer is no part of it
+pub piece_alone : (heard : Heard) (prefix back : List ℕ) → FitsBuffer heard (length prefix)
+    → items_of heard (prefix ++ back) ≡ items_of heard prefix
+piece_alone (heard.Bytes n) prefix back fits = ap on_tape (take-append-le n prefix back fits.1)
+piece_alone heard.Silence prefix back fits = refl
+piece_alone heard.End prefix back fits = refl
+
+-- the room for a piece, whose bytes replace the prefix of a buffer
+pub room_of : (prefix buffer : List ℕ) (cut most : ℕ) → most ≡ min cut (length buffer)
+    → length prefix ≡ length (take most buffer)
+    → length prefix ≡ min cut (length (prefix ++ drop most buffer))
+room_of prefix buffer cut most is same =
+    let e = length-take most buffer in
+    let f = length-append prefix (drop most buffer) in
+    let g = length-drop most buffer in
+    omega (arith, e, f, g)
+
+-- the items from a place on, as the code cuts them off
+pub from_place : (size room at : ℕ) (given items : Tape) → size ≡ room → given ≡ items
+    → next_piece size (take (length given - at) (drop at given)) ≡ next_piece room (drop at items)
+from_place size room at given items fits is =
+    ap (next_piece size) (take_rest given at ∙ ap (drop at) is) ∙ ap (λ n. next_piece n (drop at items)) fits

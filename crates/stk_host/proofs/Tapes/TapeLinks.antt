@@ -1,0 +1,122 @@
+-- What a link over a tape gave, call after call.
+use Rattle.std.proofs.Common.{◌≡◌, ◌∙◌, ◌<◌, sym, ap, refl, arith, ℕ, zero, suc, ◌+◌, List, [], ◌∷◌, ◌++◌, append_assoc, append-nil, replicate, take, drop, min, length, Result, Ok, Err, IfOk, OnErr}
+use Rattle.ghosts.specs.Stays.{Stays}
+use Rattle.stk_host.specs.declared.link.Heard.{Heard}
+use Rattle.stk_host.specs.declared.link.Item.TheVariants.{Byte, Silence, End}
+use Rattle.stk_host.specs.declared.link.LinkFault.{LinkFault}
+use Rattle.stk_host.specs.Links.{TapeState, IsOfTape, tape_view, next_piece}
+use Rattle.stk_host.specs.Tape.{Tape, bytes_in, on_tape}
+use Rattle.stk_host.specs.Talk.{Talk, Sent, Got, Receives, heard, items_of}
+use Rattle.stk_host.proofs.Talks.Laws.{heard_append}
+
+-- ---- ends, one after the other
+
+ends_more : (a b : ℕ) → replicate a End ++ replicate b End ≡ replicate (a + b) End
+ends_more zero b = let same : b ≡ 0 + b = omega arith in ap (λ (n : ℕ). replicate n End) same
+ends_more (suc a) b =
+    let same : suc (a + b) ≡ suc a + b = omega arith in
+    ap (λ (t : Tape). End ∷ t) (ends_more a b) ∙ ap (λ (n : ℕ). replicate n End) same
+
+nothing_behind : (prefix back : Tape) → prefix ++ back ≡ [] → back ≡ []
+nothing_behind [] back none = none
+nothing_behind (item ∷ prefix) back none = absurd (cc)
+
+-- ---- a piece, and what is left of a tape after it
+
+bytes_given : (most : ℕ) (tape : Tape) → on_tape (take most (bytes_in tape))
+    ++ drop (length (on_tape (take most (bytes_in tape)))) tape ≡ tape
+bytes_given zero tape = refl
+bytes_given (suc most) [] = refl
+bytes_given (suc most) (Byte b ∷ tape) = ap (λ (t : Tape). Byte b ∷ t) (bytes_given most tape)
+bytes_given (suc most) (Silence ∷ tape) = refl
+bytes_given (suc most) (End ∷ tape) = refl
+
+-- so many ends were given after the last item
+abbrev ends_of : Tape → ℕ
+ends_of [] = 1
+ends_of (item ∷ tape) = 0
+
+piece_given : (most : ℕ) (tape : Tape) → next_piece most tape ++ drop (length (next_piece most tape)) tape
+    ≡ tape ++ replicate (ends_of tape) End
+piece_given most [] = refl
+piece_given most (Byte b ∷ tape) = bytes_given most (Byte b ∷ tape) ∙ sym (append-nil (Byte b ∷ tape))
+piece_given most (Silence ∷ tape) = ap (λ (t : Tape). Silence ∷ t) (sym (append-nil tape))
+piece_given most (End ∷ tape) = ap (λ (t : Tape). End ∷ t) (sym (append-nil tape))
+
+none_left : (n : ℕ) (tape : Tape) → 0 < ends_of tape → drop n tape ≡ []
+none_left zero [] some = refl
+none_left (suc n) [] some = refl
+none_left n (item ∷ tape) some = absurd (omega (arith, some))
+
+-- ---- calls
+
+pub of_tape_now : (a : TapeState) → IsOfTape a a
+of_tape_now a = record {
+  during = [];
+  grows = sym (append-nil a.talk);
+  ends = 0;
+  gave = sym (append-nil a.left);
+  over = λ some. absurd (omega (arith, some));
+}
+
+of_tape_on : (a b c : TapeState) → IsOfTape a b → IsOfTape b c → IsOfTape a c
+of_tape_on a b c f g = record {
+  during = f.during ++ g.during;
+  grows = g.grows ∙ ap (λ (t : Talk). t ++ g.during) f.grows ∙ append_assoc a.talk f.during g.during;
+  ends = f.ends + g.ends;
+  gave = ap (λ (t : Tape). t ++ c.left) (heard_append f.during g.during)
+      ∙ append_assoc (heard f.during) (heard g.during) c.left
+      ∙ ap (λ (t : Tape). heard f.during ++ t) g.gave
+      ∙ sym (append_assoc (heard f.during) b.left (replicate g.ends End))
+      ∙ ap (λ (t : Tape). t ++ replicate g.ends End) f.gave
+      ∙ append_assoc a.left (replicate f.ends End) (replicate g.ends End)
+      ∙ ap (λ (t : Tape). a.left ++ t) (ends_more f.ends g.ends);
+  over = none f.ends g.ends g.gave f.over g.over;
+}
+  where
+    none : (m n : ℕ) → heard g.during ++ c.left ≡ b.left ++ replicate n End → (0 < m → b.left ≡ [])
+        → (0 < n → c.left ≡ []) → 0 < m + n → c.left ≡ []
+    none m (suc n) gave first last some = last (omega arith)
+    none m zero gave first last some =
+        nothing_behind (heard g.during) c.left (gave ∙ append-nil b.left ∙ first (omega (arith, some)))
+
+since : (b c : TapeState) → IsOfTape b c → Stays IsOfTape b c
+since b c g = λ start f. of_tape_on start b c f g
+
+pub same_of_tape : (b c : TapeState) → c.left ≡ b.left → c.talk ≡ b.talk → Stays IsOfTape b c
+same_of_tape b c left talk = since b c (record {
+  during = [];
+  grows = talk ∙ sym (append-nil b.talk);
+  ends = 0;
+  gave = left ∙ sym (append-nil b.left);
+  over = λ some. absurd (omega (arith, some));
+})
+
+pub sent_of_tape : (bytes : List ℕ) (b c : TapeState) → c.left ≡ b.left → c.talk ≡ b.talk ++ Sent bytes ∷ []
+    → Stays IsOfTape b c
+sent_of_tape bytes b c left talk = since b c (record {
+  during = Sent bytes ∷ [];
+  grows = talk;
+  ends = 0;
+  gave = left ∙ sym (append-nil b.left);
+  over = λ some. absurd (omega (arith, some));
+})
+
+pub heard_of_tape : (result : Result Heard LinkFault) (buffer : List ℕ) (b c : TapeState)
+    → Receives buffer (tape_view b) (tape_view c) result
+    → IfOk result (λ given. items_of given buffer ≡ next_piece (min b.cut (length buffer)) b.left)
+    → IfOk result (λ given. c.left ≡ drop (length (items_of given buffer)) b.left) → OnErr result (c.left ≡ b.left)
+    → Stays IsOfTape b c
+heard_of_tape (Ok given) buffer b c receives piece left kept =
+    let most : ℕ = min b.cut (length buffer) in
+    let rest : c.left ≡ drop (length (next_piece most b.left)) b.left =
+    left ∙ ap (λ (t : Tape). drop (length t) b.left) piece in
+    since b c (record {
+      during = Got (items_of given buffer) ∷ [];
+      grows = receives.ok;
+      ends = ends_of b.left;
+      gave = ap (λ (t : Tape). t ++ c.left) (append-nil (items_of given buffer) ∙ piece)
+          ∙ ap (λ (t : Tape). next_piece most b.left ++ t) rest ∙ piece_given most b.left;
+      over = λ some. rest ∙ none_left (length (next_piece most b.left)) b.left some;
+    })
+heard_of_tape (Err fault) buffer b c receives piece left kept = same_of_tape b c kept (receives.err ∙ append-nil b.talk)

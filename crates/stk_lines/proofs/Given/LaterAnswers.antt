@@ -1,0 +1,164 @@
+-- An answer that is found stays found, and what follows stays after it.
+use Rattle.std.proofs.Common.{◌≡◌, ℕ, zero, suc, ◌+◌, ◌<◌, ◌≤◌, List, [], ◌∷◌, ◌++◌, length, take, drop, refl, sym, ap, ap₂, ◌∙◌, subst, append_assoc, arith, min, length-append, inl, inr, Option, Some, None}
+use Rattle.std.proofs.lemmas.Bool.{leb-true, leb-false, cases_Bool, cond-true, cond-false}
+use Rattle.std.proofs.lemmas.List.{take_all, take-append-le, length-take}
+use Rattle.std.proofs.lemmas.Option.{none-some}
+use Rattle.std.specs.List.{concat}
+use Rattle.std.specs.Prelude.{nat_le as leb}
+use Rattle.stk_frame.specs.Cut.{cut, rest, body_of}
+use Rattle.stk_frame.proofs.Cuts.{cut_append, cut_joined}
+use Rattle.stk_host.specs.declared.link.Item.TheVariants.{Byte, Silence, End}
+use Rattle.stk_host.specs.Tape.{Tape, on_tape, bytes_in, answer, read_to, silence_or_end, first_answer, is_answer, further, limit, Reading, Answered, Silent, Ended, Babbled}
+use Rattle.stk_host.proofs.Tapes.Answers.{answer_silent, answer_ended, first_answer_stays, drop_tape, answer_by}
+
+-- a tape is its bytes, and then no byte
+pub record Split (tape : Tape) : Type 0 where
+  pub tail : Tape
+  pub is : tape ≡ on_tape (bytes_in tape) ++ tail
+  pub stops : bytes_in tail ≡ []
+
+split : (tape : Tape) → Split tape
+split [] = record { tail = []; is = refl; stops = refl }
+split (Byte b ∷ tape) = let s = split tape in record { tail = s.tail; is = ap (λ t. Byte b ∷ t) s.is; stops = s.stops }
+split (Silence ∷ tape) = record { tail = Silence ∷ tape; is = refl; stops = refl }
+split (End ∷ tape) = record { tail = End ∷ tape; is = refl; stops = refl }
+
+bytes_more : (t u : Tape) → (z : List ℕ) × (bytes_in (t ++ u) ≡ bytes_in t ++ z)
+bytes_more [] u = (bytes_in u, refl)
+bytes_more (Byte b ∷ t) u = let m = bytes_more t u in (m.0, ap (λ bs. b ∷ bs) m.1)
+bytes_more (Silence ∷ t) u = ([], refl)
+bytes_more (End ∷ t) u = ([], refl)
+
+take_more_bytes : (n : ℕ) (x z : List ℕ) → (y : List ℕ) × (take n (x ++ z) ≡ take n x ++ y)
+take_more_bytes zero x z = ([], refl)
+take_more_bytes (suc n) [] z = (take (suc n) z, refl)
+take_more_bytes (suc n) (b ∷ x) z = let m = take_more_bytes n x z in (m.0, ap (λ bs. b ∷ bs) m.1)
+
+drop_more_tape : (n : ℕ) (t u : Tape) → n ≤ length t → drop n (t ++ u) ≡ drop n t ++ u
+drop_more_tape zero t u le = refl
+drop_more_tape (suc n) [] u le = absurd (omega arith)
+drop_more_tape (suc n) (i ∷ t) u le = drop_more_tape n t u (omega arith)
+
+bytes_few : (t : Tape) → length (bytes_in t) ≤ length t
+bytes_few [] = omega arith
+bytes_few (Byte b ∷ t) = let l = bytes_few t in omega arith
+bytes_few (Silence ∷ t) = omega arith
+bytes_few (End ∷ t) = omega arith
+
+further_used : (a n : ℕ) (o : Option (List ℕ × ℕ)) (body : List ℕ) (used : ℕ) → further a o ≡ Some (body, used)
+    → ((b : List ℕ) (k : ℕ) → o ≡ Some (b, k) → k ≤ n) → used ≤ a + n
+further_used a n None body used e each = absurd (none-some (body, used) e)
+further_used a n (Some (b, k)) body used e each =
+    let p : ◌≡◌ {A = List ℕ × ℕ} (b, a + k) (body, used) = cc in
+    let f : a + k ≡ used = ap (λ x. x.1) p in
+    let g : k ≤ n = each b k refl in
+    omega arith
+
+pub used_within : (seq : ℕ) (pieces : List (List ℕ)) (body : List ℕ) (used : ℕ)
+    → first_answer seq pieces ≡ Some (body, used) → used ≤ length (concat pieces)
+used_within seq [] body used e = absurd (none-some (body, used) e)
+used_within seq (piece ∷ pieces) body used e = elim (cases_Bool (is_answer seq piece)) [
+  | inl is_it ↦
+      let f : ◌≡◌ {A = Option (List ℕ × ℕ)} (Some (body_of piece, length piece)) (Some (body, used)) =
+      sym (cond-true (is_answer seq piece) (Some (body_of piece, length piece))
+      (further (length piece) (first_answer seq pieces)) is_it) ∙ e in
+      let p : ◌≡◌ {A = List ℕ × ℕ} (body_of piece, length piece) (body, used) = cc in
+      let g : length piece ≡ used = ap (λ x. x.1) p in
+      rw (length-append piece (concat pieces)) (omega arith)
+  | inr is_not ↦
+      let f : further (length piece) (first_answer seq pieces) ≡ Some (body, used) =
+      sym (cond-false (is_answer seq piece) (Some (body_of piece, length piece))
+      (further (length piece) (first_answer seq pieces)) is_not) ∙ e in
+      rw (length-append piece (concat pieces))
+      (further_used (length piece) (length (concat pieces)) (first_answer seq pieces) body used f
+      (λ b k g. used_within seq pieces b k g))
+]
+
+used_few : (seq : ℕ) (x body : List ℕ) (used : ℕ) → first_answer seq (cut x) ≡ Some (body, used) → used ≤ length x
+used_few seq x body used e =
+    let joined : length (concat (cut x)) + length (rest x) ≡ length x =
+    sym (length-append (concat (cut x)) (rest x)) ∙ ap length (cut_joined x) in
+    let few = used_within seq (cut x) body used e in
+    omega arith
+
+-- an answer that is given, by the cases
+some_tape : (a b : Reading) (s t : Tape) → ◌≡◌ {A = Option (Reading × Tape)} (Some (a, s)) (Some (b, t))
+    → (a ≡ b) × (s ≡ t)
+some_tape a b s t e =
+    let p : ◌≡◌ {A = Reading × Tape} (a, s) (b, t) = cc in
+    (ap (λ x. x.0) p, ap (λ x. x.1) p)
+
+cons_nil : (b : ℕ) (bs : List ℕ) → b ∷ bs ≡ [] → ⊥
+cons_nil b bs e = cc
+
+stops_more : (seq : ℕ) (b : List ℕ) (tail u : Tape) (reading : Reading) (left : Tape) → bytes_in tail ≡ []
+    → first_answer seq (cut b) ≡ None → length b < limit → silence_or_end tail ≡ Some (reading, left)
+    → answer seq ((on_tape b ++ tail) ++ u) ≡ Some (reading, left ++ u)
+stops_more seq b [] u reading left stops none few e = absurd (none-some (reading, left) e)
+stops_more seq b (Byte c ∷ tail) u reading left stops none few e = absurd (cons_nil c (bytes_in tail) stops)
+stops_more seq b (Silence ∷ tail) u reading left stops none few e =
+    let f = some_tape Silent reading tail left e in
+    ap (answer seq) (append_assoc (on_tape b) (Silence ∷ tail) u)
+    ∙ (answer_silent seq b (tail ++ u) none few ∙ ap₂ (λ r t. Some (r, t ++ u)) f.0 f.1)
+stops_more seq b (End ∷ tail) u reading left stops none few e =
+    let f = some_tape Ended reading tail left e in
+    ap (answer seq) (append_assoc (on_tape b) (End ∷ tail) u)
+    ∙ (answer_ended seq b (tail ++ u) none few ∙ ap₂ (λ r t. Some (r, t ++ u)) f.0 f.1)
+
+given_more : (seq : ℕ) (t u : Tape) (o : Option (List ℕ × ℕ)) (reading : Reading) (left : Tape)
+    → first_answer seq (cut (take limit (bytes_in t))) ≡ o
+    → read_to o (take limit (bytes_in t)) t ≡ Some (reading, left) → answer seq (t ++ u) ≡ Some (reading, left ++ u)
+given_more seq t u (Some (body, used)) reading left found e =
+    let z = bytes_more t u in
+    let y = take_more_bytes limit (bytes_in t) z.0 in
+    let x : List ℕ = take limit (bytes_in t) in
+    let bytes : take limit (bytes_in (t ++ u)) ≡ x ++ y.0 = ap (take limit) z.1 ∙ y.1 in
+    let a : used ≤ length x = used_few seq x body used found in
+    let b : length x ≤ length (bytes_in t) = simp length-take (omega arith) in
+    let c : length (bytes_in t) ≤ length t = bytes_few t in
+    let f = some_tape (Answered body) reading (drop used t) left e in
+    answer_by seq (t ++ u) (x ++ y.0) bytes
+    ∙ (ap (λ o. read_to o (x ++ y.0) (t ++ u))
+    (ap (first_answer seq) (cut_append x y.0)
+    ∙ first_answer_stays seq (cut x) (cut (rest x ++ y.0)) (body, used) found)
+    ∙ (ap (λ r. Some (Answered body, r)) (drop_more_tape used t u (omega arith))
+    ∙ ap₂ (λ r q. Some (r, q ++ u)) f.0 f.1))
+given_more seq t u None reading left none e =
+    let x : List ℕ = take limit (bytes_in t) in
+    let l : length x ≡ min limit (length (bytes_in t)) = length-take limit (bytes_in t) in
+    let c : length (bytes_in t) ≤ length t = bytes_few t in
+    elim (cases_Bool (leb limit (length x))) [
+      | inl full ↦
+          let le : limit ≤ length x = leb-true limit (length x) full in
+          let z = bytes_more t u in
+          let bytes : take limit (bytes_in (t ++ u)) ≡ x =
+          ap (take limit) z.1 ∙ take-append-le limit (bytes_in t) z.0 (omega arith) in
+          let f = some_tape Babbled reading (drop limit t) left
+          (sym (cond-true (leb limit (length x)) (Some (Babbled, drop limit t)) (silence_or_end (drop (length x) t))
+          full) ∙ e) in
+          answer_by seq (t ++ u) x bytes
+          ∙ (ap (λ o. read_to o x (t ++ u)) none
+          ∙ (cond-true (leb limit (length x)) (Some (Babbled, drop limit (t ++ u)))
+          (silence_or_end (drop (length x) (t ++ u))) full
+          ∙ (ap (λ r. Some (Babbled, r)) (drop_more_tape limit t u (omega arith))
+          ∙ ap₂ (λ r q. Some (r, q ++ u)) f.0 f.1)))
+      | inr few ↦
+          let lt : length x < limit = leb-false limit (length x) few in
+          let same : x ≡ bytes_in t = take_all limit (bytes_in t) (omega arith) in
+          let s = split t in
+          let stop : silence_or_end (drop (length x) t) ≡ Some (reading, left) =
+          sym (cond-false (leb limit (length x)) (Some (Babbled, drop limit t)) (silence_or_end (drop (length x) t))
+          few) ∙ e in
+          let at : drop (length x) t ≡ s.tail = ap (λ n. drop (length n) t) same
+          ∙ (ap (drop (length (bytes_in t))) s.is ∙ drop_tape (bytes_in t) s.tail) in
+          ap (λ w. answer seq (w ++ u)) s.is
+          ∙ stops_more seq (bytes_in t) s.tail u reading left s.stops
+          (ap (λ y. first_answer seq (cut y)) (sym same) ∙ none) (subst (λ y. length y < limit) same lt)
+          (ap silence_or_end (sym at) ∙ stop)
+    ]
+
+pub answer_extends : (seq : ℕ) (t u : Tape) (reading : Reading) (left : Tape) → answer seq t ≡ Some (reading, left)
+    → answer seq (t ++ u) ≡ Some (reading, left ++ u)
+answer_extends seq t u reading left e =
+    given_more seq t u (first_answer seq (cut (take limit (bytes_in t)))) reading left refl
+    (sym (answer_by seq t (take limit (bytes_in t)) refl) ∙ e)

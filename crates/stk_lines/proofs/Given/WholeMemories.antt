@@ -1,0 +1,70 @@
+-- What all blocks of a memory give.
+use Rattle.std.proofs.Common.{◌≡◌, ℕ, zero, suc, ◌+◌, ◌-◌, ◌*◌, ◌%◌, ◌<◌, List, [], ◌∷◌, ◌++◌, length, take, drop, refl, sym, ap, ◌∙◌, arith}
+use Rattle.std.proofs.lemmas.List.{drop_all, length-drop, take-append-drop, take_min, drop-drop}
+use Rattle.std.specs.Prelude.{min}
+use Rattle.avr_part.specs.declared.part.Mem.{Mem}
+use Rattle.avr_part.specs.declared.part.Mem.TheVariants.{Flash, Eeprom, Lfuse, Hfuse, Efuse, Lock, Signature, Calibration}
+use Rattle.avr_part.specs.Part.{Part, IsPart}
+use Rattle.stk_host.specs.Places.{each_from}
+use Rattle.stk_host.specs.ReadSteps.{block_count, block_size, block_steps, read_steps}
+use Rattle.stk_emu.specs.Effect.{Memories, memory_in}
+use Rattle.stk_emu.specs.Settled.{FitsPart}
+use Rattle.stk_emu.specs.Given.{all_given}
+use Rattle.stk_emu.proofs.Memories.Pages.{flash_address_back}
+
+-- a block, and what is after it
+block_join : (xs : List ℕ) (start size : ℕ) → length xs ≡ size
+    → take (min 256 (size - start)) (drop start xs) ++ drop (start + 256) xs ≡ drop start xs
+block_join xs start size long =
+    let ys = drop start xs in
+    let left : size - start ≡ length ys = ap (λ n. n - start) (sym long) ∙ sym (length-drop start xs) in
+    ap (λ n. take (min 256 n) ys ++ drop (start + 256) xs) left
+    ∙ (ap (λ zs. zs ++ drop (start + 256) xs) (take_min 256 ys)
+    ∙ (ap (λ zs. take 256 ys ++ zs) (sym (drop-drop 256 start xs))
+    ∙ take-append-drop 256 ys))
+
+pub one_by_one : (xs : List ℕ) → length xs ≡ 3
+    → take 1 (drop 0 xs) ++ (take 1 (drop 1 xs) ++ (take 1 (drop 2 xs) ++ [])) ≡ xs
+one_by_one [] e = absurd (omega arith)
+one_by_one (a ∷ []) e = absurd (omega arith)
+one_by_one (a ∷ b ∷ []) e = absurd (omega arith)
+one_by_one (a ∷ b ∷ c ∷ []) e = refl
+one_by_one (a ∷ b ∷ c ∷ d ∷ xs) e = absurd (omega arith)
+
+module _ (part : Part) (sound : IsPart part) (m : Memories) (f : FitsPart part m) where
+  flash_blocks : (n k : ℕ) → n + k ≡ block_count part.flash_size
+      → all_given part (each_from (block_steps part Flash) n k) m ≡ drop (n * 256) m.flash
+  flash_blocks n zero e = let long = f.flash in sym (drop_all (n * 256) m.flash (omega (arith, e, long)))
+  flash_blocks n (suc k) e =
+      let most = sound.flash_most in
+      let few : n * 256 < 4294967296 = omega (arith, e) in
+      let even : n * 256 % 2 ≡ 0 = omega arith in
+      let next : (n + 1) * 256 ≡ n * 256 + 256 = omega arith in
+      ap (λ a. take (block_size part.flash_size (n * 256)) (drop a m.flash)
+      ++ all_given part (each_from (block_steps part Flash) (n + 1) k) m)
+      (flash_address_back part (n * 256) few even)
+      ∙ (ap (λ ys. take (block_size part.flash_size (n * 256)) (drop (n * 256) m.flash) ++ ys)
+      (flash_blocks (n + 1) k (let g : n + 1 + k ≡ n + suc k = omega arith in g ∙ e)
+      ∙ ap (λ j. drop j m.flash) next)
+      ∙ block_join m.flash (n * 256) part.flash_size f.flash)
+
+  eeprom_blocks : (n k : ℕ) → n + k ≡ block_count part.eeprom_size
+      → all_given part (each_from (block_steps part Eeprom) n k) m ≡ drop (n * 256) m.eeprom
+  eeprom_blocks n zero e = let long = f.eeprom in sym (drop_all (n * 256) m.eeprom (omega (arith, e, long)))
+  eeprom_blocks n (suc k) e =
+      let next : (n + 1) * 256 ≡ n * 256 + 256 = omega arith in
+      ap (λ ys. take (block_size part.eeprom_size (n * 256)) (drop (n * 256) m.eeprom) ++ ys)
+      (eeprom_blocks (n + 1) k (let g : n + 1 + k ≡ n + suc k = omega arith in g ∙ e)
+      ∙ ap (λ j. drop j m.eeprom) next)
+      ∙ block_join m.eeprom (n * 256) part.eeprom_size f.eeprom
+
+  -- all blocks of a memory are the memory
+  pub read_gives : (mem : Mem) → all_given part (read_steps part mem) m ≡ memory_in part mem m
+  read_gives Flash = flash_blocks 0 (block_count part.flash_size) (omega arith)
+  read_gives Eeprom = eeprom_blocks 0 (block_count part.eeprom_size) (omega arith)
+  read_gives Lfuse = refl
+  read_gives Hfuse = refl
+  read_gives Efuse = refl
+  read_gives Lock = refl
+  read_gives Signature = one_by_one part.signature sound.signature
+  read_gives Calibration = refl

@@ -1,0 +1,5 @@
+-- What a host does after any turns, in the logic of dialogs.
+pub mod AnyTurn
+pub mod Attempts
+pub mod Operations
+pub mod FrameSizes

@@ -1,0 +1,10 @@
+-- Each step of a host leads from its memories to those that it leaves, by strokes that are counted.
+pub mod Conditions
+pub mod Steps
+pub mod OutsideMode
+pub mod Places
+pub mod Pages
+pub mod Runs
+pub mod Items
+pub mod StepCounts
+pub mod Counts
