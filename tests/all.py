@@ -9,9 +9,9 @@
     proved      runs the scripts over the programs that rt ci leaves
 
 The scripts run one after the other, as some measure times. What fails hides nothing: all that follows is run, and
-the status is 1 at the end. The summary has the status of each, its minutes and its last line, how the wrong bodies of
-rt ci were refused, and what was left out since a tool isn't installed; with NEED_ALL=1 in the environment that is a
-failure too.
+the status is 1 at the end. The summary has the status of each, its minutes and its last line, the lines that say
+what failed, how the wrong bodies of rt ci were refused, and what was left out since a tool isn't installed; with
+NEED_ALL=1 in the environment that is a failure too.
 """
 
 import os
@@ -41,6 +41,10 @@ PROVED_ONLY = ("cuts_and_stalls", "examples", "faults", "from_c", "mega", "other
 # what a script says of what it leaves out
 LEFT_OUT = re.compile(r"\s*(?:left out|skipped): (.*)")
 
+# what a script, and rt, say of what fails, and how many such lines the summary says again
+FAILURE = re.compile(r"(?:rt: )?FAILED: |.*(?:NOT PROVED|NOT REFUSED|BAD EDIT)")
+MOST_FAILURES = 20
+
 # what rt says of a wrong body that it refuses, and the kinds of it, the first that fits: rt cuts a line behind its
 # 160th character, so also in the middle of these words
 REFUSED = re.compile(r"(?:rt: )?must-fail (\S+): refused, as it must be(.*)")
@@ -57,14 +61,15 @@ DEFINITION = "of a wrong definition, in a proof"
 
 @dataclass
 class Done:
-    """What came of one command: what it is, its status, how long it took, its last line, what it left out, and how many
-    wrong bodies were refused in which way."""
+    """What came of one command: what it is, its status, how long it took, its last line, what it left out, the lines
+    that say what failed, and how many wrong bodies were refused in which way."""
 
     what: str
     status: int
     seconds: float
     last: str
     left: list
+    failures: list
     refusals: Counter
 
 
@@ -86,8 +91,9 @@ def run(what, command, **more):
         print(text.decode(), flush=True)
     lines = [it for it in text.decode(errors="replace").splitlines() if it.strip()]
     left = [found[1] for found in map(LEFT_OUT.fullmatch, lines) if found]
+    failures = [it.strip() for it in lines if FAILURE.match(it)] if status else []
     last = lines[-1].strip() if lines else ""
-    return Done(what, status, time.monotonic() - begun, last, left, refusals_in(lines))
+    return Done(what, status, time.monotonic() - begun, last, left, failures, refusals_in(lines))
 
 
 def refusals_in(lines):
@@ -134,6 +140,8 @@ def summary(done):
     for it in done:
         how = "ok    " if it.status == 0 else f"FAILED ({it.status})"
         print(f"{how} {it.seconds / 60:5.1f} min  {it.what}: {it.last[:200]}")
+        for line in it.failures[:MOST_FAILURES]:
+            print(f"    {line[:300]}")
     refusals = sum((it.refusals for it in done), Counter())
     if refusals:
         told = ", ".join(f"{refusals[kind]} {kind}" for kind in (*REFUSALS, DEFINITION) if refusals[kind])

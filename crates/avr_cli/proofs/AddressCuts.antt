@@ -4,7 +4,8 @@ use Rattle.std.proofs.lemmas.Bool.{cases_Bool}
 use Rattle.std.proofs.lemmas.List.Sums.{AllPass-from_list_all}
 use Rattle.std.specs.List.{list_all}
 use Rattle.std.specs.Char.{is_ascii_digit}
-use Rattle.avr_cli.specs.Split.{Bytes, colon}
+use Rattle.avr_part.specs.PartFile.{Bytes}
+use Rattle.avr_cli.specs.Split.{colon}
 use Rattle.avr_cli.specs.Port.{is_address, port_number, port_of}
 use Rattle.avr_cli.specs.declared.settings.Port.TheVariants.{Network}
 use Rattle.avr_cli.proofs.UpdatesReread.{not_empty}

@@ -3,7 +3,7 @@ use Rattle.std.proofs.Common.{◌≡◌, ◌∙◌, refl, ap, sym, ℕ, ◌+◌,
 use Rattle.std.specs.Prelude.{⊤, nat_lt}
 use Rattle.std.specs.Str.{bytes_eq}
 use Rattle.std.proofs.lemmas.Bool.{cases_Bool}
-use Rattle.avr_cli.specs.Split.{Bytes}
+use Rattle.avr_part.specs.PartFile.{Bytes}
 use Rattle.avr_cli.specs.Port.{port_given_of}
 use Rattle.avr_cli.specs.Settings.{◌>>=◌, Entries, GivesOrMemory, TellsAnyway, checked_programmer, checked_streams, is_told_anyway, run_settings, update_at, updates_from, updates_of}
 use Rattle.avr_cli.specs.Standard.{is_taken}

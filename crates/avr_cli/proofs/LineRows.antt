@@ -8,7 +8,7 @@ use Rattle.clap.specs.declared.error.kind.ErrorKind.TheVariants.{DisplayHelp, Un
 use Rattle.avr_part.specs.declared.part.Mem.{Mem}
 use Rattle.avr_part.specs.declared.part.Mem.TheVariants.{Flash, Lfuse}
 use Rattle.avr_cli.specs.Command.{avrstk, asked_by}
-use Rattle.avr_cli.specs.Split.{Bytes}
+use Rattle.avr_part.specs.PartFile.{Bytes}
 use Rattle.avr_cli.specs.Settings.{no_switches}
 use Rattle.avr_cli.specs.declared.settings.Port.{Port}
 use Rattle.avr_cli.specs.declared.settings.Port.TheVariants.{Stdio, Emulated, Network, Served}

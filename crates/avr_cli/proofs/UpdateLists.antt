@@ -1,6 +1,6 @@
 -- Updates that are read one after the other.
 use Rattle.std.proofs.Common.{◌≡◌, ◌∙◌, ap, sym, refl, ℕ, ◌+◌, List, [], ◌∷◌, ◌++◌, Result, Ok, Err, append_assoc}
-use Rattle.avr_cli.specs.Split.{Bytes}
+use Rattle.avr_part.specs.PartFile.{Bytes}
 use Rattle.avr_cli.specs.Settings.{◌>>=◌, updates_from, update_at}
 use Rattle.avr_cli.specs.Update.{update_of}
 use Rattle.avr_cli.specs.declared.update.Update.{Update}

@@ -3,7 +3,7 @@ use Rattle.std.proofs.Common.{◌≡◌, [], ◌∷◌, ◌++◌, refl}
 use Rattle.std.specs.Prelude.{Result, Ok, Err, codes}
 use Rattle.avr_part.specs.declared.part.Mem.{Mem}
 use Rattle.avr_part.specs.declared.part.Mem.TheVariants.{Flash, Eeprom, Lfuse, Efuse, Lock, Signature, Calibration}
-use Rattle.avr_cli.specs.Split.{Bytes}
+use Rattle.avr_part.specs.PartFile.{Bytes}
 use Rattle.avr_cli.specs.Update.{update_of}
 use Rattle.avr_cli.specs.declared.update.Op.{Op}
 use Rattle.avr_cli.specs.declared.update.Op.TheVariants.{Read, Write, Verify}

@@ -7,7 +7,8 @@ use Rattle.std.proofs.Math.Seq.{get_or-append_seam, take-append_seam}
 use Rattle.avr_part.specs.Mem.{name_of}
 use Rattle.avr_part.specs.declared.part.Mem.{Mem}
 use Rattle.avr_part.specs.declared.part.Mem.TheVariants.{Flash, Eeprom, Lfuse, Hfuse, Efuse, Lock, Signature, Calibration}
-use Rattle.avr_cli.specs.Split.{Bytes, colon}
+use Rattle.avr_part.specs.PartFile.{Bytes}
+use Rattle.avr_cli.specs.Split.{colon}
 use Rattle.avr_cli.specs.Update.{file_and_letter, format_of, op_name, update_by, update_in, update_of, update_text, with_memory}
 use Rattle.avr_cli.specs.declared.update.Format.{Format}
 use Rattle.avr_cli.specs.declared.update.Op.{Op}

@@ -4,7 +4,7 @@ use Rattle.std.specs.Str.{bytes_eq}
 use Rattle.clap.specs.Words.{App, Row, Rule, new_app, new_rule, with_rule, matches_of, first_of, all_of, count_of}
 use Rattle.clap.specs.declared.builder.ArgAction.TheVariants.{SetTrue, Append, Count}
 use Rattle.clap.specs.declared.builder.value_parser.ValueParser.TheVariants.{Signed}
-use Rattle.avr_cli.specs.Split.{Bytes}
+use Rattle.avr_part.specs.PartFile.{Bytes}
 use Rattle.avr_cli.specs.Settings.{Entries, settings_of}
 use Rattle.avr_cli.specs.declared.settings.Switches.{Switches}
 use Rattle.avr_cli.specs.declared.settings.Settings.{Settings}

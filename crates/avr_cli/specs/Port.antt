@@ -5,7 +5,8 @@ use Rattle.std.specs.List.{list_all}
 use Rattle.std.specs.Char.{is_ascii_digit}
 use Rattle.std.specs.Str.{bytes_eq}
 use Rattle.std.specs.Str.Parse.{digits_value}
-use Rattle.avr_cli.specs.Split.{Bytes, after_prefix, split_last}
+use Rattle.avr_part.specs.PartFile.{Bytes}
+use Rattle.avr_cli.specs.Split.{after_prefix, split_last}
 use Rattle.avr_cli.specs.declared.settings.Port.{Port}
 use Rattle.avr_cli.specs.declared.settings.Port.TheVariants.{Stdio, Emulated, Network, Served}
 use Rattle.avr_cli.specs.declared.settings.SettingsFault.{SettingsFault}

@@ -1,8 +1,6 @@
 -- Texts that are split at a colon or after a prefix.
 use Rattle.std.specs.Prelude.{◌==◌, ℕ, List, [], ◌∷◌, Option, Some, None, option_map, if◌then◌else◌}
-
-abbrev pub Bytes : Type 0
-Bytes = List ℕ
+use Rattle.avr_part.specs.PartFile.{Bytes}
 
 -- what follows this prefix, if the text begins with it
 abbrev pub after_prefix : Bytes → Bytes → Option Bytes

@@ -5,7 +5,8 @@ use Rattle.std.specs.Str.{bytes_eq}
 use Rattle.avr_part.specs.Mem.{name_of, memory_named}
 use Rattle.avr_part.specs.declared.part.Mem.{Mem}
 use Rattle.avr_part.specs.declared.part.Mem.TheVariants.{Flash}
-use Rattle.avr_cli.specs.Split.{Bytes, colon, split_first}
+use Rattle.avr_part.specs.PartFile.{Bytes}
+use Rattle.avr_cli.specs.Split.{colon, split_first}
 use Rattle.avr_cli.specs.declared.update.Op.{Op}
 use Rattle.avr_cli.specs.declared.update.Op.TheVariants.{Read, Write, Verify}
 use Rattle.avr_cli.specs.declared.update.Format.{Format}

@@ -1,6 +1,7 @@
 //! Laws of the texts of a command line, over their definitions alone.
 ghost use Rattle.std.specs.Prelude.{◌≡◌, ◌≢◌, ◌∷◌, ◌++◌, [], ℕ, Ok, Some, codes};
-ghost use Rattle.avr_cli.specs.Split.{Bytes, colon};
+ghost use Rattle.avr_part.specs.PartFile.{Bytes};
+ghost use Rattle.avr_cli.specs.Split.{colon};
 ghost use Rattle.avr_cli.specs.Port.{port_number, port_of};
 ghost use Rattle.avr_cli.specs.Update.{format_of, update_of, update_text};
 ghost use Rattle.avr_cli.specs.declared.settings.Port.{Port};

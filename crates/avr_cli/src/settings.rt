@@ -116,7 +116,7 @@ pub enum SettingsFault {
     BadProgrammer(Text),
     /// `-P` with a text that names no port, or `--serve` with no number of one: that text; or none
     /// where neither is given.
-    #[error("port is not known")]
+    #[error("no port given, or one that is not known")]
     BadPort(Option<Text>),
     /// `--serve` without `--chip`.
     #[error("no chip file given (--chip)")]

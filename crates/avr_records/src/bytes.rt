@@ -61,10 +61,8 @@ pub(crate) fn decode_digits<'b>(
         return Err(odd_fault(digits));
     }
     let n = digits.len() / 2;
-    match decode_pairs(digits, &mut room[..n]) {
-        Ok(()) => Ok(&room[..n]),
-        Err(fault) => Err(fault),
-    }
+    decode_pairs(digits, &mut room[..n])?;
+    Ok(&room[..n])
 }
 
 /// The sum of bytes, modulo 256.

@@ -88,10 +88,7 @@ fn ihex_record<'b>(line: &[u8], room: &'b mut [u8; ROOM]) -> Result<LineRecord<'
     ensures narrow { IfOk result (FitsFields Kind.Ihex) }
 {
     match line {
-        [b':', digits @ ..] => match decode_digits(digits, room) {
-            Ok(bytes) => ihex_fields(bytes),
-            Err(fault) => Err(fault),
-        },
+        [b':', digits @ ..] => ihex_fields(decode_digits(digits, room)?),
         _ => Err(LineFault::Mark),
     }
 }
@@ -104,10 +101,9 @@ fn srec_record<'b>(line: &[u8], room: &'b mut [u8; ROOM]) -> Result<LineRecord<'
     ensures narrow { IfOk result (FitsFields Kind.Srec) }
 {
     match line {
-        [b'S', digit, digits @ ..] if digit.is_ascii_digit() => match decode_digits(digits, room) {
-            Ok(bytes) => srec_fields(*digit, bytes),
-            Err(fault) => Err(fault),
-        },
+        [b'S', digit, digits @ ..] if digit.is_ascii_digit() => {
+            srec_fields(*digit, decode_digits(digits, room)?)
+        }
         _ => Err(LineFault::Mark),
     }
 }
@@ -159,10 +155,7 @@ fn bare_line_says<'b>(
     if line.is_empty() {
         return Ok(Line::Nothing);
     }
-    match bare_record(kind, line, room) {
-        Ok(found) => Ok(meaning(kind, found)),
-        Err(fault) => Err(fault),
-    }
+    Ok(meaning(kind, bare_record(kind, line, room)?))
 }
 
 /// What a line says, with the blanks at its end. The bytes of a data record are put into the room.

@@ -88,16 +88,13 @@ impl Progress {
     pub(crate) fn new(alloc: Global, size: u32) -> Result<Progress, ImageFault>
         ensures { MatchResult result (λ p. progress_of p ≡ fresh_progress size) (λ fault. fault ≡ ImageFault.Memory) }
     {
-        match Image::new(alloc, size) {
-            Ok(image) => Ok(Progress {
-                image,
-                base: Base::Linear(0),
-                data_records: 0,
-                lines: 0,
-                ended: false,
-            }),
-            Err(fault) => Err(fault),
-        }
+        Ok(Progress {
+            image: Image::new(alloc, size)?,
+            base: Base::Linear(0),
+            data_records: 0,
+            lines: 0,
+            ended: false,
+        })
     }
 
     /// Lays the bytes of a data record.

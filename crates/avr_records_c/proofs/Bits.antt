@@ -6,25 +6,26 @@ use Rattle.avr_image.specs.Image.{byte_at}
 use Rattle.avr_records_c.specs.Bitmap.{bit, octet, octets, bitmap, is_there}
 
 -- eight bits in one number, the first in the lowest place
-bit_of : (a b c d e f g h r : ℕ) → a < 2 → b < 2 → c < 2 → d < 2 → e < 2 → f < 2 → g < 2 → h < 2
-    → (pick : ℕ → ℕ) → pick 0 ≡ a → pick 1 ≡ b → pick 2 ≡ c → pick 3 ≡ d → pick 4 ≡ e → pick 5 ≡ f → pick 6 ≡ g
-    → pick 7 ≡ h → r < 8
-    → bit_at (a + 2 * b + 4 * c + 8 * d + 16 * e + 32 * f + 64 * g + 128 * h) r ≡ pick r
-bit_of a b c d e f g h zero la lb lc ld le lf lg lh pick pa pb pc pd pe pf pg ph l = omega (arith, pa)
-bit_of a b c d e f g h (suc zero) la lb lc ld le lf lg lh pick pa pb pc pd pe pf pg ph l = omega (arith, pb)
-bit_of a b c d e f g h (suc (suc zero)) la lb lc ld le lf lg lh pick pa pb pc pd pe pf pg ph l = omega (arith, pc)
-bit_of a b c d e f g h (suc (suc (suc zero))) la lb lc ld le lf lg lh pick pa pb pc pd pe pf pg ph l = omega (arith, pd)
-bit_of a b c d e f g h (suc (suc (suc (suc zero)))) la lb lc ld le lf lg lh pick pa pb pc pd pe pf pg ph l =
-    omega (arith, pe)
-bit_of a b c d e f g h (suc (suc (suc (suc (suc zero))))) la lb lc ld le lf lg lh pick pa pb pc pd pe pf pg ph l =
-    omega (arith, pf)
-bit_of a b c d e f g h (suc (suc (suc (suc (suc (suc zero)))))) la lb lc ld le lf lg lh pick pa pb pc pd pe pf pg ph l =
-    omega (arith, pg)
-bit_of a b c d e f g h (suc (suc (suc (suc (suc (suc (suc zero))))))) la lb lc ld le lf lg lh pick pa pb pc pd pe pf pg
-    ph l = omega (arith, ph)
-bit_of a b c d e f g h (suc (suc (suc (suc (suc (suc (suc (suc r)))))))) la lb lc ld le lf lg lh pick pa pb pc pd pe pf
-    pg ph l =
-    absurd (omega (arith, l))
+bit_of : (pick : ℕ → ℕ) (first r : ℕ) → ((i : ℕ) → pick i < 2) → pick 0 ≡ first → r < 8
+    → bit_at (first + 2 * pick 1 + 4 * pick 2 + 8 * pick 3 + 16 * pick 4 + 32 * pick 5 + 64 * pick 6 + 128 * pick 7) r
+    ≡ pick r
+bit_of pick first zero small is l =
+    omega (arith, is, small 0, small 1, small 2, small 3, small 4, small 5, small 6, small 7)
+bit_of pick first (suc zero) small is l =
+    omega (arith, is, small 0, small 1, small 2, small 3, small 4, small 5, small 6, small 7)
+bit_of pick first (suc (suc zero)) small is l =
+    omega (arith, is, small 0, small 1, small 2, small 3, small 4, small 5, small 6, small 7)
+bit_of pick first (suc (suc (suc zero))) small is l =
+    omega (arith, is, small 0, small 1, small 2, small 3, small 4, small 5, small 6, small 7)
+bit_of pick first (suc (suc (suc (suc zero)))) small is l =
+    omega (arith, is, small 0, small 1, small 2, small 3, small 4, small 5, small 6, small 7)
+bit_of pick first (suc (suc (suc (suc (suc zero))))) small is l =
+    omega (arith, is, small 0, small 1, small 2, small 3, small 4, small 5, small 6, small 7)
+bit_of pick first (suc (suc (suc (suc (suc (suc zero)))))) small is l =
+    omega (arith, is, small 0, small 1, small 2, small 3, small 4, small 5, small 6, small 7)
+bit_of pick first (suc (suc (suc (suc (suc (suc (suc zero))))))) small is l =
+    omega (arith, is, small 0, small 1, small 2, small 3, small 4, small 5, small 6, small 7)
+bit_of pick first (suc (suc (suc (suc (suc (suc (suc (suc r)))))))) small is l = absurd (omega (arith, l))
 
 bit_small : (image : List (Option ℕ)) (addr : ℕ) → bit image addr < 2
 bit_small image addr = elim (is_some (byte_at image addr)) as (λ b. cond b 1 0 < 2)
@@ -32,11 +33,8 @@ bit_small image addr = elim (is_some (byte_at image addr)) as (λ b. cond b 1 0 
 
 octet_bit : (image : List (Option ℕ)) (addr r : ℕ) → r < 8 → bit_at (octet image addr) r ≡ bit image (addr + r)
 octet_bit image addr r l =
-    bit_of (bit image addr) (bit image (addr + 1)) (bit image (addr + 2)) (bit image (addr + 3))
-    (bit image (addr + 4)) (bit image (addr + 5)) (bit image (addr + 6)) (bit image (addr + 7)) r
-    (bit_small image addr) (bit_small image (addr + 1)) (bit_small image (addr + 2)) (bit_small image (addr + 3))
-    (bit_small image (addr + 4)) (bit_small image (addr + 5)) (bit_small image (addr + 6)) (bit_small image (addr + 7))
-    (λ (i : ℕ). bit image (addr + i)) (ap (bit image) (omega arith)) refl refl refl refl refl refl refl l
+    bit_of (λ (i : ℕ). bit image (addr + i)) (bit image addr) r (λ i. bit_small image (addr + i))
+    (ap (bit image) (omega arith)) l
 
 octet_at : (image : List (Option ℕ)) (k n q : ℕ) → q < n → get_or (octets image k n) q 0 ≡ octet image ((k + q) * 8)
 octet_at image k zero q l = absurd (omega (arith, l))

@@ -41,18 +41,26 @@ part-of-line gone count line more few = elim (cases_lt gone (length line)) [
       rw none refl
 ]
 
+-- a text's next line, and the lines after it
+pub record NextLine (whole : List ℕ) : Type 0 where
+  pub line : List ℕ
+  pub more : List ℕ
+  pub joined : whole ≡ line ++ more
+
 -- the part of a line that fits
-pub more-put : (text whole line more room now after : List ℕ) (put gone count : ℕ)
-    → IsPut text (drop gone whole) room put now → whole ≡ line ++ more
-    → count ≡ min (length now - put) (length (drop gone line))
-    → after ≡ take put now ++ (take count (drop gone line) ++ drop (put + count) now)
+pub more-put : (text whole room now after : List ℕ) (put gone count : ℕ) (next : NextLine whole)
+    → IsPut text (drop gone whole) room put now
+    → count ≡ min (length now - put) (length (drop gone next.line))
+    → after ≡ take put now ++ (take count (drop gone next.line) ++ drop (put + count) now)
     → IsPut text (drop (gone + count) whole) room (put + count) after
-more-put text whole line more room now after put gone count is split fit put_is =
+more-put text whole room now after put gone count next is fit put_is =
+    let line : List ℕ = next.line in
+    let split : whole ≡ line ++ next.more = next.joined in
     let long = room-length is in
     let prefix : List ℕ = take put text in
     let prefix_long : length prefix ≡ put = length-take-le put text is.most in
     let few : count ≤ length (drop gone line) = omega (arith, fit) in
-    let whole_long : length whole ≡ length line + length more = ap length split ∙ length-append line more in
+    let whole_long : length whole ≡ length line + length next.more = ap length split ∙ length-append line next.more in
     let line_left = length-drop gone line in
     let whole_left = length-drop gone whole in
     let text_left : length (drop gone whole) ≡ length text - put = ap length is.left ∙ length-drop put text in
@@ -68,7 +76,7 @@ more-put text whole line more room now after put gone count is split fit put_is 
     ∙ drop-append-add prefix (drop put room) count
     ∙ drop-drop count put room in
     let part : take count (drop gone line) ≡ take count (drop put text) =
-    part-of-line gone count line more few
+    part-of-line gone count line next.more few
     ∙ ap (λ (xs : List ℕ). take count (drop gone xs)) (sym split)
     ∙ ap (take count) is.left in
     record {
@@ -85,17 +93,16 @@ more-put text whole line more room now after put gone count is split fit put_is 
     }
 
 -- the whole line is out
-pub line-out : (text whole line more room now : List ℕ) (put gone left : ℕ)
-    → IsPut text (drop gone whole) room put now → whole ≡ line ++ more → length line ≤ gone
-    → left ≡ gone - length line
-    → IsPut text (drop left more) room put now
-line-out text whole line more room now put gone left is split past left_is =
-    let there : gone ≡ length line + left = omega (arith, past, left_is) in
+pub line-out : (text whole room now : List ℕ) (put gone left : ℕ) (next : NextLine whole)
+    → IsPut text (drop gone whole) room put now → length next.line ≤ gone → left ≡ gone - length next.line
+    → IsPut text (drop left next.more) room put now
+line-out text whole room now put gone left next is past left_is =
+    let there : gone ≡ length next.line + left = omega (arith, past, left_is) in
     record {
       fits = is.fits;
       most = is.most;
       left =
-          sym (drop-append-add line more left) ∙ ap₂ drop (sym there) (sym split) ∙ is.left;
+          sym (drop-append-add next.line next.more left) ∙ ap₂ drop (sym there) (sym next.joined) ∙ is.left;
       stands = is.stands;
     }
 

@@ -55,15 +55,15 @@ breaks_more p text a x b y mid now first then = record {
 }
 
 -- an answer that was not sent whole is one to a frame, the last that was fed
-breaks_found : (p : Programmer) (text used unused out part unsent : List ℕ) (old now : Machine) (found : List (List ℕ))
+breaks_found : (p : Programmer) (text used unused part unsent : List ℕ) (now : Machine) (found : List (List ℕ))
     → length found ≤ 1
-    → frames (text ++ used) ≡ frames text ++ found → out ≡ answers device found old.programmer
-    → old.programmer ≡ after_frames device (frames text) p
-    → IsFed p (text ++ used) now → out ≡ part ++ unsent → 0 < length unsent → BreaksOff p text (used ++ unused) part now
-breaks_found p text used unused out part unsent old now [] few fs answered at fed is some =
-    absurd (let e : length out ≡ length part + length unsent = ap length is ∙ length-append part unsent in
-    let z : length out ≡ 0 = ap length answered in omega arith)
-breaks_found p text used unused out part unsent old now (frame ∷ []) few fs answered at fed is some = record {
+    → frames (text ++ used) ≡ frames text ++ found
+    → part ++ unsent ≡ answers device found (after_frames device (frames text) p)
+    → IsFed p (text ++ used) now → 0 < length unsent → BreaksOff p text (used ++ unused) part now
+breaks_found p text used unused part unsent now [] few fs answered fed some =
+    absurd (let e = length-append part unsent in
+    let z : length (part ++ unsent) ≡ 0 = ap length answered in omega arith)
+breaks_found p text used unused part unsent now (frame ∷ []) few fs answered fed some = record {
   used = used;
   unused = unused;
   bytes_are = refl;
@@ -73,21 +73,20 @@ breaks_found p text used unused out part unsent old now (frame ∷ []) few fs an
   frames_are = fs;
   part = part;
   unsent = unsent;
-  answer_is = ap (answer_frame device frame) (sym at)
-      ∙ (sym (append-nil (answer_frame device frame old.programmer)) ∙ (sym answered ∙ is));
+  answer_is = sym (answered ∙ append-nil (answer_frame device frame (after_frames device (frames text) p)));
   not_whole = some;
   sent_is = refl;
 }
-breaks_found p text used unused out part unsent old now (frame ∷ other ∷ more) few fs answered at fed is some =
+breaks_found p text used unused part unsent now (frame ∷ other ∷ more) few fs answered fed some =
     absurd (omega arith)
 
 pub breaks_here : (p : Programmer) (text used unused out part unsent : List ℕ) (old now : Machine)
     → Answers old used now out → IsFed p text old → out ≡ part ++ unsent → 0 < length unsent
     → BreaksOff p text (used ++ unused) part now
 breaks_here p text used unused out part unsent old now a f is some =
-    breaks_found p text used unused out part unsent old now a.found a.few
-    (frames_fed old.held used now.held a.found text a.fed a.are_frames f.stands) a.answered f.obeyed
-    (is_fed old now used out p text a f) is some
+    breaks_found p text used unused part unsent now a.found a.few
+    (frames_fed old.held used now.held a.found text a.fed a.are_frames f.stands)
+    (sym is ∙ (a.answered ∙ ap (answers device a.found) f.obeyed)) (is_fed old now used out p text a f) some
 
 -- the answers to a prefix are a prefix of the answers
 answers_prefix : (p : Programmer) (x y : List ℕ) → IsPrefixOf (emulate p x) (emulate p (x ++ y))

@@ -1,9 +1,12 @@
-//! Every line of a plan brought about once, and what a plan holds.
+//! Every line of a plan brought about once, in the words that its fault shows, and what a plan holds.
 use avr_cli::{Format, Op, Port, Settings, Switches, Text, Update, Updates};
-use avr_desk::{FailingDesk, MemDesk};
-use avr_part::Mem;
-use avr_plan::{Task, plan};
+use avr_desk::{FailingDesk, FileFault, MemDesk};
+use avr_image::ImageFault;
+use avr_part::{Field, Mem, PartFault};
+use avr_plan::{BadFile, ReadFault, Task, plan};
+use avr_records::RecordFault;
 use std::alloc::{AllocError, Global};
+use std::fmt;
 use std::test::Fail;
 
 #[derive(Clone, Copy)]
@@ -108,10 +111,22 @@ fn plans(
     Ok(image.len() == held && desk.messages() == line.as_bytes())
 }
 
-/// Whether each of these texts as a.hex is refused with its line.
-fn refuses_all(alloc: Global, rows: &[(&str, &str)]) -> Result<bool, AllocError> {
-    for (text, line) in rows {
-        if !refuses(alloc, "a.hex", text.as_bytes(), &flash_of("a.hex"), line)? {
+/// Whether a line of an error about a file is what its fault shows.
+fn shows<F: fmt::Display>(
+    alloc: Global,
+    file: &str,
+    fault: &F,
+    line: &str,
+) -> Result<bool, AllocError> {
+    Ok(format!(in alloc; "avrstk: error: {file}: {fault}\n")?.as_str() == line)
+}
+
+/// Whether each of these texts as a.hex is refused with its line, and that is what its fault shows.
+fn refuses_all(alloc: Global, rows: &[(&str, RecordFault, &str)]) -> Result<bool, AllocError> {
+    for (text, fault, line) in rows {
+        if !refuses(alloc, "a.hex", text.as_bytes(), &flash_of("a.hex"), line)?
+            || !shows(alloc, "a.hex", fault, line)?
+        {
             return Ok(false);
         }
     }
@@ -123,30 +138,37 @@ fn lines_of_record_files(rt: HostRuntime) -> Result<(), Fail> {
     let rows = [
         (
             ":0400000001020304F3\n",
+            RecordFault::BadSum(1),
             "avrstk: error: a.hex: line 1: bad checksum\n",
         ),
         (
             ":020000040001F9\n:0100000055AA\n",
+            RecordFault::OutOfRange(2, 0x0001_0000),
             "avrstk: error: a.hex: line 2: address 00010000 out of range\n",
         ),
         (
             ":00000000000\n",
+            RecordFault::BadLength(1),
             "avrstk: error: a.hex: line 1: bad length\n",
         ),
         (
             ":0000000000G0\n",
+            RecordFault::BadDigit(1),
             "avrstk: error: a.hex: line 1: bad digit\n",
         ),
         (
             ":00000006FA\n",
+            RecordFault::BadType(1),
             "avrstk: error: a.hex: line 1: bad record type\n",
         ),
         (
             ":0000000000\n0000000000\n",
+            RecordFault::BadMark(2),
             "avrstk: error: a.hex: line 2: no record mark\n",
         ),
         (
             "S107000001020304EE\nS5030002FA\n",
+            RecordFault::BadCount(2),
             "avrstk: error: a.hex: line 2: bad record count\n",
         ),
     ];
@@ -187,6 +209,7 @@ fn refuses_text(
 fn a_line_too_long(rt: HostRuntime) -> Result<(), Fail> {
     let line = "avrstk: error: a.hex: line 1: line too long\n";
     assert!(rt; refuses_text(rt.alloc(), b":", b"0", 601, line)?);
+    assert!(rt; shows(rt.alloc(), "a.hex", &RecordFault::LineTooLong(1), line)?);
     Ok(())
 }
 
@@ -202,6 +225,7 @@ fn files_past_the_limit(rt: HostRuntime) -> Result<(), Fail> {
     assert!(rt; refuses_text(alloc, BAD, EMPTY, 4_194_305, line)?);
     let line = "avrstk: error: a.hex: longer than 4194304 bytes\n";
     assert!(rt; refuses_text(alloc, GOOD, EMPTY, 4_194_305, line)?);
+    assert!(rt; shows(alloc, "a.hex", &BadFile::TooLong, line)?);
     Ok(())
 }
 
@@ -232,12 +256,16 @@ fn other_files(rt: HostRuntime) -> Result<(), Fail> {
     let alloc = rt.alloc();
     let line = "avrstk: error: a.bin: ELF is not read\n";
     assert!(rt; refuses(alloc, "a.bin", b"\x7FELF", &flash_of("a.bin"), line)?);
+    assert!(rt; shows(alloc, "a.bin", &ReadFault::Image(BadFile::Elf), line)?);
     let line = "avrstk: error: b.hex: cannot be opened\n";
     assert!(rt; refuses(alloc, "a.hex", b"", &flash_of("b.hex"), line)?);
+    assert!(rt; shows(alloc, "b.hex", &ReadFault::File(FileFault::Absent), line)?);
     let mut fuse = flash_of("a.bin");
     fuse.memory = Mem::Lfuse;
     let line = "avrstk: error: a.bin: address 00000001 out of range\n";
     assert!(rt; refuses(alloc, "a.bin", b"ab", &fuse, line)?);
+    let range = ImageFault::OutOfRange(1);
+    assert!(rt; shows(alloc, "a.bin", &ReadFault::Image(BadFile::Raw(range)), line)?);
     let mut signature = flash_of("1");
     signature.memory = Mem::Signature;
     let line = "avrstk: error: signature is read-only\n";
@@ -245,41 +273,59 @@ fn other_files(rt: HostRuntime) -> Result<(), Fail> {
     Ok(())
 }
 
-/// Whether these values for the low fuse are refused with this line.
-fn refuses_values(alloc: Global, values: &str, line: &str) -> Result<bool, AllocError> {
+/// Whether these values for the low fuse are refused with this line, and that is what the fault shows.
+fn refuses_values(
+    alloc: Global,
+    values: &str,
+    fault: ImageFault,
+    line: &str,
+) -> Result<bool, AllocError> {
     let mut asked = flash_of(values);
     asked.memory = Mem::Lfuse;
     asked.format = Format::Immediate;
-    refuses(alloc, "-", b"", &asked, line)
+    Ok(refuses(alloc, "-", b"", &asked, line)? && shows(alloc, "lfuse", &fault, line)?)
 }
 
 #[test]
 fn lines_of_values(rt: HostRuntime) -> Result<(), Fail> {
     let alloc = rt.alloc();
     let line = "avrstk: error: lfuse: value 1: not a number\n";
-    assert!(rt; refuses_values(alloc, "-", line)?);
+    assert!(rt; refuses_values(alloc, "-", ImageFault::BadNumber(1), line)?);
     let line = "avrstk: error: lfuse: value 1: above 255\n";
-    assert!(rt; refuses_values(alloc, "0x100", line)?);
+    assert!(rt; refuses_values(alloc, "0x100", ImageFault::TooLarge(1), line)?);
     let line = "avrstk: error: lfuse: address 00000001 out of range\n";
-    assert!(rt; refuses_values(alloc, "0xE2, 1", line)?);
+    assert!(rt; refuses_values(alloc, "0xE2, 1", ImageFault::OutOfRange(1), line)?);
     Ok(())
 }
 
 const PART: &str =
     "[parts.m328p]\nsignature = \"1E950F\"\nflash_size = 100\nflash_page = 64\neeprom_size = 1024\neeprom_page = 4\neesave_bit = 3\n";
 
+/// Whether this part file is refused with this line, and that is what the fault shows.
+fn refuses_parts(
+    alloc: Global,
+    text: &str,
+    fault: PartFault,
+    line: &str,
+) -> Result<bool, AllocError> {
+    let asked = part_of("p.toml", "m328p");
+    Ok(
+        refuses(alloc, "p.toml", text.as_bytes(), &asked, line)?
+            && shows(alloc, "p.toml", &fault, line)?,
+    )
+}
+
 #[test]
 fn lines_of_part_files(rt: HostRuntime) -> Result<(), Fail> {
     let alloc = rt.alloc();
-    let asked = part_of("p.toml", "m328p");
     let line = "avrstk: error: p.toml: not TOML\n";
-    assert!(rt; refuses(alloc, "p.toml", b"[", &asked, line)?);
+    assert!(rt; refuses_parts(alloc, "[", PartFault::NotToml, line)?);
     let line = "avrstk: error: p.toml: parts is missing\n";
-    assert!(rt; refuses(alloc, "p.toml", b"", &asked, line)?);
+    assert!(rt; refuses_parts(alloc, "", PartFault::Missing(Field::Parts), line)?);
     let line = "avrstk: error: p.toml: parts has a bad value\n";
-    assert!(rt; refuses(alloc, "p.toml", b"parts = 1", &asked, line)?);
+    assert!(rt; refuses_parts(alloc, "parts = 1", PartFault::BadValue(Field::Parts), line)?);
     let line = "avrstk: error: p.toml: sizes do not fit\n";
-    assert!(rt; refuses(alloc, "p.toml", PART.as_bytes(), &asked, line)?);
+    assert!(rt; refuses_parts(alloc, PART, PartFault::BadSizes, line)?);
     Ok(())
 }
 
@@ -314,9 +360,13 @@ fn fails_at(alloc: Global, n: u64, line: &str) -> Result<bool, AllocError> {
 #[test]
 fn a_desk_that_fails(rt: HostRuntime) -> Result<(), Fail> {
     let alloc = rt.alloc();
-    assert!(rt; fails_at(alloc, 1, "avrstk: error: a.hex: cannot be opened\n")?);
-    assert!(rt; fails_at(alloc, 2, "avrstk: error: a.hex: cannot be read\n")?);
-    assert!(rt; fails_at(alloc, 3, "avrstk: error: a.hex: cannot be read\n")?);
+    let line = "avrstk: error: a.hex: cannot be opened\n";
+    assert!(rt; fails_at(alloc, 1, line)?);
+    assert!(rt; shows(alloc, "a.hex", &FileFault::NotOpened, line)?);
+    let line = "avrstk: error: a.hex: cannot be read\n";
+    assert!(rt; fails_at(alloc, 2, line)?);
+    assert!(rt; fails_at(alloc, 3, line)?);
+    assert!(rt; shows(alloc, "a.hex", &FileFault::NotRead, line)?);
     Ok(())
 }
 

@@ -19,10 +19,14 @@ use Rattle.avr_desk.proofs.Stages.Played.{says_more}
 
 -- ---- where the desk did not fail
 
--- a line reported stands at the end of the messages
+-- this line stands at the end of the messages
+abbrev EndsWith : Bytes → Record → Type 0
+EndsWith line r = (prefix : Bytes) × (r.messages ≡ prefix ++ line)
+
+-- a line reported does
 told_last : (before after : Record) (said last : List Saying) (told line : Bytes) → told ≡ line
     → ((r : Record) → (after_all last r).messages ≡ r.messages ++ told)
-    → after ≡ after_all (said ++ last) before → (prefix : Bytes) × (after.messages ≡ prefix ++ line)
+    → after ≡ after_all (said ++ last) before → EndsWith line after
 told_last before after said last told line whole ends kept =
     let same : after ≡ after_all (said ++ last) before = cc in (
       (after_all said before).messages,
@@ -39,8 +43,7 @@ whole_line line told old new sound (inr part) =
 
 -- and of the breaks only the want of memory is left
 broke_lacks : {A : Type 0} (stage : Stage A) (before after : Record) (k l m n : ℕ) → HasStood k l
-    → (b : StageBrokeOff stage (showing before k m) (showing after l n))
-    → (prefix : Bytes) × (after.messages ≡ prefix ++ memory_line)
+    → StageBrokeOff stage (showing before k m) (showing after l n) → EndsWith memory_line after
 broke_lacks stage before after k l m n sound b = by_break b.break b.told b.tells b.kept
   where
     old : DeskView
@@ -50,8 +53,7 @@ broke_lacks stage before after k l m n sound b = by_break b.break b.told b.tells
     new = showing after l n
 
     by_break : (break : Break) (told : Bytes) → TellsBreak break told old new
-        → after ≡ after_all (b.whole ++ last_done break told) before
-        → (prefix : Bytes) × (after.messages ≡ prefix ++ memory_line)
+        → after ≡ after_all (b.whole ++ last_done break told) before → EndsWith memory_line after
     by_break (InLine line) told tells kept =
         absurd (not_failed old old new new (follows_here old) (follows_here new) sound tells.1.0)
     by_break (NotOpened name) told tells kept =

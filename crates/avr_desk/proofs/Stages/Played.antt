@@ -54,30 +54,29 @@ told_append first second (Made a) = refl
 told_append first second (Refused line) = append_assoc first second (Line line ∷ [])
 told_append first second Unread = refl
 
+-- the sayings of the next stage stand behind a rest
 rest_on : {A B : Type 0} (says : List Saying) (left : List Opening) (go_on : A → Stage B) (answer : StageAnswer A)
-    (whole later : List Saying) (break : Break)
-    (more : List Opening)
-    → says ≡ whole ++ later → IsBreak break more (all_told later answer)
+    (whole : List Saying) (break : Break) (more : List Opening)
+    → Rest (record { says = says; answer = answer; left = left }) whole break more
     → Rest (going_on says left go_on answer) whole break more
-rest_on says left go_on (Made a) whole later break more is broken =
+rest_on says left go_on (Made a) whole break more rest =
     let q = go_on a left in
     record {
-      later = later ++ q.says;
-      says_are = ap (λ (ss : List Saying). ss ++ q.says) is ∙ append_assoc whole later q.says;
-      broken = subst (IsBreak break more) (sym (told_append later q.says q.answer))
-          (break_more break more later (all_told q.says q.answer) broken);
+      later = rest.later ++ q.says;
+      says_are = ap (λ (ss : List Saying). ss ++ q.says) rest.says_are ∙ append_assoc whole rest.later q.says;
+      broken = subst (IsBreak break more) (sym (told_append rest.later q.says q.answer))
+          (break_more break more rest.later (all_told q.says q.answer) rest.broken);
     }
-rest_on says left go_on (Refused line) whole later break more is broken =
-    record { later = later; says_are = is; broken = broken }
-rest_on says left go_on Unread whole later break more is broken =
-    record { later = later; says_are = is; broken = broken }
+rest_on says left go_on (Refused line) whole break more rest =
+    record { later = rest.later; says_are = rest.says_are; broken = rest.broken }
+rest_on says left go_on Unread whole break more rest =
+    record { later = rest.later; says_are = rest.says_are; broken = rest.broken }
 
 rest_more : {A B : Type 0} (p : StageResult A) (go_on : A → Stage B) (whole : List Saying) (break : Break)
     (more : List Opening)
     → Rest p whole break more
     → Rest (going_on p.says p.left go_on p.answer) whole break more
-rest_more p go_on whole break more rest =
-    rest_on p.says p.left go_on p.answer whole rest.later break more rest.says_are rest.broken
+rest_more p go_on whole break more rest = rest_on p.says p.left go_on p.answer whole break more rest
 
 rest_behind : {A : Type 0} (says whole : List Saying) (p : StageResult A) (break : Break) (more : List Opening)
     → Rest p whole break more

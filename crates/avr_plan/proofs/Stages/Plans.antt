@@ -1,7 +1,6 @@
 -- The stages of a plan, one after the other.
-use Rattle.std.proofs.Common.{◌≡◌, sym, subst, ℕ, List, [], Result, Ok, Err}
+use Rattle.std.proofs.Common.{◌≡◌, subst, ℕ, List, [], Result, Ok, Err}
 use Rattle.avr_cli.specs.declared.settings.Settings.{Settings}
-use Rattle.avr_cli.specs.declared.update.Update.{Update}
 use Rattle.avr_desk.specs.Record.{DeskView, Bytes}
 use Rattle.avr_part.specs.Part.{Part}
 use Rattle.avr_desk.proofs.Stages.Played.{goes_on, goes_no_further, went_went, went_into}
@@ -24,42 +23,31 @@ pub goes_without_parts : (s : Settings) (old new : DeskView) (status : ℕ)
     → Goes (parts_stage s.parts) old new (Err status) → Goes (planned s) old new (Err status)
 goes_without_parts s old new status goes = goes_no_further (parts_stage s.parts) (behind_parts s) old new status goes
 
-pub goes_without_part : (s : Settings) (id : Bytes) (old mid new : DeskView) (status : ℕ) (parts : List Part)
-    → id ≡ s.part
-    → Went (parts_stage s.parts) old mid (Made parts) → Goes (part_stage id parts) mid new (Err status)
+pub goes_without_part : (s : Settings) (old mid new : DeskView) (status : ℕ) (parts : List Part)
+    → Went (parts_stage s.parts) old mid (Made parts) → Goes (part_stage s.part parts) mid new (Err status)
     → Goes (planned s) old new (Err status)
-goes_without_part s id old mid new status parts same went goes =
-    let own = subst (λ (i : Bytes). Goes (part_stage i parts) mid new (Err status)) same goes in
+goes_without_part s old mid new status parts went goes =
     goes_on (parts_stage s.parts) (behind_parts s) old mid new parts (Err status) went
-    (goes_no_further (part_stage s.part parts) (behind_part s) mid new status own)
+    (goes_no_further (part_stage s.part parts) (behind_part s) mid new status goes)
 
-pub goes_without_tasks : (s : Settings) (id : Bytes) (updates : List Update) (old first mid new : DeskView)
-    (status : ℕ) (parts : List Part) (part : Part)
-    → id ≡ s.part → updates ≡ s.updates → Went (parts_stage s.parts) old first (Made parts)
-    → Went (part_stage id parts) first mid (Made part)
-    → Goes (tasks_stage s.switches part [] updates) mid new (Err status) → Goes (planned s) old new (Err status)
-goes_without_tasks s id updates old first mid new status parts part same all went found goes =
-    let own = subst (λ (i : Bytes). Went (part_stage i parts) first mid (Made part)) same found in
-    let tasks = subst (λ (us : List Update). Goes (tasks_stage s.switches part [] us) mid new (Err status)) all goes in
+pub goes_without_tasks : (s : Settings) (old first mid new : DeskView) (status : ℕ) (parts : List Part) (part : Part)
+    → Went (parts_stage s.parts) old first (Made parts) → Went (part_stage s.part parts) first mid (Made part)
+    → Goes (tasks_stage s.switches part [] s.updates) mid new (Err status) → Goes (planned s) old new (Err status)
+goes_without_tasks s old first mid new status parts part went found goes =
     goes_on (parts_stage s.parts) (behind_parts s) old first new parts (Err status) went
-    (goes_on (part_stage s.part parts) (behind_part s) first mid new part (Err status) own
+    (goes_on (part_stage s.part parts) (behind_part s) first mid new part (Err status) found
     (goes_no_further (tasks_stage s.switches part [] s.updates) (λ ts. verdict_stage (Ok (plan_of s part ts))) mid new
-    status tasks))
+    status goes))
 
-pub went_whole_plan : (s : Settings) (id : Bytes) (updates : List Update) (old first mid new : DeskView)
-    (parts : List Part) (part : Part)
-    (tasks : List Task) (plan : Plan)
-    → id ≡ s.part → updates ≡ s.updates → plan ≡ plan_of s part tasks
-    → Went (parts_stage s.parts) old first (Made parts)
-    → Went (part_stage id parts) first mid (Made part)
-    → Went (tasks_stage s.switches part [] updates) mid new (Made tasks) → Went (planned s) old new (Made plan)
-went_whole_plan s id updates old first mid new parts part tasks plan same all is went found made =
-    let own = subst (λ (i : Bytes). Went (part_stage i parts) first mid (Made part)) same found in
-    let done = subst (λ (us : List Update). Went (tasks_stage s.switches part [] us) mid new (Made tasks)) all made in
-    subst (λ (p : Plan). Went (planned s) old new (Made p)) (sym is)
-    (went_went (parts_stage s.parts) (behind_parts s) old first new parts (Made (plan_of s part tasks)) went
-    (went_went (part_stage s.part parts) (behind_part s) first mid new part (Made (plan_of s part tasks)) own
-    (went_into (tasks_stage s.switches part [] s.updates) (plan_of s part) mid new tasks done)))
+pub went_whole_plan : (s : Settings) (old first mid new : DeskView) (parts : List Part) (part : Part)
+    (tasks : List Task)
+    → Went (parts_stage s.parts) old first (Made parts) → Went (part_stage s.part parts) first mid (Made part)
+    → Went (tasks_stage s.switches part [] s.updates) mid new (Made tasks)
+    → Went (planned s) old new (Made (plan_of s part tasks))
+went_whole_plan s old first mid new parts part tasks went found made =
+    went_went (parts_stage s.parts) (behind_parts s) old first new parts (Made (plan_of s part tasks)) went
+    (went_went (part_stage s.part parts) (behind_part s) first mid new part (Made (plan_of s part tasks)) found
+    (went_into (tasks_stage s.switches part [] s.updates) (plan_of s part) mid new tasks made))
 
 -- no part has the id, whatever it is called here
 pub lacks_part : (id own : Bytes) (parts : List Part) (old mid new : DeskView) → id ≡ own

@@ -2,25 +2,25 @@
 use Rattle.std.proofs.Common.{◌≡◌, ◌∙◌, sym, ap, ap₂, refl, subst, arith, ℕ, ◌+◌, ◌<◌, ◌≤◌, max, count_by, List, [], ◌∷◌, ◌++◌, length, map, flat_map, Option, Some, None, Result, Ok, Err, false, true, inl, inr}
 use Rattle.std.proofs.lemmas.Bool.{cases_Bool}
 use Rattle.std.proofs.lemmas.Bool.Decides.{nat_tests}
-use Rattle.std.proofs.lemmas.List.{length-append}
+use Rattle.std.proofs.lemmas.Grind.{flat_map-append}
+use Rattle.std.proofs.lemmas.List.{append-nil, append_assoc, length-append}
 use Rattle.std.specs.List.{enumerate_from, list_any}
 use Rattle.avr_image.specs.Image.{fits}
 use Rattle.avr_records.specs.Extents.{EndsAt, IsExtentOf, fault_past_line, extended_by, extent_unless, next_extent, with_line_more, ending_said}
 use Rattle.avr_records.specs.Lines.{lines}
 use Rattle.avr_records.specs.Meaning.{Nothing, Data, Rebase, Counted, End}
-use Rattle.avr_records.specs.Needed.{largest, end_of, size_or_fault, needed_by, needed_in_text}
-use Rattle.avr_records.specs.Reading.{Said, is_end, is_data, up_to_end, in_place, first_fault, fault_in, or_later, in_line, places, placed_bytes, beyond, next_base, said_by_line}
+use Rattle.avr_records.specs.Needed.{largest, end_of, needed_by, needed_in_text}
+use Rattle.avr_records.specs.Reading.{Said, is_end, is_data, up_to_end, in_place, first_fault, fault_in, in_line, placed_bytes, beyond, next_base, said_by_line}
 use Rattle.avr_records.specs.declared.extent.Extent.{Extent}
 use Rattle.avr_records.specs.declared.kind.Base.{Base}
-use Rattle.avr_records.specs.declared.kind.Base.TheVariants.{Linear}
 use Rattle.avr_records.specs.declared.kind.Kind.{Kind}
 use Rattle.avr_records.specs.declared.kind.Ending.TheVariants.{Ended, NoEnd}
 use Rattle.avr_records.specs.declared.fault.LineFault.{LineFault}
 use Rattle.avr_records.specs.declared.fault.RecordFault.{RecordFault}
 use Rattle.avr_records.proofs.Readers.Fed.{line-first, says-nothing, said-prefix, map-append}
-use Rattle.avr_records.proofs.Readers.Held.{list_any-append, last-in_place, fault-last, base-last, flat_map-append, count-append, up_to_end-begins}
-use Rattle.avr_records.proofs.Readers.LaterLines.{append-nil, append-assoc, in_place-append, first_fault-append, up_to_end-open}
-use Rattle.avr_records.proofs.Texts.Places.{beyond-append, beyond-first, beyond-span, beyond-span-end, places-linear}
+use Rattle.avr_records.proofs.Readers.Held.{list_any-append, last-in_place, fault-last, base-last, count-append, up_to_end-begins}
+use Rattle.avr_records.proofs.Readers.LaterLines.{in_place-append, first_fault-append, up_to_end-open}
+use Rattle.avr_records.proofs.Texts.Places.{beyond-append, beyond-span, beyond-span-end}
 
 -- ---- where bytes end
 
@@ -255,7 +255,7 @@ walk-next kind e new text left line more w one end step open' =
     record {
       prefix = w.prefix ++ line ∷ [];
       cut = w.cut ∙ ap (λ (ls : List (List ℕ)). w.prefix ++ ls) (left-lines left line more one end)
-          ∙ sym (append-assoc w.prefix (line ∷ []) (lines more));
+          ∙ sym (append_assoc w.prefix (line ∷ []) (lines more));
       measures = rw (said-prefix kind w.prefix line)
           (measures-next e new said (said_by_line kind line) w.measures (open-line (said_by_line kind line) open') s);
     }

@@ -2,10 +2,10 @@
 use Rattle.std.proofs.Common.{◌≡◌, ◌∙◌, sym, ap, refl, arith, ℕ, List, [], ◌∷◌, ◌++◌, length, map, Bool, true, false, nat_lt, Option, Some, None, Result, Ok, Err, MatchBool, subst, inl, inr}
 use Rattle.std.proofs.lemmas.Bool.{cases_Bool, cond-true, cond-false}
 use Rattle.std.proofs.lemmas.Bool.Decides.{nat_tests}
-use Rattle.std.proofs.lemmas.List.{length-append, length-replicate}
+use Rattle.std.proofs.lemmas.List.{append-nil, append_assoc, length-append, length-replicate}
 use Rattle.avr_image.specs.Image.{empty}
 use Rattle.avr_records.proofs.Readers.Held.{Leaves, leaves-next, step-good, step-bad, done-more, done-of, held-of, leaves-done}
-use Rattle.avr_records.proofs.Readers.LaterLines.{append-nil, append-assoc, parts-some, pasted-last, slice_split-append, up_to_end-open}
+use Rattle.avr_records.proofs.Readers.LaterLines.{parts-some, pasted-last, slice_split-append, up_to_end-open}
 use Rattle.avr_records.specs.Closed.{all_but_last, fault_among, closed_fault, ok_unless}
 use Rattle.avr_records.specs.Lines.{lines, is_line_end}
 use Rattle.avr_records.specs.Progress.{Progress, fresh_progress, Held, HoldsToEnd, image_size}
@@ -127,7 +127,7 @@ keeps-done kind p part new text more ended r =
       cut =
           goes-on text more r.prefix r.last some.0 some.1 r.cut some.2
           ∙ ap (λ (zs : List (List ℕ)). r.prefix ++ zs) cut.1
-          ∙ sym (append-assoc r.prefix closed (cut.0 ∷ []));
+          ∙ sym (append_assoc r.prefix closed (cut.0 ∷ []));
       follows = subst (Follows kind p new (r.prefix ++ closed) cut.0) (sym ended)
           (rw (map-append (said_by_line kind) r.prefix closed) done);
     }
@@ -140,7 +140,7 @@ ends text rest more prefix last one cut =
     goes-on text (rest ++ 10 ∷ more) prefix last rest (lines more) cut (line-first rest more one)
 
 ended-prefix : (prefix : List (List ℕ)) (line : List ℕ) → prefix ++ line ∷ [] ∷ [] ≡ (prefix ++ line ∷ []) ++ [] ∷ []
-ended-prefix prefix line = sym (append-assoc prefix (line ∷ []) ([] ∷ []))
+ended-prefix prefix line = sym (append_assoc prefix (line ∷ []) ([] ∷ []))
 
 pub said-prefix : (kind : Kind) (prefix : List (List ℕ)) (line : List ℕ)
     → map (said_by_line kind) (prefix ++ line ∷ []) ≡ map (said_by_line kind) prefix ++ said_by_line kind line ∷ []
@@ -362,52 +362,64 @@ whole-empty kind p part text empty r =
 
 rearranged : (used line rest : List ℕ) → used ++ (line ++ 10 ∷ rest) ≡ (used ++ (line ++ 10 ∷ [])) ++ rest
 rearranged used line rest =
-    ap (λ (zs : List ℕ). used ++ zs) (sym (append-assoc line (10 ∷ []) rest))
-    ∙ sym (append-assoc used (line ++ 10 ∷ []) rest)
+    ap (λ (zs : List ℕ). used ++ zs) (sym (append_assoc line (10 ∷ []) rest))
+    ∙ sym (append_assoc used (line ++ 10 ∷ []) rest)
 
--- Of a piece this is left, and what was used of it led from one progress to the other.
-pub record Carries (kind : Kind) (p : Progress) (part : Option (List ℕ)) (now : Progress) (kept : Option (List ℕ))
-    (piece left : List ℕ) : Type 0 where
+-- what a reader of lines holds: what the lines that have ended leave, and what is kept of the last one
+pub record LineState : Type 0 where
+  pub progress : Progress
+  pub part : Option (List ℕ)
+
+abbrev pub line_state : Progress → Option (List ℕ) → LineState
+line_state progress part = record { progress = progress; part = part }
+
+-- Of a piece this is left, and what was used of it led from one state to the other.
+pub record Carries (kind : Kind) (old now : LineState) (piece left : List ℕ) : Type 0 where
   pub used : List ℕ
   pub cut : piece ≡ used ++ left
-  pub reads : (text : List ℕ) → ReadsLines kind p part text → ReadsLines kind now kept (text ++ used)
+  pub reads : (text : List ℕ) → ReadsLines kind old.progress old.part text
+      → ReadsLines kind now.progress now.part (text ++ used)
 
-pub carries-next : (kind : Kind) (p : Progress) (part : Option (List ℕ)) (now : Progress) (kept : Option (List ℕ))
-    (new : Progress) (next : Option (List ℕ)) (piece left line more : List ℕ)
-    → Carries kind p part now kept piece left → lines line ≡ line ∷ [] → left ≡ line ++ 10 ∷ more
-    → line_step kind now kept line ≡ Ok new → (now.ended ≡ false → next ≡ Some [])
-    → Carries kind p part new next piece more
-carries-next kind p part now kept new next piece left line more carries one end is clear = record {
+pub carries-next : (kind : Kind) (old now new : LineState) (piece left line more : List ℕ)
+    → Carries kind old now piece left → lines line ≡ line ∷ [] → left ≡ line ++ 10 ∷ more
+    → line_step kind now.progress now.part line ≡ Ok new.progress
+    → (now.progress.ended ≡ false → new.part ≡ Some [])
+    → Carries kind old new piece more
+carries-next kind old now new piece left line more carries one end is clear = record {
   used = carries.used ++ (line ++ 10 ∷ []);
   cut = carries.cut ∙ ap (λ (zs : List ℕ). carries.used ++ zs) end ∙ rearranged carries.used line more;
   reads = λ text r.
-      let same = append-assoc text carries.used (line ++ 10 ∷ []) in
-      subst (λ (t : List ℕ). ReadsLines kind new next t) same
-      (ends-good kind now new kept next (text ++ carries.used) line one is clear (carries.reads text r));
+      let same = append_assoc text carries.used (line ++ 10 ∷ []) in
+      subst (λ (t : List ℕ). ReadsLines kind new.progress new.part t) same
+      (ends-good kind now.progress new.progress now.part new.part (text ++ carries.used) line one is clear
+      (carries.reads text r));
 }
 
-pub carries-fault : (kind : Kind) (p : Progress) (part : Option (List ℕ)) (now : Progress) (kept : Option (List ℕ))
-    (piece left line more : List ℕ) (fault : RecordFault)
-    → Carries kind p part now kept piece left → lines line ≡ line ∷ [] → left ≡ line ++ 10 ∷ more
-    → line_step kind now kept line ≡ Err fault → image_size now ≡ image_size p
-    → (text : List ℕ) → ReadsLines kind p part text → closed_fault kind (text ++ piece) (image_size p) ≡ Some fault
-carries-fault kind p part now kept piece left line more fault carries one end is same text r =
+pub carries-fault : (kind : Kind) (old now : LineState) (piece left line more : List ℕ) (fault : RecordFault)
+    → Carries kind old now piece left → lines line ≡ line ∷ [] → left ≡ line ++ 10 ∷ more
+    → line_step kind now.progress now.part line ≡ Err fault → image_size now.progress ≡ image_size old.progress
+    → (text : List ℕ) → ReadsLines kind old.progress old.part text
+    → closed_fault kind (text ++ piece) (image_size old.progress) ≡ Some fault
+carries-fault kind old now piece left line more fault carries one end is same text r =
     let parts : text ++ piece ≡ (text ++ carries.used) ++ (line ++ 10 ∷ more) =
     ap (λ (zs : List ℕ). text ++ zs) (carries.cut ∙ ap (λ (zs : List ℕ). carries.used ++ zs) end)
-    ∙ sym (append-assoc text carries.used _) in
-    rw (parts, ← same) (ends-bad kind now kept (text ++ carries.used) line more fault one is (carries.reads text r))
+    ∙ sym (append_assoc text carries.used _) in
+    rw (parts, ← same)
+    (ends-bad kind now.progress now.part (text ++ carries.used) line more fault one is (carries.reads text r))
 
-pub carries-last : (kind : Kind) (p : Progress) (part : Option (List ℕ)) (now : Progress) (kept : Option (List ℕ))
-    (new : Progress) (next : Option (List ℕ)) (piece left : List ℕ)
-    → Carries kind p part now kept piece left → (now.ended ≡ false → lines left ≡ left ∷ []) → new ≡ now
-    → (now.ended ≡ false → next ≡ grown kept left)
-    → (text : List ℕ) → ReadsLines kind p part text → ReadsLines kind new next (text ++ piece)
-carries-last kind p part now kept new next piece left carries one is goes text r =
+pub carries-last : (kind : Kind) (old now new : LineState) (piece left : List ℕ)
+    → Carries kind old now piece left → (now.progress.ended ≡ false → lines left ≡ left ∷ [])
+    → new.progress ≡ now.progress → (now.progress.ended ≡ false → new.part ≡ grown now.part left)
+    → (text : List ℕ) → ReadsLines kind old.progress old.part text
+    → ReadsLines kind new.progress new.part (text ++ piece)
+carries-last kind old now new piece left carries one is goes text r =
     let parts : text ++ piece ≡ (text ++ carries.used) ++ left =
-    ap (λ (zs : List ℕ). text ++ zs) carries.cut ∙ sym (append-assoc text carries.used left) in
-    rw (is, parts) (elim (cases_Bool now.ended) [
-      | inl t ↦ keeps-done kind now kept next (text ++ carries.used) left t (carries.reads text r)
-      | inr f ↦ rw (goes f) (keeps kind now kept (text ++ carries.used) left (one f) f (carries.reads text r))
+    ap (λ (zs : List ℕ). text ++ zs) carries.cut ∙ sym (append_assoc text carries.used left) in
+    rw (is, parts) (elim (cases_Bool now.progress.ended) [
+      | inl t ↦
+          keeps-done kind now.progress now.part new.part (text ++ carries.used) left t (carries.reads text r)
+      | inr f ↦
+          rw (goes f) (keeps kind now.progress now.part (text ++ carries.used) left (one f) f (carries.reads text r))
     ])
 
 -- ---- the beginning

@@ -1,8 +1,9 @@
 -- How a line changes what a reader holds.
-use Rattle.std.proofs.Common.{◌≡◌, ◌∙◌, sym, ap, refl, arith, ℕ, ◌+◌, List, [], ◌∷◌, ◌++◌, length, Bool, true, false, cond, ◌||◌, MatchBool, Ok, Err, subst, Option, Some, None, flat_map, fold, count_by, inl, inr}
+use Rattle.std.proofs.Common.{◌≡◌, ◌∙◌, sym, ap, refl, arith, ℕ, ◌+◌, List, [], ◌∷◌, ◌++◌, length, Bool, true, false, cond, ◌||◌, MatchBool, Ok, Err, subst, Option, Some, None, flat_map, count_by, inl, inr}
 use Rattle.std.proofs.lemmas.Bool.{cases_Bool}
-use Rattle.std.proofs.lemmas.List.{length-append, length-set}
-use Rattle.std.proofs.lemmas.List.Sums.{sum_by-append}
+use Rattle.std.proofs.lemmas.Grind.{flat_map-append}
+use Rattle.std.proofs.lemmas.List.{append-nil, length-append, length-set}
+use Rattle.std.proofs.lemmas.List.Sums.{fold-append, sum_by-append}
 use Rattle.std.specs.List.{list_any}
 use Rattle.avr_image.specs.Image.{image_of_pairs, laid_over, with_byte, empty}
 use Rattle.avr_records.specs.Reading.{Said, is_end, is_data, up_to_end, in_place, first_fault, fault_in, or_later, in_line, places, placed_bytes, next_base, base_after}
@@ -14,18 +15,7 @@ use Rattle.avr_records.specs.declared.fault.LineFault.{LineFault}
 use Rattle.avr_records.specs.declared.fault.RecordFault.{RecordFault}
 use Rattle.avr_records.specs.declared.kind.Base.{Base}
 use Rattle.avr_records.specs.declared.kind.Base.TheVariants.{Linear}
-use Rattle.avr_records.proofs.Readers.LaterLines.{append-nil, append-assoc, in_place-append, first_fault-append, up_to_end-open, up_to_end-done}
-
-pub fold-append : {A B : Type 0} (f : B → A → B) (b : B) (xs ys : List A)
-    → fold f b (xs ++ ys) ≡ fold f (fold f b xs) ys
-fold-append f b [] ys = refl
-fold-append f b (x ∷ xs) ys = fold-append f (f b x) xs ys
-
-pub flat_map-append : {X A : Type 0} (f : X → List A) (xs ys : List X)
-    → flat_map f (xs ++ ys) ≡ flat_map f xs ++ flat_map f ys
-flat_map-append f [] ys = refl
-flat_map-append {X} {A} f (x ∷ xs) ys =
-    ap (λ (zs : List A). f x ++ zs) (flat_map-append f xs ys) ∙ sym (append-assoc (f x) (flat_map f xs) (flat_map f ys))
+use Rattle.avr_records.proofs.Readers.LaterLines.{in_place-append, first_fault-append, up_to_end-open, up_to_end-done}
 
 pub list_any-append : (xs ys : List Said) → list_any is_end (xs ++ ys) ≡ list_any is_end xs || list_any is_end ys
 list_any-append [] ys = refl

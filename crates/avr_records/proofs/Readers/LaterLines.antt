@@ -1,19 +1,12 @@
 -- How lines that follow change what the lines before them say.
 use Rattle.std.proofs.Common.{◌≡◌, ◌∙◌, sym, ap, refl, arith, ℕ, ◌+◌, List, [], ◌∷◌, ◌++◌, length, Bool, true, false, Option, Some, None, inl, inr}
 use Rattle.std.proofs.lemmas.Bool.{cases_Bool}
+use Rattle.std.proofs.lemmas.List.{append-nil, append_assoc}
 use Rattle.std.proofs.lemmas.List.Splits.{slice_split-cons_yes, slice_split-cons_no}
 use Rattle.std.specs.List.{list_any, slice_split, onto_first}
 use Rattle.avr_records.specs.Reading.{Said, is_end, up_to_end, in_place, first_fault, fault_in, or_later}
 use Rattle.avr_records.specs.declared.fault.LineFault.{LineFault}
 use Rattle.avr_records.specs.declared.fault.RecordFault.{RecordFault}
-
-pub append-nil : {A : Type 0} (xs : List A) → xs ++ [] ≡ xs
-append-nil [] = refl
-append-nil {A} (x ∷ xs) = ap (λ (zs : List A). x ∷ zs) (append-nil xs)
-
-pub append-assoc : {A : Type 0} (xs ys zs : List A) → (xs ++ ys) ++ zs ≡ xs ++ (ys ++ zs)
-append-assoc [] ys zs = refl
-append-assoc {A} (x ∷ xs) ys zs = ap (λ (us : List A). x ∷ us) (append-assoc xs ys zs)
 
 pub in_place-append : (before xs ys : List Said)
     → in_place before (xs ++ ys) ≡ in_place before xs ++ in_place (before ++ xs) ys
@@ -21,7 +14,7 @@ in_place-append before [] ys = ap (λ (b : List Said). in_place b ys) (sym (appe
 in_place-append before (x ∷ xs) ys =
     ap (λ (ps : List (List Said × Said)). (before, x) ∷ ps)
     (in_place-append (before ++ x ∷ []) xs ys
-    ∙ ap (λ (b : List Said). in_place (before ++ x ∷ []) xs ++ in_place b ys) (append-assoc before (x ∷ []) xs))
+    ∙ ap (λ (b : List Said). in_place (before ++ x ∷ []) xs ++ in_place b ys) (append_assoc before (x ∷ []) xs))
 
 pub or_later-none : (n : ℕ) (fault : Option LineFault) (later : Option RecordFault) → or_later n fault later ≡ None
     → (fault ≡ None) × (later ≡ None)

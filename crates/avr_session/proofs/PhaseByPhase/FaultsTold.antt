@@ -1,6 +1,6 @@
 -- How a phase of a session stands at its end says whether a fault was reported in it: laws of dialogs alone.
 use Rattle.std.proofs.Common.{◌≡◌, ℕ, Bool, true, false, ◌||◌, List, [], ◌∷◌, ◌++◌, length, drop, map, refl, sym, ap, ◌∙◌, subst, append_assoc, append-nil, nat_lt, bytes_eq, codes, decimal, if◌then◌else◌, Option, Some, None, Result, Ok, Err, inl, inr}
-use Rattle.std.proofs.lemmas.Bool.{cases_Bool}
+use Rattle.std.proofs.lemmas.Bool.{cases_Bool, or_parts}
 use Rattle.std.proofs.lemmas.List.Folds.{list_any-append}
 use Rattle.std.proofs.lemmas.Slice.Eq.{starts_is}
 use Rattle.std.specs.Cmp.{unsigned_Decides}
@@ -275,10 +275,6 @@ line_none part whole is none = elim (cases_Bool (is_error (Line part))) [
   | inr f ↦ f
 ]
 
-or_none : (a b : Bool) → (a || b) ≡ false → (a ≡ false) × (b ≡ false)
-or_none false b f = (refl, f)
-or_none true b f = absurd (cc)
-
 quiet_by : (begun : List Saying) (events : List (Event Saying)) → map Said begun ≡ events
     → tells_fault (sayings events) ≡ false → tells_fault begun ≡ false
 quiet_by begun events is none = ap tells_fault (sayings_by begun events is) ∙ none
@@ -299,7 +295,7 @@ begun_none (OfFile file NotWritten) whole begun later (inr x) none =
 begun_none OfPrinting whole begun later x none =
     let due = sym (ap tells_fault (sayings_by later (Said (Line x.bytes) ∷ x.more) x.due)) ∙ none in
     let one = line_none x.done x.bytes x.prefix
-    (or_none (is_error (Line x.bytes)) (tells_fault (sayings x.more)) due).0 in
+    (or_parts (is_error (Line x.bytes)) (tells_fault (sayings x.more)) due).0 in
     quiet_by begun (Said (Line x.done) ∷ []) x.part (ap (λ b. b || false) one)
 begun_none OfMemory whole begun later x none = quiet_by begun [] x refl
 
@@ -307,7 +303,7 @@ pub prefix_tells_none : {cause : Cause} {old new : DeskView} {sayings : List Say
     (prefix : SaysPrefix cause old new sayings) → tells_fault sayings ≡ false
     → tells_fault (prefix.whole ++ prefix.begun) ≡ false
 prefix_tells_none {cause = cause} prefix none =
-    let both = or_none (tells_fault prefix.whole) (tells_fault prefix.later)
+    let both = or_parts (tells_fault prefix.whole) (tells_fault prefix.later)
     (sym (list_any-append is_error prefix.whole prefix.later) ∙ (ap tells_fault (sym prefix.sayings_are) ∙ none)) in
     both_none prefix.whole prefix.begun both.0
     (begun_none cause prefix.whole prefix.begun prefix.later prefix.place both.1)

@@ -21,6 +21,7 @@ use Rattle.stk_host.specs.declared.fault.Broken.{Broken}
 use Rattle.stk_host.specs.declared.fault.Broken.TheVariants.{Send, Recv}
 use Rattle.stk_host.specs.Play.{Position, PlaysOver, FailsOver}
 use Rattle.stk_host.specs.Calls.{EndsCall, EndsOrLacks, IsBroken, UnlessBroken}
+use Rattle.stk_host.proofs.Dialogs.Lifted.{sayings_raised}
 use Rattle.stk_host.proofs.Talks.InDialogs.{continued, played_bind}
 use Rattle.avr_desk.specs.Said.{Saying, Tells}
 use Rattle.avr_session.specs.declared.standing.Stopped.{Stopped}
@@ -31,7 +32,7 @@ use Rattle.avr_session.specs.Taking.{AtOnce}
 use Rattle.avr_session.specs.Runs.{Cause, OfSending, OfListening, OfMemory, devices, Terms, cause_line, HasCome, PrintStops, SaysOrStops, Reports, Runs}
 use Rattle.avr_desk.proofs.Lines.Told.{same_here}
 use Rattle.avr_session.proofs.PhaseByPhase.Reports.{told_some}
-use Rattle.avr_session.proofs.Runs.Calls.{came_lifted, came_said, came_on, ran_from, broke_lifted, broke_saying, broke_operation, broke_lacking, broken_cause, StopsReport, ToldBy}
+use Rattle.avr_session.proofs.Runs.Calls.{came_lifted, came_said, came_on, ran_from, broke_quietly, broke_saying, broke_operation, broke_lacking, broken_cause, StopsReport, ToldBy}
 
 -- the outcome stops the run
 abbrev pub IsStop : {A : Type 0} → Result A HostFault → Type 0
@@ -311,43 +312,50 @@ stop_is (Err (ReadOnly mem)) takes o p d failed lacks stop = absurd stop
 stop_is (Err Memory) takes o p d failed lacks stop = let lack = lacks tt in (lack.0, (lack.1, same_here d))
 stop_is (Err RecvFailed) takes o p d failed lacks stop = (failed tt, same_here d)
 
+-- how far a conversation is at one moment, and what the devices show then
+pub record Moment : Type 0 where
+  pub position : Position
+  pub link : LinkView
+  pub desk : DeskView
+
+abbrev pub moment : Position → LinkView → DeskView → Moment
+moment position link desk = record { position = position; link = link; desk = desk }
+
 -- An operation and its report are a phase of a session.
-pub operation_runs : {A : Type 0} {operation : Dialog ⊥ (Result A HostFault)} (takes : Bool)
-    (outcome_says : Result A HostFault → List Saying) {m n : Position} {o p : LinkView} {d e : DeskView}
-    (outcome : Result A HostFault)
+pub operation_runs : {A : Type 0} (operation : Dialog ⊥ (Result A HostFault))
+    (outcome_says : Result A HostFault → List Saying) (x y : Moment) (outcome : Result A HostFault)
     (said : Result (Unit {0}) Stopped) (terms : Terms) (By : DeskView → DeskView → Cause → List ℕ → Type 0)
-    → StopsReport terms p d e (outcome_says outcome) By
-    → Ended takes operation m o p outcome n → length n.unread ≤ 281 → UnlessBroken outcome (p.failures ≡ o.failures)
-    → SaysOrStops By d e (outcome_says outcome) said
-    → (IsStop outcome → ToldBy terms (cause_of outcome) (devices o d) (devices p e))
-    → Runs (reported operation outcome_says) m (devices o d) (devices p e) terms (AtOnce takes)
-    (conclusion outcome said) n
-operation_runs {operation = operation} takes outcome_says {m = m} {n = n} {o = o} {p = p} {d = d} {e = e} outcome
-    (Ok done) terms By why (inl played) few link reports some =
-    subst (λ r. Runs (reported operation outcome_says) m (devices o d) (devices p e) terms (AtOnce takes) r n)
-    (sym played.1)
-    (ran_from (came_on (came_lifted (λ outcome. says (outcome_says outcome) (Done (standing outcome))) d played.0 few
-    (unbroken outcome played.1 link)) (came_said (outcome_says outcome) (Done (standing outcome)) n p reports)))
-operation_runs {operation = operation} takes outcome_says {m = m} {n = n} {o = o} {p = p} {d = d} {e = e} outcome
-    (Err stopped) terms By why (inl played) few link reports some =
-    broke_lifted (λ outcome. says (outcome_says outcome) (Done (standing outcome))) played.0 few
-    (unbroken outcome played.1 link)
-    (broke_saying (outcome_says outcome) (Done (standing outcome)) n p why reports)
-operation_runs {operation = operation} takes outcome_says {m = m} {n = n} {o = o} {p = p} {d = d} {e = e} outcome said
-    terms By why (inr (inl broke)) few link reports some =
+    → StopsReport terms y.link x.desk y.desk (outcome_says outcome) By
+    → Ended terms.takes operation x.position x.link y.link outcome y.position → length y.position.unread ≤ 281
+    → UnlessBroken outcome (y.link.failures ≡ x.link.failures)
+    → SaysOrStops By x.desk y.desk (outcome_says outcome) said
+    → (IsStop outcome → ToldBy terms (cause_of outcome) (devices x.link x.desk) (devices y.link y.desk))
+    → Runs (reported operation outcome_says) x.position (devices x.link x.desk) (devices y.link y.desk) terms
+    (AtOnce terms.takes) (conclusion outcome said) y.position
+unfolding came_lifted
+operation_runs operation outcome_says x y outcome (Ok done) terms By why (inl played) few link reports some =
+    subst (λ r. Runs (reported operation outcome_says) x.position (devices x.link x.desk) (devices y.link y.desk) terms
+    (AtOnce terms.takes) r y.position) (sym played.1)
+    (ran_from (came_on (came_lifted (λ outcome. says (outcome_says outcome) (Done (standing outcome))) x.desk played.0
+    few (unbroken outcome played.1 link))
+    (came_said (outcome_says outcome) (Done (standing outcome)) y.position y.link reports)))
+operation_runs operation outcome_says x y outcome (Err stopped) terms By why (inl played) few link reports some =
+    broke_quietly (came_lifted (λ outcome. says (outcome_says outcome) (Done (standing outcome))) x.desk played.0 few
+    (unbroken outcome played.1 link)) (sayings_raised played.0.events)
+    (broke_saying (outcome_says outcome) (Done (standing outcome)) y.position y.link why reports)
+operation_runs operation outcome_says x y outcome said terms By why (inr (inl broke)) few link reports some =
     let stop = link_stops broke.0 outcome broke.1 in
-    let why_not : ToldBy terms (broken_cause broke.0) (devices o d) (devices p e) =
-    subst (λ cause. ToldBy terms cause (devices o d) (devices p e)) (link_cause broke.0 outcome broke.1)
-    (some stop) in
-    subst (λ r. Runs (reported operation outcome_says) m (devices o d) (devices p e) terms (AtOnce takes) r n)
-    (sym (stop_goes outcome said stop))
-    (broke_operation broke.0 (λ outcome. says (outcome_says outcome) (Done (standing outcome))) broke.2 why_not)
-operation_runs {operation = operation} takes outcome_says {m = m} {n = n} {o = o} {p = p} {d = d} {e = e} outcome said
-    terms By why (inr (inr lacks)) few link reports some =
+    let why_not : ToldBy terms (broken_cause broke.0) (devices x.link x.desk) (devices y.link y.desk) =
+    subst (λ cause. ToldBy terms cause (devices x.link x.desk) (devices y.link y.desk))
+    (link_cause broke.0 outcome broke.1) (some stop) in
+    subst (λ r. Runs (reported operation outcome_says) x.position (devices x.link x.desk) (devices y.link y.desk) terms
+    (AtOnce terms.takes) r y.position) (sym (stop_goes outcome said stop))
+    (broke_operation (λ outcome. says (outcome_says outcome) (Done (standing outcome))) broke.0 broke.2 why_not)
+operation_runs operation outcome_says x y outcome said terms By why (inr (inr lacks)) few link reports some =
     let stop = memory_stops outcome lacks.1 in
-    let why_not : ToldBy terms OfMemory (devices o d) (devices p e) =
-    subst (λ cause. ToldBy terms cause (devices o d) (devices p e)) (ap cause_of (memory_is outcome lacks.1))
-    (some stop) in
-    subst (λ r. Runs (reported operation outcome_says) m (devices o d) (devices p e) terms (AtOnce takes) r n)
-    (sym (stop_goes outcome said stop))
-    (broke_lacking (reported operation outcome_says) m lacks.2 why_not (lacks.0, refl))
+    let why_not : ToldBy terms OfMemory (devices x.link x.desk) (devices y.link y.desk) =
+    subst (λ cause. ToldBy terms cause (devices x.link x.desk) (devices y.link y.desk))
+    (ap cause_of (memory_is outcome lacks.1)) (some stop) in
+    subst (λ r. Runs (reported operation outcome_says) x.position (devices x.link x.desk) (devices y.link y.desk) terms
+    (AtOnce terms.takes) r y.position) (sym (stop_goes outcome said stop))
+    (broke_lacking (reported operation outcome_says) x.position lacks.2 why_not (lacks.0, refl))

@@ -6,15 +6,13 @@ use Rattle.std.proofs.lemmas.List.Folds.{list_any-append}
 use Rattle.avr_desk.specs.Fault.{Follows}
 use Rattle.avr_desk.specs.Record.{DeskView}
 use Rattle.avr_cli.specs.declared.settings.Switches.{Switches}
-use Rattle.avr_cli.specs.declared.update.Format.{Format}
 use Rattle.avr_part.specs.Part.{Part}
-use Rattle.avr_part.specs.declared.part.Mem.{Mem}
 use Rattle.stk_host.specs.declared.fault.HostFault.{HostFault}
 use Rattle.stk_host.specs.declared.fault.HostFault.TheVariants.{NoAnswer, LinkEnded, SendFailed, Babble, Refused, BadAnswer, WrongSignature, Differs, ReadOnly, Memory, RecvFailed}
 use Rattle.stk_host.specs.State.{HostState, lasting_fault}
 use Rattle.stk_host.specs.Talk as link
 use Rattle.stk_host.specs.Play.{Position}
-use Rattle.stk_host.specs.Talk.{Talk, LinkView, heard}
+use Rattle.stk_host.specs.Talk.{LinkView, heard}
 use Rattle.stk_host.specs.Tape.{Tape, on_tape}
 use Rattle.stk_host.proofs.Talks.InDialogs.{followed, played_bind}
 use Rattle.stk_host.proofs.Talks.Laws.{heard_append}
@@ -29,7 +27,7 @@ use Rattle.avr_session.specs.declared.standing.Stopped.{Stopped}
 use Rattle.avr_session.specs.Actions.{Action, action_takes_memory, actions, takes_memory}
 use Rattle.avr_session.specs.Concluding.{HostServes, after_outcome, conclusion, fine_if_said}
 use Rattle.avr_session.specs.Lines.{fault_line}
-use Rattle.avr_session.specs.Session.{says, standing, reported, unless_fault, fault_or, read_says, opening_says, phase, phases, playing, session, status_of}
+use Rattle.avr_session.specs.Session.{says, standing, reported, unless_fault, fault_or, opening_says, phase, phases, playing, session, status_of}
 use Rattle.avr_session.specs.Runs.{Cause, OfSending, OfListening, OfFile, OfPrinting, OfMemory, cause_line, tells_fault, Devices, devices, start, Terms, untold, TellsCause, StopsBehind, DeskStops, PrintStops, ReadStops, Reports, Lacking, BrokeOff, Ran, Runs}
 use Rattle.avr_session.specs.Run.{StopsSession}
 use Rattle.avr_session.specs.Stopping.{IsPlayed}
@@ -38,10 +36,10 @@ use Rattle.avr_session.specs.Phases.{is_told, PerformsBehind, Performs, Does, Le
 use Rattle.avr_session.proofs.PhaseByPhase.Reports.{told_some, kept_nothing}
 use Rattle.avr_desk.proofs.Stages.Sayings.{kept_none}
 use Rattle.avr_desk.proofs.Lines.Told.{follows_here, follows_on, same_here}
-use Rattle.avr_session.proofs.Runs.Calls.{none_failed_here, came_here, came_said, came_part, ran_from, ran_on, stops_in, stops_since, broke_after, broke_part, broke_saying, StopsReport, ToldBy}
-use Rattle.avr_session.proofs.PhaseByPhase.FaultsTold.{Foretells, foretold, prefix_tells_none, read_none, phases_foretells}
+use Rattle.avr_session.proofs.Runs.Calls.{none_failed_here, came_here, came_said, came_part, ran_from, ran_on, stops_in, stops_since, broke_on, broke_part, broke_saying, LacksLater, StopsReport, ToldBy}
+use Rattle.avr_session.proofs.PhaseByPhase.FaultsTold.{Foretells, foretold, prefix_tells_none, phases_foretells}
 use Rattle.avr_session.proofs.PhaseByPhase.Actions.{phases-one, phases-append}
-use Rattle.avr_session.proofs.PhaseByPhase.Operations.{IsStop, IsMemory, cause_of, Ended, lacks_where, only_broken, sound_lack, operation_runs, stop_is, told_of}
+use Rattle.avr_session.proofs.PhaseByPhase.Operations.{IsStop, IsMemory, cause_of, Ended, lacks_where, only_broken, sound_lack, moment, operation_runs, stop_is, told_of}
 
 -- a desk that failed as it printed stops the run, whatever was reported
 printing_tells : (flag : Bool) (told : List ℕ) (d : DeskView) → told ≡ [] → TellsCause flag OfPrinting told d d
@@ -150,35 +148,37 @@ told_by takes outcome o p d e failed lacks stop some = (
   some.kept,
 )
 
--- an operation of the host and its report
-pub operation_performs : {A : Type 0} {Ends : Position → LinkView → LinkView → Result A HostFault → Position → Type 0}
-    (takes : Bool) (operation : Dialog ⊥ (Result A HostFault)) (outcome_says : Result A HostFault → List Saying)
-    {old new : HostState} {o p : LinkView} {d e : DeskView} (outcome : Result A HostFault)
-    (told : Result (Unit {0}) Stopped) (result : Result Standing Stopped)
-    (By : DeskView → DeskView → Cause → List ℕ → Type 0)
-    → StopsReport (untold takes) p d e (outcome_says outcome) By
-    → old.broken ≡ None → CallsBy Ends old new o p outcome
-    → (Ends old.progress o p outcome new.progress → Ended takes operation old.progress o p outcome new.progress)
-    → Reports By d e (outcome_says outcome) told → (IsStop outcome → Tells d e (cause_line (cause_of outcome)))
-    → result ≡ conclusion outcome told
-    → Performs takes (reported operation outcome_says) old new (devices o d) (devices p e) result
-operation_performs takes operation outcome_says {old = old} {new = new} {o = o} {p = p} {d = d} {e = e} outcome told
-    result By why sound calls ends reports some is =
-    let ended = ends (calls.played sound) in
-    let takes_where = lacks_where takes operation old.progress o p outcome new.progress ended in
-    let lacks : IsMemory outcome → (takes ≡ true) × (p.failures ≡ o.failures) =
-    λ is. (takes_where is, sound_lack outcome is (calls.sound sound)) in
-    record {
-      runs = subst (λ r. Runs (reported operation outcome_says) old.progress (devices o d) (devices p e) (untold takes)
-          (AtOnce takes) r new.progress) (sym is)
-          (operation_runs takes outcome_says outcome told (untold takes) By why ended (calls.bound sound)
-          (calls.sound sound) reports.says (λ stop. told_by takes outcome o p d e (calls.failed sound) lacks stop
-          (some stop)));
-      serves = subst (λ r. HostServes r new.broken) (sym is) (serves_after outcome told new.broken (calls.lasts sound));
-      part = calls.part;
-      link = calls.counted;
-      desk = reports.follows;
-    }
+-- an operation of the host, what is said of it, what it came to, and how its report ended
+module _ {A : Type 0} (takes : Bool) (operation : Dialog ⊥ (Result A HostFault))
+    (outcome_says : Result A HostFault → List Saying) (outcome : Result A HostFault)
+    (told : Result (Unit {0}) Stopped) where
+  pub operation_performs : {Ends : Position → LinkView → LinkView → Result A HostFault → Position → Type 0}
+      {old new : HostState} {o p : LinkView} {d e : DeskView} (result : Result Standing Stopped)
+      (By : DeskView → DeskView → Cause → List ℕ → Type 0)
+      → StopsReport (untold takes) p d e (outcome_says outcome) By
+      → old.broken ≡ None → CallsBy Ends old new o p outcome
+      → (Ends old.progress o p outcome new.progress → Ended takes operation old.progress o p outcome new.progress)
+      → Reports By d e (outcome_says outcome) told → (IsStop outcome → Tells d e (cause_line (cause_of outcome)))
+      → result ≡ conclusion outcome told
+      → Performs takes (reported operation outcome_says) old new (devices o d) (devices p e) result
+  operation_performs {old = old} {new = new} {o = o} {p = p} {d = d} {e = e} result By why sound calls ends reports some
+      is =
+      let ended = ends (calls.played sound) in
+      let takes_where = lacks_where takes operation old.progress o p outcome new.progress ended in
+      let lacks : IsMemory outcome → (takes ≡ true) × (p.failures ≡ o.failures) =
+      λ is. (takes_where is, sound_lack outcome is (calls.sound sound)) in
+      record {
+        runs = subst (λ r. Runs (reported operation outcome_says) old.progress (devices o d) (devices p e)
+            (untold takes) (AtOnce takes) r new.progress) (sym is)
+            (operation_runs operation outcome_says (moment old.progress o d) (moment new.progress p e) outcome told
+            (untold takes) By why ended (calls.bound sound) (calls.sound sound) reports.says
+            (λ stop. told_by takes outcome o p d e (calls.failed sound) lacks stop (some stop)));
+        serves = subst (λ r. HostServes r new.broken) (sym is)
+            (serves_after outcome told new.broken (calls.lasts sound));
+        part = calls.part;
+        link = calls.counted;
+        desk = reports.follows;
+      }
 
 left_out_runs : (takes : Bool) (sayings : List Saying) (m : Position) (o : LinkView) (d e : DeskView)
     (told : Result (Unit {0}) Stopped) → Reports PrintStops d e sayings told
@@ -217,33 +217,31 @@ nothing_performs takes host o sound = record {
   desk = follows_here o.desk;
 }
 
--- any phase goes on as its result chooses
-pub performs_on : {first : Dialog Saying Standing} {K L M : Lacking} (takes more_takes : Bool)
-    (go_on : Standing → Dialog Saying Standing) {x y z : HostState} {o p q : Devices} (standing : Standing)
-    (result : Result Standing Stopped)
-    → (more_takes ≡ true → takes ≡ true) → Foretells first
-    → (done : PerformsBehind (untold takes) K first x y o p (Ok standing))
-    → ((during : Talk) (shown : List (Event Saying)) → M y.progress during shown
-    → L x.progress (done.runs.during ++ during) (done.runs.events ++ shown))
-    → PerformsBehind (record { takes = more_takes; was_told = is_told standing }) M (go_on standing) y z p q result
-    → PerformsBehind (untold takes) L (first >>= go_on) x z o q result
-performs_on takes more_takes go_on {o = o} {p = p} {q = q} standing (Ok then) both foretells done lack rest = record {
-  runs = ran_on (came_part go_on done.runs) rest.runs;
-  serves = rest.serves;
-  part = rest.part ∙ done.part;
-  link = omega (arith, done.link, rest.link);
-  desk = follows_on o.desk p.desk q.desk done.desk rest.desk;
-}
-performs_on takes more_takes go_on {o = o} {p = p} {q = q} standing (Err stopped) both foretells done lack rest =
-    record {
-      runs = broke_after go_on done.runs (stops_in (record { takes = more_takes; was_told = is_told standing })
-          (untold takes) (sayings done.runs.events) o p q both done.runs.sound (foretold foretells done.runs)) lack
-          rest.runs;
-      serves = tt;
-      part = rest.part ∙ done.part;
-      link = omega (arith, done.link, rest.link);
-      desk = follows_on o.desk p.desk q.desk done.desk rest.desk;
-    }
+-- after a phase that was done a session goes on as its standing chooses
+module _ {first : Dialog Saying Standing} {K : Lacking} {x y : HostState} {o p : Devices} (takes : Bool)
+    (standing : Standing) (done : PerformsBehind (untold takes) K first x y o p (Ok standing)) where
+  pub performs_on : {L M : Lacking} (more_takes : Bool) (go_on : Standing → Dialog Saying Standing) {z : HostState}
+      {q : Devices} (result : Result Standing Stopped) → (more_takes ≡ true → takes ≡ true) → Foretells first
+      → LacksLater L x.progress done.runs.during done.runs.events M y.progress
+      → PerformsBehind (record { takes = more_takes; was_told = is_told standing }) M (go_on standing) y z p q result
+      → PerformsBehind (untold takes) L (first >>= go_on) x z o q result
+  unfolding came_part
+  performs_on more_takes go_on {q = q} (Ok then) both foretells lack rest = record {
+    runs = ran_on (came_part go_on done.runs) rest.runs;
+    serves = rest.serves;
+    part = rest.part ∙ done.part;
+    link = omega (arith, done.link, rest.link);
+    desk = follows_on o.desk p.desk q.desk done.desk rest.desk;
+  }
+  performs_on more_takes go_on {q = q} (Err stopped) both foretells lack rest = record {
+    runs = broke_on (came_part go_on done.runs) (stops_in (record
+        { takes = more_takes; was_told = is_told standing }) (untold takes) (sayings done.runs.events) o p q both
+        done.runs.sound (foretold foretells done.runs)) lack rest.runs;
+    serves = tt;
+    part = rest.part ∙ done.part;
+    link = omega (arith, done.link, rest.link);
+    desk = follows_on o.desk p.desk q.desk done.desk rest.desk;
+  }
 
 -- memory is taken in the one or in the other
 
@@ -255,65 +253,47 @@ or_then : (b c : Bool) → c ≡ true → (b || c) ≡ true
 or_then true c is = refl
 or_then false c is = is
 
-performs_with : {dialog : Dialog Saying Standing} {L : Lacking} (takes more_takes : Bool) {x y : HostState}
-    {o p : Devices} (standing : Standing) → PerformsBehind (untold takes) L dialog x y o p (Ok standing)
-    → PerformsBehind (untold (takes || more_takes)) L dialog x y o p (Ok standing)
-performs_with takes more_takes standing done =
-    record { runs = done.runs; serves = done.serves; part = done.part; link = done.link; desk = done.desk }
+module _ (takes more_takes : Bool) where
+  performs_with : {dialog : Dialog Saying Standing} {L : Lacking} {x y : HostState} {o p : Devices}
+      (standing : Standing) → PerformsBehind (untold takes) L dialog x y o p (Ok standing)
+      → PerformsBehind (untold (takes || more_takes)) L dialog x y o p (Ok standing)
+  performs_with standing done =
+      record { runs = done.runs; serves = done.serves; part = done.part; link = done.link; desk = done.desk }
 
--- one phase after another
-performs_then : {first more : Dialog Saying Standing} {K L M : Lacking} (takes more_takes : Bool) {x y z : HostState}
-    {o p q : Devices} (result : Result Standing Stopped)
-    → Foretells first → (done : PerformsBehind (untold takes) K first x y o p (Ok Fine))
-    → ((during : Talk) (shown : List (Event Saying)) → M y.progress during shown
-    → L x.progress (done.runs.during ++ during) (done.runs.events ++ shown))
-    → PerformsBehind (untold more_takes) M more y z p q result
-    → PerformsBehind (untold (takes || more_takes)) L (first >>= unless_fault more) x z o q result
-unfolding performs_with
-performs_then {more = more} takes more_takes result foretells done lack rest =
-    performs_on (takes || more_takes) more_takes (unless_fault more) Fine result (or_then takes more_takes) foretells
-    (performs_with takes more_takes Fine done) lack rest
-
--- a phase that is the last
-performs_last : {first : Dialog Saying Standing} {L M : Lacking} (takes more_takes : Bool)
-    (more : Dialog Saying Standing) {x y : HostState} {o p : Devices} (result : Result Standing Stopped)
-    → (result ≡ Ok Fine → ⊥)
-    → ((during : Talk) (shown : List (Event Saying)) → M x.progress during shown → L x.progress during shown)
-    → PerformsBehind (untold takes) M first x y o p result
-    → PerformsBehind (untold (takes || more_takes)) L (first >>= unless_fault more) x y o p result
-performs_last takes more_takes more (Ok Fine) not lack done = absurd (not refl)
-performs_last takes more_takes more (Ok Faulty) not lack done =
-    record {
-      runs = ran_from (came_part (unless_fault more) done.runs);
-      serves = done.serves;
-      part = done.part;
-      link =
-          done.link;
-      desk = done.desk;
-    }
-performs_last takes more_takes more (Ok Over) not lack done =
-    record {
-      runs = ran_from (came_part (unless_fault more) done.runs);
-      serves = done.serves;
-      part = done.part;
-      link =
-          done.link;
-      desk = done.desk;
-    }
-performs_last takes more_takes more {o = o} {p = p} (Err stopped) not lack done = record {
-  runs = broke_part (unless_fault more) (stops_since takes (takes || more_takes) false o o p (or_first takes more_takes)
-      (none_failed_here o)) lack done.runs;
-  serves = done.serves;
-  part = done.part;
-  link = done.link;
-  desk = done.desk;
-}
+  -- a phase that is the last
+  performs_last : {first : Dialog Saying Standing} {L M : Lacking} (more : Dialog Saying Standing) {x y : HostState}
+      {o p : Devices} (result : Result Standing Stopped) → (result ≡ Ok Fine → ⊥)
+      → LacksLater L x.progress [] [] M x.progress → PerformsBehind (untold takes) M first x y o p result
+      → PerformsBehind (untold (takes || more_takes)) L (first >>= unless_fault more) x y o p result
+  performs_last more (Ok Fine) not lack done = absurd (not refl)
+  performs_last more (Ok Faulty) not lack done = record {
+    runs = ran_from (came_part (unless_fault more) done.runs);
+    serves = done.serves;
+    part = done.part;
+    link = done.link;
+    desk = done.desk;
+  }
+  performs_last more (Ok Over) not lack done = record {
+    runs = ran_from (came_part (unless_fault more) done.runs);
+    serves = done.serves;
+    part = done.part;
+    link = done.link;
+    desk = done.desk;
+  }
+  performs_last more {o = o} {p = p} (Err stopped) not lack done = record {
+    runs = broke_part (unless_fault more) (stops_since takes (takes || more_takes) false o o p
+        (or_first takes more_takes) (none_failed_here o)) lack done.runs;
+    serves = done.serves;
+    part = done.part;
+    link = done.link;
+    desk = done.desk;
+  }
 
 -- ---- where memory is taken
 
 -- at once in the only action
-taking_one : (part : Part) (s : Switches) (action : Action) (m : Position) (during : Talk) (shown : List (Event Saying))
-    → AtOnce (action_takes_memory action) m during shown → AtTaking part s (action ∷ []) m during shown
+taking_one : (part : Part) (s : Switches) (action : Action) (m : Position)
+    → LacksLater (AtTaking part s (action ∷ [])) m [] [] (AtOnce (action_takes_memory action)) m
 taking_one part s action m during shown at = record {
   done = [];
   due = action;
@@ -327,8 +307,8 @@ taking_one part s action m during shown at = record {
 }
 
 -- in the first of more
-taking_prefix : (part : Part) (s : Switches) (xs ys : List Action) (m : Position) (during : Talk)
-    (shown : List (Event Saying)) → AtTaking part s xs m during shown → AtTaking part s (xs ++ ys) m during shown
+taking_prefix : (part : Part) (s : Switches) (xs ys : List Action) (m : Position)
+    → LacksLater (AtTaking part s (xs ++ ys)) m [] [] (AtTaking part s xs) m
 taking_prefix part s xs ys m during shown at = record {
   done = at.done;
   due = at.due;
@@ -342,8 +322,8 @@ taking_prefix part s xs ys m during shown at = record {
 
 -- after others that were played
 taking_then : (part : Part) (s : Switches) (xs ys : List Action) {m n : Position} {o p : Devices}
-    (ran : Ran (phases part s xs) m o p Fine n) (during : Talk) (shown : List (Event Saying))
-    → AtTaking part s ys n during shown → AtTaking part s (xs ++ ys) m (ran.during ++ during) (ran.events ++ shown)
+    (ran : Ran (phases part s xs) m o p Fine n)
+    → LacksLater (AtTaking part s (xs ++ ys)) m ran.during ran.events (AtTaking part s ys) n
 taking_then part s xs ys {m = m} {n = n} ran during shown at =
     let go_on : Standing → Dialog Saying Standing = unless_fault (phases part s at.done) in
     let tape : Tape = on_tape m.unread ++ heard (ran.during ++ during) in
@@ -377,8 +357,8 @@ does_nothing plan host o sound = nothing_performs false host o sound
 
 -- the same phase, by where else memory may be taken
 performs_lacking : {terms : Terms} {L M : Lacking} {dialog : Dialog Saying Standing} {x y : HostState} {o p : Devices}
-    → ((during : Talk) (shown : List (Event Saying)) → M x.progress during shown → L x.progress during shown)
-    → (result : Result Standing Stopped) → PerformsBehind terms M dialog x y o p result
+    → LacksLater L x.progress [] [] M x.progress → (result : Result Standing Stopped)
+    → PerformsBehind terms M dialog x y o p result
     → PerformsBehind terms L dialog x y o p result
 performs_lacking lack (Ok standing) done =
     record { runs = done.runs; serves = done.serves; part = done.part; link = done.link; desk = done.desk }
@@ -414,36 +394,41 @@ does_one plan action {x = x} {y = y} {o = o} {p = p} {result = result} done =
     (sym (or_false (action_takes_memory action))) (sym (phases-one plan.part plan.switches action))
     (performs_lacking (taking_one plan.part plan.switches action x.progress) result done)
 
-does_both : (plan : Plan) (xs ys : List Action) {x y : HostState} {o p : Devices} {result : Result Standing Stopped}
-    → PerformsBehind (untold (list_any action_takes_memory xs || list_any action_takes_memory ys))
-    (AtTaking plan.part plan.switches (xs ++ ys))
-    (phases plan.part plan.switches xs >>= unless_fault (phases plan.part plan.switches ys)) x y o p result
-    → Does plan (xs ++ ys) x y o p result
-does_both plan xs ys {x = x} {y = y} {o = o} {p = p} {result = result} done =
-    subst₂ (λ (takes : Bool) (dialog : Dialog Saying Standing). PerformsBehind (untold takes)
-    (AtTaking plan.part plan.switches (xs ++ ys)) dialog x y o p result)
-    (sym (list_any-append action_takes_memory xs ys)) (sym (phases-append plan.part plan.switches xs ys)) done
-
 -- the same actions, as they are written elsewhere
 pub does_same : (plan : Plan) (xs ys : List Action) {x y : HostState} {o p : Devices} {result : Result Standing Stopped}
     → xs ≡ ys → Does plan xs x y o p result → Does plan ys x y o p result
 does_same plan xs ys {x = x} {y = y} {o = o} {p = p} {result = result} same done =
     subst (λ (every : List Action). Does plan every x y o p result) same done
 
--- these, and then those
-pub does_then : (plan : Plan) (xs ys : List Action) {x y z : HostState} {o p q : Devices}
-    (result : Result Standing Stopped) → Does plan xs x y o p (Ok Fine) → Does plan ys y z p q result
-    → Does plan (xs ++ ys) x z o q result
-does_then plan xs ys result done rest =
-    does_both plan xs ys (performs_then (list_any action_takes_memory xs) (list_any action_takes_memory ys) result
-    (phases_foretells plan.part plan.switches xs) done (taking_then plan.part plan.switches xs ys done.runs) rest)
+-- these, and others after them
+module _ (plan : Plan) (xs ys : List Action) where
+  does_both : {x y : HostState} {o p : Devices} {result : Result Standing Stopped}
+      → PerformsBehind (untold (list_any action_takes_memory xs || list_any action_takes_memory ys))
+      (AtTaking plan.part plan.switches (xs ++ ys))
+      (phases plan.part plan.switches xs >>= unless_fault (phases plan.part plan.switches ys)) x y o p result
+      → Does plan (xs ++ ys) x y o p result
+  does_both {x = x} {y = y} {o = o} {p = p} {result = result} done =
+      subst₂ (λ (takes : Bool) (dialog : Dialog Saying Standing). PerformsBehind (untold takes)
+      (AtTaking plan.part plan.switches (xs ++ ys)) dialog x y o p result)
+      (sym (list_any-append action_takes_memory xs ys)) (sym (phases-append plan.part plan.switches xs ys)) done
 
--- after these the others are left out
-pub does_last : (plan : Plan) (xs ys : List Action) {x y : HostState} {o p : Devices} (result : Result Standing Stopped)
-    → (result ≡ Ok Fine → ⊥) → Does plan xs x y o p result → Does plan (xs ++ ys) x y o p result
-does_last plan xs ys {x = x} result not done =
-    does_both plan xs ys (performs_last (list_any action_takes_memory xs) (list_any action_takes_memory ys)
-    (phases plan.part plan.switches ys) result not (taking_prefix plan.part plan.switches xs ys x.progress) done)
+  -- both
+  pub does_then : {x y z : HostState} {o p q : Devices} (result : Result Standing Stopped)
+      → Does plan xs x y o p (Ok Fine) → Does plan ys y z p q result → Does plan (xs ++ ys) x z o q result
+  unfolding performs_with
+  does_then result done rest =
+      does_both (performs_on (list_any action_takes_memory xs || list_any action_takes_memory ys) Fine
+      (performs_with (list_any action_takes_memory xs) (list_any action_takes_memory ys) Fine done)
+      (list_any action_takes_memory ys) (unless_fault (phases plan.part plan.switches ys)) result
+      (or_then (list_any action_takes_memory xs) (list_any action_takes_memory ys))
+      (phases_foretells plan.part plan.switches xs) (taking_then plan.part plan.switches xs ys done.runs) rest)
+
+  -- the others are left out
+  pub does_last : {x y : HostState} {o p : Devices} (result : Result Standing Stopped) → (result ≡ Ok Fine → ⊥)
+      → Does plan xs x y o p result → Does plan (xs ++ ys) x y o p result
+  does_last {x = x} result not done =
+      does_both (performs_last (list_any action_takes_memory xs) (list_any action_takes_memory ys)
+      (phases plan.part plan.switches ys) result not (taking_prefix plan.part plan.switches xs ys x.progress) done)
 
 -- a read, whose data stand in a vector
 
@@ -475,17 +460,15 @@ pub given_told : {A : Type 0} (a : A) (good : A → List Saying) (old new : Desk
 given_told a good old new part (Ok ok) told reports stop = absurd stop
 given_told a good old new part (Err fault) told reports stop = told_of old new part good (Err fault) told reports stop
 
--- only where bytes were read there is something to save
-pub read_stops_report : (part : Part) (s : Switches) (mem : Mem) (format : Format) (file items : List ℕ)
-    (outcome : Result (Unit {0}) HostFault) (takes : Bool) (o : LinkView) {d e : DeskView}
+-- only where bytes were read there is something to save, and no fault is reported of them
+pub read_stops_report : (part : Part) (good : List ℕ → List Saying) (items : List ℕ) → tells_fault (good items) ≡ false
+    → (outcome : Result (Unit {0}) HostFault) (takes : Bool) (o : LinkView) {d e : DeskView}
     {told : Result (Unit {0}) Stopped}
-    → Reports (ReadStops outcome) d e (fault_or part (read_says s mem format file) (given_or_fault items outcome)) told
-    → StopsReport (untold takes) o d e (fault_or part (read_says s mem format file) (given_or_fault items outcome))
-    (ReadStops outcome)
-read_stops_report part s mem format file items (Ok done) takes o {d = d} {e = e} reports =
-    desk_stops_report takes o d e (read_says s mem format file items) reports.follows
-    (read_none s mem format file items)
-read_stops_report part s mem format file items (Err fault) takes o reports = print_stops_report takes o reports
+    → Reports (ReadStops outcome) d e (fault_or part good (given_or_fault items outcome)) told
+    → StopsReport (untold takes) o d e (fault_or part good (given_or_fault items outcome)) (ReadStops outcome)
+read_stops_report part good items none (Ok done) takes o {d = d} {e = e} reports =
+    desk_stops_report takes o d e (good items) reports.follows none
+read_stops_report part good items none (Err fault) takes o reports = print_stops_report takes o reports
 
 -- the tasks are the first and those after it
 pub first_task : (tasks : List Task) (task : Task) → 1 ≤ length tasks → task ≡ get_or tasks 0 task
@@ -582,7 +565,8 @@ quietly_performs operation {old = old} {new = new} {o = o} {p = p} d outcome res
     record {
       runs = subst (λ r. Runs (reported operation (λ _. [])) old.progress (devices o d) (devices p d) told_before
           (AtOnce false) r new.progress) (sym is)
-          (operation_runs false (λ _. []) outcome (Ok tt) told_before PrintStops
+          (operation_runs operation (λ _. []) (moment old.progress o d) (moment new.progress p d) outcome (Ok tt)
+          told_before PrintStops
           (λ mid cause prefix told stops. print_stops_run told_before p d d (follows_here d)
           (prefix.whole ++ prefix.begun)
           cause told stops) ended (calls.bound sound) (calls.sound sound) (kept_none d.kept, same_here d)

@@ -23,16 +23,24 @@ use Rattle.avr_session.specs.Session.{says}
 use Rattle.avr_session.specs.Runs.{Devices, devices, NoneFailed, Cause, OfSending, OfListening, OfFile, OfPrinting, OfMemory, is_error, tells_fault, HasCome, TellsCause, Listens, IsOfDesk, Lacking, Terms, StopsBehind, SaysPrefix, Ran, BrokeOff, SaidSome}
 use Rattle.avr_session.proofs.Runs.Stops.{place_more, place_behind, place_part, desk_says, desk_listens, sayings_said, map_append}
 
--- a call has come so far: what is left of its dialog, and what was sent and said
-pub record Came {R : Type 0} (dialog : Dialog Saying R) (before : Position) (old new : Devices) (rest : Dialog Saying R)
-    (after : Position) : Type 0 where
+-- where a call stands: what is left of its dialog, how far its conversation is, and what the devices show
+pub record Point (R : Type 0) : Type 0 where
+  pub left : Dialog Saying R
+  pub position : Position
+  pub devices : Devices
+
+abbrev pub point : {R : Type 0} → Dialog Saying R → Position → Devices → Point R
+point left position devices = record { left = left; position = position; devices = devices }
+
+-- a call has come from one point to another: what was sent and said between them
+pub record Came {R : Type 0} (x y : Point R) : Type 0 where
   pub during : Talk
   pub events : List (Event Saying)
-  pub grows : Grows old.link.talk during new.link.talk
-  pub leads : TalkLeads dialog before during events rest after
-  pub few : length before.unread ≤ 281 → length after.unread ≤ 281
-  pub kept : Passes (after_all (sayings events)) old.desk new.desk
-  pub sound : NoneFailed old new
+  pub grows : Grows x.devices.link.talk during y.devices.link.talk
+  pub leads : TalkLeads x.left x.position during events y.left y.position
+  pub few : length x.position.unread ≤ 281 → length y.position.unread ≤ 281
+  pub kept : Passes (after_all (sayings events)) x.devices.desk y.devices.desk
+  pub sound : NoneFailed x.devices y.devices
 
 -- no call failed, and none after that
 pub none_failed_here : (o : Devices) → NoneFailed o o
@@ -54,7 +62,8 @@ after_both x y r = ap (λ ss. after_all ss r) (sayings_append x y) ∙ after_app
 
 -- how far a call has come
 
-pub came_here : {R : Type 0} (dialog : Dialog Saying R) (m : Position) (o : Devices) → Came dialog m o o dialog m
+pub came_here : {R : Type 0} (dialog : Dialog Saying R) (m : Position) (o : Devices)
+    → Came (point dialog m o) (point dialog m o)
 came_here dialog m o = record {
   during = [];
   events = [];
@@ -65,56 +74,27 @@ came_here dialog m o = record {
   sound = none_failed_here o;
 }
 
-pub came_on : {R : Type 0} {a b c : Dialog Saying R} {l m n : Position} {o p q : Devices} → Came a l o p b m
-    → Came b m p q c n → Came a l o q c n
-came_on {o = o} {p = p} {q = q} x y = record {
-  during = x.during ++ y.during;
-  events = x.events ++ y.events;
-  grows = grows_on o.link.talk p.link.talk q.link.talk x.during y.during x.grows y.grows;
-  leads = leads_on x.leads y.leads;
-  few = λ few. y.few (x.few few);
-  kept = kept_on (after_all (sayings x.events)) (after_all (sayings y.events))
-      (after_all (sayings (x.events ++ y.events))) o.desk.kept p.desk.kept q.desk.kept (after_both x.events y.events)
-      x.kept y.kept;
-  sound = none_failed_on o p q x.sound y.sound;
-}
+pub came_on : {R : Type 0} {x y z : Point R} → Came x y → Came y z → Came x z
+came_on {x = x} {y = y} {z = z} f g =
+    let o = x.devices in
+    let p = y.devices in
+    let q = z.devices in
+    record {
+      during = f.during ++ g.during;
+      events = f.events ++ g.events;
+      grows = grows_on o.link.talk p.link.talk q.link.talk f.during g.during f.grows g.grows;
+      leads = leads_on f.leads g.leads;
+      few = λ few. g.few (f.few few);
+      kept = kept_on (after_all (sayings f.events)) (after_all (sayings g.events))
+          (after_all (sayings (f.events ++ g.events))) o.desk.kept p.desk.kept q.desk.kept
+          (after_both f.events g.events) f.kept g.kept;
+      sound = none_failed_on o p q f.sound g.sound;
+    }
 
--- an operation of the host, and what follows it
-pub came_lifted : {A R : Type 0} {dialog : Dialog ⊥ A} {m n : Position} {o p : LinkView} {result : A}
-    (go_on : A → Dialog Saying R) (d : DeskView)
-    → PlaysOver dialog m o p result n → length n.unread ≤ 281 → p.failures ≡ o.failures
-    → Came (lifted dialog >>= go_on) m (devices o d) (devices p d) (go_on result) n
-came_lifted go_on d f few same = record {
-  during = f.during;
-  events = raised f.events;
-  grows = f.grows;
-  leads = leads_bind go_on (leads_from (plays_lifted f.plays));
-  few = λ _. few;
-  kept = subst (λ ss. Passes (after_all ss) d d) (sym (sayings_raised f.events)) (kept_none d.kept);
-  sound = (same, same_here d);
-}
-
-leads_says : {R : Type 0} (xs : List Saying) (dialog : Dialog Saying R) (m : Position)
-    → TalkLeads (says xs dialog) m [] (map Said xs) dialog m
-leads_says [] dialog m = leads_here dialog m
-leads_says (x ∷ xs) dialog m = leads_on (leads_say x (says xs dialog) m) (leads_says xs dialog m)
-
--- what is said
-pub came_said : {R : Type 0} (xs : List Saying) (dialog : Dialog Saying R) (m : Position) (o : LinkView)
-    {d e : DeskView} → Passes (after_all xs) d e × HasSameCounts d e
-    → Came (says xs dialog) m (devices o d) (devices o e) dialog m
-came_said xs dialog m o {d = d} {e = e} said = record {
-  during = [];
-  events = map Said xs;
-  grows = grows_none o.talk;
-  leads = leads_says xs dialog m;
-  few = λ f. f;
-  kept = subst (λ ss. Passes (after_all ss) d e) (sym (sayings_said xs)) said.0;
-  sound = (refl, said.1);
-}
+-- a dialog was played whole: the call has come to its result
 
 pub ran_from : {R : Type 0} {a : Dialog Saying R} {m n : Position} {o p : Devices} {result : R}
-    → Came a m o p (Done result) n → Ran a m o p result n
+    → Came (point a m o) (point (Done result) n p) → Ran a m o p result n
 ran_from f = record {
   during = f.during;
   events = f.events;
@@ -126,7 +106,7 @@ ran_from f = record {
 }
 
 came_from : {R : Type 0} {a : Dialog Saying R} {m n : Position} {o p : Devices} {result : R} → Ran a m o p result n
-    → Came a m o p (Done result) n
+    → Came (point a m o) (point (Done result) n p)
 came_from f = record {
   during = f.during;
   events = f.events;
@@ -137,23 +117,9 @@ came_from f = record {
   sound = f.sound;
 }
 
--- a part of a dialog was played whole
-pub came_part : {A R : Type 0} {a : Dialog Saying A} {m n : Position} {o p : Devices} {result : A}
-    (go_on : A → Dialog Saying R) → Ran a m o p result n → Came (a >>= go_on) m o p (go_on result) n
-came_part go_on f = record {
-  during = f.during;
-  events = f.events;
-  grows = f.grows;
-  leads =
-      leads_bind go_on (leads_from f.plays);
-  few = f.few;
-  kept = f.kept;
-  sound = f.sound;
-}
-
-pub ran_on : {R : Type 0} {a b : Dialog Saying R} {l m n : Position} {o p q : Devices} {result : R} → Came a l o p b m
-    → Ran b m p q result n → Ran a l o q result n
-ran_on x y = ran_from (came_on x (came_from y))
+pub ran_on : {R : Type 0} {x y : Point R} {q : Devices} {result : R} {n : Position} → Came x y
+    → Ran y.left y.position y.devices q result n → Ran x.left x.position x.devices q result n
+ran_on f ran = ran_from (came_on f (came_from ran))
 
 -- breaking off
 
@@ -161,6 +127,11 @@ ran_on x y = ran_from (came_on x (came_from y))
 abbrev pub StopsWhole : Terms → Terms → List Saying → Devices → Devices → Devices → Type 0
 StopsWhole some all before o p q = (said : List Saying) (cause : Cause) (told : List ℕ)
     → StopsBehind some p q said cause told → StopsBehind all o q (before ++ said) cause told
+
+-- where want of memory may stop what is left of a dialog it may stop the whole, after this talk and these events
+abbrev pub LacksLater : Lacking → Position → Talk → List (Event Saying) → Lacking → Position → Type 0
+LacksLater L m talk events M n = (during : Talk) (shown : List (Event Saying)) → M n during shown
+    → L m (talk ++ during) (events ++ shown)
 
 -- a cause that comes in a part comes in the whole
 has_come_in : (some all : Bool) (o p then : Devices) → (some ≡ true → all ≡ true) → NoneFailed o p → (cause : Cause)
@@ -194,9 +165,7 @@ stops_in some all before o p q takes sound same said cause told stops =
 
 -- since before, or where more may take memory
 pub stops_since : (takes more told : Bool) (o p q : Devices) → (takes ≡ true → more ≡ true) → NoneFailed o p
-    → (said : List Saying) (cause : Cause) (line : List ℕ)
-    → StopsBehind (record { takes = takes; was_told = told }) p q said cause line
-    → StopsBehind (record { takes = more; was_told = told }) o q said cause line
+    → StopsWhole (record { takes = takes; was_told = told }) (record { takes = more; was_told = told }) [] o p q
 stops_since takes more told o p q also sound said cause line stops = record {
   between = stops.between;
   has_come = has_come_in takes more o p (devices q.link stops.between) also sound cause stops.has_come;
@@ -205,71 +174,63 @@ stops_since takes more told o p q also sound said cause line stops = record {
   until = stops.until;
 }
 
-pub broke_on : {R : Type 0} {a b : Dialog Saying R} {m n : Position} {o p q : Devices} {some all : Terms}
-    {L M : Lacking} (x : Came a m o p b n) → StopsWhole some all (sayings x.events) o p q
-    → ((during : Talk) (shown : List (Event Saying)) → M n during shown → L m (x.during ++ during) (x.events ++ shown))
-    → BrokeOff b n p q some M → BrokeOff a m o q all L
-broke_on {a = a} {m = m} {o = o} {p = p} {q = q} {all = all} x why lack y =
-    let prefix = y.breaks.prefix in
-    let whole = breaks_on SaidPart x.leads y.breaks in
-    let play = ap (λ t. played a m.next (on_tape m.unread ++ t)) (heard_append x.during y.during)
-    ∙ x.leads.goes_on (heard y.during) in
+pub broke_on : {R : Type 0} {x y : Point R} {q : Devices} {some all : Terms} {L M : Lacking} (came : Came x y)
+    → StopsWhole some all (sayings came.events) x.devices y.devices q
+    → LacksLater L x.position came.during came.events M y.position
+    → BrokeOff y.left y.position y.devices q some M → BrokeOff x.left x.position x.devices q all L
+broke_on {x = x} {y = y} {q = q} {all = all} came why lack broke =
+    let a = x.left in
+    let m = x.position in
+    let o = x.devices in
+    let p = y.devices in
+    let prefix = broke.breaks.prefix in
+    let whole = breaks_on SaidPart came.leads broke.breaks in
+    let play = ap (λ t. played a m.next (on_tape m.unread ++ t)) (heard_append came.during broke.during)
+    ∙ came.leads.goes_on (heard broke.during) in
     record {
-      during = x.during ++ y.during;
-      shown = x.events ++ y.shown;
-      cause = y.cause;
-      told = y.told;
-      grows = grows_on o.link.talk p.link.talk q.link.talk x.during y.during x.grows y.grows;
+      during = came.during ++ broke.during;
+      shown = came.events ++ broke.shown;
+      cause = broke.cause;
+      told = broke.told;
+      grows = grows_on o.link.talk p.link.talk q.link.talk came.during broke.during came.grows broke.grows;
       breaks = record {
         prefix = record {
-          whole = x.events ++ prefix.whole;
+          whole = came.events ++ prefix.whole;
           begun = prefix.begun;
           later = prefix.later;
-          shown_is = ap (λ es. x.events ++ es) prefix.shown_is ∙ sym (append_assoc x.events prefix.whole prefix.begun);
+          shown_is = ap (λ es. came.events ++ es) prefix.shown_is
+              ∙ sym (append_assoc came.events prefix.whole prefix.begun);
           events_are = ap (λ (play : Played Saying _). play.events) play
-              ∙ (ap (λ es. x.events ++ es) prefix.events_are ∙ sym (append_assoc x.events prefix.whole prefix.later));
+              ∙ (ap (λ es. came.events ++ es) prefix.events_are
+              ∙ sym (append_assoc came.events prefix.whole prefix.later));
           part = prefix.part;
         };
         all_sent = whole.all_sent;
         in_turn = whole.in_turn;
       };
-      place = place_behind y.cause x.events prefix.whole prefix.begun prefix.later y.place;
-      listens = subst (Listens y.cause) (sym (ap (λ (play : Played Saying _). play.outcome) play)) y.listens;
-      stops = subst (λ said. StopsBehind all o q said y.cause y.told) (sym (sayings_append x.events y.shown))
-          (why (sayings y.shown) y.cause y.told y.stops);
-      kept = kept_on (after_all (sayings x.events)) (λ r. after_err y.told (after_all (sayings y.shown) r))
-          (λ r. after_err y.told (after_all (sayings (x.events ++ y.shown)) r)) o.desk.kept p.desk.kept q.desk.kept
-          (λ r. ap (after_err y.told) (after_both x.events y.shown r)) x.kept y.kept;
-      lacks = λ is. lack y.during y.shown (y.lacks is);
+      place = place_behind broke.cause came.events prefix.whole prefix.begun prefix.later broke.place;
+      listens = subst (Listens broke.cause) (sym (ap (λ (play : Played Saying _). play.outcome) play)) broke.listens;
+      stops = subst (λ said. StopsBehind all o q said broke.cause broke.told)
+          (sym (sayings_append came.events broke.shown))
+          (why (sayings broke.shown) broke.cause broke.told broke.stops);
+      kept = kept_on (after_all (sayings came.events)) (λ r. after_err broke.told (after_all (sayings broke.shown) r))
+          (λ r. after_err broke.told (after_all (sayings (came.events ++ broke.shown)) r)) o.desk.kept p.desk.kept
+          q.desk.kept (λ r. ap (after_err broke.told) (after_both came.events broke.shown r)) came.kept broke.kept;
+      lacks = λ is. lack broke.during broke.shown (broke.lacks is);
     }
 
 -- memory is taken nowhere
 abbrev pub Never : Lacking
 Never before during shown = ⊥
 
--- after an operation of the host
-pub broke_lifted : {A R : Type 0} {dialog : Dialog ⊥ A} {m n : Position} {o p : LinkView} {d e : DeskView} {result : A}
-    {terms : Terms} {L : Lacking} (go_on : A → Dialog Saying R) → PlaysOver dialog m o p result n
-    → length n.unread ≤ 281
-    → p.failures ≡ o.failures → BrokeOff (go_on result) n (devices p d) (devices p e) terms Never
-    → BrokeOff (lifted dialog >>= go_on) m (devices o d) (devices p e) terms L
-unfolding came_lifted
-broke_lifted {o = o} {p = p} {d = d} {e = e} {terms = terms} go_on f few link y =
-    broke_on (came_lifted go_on d f few link)
-    (λ said cause told s. subst (λ (ss : List Saying). StopsBehind terms (devices o d) (devices p e) (ss ++ said)
-    cause told) (sym (sayings_raised f.events))
-    (stops_since terms.takes terms.takes terms.was_told (devices o d) (devices p d) (devices p e) (λ t. t)
-    (link, same_here d) said cause told s)) (λ during shown never. absurd never) y
-
--- after a part that was played whole
-pub broke_after : {A R : Type 0} {a : Dialog Saying A} {m n : Position} {o p q : Devices} {result : A}
-    {some all : Terms} {L M : Lacking} (go_on : A → Dialog Saying R) (ran : Ran a m o p result n)
-    → StopsWhole some all (sayings ran.events) o p q
-    → ((during : Talk) (shown : List (Event Saying)) → M n during shown
-    → L m (ran.during ++ during) (ran.events ++ shown))
-    → BrokeOff (go_on result) n p q some M → BrokeOff (a >>= go_on) m o q all L
-unfolding came_part
-broke_after go_on ran why lack y = broke_on (came_part go_on ran) why lack y
+-- after a part in which nothing was said, where no memory is taken since
+pub broke_quietly : {R : Type 0} {x y : Point R} {q : Devices} {terms : Terms} {L : Lacking} (came : Came x y)
+    → sayings came.events ≡ [] → BrokeOff y.left y.position y.devices q terms Never
+    → BrokeOff x.left x.position x.devices q terms L
+broke_quietly {x = x} {y = y} {q = q} {terms = terms} came quiet broke =
+    broke_on came (subst (λ (said : List Saying). StopsWhole terms terms said x.devices y.devices q) (sym quiet)
+    (stops_since terms.takes terms.takes terms.was_told x.devices y.devices q (λ t. t) came.sound))
+    (λ during shown never. absurd never) broke
 
 -- a dialog that listens has nothing after it yet
 none_behind : {A R : Type 0} (cause : Cause) (outcome : Option (A × ℕ × Tape)) (go_on : A → ℕ → Tape → Played Saying R)
@@ -285,46 +246,6 @@ listens_behind OfListening outcome go_on listens = ap (λ o. (continued o go_on)
 listens_behind (OfFile file trouble) outcome go_on listens = tt
 listens_behind OfPrinting outcome go_on listens = tt
 listens_behind OfMemory outcome go_on listens = tt
-
--- in a part of a dialog
-pub broke_part : {A R : Type 0} {a : Dialog Saying A} {m : Position} {o p : Devices} {some all : Terms} {L M : Lacking}
-    (go_on : A → Dialog Saying R) → ((said : List Saying) (cause : Cause) (told : List ℕ)
-    → StopsBehind some o p said cause told → StopsBehind all o p said cause told)
-    → ((during : Talk) (shown : List (Event Saying)) → M m during shown → L m during shown) → BrokeOff a m o p some M
-    → BrokeOff (a >>= go_on) m o p all L
-broke_part {a = a} {m = m} go_on why lack f =
-    let prefix = f.breaks.prefix in
-    let tape = on_tape m.unread ++ heard f.during in
-    let more = (continued (played a m.next tape).outcome (λ r. played (go_on r))).events in
-    let quiet = none_behind f.cause (played a m.next tape).outcome (λ r. played (go_on r)) f.listens in
-    let place = place_more f.cause prefix.whole prefix.begun prefix.later more quiet f.place in
-    record {
-      during = f.during;
-      shown = f.shown;
-      cause = f.cause;
-      told = f.told;
-      grows = f.grows;
-      breaks = record {
-        prefix = record {
-          whole = prefix.whole;
-          begun = prefix.begun;
-          later = prefix.later ++ more;
-          shown_is = prefix.shown_is;
-          events_are = ap (λ (play : Played Saying _). play.events) (played_bind a go_on m.next tape)
-              ∙ (ap (λ es. es ++ more) prefix.events_are ∙ append_assoc prefix.whole prefix.later more);
-          part = place_part f.cause prefix.whole prefix.begun (prefix.later ++ more) place;
-        };
-        all_sent = f.breaks.all_sent;
-        in_turn = (breaks_bind SaidPart go_on f.breaks).in_turn;
-      };
-      place = place;
-      listens = subst (Listens f.cause) (sym (ap (λ (play : Played Saying _). play.outcome)
-          (played_bind a go_on m.next tape))) (listens_behind f.cause (played a m.next tape).outcome
-          (λ r. played (go_on r)) f.listens);
-      stops = why (sayings f.shown) f.cause f.told f.stops;
-      kept = f.kept;
-      lacks = λ is. lack f.during f.shown (f.lacks is);
-    }
 
 -- in an operation of the host; what was reported of it stands after it
 
@@ -402,14 +323,86 @@ broke_raised Recv {dialog = dialog} {m = m} {o = o} {p = p} {terms = terms} f so
       lacks = λ is. absurd (cc);
     }
 
-pub broke_operation : {A R : Type 0} (by : Broken) {dialog : Dialog ⊥ A} {m : Position} {o p : Devices} {terms : Terms}
-    {L : Lacking} (go_on : A → Dialog Saying R)
-    → FailsOver by dialog m o.link p.link → ToldBy terms (broken_cause by) o p
-    → BrokeOff (lifted dialog >>= go_on) m o p terms L
-broke_operation by {L = L} go_on f some =
-    broke_part {M = L} go_on (λ said cause told s. s) (λ during shown lack. lack) (broke_raised by f some)
+-- what follows a part of a dialog
+module _ {A R : Type 0} (go_on : A → Dialog Saying R) where
+  -- an operation of the host, played whole
+  unfoldable pub came_lifted : {dialog : Dialog ⊥ A} {m n : Position} {o p : LinkView} {result : A} (d : DeskView)
+      → PlaysOver dialog m o p result n → length n.unread ≤ 281 → p.failures ≡ o.failures
+      → Came (point (lifted dialog >>= go_on) m (devices o d)) (point (go_on result) n (devices p d))
+  came_lifted d f few same = record {
+    during = f.during;
+    events = raised f.events;
+    grows = f.grows;
+    leads = leads_bind go_on (leads_from (plays_lifted f.plays));
+    few = λ _. few;
+    kept = subst (λ ss. Passes (after_all ss) d d) (sym (sayings_raised f.events)) (kept_none d.kept);
+    sound = (same, same_here d);
+  }
 
--- in what is said
+  -- a part that was played whole
+  unfoldable pub came_part : {a : Dialog Saying A} {m n : Position} {o p : Devices} {result : A} → Ran a m o p result n
+      → Came (point (a >>= go_on) m o) (point (go_on result) n p)
+  came_part f = record {
+    during = f.during;
+    events = f.events;
+    grows = f.grows;
+    leads = leads_bind go_on (leads_from f.plays);
+    few = f.few;
+    kept = f.kept;
+    sound = f.sound;
+  }
+
+  -- a part that broke off
+  pub broke_part : {a : Dialog Saying A} {m : Position} {o p : Devices} {some all : Terms} {L M : Lacking}
+      → StopsWhole some all [] o o p → LacksLater L m [] [] M m → BrokeOff a m o p some M
+      → BrokeOff (a >>= go_on) m o p all L
+  broke_part {a = a} {m = m} why lack f =
+      let prefix = f.breaks.prefix in
+      let tape = on_tape m.unread ++ heard f.during in
+      let more = (continued (played a m.next tape).outcome (λ r. played (go_on r))).events in
+      let quiet = none_behind f.cause (played a m.next tape).outcome (λ r. played (go_on r)) f.listens in
+      let place = place_more f.cause prefix.whole prefix.begun prefix.later more quiet f.place in
+      record {
+        during = f.during;
+        shown = f.shown;
+        cause = f.cause;
+        told = f.told;
+        grows = f.grows;
+        breaks = record {
+          prefix = record {
+            whole = prefix.whole;
+            begun = prefix.begun;
+            later = prefix.later ++ more;
+            shown_is = prefix.shown_is;
+            events_are = ap (λ (play : Played Saying _). play.events) (played_bind a go_on m.next tape)
+                ∙ (ap (λ es. es ++ more) prefix.events_are ∙ append_assoc prefix.whole prefix.later more);
+            part = place_part f.cause prefix.whole prefix.begun (prefix.later ++ more) place;
+          };
+          all_sent = f.breaks.all_sent;
+          in_turn = (breaks_bind SaidPart go_on f.breaks).in_turn;
+        };
+        place = place;
+        listens = subst (Listens f.cause) (sym (ap (λ (play : Played Saying _). play.outcome)
+            (played_bind a go_on m.next tape))) (listens_behind f.cause (played a m.next tape).outcome
+            (λ r. played (go_on r)) f.listens);
+        stops = why (sayings f.shown) f.cause f.told f.stops;
+        kept = f.kept;
+        lacks = λ is. lack f.during f.shown (f.lacks is);
+      }
+
+  -- an operation that broke off
+  pub broke_operation : (by : Broken) {dialog : Dialog ⊥ A} {m : Position} {o p : Devices} {terms : Terms} {L : Lacking}
+      → FailsOver by dialog m o.link p.link → ToldBy terms (broken_cause by) o p
+      → BrokeOff (lifted dialog >>= go_on) m o p terms L
+  broke_operation by {L = L} f some =
+      broke_part {M = L} (λ said cause told s. s) (λ during shown lack. lack) (broke_raised by f some)
+
+-- what is said
+
+leads_says : {R : Type 0} (xs : List Saying) (dialog : Dialog Saying R) (m : Position)
+    → TalkLeads (says xs dialog) m [] (map Said xs) dialog m
+leads_says [] dialog m = leads_here dialog m
+leads_says (x ∷ xs) dialog m = leads_on (leads_say x (says xs dialog) m) (leads_says xs dialog m)
 
 says_events : {R : Type 0} (xs : List Saying) (dialog : Dialog Saying R) (seq : ℕ) (u : List ℕ)
     → (played (says xs dialog) seq (on_tape u ++ [])).events
@@ -428,47 +421,60 @@ StopsReport terms o d e sayings By = (mid : DeskView) (cause : Cause) (prefix : 
     (told : List ℕ) → By d e cause told → StopsBehind terms (devices o d) (devices o e) (prefix.whole ++ prefix.begun)
     cause told
 
-pub broke_saying : {R : Type 0} {By : DeskView → DeskView → Cause → List ℕ → Type 0} {terms : Terms} {L : Lacking}
-    {d e : DeskView} (xs : List Saying) (dialog : Dialog Saying R) (m : Position) (o : LinkView)
-    → StopsReport terms o d e xs By → SaidSome By d e xs
-    → BrokeOff (says xs dialog) m (devices o d) (devices o e) terms L
-broke_saying {terms = terms} {d = d} {e = e} xs dialog m o why f =
-    let prefix = f.prefix in
-    let shown : List Saying = prefix.whole ++ prefix.begun in
-    let more = (played dialog m.next (on_tape m.unread ++ [])).events in
-    let place = place_more f.cause (map Said prefix.whole) (map Said prefix.begun) (map Said prefix.later) more
-    (λ listens. absurd (desk_says f.cause prefix.by_desk listens)) prefix.place in
-    record {
-      during = [];
-      shown = map Said shown;
-      cause = f.cause;
-      told = f.told;
-      grows = grows_none o.talk;
-      breaks = record {
-        prefix = record {
-          whole = map Said prefix.whole;
-          begun = map Said prefix.begun;
-          later = map Said prefix.later ++ more;
-          shown_is = map_append prefix.whole prefix.begun;
-          events_are = says_events xs dialog m.next m.unread
-              ∙ (ap (λ es. es ++ more) (ap (map {B = Event Saying} Said) prefix.sayings_are
-              ∙ map_append prefix.whole prefix.later) ∙ append_assoc (map Said prefix.whole) (map Said prefix.later)
-              more);
-          part = place_part f.cause (map Said prefix.whole) (map Said prefix.begun) (map Said prefix.later ++ more)
-              place;
+-- and then the rest of a dialog
+module _ {R : Type 0} (xs : List Saying) (dialog : Dialog Saying R) (m : Position) (o : LinkView) where
+  pub came_said : {d e : DeskView} → Passes (after_all xs) d e × HasSameCounts d e
+      → Came (point (says xs dialog) m (devices o d)) (point dialog m (devices o e))
+  came_said {d = d} {e = e} said = record {
+    during = [];
+    events = map Said xs;
+    grows = grows_none o.talk;
+    leads = leads_says xs dialog m;
+    few = λ f. f;
+    kept = subst (λ ss. Passes (after_all ss) d e) (sym (sayings_said xs)) said.0;
+    sound = (refl, said.1);
+  }
+
+  pub broke_saying : {By : DeskView → DeskView → Cause → List ℕ → Type 0} {terms : Terms} {L : Lacking} {d e : DeskView}
+      → StopsReport terms o d e xs By → SaidSome By d e xs
+      → BrokeOff (says xs dialog) m (devices o d) (devices o e) terms L
+  broke_saying {terms = terms} {d = d} {e = e} why f =
+      let prefix = f.prefix in
+      let shown : List Saying = prefix.whole ++ prefix.begun in
+      let more = (played dialog m.next (on_tape m.unread ++ [])).events in
+      let place = place_more f.cause (map Said prefix.whole) (map Said prefix.begun) (map Said prefix.later) more
+      (λ listens. absurd (desk_says f.cause prefix.by_desk listens)) prefix.place in
+      record {
+        during = [];
+        shown = map Said shown;
+        cause = f.cause;
+        told = f.told;
+        grows = grows_none o.talk;
+        breaks = record {
+          prefix = record {
+            whole = map Said prefix.whole;
+            begun = map Said prefix.begun;
+            later = map Said prefix.later ++ more;
+            shown_is = map_append prefix.whole prefix.begun;
+            events_are = says_events xs dialog m.next m.unread
+                ∙ (ap (λ es. es ++ more) (ap (map {B = Event Saying} Said) prefix.sayings_are
+                ∙ map_append prefix.whole prefix.later) ∙ append_assoc (map Said prefix.whole) (map Said prefix.later)
+                more);
+            part = place_part f.cause (map Said prefix.whole) (map Said prefix.begun) (map Said prefix.later ++ more)
+                place;
+          };
+          all_sent = no_bytes shown;
+          in_turn = tt;
         };
-        all_sent = no_bytes shown;
-        in_turn = tt;
-      };
-      place = place;
-      listens = desk_listens f.cause (played (says xs dialog) m.next (on_tape m.unread ++ [])).outcome prefix.by_desk;
-      stops = subst (λ said. StopsBehind terms (devices o d) (devices o e) said f.cause f.told)
-          (sym (sayings_said shown)) (why f.between f.cause f.prefix f.told f.stops);
-      kept = kept_on (after_all shown) (after_err f.told)
-          (λ r. after_err f.told (after_all (sayings (map Said shown)) r)) d.kept f.between.kept e.kept
-          (λ r. ap (after_err f.told) (ap (λ ss. after_all ss r) (sayings_said shown))) f.prefix.kept f.kept;
-      lacks = λ is. absurd (subst IsOfDesk is prefix.by_desk);
-    }
+        place = place;
+        listens = desk_listens f.cause (played (says xs dialog) m.next (on_tape m.unread ++ [])).outcome prefix.by_desk;
+        stops = subst (λ said. StopsBehind terms (devices o d) (devices o e) said f.cause f.told)
+            (sym (sayings_said shown)) (why f.between f.cause f.prefix f.told f.stops);
+        kept = kept_on (after_all shown) (after_err f.told)
+            (λ r. after_err f.told (after_all (sayings (map Said shown)) r)) d.kept f.between.kept e.kept
+            (λ r. ap (after_err f.told) (ap (λ ss. after_all ss r) (sayings_said shown))) f.prefix.kept f.kept;
+        lacks = λ is. absurd (subst IsOfDesk is prefix.by_desk);
+      }
 
 -- at once, for want of memory
 pub broke_lacking : {R : Type 0} {terms : Terms} {L : Lacking} {o p : Devices} (dialog : Dialog Saying R) (m : Position)

@@ -62,28 +62,30 @@ after_fault A part (ReadOnly mem) view last = last
 after_fault A part Memory view last = tt
 after_fault A part RecvFailed view last = tt
 
-concluded : {A : Type 0} (part : Part) (tells : Result A HostFault → List Saying)
-    (By : DeskView → DeskView → Cause → Bytes → Type 0) (old new : DeskView) (outcome : Result A HostFault)
-    (reported : Result (Unit {0}) Stopped)
-    → ((fault : HostFault) (r : Record) → EndWith (fault_line part fault) (after_all (tells (Err fault)) r).messages)
-    → Reports By old new (tells outcome) reported
-    → IfOk (conclusion outcome reported) (IsLastAt part (fault_of outcome) new)
-concluded part tells By old new (Ok x) (Ok done) last reports = tt
-concluded part tells By old new (Ok x) (Err stopped) last reports = tt
-concluded part tells By old new (Err fault) (Err stopped) last reports = tt
-concluded {A = A} part tells By old new (Err fault) (Ok done) last reports =
-    let ends : EndWith (fault_line part fault) new.kept.messages = rw reports.says.0 (last fault old.kept) in
-    after_fault A part fault new ends
+-- what is said of the outcome of an operation
+module _ {A : Type 0} (part : Part) (tells : Result A HostFault → List Saying) where
+  -- the line of a fault is the last one of it
+  abbrev TellsLast : Type 0
+  TellsLast = (fault : HostFault) (r : Record)
+      → EndWith (fault_line part fault) (after_all (tells (Err fault)) r).messages
 
--- after an operation that was reported so the line of its fault is the last one
-pub told_by : {A : Type 0} (part : Part) (tells : Result A HostFault → List Saying)
-    (By : DeskView → DeskView → Cause → Bytes → Type 0) (old new : DeskView) (outcome : Result A HostFault)
-    (reported : Result (Unit {0}) Stopped) (result : Result Standing Stopped) (told : Option HostFault)
-    → ((fault : HostFault) (r : Record) → EndWith (fault_line part fault) (after_all (tells (Err fault)) r).messages)
-    → Reports By old new (tells outcome) reported → result ≡ conclusion outcome reported → told ≡ fault_of outcome
-    → IfOk result (IsLastAt part told new)
-told_by part tells By old new outcome reported result told last reports is told_is =
-    rw (is, told_is) (concluded part tells By old new outcome reported last reports)
+  concluded : (By : DeskView → DeskView → Cause → Bytes → Type 0) (old new : DeskView) (outcome : Result A HostFault)
+      (reported : Result (Unit {0}) Stopped) → TellsLast → Reports By old new (tells outcome) reported
+      → IfOk (conclusion outcome reported) (IsLastAt part (fault_of outcome) new)
+  concluded By old new (Ok x) (Ok done) last reports = tt
+  concluded By old new (Ok x) (Err stopped) last reports = tt
+  concluded By old new (Err fault) (Err stopped) last reports = tt
+  concluded By old new (Err fault) (Ok done) last reports =
+      let ends : EndWith (fault_line part fault) new.kept.messages = rw reports.says.0 (last fault old.kept) in
+      after_fault A part fault new ends
+
+  -- after an operation that was reported so the line of its fault is the last one
+  pub told_by : (By : DeskView → DeskView → Cause → Bytes → Type 0) (old new : DeskView) (outcome : Result A HostFault)
+      (reported : Result (Unit {0}) Stopped) (result : Result Standing Stopped) (told : Option HostFault) → TellsLast
+      → Reports By old new (tells outcome) reported → result ≡ conclusion outcome reported → told ≡ fault_of outcome
+      → IfOk result (IsLastAt part told new)
+  told_by By old new outcome reported result told last reports is told_is =
+      rw (is, told_is) (concluded By old new outcome reported last reports)
 
 -- where something was left out no fault was reported
 said_told : (part : Part) (told : Option HostFault) (view : DeskView) (said : Result (Unit {0}) Stopped)

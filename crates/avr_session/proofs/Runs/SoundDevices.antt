@@ -67,20 +67,13 @@ broke_lacks dialog m o p before after a b takes sound f =
     told_last before after (sayings f.shown) f.told (cause_line OfMemory) (lacks f.cause sound f.stops) f.kept
 
 -- and a run is played whole where no device failed and memory was not refused, by its messages.
-sound_ends : {L : Lacking} (dialog : Dialog Saying ℕ) (o p : LinkView) (before after : Record) (a b : ℕ × ℕ)
-    (takes : Bool) (status : ℕ) → IsSound (devices o (keeping before a)) (devices p (keeping after b))
-    → (LacksMemory after.messages → ⊥)
-    → RunsTo dialog (devices o (keeping before a)) (devices p (keeping after b)) takes L status
-    → IsPlayed dialog (devices o (keeping before a)) (devices p (keeping after b)) status
-sound_ends dialog o p before after a b takes status sound has_memory (inl ran) = ran
-sound_ends dialog o p before after a b takes status sound has_memory (inr broke) =
-    absurd (has_memory (broke_lacks dialog start o p before after a b takes sound broke.0))
-
 pub sound_run : (plan : Plan) (o p : LinkView) (before after : Record) (a b : ℕ × ℕ) (status : ℕ)
     → IsSound (devices o (keeping before a)) (devices p (keeping after b)) → (LacksMemory after.messages → ⊥)
     → RunsSession plan (devices o (keeping before a)) (devices p (keeping after b)) status
     → IsPlayed (session plan) (devices o (keeping before a)) (devices p (keeping after b)) status
-sound_run plan o p before after a b status = sound_ends (session plan) o p before after a b (takes_memory plan) status
+sound_run plan o p before after a b status sound has_memory (inl ran) = ran
+sound_run plan o p before after a b status sound has_memory (inr broke) =
+    absurd (has_memory (broke_lacks (session plan) start o p before after a b (takes_memory plan) sound broke.0))
 
 -- Where no memory is taken it is played whole, whatever the messages are.
 never_lacks : {old new : Devices} {said : List Saying} {told : Bytes} (cause : Cause) → IsSound old new

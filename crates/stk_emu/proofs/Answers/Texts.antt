@@ -122,13 +122,11 @@ appends_both old mid new x y a b c first then = record {
 }
 
 -- after the first n bytes, so many more
-pub appends_on : (bytes part : List ℕ) (n used : ℕ) (old mid new : Machine) (a b c : List ℕ)
-    → AppendsAnswers old (take n bytes) mid a b → part ≡ drop n bytes → AppendsAnswers mid (take used part) new b c
+pub appends_on : (bytes : List ℕ) (n used : ℕ) (old mid new : Machine) (a b c : List ℕ)
+    → AppendsAnswers old (take n bytes) mid a b → AppendsAnswers mid (take used (drop n bytes)) new b c
     → AppendsAnswers old (take (n + used) bytes) new a c
-appends_on bytes part n used old mid new a b c first is then =
-    subst (λ bs. AppendsAnswers old bs new a c)
-    (ap (λ bs. take n bytes ++ take used bs) is ∙ sym (take-add n used bytes))
-    (appends_both old mid new (take n bytes) (take used part) a b c first then)
+appends_on bytes n used old mid new a b c first then =
+    rw take-add (appends_both old mid new (take n bytes) (take used (drop n bytes)) a b c first then)
 
 -- a prefix of the bytes, after which some are left
 pub appends_prefix : (bytes : List ℕ) (n : ℕ) (old new : Machine) (a b : List ℕ)

@@ -111,16 +111,14 @@ module _ {a : Dialog ⊥ Reply} {m seq : Position} {k o : LinkView} {commands re
   pub turn_breaks : {by : Broken} {q : LinkView} → FailsOver by (exchange command) seq o q → FailsOver by a m k q
   turn_breaks f = broken_on next_is (attempt_off command rest [] f)
 
--- the last command, whatever its answer comes to
-pub turn_last : {a : Dialog ⊥ Reply} {m seq n : Position} {k o q : LinkView} {commands : List Command}
-    {command : Command} (reply : said.Reply) (bytes : List ℕ)
-    → Reaches a m k (attempt commands []) seq o → commands ≡ command ∷ []
-    → PlaysOver (exchange command) seq o q (reply_of reply bytes) n
-    → PlaysOver a m k q (reply_of reply bytes) n
-turn_last {a = a} {m = m} {n = n} {k = k} {q = q} replies.Data bytes come is f =
-    played_from (subst (λ d. Reaches a m k d n q) (attempt_none bytes) (turn come is (Data bytes) f))
-turn_last (replies.Again fault) bytes come is f = played_from (turn come is (Again fault) f)
-turn_last (replies.Stop fault) bytes come is f = played_from (turn come is (Stop fault) f)
+  -- the last command, whatever its answer comes to
+  pub turn_last : {n : Position} {q : LinkView} (reply : said.Reply) (bytes : List ℕ) → rest ≡ []
+      → PlaysOver (exchange command) seq o q (reply_of reply bytes) n → PlaysOver a m k q (reply_of reply bytes) n
+  turn_last {n = n} {q = q} replies.Data bytes last f =
+      played_from (subst (λ d. Reaches a m k d n q) (ap (λ cs. attempt cs bytes) last ∙ attempt_none bytes)
+      (turn (Data bytes) f))
+  turn_last (replies.Again fault) bytes last f = played_from (turn (Again fault) f)
+  turn_last (replies.Stop fault) bytes last f = played_from (turn (Stop fault) f)
 
 -- a turn of the loop over the attempts
 

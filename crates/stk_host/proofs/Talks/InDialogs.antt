@@ -253,42 +253,33 @@ module _ {E R : Type 0} {a b : Dialog E R} {m n : Position} {x : Talk} {events :
     in_turn = led_turns y g.in_turn;
   }
 
-pub leads_bind : {E A B : Type 0} {a b : Dialog E A} {m n : Position} {talk : Talk} {events : List (Event E)}
-    (go_on : A → Dialog E B)
-    → TalkLeads a m talk events b n → TalkLeads (a >>= go_on) m talk events (b >>= go_on) n
-leads_bind {a = a} {b = b} {m = m} {n = n} {talk = talk} {events = events} go_on f = record {
-  goes_on = λ more.
-      played_bind a go_on m.next (on_tape m.unread ++ (heard talk ++ more))
-      ∙ (ap (λ q. followed q (λ r. played (go_on r))) (f.goes_on more)
-      ∙ (followed_behind events (played b n.next (on_tape n.unread ++ more)) (λ r. played (go_on r))
-      ∙ ap (behind events) (sym (played_bind b go_on n.next (on_tape n.unread ++ more)))));
-  all_sent = f.all_sent;
-  in_turn = turns_bind a go_on m talk f.in_turn;
-}
+-- the same before what follows, and before a talk that breaks off
+module _ {E R : Type 0} {a b : Dialog E R} {m n : Position} {x : Talk} {events : List (Event E)} where
+  pub leads_bind : {B : Type 0} (go_on : R → Dialog E B) → TalkLeads a m x events b n
+      → TalkLeads (a >>= go_on) m x events (b >>= go_on) n
+  leads_bind go_on f = record {
+    goes_on = λ more.
+        played_bind a go_on m.next (on_tape m.unread ++ (heard x ++ more))
+        ∙ (ap (λ q. followed q (λ r. played (go_on r))) (f.goes_on more)
+        ∙ (followed_behind events (played b n.next (on_tape n.unread ++ more)) (λ r. played (go_on r))
+        ∙ ap (behind events) (sym (played_bind b go_on n.next (on_tape n.unread ++ more)))));
+    all_sent = f.all_sent;
+    in_turn = turns_bind a go_on m x f.in_turn;
+  }
+
+  pub breaks_on : (SaidPart : E → E → Type 0) {y : Talk} {shown : List (Event E)} → TalkLeads a m x events b n
+      → Breaks SaidPart b n y shown → Breaks SaidPart a m (x ++ y) (events ++ shown)
+  breaks_on SaidPart {y = y} {shown = shown} f g = record {
+    prefix = subst (λ p. IsPrefixOfEvents SaidPart (events ++ shown) p.events) (sym (led f y))
+        (prefix_behind SaidPart events g.prefix);
+    all_sent = led_bytes f y shown g.all_sent;
+    in_turn = led_turns f y g.in_turn;
+  }
 
 -- something is said beside the line
 pub leads_say : {E R : Type 0} (e : E) (dialog : Dialog E R) (m : Position)
     → TalkLeads (Say e dialog) m [] (Said e ∷ []) dialog m
 leads_say e dialog m = record { goes_on = λ more. refl; all_sent = refl; in_turn = tt }
-
--- a command is sent and its answer read
-pub leads_ask : {E R : Type 0} (body : List ℕ) (answered : Reading → Dialog E R) (seq : ℕ) (u v : List ℕ) (x y : Talk)
-    (reading : Reading)
-    → IsQuiet x → sent x ≡ frame seq body → WaitsFrom seq (on_tape u) y
-    → ((more : Tape) → answer seq (on_tape u ++ (heard y ++ more)) ≡ Some (reading, on_tape v ++ more))
-    → TalkLeads (Ask body answered) (position seq u) (x ++ y) (Frame (frame seq body) ∷ []) (answered reading)
-    (position (next seq) v)
-leads_ask body answered seq u v x y reading quiet is waits answers = record {
-  goes_on = λ more.
-      ap (played (Ask body answered) seq) (heard_both (on_tape u) x y more
-      ∙ ap (λ t. on_tape u ++ (t ++ (heard y ++ more))) (heard_quiet x quiet))
-      ∙ ap (λ o. behind (Frame (frame seq body) ∷ []) (by_answer (λ r. played (answered r) (next seq)) o))
-      (answers more);
-  all_sent = append-nil (frame seq body) ∙
-      (sym is ∙ (sym (append-nil (sent x)) ∙ (ap (λ bs. sent x ++ bs) (sym (sent_waiting seq (on_tape u) y waits))
-      ∙ sym (sent_append x y))));
-  in_turn = turns_asking body answered seq u x y quiet is waits;
-}
 
 -- a result was reached
 pub plays_from : {E R : Type 0} {a : Dialog E R} {m n : Position} {talk : Talk} {events : List (Event E)} {result : R}
@@ -310,16 +301,6 @@ leads_from {n = n} {events = events} {result = result} f = record {
 }
 
 -- breaking off
-
-pub breaks_on : {E R : Type 0} (SaidPart : E → E → Type 0) {a b : Dialog E R} {m n : Position} {x y : Talk}
-    {events shown : List (Event E)}
-    → TalkLeads a m x events b n → Breaks SaidPart b n y shown → Breaks SaidPart a m (x ++ y) (events ++ shown)
-breaks_on SaidPart {y = y} {events = events} {shown = shown} f g = record {
-  prefix = subst (λ p. IsPrefixOfEvents SaidPart (events ++ shown) p.events) (sym (led f y))
-      (prefix_behind SaidPart events g.prefix);
-  all_sent = led_bytes f y shown g.all_sent;
-  in_turn = led_turns f y g.in_turn;
-}
 
 pub breaks_bind : {E A B : Type 0} (SaidPart : E → E → Type 0) {a : Dialog E A} {m : Position} {talk : Talk}
     {shown : List (Event E)} (go_on : A → Dialog E B)
@@ -378,39 +359,58 @@ by_bind broken.Recv a m talk shown go_on f =
       in_turn = turns_bind a go_on m talk f.in_turn;
     }
 
--- a part of a frame was sent
-pub breaks_asking : {E R : Type 0} (body : List ℕ) (answered : Reading → Dialog E R) (seq : ℕ) (u part unsent : List ℕ)
-    (x : Talk)
-    → IsQuiet x → sent x ≡ part → frame seq body ≡ part ++ unsent → 0 < length unsent
-    → BreaksSending (Ask body answered) (position seq u) x (Frame part ∷ [])
-breaks_asking body answered seq u part unsent x quiet is frame_is not_whole =
-    let later = (by_answer (λ r. played (answered r) (next seq)) (answer seq (on_tape u ++ heard x))).events in
-    record {
-      whole = [];
-      part = part;
-      unsent = unsent;
-      later = later;
-      shown_is = refl;
-      events_are = ap (λ bs. Frame bs ∷ later) frame_is;
-      not_whole = not_whole;
-      all_sent = append-nil part ∙ sym is;
-      in_turn = turns_quiet (Ask body answered) seq (on_tape u) [] x quiet;
-    }
+-- a question
 
--- a frame was sent, and listening broke off
-pub breaks_listening : {E R : Type 0} (body : List ℕ) (answered : Reading → Dialog E R) (seq : ℕ) (u : List ℕ)
-    (x y : Talk)
-    → IsQuiet x → sent x ≡ frame seq body → WaitsFrom seq (on_tape u) y → answer seq (on_tape u ++ heard y) ≡ None
-    → BreaksListening (Ask body answered) (position seq u) (x ++ y) (Frame (frame seq body) ∷ [])
-breaks_listening body answered seq u x y quiet is waits none =
-    let all : heard (x ++ y) ≡ heard y = heard_append x y ∙ ap (λ t. t ++ heard y) (heard_quiet x quiet) in
-    let unheard : answer seq (on_tape u ++ heard (x ++ y)) ≡ None = ap (λ t. answer seq (on_tape u ++ t)) all ∙ none in
-    record {
-      waits = ap (λ o. (by_answer (λ r. played (answered r) (next seq)) o).outcome) unheard;
-      shown_is = ap (λ o. Frame (frame seq body) ∷ (by_answer (λ r. played (answered r) (next seq)) o).events)
-          (sym unheard);
-      all_sent = append-nil (frame seq body) ∙
-          (sym is ∙ (sym (append-nil (sent x)) ∙ (ap (λ bs. sent x ++ bs) (sym (sent_waiting seq (on_tape u) y waits))
-          ∙ sym (sent_append x y))));
-      in_turn = turns_asking body answered seq u x y quiet is waits;
-    }
+module _ {E R : Type 0} (body : List ℕ) (answered : Reading → Dialog E R) (seq : ℕ) (u : List ℕ) where
+  -- its frame was sent and its answer read
+  pub leads_ask : (v : List ℕ) (x y : Talk) (reading : Reading) → IsQuiet x → sent x ≡ frame seq body
+      → WaitsFrom seq (on_tape u) y
+      → ((more : Tape) → answer seq (on_tape u ++ (heard y ++ more)) ≡ Some (reading, on_tape v ++ more))
+      → TalkLeads (Ask body answered) (position seq u) (x ++ y) (Frame (frame seq body) ∷ []) (answered reading)
+      (position (next seq) v)
+  leads_ask v x y reading quiet is waits answers = record {
+    goes_on = λ more.
+        ap (played (Ask body answered) seq) (heard_both (on_tape u) x y more
+        ∙ ap (λ t. on_tape u ++ (t ++ (heard y ++ more))) (heard_quiet x quiet))
+        ∙ ap (λ o. behind (Frame (frame seq body) ∷ []) (by_answer (λ r. played (answered r) (next seq)) o))
+        (answers more);
+    all_sent = append-nil (frame seq body) ∙
+        (sym is ∙ (sym (append-nil (sent x)) ∙ (ap (λ bs. sent x ++ bs) (sym (sent_waiting seq (on_tape u) y waits))
+        ∙ sym (sent_append x y))));
+    in_turn = turns_asking body answered seq u x y quiet is waits;
+  }
+
+  -- a part of its frame was sent
+  pub breaks_asking : (part unsent : List ℕ) (x : Talk) → IsQuiet x → sent x ≡ part → frame seq body ≡ part ++ unsent
+      → 0 < length unsent → BreaksSending (Ask body answered) (position seq u) x (Frame part ∷ [])
+  breaks_asking part unsent x quiet is frame_is not_whole =
+      let later = (by_answer (λ r. played (answered r) (next seq)) (answer seq (on_tape u ++ heard x))).events in
+      record {
+        whole = [];
+        part = part;
+        unsent = unsent;
+        later = later;
+        shown_is = refl;
+        events_are = ap (λ bs. Frame bs ∷ later) frame_is;
+        not_whole = not_whole;
+        all_sent = append-nil part ∙ sym is;
+        in_turn = turns_quiet (Ask body answered) seq (on_tape u) [] x quiet;
+      }
+
+  -- its frame was sent, and listening broke off
+  pub breaks_listening : (x y : Talk) → IsQuiet x → sent x ≡ frame seq body → WaitsFrom seq (on_tape u) y
+      → answer seq (on_tape u ++ heard y) ≡ None
+      → BreaksListening (Ask body answered) (position seq u) (x ++ y) (Frame (frame seq body) ∷ [])
+  breaks_listening x y quiet is waits none =
+      let all : heard (x ++ y) ≡ heard y = heard_append x y ∙ ap (λ t. t ++ heard y) (heard_quiet x quiet) in
+      let unheard : answer seq (on_tape u ++ heard (x ++ y)) ≡ None =
+      ap (λ t. answer seq (on_tape u ++ t)) all ∙ none in
+      record {
+        waits = ap (λ o. (by_answer (λ r. played (answered r) (next seq)) o).outcome) unheard;
+        shown_is = ap (λ o. Frame (frame seq body) ∷ (by_answer (λ r. played (answered r) (next seq)) o).events)
+            (sym unheard);
+        all_sent = append-nil (frame seq body) ∙
+            (sym is ∙ (sym (append-nil (sent x)) ∙ (ap (λ bs. sent x ++ bs)
+            (sym (sent_waiting seq (on_tape u) y waits)) ∙ sym (sent_append x y))));
+        in_turn = turns_asking body answered seq u x y quiet is waits;
+      }

@@ -79,20 +79,18 @@ heard_in (mark.Got n ∷ marks) out back b =
 heard_in (mark.Silence ∷ marks) out back b = heard_in marks out back b
 heard_in (mark.End ∷ marks) out back b = heard_in marks out back b
 
--- the whole of it, as the code goes on
-pub log_adds : (marks new_marks : List Mark) (out new_out back new_back x y : List ℕ) (m : Mark) (old : Talk)
-    → out_count marks ≡ length out → back_count marks ≡ length back
-    → talk_of marks out back ≡ old → new_marks ≡ marks ++ m ∷ [] → new_out ≡ out ++ x → new_back ≡ back ++ y
-    → talk_of new_marks new_out new_back ≡ old ++ talk_of (m ∷ []) x y
-log_adds marks new_marks out new_out back new_back x y m old o b view ms os bs =
-    rw (ms, os, bs) (log_more marks out back x y m o b ∙ ap (λ t. t ++ talk_of (m ∷ []) x y) view)
+-- the whole of it, as the code goes on: this mark and these bytes are new
+module _ (marks new_marks : List Mark) (out new_out back new_back x y : List ℕ) (m : Mark)
+    (o : out_count marks ≡ length out) (b : back_count marks ≡ length back) (marks_are : new_marks ≡ marks ++ m ∷ [])
+    (out_is : new_out ≡ out ++ x) (back_is : new_back ≡ back ++ y) where
+  pub log_adds : (old : Talk) → talk_of marks out back ≡ old
+      → talk_of new_marks new_out new_back ≡ old ++ talk_of (m ∷ []) x y
+  log_adds old view =
+      rw (marks_are, out_is, back_is) (log_more marks out back x y m o b ∙ ap (λ t. t ++ talk_of (m ∷ []) x y) view)
 
-pub counts_more : (marks new_marks : List Mark) (out new_out back new_back x y : List ℕ) (m : Mark)
-    → out_count marks ≡ length out → back_count marks ≡ length back
-    → out_count (m ∷ []) ≡ length x → back_count (m ∷ []) ≡ length y → new_marks ≡ marks ++ m ∷ [] → new_out ≡ out ++ x
-    → new_back ≡ back ++ y
-    → (out_count new_marks ≡ length new_out) × (back_count new_marks ≡ length new_back)
-counts_more marks new_marks out new_out back new_back x y m o b mo mb ms os bs = (
-  rw (ms, os, length-append) (omega (arith, out_more marks m)),
-  rw (ms, bs, length-append) (omega (arith, back_more marks m)),
-)
+  pub counts_more : out_count (m ∷ []) ≡ length x → back_count (m ∷ []) ≡ length y
+      → (out_count new_marks ≡ length new_out) × (back_count new_marks ≡ length new_back)
+  counts_more mo mb = (
+    rw (marks_are, out_is, length-append) (omega (arith, out_more marks m)),
+    rw (marks_are, back_is, length-append) (omega (arith, back_more marks m)),
+  )

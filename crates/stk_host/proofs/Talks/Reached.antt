@@ -18,14 +18,23 @@ reaches_here dialog before o = record {
       leads_here dialog before;
 }
 
-pub reaches_on : {R : Type 0} {a b c : Dialog ⊥ R} {l m n : Position} {o p q : LinkView} → Reaches a l o b m p
-    → Reaches b m p c n q → Reaches a l o c n q
-reaches_on {o = o} {p = p} {q = q} f g = record {
-  during = f.during ++ g.during;
-  events = f.events ++ g.events;
-  grows = grows_on o.talk p.talk q.talk f.during g.during f.grows g.grows;
-  leads = leads_on f.leads g.leads;
-}
+-- from where a call has come
+module _ {R : Type 0} {a b : Dialog ⊥ R} {m n : Position} {o p : LinkView} (f : Reaches a m o b n p) where
+  pub reaches_on : {c : Dialog ⊥ R} {l : Position} {q : LinkView} → Reaches b n p c l q → Reaches a m o c l q
+  reaches_on {q = q} g = record {
+    during = f.during ++ g.during;
+    events = f.events ++ g.events;
+    grows = grows_on o.talk p.talk q.talk f.during g.during f.grows g.grows;
+    leads = leads_on f.leads g.leads;
+  }
+
+  pub broken_on : {by : Broken} {q : LinkView} → FailsOver by b n p q → FailsOver by a m o q
+  broken_on {by = by} {q = q} g = record {
+    during = f.during ++ g.during;
+    shown = f.events ++ g.shown;
+    grows = grows_on o.talk p.talk q.talk f.during g.during f.grows g.grows;
+    breaks = by_on f.leads by g.during g.shown g.breaks;
+  }
 
 pub reaches_bind : {A B : Type 0} {a b : Dialog ⊥ A} {m n : Position} {o p : LinkView} (go_on : A → Dialog ⊥ B)
     → Reaches a m o b n p → Reaches (a >>= go_on) m o (b >>= go_on) n p
@@ -45,15 +54,6 @@ reaches_from f = record { during = f.during; events = f.events; grows = f.grows;
 pub played_from : {R : Type 0} {a : Dialog ⊥ R} {m n : Position} {o p : LinkView} {result : R}
     → Reaches a m o (Done result) n p → PlaysOver a m o p result n
 played_from f = record { during = f.during; events = f.events; grows = f.grows; plays = plays_from f.leads }
-
-pub broken_on : {R : Type 0} {by : Broken} {a b : Dialog ⊥ R} {m n : Position} {o p q : LinkView} → Reaches a m o b n p
-    → FailsOver by b n p q → FailsOver by a m o q
-broken_on {by = by} {o = o} {p = p} {q = q} f g = record {
-  during = f.during ++ g.during;
-  shown = f.events ++ g.shown;
-  grows = grows_on o.talk p.talk q.talk f.during g.during f.grows g.grows;
-  breaks = by_on f.leads by g.during g.shown g.breaks;
-}
 
 pub broken_bind : {A B : Type 0} {by : Broken} {a : Dialog ⊥ A} {m : Position} {o p : LinkView} (go_on : A → Dialog ⊥ B)
     → FailsOver by a m o p → FailsOver by (a >>= go_on) m o p

@@ -59,28 +59,28 @@ pub good_few : (turns : List Turn) → AreGood turns → AreFew turns
 good_few [] good = tt
 good_few (turn ∷ turns) good = (let none = none_bad 7 (turn ∷ turns) good in omega (arith, none), good_few turns good.1)
 
--- what holds of turns to come holds of those that are left
-pub turns_along : {E R P : Type 0} (m : Device P) (Line : List Turn → Type 0)
-    → ((turns : List Turn) → Line turns → Line (other_turns turns))
-    → (k : ℕ) (d : Dialog E R) (p : P) (turns : List Turn) → Line turns → Line (along m k d p turns).turns
-turns_along m Line kept k (Done r) p turns line = line
-turns_along m Line kept k (Say s d) p turns line = turns_along m Line kept k d p turns line
-turns_along m Line kept zero (Ask bytes go_on) p turns line = line
-turns_along m Line kept (suc k) (Ask bytes go_on) p turns line =
-    turns_along m Line kept k (go_on _) _ (other_turns turns) (kept turns line)
+module _ {E R P : Type 0} (m : Device P) where
+  -- what holds of turns to come holds of those that are left
+  pub turns_along : (Line : List Turn → Type 0) → ((turns : List Turn) → Line turns → Line (other_turns turns))
+      → (k : ℕ) (d : Dialog E R) (p : P) (turns : List Turn) → Line turns → Line (along m k d p turns).turns
+  turns_along Line kept k (Done r) p turns line = line
+  turns_along Line kept k (Say s d) p turns line = turns_along Line kept k d p turns line
+  turns_along Line kept zero (Ask bytes go_on) p turns line = line
+  turns_along Line kept (suc k) (Ask bytes go_on) p turns line =
+      turns_along Line kept k (go_on _) _ (other_turns turns) (kept turns line)
 
--- a dialog that asks at most so many questions is done after them
-pub done_within : {E R P : Type 0} (m : Device P) (n k : ℕ) (d : Dialog E R) (p : P) (turns : List Turn)
-    → AsksAtMost n d → n ≤ k → (r : R) × ((along m k d p turns).dialog ≡ Done r)
-done_within m n k (Done r) p turns asks le = (r, refl)
-done_within m n k (Say e d) p turns asks le = done_within m n k d p turns asks le
-done_within m zero k (Ask bytes go_on) p turns asks le = absurd asks
-done_within m (suc n) zero (Ask bytes go_on) p turns asks le = absurd (omega (arith, le))
-done_within m (suc n) (suc k) (Ask bytes go_on) p turns asks le =
-    let turn = first_turn turns in
-    let reading = turn_reading turn (m.answer bytes p) in
-    done_within m n k (go_on reading) (after_turn turn (m.after bytes p) p m.reset) (other_turns turns) (asks reading)
-    (omega (arith, le))
+  -- a dialog that asks at most so many questions is done after them
+  pub done_within : (n k : ℕ) (d : Dialog E R) (p : P) (turns : List Turn) → AsksAtMost n d → n ≤ k
+      → (r : R) × ((along m k d p turns).dialog ≡ Done r)
+  done_within n k (Done r) p turns asks le = (r, refl)
+  done_within n k (Say e d) p turns asks le = done_within n k d p turns asks le
+  done_within zero k (Ask bytes go_on) p turns asks le = absurd asks
+  done_within (suc n) zero (Ask bytes go_on) p turns asks le = absurd (omega (arith, le))
+  done_within (suc n) (suc k) (Ask bytes go_on) p turns asks le =
+      let turn = first_turn turns in
+      let reading = turn_reading turn (m.answer bytes p) in
+      done_within n k (go_on reading) (after_turn turn (m.after bytes p) p m.reset) (other_turns turns) (asks reading)
+      (omega (arith, le))
 
 -- the turns after so many
 abbrev behind : ℕ → List Turn → List Turn

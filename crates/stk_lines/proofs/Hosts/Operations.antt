@@ -33,17 +33,6 @@ use Rattle.stk_lines.proofs.Strokes.OutsideMode.{step_fits}
 use Rattle.stk_lines.proofs.Given.StepsGive.{gives_given, struck_sizes}
 use Rattle.stk_lines.proofs.Hosts.AnyTurn.{any_turn, Keeps, leads, step_leads}
 
--- a dialog that says nothing beside the line, as a part of one that does
-abbrev raised : {E R P : Type 0} → LineState ⊥ R P → LineState E R P
-raised s = record { dialog = lifted s.dialog; programmer = s.programmer; turns = s.turns; left = s.left }
-
-pub along_lifted : {E R P : Type 0} (m : Device P) (k : ℕ) (d : Dialog ⊥ R) (p : P) (turns : List Turn)
-    → along {E = E} m k (lifted d) p turns ≡ raised (along m k d p turns)
-along_lifted m k (Done r) p turns = refl
-along_lifted m k (Say e d) p turns = absurd e
-along_lifted m zero (Ask bytes go_on) p turns = refl
-along_lifted {E = E} m (suc k) (Ask bytes go_on) p turns = along_lifted {E = E} m k (go_on _) _ (other_turns turns)
-
 module _ (part : Part) (sound : IsPart part) where
   one_more : (commands : List Command) (steps : List (List Command)) (m : Memories) (q : Programmer)
       → Reached part steps (struck part commands m) q → Reached part (commands ∷ steps) m q
@@ -211,22 +200,36 @@ pub leads_closing : (part : Part) (m : Memories) (p : Programmer) (turns : List 
 leads_closing part m p turns idle = leads device (λ r q a. (a.0, a.0))
     (closing_goes (Idle part m) (leave_fits part m) p idle)
 
--- a dialog whose result is only reported otherwise goes along as it does
-pub along_told : {E A B P : Type 0} (m : Device P) (k : ℕ) (d : Dialog E A) (tell : A → B) (p : P) (turns : List Turn)
-    → along m k (d >>= (λ a. Done (tell a))) p turns
-    ≡ record {
-      dialog = (along m k d p turns).dialog >>= (λ a. Done (tell a));
-      programmer =
-          (along m k d p turns).programmer;
-      turns = (along m k d p turns).turns;
-      left = (along m k d p turns).left;
-    }
-along_told {E = E} {A = A} {B = B} {P = P} m k d tell p turns = let s = along m k d p turns in
-    along_bind m k d (λ a. Done (tell a)) p turns ∙ told s.dialog s.programmer s.turns s.left
-  where
-    told : (d : Dialog E A) (q : P) (fs : List Turn) (left : ℕ)
-        → onward {E = E} {A = A} {B = B} m (λ a. Done (tell a)) left fs q d
-        ≡ record { dialog = d >>= (λ a. Done (tell a)); programmer = q; turns = fs; left = left }
-    told (Done a) q fs left = refl
-    told (Say s d) q fs left = refl
-    told (Ask bytes go_on) q fs left = refl
+-- a dialog that says nothing beside the line, as a part of one that does
+abbrev raised : {E R P : Type 0} → LineState ⊥ R P → LineState E R P
+raised s = record { dialog = lifted s.dialog; programmer = s.programmer; turns = s.turns; left = s.left }
+
+-- a dialog whose result is only reported otherwise
+abbrev reported : {E A B P : Type 0} → (A → B) → LineState E A P → LineState E B P
+reported tell s = record {
+  dialog = s.dialog >>= (λ a. Done (tell a));
+  programmer = s.programmer;
+  turns = s.turns;
+  left = s.left;
+}
+
+-- either goes along as the dialog itself does
+module _ {E P : Type 0} (m : Device P) where
+  pub along_lifted : {R : Type 0} (k : ℕ) (d : Dialog ⊥ R) (p : P) (turns : List Turn)
+      → along {E = E} m k (lifted d) p turns ≡ raised (along m k d p turns)
+  along_lifted k (Done r) p turns = refl
+  along_lifted k (Say e d) p turns = absurd e
+  along_lifted zero (Ask bytes go_on) p turns = refl
+  along_lifted (suc k) (Ask bytes go_on) p turns = along_lifted k (go_on _) _ (other_turns turns)
+
+  pub along_told : {A B : Type 0} (k : ℕ) (d : Dialog E A) (tell : A → B) (p : P) (turns : List Turn)
+      → along m k (d >>= (λ a. Done (tell a))) p turns ≡ reported tell (along m k d p turns)
+  along_told {A = A} {B = B} k d tell p turns = let s = along m k d p turns in
+      along_bind m k d (λ a. Done (tell a)) p turns ∙ told s.dialog s.programmer s.turns s.left
+    where
+      told : (d : Dialog E A) (q : P) (fs : List Turn) (left : ℕ)
+          → onward {E = E} {A = A} {B = B} m (λ a. Done (tell a)) left fs q d
+          ≡ reported tell (record { dialog = d; programmer = q; turns = fs; left = left })
+      told (Done a) q fs left = refl
+      told (Say s d) q fs left = refl
+      told (Ask bytes go_on) q fs left = refl

@@ -109,32 +109,20 @@ abbrev Goes : {E R : Type 0} → Dialog E R → ℕ → Tape → Tape → Type 0
 Goes d n t u = (more : List (List ℕ)) × (frames_in (played d n (t ++ u)).events
     ≡ frames_in (played d n t).events ++ more)
 
-goes_asking : {E R : Type 0} (bytes : List ℕ) (go_on : Reading → Dialog E R) (n : ℕ) (t u : Tape)
-    (o : Option (Reading × Tape)) → answer n t ≡ o
-    → ((reading : Reading) (left : Tape) → Goes (go_on reading) (next n) left u) → Goes (Ask bytes go_on) n t u
-goes_asking bytes go_on n t u None e each =
-    let whole = played (Ask bytes go_on) n (t ++ u) in
-    let rest = by_answer (λ reading. played (go_on reading) (next n)) (answer n (t ++ u)) in (
-      frames_in rest.events,
-      ap (λ o. frame n bytes
-          ∷ (frames_in (by_answer (λ reading. played (go_on reading) (next n)) o).events ++ frames_in rest.events))
-          (sym e),
-    )
-goes_asking bytes go_on n t u (Some (reading, left)) e each =
-    let g = each reading left in (
-      g.0,
-      ap (λ o. frame n bytes ∷ frames_in (by_answer (λ reading. played (go_on reading) (next n)) o).events)
-          (answer_extends n t u reading left e)
-          ∙ (ap (λ fs. frame n bytes ∷ fs) g.1
-          ∙ ap (λ o. frame n bytes ∷ (frames_in (by_answer (λ reading. played (go_on reading) (next n)) o).events
-          ++ g.0)) (sym e)),
-    )
-
 pub played_goes : {E R : Type 0} (d : Dialog E R) (n : ℕ) (t u : Tape) → Goes d n t u
 played_goes (Done r) n t u = ([], refl)
 played_goes (Say e d) n t u = played_goes d n t u
-played_goes (Ask bytes go_on) n t u = goes_asking bytes go_on n t u (answer n t) refl
-    (λ reading left. played_goes (go_on reading) (next n) left u)
+played_goes (Ask bytes go_on) n t u =
+    let sent_by : Option (Reading × Tape) → List (List ℕ) =
+    λ o. frame n bytes ∷ frames_in (by_answer (λ reading. played (go_on reading) (next n)) o).events in
+    (elim (answer n t) as (λ o. answer n t ≡ o
+    → (more : List (List ℕ)) × (sent_by (answer n (t ++ u)) ≡ sent_by o ++ more)) [
+      | None ↦ λ e.
+          (frames_in (by_answer (λ reading. played (go_on reading) (next n)) (answer n (t ++ u))).events, refl)
+      | Some got ↦ λ e.
+          let g = played_goes (go_on got.0) (next n) got.1 u in
+          (g.0, ap sent_by (answer_extends n t u got.0 got.1 e) ∙ ap (λ fs. frame n bytes ∷ fs) g.1)
+    ]) refl
 
 -- a part of a frame has no frame
 part_none : (x y : List ℕ) → 0 < length y → IsPiece (x ++ y) → frames x ≡ []

@@ -11,25 +11,25 @@ said_on m next left turns p (Done a) = said_along m left (next a) p turns
 said_on m next left turns p (Say e dialog) = []
 said_on m next left turns p (Ask bytes go_on) = []
 
--- a dialog and the next one say what the one says, and the other from there
-pub said_bind : {E A B P : Type 0} (m : Device P) (k : ℕ) (d : Dialog E A) (next : A → Dialog E B) (p : P)
-    (turns : List Turn)
-    → said_along m k (d >>= next) p turns
-    ≡ said_along m k d p turns ++ said_on m next (along m k d p turns).left (along m k d p turns).turns
-    (along m k d p turns).programmer (along m k d p turns).dialog
-said_bind m k (Done a) next p turns = refl
-said_bind m k (Say e d) next p turns = ap (λ said. e ∷ said) (said_bind m k d next p turns)
-said_bind m zero (Ask bytes go_on) next p turns = refl
-said_bind m (suc k) (Ask bytes go_on) next p turns =
-    said_bind m k (go_on (turn_reading (first_turn turns) (m.answer bytes p))) next
-    (after_turn (first_turn turns) (m.after bytes p) p m.reset) (other_turns turns)
+module _ {E P : Type 0} (m : Device P) where
+  -- a dialog and the next one say what the one says, and the other from there
+  pub said_bind : {A B : Type 0} (k : ℕ) (d : Dialog E A) (next : A → Dialog E B) (p : P) (turns : List Turn)
+      → said_along m k (d >>= next) p turns
+      ≡ said_along m k d p turns ++ said_on m next (along m k d p turns).left (along m k d p turns).turns
+      (along m k d p turns).programmer (along m k d p turns).dialog
+  said_bind k (Done a) next p turns = refl
+  said_bind k (Say e d) next p turns = ap (λ said. e ∷ said) (said_bind k d next p turns)
+  said_bind zero (Ask bytes go_on) next p turns = refl
+  said_bind (suc k) (Ask bytes go_on) next p turns =
+      said_bind k (go_on (turn_reading (first_turn turns) (m.answer bytes p))) next
+      (after_turn (first_turn turns) (m.after bytes p) p m.reset) (other_turns turns)
 
--- a dialog that can say nothing says nothing
-pub said_lifted : {E R P : Type 0} (m : Device P) (k : ℕ) (d : Dialog ⊥ R) (p : P) (turns : List Turn)
-    → said_along {E = E} m k (lifted d) p turns ≡ []
-said_lifted m k (Done r) p turns = refl
-said_lifted m k (Say e d) p turns = absurd e
-said_lifted m zero (Ask bytes go_on) p turns = refl
-said_lifted {E = E} m (suc k) (Ask bytes go_on) p turns =
-    said_lifted {E = E} m k (go_on (turn_reading (first_turn turns) (m.answer bytes p)))
-    (after_turn (first_turn turns) (m.after bytes p) p m.reset) (other_turns turns)
+  -- a dialog that can say nothing says nothing
+  pub said_lifted : {R : Type 0} (k : ℕ) (d : Dialog ⊥ R) (p : P) (turns : List Turn)
+      → said_along {E = E} m k (lifted d) p turns ≡ []
+  said_lifted k (Done r) p turns = refl
+  said_lifted k (Say e d) p turns = absurd e
+  said_lifted zero (Ask bytes go_on) p turns = refl
+  said_lifted (suc k) (Ask bytes go_on) p turns =
+      said_lifted k (go_on (turn_reading (first_turn turns) (m.answer bytes p)))
+      (after_turn (first_turn turns) (m.after bytes p) p m.reset) (other_turns turns)

@@ -2,7 +2,7 @@ use Rattle.std.proofs.Common.{subst, Option, Ok, Err}
 use Rattle.std.proofs.lemmas.Result.{err_from_is_err_and}
 use Rattle.clap.specs.Words.{found_of, rows_of}
 use Rattle.avr_cli.specs.Command.{entries_of}
-use Rattle.avr_cli.specs.Split.{Bytes}
+use Rattle.avr_part.specs.PartFile.{Bytes}
 use Rattle.avr_cli.specs.Port.{port_given_of}
 use Rattle.avr_cli.specs.Settings.{GivesOrMemory, TellsAnyway}
 use Rattle.avr_cli.proofs.KeptTexts.{nothing_behind_port, port_is_told}

@@ -11,22 +11,21 @@ returns-in_err-parts-clause-goes g c =
 pub returns-in_err-part-clause-goes : goal.returns-in_err-part-clause-goes
 returns-in_err-part-clause-goes g c =
     let p = err_from_is_err_and c.from_residual-in_err-part.result c.from_residual-in_err-part.ensures.1 in
-    rw (p.1, p.2) (goes_without_part c.args.settings.now _ _ _ _ _ c.in_ok-parts.parts c.as_str.ensures
-    c.in_ok-parts.ensures.goes c.in_err-part.ensures.goes)
+    rw (p.1, p.2) (goes_without_part c.args.settings.now _ _ _ _ c.in_ok-parts.parts c.in_ok-parts.ensures.goes
+    (rw c.as_str.ensures at c.in_err-part.ensures.goes))
 
 pub returns-in_err-tasks-clause-goes : goal.returns-in_err-tasks-clause-goes
 returns-in_err-tasks-clause-goes g c =
     let p = err_from_is_err_and c.from_residual-in_err-tasks.result c.from_residual-in_err-tasks.ensures.1 in
-    rw (p.1, p.2) (goes_without_tasks c.args.settings.now _ _ _ _ _ _ _ c.in_ok-parts.parts c.in_ok-part.part
-    c.as_str.ensures c.as_slice.ensures c.in_ok-parts.ensures.goes c.in_ok-part.ensures.goes
-    c.in_err-tasks.ensures.goes)
+    rw (p.1, p.2) (goes_without_tasks c.args.settings.now _ _ _ _ _ c.in_ok-parts.parts c.in_ok-part.part
+    c.in_ok-parts.ensures.goes (rw c.as_str.ensures at c.in_ok-part.ensures.goes)
+    (rw c.as_slice.ensures at c.in_err-tasks.ensures.goes))
 
 pub returns-clause-goes : goal.returns-clause-goes
 returns-clause-goes g c =
-    went_whole_plan c.args.settings.now _ _ _ _ _ _ c.in_ok-parts.parts c.in_ok-part.part c.in_ok-tasks.tasks
-    c.new.result
-    c.as_str.ensures c.as_slice.ensures
-    c.new.ensures c.in_ok-parts.ensures.goes c.in_ok-part.ensures.goes c.in_ok-tasks.ensures.goes
+    rw c.new.ensures (went_whole_plan c.args.settings.now _ _ _ _ c.in_ok-parts.parts c.in_ok-part.part
+    c.in_ok-tasks.tasks c.in_ok-parts.ensures.goes (rw c.as_str.ensures at c.in_ok-part.ensures.goes)
+    (rw c.as_slice.ensures at c.in_ok-tasks.ensures.goes))
 
 pub returns-in_err-parts-clause-bare : goal.returns-in_err-parts-clause-bare
 returns-in_err-parts-clause-bare g c = λ none empty. let given = (c.in_err-parts.ensures.none none).0 in absurd (cc)

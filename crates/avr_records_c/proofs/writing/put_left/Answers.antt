@@ -1,7 +1,7 @@
 use Rattle.std.proofs.Common.{◌≡◌, ◌∙◌, sym, ap, arith, ℕ, ◌+◌, ◌-◌, ◌≤◌, List, ◌++◌, length, drop}
 use Rattle.std.proofs.lemmas.List.{length-drop}
 use Rattle.avr_records_c.specs.Cursor.{lines_left}
-use Rattle.avr_records_c.proofs.Rooms.{IsPut, all-put, line-out, more-put, room-length}
+use Rattle.avr_records_c.proofs.Rooms.{IsPut, NextLine, all-put, line-out, more-put, room-length}
 use Rattle.avr_records_c.proofs.writing.put_left.Goals as goal
 
 pub returns-then-gone-count-clause-put : goal.returns-then-gone-count-clause-put
@@ -13,10 +13,13 @@ returns-then-gone-count-clause-put c =
     let line : List ℕ = c.as_slice.result.now in
     let after : List ℕ = c.put_part-count.new.room in
     let count : ℕ = c.put_part-count.result in
-    let split : whole ≡ line ++ more =
-    c.next_line.ensures.joined ∙ ap (λ (xs : List ℕ). xs ++ more) (sym c.as_slice.ensures.value) in
+    let next : NextLine whole = record {
+      line = line;
+      more = more;
+      joined = c.next_line.ensures.joined ∙ ap (λ (xs : List ℕ). xs ++ more) (sym c.as_slice.ensures.value);
+    } in
     let moved : IsPut text (drop (c.lines.gone + count) whole) c.args.room.now (c.lines.put + count) after =
-    more-put text whole line more c.args.room.now c.lines.room after c.lines.put c.lines.gone count kept.so_far split
+    more-put text whole c.args.room.now c.lines.room after c.lines.put c.lines.gone count next kept.so_far
     c.put_part-count.ensures.count c.put_part-count.ensures.room in
     all-put text (drop (c.lines.gone + count) whole) c.args.room.now after (c.lines.put + count) moved
     (omega (
@@ -41,10 +44,13 @@ lines-preserved c =
     let after : List ℕ = c.put_part-count.new.room in
     let count : ℕ = c.put_part-count.result in
     let left : ℕ = c.lines.gone - (c.len-in-lines.result - count) in
-    let split : whole ≡ line ++ more =
-    c.next_line.ensures.joined ∙ ap (λ (xs : List ℕ). xs ++ more) (sym c.as_slice.ensures.value) in
+    let next : NextLine whole = record {
+      line = line;
+      more = more;
+      joined = c.next_line.ensures.joined ∙ ap (λ (xs : List ℕ). xs ++ more) (sym c.as_slice.ensures.value);
+    } in
     let moved : IsPut text (drop (c.lines.gone + count) whole) c.args.room.now (c.lines.put + count) after =
-    more-put text whole line more c.args.room.now c.lines.room after c.lines.put c.lines.gone count kept.so_far split
+    more-put text whole c.args.room.now c.lines.room after c.lines.put c.lines.gone count next kept.so_far
     c.put_part-count.ensures.count c.put_part-count.ensures.room in
     let long = ap length c.as_slice.ensures.value in
     let cut = length-drop c.lines.gone line in
@@ -52,8 +58,8 @@ lines-preserved c =
     let left_is : left ≡ c.lines.gone + count - length line =
     omega (arith, c.put_part-count.ensures.count, cut, c.len-in-lines.ensures.value, long, out) in
     record {
-      so_far = line-out text whole line more c.args.room.now after (c.lines.put + count) (c.lines.gone + count) left
-          moved split out left_is;
+      so_far = line-out text whole c.args.room.now after (c.lines.put + count) (c.lines.gone + count) left next
+          moved out left_is;
       sound = c.next_line.ensures.sound;
       kind = c.next_line.ensures.kind ∙ kept.kind;
     }

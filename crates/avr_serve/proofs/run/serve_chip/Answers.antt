@@ -1,11 +1,24 @@
-use Rattle.avr_serve.proofs.ServedRuns.{serves_chip}
+use Rattle.std.proofs.Common.{[]}
+use Rattle.stk_emu.specs.Programmer.{fresh_programmer}
+use Rattle.avr_serve.proofs.ServedRuns.{is_fresh}
 use Rattle.avr_serve.proofs.run.serve_chip.Goals as goal
 
 pub returns-clause-serves : goal.returns-clause-serves
 returns-clause-serves g c =
-    let saved = c.save_served.ensures.saved in
-    serves_chip c.args.chip c.new-emulator.result c.answer_all-served.new.emulator c.args.file.now c.args.turns
-    c.answer_all-served.result _ _ _ _ _ _
-    c.new-emulator.ensures.held c.new-emulator.ensures.programmer c.new-emulator.ensures.begins
-    c.answer_all-served.ensures.serves c.answer_all-served.ensures.failed
-    c.tell_end.ensures.told c.tell_end.ensures.follows (rw c.chip.ensures at saved) c.save_served.ensures.follows
+    let begun = c.new-emulator.ensures in
+    let fresh = is_fresh c.args.chip c.new-emulator.result begun.held begun.programmer in
+    let serves = rw fresh at c.answer_all-served.ensures.serves in
+    let fed = rw fresh at begun.begins in
+    record {
+      served = c.answer_all-served.result;
+      left = c.answer_all-served.new.emulator;
+      told_desk = g.D.Desk.view c.tell_end.new.desk;
+      serves = serves;
+      in_turn = serves.in_turn (fresh_programmer c.args.chip) [] fed;
+      leaves = serves.leaves (fresh_programmer c.args.chip) [] fed;
+      fails = c.answer_all-served.ensures.failed;
+      told = c.tell_end.ensures.told;
+      rises = c.tell_end.ensures.follows;
+      saved = rw c.chip.ensures at c.save_served.ensures.saved;
+      follows = c.save_served.ensures.follows;
+    }

@@ -9,7 +9,7 @@ returns-in_err-end_line-clause-fault c =
     let p = err_from_is_err_and c.from_residual.result c.from_residual.ensures.1 in
     let kept = c.loop-line.invariant in
     let step = rw kept.kind at c.in_err-end_line.ensures.step in
-    rw (p.1, p.2) (λ text r. carries-fault _ _ _ _ _ _ _ _ _ _ kept.carries c.in-Some.ensures.0 c.in-Some.ensures.1 step
+    rw (p.1, p.2) (λ text r. carries-fault _ _ _ _ _ _ _ _ kept.carries c.in-Some.ensures.0 c.in-Some.ensures.1 step
     kept.size text r)
 
 pub loop-line-preserved : goal.loop-line-preserved
@@ -23,12 +23,12 @@ loop-line-preserved c =
       range = rw kept.kind at c.in_ok-end_line.ensures.range;
       room = omega (arith, len, kept.room, c.in_ok-end_line.ensures.lines);
       count = omega (arith, len, kept.count, c.in_ok-end_line.ensures.count);
-      carries = carries-next _ _ _ _ _ _ _ _ _ _ _ kept.carries c.in-Some.ensures.0 c.in-Some.ensures.1
+      carries = carries-next _ _ _ _ _ _ _ _ kept.carries c.in-Some.ensures.0 c.in-Some.ensures.1
           (rw kept.kind at c.in_ok-end_line.ensures.step) c.in_ok-end_line.ensures.part;
     }
 
 pub returns-clause-reads : goal.returns-clause-reads
 returns-clause-reads c =
     let kept = c.loop-line.invariant in
-    λ text r. carries-last _ _ _ _ _ _ _ _ _ kept.carries c.in_default.ensures c.keep.ensures.progress
+    λ text r. carries-last _ _ _ _ _ _ kept.carries c.in_default.ensures c.keep.ensures.progress
     c.keep.ensures.kept text r

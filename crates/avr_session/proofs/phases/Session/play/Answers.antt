@@ -9,8 +9,8 @@ use Rattle.avr_session.proofs.phases.Session.play.Goals as goal
 pub returns-clause-performs : goal.returns-clause-performs
 returns-clause-performs g c =
     let plan = c.args.self.now.plan.now in
-    performs_on (takes_memory plan) false (ending plan.part plan.switches) _ c.end.result (λ e. absurd (cc))
-    (phases_foretells plan.part plan.switches (actions plan)) c.in_ok-standing.ensures.performs
+    performs_on (takes_memory plan) _ c.in_ok-standing.ensures.performs false (ending plan.part plan.switches)
+    c.end.result (λ e. absurd (cc)) (phases_foretells plan.part plan.switches (actions plan))
     (λ during shown never. let e = never.0 in absurd (cc))
     (rw c.in_ok-standing.ensures.keeps.plan at c.end.ensures.performs)
 

@@ -4,6 +4,7 @@ use Rattle.stk_host.specs.Calls.{given_or_fault}
 use Rattle.avr_session.specs.Actions.{SaveMemory}
 use Rattle.avr_session.specs.Session.{fault_or, read_says}
 use Rattle.avr_session.specs.Runs.{ReadStops}
+use Rattle.avr_session.proofs.PhaseByPhase.FaultsTold.{read_none}
 use Rattle.avr_session.proofs.PhaseByPhase.Operations.{lack_ended}
 use Rattle.avr_session.proofs.PhaseByPhase.Sequences.{does_one, operation_performs, given_concluded, given_told, read_stops_report}
 use Rattle.avr_session.specs.Lines.{fault_line}
@@ -27,8 +28,8 @@ returns-clause-performs g c =
     let reports = rw c.as_slice.ensures.value at c.report_read-reported.ensures.reports in
     does_one c.args.self.now.plan.now (SaveMemory c.args.mem format file)
     (operation_performs true operation (fault_or part good) outcome told c.conclude.result
-    (ReadStops c.read-outcome.result) (read_stops_report part s c.args.mem format file items c.read-outcome.result _
-    _ reports)
+    (ReadStops c.read-outcome.result) (read_stops_report part good items (read_none s c.args.mem format file items)
+    c.read-outcome.result _ _ reports)
     c.requires.sound c.read-outcome.ensures.calls
     (λ ends. lack_ended operation _ _ _ outcome _ (rw c.requires.part at ends)) reports
     (given_told items good _ _ part c.read-outcome.result told reports)

@@ -11,8 +11,8 @@ pub loop-used-preserved : goal.loop-used-preserved
 loop-used-preserved c = record {
   within = part_fits c.args.bytes.now c.loop-used.used c.in_ok-used.field-0 c.loop-used.invariant.within
       c.in_ok-used.ensures.within;
-  appends = appends_on c.args.bytes.now _ c.loop-used.used c.in_ok-used.field-0 _ _ _ _ _ _
-      c.loop-used.invariant.appends (behind c.args.bytes.now c.loop-used.used) c.in_ok-used.ensures.appends;
+  appends = appends_on c.args.bytes.now c.loop-used.used c.in_ok-used.field-0 _ _ _ _ _ _
+      c.loop-used.invariant.appends (rw (behind c.args.bytes.now c.loop-used.used) at c.in_ok-used.ensures.appends);
 }
 
 pub returns-clause-appends : goal.returns-clause-appends

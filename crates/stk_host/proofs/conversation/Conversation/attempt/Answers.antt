@@ -91,9 +91,9 @@ returns-in_err-reply-clause-replies g c = record {
 
 pub returns-clause-replies : goal.returns-clause-replies
 returns-clause-replies g c = record {
-  ok = turn_last _ _ c.loop-command.invariant.reaches
-      (ap (λ cs. cs ++ c.args.last.now ∷ []) (drop_all c.loop-command.command-index c.args.first.now (omega arith)))
-      c.in_ok-reply.ensures.replies.ok;
+  ok = turn_last c.loop-command.invariant.reaches
+      (ap (λ cs. cs ++ c.args.last.now ∷ []) (drop_all c.loop-command.command-index c.args.first.now (omega arith))) _ _
+      refl c.in_ok-reply.ensures.replies.ok;
   err = search rules;
   sized = search rules;
   counts = search rules;

@@ -11,16 +11,18 @@ pub invariant_of-self-2 : goal.invariant_of-self-2
 invariant_of-self-2 c =
     let h = counts_more c.self.inside.marks.items _ c.self.inside.out.items _ c.self.inside.back.items _ []
     c.args.bytes.now (mark.Got (length c.args.bytes.now)) c.self.invariant.out_is c.self.invariant.back_is
-    (omega arith) (omega arith) (c.push_reserved.ensures.items
+    (c.push_reserved.ensures.items
     ∙ ap (λ ms. ms ++ (mark.Got (length c.args.bytes.now)) ∷ []) c.reserve.ensures.items)
-    (sym (append-nil c.self.inside.out.items)) (c.in_ok-extend_from_slice.ensures.items) in
+    (sym (append-nil c.self.inside.out.items)) (c.in_ok-extend_from_slice.ensures.items) (omega arith)
+    (omega arith) in
     record { out_is = h.0; back_is = h.1 }
 
 pub returns-clause-ok : goal.returns-clause-ok
 returns-clause-ok c =
     log_adds c.self.inside.marks.items _ c.self.inside.out.items _ c.self.inside.back.items _ [] c.args.bytes.now
-    (mark.Got (length c.args.bytes.now)) c.args.self.now.talk c.self.invariant.out_is c.self.invariant.back_is
-    (ap (λ s. s.talk) c.self.view_is) (c.push_reserved.ensures.items
+    (mark.Got (length c.args.bytes.now)) c.self.invariant.out_is c.self.invariant.back_is
+    (c.push_reserved.ensures.items
     ∙ ap (λ ms. ms ++ (mark.Got (length c.args.bytes.now)) ∷ []) c.reserve.ensures.items)
-    (sym (append-nil c.self.inside.out.items)) (c.in_ok-extend_from_slice.ensures.items)
+    (sym (append-nil c.self.inside.out.items)) (c.in_ok-extend_from_slice.ensures.items) c.args.self.now.talk
+    (ap (λ s. s.talk) c.self.view_is)
     ∙ ap (λ bs. c.args.self.now.talk ++ talk.Got (on_tape bs) ∷ []) (take-length c.args.bytes.now)
