@@ -3,8 +3,9 @@
  * lends and written from one.
  *
  * The functions are those of the archive libavr_records.a and of the shared library libavr_records.so of it, which
- * examples/c/build.sh makes. That they do what is said here is proved (crates/avr_records_c), but for
- * avr_records_fault_text, which stands in this header alone, and for every caller that keeps to this:
+ * examples/c/build.sh makes. That they do what is said here is proved (crates/avr_records_c) for every caller that
+ * keeps to these rules, but for the time that a call takes, and for avr_records_fault_text, which stands in this
+ * header alone.
  *
  * - No pointer is NULL, also where its length is 0. Each points to as many bytes as its length says, which nothing else
  *   writes while the call runs. What a function changes overlaps nothing else that it is given.
