@@ -61,7 +61,7 @@ if [ -n "$remove" ]; then
         [ ! -e "$file" ] && [ ! -L "$file" ] || { rm -f "$file" && echo "removed $file"; }
     done
     [ -e "$folders" ] || exit 0
-    # a folder stands behind those that it holds
+    # a folder stands after those that it holds
     made=$(sort -r "$folders")
     rm -f "$folders"
     while IFS= read -r folder; do

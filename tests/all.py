@@ -45,7 +45,7 @@ LEFT_OUT = re.compile(r"\s*(?:left out|skipped): (.*)")
 FAILURE = re.compile(r"(?:rt: )?FAILED: |.*(?:NOT PROVED|NOT REFUSED|BAD EDIT)")
 MOST_FAILURES = 20
 
-# what rt says of a wrong body that it refuses, and the kinds of it, the first that fits: rt cuts a line behind its
+# what rt says of a wrong body that it refuses, and the kinds of it, the first that fits: rt cuts a line after its
 # 160th character, so also in the middle of these words
 REFUSED = re.compile(r"(?:rt: )?must-fail (\S+): refused, as it must be(.*)")
 REFUSALS = {

@@ -70,7 +70,7 @@ def ended_anywhere():
     for how, number in [("kill", signal.SIGKILL), ("int", signal.SIGINT)]:
         left = {ended_at(shim, f"any {call} {how}", number) for call in range(1, calls_of(shim) + 1)}
         see(f"{how}: both the old and the new chip are seen", left == {OLD, with_fuse(OLD, 0x62)}, len(left))
-    is_good("a run behind them", room.run(writes_fuse(0x62)))
+    is_good("a run after them", room.run(writes_fuse(0x62)))
 
 
 def calls_of(shim):
@@ -120,7 +120,7 @@ def held_by_a_run():
     fresh_room()
     os.mkfifo(room.folder / "pipe")
     holder = room.start([*EMULATED, "-U", "eeprom:r:pipe:r"])
-    # nobody reads the pipe yet, so the run waits behind its first line
+    # nobody reads the pipe yet, so the run waits after its first line
     see("the first run", SIGNATURE.encode() in holder.stderr.readline())
     same("another run", room.run(writes_fuse(0x62)), (1, b"", IN_USE))
     server = Server(room, "chip.bin", waits=False)
@@ -143,7 +143,7 @@ def held_by_a_session():
             caller.shutdown(1)
         same("the session", server.end(), (0, b"", b""))
     see("the chip has what was written before it", room.read("chip.bin") == with_fuse(OLD, 0x62))
-    is_good("a run behind the session", room.run(writes_fuse(0xE2)))
+    is_good("a run after the session", room.run(writes_fuse(0xE2)))
 
 
 def refused_by_then():
@@ -216,7 +216,7 @@ def what_stays():
     (room.folder / "link.bin").symlink_to("chip.bin")
     is_good("a run over a link", room.run(["-p", "m328p", "-P", "emu:link.bin", "-U", "lfuse:w:0x62:m"]))
     see("the link stays", (room.folder / "link.bin").is_symlink())
-    see("the chip behind it is written", room.read("chip.bin") == with_fuse(OLD, 0x62))
+    see("the chip after it is written", room.read("chip.bin") == with_fuse(OLD, 0x62))
     same("its permissions", stat.S_IMODE((room.folder / "chip.bin").stat().st_mode), 0o640)
     room.clear()
     (room.folder / "link.bin").symlink_to("chip.bin")

@@ -1,6 +1,6 @@
 #!/usr/bin/env python3
 """Tries sentences of README and docs/USAGE, docs/PROTOCOL and docs/FORMATS as they stand: what `written` and status 0
-mean, what is sent behind a fault, what a silence is, what a file is taken for, and what AVRDUDE does where USAGE says.
+mean, what is sent after a fault, what a silence is, what a file is taken for, and what AVRDUDE does where USAGE says.
 
     tests/claims.py        needs crates/avrstk/out/avrstk, as rt ci leaves it; AVRDUDE 7.1, or its rows are left out
 """
@@ -36,7 +36,7 @@ LEAVE = 0x11
 
 
 def run(name, words, told, status=0, chip=None, **files):
-    """A run over `emu:` with this chip, or a new one, that says these lines; the chip file behind it."""
+    """A run over `emu:` with this chip, or a new one, that says these lines; the chip file after it."""
     room.clear()
     for file, content in ({"chip.bin": chip} if chip else {}).items():
         room.put(file, content)
@@ -169,7 +169,7 @@ def what_files_hold():
     digit = ["error: image.hex: line 1: bad digit"]
     read = [*ERASED, "flash: 1 bytes written", "flash: 1 bytes verified", "done"]
     for name, content, letter, told in [
-        ("nothing behind the end record is judged", data + end + "x" * 700, "a", read),
+        ("nothing after the end record is judged", data + end + "x" * 700, "a", read),
         ("blanks of 600 bytes say nothing", " " * 600 + "\n" + data + end, "i", read),
         ("of 601 they are too long", " " * 601 + "\n" + data + end, "i", ["error: image.hex: line 1: line too long"]),
         ("blank lines are passed over by detection", "\n \t\r\n" + data + end, "a", read),
@@ -204,7 +204,7 @@ def over(fates, words, part="m328p", parts=()):
     return status, messages, line.end(), room.read("served.bin")
 
 
-def behind_a_file_nothing_is_sent():
+def after_a_file_nothing_is_sent():
     """Not even LEAVE; and the file is created only once its memory was read whole."""
     for name, update, frames in [("a fuse", "lfuse:r:nofolder/x:h", 6), ("flash", "flash:r:nofolder/x:r", 5 + 2 * 128)]:
         status, messages, sent, _ = over({}, ["-U", update])
@@ -212,11 +212,11 @@ def behind_a_file_nothing_is_sent():
         see(f"{name} into no folder", (status, messages) == (1, told), messages)
         see(f"{name} was read whole, and LEAVE isn't sent", len(sent) == frames and sent[-1][5] != LEAVE, len(sent))
     status, _, sent, _ = over({}, ["-U", "lfuse:v:0:m"])
-    see("behind a difference LEAVE is sent", (status, sent[-1][5]) == (1, LEAVE), sent[-1])
+    see("after a difference LEAVE is sent", (status, sent[-1][5]) == (1, LEAVE), sent[-1])
 
 
-def silent_behind_verified():
-    """`no answer` behind `verified`, but before the line of the last update."""
+def silent_after_verified():
+    """`no answer` after `verified`, but before the line of the last update."""
     lost = {number: "lost command" for number in range(8, 40)}
     status, messages, _, chip = over(lost, ["-U", "lfuse:w:0xE2:m", "-U", "lock:w:0xFC:m"])
     told = [SIGNATURE, "lfuse: 1 bytes written", "lfuse: 1 bytes verified", "error: no answer"]
@@ -480,8 +480,8 @@ CASES = named(
     a_bad_file_leaves_the_chip,
     headers_and_starts_are_dropped,
     what_files_hold,
-    behind_a_file_nothing_is_sent,
-    silent_behind_verified,
+    after_a_file_nothing_is_sent,
+    silent_after_verified,
     a_silence_is_a_second_without_a_byte,
     standard_streams_that_do_not_block,
     standard_streams_that_block,

@@ -39,7 +39,7 @@ class Plan:
         self.strokes = list(self.states())
 
     def states(self):
-        """The chip at first, and behind each stroke."""
+        """The chip at first, and after each stroke."""
         chip = bytearray(self.chip)
         yield bytes(chip)
         chip[: FLASH + EEPROM] = b"\xff" * (FLASH + EEPROM)
@@ -100,7 +100,7 @@ class Line(Peer):
             while piece:
                 if place in self.stalls_up:
                     self.stalls_up.remove(place)
-                    # behind a second of silence the run sends again
+                    # after a second of silence the run sends again
                     piece += self.heard_from(caller)
                 size = self.size(lots, place, self.stalls_up)
                 programmer.sendall(piece[:size])

@@ -40,7 +40,7 @@ def full_chip(flash, eeprom):
 # the chip files that the runs begin with, by the part's name
 CHIPS = {"m328p": full_chip(32_768, 1024), "m2560": full_chip(262_144, 4096)}
 
-# the words behind the program's name, and what stands on standard input
+# the words after the program's name, and what stands on standard input
 RUNS = {
     "a session opened and closed": (["-p", "m328p", "-P", "stdio:"], ANSWERS),
     "an empty file as flash": ([*EMULATED, "-U", "flash:w:empty.bin"], b""),
@@ -125,7 +125,7 @@ class Sweep:
         file = Path(self.room.read("refused").decode()).name.removesuffix(".avrstk-new")
         lines = [line.format(file=file) for line in LINES[kind]]
         if how == "onwards" and self.old and chip == self.old:
-            # (behind a fault of the session there is no memory to save the chip either, which is told too)
+            # (after a fault of the session there is no memory to save the chip either, which is told too)
             lines += [f"{line}\navrstk: error: out of memory" for line in lines]
         # (the line is whole, unless it was a message that couldn't be written)
         is_told = any(is_front_and_line(messages, self.sound[2], line, kind == "write") for line in lines)

@@ -29,7 +29,7 @@ def checksum(fields):
 
 
 def ihex_of(image):
-    """A plain writer: a record for each byte, behind one for the upper half of its address."""
+    """A plain writer: a record for each byte, after one for the upper half of its address."""
     lines = []
     for address in sorted(image):
         offset, upper = (address % 65536).to_bytes(2, "big"), (address >> 16).to_bytes(2, "big")
@@ -226,7 +226,7 @@ def cursors_are_judged(library):
         same(f"beside {numbers}", (guarded[:16], guarded[-16:]), (b"\xa5" * 16, b"\xa5" * 16))
         if bad:
             after = tuple(getattr(cursor, name) for name, _ in records.Cursor._fields_)
-            same(f"behind {numbers}", (piece.length, after, guarded[16:-16]), (0, numbers, room))
+            same(f"after {numbers}", (piece.length, after, guarded[16:-16]), (0, numbers, room))
 
 
 def faults_are_told(library):

@@ -30,7 +30,7 @@ def output_fails():
         for words, told in [(SESSION, ["error: link cannot be written"]), (read_fuse, [SIGNATURE, "error: -: cannot be written"])]:
             room.clear()
             same(f"output {name}: {words}", with_output(words, target), (1, lines(*told)))
-        same("the chip file behind it", len(room.read("chip.bin") or b""), CHIP_FILE)
+        same("the chip file after it", len(room.read("chip.bin") or b""), CHIP_FILE)
     room.clear()
     started = room.start([*EMULATED, "-U", "lfuse:w:0xE2:m"], stderr=open("/dev/full", "wb"))
     started.communicate(timeout=PATIENCE)
@@ -160,12 +160,12 @@ def callers_are_odd():
         same(f"a caller with {name}", found, told)
         if answered is not None:
             same(f"what is answered to {name}", answer, answered)
-        same(f"the chip behind {name}", room.read("served.bin"), blank)
+        same(f"the chip after {name}", room.read("served.bin"), blank)
     room.clear()
     (status, messages), _ = served(FRAMES[0], resets=True)
     faults = [lines(f"error: link cannot be {verb}") for verb in ("read", "written")]
     see("a caller that resets", status == 1 and messages in faults, f"{status}, {messages}")
-    same("the chip behind a reset", room.read("served.bin"), blank)
+    same("the chip after a reset", room.read("served.bin"), blank)
     with socket.create_server(("127.0.0.1", 0)) as taken:
         port = str(taken.getsockname()[1])
         words = ["-p", "m328p", "--serve", port, "--chip", "served.bin"]

@@ -1,4 +1,4 @@
-"""Programmers behind a TCP port of 127.0.0.1: one that gives a front of a session's answers, and a bad line to an emulated one."""
+"""Programmers behind a TCP port of 127.0.0.1: one that gives a prefix of a session's answers, and a bad line to an emulated one."""
 
 import socket
 import struct

@@ -29,7 +29,7 @@ PART_FILE_LIMIT = 65_536
 # lines of USAGE that no row here brings about, and where they are met
 ELSEWHERE = {
     "error: out of memory": "tests/faults.py refuses each request for memory",
-    "error: too many reads": "told behind 16,777,216 reads, by the contract of the call that serves",
+    "error: too many reads": "reported after 16,777,216 reads, by the contract of the call that serves",
     "error: link cannot be read": "tests/hostile.py gives a folder for a line",
     "error: link cannot be written": "tests/hostile.py gives a full output",
     "error: FILE: cannot be created": "tests/hostile.py names missing folders",
@@ -184,7 +184,7 @@ def images_are_taken():
     whole = with_file("whole.hex", b":00000001FF\n".ljust(IMAGE_LIMIT, b"\n"))
     run("an end record before four million bytes", [*EMULATED, "-U", f"flash:w:{whole}"], nothing, 0)
     rubbish = with_file("rubbish.hex", ":00000001FF\nrubbish\n")
-    run("rubbish behind an end record", [*EMULATED, "-U", f"flash:w:{rubbish}"], nothing, 0)
+    run("rubbish after an end record", [*EMULATED, "-U", f"flash:w:{rubbish}"], nothing, 0)
     open_ended = with_file("open.hex", ":0400000001020304F2\n")
     warned = [f"warning: {open_ended}: no end record", *ERASED, "flash: 4 bytes written", "flash: 4 bytes verified", DONE]
     run("no end record", [*EMULATED, "-U", f"flash:w:{open_ended}"], warned, 0)

@@ -31,7 +31,7 @@ class Line:
     """An ordered line from a caller to the programmer that the program serves; it may spoil a frame, or pause once."""
 
     def __init__(self, chip, spoil=None, pause_in=b"", pause_at=0):
-        """`spoil` changes a frame by its number; behind `pause_in`, the front of an answer, the line gives so many
+        """`spoil` changes a frame by its number; after `pause_in`, the prefix of an answer, the line gives so many
         bytes more, and the others when the caller has sent again."""
         self.spoil, self.pause_in, self.pause_at = spoil, pause_in, pause_at
         self.sent, self.heard, self.paused = [], b"", False
@@ -81,7 +81,7 @@ class Line:
             time.sleep(0.02)
 
     def run(self, *words):
-        """The status and messages of a run over this line, and the chip's flash behind it."""
+        """The status and messages of a run over this line, and the chip's flash after it."""
         status, output, messages = room.run(["-p", "t85", "-P", f"net:127.0.0.1:{self.port}", *words])
         self.thread.join(PATIENCE)
         self.listener.close()
@@ -95,7 +95,7 @@ def chip_of(block):
 
 def made_contents(first, read):
     """The first 256 bytes of flash, `first` at address 0, so that an answer under number `read` to a read of them has
-    behind its 12th byte what reads as two answers: to the address of the next attempt, and to its read; and the latter
+    after its 12th byte what reads as two answers: to the address of the next attempt, and to its read; and the latter
     has WANTED at address 0. Its rest is the rest of this answer and what is answered later, and so is its XOR, for which
     one byte of the block is free."""
     again, place = read + 1, 20

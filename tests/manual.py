@@ -78,7 +78,7 @@ def cells(row):
 
 
 def table(rows):
-    """A paragraph for each row: its first cell as the tag, then the others, from the third on behind their headings."""
+    """A paragraph for each row: its first cell as the tag, then the others, from the third on after their headings."""
     heads = cells(rows[0])
     for row in rows[2:]:
         tag, *rest = cells(row)
@@ -88,7 +88,7 @@ def table(rows):
 
 
 def ended(text, head=""):
-    """A cell as a sentence, behind its heading."""
+    """A cell as a sentence, after its heading."""
     if not text:
         return ""
     return (f"{head}: " if head else "") + text + ("" if text.endswith("?") else ".")

@@ -68,7 +68,7 @@ class Board:
         return self.room.read("flash.bin")
 
     def holds(self, what, application):
-        """The flash below the boot section is this and erased behind it, and the boot section is the bootloader's."""
+        """The flash below the boot section is this and erased after it, and the boot section is the bootloader's."""
         flash = self.flash()
         wanted = application + b"\xff" * (BOOT - len(application))
         differ = [at for at in range(BOOT) if flash[at] != wanted[at]]
@@ -162,7 +162,7 @@ def lost_bytes():
 
 
 def reset_by_the_connection():
-    """The application runs behind each run; the connection of the next one brings the bootloader back."""
+    """The application runs after each run; the connection of the next one brings the bootloader back."""
     with Board() as board:
         for seed in ["first", "second", "third"]:
             image = drawn(seed, 1_024)
@@ -174,13 +174,13 @@ def reset_by_the_connection():
 
 def erased_from_the_front():
     """With each page that is written, the bootloader erases one, from address 0 on, whichever page it is; so an image
-    that begins further behind costs what stands at the front, and a page that is sent again costs the one behind."""
+    that begins further on costs what stands at the front, and a page that is sent again costs the one after it."""
     image, old = drawn("small", 1_024), bytes(0x2000)
     with Board(old) as board:
-        board.room.put("behind.hex", records(0x1000, image))
-        ended = board.run(["-D", "-V", *updates("flash:w:behind.hex:i")])
-        same("an image behind", ended, (0, lines(SIGNATURE, "flash: 1024 bytes written", "done")))
-        board.holds("an image behind", b"\xff" * 1_024 + old[1_024:0x1000] + image + old[0x1400:])
+        board.room.put("further.hex", records(0x1000, image))
+        ended = board.run(["-D", "-V", *updates("flash:w:further.hex:i")])
+        same("an image further on", ended, (0, lines(SIGNATURE, "flash: 1024 bytes written", "done")))
+        board.holds("an image further on", b"\xff" * 1_024 + old[1_024:0x1000] + image + old[0x1400:])
     with Board(old) as board:
         board.room.put("image.bin", image)
         line = LosingLine(board.port, "down", 80)

@@ -546,7 +546,7 @@ MANY_BAD = {
 
 ALL_BAD = {PLAIN: at_edge({}), **BAD_LINES, **FEW_BAD, **MANY_BAD}
 
-# How many runs over bad lines are made at once. Where the machine is busy, a good answer may come behind its second, which
+# How many runs over bad lines are made at once. Where the machine is busy, a good answer may come after its second, which
 # makes another bad frame: what comes out otherwise than it should is made again, with fewer beside it.
 AT_ONCE = [24, 6, 1]
 

@@ -1,6 +1,6 @@
 #!/usr/bin/env python3
 """Runs avrstk-serial over pseudo terminals, with an emulated programmer behind them: each word of AVRDUDE that it
-takes, drops or refuses, each hint behind a run that failed, boards that are deaf after a reset, vanish, are silent or
+takes, drops or refuses, each hint after a run that failed, boards that are deaf after a reset, vanish, are silent or
 talk, and how it ends at a signal; and the recipes of docs/USAGE for a serial line, as they stand there.
 
     tests/serial.py [CASE ..]      needs crates/avrstk/out/avrstk, as rt ci leaves it; of the recipes those that need
@@ -98,7 +98,7 @@ class Board:
             self.stopped.set()
         self.thread.join(PATIENCE)
         if self.thread.is_alive():
-            raise SystemExit("the device stays open behind the run")
+            raise SystemExit("the device stays open after the run")
         if self.server and not self.opened:
             self.server.stop()
         elif self.server:
@@ -136,7 +136,7 @@ def flashed():
 
 
 def flashes(name, words, **board):
-    """The words, to a board whose device is put behind -P, flash the firmware."""
+    """The words, to a board whose device is put after -P, flash the firmware."""
     wanted = flashed()
     # the window of a board that is deaf and gone soon can be missed where the machine is busy, as a person can miss it
     for _ in range(3):
@@ -261,7 +261,7 @@ def refused():
         (["-p", "m8"], f"{note}; -p ? lists the parts"),
         (["-E", "noreset"], note),
         (["-U", "nofile.hex"], note),
-        (["-U", "lfuse:w:0xE2"], f"{note}; a value has :m behind it"),
+        (["-U", "lfuse:w:0xE2"], f"{note}; a value has :m after it"),
         (["-U", "flash:w:x.elf"], f"{note}; avr-objcopy"),
         (["-U", "fuse:w:1:m"], note),
     ]:
@@ -348,7 +348,7 @@ def changes(command, body):
 
 
 def hints():
-    """The hint behind each fault."""
+    """The hint after each fault."""
     new = b"\xff" * 33_796
     chip = fails("silent", FLASH, "nobody answers; the chip is as it was", "error: no answer", deaf=1000)
     same("the chip of the silent one", chip, new)

@@ -5,7 +5,7 @@
                                       Memories/Pages, whose list of modules, proofs/Memories.antt, it joins
 
 All moves of one call happen at once, so names may be exchanged. A list that is new has no comment: write one. Where a
-document names a file that moved, it is printed. `rt fmt` comes behind it.
+document names a file that moved, it is printed. `rt fmt` comes after it.
 """
 
 import re
@@ -37,7 +37,7 @@ def renamed(text, crate, moves, own):
 
 
 def listed(lines, moves):
-    """The lines of a list of modules behind the moves, and the modules of each folder, in the order of the old list."""
+    """The lines of a list of modules after the moves, and the modules of each folder, in the order of the old list."""
     kept, folders = [], {}
     for line in lines:
         visible, _, name = line.rpartition("mod ")

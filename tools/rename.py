@@ -5,7 +5,7 @@
                                           proofs/ in front) becomes NEW
 
 It goes by imports: the word is changed in the file that defines it, in each definition, proof, contract and wrong body
-whose file imports it from there (or whose source does, for a wrong body), and behind the name under which a file
+whose file imports it from there (or whose source does, for a wrong body), and after the name under which a file
 imports the whole module. A file that has the word from elsewhere too is refused, and nothing is changed then. Where
 documents and READMEs have the word it is printed, as only a reader knows which one is meant.
 """
@@ -41,7 +41,7 @@ class Renaming:
         self.old, self.new = old, new
 
     def names_in(self, text):
-        """The names under which a file has the definition: its own, or behind the name of the whole module."""
+        """The names under which a file has the definition: its own, or after the name of the whole module."""
         found = set()
         for listed in re.findall(rf"{re.escape(self.module)}\.\{{([^}}]*)\}}", text):
             if self.old in [it.split(" as ")[0].strip() for it in listed.split(",")]:

@@ -3,7 +3,7 @@
 
     tools/wrap.py FILE.antt ..    breaks each line of more than 120 columns, at the outermost bracket that serves, in
                                   front of an operator where there is one
-    tools/wrap.py                 the same for all files of specs/ and proofs/ that git knows of; `rt fmt` comes behind it
+    tools/wrap.py                 the same for all files of specs/ and proofs/ that git knows of; `rt fmt` comes after it
 
 Imports stay as they are, as does a line that has no place to be broken at; these are named. Run again it finds nothing
 more to do. Behind the words of a line nothing changes but where lines end, which the script asserts.
@@ -21,7 +21,7 @@ DEEPER = 4
 SHORTEST = 40
 
 OPENING, CLOSING = "([{", ")]}"
-# a line is best broken in front of these, and behind those: first at what binds least
+# a line is best broken before these, and after those: first at what binds least
 BEFORE = (("→ ", "| ", "then ", "else "), ("⊎ ", "× "), ("≡ ", "∙ "), ("++ ", "∷ "))
 BEHIND = ((" =", " in", ";"), (",",), (), ())
 
@@ -92,7 +92,7 @@ def broken_comment(text, indent):
 
 
 def is_left(line):
-    """Whether a line stays as it is: it isn't wide, or an import, or has a comment behind its words."""
+    """Whether a line stays as it is: it isn't wide, or an import, or has a comment after its words."""
     stripped = line.lstrip(" ")
     if len(line) <= WIDEST or stripped.startswith(("use ", "pub use ")):
         return True

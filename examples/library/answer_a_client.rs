@@ -1,6 +1,6 @@
 // crates: anyhow avr_part stk_emu stk_frame
 //! Answers a client's bytes by an emulated programmer, as a double to test a client of one's own against: a good frame
-//! behind noise, and one that was spoiled on its way.
+//! after noise, and one that was spoiled on its way.
 //!
 //! What it prints was worked out by hand from AVR068: the good frame asks for the programmer's name, the spoiled one is
 //! answered with ANSWER_CKSUM_ERROR and STATUS_CKSUM_ERROR, and the XOR of the bytes of a frame is 00.

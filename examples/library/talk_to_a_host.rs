@@ -26,7 +26,7 @@ fn main(rt: HostRuntime) -> Result<()> {
     let mut host = Host::new(&part);
     let [first, second, third] = host.open(&mut wire, false)?;
     println!(rt; "signature: {first:02X} {second:02X} {third:02X}")?;
-    // a frame of one byte has its body behind the start byte, the number, the size and the token
+    // a frame of one byte has its body after the start byte, the number, the size and the token
     let sent = wire.sent();
     println!(rt; "asked first: {:02X}, asked then: {:02X}", sent[5], sent[12])?;
     let mut image = Image::new(alloc, part.size_of(Mem::Flash))?;

@@ -1,11 +1,15 @@
--- Worked outcomes of holding and saving that their contracts refuse.
+-- The limit of a chip file, and worked outcomes of holding and saving that their contracts refuse.
 use Rattle.std.proofs.Common.{◌≡◌, ◌≤◌, refl, ap, ℕ, [], length, Ok, Err, arith}
 use Rattle.ghosts.specs.Failures.{HasRisen}
 use Rattle.avr_desk.specs.Record.{Bytes, DeskView, Record, Passes, after_err, nothing_kept, showing, with_held, with_replaced}
+use Rattle.avr_chip.specs.declared.loading.TheConstants.{LARGEST_CHIP_FILE}
 use Rattle.avr_chip.specs.Holding as holding
 use Rattle.avr_chip.specs.Holding.{HoldsFile}
 use Rattle.avr_chip.specs.Lines.{in_use_line}
 use Rattle.avr_chip.specs.Saving.{Saves}
+
+largest_chip_file : LARGEST_CHIP_FILE ≡ 4194304
+largest_chip_file = refl
 
 -- a desk that was asked for nothing and never failed, and one that shows this and has failed so often
 abbrev begun : DeskView

@@ -261,8 +261,5 @@ pub fn read_words<'a>(alloc: Global, words: &'a [String]) -> Result<ArgMatches<'
         → kind_of e ≡ ErrorKind.OutOfMemory) }
     ensures refused { FailsBy (fault_of avrstk (map string_bytes words.entry.now)) result }
 {
-    match make_command(alloc) {
-        Ok(command) => command.try_get_matches_from(words),
-        Err(error) => Err(error),
-    }
+    make_command(alloc)?.try_get_matches_from(words)
 }

@@ -140,10 +140,8 @@ fn write_through<W: Write>(
 {
     let count = write_some(to, bytes)?;
     *journal = journal.then(&Call::Sent(stream, bytes, count));
-    match flush(to) {
-        Ok(()) => Ok(count),
-        Err(error) => Err(error),
-    }
+    flush(to)?;
+    Ok(count)
 }
 
 fn raise(count: &mut u64)

@@ -112,13 +112,9 @@ impl Image {
     pub fn try_clone(&self, alloc: Global) -> Result<Image, ImageFault>
         ensures { MatchResult result (λ copy. copy ≡ self.now) (λ fault. fault ≡ ImageFault.Memory) }
     {
-        match Image::new(alloc, self.size()) {
-            Ok(mut copy) => {
-                copy.lay_runs(self);
-                Ok(copy)
-            }
-            Err(fault) => Err(fault),
-        }
+        let mut copy = Image::new(alloc, self.size())?;
+        copy.lay_runs(self);
+        Ok(copy)
     }
 
     /// How many bytes the memory has: its addresses lie below.

@@ -85,10 +85,8 @@ fn lay_value(image: &mut Image, addr: u32, piece: &[u8]) -> Result<(), ImageFaul
     ensures size { length image.new ≡ length image.old }
     ensures more { OnOk result (addr + 1 < 2 ^ 32) }
 {
-    match judge(image.size(), addr, piece) {
-        Ok(byte) => image.put(addr, byte),
-        Err(fault) => Err(fault),
-    }
+    let byte = judge(image.size(), addr, piece)?;
+    image.put(addr, byte)
 }
 
 /// Lays the values of a text down from address 0 on.

@@ -1,5 +1,5 @@
--- Wrong ends of a plan that writes the file `x.hex` to flash, where the desk shows that no file was opened, and of one
--- for a part that there is none of: its contract admits none of them.
+-- The limits of files. Then wrong ends of a plan that writes the file `x.hex` to flash, where the desk shows that no
+-- file was opened, and of one for a part that there is none of: its contract admits none of them.
 use Rattle.std.proofs.Common.{◌≡◌, ◌∙◌, sym, ap, subst, arith, ℕ, ◌+◌, ◌<◌, ◌≤◌, ◌-◌, ◌^◌, ◌⊎◌, inl, inr, List, [], ◌∷◌, ◌++◌, take, get_or, append-nil, refl, true, Option, None, Ok, Err}
 use Rattle.std.specs.Prelude.{codes}
 use Rattle.avr_cli.specs.Settings.{no_switches}
@@ -17,6 +17,8 @@ use Rattle.ghosts.proofs.Failures.{stood_has_not_risen}
 use Rattle.avr_part.specs.BuiltIn.{m328p}
 use Rattle.avr_part.specs.declared.part.Mem.TheVariants.{Flash}
 use Rattle.avr_records.specs.declared.kind.Ending.{Ending}
+use Rattle.avr_plan.specs.declared.image_file.TheConstants.{LARGEST_IMAGE_FILE}
+use Rattle.avr_plan.specs.declared.part_choice.TheConstants.{LARGEST_PART_FILE}
 use Rattle.avr_plan.specs.Lines.{no_part_line}
 use Rattle.avr_plan.specs.Planning.{planned, file_image_stage, judged_image, warning_says}
 use Rattle.avr_desk.specs.Playing.{Goes}
@@ -24,6 +26,9 @@ use Rattle.avr_desk.specs.Stage.{Stage, Refused, verdict_stage, saying_stage, fi
 use Rattle.avr_plan.specs.declared.planned.Task.{Task}
 use Rattle.avr_plan.specs.declared.planned.Task.TheVariants.{Write}
 use Rattle.avr_desk.proofs.Stages.Breaks.{Begins, begins_then, begins_file, unopened, opened_is_told, TellsOne, refused_once}
+
+limits : (LARGEST_IMAGE_FILE ≡ 4194304) × (LARGEST_PART_FILE ≡ 65536)
+limits = (refl, refl)
 
 abbrev file : Bytes
 file = codes "x.hex"

@@ -3,6 +3,7 @@ ghost use Rattle.std.specs.Prelude.{◌≡◌, ◌+◌, ◌<◌, ◌≤◌, ◌^
 ghost use Rattle.avr_desk.specs.Fault.{Follows, HasSameCounts};
 ghost use Rattle.avr_desk.specs.Record.{DeskView, Bytes};
 ghost use Rattle.avr_records.specs.declared.kind.Found.{Found as AnyFound};
+ghost use Rattle.avr_records.specs.declared.detection.TheConstants.{FIRST_BYTES};
 ghost use Rattle.avr_plan.specs.Faults.{read_fault_number};
 ghost use Rattle.avr_plan.specs.ImageFile.{kind_of, whole_file};
 ghost use Rattle.avr_desk.specs.Files.{IsCounted};
@@ -15,17 +16,14 @@ use arrayvec::ArrayVec;
 use avr_cli::Format;
 use avr_desk::{Desk, DeskFault, FileFault};
 use avr_image::Image;
-use avr_records::{Ending, Found, detect};
+use avr_records::{Ending, FIRST_BYTES, Found, detect};
 use std::alloc::Global;
 use thiserror::Error;
 
 /// The most bytes of an image file.
 pub(crate) const LARGEST_IMAGE_FILE: usize = 4_194_304;
 
-/// How many bytes of a file show its format. They are held beside each piece of it.
-const FIRST_BYTES: usize = 1024;
-
-/// The most bytes that are asked of a desk at a time, so that 4,096 are held in all.
+/// The most bytes that are asked of a desk at a time. The file's first bytes are held beside them, so 4,096 in all.
 const PIECE: usize = 4096 - FIRST_BYTES;
 
 /// Why no image came of a file. It shows as the reason alone, without the file's name.

@@ -9,8 +9,13 @@ use crate::bytes::are_digits;
 use crate::kind::Found;
 use crate::line::{is_blank_byte, split_line};
 
-/// How many bytes of a file are looked at.
-const FIRST_BYTES: usize = 1024;
+/// How many of a file's first bytes `detect` looks at: with so many, or with all of a shorter file, it tells what the
+/// whole file shows.
+///
+/// ```text
+/// assert_eq!(rt; FIRST_BYTES, 1024);
+/// ```
+pub const FIRST_BYTES: usize = 1024;
 
 fn is_elf(prefix: &[u8]) -> bool
     ensures { result ≡ bytes_eq (take 4 prefix.now) elf_mark }

@@ -1,9 +1,9 @@
 //! Where a writer of S-records stands in a memory with gaps.
 
-ghost use Rattle.std.specs.Prelude.{◌≡◌, ◌-◌, ◌<◌, ◌≤◌, ◌↔◌, ◌++◌, false, length, drop, IsTrue};
+ghost use Rattle.std.specs.Prelude.{◌≡◌, ◌-◌, ◌<◌, ◌↔◌, ◌++◌, false, length, drop, IsTrue};
 ghost use Rattle.avr_records.specs.Sparse.{last_held};
 ghost use Rattle.avr_records.specs.Text.{IsLine, address_size};
-ghost use Rattle.avr_records.specs.Writing.{srec_left};
+ghost use Rattle.avr_records.specs.Writing.{srec_left, HasAddressSize};
 
 use crate::sparse::Sparse;
 use crate::srec_writer::{ROW_SIZE, address_size_of, put_end, put_row};
@@ -55,8 +55,7 @@ impl SrecCursor {
     pub fn new<M: Sparse>(memory: &M) -> SrecCursor
         ensures start { result ≡ record
             { addr = 0; address_size = address_size (last_held 0 0 (M.held memory.now)); ended = false } }
-        ensures least { 2 ≤ result.address_size }
-        ensures most { result.address_size ≤ 4 }
+        ensures size { HasAddressSize result }
     {
         SrecCursor {
             addr: 0,
@@ -76,8 +75,7 @@ impl SrecCursor {
     /// assert_eq!(rt; line.as_slice(), b"S9030000FC\n".as_slice());
     /// ```
     pub fn next_line<M: Sparse>(&mut self, memory: &M, out: &mut ArrayVec<u8, 80>) -> bool
-        requires least { 2 ≤ self.old.address_size }
-        requires most { self.old.address_size ≤ 4 }
+        requires addresses { HasAddressSize self.old }
         ensures joined { srec_left self.old (M.held memory.now)
             ≡ out.new.items ++ srec_left self.new (M.held memory.now) }
         ensures some { IsTrue result ↔ (0 < length out.new.items) }

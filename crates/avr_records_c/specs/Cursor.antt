@@ -1,5 +1,6 @@
 -- Where a file that is written stands.
-use Rattle.std.specs.Prelude.{ℕ, Bool, true, false, ◌==◌, List, Option, Some, None, if◌then◌else◌}
+use Rattle.std.specs.Prelude.{ℕ, Bool, true, false, ◌==◌, ◌&&◌, nat_le, List, Option, Some, None, if◌then◌else◌}
+use Rattle.std.specs.Option.{option_map, option_and_then}
 use Rattle.avr_records.specs.Sparse.{last_held}
 use Rattle.avr_records.specs.Text.{address_size}
 use Rattle.avr_records.specs.Writing.{ihex_left, srec_left, HasAddressSize}
@@ -17,26 +18,21 @@ ended_of n = if n == 0 then Some false else if n == 1 then Some true else None
 abbrev pub size_in_force : ℕ → List (Option ℕ) → Option ℕ
 size_in_force n image =
     if n == 0 then Some (address_size (last_held 0 0 image))
-    else if n == 2 then Some 2
-    else if n == 3 then Some 3
-    else if n == 4 then Some 4
+    else if nat_le 2 n && nat_le n 4 then Some n
     else None
 
+abbrev pub ihex_lines : Cursor → Bool → Lines
+ihex_lines cursor ended = Ihex (record { addr = cursor.addr; upper = cursor.upper; ended = ended })
+
+abbrev pub srec_lines : Cursor → Bool → ℕ → Lines
+srec_lines cursor ended size = Srec (record { addr = cursor.addr; address_size = size; ended = ended })
+
 -- the lines of a kind, by the numbers of a cursor; none where no call leaves such numbers
-abbrev pub ihex_lines : Option Bool → Cursor → Option Lines
-ihex_lines None cursor = None
-ihex_lines (Some ended) cursor =
-    Some (Ihex (record { addr = cursor.addr; upper = cursor.upper; ended = ended }))
-
-abbrev pub srec_lines : Option Bool → Option ℕ → Cursor → Option Lines
-srec_lines None size cursor = None
-srec_lines (Some ended) None cursor = None
-srec_lines (Some ended) (Some size) cursor =
-    Some (Srec (record { addr = cursor.addr; address_size = size; ended = ended }))
-
 abbrev pub lines_of : Kind → Cursor → List (Option ℕ) → Option Lines
-lines_of KindIhex cursor image = ihex_lines (ended_of cursor.ended) cursor
-lines_of KindSrec cursor image = srec_lines (ended_of cursor.ended) (size_in_force cursor.address_size image) cursor
+lines_of KindIhex cursor image = option_map (ihex_lines cursor) (ended_of cursor.ended)
+lines_of KindSrec cursor image =
+    option_and_then (λ ended. option_map (srec_lines cursor ended) (size_in_force cursor.address_size image))
+    (ended_of cursor.ended)
 
 -- what the lines have still to say of an image
 abbrev pub lines_left : Lines → List (Option ℕ) → List ℕ

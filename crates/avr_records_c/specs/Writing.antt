@@ -1,12 +1,12 @@
 -- What C has of a record file that is written.
 use Rattle.std.specs.Prelude.{◌≡◌, ◌⊎◌, ℕ, ◌==◌, ◌&&◌, ◌^◌, nat_lt, min, List, [], ◌∷◌, ◌++◌, length, take, drop, Option, Some, None, MatchOption, if◌then◌else◌}
+use Rattle.std.specs.Option.{option_map}
 use Rattle.avr_records.specs.Sparse.{ihex_image_text, srec_image_text}
 use Rattle.avr_records.specs.Fault.{fault_number}
 use Rattle.avr_records.specs.declared.fault.RecordFault.TheVariants.{Memory}
 use Rattle.avr_records.specs.declared.kind.Kind.{Kind}
 use Rattle.avr_records.specs.declared.kind.Kind.TheVariants.{Ihex, Srec}
 use Rattle.avr_records_c.specs.declared.cursor.Cursor.{Cursor}
-use Rattle.avr_records_c.specs.declared.cursor.Lines.{Lines}
 use Rattle.avr_records_c.specs.declared.piece.Piece.{Piece}
 use Rattle.avr_records_c.specs.Cursor.{lines_of, lines_left}
 use Rattle.avr_records_c.specs.Numbers.{kind_numbered}
@@ -36,14 +36,11 @@ pub record PutsOn (text rest room : List ℕ) (n : ℕ) (after : List ℕ) : Typ
   pub left : rest ≡ drop n text
   pub stands : after ≡ take n text ++ drop n room
 
--- what is still to be written of a file, of which the cursor's line has lost what went out
-abbrev pub left_behind : ℕ → List (Option ℕ) → Option Lines → Option (List ℕ)
-left_behind gone image None = None
-left_behind gone image (Some lines) = Some (drop gone (lines_left lines image))
-
--- what a cursor says is still to be written of a memory's file; none where no call leaves such a cursor
+-- what a cursor says is still to be written of a memory's file: its lines, of which the first has lost what went out;
+-- none where no call leaves such a cursor
 abbrev pub file_left : Kind → List (Option ℕ) → Cursor → Option (List ℕ)
-file_left kind image cursor = left_behind cursor.gone image (lines_of kind cursor image)
+file_left kind image cursor =
+    option_map (λ lines. drop cursor.gone (lines_left lines image)) (lines_of kind cursor image)
 
 -- the cursor at a file's beginning
 abbrev pub file_start : Cursor
@@ -52,9 +49,9 @@ file_start = record { addr = 0; gone = 0; upper = 0; address_size = 0; ended = 0
 -- a call puts what is left of this text on, and the cursor says what is then left
 pub record PutsText (kind : Kind) (image : List (Option ℕ)) (text room : List ℕ) (put : Put) : Type 0 where
   pub good : put.piece.fault ≡ 0
-  pub count : put.piece.length ≡ min (length room) (length text)
-  pub stands : put.room ≡ take put.piece.length text ++ drop put.piece.length room
-  pub left : file_left kind image put.cursor ≡ Some (drop put.piece.length text)
+  pub rest : List ℕ
+  pub puts : PutsOn text rest room put.piece.length put.room
+  pub left : file_left kind image put.cursor ≡ Some rest
 
 -- nothing was put, by fault 11
 abbrev pub put_none : Cursor → List ℕ → Put
@@ -85,10 +82,6 @@ abbrev pub Wrote : Kind → List (Option ℕ) → Cursor → List (List ℕ) →
 Wrote kind image cursor [] = file_left kind image cursor ≡ Some []
 Wrote kind image cursor (piece ∷ more) =
     (next : Cursor) × PieceCall kind image cursor next piece × Wrote kind image next more
-
-abbrev pub joined : List (List ℕ) → List ℕ
-joined [] = []
-joined (piece ∷ more) = piece ++ joined more
 
 -- A call tells how many bytes the memory's file has, or memory was refused, or the arguments do not fit one another.
 abbrev pub Measures : ℕ → List ℕ → List ℕ → Piece → Type 0

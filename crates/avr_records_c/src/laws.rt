@@ -1,12 +1,13 @@
 //! Laws of what C has, over the definitions alone.
 ghost use Rattle.std.specs.Prelude.{◌≡◌, ◌*◌, ◌<◌, ◌≤◌, ◌^◌, ℕ, List, length, Option, is_some};
+ghost use Rattle.std.specs.List.{concat};
 ghost use Rattle.avr_image.specs.Image.{byte_at};
 ghost use Rattle.avr_records.specs.Reading.{image_in_text};
 ghost use Rattle.avr_records.specs.declared.kind.Kind.{Kind};
 ghost use Rattle.avr_records_c.specs.Bitmap.{bitmap, image_of, is_there};
 ghost use Rattle.avr_records_c.specs.Reading.{left_in};
 ghost use Rattle.avr_records_c.specs.RoundTrip.{EachIsByte, written_and_read};
-ghost use Rattle.avr_records_c.specs.Writing.{Wrote, image_text, joined, file_start};
+ghost use Rattle.avr_records_c.specs.Writing.{Wrote, image_text, file_start};
 
 /// A bit of an image's bitmap is 1 where, and only where, its address holds a byte.
 #[tactic(auto, using(crate::proofs::Bits::there_where_held))]
@@ -20,7 +21,7 @@ pub fn a_bitmap_says_what_is_there()
 #[tactic(auto, using(crate::proofs::Cursors::pieces_join))]
 pub fn pieces_join()
     ensures { (kind : Kind) (image : List (Option ℕ)) (pieces : List (List ℕ)) → Wrote kind image file_start pieces
-        → joined pieces ≡ image_text kind image }
+        → concat pieces ≡ image_text kind image }
 {}
 
 /// The file of a memory, read again for one of its size, gives the bytes that were there, FF in the place of the

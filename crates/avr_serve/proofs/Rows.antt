@@ -1,10 +1,14 @@
--- Worked talks with any programmer, by a frame with a command that none knows.
+-- How many reads end a call, and worked talks with any programmer, by a frame with a command that none knows.
 use Rattle.std.proofs.Common.{◌≡◌, ℕ, List, [], ◌∷◌, refl}
 use Rattle.stk_host.specs.declared.link.Item.TheVariants.{Silence, End}
 use Rattle.stk_host.specs.Tape.{on_tape}
 use Rattle.stk_host.specs.Talk.{Talk, Sent, Got}
 use Rattle.stk_emu.specs.Programmer.{Programmer}
+use Rattle.avr_serve.specs.declared.run.TheConstants.{READS}
 use Rattle.avr_serve.specs.Serving.{AnswersInTurn}
+
+most_reads : READS ≡ 16777216
+most_reads = refl
 
 abbrev frame : List ℕ
 frame = 0x1B ∷ 0x09 ∷ 0x00 ∷ 0x01 ∷ 0x0E ∷ 0x05 ∷ 0x18 ∷ []

@@ -78,7 +78,8 @@ pub fn a_run_is_one_function()
 
 /// What stopped as it was played did a prefix of the run; and a run comes to one status.
 pub fn a_stop_is_a_prefix()
-    ensures prefix { (s : AnySettings) (x y : Devices) (status : ℕ) → StoppedPlaying s x y status → IsPrefixOfRun s x y }
+    ensures prefix { (s : AnySettings) (x y : Devices) (status : ℕ) → StoppedPlaying s x y status
+        → IsPrefixOfRun s x y }
     ensures one { (s : AnySettings) (h i j k : Devices) (m n : ℕ) (x : IsRun s h i m) (y : IsRun s j k n)
         → x.openings ≡ y.openings → heard x.during ≡ heard y.during → m ≡ n }
 {}

@@ -45,10 +45,8 @@ pub fn put_serial_number(image: &mut Image, at: u32, serial: &[u8]) -> Result<()
 {
     a_span_is_by_address();
     bytes_fit_below_the_size();
-    match image.put_slice(at, serial) {
-        Ok(_) => Ok(()),
-        Err(fault) => Err(fault),
-    }
+    image.put_slice(at, serial)?;
+    Ok(())
 }
 
 /// The record file of a part's flash memory with a serial number in it, from this address on, as Intel HEX with only

@@ -3,6 +3,7 @@ use Rattle.std.proofs.Common.{◌≡◌, [], ◌∷◌, ◌++◌, List, ℕ, ref
 use Rattle.stk_frame.specs.declared.command.Command.TheVariants.{SignOn, SetParameter, GetParameter, LoadAddress, SpiMulti}
 use Rattle.stk_frame.specs.declared.host_command.Fuse.TheVariants.{Low}
 use Rattle.stk_frame.specs.declared.answer.FrameFault.TheVariants.{WrongLength, WrongCommand, CheckSum, Status}
+use Rattle.stk_frame.specs.declared.protocol.TheConstants.{LARGEST_BLOCK, LARGEST_BODY, LARGEST_FRAME}
 use Rattle.stk_frame.specs.Frame.{frame}
 use Rattle.stk_frame.specs.Cut.{cut, rest, is_good}
 use Rattle.stk_frame.specs.Commands.{body, judge}
@@ -11,6 +12,10 @@ use Rattle.stk_frame.specs.HostCommands.{enter, leave, erase, program_page, prog
 use Rattle.std.specs.Prelude.{codes, filter, map}
 use Rattle.stk_frame.specs.Names.{command_names, name_in, status_names}
 use Rattle.stk_frame.specs.Cut.{seq_of, body_of}
+
+-- the longest body, the frame around it, and the most bytes of a memory that a body has
+pub limits : (LARGEST_BODY ≡ 275) × (LARGEST_FRAME ≡ 281) × (LARGEST_BLOCK ≡ 265)
+limits = (refl, refl, refl)
 
 -- the frames of a session that only reads the signature
 pub sign_on_frame : frame 1 (body SignOn) ≡ 0x1B ∷ 0x01 ∷ 0x00 ∷ 0x01 ∷ 0x0E ∷ 0x01 ∷ 0x14 ∷ []

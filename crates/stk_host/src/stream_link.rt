@@ -92,17 +92,12 @@ fn put_bytes<W: Write>(writer: &mut W, bytes: &[u8]) -> io::Result<usize>
     ensures ok { IfOk result (λ n. Appends (W.contents writer.old) (W.contents writer.new) (take n bytes.now)) }
     ensures err { OnErr result (AppendsPrefix (W.contents writer.old) (W.contents writer.new) bytes.now) }
 {
-    let count = match write_bytes(writer, bytes) {
-        Ok(count) => count,
-        Err(error) => return Err(error),
-    };
+    let count = write_bytes(writer, bytes)?;
     if count == 0 && !bytes.is_empty() {
         return Err(io::Error::from(ErrorKind::WriteZero));
     }
-    match writer.flush() {
-        Ok(()) => Ok(count),
-        Err(error) => Err(error),
-    }
+    writer.flush()?;
+    Ok(count)
 }
 
 /// Listens to a reader.

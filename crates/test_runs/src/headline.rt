@@ -2,20 +2,14 @@
 ghost use Rattle.std.specs.Prelude.{◌≡◌};
 ghost use Rattle.avr_desk.specs.Record.{nothing_kept};
 
-use crate::support::{OPENING, Over, desk_with, fates, run_wired_on, settings_for};
+use crate::support::{Over, desk_with, fates, run_wired_on, settings_for};
 use avr_tool::{
     Fate, Item, MemDesk, Settings, StreamLink, SystemDesk, TapeLink, run_in_memory, run_streams,
     run_streams_in_memory,
 };
 use std::alloc::Global;
 use std::test::Fail;
-
-/// The answers to a session that opens and ends, in hexadecimal digits.
-const ANSWERS: &str =
-    "1B01000B0E01000853544B3530305F32021B0200020E1000051B0300040E1B001E00171B0400040E1B0095009B1B0500040E1B000F00001B0600020E110000";
-
-/// The frame by which it ends.
-const LEAVING: &str = "1B0600030E11010101";
+use test_data::digits::{ANSWERS, LEAVE, OPENING};
 
 /// What a run put onto the line, onto the output and into the messages, and its status.
 #[derive(Drop)]
@@ -70,7 +64,7 @@ fn the_desk_and_the_link_of_the_program(rt: HostRuntime) -> Result<(), Fail> {
     let passed = run_over_streams(&rt, answers.as_slice())?;
     assert_eq!(rt; passed.status, 0);
     let mut frames = hex::decode(alloc, OPENING)?;
-    frames.extend_from_slice(hex::decode(alloc, LEAVING)?.as_slice())?;
+    frames.extend_from_slice(hex::decode(alloc, LEAVE)?.as_slice())?;
     assert!(rt; passed.sent == frames);
     assert!(rt; passed.output.is_empty());
     assert!(rt;

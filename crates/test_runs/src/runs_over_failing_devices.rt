@@ -2,8 +2,7 @@
 ghost use Rattle.std.specs.Prelude.{◌<◌};
 
 use crate::support::{
-    OPENING, Over, Row, desk_with, fates, holds, joined, pattern, printed, run_on, run_row, shows,
-    wire_to,
+    Over, Row, desk_with, fates, holds, joined, pattern, printed, run_on, run_row, shows, wire_to,
 };
 use avr_desk::{FailingDesk, MemDesk};
 use avr_part::Mem;
@@ -12,6 +11,7 @@ use std::process::Abort;
 use std::test::Fail;
 use stk_emu::{Fate, Fates, Wired};
 use stk_host::FailingLink;
+use test_data::digits::OPENING;
 
 /// A run to which nothing happens, and how many calls of its devices it makes.
 #[derive(Drop)]

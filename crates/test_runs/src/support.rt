@@ -11,10 +11,6 @@ use std::test::Fail;
 use stk_emu::{Fate, Fates, FatesFault, Wired};
 use stk_host::Link;
 
-/// The five frames that open a session with an ATmega328P, in hexadecimal digits.
-pub(crate) const OPENING: &str =
-    "1B0100010E01141B02000C0E10C8641920005303AC530000311B0300060E1B04300000003F1B0400060E1B0430000100391B0500060E1B04300002003B";
-
 /// A run: the words after the program's name and port, what goes to standard output, the messages without the
 /// program's name in front, and the status.
 #[derive(Drop)]

@@ -1,9 +1,13 @@
 //! Faults show in the words of the lines that are printed of them.
-use avr_cli::{SettingsFault, Text, UpdateFault};
+use avr_cli::{Settings, SettingsFault, Text, UpdateFault, read_settings, read_words};
 use avr_desk::MemDesk;
-use avr_session::refuse;
-use std::alloc::Global;
+use avr_part::Mem;
+use avr_plan::plan;
+use avr_session::{Outcome, drive_outcome, refuse};
+use std::alloc::{AllocError, Global};
 use std::test::Fail;
+use stk_host::{FailingLink, HostFault, Item, Link, TapeLink};
+use test_data::ANSWERS;
 
 /// Whether a fault of the settings shows as the line that is printed of it.
 fn shows_as_printed(alloc: Global, fault: &SettingsFault) -> bool {
@@ -27,5 +31,96 @@ fn faults_show_as_their_lines(rt: HostRuntime) -> Result<(), Fail> {
     assert!(rt; shows_as_printed(alloc, &SettingsFault::Memory));
     let update = SettingsFault::BadUpdate(2, UpdateFault::BadFormat);
     assert!(rt; shows_as_printed(alloc, &update));
+    Ok(())
+}
+
+fn settings_for(alloc: Global, update: &str) -> Result<Settings, Fail> {
+    let mut words: Vec<String> = Vec::new(alloc);
+    for word in ["avrstk", "-P", "stdio:", "-p", "m328p", "-U", update] {
+        words.push(String::from_str(alloc, word)?)?;
+    }
+    let matches = read_words(alloc, words.as_slice())?;
+    Ok(read_settings(alloc, &matches)?)
+}
+
+/// What came of a session with this update. It says nothing of it: a test carries each clause that it meets to its end,
+/// and these are long.
+fn outcome_over<L: Link>(
+    alloc: Global,
+    update: &str,
+    desk: &mut MemDesk,
+    link: &mut L,
+) -> Result<Option<Outcome>, Fail> {
+    let settings = settings_for(alloc, update)?;
+    match plan(alloc, &settings, desk) {
+        Ok(plan) => Ok(Some(drive_outcome(alloc, &plan, desk, link))),
+        Err(_) => Ok(None),
+    }
+}
+
+/// The first bytes of the answers to a session, and then these.
+fn tape(alloc: Global, count: usize, more: &[u8]) -> Result<Vec<Item>, AllocError> {
+    let mut items = Vec::new(alloc);
+    for byte in ANSWERS.iter().take(count).chain(more) {
+        items.push(Item::Byte(*byte))?;
+    }
+    Ok(items)
+}
+
+/// Whether a session over these items comes to this fault, and the last line is what it shows.
+fn ends_so(alloc: Global, update: &str, items: Vec<Item>, fault: HostFault) -> Result<bool, Fail> {
+    let mut desk = MemDesk::new(alloc);
+    let mut link = TapeLink::new(alloc, items, 281);
+    let outcome = outcome_over(alloc, update, &mut desk, &mut link)?;
+    let line = format!(in alloc; "avrstk: error: {fault}\n")?;
+    Ok(outcome == Some(Outcome::Faulty(fault)) && desk.messages().ends_with(line.as_bytes()))
+}
+
+/// Whether a session stops where this call of the link fails, and the last line is what this fault shows.
+fn stops_so(alloc: Global, call: u64, fault: HostFault) -> Result<bool, Fail> {
+    let mut desk = MemDesk::new(alloc);
+    let mut link = FailingLink::new(TapeLink::new(alloc, tape(alloc, 63, &[])?, 281), call, 281);
+    let outcome = outcome_over(alloc, "lfuse:r:low:h", &mut desk, &mut link)?;
+    let line = format!(in alloc; "avrstk: error: {fault}\n")?;
+    Ok(outcome == Some(Outcome::Stopped) && desk.messages().ends_with(line.as_bytes()))
+}
+
+/// All faults but those of which no line is printed so: a read-only memory is refused before any frame, and memory
+/// isn't.
+#[test]
+fn faults_of_hosts_show_as_their_lines(rt: HostRuntime) -> Result<(), Fail> {
+    let alloc = rt.alloc();
+    let read = "lfuse:r:low:h";
+    let silent = vec![in alloc; Item::Silence; 8]?;
+    assert!(rt; ends_so(alloc, read, silent, HostFault::NoAnswer)?);
+    assert!(rt; ends_so(alloc, read, tape(alloc, 17, &[])?, HostFault::LinkEnded)?);
+    let babble = vec![in alloc; Item::Byte(0); 16_384]?;
+    assert!(rt; ends_so(alloc, read, babble, HostFault::Babble)?);
+    let refused = tape(alloc, 17, &[0x1B, 0x02, 0x00, 0x02, 0x0E, 0x10, 0xC0, 0xC5])?;
+    assert!(rt; ends_so(alloc, read, refused, HostFault::Refused(0x10, 0xC0))?);
+    let other = tape(alloc, 17, &[0x1B, 0x02, 0x00, 0x02, 0x0E, 0x11, 0x00, 0x04])?;
+    assert!(rt; ends_so(alloc, read, other, HostFault::BadAnswer(0x10))?);
+    let fuse = [0x1B, 0x06, 0x00, 0x04, 0x0E, 0x18, 0x00, 0x62, 0x00, 0x6D];
+    let differs = HostFault::Differs(Mem::Lfuse, 0, 0xE2, 0x62);
+    assert!(rt; ends_so(alloc, "lfuse:v:0xE2:m", tape(alloc, 55, &fuse)?, differs)?);
+    assert!(rt; stops_so(alloc, 1, HostFault::SendFailed)?);
+    assert!(rt; stops_so(alloc, 2, HostFault::RecvFailed)?);
+    Ok(())
+}
+
+/// After what the fault shows the line says which signature the part has.
+#[test]
+fn another_signature_shows_as_its_line(rt: HostRuntime) -> Result<(), Fail> {
+    let alloc = rt.alloc();
+    let mut answers = ANSWERS;
+    answers[52] = 0x14;
+    answers[54] = 0x1B;
+    let mut desk = MemDesk::new(alloc);
+    let mut link = TapeLink::new(alloc, tape(alloc, 0, &answers)?, 281);
+    let outcome = outcome_over(alloc, "lfuse:r:low:h", &mut desk, &mut link)?;
+    let fault = HostFault::WrongSignature([0x1E, 0x95, 0x14]);
+    assert!(rt; outcome == Some(Outcome::Faulty(fault)));
+    let line = format!(in alloc; "avrstk: error: {fault}, m328p has 1E 95 0F\n")?;
+    assert!(rt; desk.messages().ends_with(line.as_bytes()));
     Ok(())
 }

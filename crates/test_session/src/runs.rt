@@ -8,18 +8,7 @@ use std::ops::Range;
 use std::process::Abort;
 use std::test::Fail;
 use stk_host::{FailingLink, Item, Link, TapeLink};
-
-/// What a programmer with this part answers to SIGN_ON, ENTER_PROGMODE_ISP, three of READ_SIGNATURE_ISP and
-/// LEAVE_PROGMODE_ISP.
-const M328P: &str =
-    "1B01000B0E01000853544B3530305F32021B0200020E1000051B0300040E1B001E00171B0400040E1B0095009B1B0500040E1B000F00001B0600020E110000";
-
-/// SIGN_ON, ENTER_PROGMODE_ISP and the three of READ_SIGNATURE_ISP.
-const OPENING: &str =
-    "1B0100010E01141B02000C0E10C8641920005303AC530000311B0300060E1B04300000003F1B0400060E1B0430000100391B0500060E1B04300002003B";
-
-/// LEAVE_PROGMODE_ISP.
-const LEAVE: &str = "1B0600030E11010101";
+use test_data::digits::{ANSWERS, LEAVE, OPENING};
 
 /// A run: the part, the answers as digits with `-` for a silence, the frames as digits, the messages and the status.
 struct Row {
@@ -127,7 +116,7 @@ fn signatures(rt: HostRuntime) -> Result<(), Fail> {
         &[
             Row {
                 part: "m328p",
-                answers: M328P,
+                answers: ANSWERS,
                 frames: &[OPENING, LEAVE],
                 messages: "avrstk: device signature = 1E 95 0F\navrstk: done\n",
                 status: 0,
@@ -148,7 +137,7 @@ fn signatures(rt: HostRuntime) -> Result<(), Fail> {
             },
             Row {
                 part: "m9",
-                answers: M328P,
+                answers: ANSWERS,
                 frames: &[],
                 messages: "avrstk: error: no part m9\n",
                 status: 1,
@@ -236,7 +225,7 @@ fn commands_that_are_refused(rt: HostRuntime) -> Result<(), Fail> {
 /// The first bytes of the sound answers; then the line ends.
 fn prefix_of_answers(alloc: Global, count: usize) -> Result<Vec<Item>, Fail> {
     let mut items = Vec::new(alloc);
-    for byte in hex::decode(alloc, M328P)?.into_iter().take(count) {
+    for byte in hex::decode(alloc, ANSWERS)?.into_iter().take(count) {
         items.push(Item::Byte(byte))?;
     }
     Ok(items)
@@ -316,7 +305,7 @@ fn rubbish_on_the_line(rt: HostRuntime) -> Result<(), Fail> {
 #[test]
 fn a_link_that_fails(rt: HostRuntime) -> Result<(), Fail> {
     let alloc = rt.alloc();
-    let items = tape(alloc, M328P)?;
+    let items = tape(alloc, ANSWERS)?;
     let settings = settings_for(alloc, "m328p")?;
     let mut desk = MemDesk::new(alloc);
     let mut link = FailingLink::new(TapeLink::new(alloc, items, 281), 1, 281);
@@ -330,12 +319,20 @@ fn a_link_that_fails(rt: HostRuntime) -> Result<(), Fail> {
 fn a_desk_that_fails(rt: HostRuntime) -> Result<(), Fail> {
     let alloc = rt.alloc();
     let opening = joined(alloc, &[OPENING])?;
-    let items = tape(alloc, M328P)?;
+    let items = tape(alloc, ANSWERS)?;
     let settings = settings_for(alloc, "m328p")?;
     let mut desk = FailingDesk::new(MemDesk::new(alloc), 1);
     let mut link = TapeLink::new(alloc, items, 281);
     assert!(rt; status_of(alloc, &settings, &mut desk, &mut link) == 1);
     assert!(rt; link.sent() == opening.as_slice());
     assert!(rt; desk.inner().messages() == b"".as_slice());
+    Ok(())
+}
+
+#[test]
+fn the_digits_are_of_the_same_bytes(rt: HostRuntime) -> Result<(), Fail> {
+    let alloc = rt.alloc();
+    assert!(rt; joined(alloc, &[OPENING, LEAVE])?.as_slice() == test_data::FRAMES.as_slice());
+    assert!(rt; joined(alloc, &[ANSWERS])?.as_slice() == test_data::ANSWERS.as_slice());
     Ok(())
 }

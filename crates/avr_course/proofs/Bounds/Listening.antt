@@ -177,6 +177,17 @@ answer_waits_for : (seq : ℕ) (tape : Tape) → answer seq tape ≡ None → (s
 unfolding answer
 answer_waits_for seq tape e = read_waits tape (first_answer seq (cut (take limit (bytes_in tape)))) e
 
+-- listening once for an answer: where more is awaited the tape had little, and where it is done that cost no more
+record ListensOnce (tape : Tape) (got : Option (Reading × Tape)) : Type 0 where
+  waiting : got ≡ None → (silences tape ≡ 0) × (bytes_on tape < limit)
+  done : (reading : Reading) (left : Tape) → got ≡ Some (reading, left) → Costs tape left
+
+answer_listens : (seq : ℕ) (tape : Tape) → ListensOnce tape (answer seq tape)
+answer_listens seq tape = record {
+  waiting = λ e. answer_waits_for seq tape e;
+  done = λ reading left e. answer_costs seq tape reading left e;
+}
+
 -- ---- a play
 
 record Listens {E R : Type 0} (p : Played E R) (tape : Tape) : Type 0 where
@@ -191,17 +202,15 @@ rest_of None = []
 rest_of (Some (r, seq, left)) = left
 
 listens_asked : {E R : Type 0} (f : List ℕ) (go_on : Reading → Tape → Played E R) (tape : Tape)
-    (got : Option (Reading × Tape))
-    → (got ≡ None → (silences tape ≡ 0) × (bytes_on tape < limit))
-    → ((reading : Reading) (left : Tape) → got ≡ Some (reading, left) → Costs tape left)
+    (got : Option (Reading × Tape)) → ListensOnce tape got
     → ((reading : Reading) (left : Tape) → Listens (go_on reading left) left)
     → Listens (behind (Frame f ∷ []) (by_answer go_on got)) tape
-listens_asked f go_on tape None waits costs more = record {
-  waiting = λ e. let w = waits refl in let w0 = w.0 in let w1 = w.1 in (omega (arith, w0), omega (arith, w1));
+listens_asked f go_on tape None once more = record {
+  waiting = λ e. let w = once.waiting refl in let w0 = w.0 in let w1 = w.1 in (omega (arith, w0), omega (arith, w1));
   done = λ r seq left e. absurd (cc);
 }
-listens_asked f go_on tape (Some (reading, rest)) waits costs more =
-    let c = costs reading rest refl in
+listens_asked f go_on tape (Some (reading, rest)) once more =
+    let c = once.done reading rest refl in
     let silent = c.silent in
     let bytes = c.bytes in
     record {
@@ -221,8 +230,7 @@ listens (Say s d) seq tape = let more = listens d seq tape in
     record { waiting = λ e. more.waiting e; done = λ r n left e. more.done r n left e }
 listens (Ask body answered) seq tape =
     listens_asked (frame seq body) (λ reading. played (answered reading) (next seq)) tape (answer seq tape)
-    (λ e. answer_waits_for seq tape e) (λ reading left e. answer_costs seq tape reading left e)
-    (λ reading left. listens (answered reading) (next seq) left)
+    (answer_listens seq tape) (λ reading left. listens (answered reading) (next seq) left)
 
 -- ---- a talk
 

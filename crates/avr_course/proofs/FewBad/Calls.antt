@@ -43,23 +43,21 @@ pub record Stands (part : Part) (m : Memories) (q : Programmer) : Type 0 where
   pub ready : Ready part m q
   pub sizes : FitsPart part m
 
--- over such a line
-abbrev Few : {R : Type 0} → Dialog ⊥ R → R → (Programmer → Type 0) → Programmer → List Turn → Type 0
-Few d r After p turns = Ends AreFew d r [] After p turns
+-- over such a line, from each programmer under the one condition to one under the other
+abbrev Few : {R : Type 0} → (Programmer → Type 0) → Dialog ⊥ R → R → (Programmer → Type 0) → Type 0
+Few Before d r After = (p : Programmer) (turns : List Turn) → Before p → Ends AreFew d r [] After p turns
 
-few_bind : {A B : Type 0} (next : A → Dialog ⊥ B) (a : A) (b : B) (Between After : Programmer → Type 0) (d : Dialog ⊥ A)
-    (p : Programmer) (turns : List Turn) → Few d a Between p turns
-    → ((q : Programmer) (fs : List Turn) → Between q → Few (next a) b After q fs) → Few (d >>= next) b After p turns
-few_bind next a b Between After d p turns first more =
-    ends_bind AreFew others_few next a b [] [] Between After d p turns first more
+few_bind : {A B : Type 0} (next : A → Dialog ⊥ B) (a : A) (b : B) (Before Between After : Programmer → Type 0)
+    (d : Dialog ⊥ A) → Few Before d a Between → Few Between (next a) b After → Few Before (d >>= next) b After
+few_bind next a b Before Between After d first more p turns before =
+    ends_bind AreFew others_few next a b [] [] Between After d p turns (first p turns before) more
 
 -- a step of at most two commands, which have these data from under the one condition and the other
-ends_step : (commands : List Command) (got : List ℕ) (Before After : Programmer → Type 0) (p : Programmer)
-    (turns : List Turn)
-    → Fits steady commands Before After → Before p → length commands ≤ 2
+ends_step : (commands : List Command) (got : List ℕ) (Before After : Programmer → Type 0)
+    → Fits steady commands Before After → length commands ≤ 2
     → ((q : Programmer) → Before q ⊎ After q → joined_reply device commands [] q ≡ Data got)
-    → Few (step commands) (Ok got) After p turns
-ends_step commands got Before After p turns fits before short has = record {
+    → Few Before (step commands) (Ok got) After
+ends_step commands got Before After fits short has p turns before = record {
   ends = λ few k o e.
       let comes = step_steady Before After commands got fits has k p turns o short few before e in
       record {
@@ -71,11 +69,10 @@ ends_step commands got Before After p turns fits before short has = record {
 }
 
 -- what a call answers, reported otherwise
-ends_told : {A B : Type 0} (d : Dialog ⊥ A) (tell : A → B) (a : A) (After : Programmer → Type 0) (p : Programmer)
-    (turns : List Turn) → Few d a After p turns
-    → Few (d >>= (λ answer. Done (tell answer))) (tell a) After p turns
-ends_told d tell a After p turns l =
-    few_bind (λ answer. Done (tell answer)) a (tell a) After After d p turns l
+ends_told : {A B : Type 0} (d : Dialog ⊥ A) (tell : A → B) (a : A) (Before After : Programmer → Type 0)
+    → Few Before d a After → Few Before (d >>= (λ answer. Done (tell answer))) (tell a) After
+ends_told d tell a Before After l =
+    few_bind (λ answer. Done (tell answer)) a (tell a) Before After After d l
     (λ q fs after. ends_done AreFew (tell a) After q fs after)
 
 pub bytes_same : (xs : List ℕ) → bytes_eq xs xs ≡ true
@@ -95,10 +92,10 @@ signature_taken signature false = cond-true (bytes_eq signature signature) (Ok s
     (bytes_same signature)
 
 module _ (part : Part) (sound : IsPart part) where
-  ends_play : (steps : List (List Command)) (m : Memories) (p : Programmer) (turns : List Turn) → AreSteps part steps
-      → Stands part m p
-      → Few (play steps []) (Ok (all_given part steps m)) (Ready part (struck_by part (length steps) steps m)) p turns
-  ends_play steps m p turns are s = record {
+  ends_play : (steps : List (List Command)) (m : Memories) → AreSteps part steps
+      → Few (Stands part m) (play steps []) (Ok (all_given part steps m))
+      (Ready part (struck_by part (length steps) steps m))
+  ends_play steps m are p turns s = record {
     ends = λ few k o e.
         let is : o ≡ Ok (all_given part steps m) =
         play_few part sound steps m k [] p turns o are s.sizes s.ready few e in record {
@@ -111,101 +108,93 @@ module _ (part : Part) (sound : IsPart part) where
 
   -- an operation that leaves these memories
   ends_operation : {A : Type 0} (steps : List (List Command)) (judge : List ℕ → Result A HostFault) (m after : Memories)
-      (p : Programmer) (turns : List Turn)
-      → AreSteps part steps → Stands part m p → struck_by part (length steps) steps m ≡ after → FitsPart part after
-      → Few (operation steps judge) (judge (all_given part steps m)) (Stands part after) p turns
+      → AreSteps part steps → struck_by part (length steps) steps m ≡ after → FitsPart part after
+      → Few (Stands part m) (operation steps judge) (judge (all_given part steps m)) (Stands part after)
   unfolding operation
-  ends_operation steps judge m after p turns are s leaves sizes =
+  ends_operation steps judge m after are leaves sizes p turns s =
       ends_wider AreFew (operation steps judge) (judge (all_given part steps m)) []
       (Ready part (struck_by part (length steps) steps m)) (Stands part after) p turns
       (λ q t. record { ready = subst (λ z. Ready part z q) leaves t; sizes = sizes })
-      (ends_told (play steps []) (judged_by judge) (Ok (all_given part steps m))
-      (Ready part (struck_by part (length steps) steps m)) p turns (ends_play steps m p turns are s))
+      (ends_told (play steps []) (judged_by judge) (Ok (all_given part steps m)) (Stands part m)
+      (Ready part (struck_by part (length steps) steps m)) (ends_play steps m are) p turns s)
 
-  ends_reads : {A : Type 0} (mem : Mem) (judge : List ℕ → Result A HostFault) (m : Memories) (p : Programmer)
-      (turns : List Turn) → Stands part m p
-      → Few (operation (read_steps part mem) judge) (judge (memory_in part mem m)) (Stands part m) p turns
+  ends_reads : {A : Type 0} (mem : Mem) (judge : List ℕ → Result A HostFault) (m : Memories)
+      → Few (Stands part m) (operation (read_steps part mem) judge) (judge (memory_in part mem m)) (Stands part m)
   ends_reads mem judge m p turns s =
-      subst (λ bytes. Few (operation (read_steps part mem) judge) (judge bytes) (Stands part m) p turns)
+      subst (λ bytes. Ends AreFew (operation (read_steps part mem) judge) (judge bytes) [] (Stands part m) p turns)
       (read_gives part sound m s.sizes mem)
-      (ends_operation (read_steps part mem) judge m m p turns (read_are_steps part sound mem) s
-      (quiet_stays part (length (read_steps part mem)) (read_steps part mem) m (read_quiet part mem)) s.sizes)
+      (ends_operation (read_steps part mem) judge m m (read_are_steps part sound mem)
+      (quiet_stays part (length (read_steps part mem)) (read_steps part mem) m (read_quiet part mem)) s.sizes p turns s)
 
-  ends_reading : (mem : Mem) (m : Memories) (p : Programmer) (turns : List Turn) → Stands part m p
-      → Few (host.reading part mem) (Ok (memory_in part mem m)) (Stands part m) p turns
+  ends_reading : (mem : Mem) (m : Memories)
+      → Few (Stands part m) (host.reading part mem) (Ok (memory_in part mem m)) (Stands part m)
   ends_reading mem m p turns s = ends_reads mem Ok m p turns s
 
-  ends_verifying : (mem : Mem) (image : Image) (m : Memories) (p : Programmer) (turns : List Turn) → Stands part m p
-      → Few (host.verifying part mem image) (comparison mem image (memory_in part mem m)) (Stands part m) p turns
+  ends_verifying : (mem : Mem) (image : Image) (m : Memories)
+      → Few (Stands part m) (host.verifying part mem image) (comparison mem image (memory_in part mem m))
+      (Stands part m)
   ends_verifying mem image m p turns s = ends_reads mem (comparison mem image) m p turns s
 
-  ends_erasing : (m : Memories) (p : Programmer) (turns : List Turn) → Stands part m p
-      → Few host.erasing (Ok tt) (Stands part (effect part Erase m)) p turns
+  ends_erasing : (m : Memories) → Few (Stands part m) host.erasing (Ok tt) (Stands part (effect part Erase m))
   ends_erasing m p turns s =
-      ends_operation ((erase ∷ []) ∷ []) no_result m (effect part Erase m) p turns (item_are_steps part sound Erase tt)
-      s refl (effect_sizes part sound Erase m s.sizes)
+      ends_operation ((erase ∷ []) ∷ []) no_result m (effect part Erase m) (item_are_steps part sound Erase tt) refl
+      (effect_sizes part sound Erase m s.sizes) p turns s
 
-  ends_writing : (mem : Mem) (image : Image) (m : Memories) (p : Programmer) (turns : List Turn)
-      → length image ≤ size_of mem part → is_writable mem ≡ true
-      → Stands part m p → Few (host.writing part mem image) (Ok tt) (Stands part (effect part (Write mem image) m)) p
-      turns
-  ends_writing mem image m p turns fits can s =
-      subst (λ d. Few d (Ok tt) (Stands part (effect part (Write mem image) m)) p turns)
+  ends_writing : (mem : Mem) (image : Image) (m : Memories) → length image ≤ size_of mem part → is_writable mem ≡ true
+      → Few (Stands part m) (host.writing part mem image) (Ok tt) (Stands part (effect part (Write mem image) m))
+  ends_writing mem image m fits can p turns s =
+      subst (λ d. Ends AreFew d (Ok tt) [] (Stands part (effect part (Write mem image) m)) p turns)
       (sym (cond-true (is_writable mem) _ _ can))
-      (ends_operation (write_steps part mem image) no_result m (effect part (Write mem image) m) p turns
-      (item_are_steps part sound (Write mem image) fits) s
+      (ends_operation (write_steps part mem image) no_result m (effect part (Write mem image) m)
+      (item_are_steps part sound (Write mem image) fits)
       (struck_all part (write_steps part mem image) m ∙ item_does part sound (Write mem image) m fits s.sizes)
-      (effect_sizes part sound (Write mem image) m s.sizes))
+      (effect_sizes part sound (Write mem image) m s.sizes) p turns s)
 
   -- the three bytes of the signature
-  ends_signature : (m : Memories) (p : Programmer) (turns : List Turn) → Stands part m p
-      → Few (play signature_steps []) (Ok part.signature) (Stands part m) p turns
+  ends_signature : (m : Memories) → Few (Stands part m) (play signature_steps []) (Ok part.signature) (Stands part m)
   ends_signature m p turns s =
       ends_wider AreFew (play signature_steps []) (Ok part.signature) [] (Ready part m) (Stands part m) p turns
       (λ q t. record { ready = t; sizes = s.sizes })
-      (subst (λ bytes. Few (play signature_steps []) (Ok bytes) (Ready part m) p turns)
+      (subst (λ bytes. Ends AreFew (play signature_steps []) (Ok bytes) [] (Ready part m) p turns)
       (read_gives part sound m s.sizes Signature)
-      (ends_play signature_steps m p turns (read_are_steps part sound Signature) s))
+      (ends_play signature_steps m (read_are_steps part sound Signature) p turns s))
 
-  ends_beginning : (m : Memories) (p : Programmer) (turns : List Turn) → FitsPart part m → Idle part m p
-      → Few host.handshake (Ok part.signature) (Stands part m) p turns
+  ends_beginning : (m : Memories) → FitsPart part m
+      → Few (Idle part m) host.handshake (Ok part.signature) (Stands part m)
   unfolding host.handshake
-  ends_beginning m p turns sizes idle =
+  ends_beginning m sizes =
       let read : List ℕ → Dialog ⊥ StepOutcome = λ nothing. play signature_steps [] in
       let name = 0x53 ∷ 0x54 ∷ 0x4B ∷ 0x35 ∷ 0x30 ∷ 0x30 ∷ 0x5F ∷ 0x32 ∷ [] in
       few_bind (if_done (λ signed. step (enter ∷ []) >>= if_done read)) (Ok name) (Ok part.signature) (Idle part m)
-      (Stands part m) (step (SignOn ∷ [])) p turns
-      (ends_step (SignOn ∷ []) name (Idle part m) (Idle part m) p turns (sign_on_steady part m) idle (omega arith)
+      (Idle part m) (Stands part m) (step (SignOn ∷ []))
+      (ends_step (SignOn ∷ []) name (Idle part m) (Idle part m) (sign_on_steady part m) (omega arith)
       (λ q stands. refl))
-      (λ q fs i.
-      few_bind (if_done read) (Ok []) (Ok part.signature) (Ready part m) (Stands part m) (step (enter ∷ [])) q fs
-      (ends_step (enter ∷ []) [] (Idle part m) (Ready part m) q fs (enter_ready part m) i (omega arith)
-      (λ r stands. refl))
-      (λ r gs s. ends_signature m r gs (record { ready = s; sizes = sizes })))
+      (few_bind (if_done read) (Ok []) (Ok part.signature) (Idle part m) (Ready part m) (Stands part m)
+      (step (enter ∷ []))
+      (ends_step (enter ∷ []) [] (Idle part m) (Ready part m) (enter_ready part m) (omega arith) (λ q stands. refl))
+      (λ q fs s. ends_signature m q fs (record { ready = s; sizes = sizes })))
 
-  ends_opening : (force : Bool) (m : Memories) (p : Programmer) (turns : List Turn) → FitsPart part m → Idle part m p
-      → Few (host.opening part.signature force) (Ok part.signature) (Stands part m) p turns
+  ends_opening : (force : Bool) (m : Memories) → FitsPart part m
+      → Few (Idle part m) (host.opening part.signature force) (Ok part.signature) (Stands part m)
   unfolding host.opening
-  ends_opening force m p turns sizes idle =
-      subst (λ r. Few (host.opening part.signature force) r (Stands part m) p turns)
+  ends_opening force m sizes =
+      subst (λ r. Few (Idle part m) (host.opening part.signature force) r (Stands part m))
       (signature_taken part.signature force)
-      (ends_told host.handshake (signature_judged part.signature force) (Ok part.signature) (Stands part m) p turns
-      (ends_beginning m p turns sizes idle))
+      (ends_told host.handshake (signature_judged part.signature force) (Ok part.signature) (Idle part m)
+      (Stands part m) (ends_beginning m sizes))
 
-ends_closing : (part : Part) (m : Memories) (p : Programmer) (turns : List Turn) → Idle part m p
-    → Few host.closing (Ok tt) (Idle part m) p turns
+ends_closing : (part : Part) (m : Memories) → Few (Idle part m) host.closing (Ok tt) (Idle part m)
 unfolding host.closing
-ends_closing part m p turns idle =
-    ends_told (step (leave ∷ [])) without_bytes (Ok []) (Idle part m) p turns
-    (ends_step (leave ∷ []) [] (Idle part m) (Idle part m) p turns (leave_steady part m) idle (omega arith)
-    (λ q stands. refl))
+ends_closing part m =
+    ends_told (step (leave ∷ [])) without_bytes (Ok []) (Idle part m) (Idle part m)
+    (ends_step (leave ∷ []) [] (Idle part m) (Idle part m) (leave_steady part m) (omega arith) (λ q stands. refl))
 
 -- as the calls of a session
 pub few_calls : (part : Part) → IsPart part → Calls AreFew part (Stands part)
 few_calls part sound = record {
-  opening = λ force m p turns sizes idle. ends_opening part sound force m p turns sizes idle;
+  opening = λ force m p turns sizes idle. ends_opening part sound force m sizes p turns idle;
   erasing = λ m p turns s. ends_erasing part sound m p turns s;
-  writing = λ mem image m p turns fits can s. ends_writing part sound mem image m p turns fits can s;
+  writing = λ mem image m p turns fits can s. ends_writing part sound mem image m fits can p turns s;
   verifying = λ mem image m p turns s. ends_verifying part sound mem image m p turns s;
   reading = λ mem m p turns s. ends_reading part sound mem m p turns s;
   closing = λ m p turns idle. ends_closing part m p turns idle;

@@ -71,12 +71,9 @@ tells_done {E} {R} r p turns Now After n a =
     record { now = λ k. n; after = λ k q e. subst (λ x. After x [] p) (done_is {E = E} r q e) a }
 
 tells_wider : {E R : Type 0} (d : Dialog E R) (p : Programmer) (turns : List Turn) (Now Now' : List E → Type 0)
-    (After After' : R → List E → Programmer → Type 0)
-    → ((said : List E) → Now said → Now' said)
-    → ((r : R) (said : List E) (q : Programmer) → After r said q → After' r said q)
-    → Tells d p turns Now After → Tells d p turns Now' After'
-tells_wider d p turns Now Now' After After' f g t =
-    record { now = λ k. f _ (t.now k); after = λ k r e. g r _ _ (t.after k r e) }
+    (After : R → List E → Programmer → Type 0)
+    → ((said : List E) → Now said → Now' said) → Tells d p turns Now After → Tells d p turns Now' After
+tells_wider d p turns Now Now' After f t = record { now = λ k. f _ (t.now k); after = λ k r e. t.after k r e }
 
 said_says : {R : Type 0} (k : ℕ) (sayings : List Saying) (r : R) (p : Programmer) (turns : List Turn)
     → said_along device k (says sayings (Done r)) p turns ≡ sayings
@@ -144,14 +141,18 @@ module _ {E A B : Type 0} (Now : List E → Type 0) (Between : A → List E → 
         (sym (ap (λ z. z.dialog) (along_bind device k d next p turns)) ∙ e)));
   }
 
+-- whatever a call comes to, what is said of it is so
+abbrev SaysEach : {A : Type 0} → (Result A HostFault → Programmer → Type 0) → (Result A HostFault → List Saying)
+    → (List Saying → Type 0) → (Standing → List Saying → Programmer → Type 0) → Type 0
+SaysEach {A} Came outcome_says Now After = (r : Result A HostFault) (q : Programmer) → Came r q
+    → Now (outcome_says r) × After (standing r) (outcome_says r) q
+
 -- a call, and what is said of its outcome
 tells_reported : {A : Type 0} {During : Programmer → Type 0} {Came : Result A HostFault → Programmer → Type 0}
     (call : Dialog ⊥ (Result A HostFault)) (outcome_says : Result A HostFault → List Saying)
     (p : Programmer) (turns : List Turn) (Now : List Saying → Type 0)
     (After : Standing → List Saying → Programmer → Type 0)
-    → Keeps device During Came call p → Now []
-    → ((r : Result A HostFault) (q : Programmer) → Came r q
-    → Now (outcome_says r) × After (standing r) (outcome_says r) q)
+    → Keeps device During Came call p → Now [] → SaysEach Came outcome_says Now After
     → Tells (reported call outcome_says) p turns Now After
 tells_reported {Came = Came} operation outcome_says p turns Now After l none each =
     tells_bind Now (λ r said q. (said ≡ []) × Came r q) After
@@ -163,8 +164,7 @@ tells_reported {Came = Came} operation outcome_says p turns Now After l none eac
     (subst (λ y. After (standing r) (y ++ outcome_says r) q) (sym came.0) both.1))
     (lifted operation) p turns
     (tells_wider (lifted operation) p turns (λ said. said ≡ []) Now (λ r said q. (said ≡ []) × Came r q)
-    (λ r said q. (said ≡ []) × Came r q)
-    (λ said e. subst Now (sym e) none) (λ r said q came. came) (tells_lifted operation p turns l))
+    (λ said e. subst Now (sym e) none) (tells_lifted operation p turns l))
 
 -- commands that are asked nothing of
 any_fits : {commands : List Command} → Fits device commands (λ q. ⊤) (λ q. ⊤)
@@ -239,8 +239,7 @@ module _ (plan : Plan) (sound : IsPart plan.part) where
       tells_reported (operation steps judge) outcome_says p turns (NowPhase c) (AfterPhase c)
       (operation_goes part sound steps m judge p are f settled) (inl refl) each
     where
-      each : (r : Result A HostFault) (q : Programmer) → AfterCall part sound steps m judge r q
-          → NowPhase c (outcome_says r) × AfterPhase c (standing r) (outcome_says r) q
+      each : SaysEach (AfterCall part sound steps m judge) outcome_says (NowPhase c) (AfterPhase c)
       each r q (inl made) =
           let is : outcome_says r ≡ c.says = ap outcome_says made.1 ∙ says_are in (
             inr (inl is),
@@ -308,9 +307,8 @@ module _ (plan : Plan) (sound : IsPart plan.part) where
       tells_reported (host.opening part.signature s.force) (opening_says s.quiet part) p turns (NowPhase c)
       (AfterPhase c) (opening_comes part sound s.force m f p idle) (inl refl) each
     where
-      each : (r : Result (List ℕ) HostFault) (q : Programmer) → Opened part sound m r q
-          → NowPhase (action_course part s OpenSession m) (opening_says s.quiet part r)
-          × AfterPhase (action_course part s OpenSession m) (standing r) (opening_says s.quiet part r) q
+      each : SaysEach (Opened part sound m) (opening_says s.quiet part) (NowPhase (action_course part s OpenSession m))
+          (AfterPhase (action_course part s OpenSession m))
       each r q (inl found) =
           let c = action_course part s OpenSession m in
           let is : opening_says s.quiet part r ≡ c.says = ap (opening_says s.quiet part) found.1 in (
@@ -455,17 +453,19 @@ module _ (plan : Plan) (sound : IsPart plan.part) where
     tells_cons From first more p turns from =
         tells_bind (NowPhases (action ∷ rest) m) (AfterPhase c) (AfterPhases (action ∷ rest) m)
         (unless_fault (phases part s rest)) on (phase part s action) p turns
-        (tells_wider (phase part s action) p turns (NowPhase c) (NowPhases (action ∷ rest) m) (AfterPhase c)
-        (AfterPhase c) now_one (λ r said q a. a) (first p turns from))
+        (tells_wider (phase part s action) p turns (NowPhase c) (NowPhases (action ∷ rest) m) (AfterPhase c) now_one
+        (first p turns from))
       where
         on : (at : Standing) (said : List Saying) (q : Programmer) (fs : List Turn) → AfterPhase c at said q
             → Tells (unless_fault (phases part s rest) at) q fs (λ x. NowPhases (action ∷ rest) m (said ++ x))
             (λ b x z. AfterPhases (action ∷ rest) m b (said ++ x) z)
         on Fine said q fs (is, (fine, settled)) =
-            tells_wider (phases part s rest) q fs (NowPhases rest c.memories)
-            (λ x. NowPhases (action ∷ rest) m (said ++ x)) (AfterPhases rest c.memories)
-            (λ b x z. AfterPhases (action ∷ rest) m b (said ++ x) z)
-            (now_behind said is fine) (after_behind said is fine) (more q fs settled)
+            let t = more q fs settled in
+            let next = phases part s rest in record {
+              now = λ k. now_behind said is fine (said_along device k next q fs) (t.now k);
+              after = λ k at e. after_behind said is fine at (said_along device k next q fs)
+                  (along device k next q fs).programmer (t.after k at e);
+            }
         on Faulty said q fs failed =
             let left = failed_end Faulty said refl failed in
             tells_done Faulty q fs (λ x. NowPhases (action ∷ rest) m (said ++ x))
@@ -556,9 +556,8 @@ module _ (plan : Plan) (sound : IsPart plan.part) where
         (closing_goes (Idle part w.memories) (leave_fits part w.memories) q (settled_idle part w.memories q settled))
         (inr (inl (all_done (said ++ []) (append-nil said ∙ is) fine))) each
       where
-        each : (r : Result ⊤ HostFault) (z : Programmer) → Idle part w.memories z × IsClosed r
-            → IsForetold plan m (said ++ closed_says s.quiet part r)
-            × AfterEnd (standing r) (said ++ closed_says s.quiet part r) z
+        each : SaysEach (λ r z. Idle part w.memories z × IsClosed r) (closed_says s.quiet part)
+            (λ x. IsForetold plan m (said ++ x)) (λ b x z. AfterEnd b (said ++ x) z)
         each r z (idle, inl ok) =
             let all : said ++ closed_says s.quiet part (Ok tt) ≡ (course plan m).says =
             ap (λ xs. xs ++ closed_says s.quiet part (Ok tt)) is ∙ sym (ap (λ t. w.says ++ ending_says plan t) fine) in
@@ -609,8 +608,7 @@ module _ (plan : Plan) (sound : IsPart plan.part) where
         tells_bind (IsForetold plan m) (AfterPhases (actions plan) m) AfterEnd (ending part s) ending_tells
         (phases part s (actions plan)) p turns
         (tells_wider (phases part s (actions plan)) p turns (NowPhases (actions plan) m) (IsForetold plan m)
-        (AfterPhases (actions plan) m) (AfterPhases (actions plan) m) working_now (λ r said q a. a)
-        (phases_tell p turns idle))
+        (AfterPhases (actions plan) m) working_now (phases_tell p turns idle))
 
     -- with a status: as foretold, and with status 0 the memories are its course's
     abbrev AfterAll : ℕ → List Saying → Programmer → Type 0

@@ -8,8 +8,8 @@ use Rattle.avr_desk.specs.declared.desk.DeskFault.TheVariants.{NotFound, Failed}
 use Rattle.avr_desk.specs.declared.stream.Stream.TheVariants.{File, Messages}
 use Rattle.stk_host.specs.Dialog.{sayings}
 use Rattle.avr_desk.specs.Said.{Saying, Line, IsPrefixOf, IsPrinted, Tells, after_all}
-use Rattle.avr_desk.proofs.Stages.Sayings.{kept_append, kept_none}
-use Rattle.avr_desk.proofs.Lines.Told.{failure_since, failure_told, follows_here, follows_on, same_here, same_on, unsaid_since}
+use Rattle.avr_desk.proofs.Stages.Sayings.{kept_append}
+use Rattle.avr_desk.proofs.Lines.Told.{failure_since, failure_told, follows_on, same_on, unsaid_since}
 use Rattle.avr_session.specs.Runs.{cause_line, Cause, OfSending, OfListening, OfFile, OfPrinting, OfMemory, FileTrouble, SaysPrefix, SaidSome, SaysOrStops, Reports, PrintStops, FileStops, DeskStops}
 use Rattle.avr_session.specs.declared.standing.Stopped.{Stopped}
 use Rattle.avr_session.specs.Concluding.{stopped_of}

@@ -11,7 +11,7 @@ use Rattle.avr_session.specs.Stopping.{IsSound, LacksMemory, keeping}
 use Rattle.avr_session.proofs.Runs.SoundDevices.{broke_lacks}
 use Rattle.stk_host.specs.Dialog.{Event}
 use Rattle.stk_emu.specs.Wire.{turns_of}
-use Rattle.stk_emu.specs.Effect.{erase_keeps_eeprom, memories_of}
+use Rattle.stk_emu.specs.Effect.{Memories, erase_keeps_eeprom, memories_of}
 use Rattle.stk_lines.specs.Few.{AreFew}
 use Rattle.stk_emu.specs.Programmer.{Programmer}
 use Rattle.stk_emu.specs.Settled.{FitsPart}
@@ -51,6 +51,16 @@ module _ (plan : Plan) (w v : WiredState) (d e : Record) (a b : ℕ × ℕ) (sta
         | inr stopped ↦ absurd (goes_on stopped)
       ]
 
+-- the same plan over what any first strokes of it left
+done_further : (plan : Plan) (before begun after : Memories) → IsPart plan.part → All (IsFitted plan.part) plan.tasks
+    → FitsPart plan.part before → has_erase (items plan) ≡ true → AgreesAnyway plan
+    → (erase_keeps_eeprom plan.part before ≡ true → AreKeeping plan.part (items plan))
+    → IsTouched plan before begun → IsDone plan begun after → IsDone plan before after
+done_further plan before begun after sound fitted fits erases both kept touched done = record {
+  memories = done_again plan before begun after sound fitted fits (λ _. kept) touched done;
+  agrees = agrees_anyway plan before fits erases both;
+}
+
 pub further_heals : (plan : Plan) (w v x y : WiredState) (d e f g : DeskView) (status further : ℕ)
     → IsPart plan.part → All (IsFitted plan.part) plan.tasks → FitsPart plan.part (memories w)
     → has_erase (items plan) ≡ true → AgreesAnyway plan
@@ -59,16 +69,11 @@ pub further_heals : (plan : Plan) (w v x y : WiredState) (d e f g : DeskView) (s
     → memories x ≡ memories v → AreFew (turns_of x.wire.fates) → OverAnyLine plan x y f g further
     → ((further ≡ 0) × IsDone plan (memories w) (memories y)) ⊎ Stopped plan x y f g
 further_heals plan w v x y d e f g status further sound fitted fits erases both kept first same few second =
-    let touched : IsTouched plan (memories w) (memories x) =
-    record { count = first.strokes.count; memories = same ∙ first.strokes.memories } in
     elim (second.again few erases both) [
       | inl zero ↦ inl (
         zero,
-        record {
-          memories = done_again plan (memories w) (memories x) (memories y) sound fitted fits (λ _. kept) touched
-              (second.done zero);
-          agrees = agrees_anyway plan (memories w) fits erases both;
-        },
+        done_further plan (memories w) (memories x) (memories y) sound fitted fits erases both kept
+            (record { count = first.strokes.count; memories = same ∙ first.strokes.memories }) (second.done zero),
       )
       | inr stopped ↦ inr stopped
     ]
@@ -84,13 +89,8 @@ pub further_heals_link : (plan : Plan) (p q x y : Programmer) (turns more : List
     → (further ≡ 0) × IsDone plan (memories_of p.chip) (memories_of y.chip)
 further_heals_link plan p q x y turns more bytes others says events further sound fitted fits erases both kept first
     same few second =
-    let touched : IsTouched plan (memories_of p.chip) (memories_of x.chip) =
-    record { count = first.strokes.count; memories = same ∙ first.strokes.memories } in
     let zero = second.again few erases both in (
       zero,
-      record {
-        memories = done_again plan (memories_of p.chip) (memories_of x.chip) (memories_of y.chip) sound fitted fits
-            (λ _. kept) touched (second.done zero);
-        agrees = agrees_anyway plan (memories_of p.chip) fits erases both;
-      },
+      done_further plan (memories_of p.chip) (memories_of x.chip) (memories_of y.chip) sound fitted fits erases both
+          kept (record { count = first.strokes.count; memories = same ∙ first.strokes.memories }) (second.done zero),
     )

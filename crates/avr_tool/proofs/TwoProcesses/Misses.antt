@@ -42,9 +42,12 @@ few_of Post zero (Ask bytes go_on) f = f
 few_of Post (suc k) (Ask bytes go_on) f =
     (λ body. few_of Post 8 (go_on (Answered body)) (f.0 body), few_of Post k (go_on Silent) f.1)
 
+-- what follows misses few, whatever comes before it
+abbrev GoesOn : {E A B : Type 0} → (ℕ → A → Type 0) → (ℕ → B → Type 0) → (A → Dialog E B) → Type 0
+GoesOn {E} {A} Post After go_on = (j : ℕ) (a : A) → Post j a → Misses After j (go_on a)
+
 bind : {E A B : Type 0} (Post : ℕ → A → Type 0) (After : ℕ → B → Type 0) (k : ℕ) (d : Dialog E A)
-    (go_on : A → Dialog E B) → Misses Post k d
-    → ((j : ℕ) (a : A) → Post j a → Misses After j (go_on a)) → Misses After k (d >>= go_on)
+    (go_on : A → Dialog E B) → Misses Post k d → GoesOn Post After go_on → Misses After k (d >>= go_on)
 bind Post After k (Done a) go_on f g = g k a f
 bind Post After k (Say e d) go_on f g = bind Post After k d go_on f g
 bind Post After zero (Ask bytes answered) go_on f g = absurd f

@@ -229,23 +229,23 @@ host_plays (Ask bytes go_on) n p asks =
     }
 
 -- a dialog in turn, as one that it goes on as
-turns_behind : {E R : Type 0} (d e : Dialog E R) (n k : ℕ) (prefix : Tape) (events : List (Event E))
-    → ((tape : Tape) → played d n (prefix ++ tape) ≡ behind events (played e k tape))
-    → (talk : Talk) (tape : Tape) (bytes : List ℕ) → TurnsFrom e k tape bytes talk
-    → TurnsFrom d n (prefix ++ tape) (bytes_sent events ++ bytes) talk
-turns_behind d e n k prefix events is [] tape bytes turns = tt
-turns_behind d e n k prefix events is (Sent more ∷ talk) tape bytes turns =
-    subst (λ bs. TurnsFrom d n (prefix ++ tape) bs talk) (sym (append_assoc (bytes_sent events) bytes more))
-    (turns_behind d e n k prefix events is talk tape (bytes ++ more) turns)
-turns_behind d e n k prefix events is (Got items ∷ talk) tape bytes turns = (
-  record {
-    waits = ap (λ p. p.outcome) (is tape) ∙ turns.0.waits;
-    all_sent = ap (λ p. bytes_sent p.events) (is tape) ∙ bytes_append events (played e k tape).events
-        ∙ ap (λ bs. bytes_sent events ++ bs) turns.0.all_sent;
-  },
-  subst (λ t. TurnsFrom d n t (bytes_sent events ++ bytes) talk) (sym (append_assoc prefix tape items))
-      (turns_behind d e n k prefix events is talk (tape ++ items) bytes turns.1),
-)
+module _ {E R : Type 0} (d e : Dialog E R) (n k : ℕ) (prefix : Tape) (events : List (Event E))
+    (goes : (tape : Tape) → played d n (prefix ++ tape) ≡ behind events (played e k tape)) where
+  turns_behind : (talk : Talk) (tape : Tape) (bytes : List ℕ) → TurnsFrom e k tape bytes talk
+      → TurnsFrom d n (prefix ++ tape) (bytes_sent events ++ bytes) talk
+  turns_behind [] tape bytes turns = tt
+  turns_behind (Sent more ∷ talk) tape bytes turns =
+      subst (λ bs. TurnsFrom d n (prefix ++ tape) bs talk) (sym (append_assoc (bytes_sent events) bytes more))
+      (turns_behind talk tape (bytes ++ more) turns)
+  turns_behind (Got items ∷ talk) tape bytes turns = (
+    record {
+      waits = ap (λ p. p.outcome) (goes tape) ∙ turns.0.waits;
+      all_sent = ap (λ p. bytes_sent p.events) (goes tape) ∙ bytes_append events (played e k tape).events
+          ∙ ap (λ bs. bytes_sent events ++ bs) turns.0.all_sent;
+    },
+    subst (λ t. TurnsFrom d n t (bytes_sent events ++ bytes) talk) (sym (append_assoc prefix tape items))
+        (turns_behind talk (tape ++ items) bytes turns.1),
+  )
 
 pub host_in_turn : {E R : Type 0} (d : Dialog E R) (n : ℕ) (p : Programmer) → AsksBodies d
     → TurnsFrom d n [] [] (of_host (calls_of d n p))

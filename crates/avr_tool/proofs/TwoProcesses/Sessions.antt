@@ -199,60 +199,6 @@ module _ (plan : Plan) (s : chips.ChipState) (is_sound : IsSoundChip s) (part_is
       (on_tape after.unread ++ [])
       events status after.next over plays.all_sent)
 
-  -- THE TWO PROCESSES
-  pub one_run : (calls : List Call) (old new : Devices) (server_old server_new : Sides) (file : Bytes)
-      (most status served_status : ℕ) (after : Position) → IsOrdered calls
-      → StallsBetweenAnswers (heard (of_host calls))
-      → old.link.talk ≡ [] → new.link.talk ≡ of_host calls → server_old.link.talk ≡ []
-      → server_new.link.talk ≡ of_server calls
-      → (ran : Ran (session plan) start old new status after)
-      → (serves : ServesChip s file most server_old server_new served_status)
-      → (served : HasServed (fresh_programmer s) (of_server calls) serves.left.programmer)
-      × OverAnyLink plan (fresh_programmer s) serves.left.programmer
-      (turns_heard (session plan) 1 (heard (of_host calls)) (obeyed (length (frames served.used))))
-      (sent (of_host calls)) ran.events status
-  one_run calls old new server_old server_new file most status served_status after ordered stalls host_old host_new
-      server_none server_some ran serves =
-      let host_is : ran.during ≡ of_host calls =
-      since_none old.link.talk new.link.talk ran.during (of_host calls) host_old host_new ran.grows in
-      let server_is : serves.serves.during ≡ of_server calls =
-      since_none server_old.link.talk server_new.link.talk serves.serves.during (of_server calls) server_none
-      server_some serves.serves.grows in
-      let plays : Plays (session plan) start (of_host calls) ran.events status after =
-      subst (λ t. Plays (session plan) start t ran.events status after) host_is ran.plays in
-      let served : HasServed (fresh_programmer s) (of_server calls) serves.left.programmer =
-      subst (λ t. HasServed (fresh_programmer s) t serves.left.programmer) server_is
-      (has_served serves.served (fresh_programmer s) serves.serves.during serves.left serves.leaves) in (
-        served,
-        whole (of_host calls) (of_server calls) ordered.endless stalls ran.events status after plays
-            serves.left.programmer served (ordered.joined calls [] (sym (append-nil calls))),
-      )
-
-  -- and over a line that is never silent
-  pub one_course : (calls : List Call) (old new : Devices) (server_old server_new : Sides) (file : Bytes)
-      (most status served_status : ℕ) (after : Position) → IsOrdered calls → IsPrompt (heard (of_host calls))
-      → old.link.talk ≡ [] → new.link.talk ≡ of_host calls → server_old.link.talk ≡ []
-      → server_new.link.talk ≡ of_server calls
-      → (ran : Ran (session plan) start old new status after)
-      → (serves : ServesChip s file most server_old server_new served_status)
-      → (status ≡ (course plan (memories_of s)).status) × (sayings ran.events ≡ (course plan (memories_of s)).says)
-      × (memories_of serves.left.programmer.chip ≡ (course plan (memories_of s)).memories)
-  one_course calls old new server_old server_new file most status served_status after ordered prompt host_old host_new
-      server_none server_some ran serves =
-      let host_is : ran.during ≡ of_host calls =
-      since_none old.link.talk new.link.talk ran.during (of_host calls) host_old host_new ran.grows in
-      let server_is : serves.serves.during ≡ of_server calls =
-      since_none server_old.link.talk server_new.link.talk serves.serves.during (of_server calls) server_none
-      server_some serves.serves.grows in
-      let plays : Plays (session plan) start (of_host calls) ran.events status after =
-      subst (λ t. Plays (session plan) start t ran.events status after) host_is ran.plays in
-      let served : HasServed (fresh_programmer s) (of_server calls) serves.left.programmer =
-      subst (λ t. HasServed (fresh_programmer s) t serves.left.programmer) server_is
-      (has_served serves.served (fresh_programmer s) serves.serves.during serves.left serves.leaves) in
-      course_of (of_host calls) (of_server calls) ordered.endless (prompt_stalls (heard (of_host calls)) prompt)
-      ran.events status after plays serves.left.programmer served (ordered.joined calls [] (sym (append-nil calls)))
-      prompt
-
   -- whatever becomes of both
   module _ (calls : List Call) (ordered : IsOrdered calls) (stalls : StallsBetweenAnswers (heard (of_host calls)))
       (left : Programmer) (serves : HasServed (fresh_programmer s) (of_server calls) left) where
@@ -285,22 +231,66 @@ module _ (plan : Plan) (s : chips.ChipState) (is_sound : IsSoundChip s) (part_is
         after_any b.during (since_none old.link.talk new.link.talk b.during (of_host calls) host_old host_new b.grows)
         (prefix.0, ap (λ bs. bs ++ prefix.0) (sym b.breaks.all_sent) ∙ prefix.1)
 
-  pub any_run : (calls : List Call) (old new : Devices) (server_old server_new : Sides) (file : Bytes)
-      (most status served_status : ℕ) → IsOrdered calls → StallsBetweenAnswers (heard (of_host calls))
-      → old.link.talk ≡ [] → new.link.talk ≡ of_host calls → server_old.link.talk ≡ []
-      → server_new.link.talk ≡ of_server calls
-      → RunsSession plan old new status → (serves : ServesChip s file most server_old server_new served_status)
-      → (served : HasServed (fresh_programmer s) (of_server calls) serves.left.programmer)
-      × OverAnyEnd plan (fresh_programmer s) serves.left.programmer
-      (turns_heard (session plan) 1 (heard (of_host calls)) (obeyed (length (frames served.used))))
-      (sent (of_host calls))
-      (sayings (played (session plan) 1 (heard (of_host calls))).events)
-  any_run calls old new server_old server_new file most status served_status ordered stalls host_old host_new
-      server_none server_some runs serves =
-      let server_is : serves.serves.during ≡ of_server calls =
-      since_none server_old.link.talk server_new.link.talk serves.serves.during (of_server calls) server_none
-      server_some serves.serves.grows in
-      let served : HasServed (fresh_programmer s) (of_server calls) serves.left.programmer =
-      subst (λ t. HasServed (fresh_programmer s) t serves.left.programmer) server_is
-      (has_served serves.served (fresh_programmer s) serves.serves.during serves.left serves.leaves) in
-      (served, after_run calls ordered stalls serves.left.programmer served old new status host_old host_new runs)
+  -- THE TWO PROCESSES, from these devices to those
+  module _ (calls : List Call) (old new : Devices) (server_old server_new : Sides) (file : Bytes)
+      (most status served_status : ℕ) where
+    -- what passed since nothing had passed is all of it, at the server's end and at the host's
+    served_all : server_old.link.talk ≡ [] → server_new.link.talk ≡ of_server calls
+        → (serves : ServesChip s file most server_old server_new served_status)
+        → HasServed (fresh_programmer s) (of_server calls) serves.left.programmer
+    served_all none some serves =
+        subst (λ t. HasServed (fresh_programmer s) t serves.left.programmer)
+        (since_none server_old.link.talk server_new.link.talk serves.serves.during (of_server calls) none some
+        serves.serves.grows)
+        (has_served serves.served (fresh_programmer s) serves.serves.during serves.left serves.leaves)
+
+    played_all : (after : Position) → old.link.talk ≡ [] → new.link.talk ≡ of_host calls
+        → (ran : Ran (session plan) start old new status after)
+        → Plays (session plan) start (of_host calls) ran.events status after
+    played_all after none some ran =
+        subst (λ t. Plays (session plan) start t ran.events status after)
+        (since_none old.link.talk new.link.talk ran.during (of_host calls) none some ran.grows) ran.plays
+
+    pub one_run : (after : Position) → IsOrdered calls → StallsBetweenAnswers (heard (of_host calls))
+        → old.link.talk ≡ [] → new.link.talk ≡ of_host calls → server_old.link.talk ≡ []
+        → server_new.link.talk ≡ of_server calls
+        → (ran : Ran (session plan) start old new status after)
+        → (serves : ServesChip s file most server_old server_new served_status)
+        → (served : HasServed (fresh_programmer s) (of_server calls) serves.left.programmer)
+        × OverAnyLink plan (fresh_programmer s) serves.left.programmer
+        (turns_heard (session plan) 1 (heard (of_host calls)) (obeyed (length (frames served.used))))
+        (sent (of_host calls)) ran.events status
+    one_run after ordered stalls host_old host_new server_none server_some ran serves =
+        let served = served_all server_none server_some serves in (
+          served,
+          whole (of_host calls) (of_server calls) ordered.endless stalls ran.events status after
+              (played_all after host_old host_new ran) serves.left.programmer served
+              (ordered.joined calls [] (sym (append-nil calls))),
+        )
+
+    -- and over a line that is never silent
+    pub one_course : (after : Position) → IsOrdered calls → IsPrompt (heard (of_host calls))
+        → old.link.talk ≡ [] → new.link.talk ≡ of_host calls → server_old.link.talk ≡ []
+        → server_new.link.talk ≡ of_server calls
+        → (ran : Ran (session plan) start old new status after)
+        → (serves : ServesChip s file most server_old server_new served_status)
+        → (status ≡ (course plan (memories_of s)).status) × (sayings ran.events ≡ (course plan (memories_of s)).says)
+        × (memories_of serves.left.programmer.chip ≡ (course plan (memories_of s)).memories)
+    one_course after ordered prompt host_old host_new server_none server_some ran serves =
+        course_of (of_host calls) (of_server calls) ordered.endless (prompt_stalls (heard (of_host calls)) prompt)
+        ran.events status after (played_all after host_old host_new ran) serves.left.programmer
+        (served_all server_none server_some serves) (ordered.joined calls [] (sym (append-nil calls))) prompt
+
+    -- and however both end
+    pub any_run : IsOrdered calls → StallsBetweenAnswers (heard (of_host calls))
+        → old.link.talk ≡ [] → new.link.talk ≡ of_host calls → server_old.link.talk ≡ []
+        → server_new.link.talk ≡ of_server calls
+        → RunsSession plan old new status → (serves : ServesChip s file most server_old server_new served_status)
+        → (served : HasServed (fresh_programmer s) (of_server calls) serves.left.programmer)
+        × OverAnyEnd plan (fresh_programmer s) serves.left.programmer
+        (turns_heard (session plan) 1 (heard (of_host calls)) (obeyed (length (frames served.used))))
+        (sent (of_host calls))
+        (sayings (played (session plan) 1 (heard (of_host calls))).events)
+    any_run ordered stalls host_old host_new server_none server_some runs serves =
+        let served = served_all server_none server_some serves in
+        (served, after_run calls ordered stalls serves.left.programmer served old new status host_old host_new runs)

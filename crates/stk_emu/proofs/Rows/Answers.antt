@@ -10,9 +10,17 @@ use Rattle.stk_host.specs.Tape.{Tape, on_tape}
 use Rattle.stk_emu.specs.Programmer.{Programmer, fresh_programmer, restarted_programmer, obey}
 use Rattle.stk_emu.specs.Emulator.{emulate}
 use Rattle.stk_emu.specs.declared.fate.Fate.{Fate}
+use Rattle.stk_emu.specs.declared.fate.TheConstants.{LARGEST_NOISE}
+use Rattle.stk_emu.specs.declared.programmer.TheConstants.{LARGEST_READ}
+use Rattle.stk_emu.specs.declared.segment.TheConstants.{ROOM}
 use Rattle.stk_emu.specs.declared.fate.Fate.TheVariants.{Good, LostAnswer, LateAnswer, HeldAnswer, Reset}
 use Rattle.stk_emu.specs.Device.{device}
 use Rattle.stk_emu.specs.Wire.{fresh_wire, tape_of}
+
+-- the most bytes that a request reads, the most noise that a line has at a time, and the room for all that one frame
+-- can bring: three late answers, noise, and a silence
+pub limits : (LARGEST_READ ≡ 272) × (LARGEST_NOISE ≡ 2048) × (ROOM ≡ 2892)
+limits = (refl, refl, refl)
 
 abbrev pub small : Part
 small = record {

@@ -6,6 +6,7 @@ use Rattle.avr_part.specs.BuiltIn.{m328p, m2560}
 use Rattle.stk_frame.specs.Frame.{frame}
 use Rattle.stk_frame.specs.Commands.{body}
 use Rattle.stk_frame.specs.HostCommands.{program_page, program_eeprom_block, read_eeprom_block}
+use Rattle.stk_host.specs.declared.places.TheConstants.{NARROW_FLASH}
 use Rattle.stk_host.specs.declared.fault.HostFault.TheVariants.{Differs, Refused, ReadOnly}
 use Rattle.stk_host.specs.Tape.{answer, on_tape}
 use Rattle.stk_host.specs.Dialog.{Done, Frame, played}
@@ -14,6 +15,10 @@ use Rattle.stk_host.specs.WriteSteps.{write_steps}
 use Rattle.stk_host.specs.ReadSteps.{read_steps}
 use Rattle.stk_host.specs.Steps.{exchange, attempt, tries, play}
 use Rattle.stk_host.specs.Operations.{operation, writing, verifying}
+
+-- up to 128 KiB of flash sixteen bits number each word
+pub narrow_flash : NARROW_FLASH ≡ 131072
+narrow_flash = refl
 
 -- an address of flash counts words, and has bit 31 for a large part alone
 pub loads_first_word : frame 2 (body (load_flash m328p 0))

@@ -5,9 +5,9 @@ use Rattle.avr_cli.specs.Command.{avrstk}
 use Rattle.avr_cli.proofs.ParsedCommands.{is_simple-avrstk, is_free-avrstk, rows_given}
 use Rattle.avr_cli.proofs.command.read_words.Goals as goal
 
-pub returns-in-Ok : goal.returns-in-Ok
-returns-in-Ok c =
-    let is = c.in-Ok.ensures.app in
+pub returns : goal.returns
+returns c =
+    let is = c.in_ok-make_command.ensures.app in
     let words : List (List ℕ) = map string_bytes c.args.words.now in
     let parse = c.try_get_matches_from in
     record {
