@@ -425,6 +425,25 @@ def signals():
         it.end()
 
 
+def cut_lines():
+    """A line of avrstk that a signal cuts has an end before the script's own."""
+    room.clear()
+    halts = room.folder / "halts"
+    halts.write_text("#!/bin/sh\nprintf 'avrstk: error: ' >&2\n: >told\nexec sleep 60\n")
+    halts.chmod(0o700)
+    line, slave = pty.openpty()
+    started = start([*FLASH, "-P", os.ttyname(slave)], env={"AVRSTK": str(halts)})
+    ends = time.monotonic() + PATIENCE
+    while not (room.folder / "told").exists() and time.monotonic() < ends:
+        time.sleep(0.01)
+    started.send_signal(signal.SIGHUP)
+    _, told = started.communicate(timeout=PATIENCE)
+    wanted = ["avrstk: error: ", "avrstk-serial: ended by SIGHUP: nothing was sent: the chip is as it was"]
+    same("a line that is cut", (started.returncode, told.decode().splitlines()), (1, wanted))
+    os.close(slave)
+    os.close(line)
+
+
 def recipe(begin):
     """The command of docs/USAGE that begins so."""
     found = re.findall(rf"^ {{4,}}({re.escape(begin)}.*)$", (TOP / "docs/USAGE.md").read_text(), re.M)
@@ -533,6 +552,7 @@ CASES = named(
     hints,
     boards_that_fail,
     signals,
+    cut_lines,
     recipe_of_the_script,
     recipe_of_a_plain_bridge,
     recipe_of_ser2net,

@@ -30,7 +30,7 @@ From AVRDUDE: a serial device (-P /dev/ttyACM0 -b 115200) is given to avrstk-ser
 the other words as they are. -C is not here, since there is no configuration; nor -B, since
 the programmer has its own clock; nor -t: use -U. Long names of parts (atmega328p), and more
 parts, stand in share/avrstk/classic.toml, for --parts. A value in a file's place has :m
-behind it. The manual is man avrstk. This is avrstk 0.9.0.";
+after it. The manual is man avrstk. This is avrstk 0.9.0.";
 
 /// An option of one letter, with a value.
 fn value<'a>(alloc: Global, id: &'a str, short: char, value_name: &'a str, help: &'a str) -> Arg<'a>

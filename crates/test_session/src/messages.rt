@@ -9,6 +9,9 @@ use std::test::Fail;
 use stk_host::{FailingLink, HostFault, Item, Link, TapeLink};
 use test_data::ANSWERS;
 
+/// An update that only reads.
+const READ: &str = "lfuse:r:low:h";
+
 /// Whether a fault of the settings shows as the line that is printed of it.
 fn shows_as_printed(alloc: Global, fault: &SettingsFault) -> bool {
     let mut desk = MemDesk::new(alloc);
@@ -59,7 +62,7 @@ fn outcome_over<L: Link>(
 }
 
 /// The first bytes of the answers to a session, and then these.
-fn tape(alloc: Global, count: usize, more: &[u8]) -> Result<Vec<Item>, AllocError> {
+fn answers_then(alloc: Global, count: usize, more: &[u8]) -> Result<Vec<Item>, AllocError> {
     let mut items = Vec::new(alloc);
     for byte in ANSWERS.iter().take(count).chain(more) {
         items.push(Item::Byte(*byte))?;
@@ -68,7 +71,12 @@ fn tape(alloc: Global, count: usize, more: &[u8]) -> Result<Vec<Item>, AllocErro
 }
 
 /// Whether a session over these items comes to this fault, and the last line is what it shows.
-fn ends_so(alloc: Global, update: &str, items: Vec<Item>, fault: HostFault) -> Result<bool, Fail> {
+fn ends_with(
+    alloc: Global,
+    update: &str,
+    items: Vec<Item>,
+    fault: HostFault,
+) -> Result<bool, Fail> {
     let mut desk = MemDesk::new(alloc);
     let mut link = TapeLink::new(alloc, items, 281);
     let outcome = outcome_over(alloc, update, &mut desk, &mut link)?;
@@ -77,34 +85,55 @@ fn ends_so(alloc: Global, update: &str, items: Vec<Item>, fault: HostFault) -> R
 }
 
 /// Whether a session stops where this call of the link fails, and the last line is what this fault shows.
-fn stops_so(alloc: Global, call: u64, fault: HostFault) -> Result<bool, Fail> {
+fn stops_with(alloc: Global, call: u64, fault: HostFault) -> Result<bool, Fail> {
     let mut desk = MemDesk::new(alloc);
-    let mut link = FailingLink::new(TapeLink::new(alloc, tape(alloc, 63, &[])?, 281), call, 281);
-    let outcome = outcome_over(alloc, "lfuse:r:low:h", &mut desk, &mut link)?;
+    let tape = TapeLink::new(alloc, answers_then(alloc, 63, &[])?, 281);
+    let mut link = FailingLink::new(tape, call, 281);
+    let outcome = outcome_over(alloc, READ, &mut desk, &mut link)?;
     let line = format!(in alloc; "avrstk: error: {fault}\n")?;
     Ok(outcome == Some(Outcome::Stopped) && desk.messages().ends_with(line.as_bytes()))
 }
 
-/// All faults but those of which no line is printed so: a read-only memory is refused before any frame, and memory
-/// isn't.
+// The faults of hosts follow, but for those of which no line is printed so: a read-only memory is refused before any
+// frame, and memory isn't. Each test has few of them, since its proof grows faster than their number.
+
 #[test]
-fn faults_of_hosts_show_as_their_lines(rt: HostRuntime) -> Result<(), Fail> {
+fn faults_of_the_line_show_as_their_lines(rt: HostRuntime) -> Result<(), Fail> {
     let alloc = rt.alloc();
-    let read = "lfuse:r:low:h";
     let silent = vec![in alloc; Item::Silence; 8]?;
-    assert!(rt; ends_so(alloc, read, silent, HostFault::NoAnswer)?);
-    assert!(rt; ends_so(alloc, read, tape(alloc, 17, &[])?, HostFault::LinkEnded)?);
+    assert!(rt; ends_with(alloc, READ, silent, HostFault::NoAnswer)?);
+    let cut = answers_then(alloc, 17, &[])?;
+    assert!(rt; ends_with(alloc, READ, cut, HostFault::LinkEnded)?);
     let babble = vec![in alloc; Item::Byte(0); 16_384]?;
-    assert!(rt; ends_so(alloc, read, babble, HostFault::Babble)?);
-    let refused = tape(alloc, 17, &[0x1B, 0x02, 0x00, 0x02, 0x0E, 0x10, 0xC0, 0xC5])?;
-    assert!(rt; ends_so(alloc, read, refused, HostFault::Refused(0x10, 0xC0))?);
-    let other = tape(alloc, 17, &[0x1B, 0x02, 0x00, 0x02, 0x0E, 0x11, 0x00, 0x04])?;
-    assert!(rt; ends_so(alloc, read, other, HostFault::BadAnswer(0x10))?);
+    assert!(rt; ends_with(alloc, READ, babble, HostFault::Babble)?);
+    Ok(())
+}
+
+#[test]
+fn failed_calls_show_as_their_lines(rt: HostRuntime) -> Result<(), Fail> {
+    let alloc = rt.alloc();
+    assert!(rt; stops_with(alloc, 1, HostFault::SendFailed)?);
+    assert!(rt; stops_with(alloc, 2, HostFault::RecvFailed)?);
+    Ok(())
+}
+
+#[test]
+fn faults_of_answers_show_as_their_lines(rt: HostRuntime) -> Result<(), Fail> {
+    let alloc = rt.alloc();
+    let refused = answers_then(alloc, 17, &[0x1B, 0x02, 0x00, 0x02, 0x0E, 0x10, 0xC0, 0xC5])?;
+    assert!(rt; ends_with(alloc, READ, refused, HostFault::Refused(0x10, 0xC0))?);
+    let other = answers_then(alloc, 17, &[0x1B, 0x02, 0x00, 0x02, 0x0E, 0x11, 0x00, 0x04])?;
+    assert!(rt; ends_with(alloc, READ, other, HostFault::BadAnswer(0x10))?);
+    Ok(())
+}
+
+#[test]
+fn another_byte_shows_as_its_line(rt: HostRuntime) -> Result<(), Fail> {
+    let alloc = rt.alloc();
     let fuse = [0x1B, 0x06, 0x00, 0x04, 0x0E, 0x18, 0x00, 0x62, 0x00, 0x6D];
-    let differs = HostFault::Differs(Mem::Lfuse, 0, 0xE2, 0x62);
-    assert!(rt; ends_so(alloc, "lfuse:v:0xE2:m", tape(alloc, 55, &fuse)?, differs)?);
-    assert!(rt; stops_so(alloc, 1, HostFault::SendFailed)?);
-    assert!(rt; stops_so(alloc, 2, HostFault::RecvFailed)?);
+    let items = answers_then(alloc, 55, &fuse)?;
+    let fault = HostFault::Differs(Mem::Lfuse, 0, 0xE2, 0x62);
+    assert!(rt; ends_with(alloc, "lfuse:v:0xE2:m", items, fault)?);
     Ok(())
 }
 
@@ -116,8 +145,8 @@ fn another_signature_shows_as_its_line(rt: HostRuntime) -> Result<(), Fail> {
     answers[52] = 0x14;
     answers[54] = 0x1B;
     let mut desk = MemDesk::new(alloc);
-    let mut link = TapeLink::new(alloc, tape(alloc, 0, &answers)?, 281);
-    let outcome = outcome_over(alloc, "lfuse:r:low:h", &mut desk, &mut link)?;
+    let mut link = TapeLink::new(alloc, answers_then(alloc, 0, &answers)?, 281);
+    let outcome = outcome_over(alloc, READ, &mut desk, &mut link)?;
     let fault = HostFault::WrongSignature([0x1E, 0x95, 0x14]);
     assert!(rt; outcome == Some(Outcome::Faulty(fault)));
     let line = format!(in alloc; "avrstk: error: {fault}, m328p has 1E 95 0F\n")?;
