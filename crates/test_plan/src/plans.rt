@@ -1,4 +1,5 @@
-//! Every line of a plan brought about once, in the words that its fault shows, and what a plan holds.
+//! Every line of a plan brought about once, those of files and values beside what their faults show, and what a plan
+//! holds.
 use avr_cli::{Format, Op, Port, Settings, Switches, Text, Update, Updates};
 use avr_desk::{FailingDesk, FileFault, MemDesk};
 use avr_image::ImageFault;

@@ -1,4 +1,4 @@
-//! Faults show in the words of the lines that are printed of them.
+//! Faults show in the words of the lines that are printed of them. A port's doesn't: its line names the port.
 use avr_cli::{Settings, SettingsFault, Text, UpdateFault, read_settings, read_words};
 use avr_desk::MemDesk;
 use avr_part::Mem;
