@@ -47,7 +47,7 @@ MOST_FAILURES = 20
 
 # what rt says of a wrong body that it refuses, and the kinds of it, the first that fits: rt cuts a line after its
 # 160th character, so also in the middle of these words
-REFUSED = re.compile(r"(?:rt: )?must-fail (\S+): refused, as it must be(.*)")
+REFUSED = re.compile(r"(?:rt: )?must-fail \S+: refused, as it must be(.*)")
 REFUSALS = {
     "contradicted by values": re.compile(r"; the f"),
     "only by a limit": re.compile(r" \(only by a limit"),
@@ -55,8 +55,6 @@ REFUSALS = {
     "where the line of rt is cut before it says how": re.compile(r": .{160}$"),
     "where a search found nothing or gave up": re.compile(""),
 }
-# an edit of a definition has no body to be wrong: a row or a law has no proof any more
-DEFINITION = "of a wrong definition, in a proof"
 
 
 @dataclass
@@ -98,16 +96,9 @@ def run(what, command, **more):
 
 def refusals_in(lines):
     """How many wrong bodies were refused in which way, by rt's lines."""
-    return Counter(refusal_of(found[1], found[2]) for found in map(REFUSED.search, lines) if found)
-
-
-def refusal_of(edit, how):
-    """How one wrong body was refused, by its name and the rest of rt's line."""
-    crate, _, name = edit.partition("/")
-    file = TOP / "crates" / crate / "must-fail" / name
-    if file.is_file() and file.read_text().startswith("file: specs/"):
-        return DEFINITION
-    return next(kind for kind, words in REFUSALS.items() if words.search(how))
+    return Counter(
+        next(kind for kind, words in REFUSALS.items() if words.search(found[1])) for found in map(REFUSED.search, lines) if found
+    )
 
 
 def scripts_over(name, program, scripts):
@@ -144,7 +135,7 @@ def summary(done):
             print(f"    {line[:300]}")
     refusals = sum((it.refusals for it in done), Counter())
     if refusals:
-        told = ", ".join(f"{refusals[kind]} {kind}" for kind in (*REFUSALS, DEFINITION) if refusals[kind])
+        told = ", ".join(f"{refusals[kind]} {kind}" for kind in REFUSALS if refusals[kind])
         print(f"wrong bodies: {refusals.total()} refused, of these {told}")
     left = [f"{it.what}: {what}" for it in done for what in it.left]
     print(f"left out, since a tool is not installed: {len(left) or 'nothing'}")
