@@ -29,14 +29,14 @@ PROVED = TOP / "crates/avrstk/out/avrstk"
 
 # the scripts beside this one, and one that counts calls of the system
 SCRIPTS = (
-    *("avrdude", "build", "chips", "claims", "cuts_and_stalls", "examples", "faults", "from_c", "hostile", "lines"),
-    *("made_frames", "manual", "measure", "mega", "others", "parts", "programmer", "runs", "serial", "vendor", "why"),
+    *("avrdude", "build", "chips", "claims", "cuts_and_stalls", "faults", "from_c", "hostile", "lines"),
+    *("made_frames", "manual", "measure", "mega", "others", "parts", "programmer", "rattle", "runs", "serial", "vendor", "why"),
     "calls",
 )
 COMMANDS = {"calls": [TOP / "bench/run.py", "--calls"], "measure": [TOP / "tests/measure.py", "--check"]}
 
 # those that need what rt ci alone leaves, or take long
-PROVED_ONLY = ("cuts_and_stalls", "examples", "faults", "from_c", "mega", "others")
+PROVED_ONLY = ("cuts_and_stalls", "faults", "from_c", "mega", "others")
 
 # what a script says of what it leaves out
 LEFT_OUT = re.compile(r"\s*(?:left out|skipped): (.*)")

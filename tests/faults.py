@@ -2,8 +2,8 @@
 """Lets each call that the built program makes of the system fail in turn: requests for memory, reads, writes, openings, and
 what it asks of sockets.
 
-    tests/faults.py [CASE ..]        needs crates/avrstk/out/avrstk and the tests of two crates, as rt ci leaves them,
-                                     and a C compiler (tests/refuse.c), or all is left out
+    tests/faults.py [CASE ..]        needs crates/avrstk/out/avrstk, as rt ci leaves it, and a C compiler (tests/refuse.c),
+                                     or all is left out
 
 The runs over the emulator begin with a chip that has something to lose, and its file has to be whole, and as it was or
 as the run leaves it: each byte the old one, an erased one, or that of the sound run's end. For every run below and every
@@ -12,8 +12,7 @@ nth and all after it. What was sent and said has to be a front of what the sound
 that fault, with the name of the file that the call was for (a front of it where a message couldn't be written), with
 status 1; or all that the sound run sends and says, with its status, where what was refused wasn't needed. A read or a
 write that a signal breaks off, or that moves one byte alone, and a file that says a failure where it is closed, have to
-change nothing.
-The crates' own devices in memory meet refused growths in their tests, which may fail there, but have to end.
+change nothing. (The program that is not proved asks for memory where this doesn't see it.)
 """
 
 import os
@@ -25,7 +24,7 @@ import time
 from collections import Counter
 from pathlib import Path
 
-from cases import PATIENCE, leave_out, run_cases, same, see
+from cases import leave_out, run_cases, same, see
 from line import BadLine
 from program import ANSWERS, CHIP_FILE, ENDS, FRAMES, TOP, Room, Server
 
@@ -73,10 +72,6 @@ LINES = {
 
 # what is refused
 FAULTS = [*((kind, "fail") for kind in LINES), ("growth", "onwards")]
-
-# the tests that hold devices in memory, by crate and the front of their names: a desk; a tape of answers, and the wire to
-# the emulated programmer
-DEVICES = {"test_library": "desks::", "test_host": ""}
 
 # what has to change nothing
 HARMLESS = [("read", "interrupt"), ("read", "one"), ("write", "interrupt"), ("write", "one"), ("close", "fail")]
@@ -203,32 +198,6 @@ class OverNet(Sweep):
         return super().is_told(kind, how, status, output, messages, None, None) and len(chip or b"") == CHIP_FILE
 
 
-class Tests:
-    """The tests of a crate, in the program that rt ci leaves: devices in memory, whose every growth is refused in turn."""
-
-    def __init__(self, room, shim, crate, front):
-        self.program, self.room, self.shim = TOP / f"crates/{crate}/out/{crate}_tests", room, shim
-        listed = subprocess.run([self.program, "--list"], capture_output=True, text=True, check=True).stdout
-        self.names = [name for name, _, kind in (line.partition(": ") for line in listed.splitlines()) if kind == "test" and name.startswith(front)]
-
-    def through(self, how):
-        """Refuses memory: a test that lacks it may fail, and says so, but none crashes or goes on for ever."""
-        for name in self.names:
-            for number in range(1, 100_000):
-                ended, was_refused = self.done(name, f"growth {number} {how}")
-                told = was_refused and (b"the test failed" in ended.stderr or b"test stopped at" in ended.stdout)
-                good = see(f"{name}: growth {number}, {how}", ended.returncode == 0 or told, ended)
-                if not was_refused or not good:
-                    break
-
-    def done(self, name, refused):
-        """One test with a refusal, and whether that came."""
-        self.room.clear()
-        environment = os.environ | {"LD_PRELOAD": str(self.shim), "REFUSE": refused, "REFUSED": "refused"}
-        how = {"stdin": subprocess.DEVNULL, "capture_output": True, "cwd": self.room.folder, "timeout": PATIENCE}
-        return subprocess.run([self.program, name], env=environment, **how), self.room.read("refused") is not None
-
-
 def is_on_its_way(old, chip, end):
     """Whether a chip is whole and as a run leaves it that was broken off: each byte is the old one, an erased one, or
     that of the run's end."""
@@ -269,7 +238,7 @@ def while_serving(room, shim, label):
 
 
 def cases_of(room, shim):
-    """The cases by their names: the runs, and the tests of two crates."""
+    """The cases by their names."""
     cases = {label: lambda label=label, it=it: swept(Sweep(room, shim, label, *it), ALL) for label, it in RUNS.items()}
     for label, (words, status) in REFUSED.items():
         cases[label] = lambda it=(label, words, b"", status): swept(Sweep(room, shim, *it), ALL)
@@ -278,9 +247,6 @@ def cases_of(room, shim):
         ("a session served at a port", while_serving),
     ]:
         cases[label] = lambda label=label, look=look: look(room, shim, label)
-    for crate, front in DEVICES.items():
-        for how in ["fail", "onwards"]:
-            cases[f"the tests of {crate}, {how}"] = lambda it=(crate, front), how=how: Tests(room, shim, *it).through(how)
     return cases
 
 

@@ -1,13 +1,10 @@
 #!/usr/bin/env python3
-"""Takes crates into other repositories by tools/vendor.sh, and builds a crate there that stands on them; `proof` proves
-it too, which takes minutes where nothing of it was proved on this machine.
+"""Takes crates into other repositories by tools/vendor.sh, and builds a crate there that stands on them; `proof`, where
+it is named, proves it too, which takes minutes where rt ci has not proved the same files on this machine.
 
     tests/vendor.py [CASE ..]
-
-`proof` is run where it is named, and over the proved program (`tests/all.py proved`).
 """
 
-import os
 import shutil
 import subprocess
 import sys
@@ -18,7 +15,6 @@ from pathlib import Path
 from cases import named, run_cases, same, see
 
 TOP = Path(__file__).resolve().parent.parent
-PROVED = TOP / "crates/avrstk/out/avrstk"
 PARTS = ("src", "specs", "proofs", "README.md")
 FOREIGN = "serial_patch"
 
@@ -117,7 +113,8 @@ def foreign():
         shutil.copytree(TOP / "crates" / FOREIGN, top / "crates" / FOREIGN, ignore=left)
         with (top / "crates.txt").open("a") as lines:
             lines.write(line_of(FOREIGN) + "\n")
-        yield top / "crates" / FOREIGN
+        shutil.copy(TOP / "HANDLES", top)
+        yield top
 
 
 def rt(words, folder):
@@ -126,19 +123,25 @@ def rt(words, folder):
 
 
 def build():
-    with foreign() as folder:
-        status, text = rt(["try", "--test"], folder)
-        see("its tests pass", status == 0 and "0 failed" in text, text[-600:])
+    with foreign() as top:
+        tests = top / "crates/tests/src"
+        tests.mkdir(parents=True)
+        (tests / "lib.rt").write_text("#![tactic(auto)]\n#[cfg(test)]\nmod tests;\n")
+        shutil.copy(TOP / "tests/rattle/serial_patches.rs", tests / "tests.rt")
+        with (top / "crates.txt").open("a") as lines:
+            lines.write(f"tests: avr_part {FOREIGN}\n")
+        status, text = rt(["try", "--test"], tests.parent)
+        see("its tests pass", status == 0 and "1 passed" in text, text[-600:])
 
 
 def proof():
-    with foreign() as folder:
-        status, text = rt(["check"], folder)
-        see("it is proved", status == 0 and f"crate {FOREIGN}:" in text and "\nlogic=proved" in text, text[-600:])
+    with foreign() as top:
+        status, text = rt(["ci", FOREIGN], top)
+        see("it is proved", status == 0 and " passed, 0 failed" in text.splitlines()[-1], text[-600:])
 
 
 CASES = named(all_that_it_stands_on, what_is_there_stays, refusals, build)
-if "proof" in sys.argv or Path(os.environ.get("AVRSTK", "")) == PROVED:
+if "proof" in sys.argv:
     CASES |= named(proof)
 
 if __name__ == "__main__":

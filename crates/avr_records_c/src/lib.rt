@@ -23,6 +23,3 @@ pub use outcome::Outcome;
 pub use piece::Piece;
 pub use reading::avr_records_read;
 pub use writing::{avr_records_length, avr_records_write};
-
-#[cfg(test)]
-mod tests;

@@ -15,9 +15,6 @@ use avr_records::{IhexImageWriter, RecordFault, detect, read_records};
 use std::alloc::Global;
 use thiserror::Error;
 
-#[cfg(test)]
-mod tests;
-
 /// Why a record file was not patched.
 #[derive(Debug, Drop, Error)]
 pub enum PatchFault {

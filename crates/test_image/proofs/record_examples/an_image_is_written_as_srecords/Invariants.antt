@@ -1,5 +1,0 @@
-use Rattle.std.proofs.Common.{length}
-use Rattle.test_image.proofs.record_examples.an_image_is_written_as_srecords.Given as goal
-
-abbrev pub decreases-loop-writer : goal.decreases-loop-writer
-decreases-loop-writer g l = length l.writer

@@ -1,0 +1,90 @@
+//! Frames of a whole session with an ATmega328P, and what no clause says.
+use arrayvec::ArrayVec;
+use std::test::Fail;
+use stk_frame::{
+    Answer, Command, Event, FrameFault, FrameReader, command_name, put_frame, status_name,
+};
+use crate::data::ANSWERS;
+
+#[test]
+fn a_command_goes_into_a_frame(rt: HostRuntime) {
+    let mut body = ArrayVec::new();
+    Command::read_signature(1).body(&mut body);
+    let mut carried = ArrayVec::new();
+    put_frame(4, body.as_slice(), &mut carried);
+    let mut frame = ArrayVec::new();
+    Command::read_signature(1).put_frame(4, &mut frame);
+    assert_eq!(rt; carried.as_slice(), frame.as_slice());
+    assert_eq!(rt;
+        frame.as_slice(),
+        [
+            0x1B, 0x04, 0x00, 0x06, 0x0E, 0x1B, 0x04, 0x30, 0x00, 0x01, 0x00, 0x39
+        ]
+        .as_slice()
+    );
+}
+
+#[test]
+fn answers_are_cut_alike_in_pieces_of_any_size(rt: HostRuntime) {
+    for size in 1..64usize {
+        let mut reader = FrameReader::new();
+        let mut frames = 0u8;
+        for piece in ANSWERS.chunks(size) {
+            let mut left = piece;
+            for _ in 0..64 {
+                let (used, event) = reader.feed(left);
+                left = &left[used..];
+                if event == Event::More {
+                    break;
+                }
+                assert_eq!(rt; event, Event::Frame);
+                frames = frames.wrapping_add(1);
+                assert_eq!(rt; reader.seq(), frames, "in pieces of {size}");
+            }
+        }
+        assert_eq!(rt; frames, 6, "in pieces of {size}");
+        assert_eq!(rt; reader.body(), [0x11, 0x00].as_slice());
+    }
+}
+
+#[test]
+fn answers_are_judged(rt: HostRuntime) -> Result<(), Fail> {
+    let answer = Answer::read(&Command::read_signature(0), &[0x1B, 0x00, 0x1E, 0x00])?;
+    assert_eq!(rt; answer.data, [0x1E].as_slice());
+    Ok(())
+}
+
+#[test]
+fn faults_are_numbered_and_told(rt: HostRuntime) -> Result<(), Fail> {
+    for (fault, number, text) in [
+        (FrameFault::WrongLength, 1, "an answer of another length"),
+        (FrameFault::WrongCommand, 2, "an answer to another command"),
+        (FrameFault::CheckSum, 3, "a frame that came spoiled"),
+        (FrameFault::Status(0xC0), 4, "status C0"),
+    ] {
+        assert_eq!(rt; fault.number(), number);
+        assert_eq!(rt; format!(in rt.alloc(); "{fault}")?.as_str(), text);
+    }
+    Ok(())
+}
+
+#[test]
+fn a_program_command_is_read_with_its_data(rt: HostRuntime) {
+    let body = [
+        0x13, 0x00, 0x02, 0xC1, 0x0A, 0x40, 0x4C, 0x20, 0xFF, 0xFF, 0x12, 0x34, 0x56,
+    ];
+    match Command::read(&body) {
+        Some(Command::ProgramFlash(block)) => {
+            assert_eq!(rt; block.count, 2);
+            assert_eq!(rt; block.bytes.bytes(), [0x12, 0x34, 0x56].as_slice());
+        }
+        _ => assert!(rt; false),
+    }
+}
+
+#[test]
+fn bytes_have_names(rt: HostRuntime) {
+    assert_eq!(rt; command_name(0x10), Some("CMD_ENTER_PROGMODE_ISP"));
+    assert_eq!(rt; status_name(0x82), Some("STATUS_SET_PARAM_MISSING"));
+    assert_eq!(rt; command_name(0x00), None);
+}

@@ -1,0 +1,313 @@
+//! Runs over devices that fail, each at every one of its calls in turn, and over links that pass little at once.
+ghost use Rattle.std.specs.Prelude.{◌<◌};
+
+use crate::support::{
+    Over, Row, desk_with, fates, holds, joined, pattern, printed, run_on, run_row, shows, wire_to,
+};
+use avr_desk::{FailingDesk, MemDesk};
+use avr_part::Mem;
+use std::alloc::Global;
+use std::process::Abort;
+use std::test::Fail;
+use stk_emu::{Fate, Fates, Wired};
+use stk_host::FailingLink;
+use crate::data::digits::OPENING;
+
+/// A run to which nothing happens, and how many calls of its devices it makes.
+#[derive(Drop)]
+struct SoundRun {
+    row: Row,
+    /// How many bytes the file `e.bin` has. The EEPROM begins with them at the end.
+    size: u32,
+    /// The answer to frame 255 comes late.
+    is_late: bool,
+    /// Two for each frame.
+    link_calls: u64,
+    /// One for each piece of a line, each output, and each opening and reading of a file.
+    desk_calls: u64,
+    /// The calls of the desk whose failure is reported; where any other fails, printing itself did.
+    told: &'static [(u64, &'static [&'static str])],
+}
+
+type OverFailing = Over<FailingDesk<MemDesk>, FailingLink<Wired>>;
+
+/// A session and nothing else.
+const SESSION: SoundRun = SoundRun {
+    row: Row {
+        words: &["-p", "m328p"],
+        output: "",
+        messages: &["device signature = 1E 95 0F", "done"],
+        status: 0,
+    },
+    size: 0,
+    is_late: false,
+    link_calls: 12,
+    desk_calls: 4 + 3,
+    told: &[],
+};
+
+/// An empty file as flash: five frames that open, the erase, 256 of the read back, and LEAVE.
+const EMPTY_FLASH: SoundRun = SoundRun {
+    row: Row {
+        words: &["-p", "m328p", "-U", "flash:w:e.bin:r"],
+        output: "",
+        messages: &[
+            "device signature = 1E 95 0F",
+            "chip erased",
+            "flash: 0 bytes written",
+            "flash: 0 bytes verified",
+            "done",
+        ],
+        status: 0,
+    },
+    size: 0,
+    is_late: false,
+    link_calls: 2 * 263,
+    desk_calls: 2 + 4 + 3 + 6 + 6 + 3,
+    told: &[
+        (1, &["error: e.bin: cannot be opened"]),
+        (2, &["error: e.bin: cannot be read"]),
+    ],
+};
+
+/// A fuse, which is written, compared and read: the 17th call of the desk writes it.
+const FUSE: SoundRun = SoundRun {
+    row: Row {
+        words: &["-p", "m328p", "-U", "lfuse:w:0xE2:m", "-U", "lfuse:r:-:h"],
+        output: "0xe2\n",
+        messages: &[
+            "device signature = 1E 95 0F",
+            "lfuse: 1 bytes written",
+            "lfuse: 1 bytes verified",
+            "lfuse: 1 bytes read",
+            "done",
+        ],
+        status: 0,
+    },
+    size: 0,
+    is_late: false,
+    link_calls: 18,
+    desk_calls: 4 + 6 + 6 + 1 + 6 + 3,
+    told: &[(17, &["error: -: cannot be written"])],
+};
+
+/// The whole EEPROM, over a wire whose frame 255 is answered late.
+const EEPROM: SoundRun = SoundRun {
+    row: Row {
+        words: &["-p", "m328p", "-V", "-U", "eeprom:w:e.bin:r"],
+        output: "",
+        messages: &[
+            "device signature = 1E 95 0F",
+            "eeprom: 1024 bytes written",
+            "done",
+        ],
+        status: 0,
+    },
+    size: 1_024,
+    is_late: true,
+    link_calls: 2 * 520,
+    desk_calls: 3 + 4 + 6 + 3,
+    told: &[
+        (1, &["error: e.bin: cannot be opened"]),
+        (2, &["error: e.bin: cannot be read"]),
+        (3, &["error: e.bin: cannot be read"]),
+    ],
+};
+
+const RUNS: &[SoundRun] = &[SESSION, EMPTY_FLASH, FUSE, EEPROM];
+
+fn desk_of(alloc: Global, run: &SoundRun) -> Result<MemDesk, Fail> {
+    let bytes = pattern(alloc, run.size)?;
+    desk_with(alloc, &[("e.bin", bytes.as_slice())])
+}
+
+fn wire_of(alloc: Global, run: &SoundRun) -> Result<Wired, Fail> {
+    if run.is_late {
+        wire_to(alloc, "m328p", fates(alloc, 254, Fate::LateAnswer)?)
+    } else {
+        wire_to(alloc, "m328p", Fates::none(alloc))
+    }
+}
+
+/// The run, to which nothing happens.
+fn sound(rt: &impl Abort, alloc: Global, run: &SoundRun) -> Result<Over<MemDesk, Wired>, Fail> {
+    run_row(
+        rt,
+        alloc,
+        &run.row,
+        desk_of(alloc, run)?,
+        wire_of(alloc, run)?,
+    )
+}
+
+/// The run where the calls of these numbers, from 1, of the link and of the desk fail (0: none), over a link that
+/// passes at most so many bytes at once.
+fn failing(
+    alloc: Global,
+    run: &SoundRun,
+    link_call: u64,
+    desk_call: u64,
+    cut: usize,
+) -> Result<OverFailing, Fail>
+    requires { 0 < cut }
+{
+    let desk = FailingDesk::new(desk_of(alloc, run)?, desk_call);
+    let link = FailingLink::new(wire_of(alloc, run)?, link_call, cut);
+    run_on(alloc, run.row.words, desk, link)
+}
+
+/// Whether what was said is a prefix of what a sound run says, and after it what was reported of a fault, on a line of
+/// its own.
+fn is_prefix(said: &[u8], sound: &[u8], told: &[u8]) -> bool {
+    match said.strip_suffix(told) {
+        Some(prefix) => {
+            prefix.len() < sound.len()
+                && sound.starts_with(prefix)
+                && (told.is_empty() || prefix.is_empty() || prefix.ends_with(b"\n"))
+        }
+        None => false,
+    }
+}
+
+/// The run broke off: what it sent and wrote is a prefix of what the sound one did, and so is what it said, but for
+/// these lines after it.
+fn broke_off(
+    rt: &impl Abort,
+    alloc: Global,
+    sound: &Over<MemDesk, Wired>,
+    broken: &OverFailing,
+    told: &[&str],
+    n: u64,
+) -> Result<(), Fail> {
+    let told = printed(alloc, told)?;
+    let desk = broken.desk.inner();
+    let sent = broken.link.inner().sent();
+    assert!(rt; broken.status == 1, "call {n}");
+    assert!(rt; sound.link.sent().starts_with(sent), "call {n}");
+    assert!(rt; sound.desk.output().starts_with(desk.output()), "call {n}");
+    assert!(rt;
+        is_prefix(desk.messages(), sound.desk.messages(), told.as_slice()),
+        "call {n}"
+    );
+    Ok(())
+}
+
+/// Every other call sends a frame, and where it fails no more was sent than before; the next hears its answer.
+fn fail_each_link_call(rt: &impl Abort, alloc: Global, run: &SoundRun) -> Result<(), Fail> {
+    let sound = sound(rt, alloc, run)?;
+    let mut failures = 0u64;
+    let mut sent = 0usize;
+    for n in 1..2_000u64 {
+        let broken = failing(alloc, run, n, 0, 281)?;
+        if broken.status == 0 {
+            break;
+        }
+        failures = failures.wrapping_add(1);
+        let sends = n % 2 == 1;
+        let told = if sends {
+            "error: link cannot be written"
+        } else {
+            "error: link cannot be read"
+        };
+        broke_off(rt, alloc, &sound, &broken, &[told], n)?;
+        let sent_now = broken.link.inner().sent().len();
+        assert!(rt; sends == (sent_now == sent) && sent <= sent_now, "call {n}");
+        sent = sent_now;
+    }
+    assert!(rt; failures == run.link_calls);
+    Ok(())
+}
+
+#[test]
+fn each_call_of_the_link_fails(rt: HostRuntime) -> Result<(), Fail> {
+    fail_each_link_call(&rt, rt.alloc(), &SESSION)?;
+    fail_each_link_call(&rt, rt.alloc(), &FUSE)
+}
+
+#[test]
+fn each_call_of_the_link_fails_over_an_empty_flash(rt: HostRuntime) -> Result<(), Fail> {
+    fail_each_link_call(&rt, rt.alloc(), &EMPTY_FLASH)
+}
+
+#[test]
+fn each_call_of_the_link_fails_over_the_whole_eeprom(rt: HostRuntime) -> Result<(), Fail> {
+    fail_each_link_call(&rt, rt.alloc(), &EEPROM)
+}
+
+/// What is reported where this call of the desk fails.
+fn told_of(run: &SoundRun, n: u64) -> &'static [&'static str] {
+    for (call, lines) in run.told {
+        if *call == n {
+            return *lines;
+        }
+    }
+    &[]
+}
+
+fn fail_each_desk_call(rt: &impl Abort, alloc: Global, run: &SoundRun) -> Result<(), Fail> {
+    let sound = sound(rt, alloc, run)?;
+    let mut failures = 0u64;
+    for n in 1..2_000u64 {
+        let broken = failing(alloc, run, 0, n, 281)?;
+        if broken.status == 0 {
+            break;
+        }
+        failures = failures.wrapping_add(1);
+        broke_off(rt, alloc, &sound, &broken, told_of(run, n), n)?;
+    }
+    assert!(rt; failures == run.desk_calls);
+    Ok(())
+}
+
+#[test]
+fn each_call_of_the_desk_fails(rt: HostRuntime) -> Result<(), Fail> {
+    for run in RUNS {
+        fail_each_desk_call(&rt, rt.alloc(), run)?;
+    }
+    Ok(())
+}
+
+/// The run over links that pass little at once says, writes, answers, sends and does the same.
+fn pass_in_pieces(rt: &impl Abort, alloc: Global, run: &SoundRun) -> Result<(), Fail> {
+    let sound = sound(rt, alloc, run)?;
+    let bytes = pattern(alloc, run.size)?;
+    for cut in [1, 2, 3, 5, 280, 281usize] {
+        let over = failing(alloc, run, 0, 0, cut.max(1))?;
+        let wire = over.link.inner();
+        shows(rt, alloc, &run.row, over.desk.inner(), over.status)?;
+        assert!(rt; wire.sent() == sound.link.sent(), "in pieces of {cut}");
+        assert!(rt;
+            holds(wire.chip(), Mem::Eeprom, bytes.as_slice()),
+            "in pieces of {cut}"
+        );
+    }
+    Ok(())
+}
+
+#[test]
+fn pieces_change_nothing(rt: HostRuntime) -> Result<(), Fail> {
+    for run in RUNS {
+        pass_in_pieces(&rt, rt.alloc(), run)?;
+    }
+    Ok(())
+}
+
+/// After the four pieces of the signature's line the desk is to write the fuse, and fails: the sixth frame is the
+/// last.
+#[test]
+fn no_leave_follows_an_output_that_fails(rt: HostRuntime) -> Result<(), Fail> {
+    let alloc = rt.alloc();
+    let row = Row {
+        words: &["-p", "m328p", "-U", "lfuse:r:-:h"],
+        output: "",
+        messages: &["device signature = 1E 95 0F", "error: -: cannot be written"],
+        status: 1,
+    };
+    let desk = FailingDesk::new(desk_with(alloc, &[])?, 5);
+    let wire = wire_to(alloc, "m328p", Fates::none(alloc))?;
+    let over = run_on(alloc, row.words, desk, wire)?;
+    shows(&rt, alloc, &row, over.desk.inner(), over.status)?;
+    let frames = joined(alloc, &[OPENING, "1B0600060E18045000000059"])?;
+    assert!(rt; over.link.sent() == frames.as_slice());
+    Ok(())
+}

@@ -1,0 +1,155 @@
+//! Faults show in the words of the lines that are printed of them. A port's doesn't: its line names the port.
+use avr_cli::{Settings, SettingsFault, Text, UpdateFault, read_settings, read_words};
+use avr_desk::MemDesk;
+use avr_part::Mem;
+use avr_plan::plan;
+use avr_session::{Outcome, drive_outcome, refuse};
+use std::alloc::{AllocError, Global};
+use std::test::Fail;
+use stk_host::{FailingLink, HostFault, Item, Link, TapeLink};
+use crate::data::ANSWERS;
+
+/// An update that only reads.
+const READ: &str = "lfuse:r:low:h";
+
+/// Whether a fault of the settings shows as the line that is printed of it.
+fn shows_as_printed(alloc: Global, fault: &SettingsFault) -> bool {
+    let mut desk = MemDesk::new(alloc);
+    refuse(fault, &mut desk);
+    match format!(in alloc; "avrstk: error: {fault}\n") {
+        Ok(line) => desk.messages() == line.as_bytes(),
+        Err(_) => false,
+    }
+}
+
+#[test]
+fn faults_show_as_their_lines(rt: HostRuntime) -> Result<(), Fail> {
+    let alloc = rt.alloc();
+    let programmer = SettingsFault::BadProgrammer(Text::new(alloc, "usbasp")?);
+    assert!(rt; shows_as_printed(alloc, &programmer));
+    assert!(rt; shows_as_printed(alloc, &SettingsFault::NoPart));
+    assert!(rt; shows_as_printed(alloc, &SettingsFault::NoChip));
+    assert!(rt; shows_as_printed(alloc, &SettingsFault::TooMany));
+    assert!(rt; shows_as_printed(alloc, &SettingsFault::StandardTaken));
+    assert!(rt; shows_as_printed(alloc, &SettingsFault::Memory));
+    let update = SettingsFault::BadUpdate(2, UpdateFault::BadFormat);
+    assert!(rt; shows_as_printed(alloc, &update));
+    Ok(())
+}
+
+fn settings_for(alloc: Global, update: &str) -> Result<Settings, Fail> {
+    let mut words: Vec<String> = Vec::new(alloc);
+    for word in ["avrstk", "-P", "stdio:", "-p", "m328p", "-U", update] {
+        words.push(String::from_str(alloc, word)?)?;
+    }
+    let matches = read_words(alloc, words.as_slice())?;
+    Ok(read_settings(alloc, &matches)?)
+}
+
+/// What came of a session with this update. It says nothing of it: a test carries each clause that it meets to its end,
+/// and these are long.
+fn outcome_over<L: Link>(
+    alloc: Global,
+    update: &str,
+    desk: &mut MemDesk,
+    link: &mut L,
+) -> Result<Option<Outcome>, Fail> {
+    let settings = settings_for(alloc, update)?;
+    match plan(alloc, &settings, desk) {
+        Ok(plan) => Ok(Some(drive_outcome(alloc, &plan, desk, link))),
+        Err(_) => Ok(None),
+    }
+}
+
+/// The first bytes of the answers to a session, and then these.
+fn answers_then(alloc: Global, count: usize, more: &[u8]) -> Result<Vec<Item>, AllocError> {
+    let mut items = Vec::new(alloc);
+    for byte in ANSWERS.iter().take(count).chain(more) {
+        items.push(Item::Byte(*byte))?;
+    }
+    Ok(items)
+}
+
+/// Whether a session over these items comes to this fault, and the last line is what it shows.
+fn ends_with(
+    alloc: Global,
+    update: &str,
+    items: Vec<Item>,
+    fault: HostFault,
+) -> Result<bool, Fail> {
+    let mut desk = MemDesk::new(alloc);
+    let mut link = TapeLink::new(alloc, items, 281);
+    let outcome = outcome_over(alloc, update, &mut desk, &mut link)?;
+    let line = format!(in alloc; "avrstk: error: {fault}\n")?;
+    Ok(outcome == Some(Outcome::Faulty(fault)) && desk.messages().ends_with(line.as_bytes()))
+}
+
+/// Whether a session stops where this call of the link fails, and the last line is what this fault shows.
+fn stops_with(alloc: Global, call: u64, fault: HostFault) -> Result<bool, Fail> {
+    let mut desk = MemDesk::new(alloc);
+    let tape = TapeLink::new(alloc, answers_then(alloc, 63, &[])?, 281);
+    let mut link = FailingLink::new(tape, call, 281);
+    let outcome = outcome_over(alloc, READ, &mut desk, &mut link)?;
+    let line = format!(in alloc; "avrstk: error: {fault}\n")?;
+    Ok(outcome == Some(Outcome::Stopped) && desk.messages().ends_with(line.as_bytes()))
+}
+
+// The faults of hosts follow, but for those of which no line is printed so: a read-only memory is refused before any
+// frame, and memory isn't. Each test has few of them, since its proof grows faster than their number.
+
+#[test]
+fn faults_of_the_line_show_as_their_lines(rt: HostRuntime) -> Result<(), Fail> {
+    let alloc = rt.alloc();
+    let silent = vec![in alloc; Item::Silence; 8]?;
+    assert!(rt; ends_with(alloc, READ, silent, HostFault::NoAnswer)?);
+    let cut = answers_then(alloc, 17, &[])?;
+    assert!(rt; ends_with(alloc, READ, cut, HostFault::LinkEnded)?);
+    let babble = vec![in alloc; Item::Byte(0); 16_384]?;
+    assert!(rt; ends_with(alloc, READ, babble, HostFault::Babble)?);
+    Ok(())
+}
+
+#[test]
+fn failed_calls_show_as_their_lines(rt: HostRuntime) -> Result<(), Fail> {
+    let alloc = rt.alloc();
+    assert!(rt; stops_with(alloc, 1, HostFault::SendFailed)?);
+    assert!(rt; stops_with(alloc, 2, HostFault::RecvFailed)?);
+    Ok(())
+}
+
+#[test]
+fn faults_of_answers_show_as_their_lines(rt: HostRuntime) -> Result<(), Fail> {
+    let alloc = rt.alloc();
+    let refused = answers_then(alloc, 17, &[0x1B, 0x02, 0x00, 0x02, 0x0E, 0x10, 0xC0, 0xC5])?;
+    assert!(rt; ends_with(alloc, READ, refused, HostFault::Refused(0x10, 0xC0))?);
+    let other = answers_then(alloc, 17, &[0x1B, 0x02, 0x00, 0x02, 0x0E, 0x11, 0x00, 0x04])?;
+    assert!(rt; ends_with(alloc, READ, other, HostFault::BadAnswer(0x10))?);
+    Ok(())
+}
+
+#[test]
+fn another_byte_shows_as_its_line(rt: HostRuntime) -> Result<(), Fail> {
+    let alloc = rt.alloc();
+    let fuse = [0x1B, 0x06, 0x00, 0x04, 0x0E, 0x18, 0x00, 0x62, 0x00, 0x6D];
+    let items = answers_then(alloc, 55, &fuse)?;
+    let fault = HostFault::Differs(Mem::Lfuse, 0, 0xE2, 0x62);
+    assert!(rt; ends_with(alloc, "lfuse:v:0xE2:m", items, fault)?);
+    Ok(())
+}
+
+/// After what the fault shows the line says which signature the part has.
+#[test]
+fn another_signature_shows_as_its_line(rt: HostRuntime) -> Result<(), Fail> {
+    let alloc = rt.alloc();
+    let mut answers = ANSWERS;
+    answers[52] = 0x14;
+    answers[54] = 0x1B;
+    let mut desk = MemDesk::new(alloc);
+    let mut link = TapeLink::new(alloc, answers_then(alloc, 0, &answers)?, 281);
+    let outcome = outcome_over(alloc, READ, &mut desk, &mut link)?;
+    let fault = HostFault::WrongSignature([0x1E, 0x95, 0x14]);
+    assert!(rt; outcome == Some(Outcome::Faulty(fault)));
+    let line = format!(in alloc; "avrstk: error: {fault}, m328p has 1E 95 0F\n")?;
+    assert!(rt; desk.messages().ends_with(line.as_bytes()));
+    Ok(())
+}
