@@ -1,6 +1,6 @@
 #!/usr/bin/env python3
 """A run and the programmer that the program serves, as two processes at the ends of a line that keeps the order of bytes,
-loses none and adds none, and cuts and stalls wherever it was drawn to, inside frames too: 500 runs, of fixed seeds.
+loses none and adds none, and cuts and stalls wherever it was drawn to, inside frames too: 150 runs, of fixed seeds.
 
     tests/cuts_and_stalls.py [CASE ..]    needs crates/avrstk/out/avrstk, as rt ci leaves it
 
@@ -191,7 +191,7 @@ def holds(name, plan, told, status, messages, served, chip):
 def cuts():
     """A line that never stalls."""
     line = lambda room, lots: Line(room, lots, lots.choice([1, 7, 40, 300]))
-    failed = list(range(150))
+    failed = list(range(45))
     # (a machine so busy that nothing comes for a second spoils some: they are made again, fewer at once)
     for at_once in [AT_ONCE, 8, 2, 1]:
         failed = many(failed, line, at_once) if failed else []
@@ -205,14 +205,14 @@ def stalls():
         places = [[lots.randint(0, 1_000) for _ in range(lots.randint(0, 2))] for _ in range(2)]
         return Line(room, lots, lots.choice([3, 20, 300]), *places)
 
-    failed = many(range(310), line)
-    see("most runs succeed", len(failed) < 60, failed)
+    failed = many(range(90), line)
+    see("most runs succeed", len(failed) < 18, failed)
 
 
 def lags():
     """A line on which, from some place on, each answer comes too late: a run ends there."""
-    failed = many(range(40), lambda room, lots: Line(room, lots, 300, lags_from=lots.randint(0, 1_000)))
-    see("most runs fail", len(failed) > 20, failed)
+    failed = many(range(15), lambda room, lots: Line(room, lots, 300, lags_from=lots.randint(0, 1_000)))
+    see("most runs fail", len(failed) > 7, failed)
 
 
 CASES = named(cuts, stalls, lags)

@@ -11,8 +11,14 @@ from pathlib import Path
 from cases import PATIENCE
 
 TOP = Path(__file__).resolve().parent.parent
-# the program that is run: as rt ci leaves it, or another that AVRSTK names
-PROGRAM = Path(os.environ.get("AVRSTK") or TOP / "crates/avrstk/out/avrstk").resolve()
+# the program that is run: the one that AVRSTK names, or else as rt ci leaves it, or else the one that is not proved
+BUILT = [TOP / "crates/avrstk/out/avrstk", TOP / "out/unproved/avrstk"]
+NAMED = os.environ.get("AVRSTK")
+PROGRAM = Path(NAMED).resolve() if NAMED else next(filter(Path.exists, BUILT), BUILT[0])
+if not PROGRAM.exists():
+    sys.exit(f"{PROGRAM} is not built: rt ci leaves it there; ./avrstk --unproved builds one without proofs")
+if not NAMED:
+    print(f"over {PROGRAM.relative_to(TOP)}", flush=True)
 
 # the answers of a session in which nothing is done, and how many bytes there are up to the end of each
 ANSWERS = (TOP / "crates/avrstk/stdin").read_bytes()
@@ -48,8 +54,6 @@ class Room:
     """A folder that is empty but for a few files."""
 
     def __init__(self):
-        if not PROGRAM.exists():
-            sys.exit(f"{PROGRAM} is not built: rt ci leaves it there, and so does (cd crates/avrstk && rt run < stdin)")
         self.held = tempfile.TemporaryDirectory()
         self.folder = Path(self.held.name)
         self.put("empty.bin", b"")
