@@ -7,7 +7,7 @@
 Each line has the minutes so far in front; the output of a script comes when it has ended. What fails hides nothing: all
 that follows is run, and the status is 1 at the end. The summary has the status of each, its minutes and its last line,
 the lines that say what failed, how the wrong bodies of rt ci were refused, and what was left out since a tool isn't
-installed; with NEED_ALL=1 in the environment that is a failure too.
+installed (`./test --tools`); with NEED_ALL=1 in the environment that is a failure too.
 """
 
 import os

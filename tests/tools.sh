@@ -1,0 +1,21 @@
+#!/usr/bin/env bash
+# Installs what the scripts compare with and would leave out (Debian's packages), where this is root and apt-get is here.
+set -u
+packages=(
+    gcc libc6-dev avrdude srecord gcc-avr binutils-avr avr-libc python3-intelhex simavr libsimavr-dev libelf-dev
+    arduino-core-avr socat ser2net groff-base strace valgrind
+)
+lacking=()
+for it in "${packages[@]}"; do
+    dpkg-query -W -f '${Status}\n' "$it" 2>/dev/null | grep -q '^install ok installed$' || lacking+=("$it")
+done
+[ ${#lacking[@]} -gt 0 ] || exit 0
+echo "lacking: ${lacking[*]}"
+if [ "$(id -u)" != 0 ] || ! command -v apt-get >/dev/null; then
+    echo "left as it is: apt-get, as root, would install them"
+    exit 0
+fi
+export DEBIAN_FRONTEND=noninteractive
+install() { apt-get install -y -q --no-install-recommends "${lacking[@]}" </dev/null; }
+# (the lists may be old, or not there)
+install >/dev/null 2>&1 || { apt-get update -q && install; }
