@@ -1,7 +1,7 @@
 #!/usr/bin/env bash
-# Installs the program that is there (the proved one, or else the one without proofs, which it says), avrstk-serial, the
-# part file, the man pages and the completions for bash under a folder, and with --with-c the library for C (archive,
-# shared library, header, pkg-config's file); or removes all of it again.
+# Installs the program that is there (the proved one, or else the one without proofs, which it says), avrstk-serial,
+# avrstk-serve, the part file, the man pages and the completions for bash under a folder, and with --with-c the library
+# for C (archive, shared library, header, pkg-config's file); or removes all of it again.
 #
 #     ./install.sh [--with-c] [PREFIX]      PREFIX is /usr/local if it isn't given
 #     ./install.sh --remove [PREFIX]        removes what it installed there, and the folders that it made for it
@@ -43,11 +43,12 @@ fi
 
 program=$prefix/bin/avrstk
 serial=$prefix/bin/avrstk-serial
+serve=$prefix/bin/avrstk-serve
 parts=$prefix/share/avrstk/classic.toml
 completions=$prefix/share/bash-completion/completions/avrstk
 # bash looks for a command's completions under its name
 of_serial=$prefix/share/bash-completion/completions/avrstk-serial
-tool=("$program" "$serial" "$parts" "$completions" "$of_serial")
+tool=("$program" "$serial" "$serve" "$parts" "$completions" "$of_serial")
 for page in "$top"/docs/*.1; do
     tool+=("$prefix/share/man/man1/${page##*/}")
 done
@@ -171,12 +172,13 @@ check "$folders" "${tool[@]}"
 put 644 "$top/parts/classic.toml" "$parts"
 put 755 "$built" "$program"
 put 755 "$top/avrstk-serial" "$serial"
+put 755 "$top/avrstk-serve" "$serve"
 for page in "$top"/docs/*.1; do
     put 644 "$page" "$prefix/share/man/man1/${page##*/}"
 done
 put 644 "$top/completions/avrstk.bash" "$completions"
 put_link avrstk "$of_serial"
-command -v python3 >/dev/null || echo "avrstk-serial needs python3, which is not on the path"
+command -v python3 >/dev/null || echo "avrstk-serial and avrstk-serve need python3, which is not on the path"
 [ -n "$with_c" ] || exit 0
 if ! command -v rt >/dev/null || ! command -v ar >/dev/null; then
     fail "$archive and $header need rt of Rattle's kit, and ar"

@@ -3,7 +3,7 @@
 was run: each ends with status 0, none starts a build, and git sees no file that they made.
 
     tests/recipes.py [CASE ..]      over the program that tests/program.py finds, as the one without proofs; AVRDUDE's
-                                    calls are left out without AVRDUDE 7.1
+                                    calls are left out without AVRDUDE 7.1, and those of srec_cmp without that
 
 Only what is somebody's own is another here: the port, the home folder, the firmware, and the board, which is a pseudo
 terminal with the emulated programmer behind it.
@@ -28,10 +28,11 @@ NOT_HERE = ("cd ", "git ", "./test", ".ci/", "./avrstk --build", "./install.sh -
 # `rt` here: notes that it was called
 RT = '#!/bin/sh\necho "$@" >>"$NOTED"\nexit 1\n'
 
-# in the shell of the commands: what was started in the background is waited for until it listens or ends, and no longer
+# in the shell of the commands: for a second's sleep what was started in the background is waited for until it listens or
+# ends, however long that takes
 WAITS = """
 listens() {{ grep -q " 0100007F:{0:04X} 00000000:0000 0A " /proc/net/tcp; }}
-sleep() {{ until listens || ! kill -0 $! 2>/dev/null; do command sleep 0.02; done; }}
+sleep() {{ [ "$1" = 1 ] || command sleep "$1"; until [ "$1" != 1 ] || listens || ! kill -0 $!; do command sleep 0.02; done; }}
 trap 'kill $(jobs -p) 2>/dev/null; wait' EXIT
 """
 
@@ -76,9 +77,10 @@ class Clone:
 
     def tries(self, commands):
         """Types the commands of one block, if they are for here."""
-        if not has_avrdude() and any(it.startswith("avrdude ") for it in commands):
-            leave_out("AVRDUDE's calls", "AVRDUDE 7.1 is not installed")
-            commands = [it for it in commands if not it.startswith("avrdude ")]
+        for tool, is_here in [("avrdude", has_avrdude()), ("srec_cmp", shutil.which("srec_cmp"))]:
+            if not is_here and any(it.startswith(f"{tool} ") for it in commands):
+                leave_out(f"calls of {tool}", "it is not installed")
+                commands = [it for it in commands if not it.startswith(f"{tool} ")]
         commands = [it.replace("firmware.hex", "examples/blink.hex") for it in commands if not it.startswith(NOT_HERE)]
         device = next((it for it in re.findall(r"/dev/tty\w+", " ".join(commands))), None)
         if device:
