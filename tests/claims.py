@@ -2,13 +2,14 @@
 """Tries sentences of README and docs/USAGE, docs/PROTOCOL and docs/FORMATS as they stand: what `written` and status 0
 mean, what is sent after a fault, what a silence is, what a file is taken for, and what AVRDUDE does where USAGE says.
 
-    tests/claims.py        needs crates/avrstk/out/avrstk, as rt ci leaves it; AVRDUDE 7.1, or its rows are left out
+    tests/claims.py        needs a built program (program.py); AVRDUDE 7.1, or its rows are left out
 """
 
 import fcntl
 import os
 import re
 import shlex
+import shutil
 import signal
 import socket
 import struct
@@ -468,7 +469,23 @@ def avrdude():
             see("and the chip has them", chip[:2] == b"\x0c\x94", chip[:2])
 
 
+# ---- the toolchain
+
+
+def the_logic():
+    """The sum of the logic that the documents name is that of the kit that proves here."""
+    if not shutil.which("rt"):
+        return leave_out("the sum of the logic", "rt is not installed")
+    ran = subprocess.run(["rt", "version"], capture_output=True, text=True)
+    named = {it for it in ("README.md", "CONTRIBUTING.md", "docs/PROOFS.md", "docs/LIBRARY.md") if "logic" in text(it)}
+    see("README names it", "README.md" in named)
+    for page in sorted(named):
+        sums = set(re.findall(r"logic\s+([0-9a-f]{16})", text(page)))
+        see(f"the logic that {page} names", sums <= set(ran.stdout.split()), (sums, ran.stdout))
+
+
 CASES = named(
+    the_logic,
     written_is_no_more_than_answered,
     what_is_written_is_there,
     a_locked_chip_without_an_erase,

@@ -1,4 +1,5 @@
-"""The built program in a folder of its own, and served at a port, for the scripts beside this one."""
+"""The built program in a folder of its own, and served at a port, for the scripts beside this one. AVRSTK names it, else
+it is the proved one (crates/avrstk/out/avrstk), or else the one without proofs (out/unproved/avrstk)."""
 
 import os
 import socket
@@ -11,14 +12,29 @@ from pathlib import Path
 from cases import PATIENCE
 
 TOP = Path(__file__).resolve().parent.parent
-# the program that is run: the one that AVRSTK names, or else as rt ci leaves it, or else the one that is not proved
+# the programs that may be built: the proved one, as rt ci leaves it, and the one without proofs
 BUILT = [TOP / "crates/avrstk/out/avrstk", TOP / "out/unproved/avrstk"]
 NAMED = os.environ.get("AVRSTK")
-PROGRAM = Path(NAMED).resolve() if NAMED else next(filter(Path.exists, BUILT), BUILT[0])
-if not PROGRAM.exists():
-    sys.exit(f"{PROGRAM} is not built: rt ci leaves it there; ./avrstk --unproved builds one without proofs")
-if not NAMED:
-    print(f"over {PROGRAM.relative_to(TOP)}", flush=True)
+
+
+def is_current(program):
+    """Whether a program is there, and no source is newer."""
+    sources = [TOP / "crates.txt", *(it for name in ("src", "specs", "proofs") for it in TOP.glob(f"crates/*/{name}/**/*"))]
+    return program.exists() and all(it.stat().st_mtime <= program.stat().st_mtime for it in sources)
+
+
+def program():
+    """The program that is run: the one that AVRSTK names, else the first that is built; says which that is."""
+    if NAMED:
+        return Path(NAMED).resolve()
+    found = next(filter(is_current, BUILT), None)
+    if not found:
+        sys.exit("no program is built from these sources: ./avrstk --unproved builds it in a minute, ./avrstk --build proves it")
+    print(f"over {found.relative_to(TOP)}", flush=True)
+    return found
+
+
+PROGRAM = program()
 
 # the answers of a session in which nothing is done, and how many bytes there are up to the end of each
 ANSWERS = (TOP / "crates/avrstk/stdin").read_bytes()
