@@ -61,12 +61,19 @@ REFUSALS = {
 
 @dataclass
 class Done:
-    """One step that has ended: its name, its status, how long it took, and the lines that it printed."""
+    """One step that has ended: its name, its status, how long it took, on a clock and of processors, and its lines."""
 
     what: str
     status: int
     seconds: float
+    processor: float
     lines: list
+
+    def end(self):
+        return "ok" if self.status == 0 else f"FAILED ({self.status})"
+
+    def took(self):
+        return f"{self.seconds / 60:.1f} minutes, {self.processor:.0f} s of a processor"
 
     def last(self):
         return self.lines[-1].strip()[:200] if self.lines else ""
@@ -99,12 +106,13 @@ def run(what, command, comes=False, **environment):
                 lines.append(line.rstrip())
                 if comes:
                     say(lines[-1:])
-        status = started.returncode
+            _, ended, used = os.wait4(started.pid, 0)
+            started.returncode = status = os.waitstatus_to_exitcode(ended)
+        processor = used.ru_utime + used.ru_stime
     except OSError as fault:
-        status, lines = 127, [f"cannot be run: {fault}"]
-    done = Done(what, status, time.monotonic() - begun, [it for it in lines if it.strip()])
-    end = f"== {'ok' if status == 0 else f'FAILED ({status})'}: {what}, {done.seconds / 60:.1f} minutes"
-    say([*([] if comes else lines), end])
+        status, processor, lines = 127, 0, [f"cannot be run: {fault}"]
+    done = Done(what, status, time.monotonic() - begun, processor, [it for it in lines if it.strip()])
+    say([*([] if comes else lines), f"== {done.end()}: {what}, {done.took()}"])
     return done
 
 
@@ -170,7 +178,7 @@ def summary(done):
     """Prints the outcome of all steps, and returns the status."""
     print("== summary")
     for it in done:
-        print(f"{'ok    ' if it.status == 0 else f'FAILED ({it.status})'} {it.seconds / 60:5.1f} min  {it.what}: {it.last()}")
+        print(f"{it.end():10} {it.seconds / 60:5.1f} min {it.processor:6.0f} s  {it.what}: {it.last()}")
         for line in [it.strip() for it in it.lines if FAILURE.match(it)][:MOST_FAILURES] if it.status else []:
             print(f"    {line[:300]}")
     refused = [found[1] for it in done for found in map(REFUSED.search, it.lines) if found]
@@ -181,7 +189,8 @@ def summary(done):
     left = [line for it in done for line in it.left_out()]
     print(f"left out because a tool isn't installed: {len(left) or 'nothing'}", *left, sep="\n    ")
     wrong = sum(it.status != 0 for it in done)
-    print(f"{len(done)} steps in {(time.monotonic() - BEGUN) / 60:.0f} minutes on {LANES} processors, {wrong} of them failed")
+    took = f"{(time.monotonic() - BEGUN) / 60:.0f} minutes on {LANES} processors, {sum(it.processor for it in done):.0f} s of one"
+    print(f"{len(done)} steps in {took}; {wrong} of them failed")
     passed, failed = (sum(counts) for counts in zip(*(it.counts() for it in done)))
     print(f"{passed} passed, {failed} failed")
     return int(wrong > 0)
