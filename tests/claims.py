@@ -105,6 +105,11 @@ def what_another_tool_left_stays_elsewhere():
     see("its EEPROM too, as its fuse keeps it", chip[FLASH:LFUSE] == bytes(EEPROM))
 
 
+def comparisons_look_at_the_image_alone():
+    told = [SIGNATURE, "flash: 2 bytes verified", "done"]
+    run("other bytes elsewhere", ["-U", "flash:v:0x42,0x42:m"], told, chip=b"\x42" * (CHIP_FILE - 1) + b"\xff")
+
+
 # ---- files
 
 
@@ -491,6 +496,7 @@ CASES = named(
     a_locked_chip_without_an_erase,
     plans_that_no_second_run_heals,
     what_another_tool_left_stays_elsewhere,
+    comparisons_look_at_the_image_alone,
     files_are_written_over,
     text_is_flashed,
     an_empty_file_erases,
