@@ -1,7 +1,7 @@
 #!/usr/bin/env bash
-# Puts the built program, avrstk-serial, the part file, the page of manual and the completions for bash under a folder,
-# and with --with-c the library for C (archive, shared library, header, pkg-config's file); or takes them all away
-# again.
+# Puts the program that is there (the proved one, or else the one without proofs, which it says), avrstk-serial, the part
+# file, the man page and the completions for bash under a folder, and with --with-c the library for C (archive, shared
+# library, header, pkg-config's file); or takes them all away again.
 #
 #     ./install.sh [--with-c] [PREFIX]      PREFIX is /usr/local where it isn't given
 #     ./install.sh --remove [PREFIX]
@@ -88,11 +88,11 @@ start() {
     return "$status"
 }
 
-# builds the program where there is none, or the sources have changed
-start "$top/avrstk" --help
+# (says why, if there is none)
+built=$("$top/avrstk" --which)
 # (the part file first, beside which the made folders are noted)
 put 644 "$top/parts/classic.toml" "$parts"
-put 755 "$top/crates/avrstk/out/avrstk" "$program"
+put 755 "$built" "$program"
 put 755 "$top/avrstk-serial" "$serial"
 put 644 "$top/docs/avrstk.1" "$manual"
 put 644 "$top/completions/avrstk.bash" "$completions"

@@ -5,7 +5,7 @@
 
 It keeps a port of 127.0.0.1, so that a caller waits his turn and none is refused, and has a run of `avrstk --serve` for
 each, on a port between the two. What such a run says stands on standard error, and the next caller has his own; only
-from outside is it ended. The program is the one beside this folder, or that AVRSTK names.
+from outside is it ended. The program is the one of this repository that is there, proved or not, or that AVRSTK names.
 """
 
 import os
@@ -16,7 +16,16 @@ import threading
 import time
 from pathlib import Path
 
-PROGRAM = os.environ.get("AVRSTK") or Path(__file__).resolve().parent.parent / "avrstk"
+
+def program():
+    """The program that AVRSTK names, or else the one of this repository that is there."""
+    named = os.environ.get("AVRSTK")
+    if named:
+        return named
+    beside = Path(__file__).resolve().parent.parent / "avrstk"
+    found = subprocess.run([beside, "--which"], stdout=subprocess.PIPE, text=True)
+    # (why there is none was printed)
+    return found.stdout.rstrip("\n") or sys.exit(1)
 
 
 def bound(port):
@@ -50,11 +59,11 @@ def pass_on(heard, said):
         pass
 
 
-def serve(caller, words):
+def serve(caller, command):
     """One caller, over a run of his own."""
     with bound(0) as between:
         port = between.getsockname()[1]
-        with subprocess.Popen([PROGRAM, "--serve", str(port), *words], stdin=subprocess.DEVNULL) as run:
+        with subprocess.Popen([*command, "--serve", str(port)], stdin=subprocess.DEVNULL) as run:
             line = connected(port, run)
             if line:
                 with line:
@@ -67,12 +76,13 @@ def serve(caller, words):
 def main():
     if len(sys.argv) < 3 or not sys.argv[1].isdecimal():
         sys.exit(__doc__.strip())
+    command = [program(), *sys.argv[2:]]
     with bound(int(sys.argv[1])) as port:
         port.listen()
         while True:
             caller, _ = port.accept()
             with caller:
-                serve(caller, sys.argv[2:])
+                serve(caller, command)
 
 
 if __name__ == "__main__":
