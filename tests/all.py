@@ -31,7 +31,7 @@ CHECKED = ("measure --check", "reach --check")
 # the scripts that run no program of this project, or compile it themselves, the longest first
 SOURCES = ("rattle tests", "rattle programs", "rattle refused", "rattle documentation", "vendor", "build", *CHECKED)
 # those over the program without proofs, and those over the proved one, the longest first
-QUICK = ("serial", "parts", "avrdude", "runs", "chips", "why", "claims", "lines", "hostile", "made_frames", "manual", "programmer")
+QUICK = ("serial", "parts", "avrdude", "runs", "chips", "recipes", "why", "claims", "lines", "hostile", "made_frames", "manual", "programmer")
 PROGRAM = ("faults", "cuts_and_stalls", "mega", "from_c", "others", "vendor proof", "calls", *QUICK)
 
 LANES = len(os.sched_getaffinity(0))
@@ -128,8 +128,8 @@ def build():
 
 
 def current():
-    """Whether ./avrstk has a program to run; it builds none unasked."""
-    return subprocess.run(["./avrstk", "--help"], cwd=TOP, capture_output=True).returncode == 0
+    """Whether ./avrstk has a program to run."""
+    return subprocess.run(["./avrstk", "--which"], cwd=TOP, capture_output=True).returncode == 0
 
 
 def ci():

@@ -1,5 +1,5 @@
 """The built program in a folder of its own, and served at a port, for the scripts beside this one. AVRSTK names it, else
-it is the proved one (crates/avrstk/out/avrstk), or else the one without proofs (out/unproved/avrstk)."""
+it is the one that ./avrstk runs: the proved one, or else the one without proofs."""
 
 import os
 import socket
@@ -12,24 +12,17 @@ from pathlib import Path
 from cases import PATIENCE
 
 TOP = Path(__file__).resolve().parent.parent
-# the programs that may be built: the proved one, as rt ci leaves it, and the one without proofs
-BUILT = [TOP / "crates/avrstk/out/avrstk", TOP / "out/unproved/avrstk"]
 NAMED = os.environ.get("AVRSTK")
 
 
-def is_current(program):
-    """Whether a program is there, and no source is newer."""
-    sources = [TOP / "crates.txt", *(it for name in ("src", "specs", "proofs") for it in TOP.glob(f"crates/*/{name}/**/*"))]
-    return program.exists() and all(it.stat().st_mtime <= program.stat().st_mtime for it in sources)
-
-
 def program():
-    """The program that is run: the one that AVRSTK names, else the first that is built; says which that is."""
+    """The program that is run: the one that AVRSTK names, else the one that ./avrstk runs, and then says which that is."""
     if NAMED:
         return Path(NAMED).resolve()
-    found = next(filter(is_current, BUILT), None)
-    if not found:
-        sys.exit("no program is built from these sources: ./avrstk --unproved builds it in a minute, ./avrstk --build proves it")
+    which = subprocess.run([TOP / "avrstk", "--which"], stdout=subprocess.PIPE, text=True)
+    if which.returncode:
+        sys.exit(which.returncode)
+    found = Path(which.stdout.strip())
     print(f"over {found.relative_to(TOP)}", flush=True)
     return found
 
