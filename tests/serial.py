@@ -9,6 +9,7 @@ talk, and how it ends at a signal; and the recipes of docs/USAGE for a serial li
 
 import array
 import fcntl
+import itertools
 import os
 import pty
 import re
@@ -18,6 +19,7 @@ import signal
 import socket
 import subprocess
 import sys
+import tempfile
 import termios
 import threading
 import time
@@ -28,11 +30,20 @@ from cases import PATIENCE, leave_out, named, run_cases, same, see
 from program import PROGRAM, TOP, Room, Server, free_port, lines
 
 SCRIPT = TOP / "avrstk-serial"
+PYTHON = shutil.which("python3", path="/usr/bin:/bin") or sys.executable
 SIGNATURE = "device signature = 1E 95 0F"
 FIRMWARE = [SIGNATURE, "chip erased", "flash: 228 bytes written", "flash: 228 bytes verified", "done"]
 FLASH = ["-p", "m328p", "-U", "flash:w:blink.hex:i"]
 CALL = "avrstk -p m328p -P net:127.0.0.1:5000 -U flash:w:firmware.hex:i"
 room = Room()
+boards = itertools.count()
+
+
+def is_open(line):
+    """Whether the other end of a pseudo terminal is open."""
+    look = select.poll()
+    look.register(line)
+    return not any(what & select.POLLHUP for _, what in look.poll(0))
 
 
 class Board:
@@ -43,30 +54,22 @@ class Board:
 
     def __init__(self, deaf=0.0, gone=None, part="m328p", talk=None, vanish=None, answer=None, words=()):
         self.deaf, self.gone, self.talk, self.vanish, self.answer = deaf, gone, talk, vanish, answer
-        self.opened = self.heard = 0
-        self.server = None if talk else Server(room, "served.bin", part, words)
-        self.line, slave = pty.openpty()
-        tty.setraw(slave)
-        self.device = os.ttyname(slave)
-        os.close(slave)
+        self.opened, self.heard, self.chip = 0, b"", f"served{next(boards)}.bin"
+        self.server = None if talk else Server(room, self.chip, part, words)
+        self.line, self.device = terminal()
         self.stopped = threading.Event()
         self.thread = threading.Thread(target=self.live, daemon=True)
         self.thread.start()
 
-    def is_open(self):
-        look = select.poll()
-        look.register(self.line)
-        return not any(what & select.POLLHUP for _, what in look.poll(0))
-
     def live(self):
-        while not self.is_open():
+        while not is_open(self.line):
             if self.stopped.wait(0.001):
                 return
         self.opened = 1
         self.talks() if self.talk else self.answers()
 
     def talks(self):
-        while self.is_open() and not self.stopped.wait(0.05):
+        while is_open(self.line) and not self.stopped.wait(0.05):
             os.write(self.line, self.talk)
 
     def answers(self):
@@ -80,7 +83,7 @@ class Board:
                     except OSError:
                         return
                     age = time.monotonic() - begun
-                    self.heard += len(heard)
+                    self.heard += heard
                     called = called or age >= self.deaf and (self.gone is None or age < self.gone)
                     if called:
                         programmer.sendall(heard)
@@ -105,7 +108,7 @@ class Board:
             self.server.end()
         if self.vanish is None:
             os.close(self.line)
-        return room.read("served.bin")
+        return room.read(self.chip)
 
 
 def start(words, **more):
@@ -122,6 +125,47 @@ def run(words, **more):
     own = [it[15:] for it in told.decode().splitlines() if it.startswith("avrstk-serial: ")]
     others = b"".join(it for it in told.splitlines(True) if not it.startswith(b"avrstk-serial: "))
     return started.returncode, output, others, own
+
+
+def wait_until(what):
+    ends = time.monotonic() + PATIENCE
+    while not what():
+        if time.monotonic() > ends:
+            raise SystemExit("what is waited for does not come")
+        time.sleep(0.002)
+
+
+def speed(line):
+    """Both speeds of a pseudo terminal, whose two ends have one set of flags (TCGETS2 has any speed)."""
+    held = array.array("I", bytes(44))
+    fcntl.ioctl(line, 0x802C542A, held)
+    return held[9], held[10]
+
+
+def run_as_anyone(words, program):
+    """The script as nobody where this is root, who may do all. (A Python that root alone may run doesn't serve there.)"""
+    how = {"user": 65534, "group": 65534, "extra_groups": []} if os.geteuid() == 0 else {}
+    how |= {"input": SCRIPT.read_bytes(), "capture_output": True, "cwd": "/", "timeout": PATIENCE}
+    return subprocess.run([PYTHON, "-", *words], env=os.environ | {"AVRSTK": str(program)}, **how)
+
+
+def terminal():
+    """A pseudo terminal that passes each byte: its line, and the name of its device."""
+    line, slave = pty.openpty()
+    tty.setraw(slave)
+    device = os.ttyname(slave)
+    os.close(slave)
+    return line, device
+
+
+def stand_in(text, folder=None):
+    """A program in Python to be run in the place of avrstk: it is called with the script's port as `port`."""
+    file = (folder or room.folder) / "stand-in"
+    begin = f"#!{PYTHON}\nimport os, socket, sys, time\n"
+    port = "port = int(sys.argv[sys.argv.index('-P') + 1].rpartition(':')[2])\n"
+    file.write_text(begin + port + text)
+    file.chmod(0o755)
+    return {"AVRSTK": str(file)}
 
 
 def emulated(words, part="m328p"):
@@ -177,12 +221,8 @@ def speed_and_line():
     room.clear()
     it = Board(deaf=1000)
     started = start([*FLASH, "-P", it.device, "-b", "250000"])
-    while not it.heard:
-        time.sleep(0.005)
-    # (the line of a pseudo terminal has one set of flags for both of its ends; TCGETS2 tells any speed)
-    held = array.array("I", bytes(44))
-    fcntl.ioctl(it.line, 0x802C542A, held)
-    same("the speed", (held[9], held[10]), (250_000, 250_000))
+    wait_until(lambda: it.heard)
+    same("the speed", speed(it.line), (250_000, 250_000))
     read, written, control, local, *_ = termios.tcgetattr(it.line)
     same("bytes that are read are left alone", read, termios.IGNPAR)
     same("bytes that are written, and the terminal", (written, local), (0, 0))
@@ -289,12 +329,7 @@ def devices():
         status, _, _, own = run([*FLASH, *words])
         see(f"device {words}", (status, len(own)) == (1, 1) and own[0].startswith(wanted), own)
     os.chmod(device, 0)
-    # (as nobody where this is root, who may do all; a Python that root alone may run doesn't serve there)
-    how = {"user": 65534, "group": 65534, "extra_groups": []} if os.geteuid() == 0 else {}
-    python = shutil.which("python3", path="/usr/bin:/bin") or sys.executable
-    how |= {"input": SCRIPT.read_bytes(), "capture_output": True, "cwd": "/"}
-    environment = os.environ | {"AVRSTK": shutil.which("true")}
-    ran = subprocess.run([python, "-", *FLASH, "-P", device], env=environment, **how)
+    ran = run_as_anyone([*FLASH, "-P", device], shutil.which("true"))
     see("no right to it", f"{device}: you may not read and write it".encode() in ran.stderr, ran.stderr)
     os.close(slave)
     os.close(line)
@@ -433,15 +468,184 @@ def cut_lines():
     halts.chmod(0o700)
     line, slave = pty.openpty()
     started = start([*FLASH, "-P", os.ttyname(slave)], env={"AVRSTK": str(halts)})
-    ends = time.monotonic() + PATIENCE
-    while not (room.folder / "told").exists() and time.monotonic() < ends:
-        time.sleep(0.01)
+    wait_until((room.folder / "told").exists)
     started.send_signal(signal.SIGHUP)
     _, told = started.communicate(timeout=PATIENCE)
     wanted = ["avrstk: error: ", "avrstk-serial: ended by SIGHUP: nothing was sent: the chip is as it was"]
     same("a line that is cut", (started.returncode, told.decode().splitlines()), (1, wanted))
     os.close(slave)
     os.close(line)
+
+
+# what a stand-in does that calls, and stays until it hears its byte again
+CALLS = "line = socket.create_connection(('127.0.0.1', port))\nline.sendall(b'x')\nline.recv(1)\n"
+
+
+def echo(line):
+    """Once the device is opened gives back one byte. The list gets the speed then."""
+    speeds = []
+
+    def live():
+        wait_until(lambda: is_open(line))
+        heard = os.read(line, 1)
+        speeds.append(speed(line))
+        os.write(line, heard)
+
+    threading.Thread(target=live, daemon=True).start()
+    return speeds
+
+
+def closed_streams():
+    """What is printed never goes to the board, and a run whose messages can't be printed goes on to its end."""
+    wanted = flashed()
+    room.clear()
+    for closed in ["2>&-", "0<&- 2>&-", "1>&- 2>&-", "2>/dev/full"]:
+        it = Board()
+        words = [sys.executable, str(SCRIPT), *FLASH, "-P", it.device]
+        shell = ["sh", "-c", f'exec "$0" "$@" {closed}', *words]
+        ran = subprocess.run(shell, cwd=room.folder, env=os.environ | {"AVRSTK": str(PROGRAM)}, timeout=PATIENCE)
+        same(f"{closed}: the chip and the status", (it.end() == wanted, ran.returncode), (True, 1))
+        see(f"{closed}: no message at the board", it.heard and b"avrstk" not in it.heard, it.heard)
+    it = Board()
+    shell = ["sh", "-c", 'exec "$0" "$@" >&-', sys.executable, str(SCRIPT), "-p", "m328p", "-P", it.device]
+    how = {"cwd": room.folder, "env": os.environ | {"AVRSTK": str(PROGRAM)}, "capture_output": True}
+    ran = subprocess.run([*shell, "-U", "lfuse:r:-:h"], **how, timeout=PATIENCE)
+    see("a closed output takes no value", (ran.returncode, b"-: cannot be written" in ran.stderr) == (1, True), ran)
+    it.end()
+    for words in [["-p", "?"], ["--help"]]:
+        with open("/dev/full", "w") as full:
+            status, _, told, own = run(words, stdout=full)
+        found = (status, told, own)
+        same(f"{words} to a full disk", found, (1, b"", ["standard output cannot be written: No space left on device"]))
+
+
+def messages_that_nobody_reads():
+    """A pipe that is closed after the first line, or full, doesn't hold up the run."""
+    wanted = flashed()
+    room.clear()
+    it = Board()
+    started = start([*FLASH, "-P", it.device])
+    same("the first line", started.stderr.readline(), lines(SIGNATURE))
+    started.stderr.close()
+    same("a pipe that is closed", (it.end() == wanted, started.wait(PATIENCE)), (True, 1))
+    for name, reads in [("a full pipe that is read late", True), ("a full pipe, and a signal", False)]:
+        it = Board()
+        reader, writer = os.pipe()
+        fcntl.fcntl(writer, fcntl.F_SETPIPE_SZ, 4096)
+        os.write(writer, b"x" * 4096)
+        started = start([*FLASH, "-P", it.device], stderr=writer)
+        os.close(writer)
+        wait_until(lambda: it.opened)
+        see(f"{name}: the chip", it.end() == wanted)
+        if reads:
+            with os.fdopen(reader, "rb") as pipe:
+                same(name, (pipe.read()[4096:], started.wait(PATIENCE)), (lines(*FIRMWARE), 0))
+        else:
+            started.send_signal(signal.SIGTERM)
+            same(name, started.wait(PATIENCE), 1)
+            os.close(reader)
+
+
+def one_run_at_a_time():
+    """A second run over a device is refused and changes nothing of it, also for root; one after the other isn't."""
+    room.clear()
+    line, device = terminal()
+    fake = stand_in(CALLS)
+    first = start([*FLASH, "-P", device, "-b", "57600", "--wait", "0"], env=fake)
+    wait_until(lambda: speed(line) == (57_600, 57_600))
+    status, _, told, own = run([*FLASH, "-P", device, "-b", "9600"])
+    wanted = f"{device}: cannot be opened: another program has it"
+    see("a second run at once", (status, own[-1:]) == (1, [wanted]), (status, told, own))
+    same("the first one's speed", speed(line), (57_600, 57_600))
+    echo(line)
+    first.communicate(timeout=PATIENCE)
+    same("the first one", first.returncode, 0)
+    with tempfile.TemporaryDirectory(dir="/tmp") as folder:
+        os.chmod(folder, 0o755)
+        if os.geteuid() == 0:
+            os.chown(device, 65534, 65534)
+        program = stand_in(CALLS, Path(folder))["AVRSTK"]
+        for count in ["a first", "a second"]:
+            echo(line)
+            ran = run_as_anyone([*FLASH, "-P", device, "--wait", "0"], program)
+            same(f"{count} run of an ordinary user over a terminal that stays", (ran.returncode, ran.stderr), (0, b""))
+    os.close(line)
+
+
+def settings_that_are_kept():
+    """After a run the device has the settings that it had."""
+    room.clear()
+    line, device = terminal()
+    kept = os.open(device, os.O_RDWR | os.O_NOCTTY)
+    it = termios.tcgetattr(kept)
+    it[2] |= termios.PARENB
+    it[3] |= termios.ECHO | termios.ICANON
+    it[4] = it[5] = termios.B9600
+    termios.tcsetattr(kept, termios.TCSANOW, it)
+    before = termios.tcgetattr(kept)
+    during = echo(line)
+    status, *_ = run([*FLASH, "-P", device, "-b", "74880", "--wait", "0"], env=stand_in(CALLS))
+    same("the speed of a run", during, [(74_880, 74_880)])
+    same("settings after it", (status, termios.tcgetattr(kept)), (0, before))
+    os.close(kept)
+    os.close(line)
+
+
+def devices_that_go():
+    """A device that goes while its board is left alone."""
+    room.clear()
+    line, device = terminal()
+    started = start([*FLASH, "-P", device, "--wait", "1"])
+    wait_until(lambda: is_open(line))
+    os.close(line)
+    _, told = started.communicate(timeout=PATIENCE)
+    told = told.decode().splitlines()
+    see("two lines", started.returncode == 1 and len(told) == 2 and told[0] == "avrstk: error: link ended", told)
+    see("it is gone", told[-1].startswith("avrstk-serial: the device is gone: see to the cable; the chip is as it was"), told)
+
+
+def strangers():
+    """Another program of the machine that calls the script's port first hears nothing of the board."""
+    wanted = flashed()
+    room.clear()
+    it = Board()
+    # (a program that avrstk is started by may stay beside it)
+    late = f"while not os.path.exists('go'):\n    time.sleep(0.01)\nimport subprocess\n"
+    late += f"sys.exit(subprocess.call(['{PROGRAM}', *sys.argv[1:]]))\n"
+    fake = stand_in("open('port', 'w').write(str(port) + '\\n')\n" + late)
+    started = start([*FLASH, "-P", it.device], env=fake)
+    wait_until(lambda: (room.read("port") or b"").endswith(b"\n"))
+    with socket.create_connection(("127.0.0.1", int(room.read("port"))), PATIENCE) as stranger:
+        stranger.sendall(bytes.fromhex("1B0100010E0114"))
+        try:
+            heard = stranger.recv(100)
+        except ConnectionResetError:
+            heard = b""
+    same("the stranger hears", heard, b"")
+    room.put("go", b"")
+    _, told = started.communicate(timeout=PATIENCE)
+    line = b"avrstk-serial: another program called the port of this run, and was refused\n"
+    same("the run", (started.returncode, told, it.end() == wanted), (0, line + lines(*FIRMWARE), True))
+
+
+def names_and_interrupts():
+    """Control bytes and bytes that are not UTF-8, and Ctrl-C before there is a run."""
+    for device, shown in [
+        (b"/dev/\xff\xc3\xa9", "/dev/\\xff\u00e9"),
+        ("/dev/\x1b[31m\nx\x7f\u009b".encode(), "/dev/\\x1b[31m\\x0ax\\x7f\\xc2\\x9b"),
+    ]:
+        started = start([*FLASH, "-P", device])
+        _, told = started.communicate(timeout=PATIENCE)
+        wanted = f"avrstk-serial: {shown}: there is no such device (is the cable in?)\n".encode()
+        same(f"the name {device}", (started.returncode, told), (1, wanted))
+    # a module of this name is loaded in the place of Python's, and is where Ctrl-C comes
+    modules = room.folder / "modules"
+    modules.mkdir()
+    (modules / "glob.py").write_text("import os, signal, time\nos.kill(os.getpid(), signal.SIGINT)\ntime.sleep(1)\n")
+    started = start(["--help"], env={"PYTHONPATH": str(modules)})
+    found = (*started.communicate(timeout=PATIENCE), started.returncode)
+    same("Ctrl-C at once", found, (b"", b"", -signal.SIGINT))
+    shutil.rmtree(modules)
 
 
 def recipe(begin):
@@ -476,11 +680,7 @@ def ended(started):
 def wait_for(port):
     """Waits until somebody listens, without a call."""
     mark = f" 0100007F:{port:04X} 00000000:0000 0A "
-    ends = time.monotonic() + PATIENCE
-    while mark not in Path("/proc/net/tcp").read_text():
-        if time.monotonic() > ends:
-            raise SystemExit(f"nobody listens at port {port}")
-        time.sleep(0.01)
+    wait_until(lambda: mark in Path("/proc/net/tcp").read_text())
 
 
 def recipe_of_the_script():
@@ -553,6 +753,13 @@ CASES = named(
     boards_that_fail,
     signals,
     cut_lines,
+    closed_streams,
+    messages_that_nobody_reads,
+    one_run_at_a_time,
+    settings_that_are_kept,
+    devices_that_go,
+    strangers,
+    names_and_interrupts,
     recipe_of_the_script,
     recipe_of_a_plain_bridge,
     recipe_of_ser2net,
