@@ -2,8 +2,8 @@
 """Runs the commands that README and docs/USAGE show, as they are typed, in a fresh clone in which only the first of README
 was run: each ends with status 0, none starts a build, and git sees no file that they made.
 
-    tests/recipes.py [CASE ..]      over the program that tests/program.py finds, as the one without proofs; AVRDUDE's
-                                    calls are left out without AVRDUDE 7.1, and those of srec_cmp without that
+    tests/recipes.py [CASE ..]      needs a built program (program.py), which is the one without proofs in the clone; calls
+                                    of AVRDUDE are left out without AVRDUDE 7.1, and those of srec_cmp without srecord
 
 Only what is somebody's own is another here: the port, the home folder, the firmware, and the board, which is a pseudo
 terminal with the emulated programmer behind it.

@@ -1,7 +1,7 @@
 #!/usr/bin/env python3
 """Runs avrstk-serve: clients one after another, such as send nothing, reset the connection or are idle, and how it ends.
 
-    tests/serve.py [CASE ..]        over the program that tests/program.py finds
+    tests/serve.py [CASE ..]        needs a built program (program.py)
 """
 
 import os
