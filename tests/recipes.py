@@ -37,11 +37,6 @@ trap 'kill $(jobs -p) 2>/dev/null; wait' EXIT
 """
 
 
-def git(*words, at=TOP):
-    ran = subprocess.run(["git", "-C", at, *words], capture_output=True, text=True, check=True)
-    return ran.stdout
-
-
 class Clone:
     """A clone with what isn't committed yet, in a folder with a home and an `rt` that notes its words."""
 
@@ -49,20 +44,31 @@ class Clone:
         self.folder = Path(folder)
         self.top = self.folder / "avrstk"
         self.noted = self.folder / "noted"
-        git("clone", "-q", TOP, self.top)
-        changed = git("diff", "-z", "--name-only", "HEAD") + git("ls-files", "-z", "-o", "--exclude-standard")
+        for it in ["home", "bin"]:
+            (self.folder / it).mkdir()
+        # (whoever owns the repository)
+        (self.folder / "home/.gitconfig").write_text("[safe]\n\tdirectory = *\n")
+        self.git("clone", "-q", TOP, self.top)
+        changed = self.git("diff", "-z", "--name-only", "HEAD") + self.git("ls-files", "-z", "-o", "--exclude-standard")
         for name in changed.split("\0"):
             if name and (TOP / name).exists():
                 (self.top / name).parent.mkdir(parents=True, exist_ok=True)
                 shutil.copy(TOP / name, self.top / name)
-        self.was = git("status", "--porcelain", at=self.top)
+        self.was = self.status()
         (self.top / "out/unproved").mkdir(parents=True)
         shutil.copyfile(PROGRAM, self.top / "out/unproved/avrstk")
         (self.top / "out/unproved/avrstk").chmod(0o755)
-        for it in ["home", "bin"]:
-            (self.folder / it).mkdir()
         (self.folder / "bin/rt").write_text(RT)
         (self.folder / "bin/rt").chmod(0o755)
+
+    def git(self, *words, at=TOP):
+        environment = os.environ | {"HOME": str(self.folder / "home")}
+        ran = subprocess.run(["git", "-C", at, *words], capture_output=True, text=True, check=True, env=environment)
+        return ran.stdout
+
+    def status(self):
+        """What git sees in it that isn't committed."""
+        return self.git("status", "--porcelain", at=self.top)
 
     def types(self, commands):
         """Types commands, one after another, into one shell; gives what it printed."""
@@ -109,7 +115,7 @@ def in_a_clone(case):
         with tempfile.TemporaryDirectory() as folder:
             clone = Clone(folder)
             case(clone)
-            same("git sees no new file", git("status", "--porcelain", at=clone.top), clone.was)
+            same("git sees no new file", clone.status(), clone.was)
 
     run.__name__ = case.__name__
     return run
