@@ -457,17 +457,17 @@ def failing(cases):
 
 
 def programs():
-    """Which program it runs where none is named: the installed or proved one, or the one that is not proved."""
+    """Which program it runs if none is named: the one beside it, and in a clone what ./avrstk runs without building."""
     room.clear()
     folder = room.folder / "clone"
-    proved, unproved = folder / "crates/avrstk/out/avrstk", folder / "out/unproved/avrstk"
+    front, proved, unproved = (folder / it for it in ["avrstk", "crates/avrstk/out/avrstk", "out/unproved/avrstk"])
     for it in [proved, unproved]:
         it.parent.mkdir(parents=True)
     shutil.copy(SCRIPT, folder)
     environment = {name: value for name, value in os.environ.items() if name != "AVRSTK"}
 
-    def ran(*front):
-        command = [sys.executable, str(folder / "avrstk-serial"), *front, "-p", "m328p", "-P", "emu:x"]
+    def ran(*words):
+        command = [sys.executable, str(folder / "avrstk-serial"), *words]
         it = subprocess.run(command, capture_output=True, text=True, env=environment, timeout=PATIENCE)
         return it.returncode, it.stdout, it.stderr
 
@@ -475,20 +475,21 @@ def programs():
         file.write_text(f"#!/bin/sh\necho {file} $1\n")
         file.chmod(0o755)
 
-    front = folder / "avrstk"
+    port = ["-p", "m328p", "-P", "emu:x"]
     needed = "avrstk is needed beside this script, or named by AVRSTK"
-    same("nothing", ran(), (1, "", f"avrstk-serial: {front} is not there, or can't be run: {needed}\n"))
+    same("nothing", ran(*port), (1, "", f"avrstk-serial: {front} is not there, or can't be run: {needed}\n"))
     put(front)
-    ways = f"{front} --unproved compiles it in about a minute, {front} --build proves and builds it"
-    same("not built", ran(), (1, "", f"avrstk-serial: avrstk is not built: {ways}\n"))
+    same("the installed one", ran(*port), (0, f"{front} -P\n", ""))
+    same("--unproved", ran("--unproved", *port), (0, f"{front} --unproved\n", ""))
+    shutil.copy(TOP / "avrstk", folder)
+    line, device = terminal()
+    status, _, told = ran("-p", "m328p", "-P", device)
+    see("not built", status == 1 and all(f"{front} {it} " in told for it in ["--unproved", "--build"]), told)
+    os.close(line)
     put(unproved)
-    note = f"avrstk-serial: runs the unproved program ({front} --build proves and builds it)\n"
-    same("the unproved one", ran(), (0, f"{unproved} -P\n", note))
+    same("the unproved one", ran(*port), (0, f"{unproved} -P\n", "avrstk: unproved: nothing of this program was proved\n"))
     put(proved)
-    same("the proved one", ran(), (0, f"{proved} -P\n", ""))
-    same("--unproved", ran("--unproved"), (0, f"{front} --unproved\n", ""))
-    shutil.rmtree(folder / "crates")
-    same("the installed one", ran(), (0, f"{front} -P\n", ""))
+    same("the proved one", ran(*port), (0, f"{proved} -P\n", ""))
     shutil.rmtree(folder)
 
 
