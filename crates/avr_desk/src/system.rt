@@ -1,5 +1,5 @@
 //! The desk of a program: files and standard streams.
-ghost use Rattle.std.specs.Prelude.{◌≡◌, ◌<◌, ◌≤◌, length, take, IfOk, IfErr, OnErr, true, false, [], None, Some};
+ghost use Rattle.std.specs.Prelude.{◌≡◌, ◌<◌, ◌≤◌, length, take, IfOk, IfErr, OnOk, OnErr, true, false, [], None, Some};
 ghost use Rattle.std.specs.Io.KnownBytes.{Keeps, Appends, Consumes, IsAtEnd};
 ghost use Rattle.std.specs.IoError.{error_kind};
 ghost use Rattle.ghosts.specs.Failures.{HasRisen};
@@ -18,6 +18,7 @@ use crate::file_system::FileSystem;
 use crate::journal::{Call, Journal};
 use crate::replacing::replace_named;
 use crate::stream::Stream;
+use ghosts::Outlet;
 use std::io::{ErrorKind, Read, Write};
 use std::marker::Model;
 use std::{fmt, io};
@@ -123,11 +124,12 @@ fn write_some<W: Write>(to: &mut W, bytes: &[u8]) -> io::Result<usize>
 }
 
 /// Flushes once, and again where a signal came in between.
-fn flush<W: Write>(to: &mut W) -> io::Result<()>
-    ensures { Keeps (W.contents to.old) (W.contents to.new) }
+fn flush<W: Outlet>(to: &mut W) -> io::Result<()>
+    ensures bytes { Keeps (W.contents to.old) (W.contents to.new) }
+    ensures out { OnOk result (W.is_out to.new) }
 {
     for _ in 0..u64::MAX {
-        match to.flush() {
+        match to.flush_out() {
             Err(error) if error.kind() == ErrorKind::Interrupted => {}
             result => return result,
         }
@@ -136,7 +138,7 @@ fn flush<W: Write>(to: &mut W) -> io::Result<()>
 }
 
 /// Writes once, and sees that it went out. A flush may fail after bytes that were taken: these are recorded too.
-fn write_through<W: Write>(
+fn write_through<W: Outlet>(
     to: &mut W,
     stream: Stream,
     bytes: &[u8],
@@ -146,6 +148,7 @@ fn write_through<W: Write>(
     ensures some { IfOk result (λ n. n ≡ 0 → bytes.now ≡ []) }
     ensures taken { TakesTruly stream bytes.now (W.contents to.old) (W.contents to.new) journal.old.kept
         journal.new.kept result }
+    ensures out { OnOk result (W.is_out to.new) }
 {
     let count = write_some(to, bytes)?;
     *journal = journal.then(&Call::Sent(stream, bytes, count));
@@ -219,7 +222,8 @@ impl<'a, R: FileSystem + Input, O: Write + Drop, E: Write + Drop> SystemDesk<'a,
     }
 }
 
-impl<'a, R: FileSystem + Input, O: Write + Drop, E: Write + Drop> Desk for SystemDesk<'a, R, O, E> {
+impl<'a, R: FileSystem + Input, O: Outlet + Drop, E: Outlet + Drop> Desk
+    for SystemDesk<'a, R, O, E> {
     ghost view = { shown_view };
 
     ghost Start = { Shown R.File R.Hold R.Reader O E };
@@ -392,6 +396,7 @@ impl<'a, R: FileSystem + Input, O: Write + Drop, E: Write + Drop> Desk for Syste
             (O.contents self.new.output) bytes.now result }
         ensures truly { to_output self.old ≡ true → TakesTruly File bytes.now (O.contents self.old.output)
             (O.contents self.new.output) self.old.kept self.new.kept result }
+        ensures flushed { to_output self.old ≡ true → OnOk result (O.is_out self.new.output) }
         ensures elsewhere { to_output self.old ≡ false → self.new.output ≡ self.old.output }
         ensures quiet { self.new ≡ record self.old {
           output = self.new.output;
@@ -437,6 +442,7 @@ impl<'a, R: FileSystem + Input, O: Write + Drop, E: Write + Drop> Desk for Syste
         ensures output { AppendsTaken (O.contents self.old.output) (O.contents self.new.output) bytes.now result }
         ensures truly { TakesTruly Output bytes.now (O.contents self.old.output) (O.contents self.new.output)
             self.old.kept self.new.kept result }
+        ensures flushed { OnOk result (O.is_out self.new.output) }
         ensures quiet { self.new ≡ record self.old {
           output = self.new.output;
           failures = self.new.failures;
@@ -461,6 +467,7 @@ impl<'a, R: FileSystem + Input, O: Write + Drop, E: Write + Drop> Desk for Syste
         ensures messages { AppendsTaken (E.contents self.old.messages) (E.contents self.new.messages) bytes.now result }
         ensures truly { TakesTruly Messages bytes.now (E.contents self.old.messages) (E.contents self.new.messages)
             self.old.kept self.new.kept result }
+        ensures flushed { OnOk result (E.is_out self.new.messages) }
         ensures quiet { self.new ≡ record self.old {
           messages = self.new.messages;
           failures = self.new.failures;
