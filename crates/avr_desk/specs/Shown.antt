@@ -3,29 +3,39 @@ use Rattle.std.specs.Prelude.{◌≡◌, ◌++◌, ℕ, Bool, false, ◌≤◌, 
 use Rattle.std.specs.Io.KnownBytes.{Appends}
 use Rattle.std.specs.List.{list_any}
 use Rattle.std.specs.declared.io.ErrorKind.{ErrorKind}
+use Rattle.std.specs.declared.io.Read.{Ghosts as Reads}
+use Rattle.std.specs.declared.io.Write.{Ghosts as Writes}
+use Rattle.avr_desk.specs.Handles.{AreTrue}
 use Rattle.avr_desk.specs.Named.{is_dash}
 use Rattle.avr_desk.specs.Record.{Bytes, Record, DeskView, all_files, showing}
+use Rattle.avr_desk.specs.Standing.{is_output}
 use Rattle.avr_desk.specs.Stream.{after_sent}
+use Rattle.avr_desk.specs.declared.file_system.FileSystem.{Ghosts}
 use Rattle.avr_desk.specs.declared.record.Writing.{Writing}
 use Rattle.avr_desk.specs.declared.stream.Stream.{Stream}
 use Rattle.avr_desk.specs.declared.desk.DeskFault.{DeskFault}
 use Rattle.avr_desk.specs.declared.desk.DeskFault.TheVariants.{Failed, NotFound}
+use Rattle.avr_desk.specs.declared.system.Held.{Held}
 
 -- the writers of the output and of the messages, the failures and those at the messages, the kind of the error of the
--- last failure, and whether what is written to the file goes to the output; and what passed, which is kept for proofs
--- alone
-pub record Shown (O E : Type 0) : Type 0 where
+-- last failure, what is open and what is held, by their handles; and what passed, which is kept for proofs alone
+pub record Shown (F H I O E : Type 0) : Type 0 where
   pub output : O
   pub messages : E
   pub failures : ℕ
   pub unsaid : ℕ
   pub error : Option ErrorKind
-  pub to_output : Bool
+  pub opened : Held F I
+  pub hold : Option H
   pub kept : Record
 
 -- what it shows as any desk does
-abbrev pub shown_view : {O E : Type 0} → Shown O E → DeskView
+abbrev pub shown_view : {F H I O E : Type 0} → Shown F H I O E → DeskView
 shown_view d = showing d.kept d.failures d.unsaid
+
+-- whether what is written to the file goes to the output
+abbrev pub to_output : {F H I O E : Type 0} → Shown F H I O E → Bool
+to_output d = is_output d.opened
 
 -- the error that a desk keeps after a call: a failure has one, and every other answer leaves that of the last failure
 abbrev pub KeepsError : {A : Type 0} → Option ErrorKind → Option ErrorKind → Result A DeskFault → Type 0
@@ -72,16 +82,18 @@ to_output_created name (Err fault) before = before
 abbrev pub has_dash : List Writing → Bool
 has_dash = list_any (λ file. is_dash file.name)
 
--- What a desk keeps of its writers since it was `old` is true: their bytes, where they are known, have grown by what
--- was sent to them. For the output that is so as long as no file is the output too, then and since; one that was stays
--- among the files.
-pub record IsTrueSince {O E : Type 0} (output_of : O → Option Bytes) (messages_of : E → Option Bytes)
-    (old new : Shown O E) : Type 0 where
+-- What a desk keeps since it was `old` is true. Of its writers: their bytes, where they are known, have grown by what was
+-- sent to them. For the output that is so as long as no file is the output too, then and since; one that was stays among
+-- the files. Of files and standard input: it is what the system answered, if it was so of what it kept before.
+pub record IsTrueSince {S F H I O E : Type 0} (system : Ghosts S F H) (reads : Reads F) (writes : Writes F)
+    (input : Reads I) (output_of : Writes O) (messages_of : Writes E) (old new : Shown F H I O E) : Type 0 where
   pub said : Bytes
   pub messages : new.kept.messages ≡ old.kept.messages ++ said
-  pub told : Appends (messages_of old.messages) (messages_of new.messages) said
+  pub told : Appends (messages_of.contents old.messages) (messages_of.contents new.messages) said
   pub put : Bytes
   pub output : new.kept.output ≡ old.kept.output ++ put
   pub dashes : has_dash (all_files new.kept) ≡ false → has_dash (all_files old.kept) ≡ false
-  pub out : has_dash (all_files new.kept) ≡ false → old.to_output ≡ false
-      → (new.to_output ≡ false) × Appends (output_of old.output) (output_of new.output) put
+  pub out : has_dash (all_files new.kept) ≡ false → to_output old ≡ false
+      → (to_output new ≡ false) × Appends (output_of.contents old.output) (output_of.contents new.output) put
+  pub files : AreTrue system reads writes input old.opened old.hold old.kept
+      → AreTrue system reads writes input new.opened new.hold new.kept

@@ -1,17 +1,17 @@
 //! Laws of what desks keep, over their definitions alone.
-ghost use Rattle.std.specs.Prelude.{◌≡◌, []};
+ghost use Rattle.std.specs.Prelude.{◌≡◌, [], None};
 ghost use Rattle.ghosts.specs.Stays.{Stays};
+ghost use Rattle.avr_desk.specs.Handles.{AreTrue};
 ghost use Rattle.avr_desk.specs.Memory.{MemDeskState, Stock, stock_of};
 ghost use Rattle.avr_desk.specs.Record.{all_uses, nothing_kept};
 ghost use Rattle.avr_desk.specs.Shown.{IsTrueSince};
-ghost use Rattle.avr_desk.specs.Truth.{AreTrue, HoldsTrue};
+ghost use Rattle.avr_desk.specs.Truth.{AreTrue as AreTrueOf, HoldsTrue};
+ghost use Rattle.avr_desk.specs.declared.system.Held.TheVariants.{Nothing};
 
+use crate::file_system::FileSystem;
 use crate::mem_desk::MemDesk;
 use crate::system::SystemDesk;
-use std::alloc::Global;
-use std::fs;
 use std::io::Write;
-use std::rt::Files;
 
 /// Whatever was done with a desk in memory, each opening that it shows gave what its name stood for then, by the files
 /// that it shows to have been made before: a prefix of the bytes of the newest one, all of them where the end was seen,
@@ -23,17 +23,21 @@ pub fn what_a_desk_in_memory_gives_is_true(before: &MemDesk, after: &MemDesk)
     ensures begins { (fresh : MemDeskState) → fresh.kept ≡ nothing_kept
         → HoldsTrue (stock_of fresh) fresh }
     ensures gives { (stock : Stock) → HoldsTrue stock before.now
-        → AreTrue stock [] (all_uses after.now.kept) }
+        → AreTrueOf stock [] (all_uses after.now.kept) }
 {}
 
-/// Whatever was done with a desk over writers, its record of them is true: their bytes, where they are known, have
-/// grown by what was sent to the messages, and to the output as long as no file is the output too.
-pub fn what_a_desk_keeps_of_its_writers_is_true<
+/// Whatever was done with the desk of a program, its record is true: of its writers, as their bytes, where they are known,
+/// have grown by what was sent to the messages, and to the output as long as no file is the output too; and of files and
+/// standard input, as the system answered so, of the names that it was asked for.
+pub fn what_a_desk_of_a_program_keeps_is_true<
     'a,
-    R: Files<File = fs::File> + Input + Alloc<A = Global>,
+    R: FileSystem + Input,
     O: Write + Drop,
     E: Write + Drop,
 >(before: &SystemDesk<'a, R, O, E>, after: &SystemDesk<'a, R, O, E>)
-    requires { Stays (IsTrueSince O.contents E.contents) before.now after.now }
-    ensures { IsTrueSince O.contents E.contents before.now after.now }
+    requires { Stays (IsTrueSince R.FileSystem R.File.Read R.File.Write R.Reader.Read O.Write E.Write)
+        before.now after.now }
+    ensures since { IsTrueSince R.FileSystem R.File.Read R.File.Write R.Reader.Read O.Write E.Write
+        before.now after.now }
+    ensures begins { AreTrue R.FileSystem R.File.Read R.File.Write R.Reader.Read Nothing None nothing_kept }
 {}

@@ -23,6 +23,7 @@ mod message;
 
 // The desks.
 mod failing;
+mod file_system;
 mod journal;
 mod kept;
 mod mem_desk;
@@ -36,8 +37,9 @@ mod laws;
 pub use bytes::Bytes;
 pub use desk::{Desk, DeskFault};
 pub use failing::FailingDesk;
+pub use file_system::FileSystem;
 pub use files::{Contents, FileFault, read_file};
-pub use laws::{what_a_desk_in_memory_gives_is_true, what_a_desk_keeps_of_its_writers_is_true};
+pub use laws::{what_a_desk_in_memory_gives_is_true, what_a_desk_of_a_program_keeps_is_true};
 pub use line::{Piece, print_error, print_information, print_warning};
 pub use mem_desk::MemDesk;
 pub use message::{

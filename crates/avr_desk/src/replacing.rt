@@ -2,6 +2,11 @@
 //!
 //! The new file stands beside the one that it replaces, whose name with `.avrstk-new` it has, and whoever has locked it
 //! holds that file. It stays locked until it is renamed or removed, and the system unlocks it where a program ends.
+ghost use Rattle.std.specs.Prelude.{Option, OnOk};
+ghost use Rattle.avr_desk.specs.Handles.{IsHeldBy};
+ghost use Rattle.avr_desk.specs.Record.{Bytes};
+
+use crate::file_system::FileSystem;
 use std::alloc::Global;
 use std::fs::{File, Metadata, OpenOptions, TryLockError};
 use std::io::{ErrorKind, Seek, SeekFrom, Write};
@@ -22,7 +27,7 @@ struct NewFile {
 
 /// What takes the place of the file of this name. Without a new file it is written as it is, and not locked.
 #[derive(Drop)]
-pub(crate) struct Replacement {
+pub struct Replacement {
     name: String,
     new: Option<NewFile>,
 }
@@ -154,15 +159,29 @@ impl Replacement {
 }
 
 /// Replaces the file of this name by one of these bytes, where nobody holds it.
-pub(crate) fn replace_at_once<R: Files<File = File> + Alloc<A = Global>>(
-    rt: &R,
-    name: &str,
-    bytes: &[u8],
-) -> io::Result<()> {
-    let Some(mut replacement) = Replacement::begin(rt, name)? else {
+fn replace_at_once<R: FileSystem>(rt: &R, name: &str, bytes: &[u8]) -> io::Result<()>
+    ensures { OnOk result (R.replaced name.now bytes.now) }
+{
+    let Some(mut hold) = rt.hold_named(name)? else {
         return Err(io::Error::from(ErrorKind::WouldBlock));
     };
-    let put = replacement.put(rt, bytes);
-    replacement.leave(rt);
+    let put = rt.put_held(&mut hold, bytes);
+    rt.leave_held(hold);
     put
+}
+
+/// Replaces the file of this name by one of these bytes, by what holds it where that is here.
+pub(crate) fn replace_named<R: FileSystem>(
+    rt: &R,
+    held: &mut Option<R::Hold>,
+    name: &str,
+    bytes: &[u8],
+) -> io::Result<()>
+    ensures put { OnOk result (R.replaced name.now bytes.now) }
+    ensures stays { (name : Option Bytes) → IsHeldBy R.FileSystem held.old name → IsHeldBy R.FileSystem held.new name }
+{
+    match held {
+        Some(hold) if rt.is_held(hold, name) => rt.put_held(hold, bytes),
+        _ => replace_at_once(rt, name, bytes),
+    }
 }

@@ -1,25 +1,27 @@
 //! The desk of a program: files and standard streams.
-ghost use Rattle.std.specs.Prelude.{◌≡◌, ◌≤◌, length, take, IfOk, IfErr, OnErr, true, false, [], None, Some};
-ghost use Rattle.std.specs.Io.KnownBytes.{Keeps, Appends};
+ghost use Rattle.std.specs.Prelude.{◌≡◌, ◌<◌, ◌≤◌, length, take, IfOk, IfErr, OnOk, OnErr, true, false, [], None, Some};
+ghost use Rattle.std.specs.Io.KnownBytes.{Keeps, Appends, Consumes, IsAtEnd};
 ghost use Rattle.std.specs.IoError.{error_kind};
 ghost use Rattle.ghosts.specs.Failures.{HasRisen};
 ghost use Rattle.ghosts.specs.Stays.{Stays};
 ghost use Rattle.avr_desk.specs.Fault.{Counts, WriteCounts};
 ghost use Rattle.avr_desk.specs.Record.{HasOpen, Passes, after_open, after_create, after_hold, after_read, after_replace, released, is_to_read, is_to_write, nothing_kept};
-ghost use Rattle.avr_desk.specs.Shown.{AppendsTaken, IsTrueSince, KeepsError, Shown, TakesTruly, shown_view, to_output_opened, to_output_created, to_output_replaced};
+ghost use Rattle.avr_desk.specs.Shown.{AppendsTaken, IsTrueSince, KeepsError, Shown, TakesTruly, shown_view, to_output, to_output_opened, to_output_created, to_output_replaced};
+ghost use Rattle.avr_desk.specs.Standing.{Gives, GivesNone};
 ghost use Rattle.avr_desk.specs.Stream.{SendsTaken};
 ghost use Rattle.avr_desk.specs.declared.desk.DeskFault.TheVariants.{Failed};
 ghost use Rattle.avr_desk.specs.declared.stream.Stream.TheVariants.{File, Output, Messages};
+ghost use Rattle.avr_desk.specs.declared.system.Held.TheVariants.{Nothing};
 
 use crate::desk::{Desk, DeskFault};
+use crate::file_system::FileSystem;
 use crate::journal::{Call, Journal};
-use crate::replacing::{Replacement, replace_at_once};
+use crate::replacing::replace_named;
 use crate::stream::Stream;
-use std::alloc::Global;
+use ghosts::Outlet;
 use std::io::{ErrorKind, Read, Write};
 use std::marker::Model;
-use std::rt::Files;
-use std::{fmt, fs, io};
+use std::{fmt, io};
 
 /// What is open.
 #[derive(Drop)]
@@ -42,33 +44,24 @@ enum Held<F, I> {
 /// and it is held by a lock on that one. What is no regular file, and a link to no file, is written as it is, and held
 /// by nobody.
 #[derive(Drop)]
-pub struct SystemDesk<
-    'a,
-    R: Files<File = fs::File> + Input + Alloc<A = Global>,
-    O: Write + Drop,
-    E: Write + Drop,
-> {
+pub struct SystemDesk<'a, R: FileSystem + Input, O: Write + Drop, E: Write + Drop> {
     rt: &'a R,
     output: O,
     messages: E,
     held: Held<R::File, R::Reader>,
-    replacement: Option<Replacement>,
+    replacement: Option<R::Hold>,
     failures: u64,
     unsaid: u64,
     error: Option<ErrorKind>,
     journal: Journal,
 }
 
-impl<
-    'a,
-    R: Files<File = fs::File> + Input + Alloc<A = Global>,
-    O: Write + Drop,
-    E: Write + Drop,
-> Model for SystemDesk<'a, R, O, E> {
+impl<'a, R: FileSystem + Input, O: Write + Drop, E: Write + Drop> Model
+    for SystemDesk<'a, R, O, E> {
     ghost use Rattle.avr_desk.specs.Shown.{Shown};
-    ghost use Rattle.avr_desk.specs.Standing.{is_output, Stands};
+    ghost use Rattle.avr_desk.specs.Standing.{Stands};
 
-    ghost Value = { Shown O E };
+    ghost Value = { Shown R.File R.Hold R.Reader O E };
 
     ghost view = { λ desk. record {
       output = desk.output;
@@ -76,7 +69,8 @@ impl<
       failures = desk.failures;
       unsaid = desk.unsaid;
       error = desk.error;
-      to_output = is_output desk.held;
+      opened = desk.held;
+      hold = desk.replacement;
       kept = desk.journal.kept;
     } };
 
@@ -85,7 +79,10 @@ impl<
 
 /// Reads once, and again where a signal came in between.
 fn read_some<I: Read>(from: &mut I, buf: &mut [u8]) -> io::Result<usize>
-    ensures { IfOk result (λ n. n ≤ length buf.new) }
+    ensures bound { IfOk result (λ n. n ≤ length buf.new) }
+    ensures ok { IfOk result (λ n. Consumes (I.remaining from.old) (I.remaining from.new) (take n buf.new)) }
+    ensures end { IfOk result (λ n. n ≡ 0 → 0 < length buf.new → IsAtEnd (I.remaining from.new)) }
+    ensures err { OnErr result (Keeps (I.remaining from.old) (I.remaining from.new)) }
 {
     for _ in 0..u64::MAX {
         match from.read(buf) {
@@ -94,6 +91,19 @@ fn read_some<I: Read>(from: &mut I, buf: &mut [u8]) -> io::Result<usize>
         }
     }
     Err(io::Error::from(ErrorKind::Interrupted))
+}
+
+/// Reads what is open.
+fn read_held<F: Read, I: Read>(held: &mut Held<F, I>, buf: &mut [u8]) -> io::Result<usize>
+    ensures bound { IfOk result (λ n. n ≤ length buf.new) }
+    ensures ok { IfOk result (λ n. Gives F.Read I.Read held.old held.new buf.new n) }
+    ensures err { OnErr result (GivesNone F.Read I.Read held.old held.new) }
+{
+    match held {
+        Held::Input(input) => read_some(input, buf),
+        Held::ToRead(file) => read_some(file, buf),
+        _ => Err(io::Error::from(ErrorKind::NotFound)),
+    }
 }
 
 /// Writes once, and again where a signal came in between. To take none of some bytes is an error.
@@ -114,11 +124,12 @@ fn write_some<W: Write>(to: &mut W, bytes: &[u8]) -> io::Result<usize>
 }
 
 /// Flushes once, and again where a signal came in between.
-fn flush<W: Write>(to: &mut W) -> io::Result<()>
-    ensures { Keeps (W.contents to.old) (W.contents to.new) }
+fn flush<W: Outlet>(to: &mut W) -> io::Result<()>
+    ensures bytes { Keeps (W.contents to.old) (W.contents to.new) }
+    ensures out { OnOk result (W.is_out to.new) }
 {
     for _ in 0..u64::MAX {
-        match to.flush() {
+        match to.flush_out() {
             Err(error) if error.kind() == ErrorKind::Interrupted => {}
             result => return result,
         }
@@ -127,7 +138,7 @@ fn flush<W: Write>(to: &mut W) -> io::Result<()>
 }
 
 /// Writes once, and sees that it went out. A flush may fail after bytes that were taken: these are recorded too.
-fn write_through<W: Write>(
+fn write_through<W: Outlet>(
     to: &mut W,
     stream: Stream,
     bytes: &[u8],
@@ -137,6 +148,7 @@ fn write_through<W: Write>(
     ensures some { IfOk result (λ n. n ≡ 0 → bytes.now ≡ []) }
     ensures taken { TakesTruly stream bytes.now (W.contents to.old) (W.contents to.new) journal.old.kept
         journal.new.kept result }
+    ensures out { OnOk result (W.is_out to.new) }
 {
     let count = write_some(to, bytes)?;
     *journal = journal.then(&Call::Sent(stream, bytes, count));
@@ -163,12 +175,7 @@ fn fail(failures: &mut u64, last: &mut Option<ErrorKind>, error: &io::Error) -> 
     DeskFault::Failed
 }
 
-impl<
-    'a,
-    R: Files<File = fs::File> + Input + Alloc<A = Global>,
-    O: Write + Drop,
-    E: Write + Drop,
-> SystemDesk<'a, R, O, E> {
+impl<'a, R: FileSystem + Input, O: Write + Drop, E: Write + Drop> SystemDesk<'a, R, O, E> {
     /// A desk with nothing open.
     pub fn new(rt: &'a R, output: O, messages: E) -> SystemDesk<'a, R, O, E>
         ensures { result ≡ record {
@@ -177,7 +184,8 @@ impl<
           failures = 0;
           unsaid = 0;
           error = None;
-          to_output = false;
+          opened = Nothing;
+          hold = None;
           kept = nothing_kept;
         } }
     {
@@ -206,25 +214,21 @@ impl<
 
     /// Ends what is held to be replaced.
     fn leave_replacement(&mut self)
-        ensures { self.new ≡ self.old }
+        ensures { self.new ≡ record self.old { hold = None } }
     {
-        if let Some(replacement) = self.replacement.take() {
-            replacement.leave(self.rt);
+        if let Some(hold) = self.replacement.take() {
+            self.rt.leave_held(hold);
         }
     }
 }
 
-impl<
-    'a,
-    R: Files<File = fs::File> + Input + Alloc<A = Global>,
-    O: Write + Drop,
-    E: Write + Drop,
-> Desk for SystemDesk<'a, R, O, E> {
+impl<'a, R: FileSystem + Input, O: Outlet + Drop, E: Outlet + Drop> Desk
+    for SystemDesk<'a, R, O, E> {
     ghost view = { shown_view };
 
-    ghost Start = { Shown O E };
+    ghost Start = { Shown R.File R.Hold R.Reader O E };
 
-    ghost comes_of = { IsTrueSince O.contents E.contents };
+    ghost comes_of = { IsTrueSince R.FileSystem R.File.Read R.File.Write R.Reader.Read O.Write E.Write };
 
     fn open(&mut self, name: &str) -> Result<(), DeskFault>
         ensures kept { Passes (after_open name.now result) (shown_view self.old) (shown_view self.new) }
@@ -232,18 +236,20 @@ impl<
         ensures quiet { self.new ≡ record self.old {
           failures = self.new.failures;
           error = self.new.error;
-          to_output = to_output_opened result self.old.to_output;
+          opened = self.new.opened;
           kept = self.new.kept;
         } }
+        ensures goes { to_output self.new ≡ to_output_opened result (to_output self.old) }
         ensures error { KeepsError self.old.error self.new.error result }
-        ensures stays { Stays (IsTrueSince O.contents E.contents) self.old self.new }
+        ensures stays { Stays (IsTrueSince R.FileSystem R.File.Read R.File.Write R.Reader.Read O.Write E.Write)
+            self.old self.new }
     {
         if name == "-" {
             self.held = Held::Input(self.rt.reader());
             self.journal = self.journal.then(&Call::Opened(name.as_bytes()));
             return Ok(());
         }
-        match fs::open(self.rt, name) {
+        match self.rt.open_named(name) {
             Ok(file) => {
                 self.held = Held::ToRead(file);
                 self.journal = self.journal.then(&Call::Opened(name.as_bytes()));
@@ -258,7 +264,6 @@ impl<
         }
     }
 
-    #[tactic(auto, using(crate::proofs::Desks::TwoWriters::kept_true))]
     fn create(&mut self, name: &str) -> Result<(), DeskFault>
         ensures kept { Passes (after_create name.now result) (shown_view self.old) (shown_view self.new) }
         ensures counts { Counts File (shown_view self.old) (shown_view self.new) result }
@@ -266,18 +271,20 @@ impl<
         ensures quiet { self.new ≡ record self.old {
           failures = self.new.failures;
           error = self.new.error;
-          to_output = to_output_created name.now result self.old.to_output;
+          opened = self.new.opened;
           kept = self.new.kept;
         } }
+        ensures goes { to_output self.new ≡ to_output_created name.now result (to_output self.old) }
         ensures error { KeepsError self.old.error self.new.error result }
-        ensures stays { Stays (IsTrueSince O.contents E.contents) self.old self.new }
+        ensures stays { Stays (IsTrueSince R.FileSystem R.File.Read R.File.Write R.Reader.Read O.Write E.Write)
+            self.old self.new }
     {
         if name == "-" {
             self.held = Held::Output;
             self.journal = self.journal.then(&Call::Created(name.as_bytes()));
             return Ok(());
         }
-        match fs::create(self.rt, name) {
+        match self.rt.create_named(name) {
             Ok(file) => {
                 self.held = Held::ToWrite(file);
                 self.journal = self.journal.then(&Call::Created(name.as_bytes()));
@@ -287,7 +294,6 @@ impl<
         }
     }
 
-    #[tactic(auto, using(crate::proofs::Desks::TwoWriters::kept_true))]
     fn hold(&mut self, name: &str) -> Result<bool, DeskFault>
         ensures kept { Passes (after_hold name.now result) (shown_view self.old) (shown_view self.new) }
         ensures counts { Counts File (shown_view self.old) (shown_view self.new) result }
@@ -295,15 +301,17 @@ impl<
         ensures quiet { self.new ≡ record self.old {
           failures = self.new.failures;
           error = self.new.error;
+          hold = self.new.hold;
           kept = self.new.kept;
         } }
         ensures error { KeepsError self.old.error self.new.error result }
-        ensures stays { Stays (IsTrueSince O.contents E.contents) self.old self.new }
+        ensures stays { Stays (IsTrueSince R.FileSystem R.File.Read R.File.Write R.Reader.Read O.Write E.Write)
+            self.old self.new }
     {
-        match Replacement::begin(self.rt, name) {
-            Ok(Some(replacement)) => {
+        match self.rt.hold_named(name) {
+            Ok(Some(hold)) => {
                 self.leave_replacement();
-                self.replacement = Some(replacement);
+                self.replacement = Some(hold);
                 self.journal = self.journal.then(&Call::Held(name.as_bytes()));
                 Ok(true)
             }
@@ -315,17 +323,16 @@ impl<
         }
     }
 
-    #[tactic(auto, using(crate::proofs::Desks::TwoWriters::kept_true))]
     fn release(&mut self)
         ensures released { shown_view self.new ≡ released (shown_view self.old) }
-        ensures quiet { self.new ≡ record self.old { kept = self.new.kept } }
-        ensures stays { Stays (IsTrueSince O.contents E.contents) self.old self.new }
+        ensures quiet { self.new ≡ record self.old { hold = None; kept = self.new.kept } }
+        ensures stays { Stays (IsTrueSince R.FileSystem R.File.Read R.File.Write R.Reader.Read O.Write E.Write)
+            self.old self.new }
     {
         self.leave_replacement();
         self.journal = self.journal.then(&Call::Released);
     }
 
-    #[tactic(auto, using(crate::proofs::Desks::TwoWriters::kept_true, crate::proofs::Desks::TwoWriters::replace_true))]
     fn replace(&mut self, name: &str, bytes: &[u8]) -> Result<(), DeskFault>
         ensures kept { Passes (after_replace name.now bytes.now result) (shown_view self.old) (shown_view self.new) }
         ensures counts { Counts File (shown_view self.old) (shown_view self.new) result }
@@ -333,17 +340,16 @@ impl<
         ensures quiet { self.new ≡ record self.old {
           failures = self.new.failures;
           error = self.new.error;
-          to_output = to_output_replaced result self.old.to_output;
+          opened = self.new.opened;
+          hold = self.new.hold;
           kept = self.new.kept;
         } }
+        ensures goes { to_output self.new ≡ to_output_replaced result (to_output self.old) }
         ensures error { KeepsError self.old.error self.new.error result }
-        ensures stays { Stays (IsTrueSince O.contents E.contents) self.old self.new }
+        ensures stays { Stays (IsTrueSince R.FileSystem R.File.Read R.File.Write R.Reader.Read O.Write E.Write)
+            self.old self.new }
     {
-        let replaced = match &mut self.replacement {
-            Some(replacement) if replacement.is_of(name) => replacement.put(self.rt, bytes),
-            _ => replace_at_once(self.rt, name, bytes),
-        };
-        match replaced {
+        match replace_named(self.rt, &mut self.replacement, name, bytes) {
             Ok(()) => {
                 self.leave_replacement();
                 self.held = Held::Nothing;
@@ -354,7 +360,6 @@ impl<
         }
     }
 
-    #[tactic(auto, using(crate::proofs::Desks::TwoWriters::read_true))]
     fn read(&mut self, buf: &mut [u8]) -> Result<usize, DeskFault>
         ensures bound { IfOk result (λ n. n ≤ length buf.new) }
         ensures kept { Passes (after_read buf.new result) (shown_view self.old) (shown_view self.new) }
@@ -364,17 +369,15 @@ impl<
         ensures quiet { self.new ≡ record self.old {
           failures = self.new.failures;
           error = self.new.error;
+          opened = self.new.opened;
           kept = self.new.kept;
         } }
+        ensures goes { to_output self.new ≡ to_output self.old }
         ensures error { KeepsError self.old.error self.new.error result }
-        ensures stays { Stays (IsTrueSince O.contents E.contents) self.old self.new }
+        ensures stays { Stays (IsTrueSince R.FileSystem R.File.Read R.File.Write R.Reader.Read O.Write E.Write)
+            self.old self.new }
     {
-        let result = match &mut self.held {
-            Held::Input(input) => read_some(input, buf),
-            Held::ToRead(file) => read_some(file, buf),
-            _ => Err(io::Error::from(ErrorKind::NotFound)),
-        };
-        match result {
+        match read_held(&mut self.held, buf) {
             Ok(count) => {
                 self.journal = self.journal.then(&Call::Read(&*buf, count));
                 Ok(count)
@@ -383,26 +386,29 @@ impl<
         }
     }
 
-    #[tactic(auto, using(crate::proofs::Desks::TwoWriters::kept_true, crate::proofs::Desks::TwoWriters::write_true))]
     fn write(&mut self, bytes: &[u8]) -> Result<usize, DeskFault>
         ensures bound { IfOk result (λ n. n ≤ length bytes.now) }
         ensures shown { SendsTaken File bytes.now (shown_view self.old) (shown_view self.new) result }
         ensures has_file { HasOpen is_to_write (shown_view self.old) result }
         ensures counts { WriteCounts File bytes.now (shown_view self.old) (shown_view self.new) result }
         ensures fault { IfErr result (λ e. e ≡ Failed) }
-        ensures output { self.old.to_output ≡ true → AppendsTaken (O.contents self.old.output)
+        ensures output { to_output self.old ≡ true → AppendsTaken (O.contents self.old.output)
             (O.contents self.new.output) bytes.now result }
-        ensures truly { self.old.to_output ≡ true → TakesTruly File bytes.now (O.contents self.old.output)
+        ensures truly { to_output self.old ≡ true → TakesTruly File bytes.now (O.contents self.old.output)
             (O.contents self.new.output) self.old.kept self.new.kept result }
-        ensures elsewhere { self.old.to_output ≡ false → self.new.output ≡ self.old.output }
+        ensures flushed { to_output self.old ≡ true → OnOk result (O.is_out self.new.output) }
+        ensures elsewhere { to_output self.old ≡ false → self.new.output ≡ self.old.output }
         ensures quiet { self.new ≡ record self.old {
           output = self.new.output;
           failures = self.new.failures;
           error = self.new.error;
+          opened = self.new.opened;
           kept = self.new.kept;
         } }
+        ensures goes { to_output self.new ≡ to_output self.old }
         ensures error { KeepsError self.old.error self.new.error result }
-        ensures stays { Stays (IsTrueSince O.contents E.contents) self.old self.new }
+        ensures stays { Stays (IsTrueSince R.FileSystem R.File.Read R.File.Write R.Reader.Read O.Write E.Write)
+            self.old self.new }
     {
         match &mut self.held {
             Held::ToWrite(file) => match write_some(file, bytes) {
@@ -428,7 +434,6 @@ impl<
         }
     }
 
-    #[tactic(auto, using(crate::proofs::Desks::TwoWriters::out_true))]
     fn out(&mut self, bytes: &[u8]) -> Result<usize, DeskFault>
         ensures bound { IfOk result (λ n. n ≤ length bytes.now) }
         ensures shown { SendsTaken Output bytes.now (shown_view self.old) (shown_view self.new) result }
@@ -437,6 +442,7 @@ impl<
         ensures output { AppendsTaken (O.contents self.old.output) (O.contents self.new.output) bytes.now result }
         ensures truly { TakesTruly Output bytes.now (O.contents self.old.output) (O.contents self.new.output)
             self.old.kept self.new.kept result }
+        ensures flushed { OnOk result (O.is_out self.new.output) }
         ensures quiet { self.new ≡ record self.old {
           output = self.new.output;
           failures = self.new.failures;
@@ -444,7 +450,8 @@ impl<
           kept = self.new.kept;
         } }
         ensures error { KeepsError self.old.error self.new.error result }
-        ensures stays { Stays (IsTrueSince O.contents E.contents) self.old self.new }
+        ensures stays { Stays (IsTrueSince R.FileSystem R.File.Read R.File.Write R.Reader.Read O.Write E.Write)
+            self.old self.new }
     {
         match write_through(&mut self.output, Stream::Output, bytes, &mut self.journal) {
             Ok(count) => Ok(count),
@@ -452,7 +459,6 @@ impl<
         }
     }
 
-    #[tactic(auto, using(crate::proofs::Desks::TwoWriters::err_true))]
     fn err(&mut self, bytes: &[u8]) -> Result<usize, DeskFault>
         ensures bound { IfOk result (λ n. n ≤ length bytes.now) }
         ensures shown { SendsTaken Messages bytes.now (shown_view self.old) (shown_view self.new) result }
@@ -461,6 +467,7 @@ impl<
         ensures messages { AppendsTaken (E.contents self.old.messages) (E.contents self.new.messages) bytes.now result }
         ensures truly { TakesTruly Messages bytes.now (E.contents self.old.messages) (E.contents self.new.messages)
             self.old.kept self.new.kept result }
+        ensures flushed { OnOk result (E.is_out self.new.messages) }
         ensures quiet { self.new ≡ record self.old {
           messages = self.new.messages;
           failures = self.new.failures;
@@ -469,7 +476,8 @@ impl<
           kept = self.new.kept;
         } }
         ensures error { KeepsError self.old.error self.new.error result }
-        ensures stays { Stays (IsTrueSince O.contents E.contents) self.old self.new }
+        ensures stays { Stays (IsTrueSince R.FileSystem R.File.Read R.File.Write R.Reader.Read O.Write E.Write)
+            self.old self.new }
     {
         match write_through(
             &mut self.messages,
@@ -487,12 +495,8 @@ impl<
 }
 
 /// Shows the failures, those at the messages and the error of the last, and neither the writers nor what is open.
-impl<
-    'a,
-    R: Files<File = fs::File> + Input + Alloc<A = Global>,
-    O: Write + Drop,
-    E: Write + Drop,
-> fmt::Debug for SystemDesk<'a, R, O, E> {
+impl<'a, R: FileSystem + Input, O: Write + Drop, E: Write + Drop> fmt::Debug
+    for SystemDesk<'a, R, O, E> {
     fn fmt<F: fmt::Write>(&self, f: &mut fmt::Formatter<F>) -> fmt::Result {
         f.debug_struct("SystemDesk")
             .field("failures", &self.failures)

@@ -1,4 +1,5 @@
 pub mod Lines
+pub mod Sockets
 pub mod OverNet
 pub mod ServedNet
 -- of the crates below, what public contracts name

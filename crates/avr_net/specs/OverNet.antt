@@ -36,11 +36,11 @@ pub record LacksPort (settings : Settings) (address : Bytes) (old new : DeskView
   pub told : Tells planned_desk new (unopened_line (codes "net:") address)
   pub status_is : status ≡ 1
 
--- The one or the other, or there is no plan (that the port was left alone then, no clause says). Without a part file
+-- The one, over a socket of which `over` holds (as `IsOverAddress`), or the other, or there is no plan (that the port was left alone then, no clause says). Without a part file
 -- and updates that is only since no part has the name.
-abbrev pub RunsOverNet : Settings → Bytes → DeskView → DeskView → ℕ → Type 0
-RunsOverNet settings address old new status =
-    PlaysOverNet settings old new status
+abbrev pub RunsOverNet : (LinkView → Type 0) → Settings → Bytes → DeskView → DeskView → ℕ → Type 0
+RunsOverNet over settings address old new status =
+    ((plays : PlaysOverNet settings old new status) × over (connection plays.talk plays.link_failures))
     ⊎ (LacksPort settings address old new status
     ⊎ (Goes (planned settings) old new (Err status)
     × (settings.parts ≡ None → settings.updates ≡ [] → LacksPart settings.part [] old new)))

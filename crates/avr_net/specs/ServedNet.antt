@@ -8,7 +8,7 @@ use Rattle.avr_part.specs.Part.{Part}
 use Rattle.avr_serve.specs.ServedRun.{sides, JudgesPart, ServesPart}
 use Rattle.avr_net.specs.Lines.{unopened_line}
 use Rattle.avr_net.specs.OverNet.{connection}
-use Rattle.stk_host.specs.Talk.{Talk}
+use Rattle.stk_host.specs.Talk.{Talk, LinkView}
 
 -- A connection was accepted, and then the chip file was held, its chip loaded and served over it, or refused.
 pub record ServesCaller (part : Part) (file : Bytes) (old new : DeskView) (status : ℕ) : Type 0 where
@@ -22,23 +22,25 @@ pub record LacksCaller (port : Bytes) (old new : DeskView) (status : ℕ) : Type
   pub told : Tells old new (unopened_line [] port)
   pub status_is : status ≡ 1
 
--- the one or the other
-abbrev pub ServesOn : Part → Bytes → Bytes → DeskView → DeskView → ℕ → Type 0
-ServesOn part port file old new status = ServesCaller part file old new status ⊎ LacksCaller port old new status
+-- the one, over a socket of which `over` holds (as `IsOver` that of a caller), or the other
+abbrev pub ServesOn : (LinkView → Type 0) → Part → Bytes → Bytes → DeskView → DeskView → ℕ → Type 0
+ServesOn over part port file old new status =
+    ((serves : ServesCaller part file old new status) × over (connection serves.talk serves.link_failures))
+    ⊎ LacksCaller port old new status
 
 -- a text that is no port's number cannot be opened
-abbrev pub ServesAt : Option ℕ → Part → Bytes → Bytes → DeskView → DeskView → ℕ → Type 0
-ServesAt None part port file old new status = LacksCaller port old new status
-ServesAt (Some number) part port file old new status = ServesOn part port file old new status
+abbrev pub ServesAt : (ℕ → LinkView → Type 0) → Option ℕ → Part → Bytes → Bytes → DeskView → DeskView → ℕ → Type 0
+ServesAt over None part port file old new status = LacksCaller port old new status
+ServesAt over (Some number) part port file old new status = ServesOn (over number) part port file old new status
 
 -- The part and the chip file of the settings were judged; then a caller was served, or the port could not be opened.
-pub record ServesJudged (settings : Settings) (port file : Bytes) (old new : DeskView) (status : ℕ) : Type 0 where
+pub record ServesJudged (OverPort : ℕ → LinkView → Type 0) (settings : Settings) (port file : Bytes) (old new : DeskView) (status : ℕ) : Type 0 where
   pub part : Part
   pub judged_desk : DeskView
   pub judged : JudgesPart settings file old judged_desk (Ok part)
-  pub serves : ServesAt (port_number port) part port file judged_desk new status
+  pub serves : ServesAt OverPort (port_number port) part port file judged_desk new status
 
 -- so it was, or they are refused (that the port was left alone then, no clause says)
-abbrev pub ServesNet : Settings → Bytes → Bytes → DeskView → DeskView → ℕ → Type 0
-ServesNet settings port file old new status =
-    ServesJudged settings port file old new status ⊎ JudgesPart settings file old new (Err status)
+abbrev pub ServesNet : (ℕ → LinkView → Type 0) → Settings → Bytes → Bytes → DeskView → DeskView → ℕ → Type 0
+ServesNet over settings port file old new status =
+    ServesJudged over settings port file old new status ⊎ JudgesPart settings file old new (Err status)

@@ -11,6 +11,7 @@
 #![tactic(auto)]
 
 // links over sockets
+mod network;
 mod ports;
 // from settings to status
 mod messages;
@@ -21,6 +22,7 @@ mod serving;
 mod laws;
 
 pub use laws::a_connection_fails_once_at_most;
+pub use network::{Callers, Network};
 pub use ports::{accept, listen};
 pub use run::run_net;
 pub use serving::{serve_net, serve_on};

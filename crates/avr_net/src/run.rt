@@ -1,28 +1,30 @@
 //! A run over a port of the network, from settings to status.
 ghost use Rattle.avr_net.specs.OverNet.{RunsOverNet};
+ghost use Rattle.avr_net.specs.Sockets.{IsOverAddress};
 ghost use Rattle.ghosts.specs.Stays.{Stays};
 
 use crate::messages::unopened_message;
+use crate::network::Network;
 use crate::ports::connect;
 use avr_cli::Settings;
 use avr_desk::{Desk, refuse};
 use avr_plan::plan;
 use avr_session::drive;
 use std::alloc::Global;
-use std::net::Net;
 
 /// Plans what the settings ask for and runs it over the programmer behind `HOST:PORT`.
 ///
 /// The status is 0 where no fault came, else 1. Every fault has its line; what is refused is reported before the port
 /// is opened. There a read that waits for a second is a silence; a connection that was reset is a failure of the link.
-pub fn run_net<R: Net, D: Desk>(
+pub fn run_net<R: Network, D: Desk>(
     rt: &R,
     alloc: Global,
     settings: &Settings,
     address: &str,
     desk: &mut D,
 ) -> u8
-    ensures runs { RunsOverNet settings.now address.now (D.view desk.old) (D.view desk.new) result }
+    ensures runs { RunsOverNet (IsOverAddress R.Network R.Stream.Read R.Stream.Write address.now) settings.now
+        address.now (D.view desk.old) (D.view desk.new) result }
     ensures stays { Stays D.comes_of desk.old desk.new }
 {
     let plan = match plan(alloc, settings, desk) {

@@ -1,17 +1,17 @@
 //! Serving an emulated programmer at a port of this machine, from settings to status.
 ghost use Rattle.avr_cli.specs.Port.{port_number as number_of};
 ghost use Rattle.avr_net.specs.ServedNet.{ServesNet, ServesOn, ServesAt};
+ghost use Rattle.avr_net.specs.Sockets.{IsOver, IsOverPort};
 ghost use Rattle.ghosts.specs.Stays.{Stays};
 
 use crate::messages::unopened_message;
+use crate::network::{Callers, Network};
 use crate::ports::{accept, listen};
 use avr_cli::{Settings, port_number};
 use avr_desk::{Desk, refuse};
 use avr_part::Part;
 use avr_serve::{READS, judge_part, serve_part};
 use std::alloc::Global;
-use std::io::{Read, Write};
-use std::net::{Net, OpenListener, OpenStream};
 
 /// Accepts one connection and serves a chip of this part over it, in at most [`READS`] reads.
 ///
@@ -19,7 +19,7 @@ use std::net::{Net, OpenListener, OpenStream};
 /// what [`serve_part`] says: the chip is saved to the file of this name, and the status is 0 where the caller ended it
 /// and the chip was saved, else 1. Where the file is refused by then, or no connection can be accepted, which is
 /// reported of `port`, the text of `--serve`, the status is 1, and no file is written.
-pub fn serve_on<L: OpenListener, D: Desk>(
+pub fn serve_on<L: Callers, D: Desk>(
     alloc: Global,
     part: &Part,
     port: &str,
@@ -27,9 +27,7 @@ pub fn serve_on<L: OpenListener, D: Desk>(
     listener: &L,
     desk: &mut D,
 ) -> u8
-where
-    L::Stream: Read + Write + OpenStream,
-    ensures serves { ServesOn part.now port.now file.now (D.view desk.old) (D.view desk.new) result }
+    ensures serves { ServesOn (IsOver L.Stream.Read L.Stream.Write (L.calls listener.now)) part.now port.now file.now (D.view desk.old) (D.view desk.new) result }
     ensures stays { Stays D.comes_of desk.old desk.new }
 {
     let mut link = match accept(listener) {
@@ -40,7 +38,7 @@ where
 }
 
 /// Opens the port and serves a chip of this part there, to the first caller.
-fn serve_at<R: Net, D: Desk>(
+fn serve_at<R: Network, D: Desk>(
     rt: &R,
     alloc: Global,
     part: &Part,
@@ -48,7 +46,7 @@ fn serve_at<R: Net, D: Desk>(
     file: &str,
     desk: &mut D,
 ) -> u8
-    ensures serves { ServesAt (number_of port.now) part.now port.now file.now
+    ensures serves { ServesAt (IsOverPort R.Network R.Listener.Callers R.Stream.Read R.Stream.Write) (number_of port.now) part.now port.now file.now
         (D.view desk.old) (D.view desk.new) result }
     ensures stays { Stays D.comes_of desk.old desk.new }
 {
@@ -69,7 +67,7 @@ fn serve_at<R: Net, D: Desk>(
 /// opened is reported, and no file is written.
 ///
 /// The status is 0 where the caller ended it and the chip was saved, else 1.
-pub fn serve_net<R: Net, D: Desk>(
+pub fn serve_net<R: Network, D: Desk>(
     rt: &R,
     alloc: Global,
     settings: &Settings,
@@ -77,7 +75,7 @@ pub fn serve_net<R: Net, D: Desk>(
     file: &str,
     desk: &mut D,
 ) -> u8
-    ensures serves { ServesNet settings.now port.now file.now (D.view desk.old) (D.view desk.new) result }
+    ensures serves { ServesNet (IsOverPort R.Network R.Listener.Callers R.Stream.Read R.Stream.Write) settings.now port.now file.now (D.view desk.old) (D.view desk.new) result }
     ensures stays { Stays D.comes_of desk.old desk.new }
 {
     let part = match judge_part(alloc, settings, file, desk) {

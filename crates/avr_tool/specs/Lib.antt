@@ -17,6 +17,7 @@ pub use Rattle.avr_desk.specs.Truth
 pub use Rattle.avr_emulated.specs.Emulated
 pub use Rattle.avr_net.specs.OverNet
 pub use Rattle.avr_net.specs.ServedNet
+pub use Rattle.avr_net.specs.Sockets
 pub use Rattle.avr_part.specs.ChipFile
 pub use Rattle.avr_part.specs.Part
 pub use Rattle.avr_part.specs.Sound
@@ -55,5 +56,6 @@ pub mod InMemory
 pub mod ChipFound
 pub mod Worked
 pub mod Asked
+pub mod Texts
 pub mod Program
 pub mod TwoProcesses

@@ -16,29 +16,33 @@ use Rattle.avr_net.specs.OverNet.{RunsOverNet}
 use Rattle.avr_net.specs.ServedNet.{ServesNet}
 use Rattle.avr_session.specs.Refusal.{refusal_line}
 use Rattle.avr_session.specs.Runs.{devices}
+use Rattle.avr_desk.specs.declared.stream.Stream.{Stream}
+use Rattle.avr_desk.specs.declared.stream.Stream.TheVariants.{Output, Messages}
 use Rattle.avr_tool.specs.Asked.{IsRefused}
 use Rattle.avr_tool.specs.Headline.{IsRun, IsStopped}
+use Rattle.avr_tool.specs.Texts.{PrintsText, ReportsText}
 use Rattle.stk_host.specs.Talk.{LinkView}
 
 -- The port of the settings decides: standard input and output, between `before` and `after`; the emulator over a chip
--- file; a connection; or a service, of which nothing but the chip file, the port and the part are looked at.
-abbrev pub RunsPort : Port → Settings → LinkView → LinkView → DeskView → DeskView → ℕ → Type 0
-RunsPort Stdio settings before after old new status =
+-- file; a connection `to` the address; or a service `at` the port, of which nothing but the chip file, the port and the
+-- part are looked at.
+abbrev pub RunsPort : (Bytes → LinkView → Type 0) → (ℕ → LinkView → Type 0) → Port → Settings → LinkView → LinkView → DeskView → DeskView → ℕ → Type 0
+RunsPort to at Stdio settings before after old new status =
     IsRun settings (devices before old) (devices after new) status
     ⊎ IsStopped settings (devices before old) (devices after new) status
-RunsPort (Emulated file) settings before after old new status =
+RunsPort to at (Emulated file) settings before after old new status =
     RunsEmulator settings file old new status × (after ≡ before)
-RunsPort (Network address) settings before after old new status =
-    RunsOverNet settings address old new status × (after ≡ before)
-RunsPort (Served port chip) settings before after old new status =
-    ServesNet settings port chip old new status × (after ≡ before)
+RunsPort to at (Network address) settings before after old new status =
+    RunsOverNet (to address) settings address old new status × (after ≡ before)
+RunsPort to at (Served port chip) settings before after old new status =
+    ServesNet at settings port chip old new status × (after ≡ before)
 
 -- The command takes the words, which ask for these settings, and that is what was run.
-pub record RunsAsked (words : List Bytes) (before after : LinkView) (old new : DeskView) (status : ℕ) : Type 0 where
+pub record RunsAsked (to : Bytes → LinkView → Type 0) (at : ℕ → LinkView → Type 0) (words : List Bytes) (before after : LinkView) (old new : DeskView) (status : ℕ) : Type 0 where
   pub settings : Settings
   pub asked : Ok settings ≡ asked_by words
   pub taken : fault_of avrstk words ≡ []
-  pub runs : RunsPort settings.port settings before after old new status
+  pub runs : RunsPort to at settings.port settings before after old new status
 
 -- What they ask for has a fault, or memory was refused: that was reported, and nothing else was done.
 pub record RunsNothing (words : List Bytes) (before after : LinkView) (old new : DeskView) (status : ℕ) : Type 0 where
@@ -56,10 +60,10 @@ pub record LeavesError (words : List Bytes) (before after : LinkView) (old new :
   pub untold : new ≡ old
   pub untouched : after ≡ before
 
-abbrev pub RunsWords : List Bytes → LinkView → LinkView → DeskView → DeskView → Result ℕ Error → Type 0
-RunsWords words before after old new (Ok status) =
-    RunsAsked words before after old new status ⊎ RunsNothing words before after old new status
-RunsWords words before after old new (Err error) = LeavesError words before after old new error
+abbrev pub RunsWords : (Bytes → LinkView → Type 0) → (ℕ → LinkView → Type 0) → List Bytes → LinkView → LinkView → DeskView → DeskView → Result ℕ Error → Type 0
+RunsWords to at words before after old new (Ok status) =
+    RunsAsked to at words before after old new status ⊎ RunsNothing words before after old new status
+RunsWords to at words before after old new (Err error) = LeavesError words before after old new error
 
 -- an error of `clap`: that memory was refused is reported, any other is left
 abbrev pub LeavesWords : Error → DeskView → DeskView → Result ℕ Error → Type 0
@@ -73,21 +77,28 @@ usage_status DisplayHelp true = 0
 usage_status DisplayVersion true = 0
 usage_status kind printed = 1
 
--- The error was printed or could not be (what is printed no clause says), and the status is its.
+-- where `clap` has its text
+abbrev pub usage_stream : ErrorKind → Stream
+usage_stream DisplayHelp = Output
+usage_stream DisplayVersion = Output
+usage_stream kind = Messages
+
+-- Its text was printed there, or could not be (what it is no clause says), nothing else was done, and the status is its.
 pub record TellsUsage (words : List Bytes) (before after : LinkView) (old new : DeskView) (status : ℕ) : Type 0 where
   pub error : Error
-  pub leaves : LeavesError words before after old new error
+  pub leaves : LeavesError words before after old old error
   pub printed : Bool
+  pub prints : PrintsText (usage_stream (kind_of error)) old new printed
   pub status_is : status ≡ usage_status (kind_of error) printed
 
 -- From words to a status.
-abbrev pub RunsProgram : List Bytes → LinkView → LinkView → DeskView → DeskView → ℕ → Type 0
-RunsProgram words before after old new status =
-    RunsWords words before after old new (Ok status) ⊎ TellsUsage words before after old new status
+abbrev pub RunsProgram : (Bytes → LinkView → Type 0) → (ℕ → LinkView → Type 0) → List Bytes → LinkView → LinkView → DeskView → DeskView → ℕ → Type 0
+RunsProgram to at words before after old new status =
+    RunsWords to at words before after old new (Ok status) ⊎ TellsUsage words before after old new status
 
 -- From the start of a process: its words, which no clause knows, were read and run, or could not be read, and then
--- nothing was done but to print that, with status 1.
-abbrev pub RunsArguments : LinkView → LinkView → DeskView → DeskView → ℕ → Type 0
-RunsArguments before after old new status =
-    ((words : List Bytes) × RunsProgram words before after old new status)
-    ⊎ ((status ≡ 1) × (new ≡ old) × (after ≡ before))
+-- that was reported, and the status is 1.
+abbrev pub RunsArguments : (Bytes → LinkView → Type 0) → (ℕ → LinkView → Type 0) → LinkView → LinkView → DeskView → DeskView → ℕ → Type 0
+RunsArguments to at before after old new status =
+    ((words : List Bytes) × RunsProgram to at words before after old new status)
+    ⊎ ((status ≡ 1) × ReportsText old new × (after ≡ before))

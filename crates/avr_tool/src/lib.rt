@@ -23,6 +23,7 @@ mod of_port;
 mod asking;
 // from words to status
 mod program;
+mod texts;
 // runs by the words of the headline
 mod running;
 // laws, and no code
@@ -55,12 +56,13 @@ pub use avr_desk::{
 };
 // from settings to status, over any line
 pub use avr_emulated::drive_wired;
-pub use avr_net::{accept, listen};
+pub use avr_net::{Callers, Network, accept, listen};
 pub use avr_plan::{Plan, Task, plan};
 pub use avr_session::{Outcome, drive, drive_outcome};
 pub use of_port::{run_emu, run_net, serve, serve_net, serve_on};
 pub use program::{run_program, run_words};
 pub use running::{run, run_in_memory, run_streams, run_streams_in_memory, run_wired};
+pub use texts::refuse_text;
 // parts, their chips and what is in their memories
 pub use avr_image::Image;
 pub use avr_part::{Chip, Mem, Part, PartFault, Parts};

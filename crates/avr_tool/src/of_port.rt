@@ -1,6 +1,7 @@
 //! Runs over the port that the settings name, and services at it.
 ghost use Rattle.avr_net.specs.OverNet.{RunsOverNet};
 ghost use Rattle.avr_net.specs.ServedNet.{ServesNet};
+ghost use Rattle.avr_net.specs.Sockets.{IsOver, IsOverAddress, IsOverPort};
 ghost use Rattle.avr_serve.specs.ServedRun.{RunsServed, sides};
 ghost use Rattle.avr_emulated.specs.Emulated.{RunsEmulator};
 ghost use Rattle.ghosts.specs.Stays.{Stays};
@@ -10,11 +11,11 @@ ghost use Rattle.avr_tool.specs.ServedOn.{ServesListener};
 use avr_cli::{Port, Settings};
 use avr_desk::Desk;
 use avr_emulated::run_emulated;
-use avr_net::{run_net as run_at, serve_net as serve_at, serve_on as serve_caller};
+use avr_net::{
+    Callers, Network, run_net as run_at, serve_net as serve_at, serve_on as serve_caller,
+};
 use avr_serve::{judge_part, serve as serve_over};
 use std::alloc::Global;
-use std::io::{Read, Write};
-use std::net::{Net, OpenListener, OpenStream};
 use stk_host::Link;
 
 /// Runs what the settings ask for over the emulator, as [`run_emulated`] does with the chip file of their port: what
@@ -49,9 +50,10 @@ pub fn run_emu<D: Desk>(alloc: Global, settings: &Settings, desk: &mut D) -> u8
 /// // the part is judged before a connection is opened
 /// assert_eq!(rt; run_net(&rt, alloc, &settings, &mut desk), 1);
 /// ```
-pub fn run_net<R: Net, D: Desk>(rt: &R, alloc: Global, settings: &Settings, desk: &mut D) -> u8
+pub fn run_net<R: Network, D: Desk>(rt: &R, alloc: Global, settings: &Settings, desk: &mut D) -> u8
     requires port { IsNetwork settings.now.port }
-    ensures runs { RunsOverNet settings.now (port_place settings.now.port) (D.view desk.old) (D.view desk.new) result }
+    ensures runs { RunsOverNet (IsOverAddress R.Network R.Stream.Read R.Stream.Write (port_place settings.now.port))
+        settings.now (port_place settings.now.port) (D.view desk.old) (D.view desk.new) result }
     ensures stays { Stays D.comes_of desk.old desk.new }
 {
     let Port::Network(address) = &settings.port else {
@@ -87,7 +89,7 @@ pub fn serve<D: Desk, L: Link>(alloc: Global, settings: &Settings, desk: &mut D,
 }
 
 /// Judges the part and the chip file, accepts one connection and serves the chip over it.
-fn serve_first<L: OpenListener, D: Desk>(
+fn serve_first<L: Callers, D: Desk>(
     alloc: Global,
     settings: &Settings,
     port: &str,
@@ -95,9 +97,7 @@ fn serve_first<L: OpenListener, D: Desk>(
     listener: &L,
     desk: &mut D,
 ) -> u8
-where
-    L::Stream: Read + Write + OpenStream,
-    ensures serves { ServesListener settings.now port.now file.now (D.view desk.old) (D.view desk.new) result }
+    ensures serves { ServesListener (IsOver L.Stream.Read L.Stream.Write (L.calls listener.now)) settings.now port.now file.now (D.view desk.old) (D.view desk.new) result }
     ensures stays { Stays D.comes_of desk.old desk.new }
 {
     let part = match judge_part(alloc, settings, file, desk) {
@@ -114,16 +114,14 @@ where
 /// settings' port, and then no file is written.
 ///
 /// The status is 0 where the caller ended it and the chip was saved, else 1.
-pub fn serve_on<L: OpenListener, D: Desk>(
+pub fn serve_on<L: Callers, D: Desk>(
     alloc: Global,
     settings: &Settings,
     listener: &L,
     desk: &mut D,
 ) -> u8
-where
-    L::Stream: Read + Write + OpenStream,
     requires port { IsServed settings.now.port }
-    ensures serves { ServesListener settings.now (port_place settings.now.port) (chip_file_of settings.now.port)
+    ensures serves { ServesListener (IsOver L.Stream.Read L.Stream.Write (L.calls listener.now)) settings.now (port_place settings.now.port) (chip_file_of settings.now.port)
         (D.view desk.old) (D.view desk.new) result }
     ensures stays { Stays D.comes_of desk.old desk.new }
 {
@@ -151,9 +149,14 @@ where
 /// // the part is judged before anybody is waited for
 /// assert_eq!(rt; serve_net(&rt, alloc, &settings, &mut desk), 1);
 /// ```
-pub fn serve_net<R: Net, D: Desk>(rt: &R, alloc: Global, settings: &Settings, desk: &mut D) -> u8
+pub fn serve_net<R: Network, D: Desk>(
+    rt: &R,
+    alloc: Global,
+    settings: &Settings,
+    desk: &mut D,
+) -> u8
     requires port { IsServed settings.now.port }
-    ensures serves { ServesNet settings.now (port_place settings.now.port) (chip_file_of settings.now.port)
+    ensures serves { ServesNet (IsOverPort R.Network R.Listener.Callers R.Stream.Read R.Stream.Write) settings.now (port_place settings.now.port) (chip_file_of settings.now.port)
         (D.view desk.old) (D.view desk.new) result }
     ensures stays { Stays D.comes_of desk.old desk.new }
 {

@@ -1,33 +1,36 @@
 //! The program: from the words of a command line to a status.
 ghost use Rattle.std.specs.Prelude.{◌≡◌, map, string_bytes};
 ghost use Rattle.clap.specs.Words.{kind_of};
-ghost use Rattle.avr_tool.specs.Program.{LeavesWords, RunsPort, RunsProgram, RunsWords, usage_status};
+ghost use Rattle.avr_tool.specs.Program.{LeavesWords, RunsPort, RunsProgram, RunsWords, usage_status, usage_stream};
+ghost use Rattle.avr_net.specs.Sockets.{IsOverAddress, IsOverPort};
 ghost use Rattle.stk_host.specs.Links.{IsTrueSince, stream_view};
 ghost use Rattle.ghosts.specs.Stays.{Stays};
 
 use crate::asking::{NotAsked, asked};
 use crate::of_port::{run_emu, run_net, serve_net};
 use crate::running::run_streams;
+use crate::texts::print_text;
 use avr_cli::{Port, Settings, SettingsFault};
-use avr_desk::Desk;
+use avr_desk::{Desk, Stream};
+use avr_net::Network;
 use avr_session::refuse;
 use clap::Error;
 use clap::error::ErrorKind;
 use std::alloc::Global;
-use std::io::{Eprint, Print, Read, Write};
-use std::net::Net;
+use std::io::{Read, Write};
 use stk_host::StreamLink;
 
 /// Runs over the port of the settings: `stdio:` has its frames on the link, `emu:` is the emulator, `net:` a
 /// connection; or serves the emulator.
-fn run_port<N: Net, D: Desk, R: Read + Drop, W: Write + Drop>(
+fn run_port<N: Network, D: Desk, R: Read + Drop, W: Write + Drop>(
     rt: &N,
     alloc: Global,
     settings: &Settings,
     desk: &mut D,
     link: &mut StreamLink<R, W>,
 ) -> u8
-    ensures runs { RunsPort settings.now.port settings.now (stream_view link.old) (stream_view link.new)
+    ensures runs { RunsPort (IsOverAddress N.Network N.Stream.Read N.Stream.Write)
+        (IsOverPort N.Network N.Listener.Callers N.Stream.Read N.Stream.Write) settings.now.port settings.now (stream_view link.old) (stream_view link.new)
         (D.view desk.old) (D.view desk.new) result }
     ensures tells { IsTrueSince R.remaining W.contents link.old link.new }
     ensures stays { Stays D.comes_of desk.old desk.new }
@@ -69,14 +72,15 @@ fn words_untaken<D: Desk>(error: Error, desk: &mut D) -> Result<u8, Error>
 /// assert_eq!(rt; run_words(&rt, alloc, words.as_slice(), &mut desk, &mut streams)?, 0);
 /// assert!(rt; desk.messages().is_empty());
 /// ```
-pub fn run_words<N: Net, D: Desk, R: Read + Drop, W: Write + Drop>(
+pub fn run_words<N: Network, D: Desk, R: Read + Drop, W: Write + Drop>(
     rt: &N,
     alloc: Global,
     words: &[String],
     desk: &mut D,
     link: &mut StreamLink<R, W>,
 ) -> Result<u8, Error>
-    ensures runs { RunsWords (map string_bytes words.now) (stream_view link.old) (stream_view link.new)
+    ensures runs { RunsWords (IsOverAddress N.Network N.Stream.Read N.Stream.Write)
+        (IsOverPort N.Network N.Listener.Callers N.Stream.Read N.Stream.Write) (map string_bytes words.now) (stream_view link.old) (stream_view link.new)
         (D.view desk.old) (D.view desk.new) result }
     ensures tells { IsTrueSince R.remaining W.contents link.old link.new }
     ensures stays { Stays D.comes_of desk.old desk.new }
@@ -98,6 +102,16 @@ fn status_of_usage(error: &Error, was_printed: bool) -> u8
     }
 }
 
+/// Where `clap` has the text of an error: help and the version are output.
+fn stream_of_usage(error: &Error) -> Stream
+    ensures { result ≡ usage_stream (kind_of error.now) }
+{
+    match error.kind() {
+        ErrorKind::DisplayHelp | ErrorKind::DisplayVersion => Stream::Output,
+        _ => Stream::Messages,
+    }
+}
+
 /// The program: runs what the words of a command line ask for as [`run_words`] does, and prints an error of `clap`.
 ///
 /// The status of help and of the version that were printed is 0, that of any other such error 1.
@@ -111,14 +125,15 @@ fn status_of_usage(error: &Error, was_printed: bool) -> u8
 /// let mut streams = StreamLink::new(b"".as_slice(), Vec::new(alloc));
 /// assert_eq!(rt; run_program(&rt, alloc, words.as_slice(), &mut desk, &mut streams), 0);
 /// ```
-pub fn run_program<N: Net + Print + Eprint, D: Desk, R: Read + Drop, W: Write + Drop>(
+pub fn run_program<N: Network, D: Desk, R: Read + Drop, W: Write + Drop>(
     rt: &N,
     alloc: Global,
     words: &[String],
     desk: &mut D,
     link: &mut StreamLink<R, W>,
 ) -> u8
-    ensures runs { RunsProgram (map string_bytes words.now) (stream_view link.old) (stream_view link.new)
+    ensures runs { RunsProgram (IsOverAddress N.Network N.Stream.Read N.Stream.Write)
+        (IsOverPort N.Network N.Listener.Callers N.Stream.Read N.Stream.Write) (map string_bytes words.now) (stream_view link.old) (stream_view link.new)
         (D.view desk.old) (D.view desk.new) result }
     ensures tells { IsTrueSince R.remaining W.contents link.old link.new }
     ensures stays { Stays D.comes_of desk.old desk.new }
@@ -126,7 +141,7 @@ pub fn run_program<N: Net + Print + Eprint, D: Desk, R: Read + Drop, W: Write + 
     match run_words(rt, alloc, words, desk, link) {
         Ok(status) => status,
         Err(error) => {
-            let was_printed = error.print(rt).is_ok();
+            let was_printed = print_text(desk, stream_of_usage(&error), &error);
             status_of_usage(&error, was_printed)
         }
     }

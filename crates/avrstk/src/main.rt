@@ -4,11 +4,13 @@
 ghost use Rattle.std.specs.Prelude.{◌≡◌};
 ghost use Rattle.avr_tool.specs.Links.{stream_view};
 ghost use Rattle.avr_tool.specs.Program.{RunsArguments};
-ghost use Rattle.avr_tool.specs.Shown.{shown_view};
+ghost use Rattle.avr_tool.specs.Sockets.{IsOverAddress, IsOverPort};
 
-use avr_tool::{StreamLink, SystemDesk, run_program};
+use avr_tool::{Desk, Network, StreamLink, SystemDesk, refuse_text, run_program};
+use std::alloc::Global;
+use std::env::Env;
 use std::fs::File;
-use std::io::{Stderr, Stdin, Stdout};
+use std::io::{Read, Write};
 use std::process::ExitCode;
 use std::{env, fs, io};
 
@@ -26,29 +28,22 @@ fn take_closed_streams(rt: &HostRuntime) -> [io::Result<File>; 3] {
 }
 
 /// Runs what the words of the command line ask for.
-fn run(
-    rt: &HostRuntime,
-    desk: &mut SystemDesk<'_, HostRuntime, Stdout, Stderr>,
-    link: &mut StreamLink<Stdin, Stdout>,
+fn run<N: Network + Env + Alloc<A = Global>, D: Desk, R: Read + Drop, W: Write + Drop>(
+    rt: &N,
+    desk: &mut D,
+    link: &mut StreamLink<R, W>,
 ) -> u8
-    ensures { RunsArguments (stream_view link.old) (stream_view link.new) (shown_view desk.old) (shown_view desk.new)
-        result }
+    ensures { RunsArguments (IsOverAddress N.Network N.Stream.Read N.Stream.Write)
+        (IsOverPort N.Network N.Listener.Callers N.Stream.Read N.Stream.Write) (stream_view link.old)
+        (stream_view link.new) (D.view desk.old) (D.view desk.new) result }
 {
     match read_arguments(rt) {
         Ok(words) => run_program(rt, rt.alloc(), words.as_slice(), desk, link),
-        Err(error) => tell_unread(rt, &error),
+        Err(error) => refuse_text(desk, &error),
     }
 }
 
 /// The words of the command line, the program's name first.
-fn read_arguments(rt: &HostRuntime) -> io::Result<Vec<String>> {
+fn read_arguments<N: Env + Alloc<A = Global>>(rt: &N) -> io::Result<Vec<String>> {
     Ok(env::args(rt)?.collect(rt.alloc())?)
-}
-
-/// Tells why the words can't be read. What can't even be printed is 1 too.
-fn tell_unread(rt: &HostRuntime, error: &io::Error) -> u8
-    ensures { result ≡ 1 }
-{
-    let _ = eprintln!(rt; "avrstk: error: {error}");
-    1
 }

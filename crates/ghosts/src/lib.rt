@@ -1,6 +1,11 @@
-//! What the proofs by hand share of structs that hold ghost data alone.
+//! What desks and links share: counts of failures, what a device comes of, and writers that are flushed; and what the
+//! proofs by hand share of structs that hold ghost data alone.
 //!
-//! No code stands here. A record of what a device was asked and what it gave is kept for proofs only: its struct has no
-//! field that runs, and so no byte. The few functions that make such a struct are proved step by step, and take the
-//! step that is the same for all of them from here.
+//! A record of what a device was asked and what it gave is kept for proofs only: its struct has no field that runs, and
+//! so no byte. The few functions that make such a struct are proved step by step, and take the step that is the same for
+//! all of them from here.
 #![tactic(auto)]
+
+mod outlet;
+
+pub use outlet::Outlet;

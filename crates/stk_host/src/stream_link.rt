@@ -9,6 +9,7 @@ ghost use Rattle.stk_host.specs.Links.{StreamState, IsTrueSince, stream_view, He
 
 use crate::history::History;
 use crate::link::{Heard, Link, LinkFault};
+use ghosts::Outlet;
 use std::io::{ErrorKind, Read, Write};
 use std::marker::Model;
 use std::{fmt, io};
@@ -86,17 +87,18 @@ fn write_bytes<W: Write>(writer: &mut W, bytes: &[u8]) -> io::Result<usize>
 }
 
 /// Writes a prefix of the bytes, at least one where there is one, and flushes.
-fn put_bytes<W: Write>(writer: &mut W, bytes: &[u8]) -> io::Result<usize>
+fn put_bytes<W: Outlet>(writer: &mut W, bytes: &[u8]) -> io::Result<usize>
     ensures within { IfOk result (λ n. n ≤ length bytes.now) }
     ensures some { IfOk result (λ n. 0 < length bytes.now → 0 < n) }
     ensures ok { IfOk result (λ n. Appends (W.contents writer.old) (W.contents writer.new) (take n bytes.now)) }
     ensures err { OnErr result (AppendsPrefix (W.contents writer.old) (W.contents writer.new) bytes.now) }
+    ensures out { OnOk result (W.is_out writer.new) }
 {
     let count = write_bytes(writer, bytes)?;
     if count == 0 && !bytes.is_empty() {
         return Err(io::Error::from(ErrorKind::WriteZero));
     }
-    writer.flush()?;
+    writer.flush_out()?;
     Ok(count)
 }
 
@@ -186,7 +188,7 @@ impl<R, W> StreamLink<R, W> {
     }
 }
 
-impl<R: Read + Drop, W: Write + Drop> Link for StreamLink<R, W> {
+impl<R: Read + Drop, W: Outlet + Drop> Link for StreamLink<R, W> {
     ghost view = { stream_view };
 
     ghost Start = { StreamState R W };
@@ -201,6 +203,8 @@ impl<R: Read + Drop, W: Write + Drop> Link for StreamLink<R, W> {
             (take n bytes.now)) }
         ensures broken { OnErr result (AppendsPrefix (W.contents self.old.writer) (W.contents self.new.writer)
             bytes.now) }
+        // Bytes that are said to be sent were flushed.
+        ensures out { OnOk result (W.is_out self.new.writer) }
         ensures reader { self.new.reader ≡ self.old.reader }
         ensures sound { OnOk result (self.new.failures ≡ self.old.failures) }
         // A failure has an error, and a success leaves the last one.

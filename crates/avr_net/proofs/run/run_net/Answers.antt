@@ -1,4 +1,5 @@
-use Rattle.std.proofs.Common.{inl, inr}
+use Rattle.std.proofs.Common.{inl, inr, refl}
+use Rattle.stk_host.proofs.Talks.Streams.{true_now}
 use Rattle.avr_net.proofs.run.run_net.Goals as goal
 
 pub returns-in-Err-clause-runs : goal.returns-in-Err-clause-runs
@@ -6,11 +7,21 @@ returns-in-Err-clause-runs g c = inr (inr
     (rw c.in-Err.is at c.plan.ensures.goes, rw c.in-Err.is at c.plan.ensures.bare))
 
 pub returns-clause-runs : goal.returns-clause-runs
-returns-clause-runs g c = inl (record {
-  plan = c.in-Ok.plan;
-  planned_desk = g.D.Desk.view c.plan.new.desk;
-  talk = c.drive.new.link.talk;
-  link_failures = c.drive.new.link.failures;
-  made = rw c.in-Ok.is at c.plan.ensures.goes;
-  runs = rw c.in-Ok-connect.ensures.fresh at (rw c.in-Ok-connect.ensures.quiet at c.drive.ensures.runs);
-})
+returns-clause-runs g c = inl (
+  record {
+    plan = c.in-Ok.plan;
+    planned_desk = g.D.Desk.view c.plan.new.desk;
+    talk = c.drive.new.link.talk;
+    link_failures = c.drive.new.link.failures;
+    made = rw c.in-Ok.is at c.plan.ensures.goes;
+    runs = rw c.in-Ok-connect.ensures.fresh at (rw c.in-Ok-connect.ensures.quiet at c.drive.ensures.runs);
+  },
+  record {
+    before = c.in-Ok-connect.link;
+    after = c.drive.new.link;
+    new = c.in-Ok-connect.ensures;
+    shows = refl;
+    truly = c.drive.ensures.comes c.in-Ok-connect.link
+        (true_now g.R.Stream.Read.remaining g.R.Stream.Write.contents c.in-Ok-connect.link);
+  },
+)

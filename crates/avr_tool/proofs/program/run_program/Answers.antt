@@ -2,9 +2,11 @@ use Rattle.std.proofs.Common.{inr}
 use Rattle.avr_tool.proofs.program.run_program.Goals as goal
 
 pub returns-in-Err-clause-runs : goal.returns-in-Err-clause-runs
-returns-in-Err-clause-runs g c = inr (record {
-  error = c.in-Err.error;
-  leaves = c.in-Err.ensures.runs;
-  printed = c.is_ok-was_printed.result;
-  status_is = c.status_of_usage.ensures;
-})
+returns-in-Err-clause-runs g c =
+    let untold = c.in-Err.ensures.runs.untold in inr (record {
+      error = c.in-Err.error;
+      leaves = rw untold at c.in-Err.ensures.runs;
+      printed = c.print_text-was_printed.result;
+      prints = rw untold at (rw c.stream_of_usage.ensures at c.print_text-was_printed.ensures.prints);
+      status_is = c.status_of_usage.ensures;
+    })

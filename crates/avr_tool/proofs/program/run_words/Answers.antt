@@ -6,7 +6,7 @@ pub returns-in-Err-Words-clause-runs : goal.returns-in-Err-Words-clause-runs
 returns-in-Err-Words-clause-runs g c =
     let asks = rw c.in-Err-Words.field-0-is at c.in-Err-Words.ensures.asks in
     let leaves = rw c.in-Err-Words.field-0-is at c.words_untaken.ensures.leaves in
-    untaken _ _ _ _ _ c.in-Err-Words.error _ asks leaves
+    untaken _ _ _ _ _ _ _ c.in-Err-Words.error _ asks leaves
 
 pub returns-in-Err-Words-clause-tells : goal.returns-in-Err-Words-clause-tells
 returns-in-Err-Words-clause-tells g c = true_now g.R.Read.remaining g.W.Write.contents c.args.link.now

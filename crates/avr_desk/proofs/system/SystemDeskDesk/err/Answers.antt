@@ -13,5 +13,14 @@ returns-in-Err-clause-messages g c = subst
 
 pub returns-in-Err-clause-stays : goal.returns-in-Err-clause-stays
 returns-in-Err-clause-stays g c =
-    from_inside g.O.Write.contents g.E.Write.contents _ _ _ c.self.view_is
-    (err_true g.O.Write.contents g.E.Write.contents _ _ _ _ refl refl c.write_through.ensures.taken)
+    from_inside g.R.FileSystem g.R.File.Read g.R.File.Write g.R.Reader.Read g.O.Write g.E.Write _ _ _ c.self.view_is
+    (err_true g.R.FileSystem g.R.File.Read g.R.File.Write g.R.Reader.Read g.O.Write g.E.Write _ _ _ _ refl refl refl
+    c.write_through.ensures.taken)
+
+pub returns-in-Ok-clause-stays : goal.returns-in-Ok-clause-stays
+returns-in-Ok-clause-stays g c =
+    from_inside g.R.FileSystem g.R.File.Read g.R.File.Write g.R.Reader.Read
+    g.O.Write g.E.Write _ _ _ c.self.view_is
+    (err_true g.R.FileSystem g.R.File.Read g.R.File.Write g.R.Reader.Read
+    g.O.Write g.E.Write _ _ _ _ refl refl refl
+    c.write_through.ensures.taken)

@@ -1,8 +1,7 @@
 use Rattle.std.proofs.Common.{ap, refl, subst}
 use Rattle.avr_desk.proofs.Desks.Writers.{took_prefix}
-use Rattle.avr_desk.proofs.Desks.TwoWriters.{from_inside, write_out_true}
+use Rattle.avr_desk.proofs.Desks.TwoWriters.{from_inside, write_out_true, write_true}
 use Rattle.avr_desk.specs.Shown.{AppendsPrefix}
-use Rattle.avr_desk.specs.Standing.{is_output}
 use Rattle.avr_desk.proofs.system.SystemDeskDesk.write.Goals as goal
 
 pub returns-in-Err-write_through-clause-output : goal.returns-in-Err-write_through-clause-output
@@ -14,12 +13,20 @@ returns-in-Err-write_through-clause-output g c =
 
 pub returns-in-Ok-write_through-clause-stays : goal.returns-in-Ok-write_through-clause-stays
 returns-in-Ok-write_through-clause-stays g c =
-    from_inside g.O.Write.contents g.E.Write.contents _ _ _ c.self.view_is
-    (write_out_true g.O.Write.contents g.E.Write.contents _ _ _ _ refl (ap is_output c.in-Output.is) refl
+    from_inside g.R.FileSystem g.R.File.Read g.R.File.Write g.R.Reader.Read g.O.Write g.E.Write _ _ _ c.self.view_is
+    (write_out_true g.R.FileSystem g.R.File.Read g.R.File.Write g.R.Reader.Read g.O.Write g.E.Write _ _ _ _ refl refl c.in-Output.is c.in-Output.is
     c.write_through.ensures.taken)
 
 pub returns-in-Err-write_through-clause-stays : goal.returns-in-Err-write_through-clause-stays
 returns-in-Err-write_through-clause-stays g c =
-    from_inside g.O.Write.contents g.E.Write.contents _ _ _ c.self.view_is
-    (write_out_true g.O.Write.contents g.E.Write.contents _ _ _ _ refl (ap is_output c.in-Output.is) refl
+    from_inside g.R.FileSystem g.R.File.Read g.R.File.Write g.R.Reader.Read g.O.Write g.E.Write _ _ _ c.self.view_is
+    (write_out_true g.R.FileSystem g.R.File.Read g.R.File.Write g.R.Reader.Read g.O.Write g.E.Write _ _ _ _ refl refl c.in-Output.is c.in-Output.is
     c.write_through.ensures.taken)
+
+pub returns-in-Ok-clause-stays : goal.returns-in-Ok-clause-stays
+returns-in-Ok-clause-stays g c =
+    from_inside g.R.FileSystem g.R.File.Read g.R.File.Write g.R.Reader.Read
+    g.O.Write g.E.Write _ _ _ c.self.view_is
+    (write_true g.R.FileSystem g.R.File.Read g.R.File.Write g.R.Reader.Read
+    g.O.Write g.E.Write _ _ _ _ _ refl refl refl
+    c.then-self-inside.ensures c.in-ToWrite.is refl c.in-Ok.ensures.ok)

@@ -1,0 +1,71 @@
+-- What the desk of a program says of files and of standard input, by the handles that the system gave it: by parametricity, as
+-- its contracts know of a system's files nothing but what their own calls ensure.
+use Rattle.std.specs.Prelude.{◌≡◌, ◌≤◌, ◌⊎◌, true, length, Option, Some, None, IfSome}
+use Rattle.std.specs.Io.KnownBytes.{Appends, Consumes}
+use Rattle.std.specs.List.{All}
+use Rattle.std.specs.declared.io.Read.{Ghosts as Reads}
+use Rattle.std.specs.declared.io.Write.{Ghosts as Writes}
+use Rattle.avr_desk.specs.Named.{is_dash}
+use Rattle.avr_desk.specs.Record.{Bytes, Record}
+use Rattle.avr_desk.specs.declared.file_system.FileSystem.{Ghosts}
+use Rattle.avr_desk.specs.declared.record.FileUse.{FileUse}
+use Rattle.avr_desk.specs.declared.record.FileUse.TheVariants.{Opened, Created}
+use Rattle.avr_desk.specs.declared.record.Open.{Open}
+use Rattle.avr_desk.specs.declared.record.Open.TheVariants as is
+use Rattle.avr_desk.specs.declared.record.Opening.TheVariants.{Absent, Found}
+use Rattle.avr_desk.specs.declared.record.Reading.{Reading}
+use Rattle.avr_desk.specs.declared.record.Writing.{Writing}
+use Rattle.avr_desk.specs.declared.system.Held.{Held}
+use Rattle.avr_desk.specs.declared.system.Held.TheVariants.{Nothing, Input, ToRead, ToWrite, Output}
+
+-- what a handle that was `first` has given until it is `now`: its next bytes, and where its end was seen, it had no more
+pub record HasGiven {H : Type 0} (reads : Reads H) (first now : H) (reading : Reading) : Type 0 where
+  pub gave : Consumes (reads.remaining first) (reads.remaining now) reading.bytes
+  pub ends : reading.ended ≡ true → IfSome (reads.remaining first) (λ bytes. length bytes ≤ length reading.bytes)
+
+-- `-` is standard input, and any other name a file that was opened by it
+abbrev pub GaveInput : {I : Type 0} → Reads I → I → Reading → Type 0
+GaveInput {I = I} input now reading = (is_dash reading.name ≡ true) × (first : I) × HasGiven input first now reading
+
+abbrev pub GaveFile : {S F H : Type 0} → Ghosts S F H → Reads F → F → Reading → Type 0
+GaveFile {F = F} system reads now reading =
+    (first : F) × system.is_of first reading.name × HasGiven reads first now reading
+
+-- what was written to a file is what it took since it was created by this name; `-` is the output
+abbrev pub TookFile : {S F H : Type 0} → Ghosts S F H → Writes F → F → Writing → Type 0
+TookFile {F = F} system writes now writing =
+    (first : F) × system.is_of first writing.name
+    × Appends (writes.contents first) (writes.contents now) writing.bytes
+
+-- what is open is what the record says of it
+abbrev pub IsTrueOpen : {S F H I : Type 0} → Ghosts S F H → Reads F → Writes F → Reads I → Held F I → Open → Type 0
+IsTrueOpen system reads writes input Nothing is.Closed = Unit {0}
+IsTrueOpen system reads writes input (Input now) (is.ToRead reading) = GaveInput input now reading
+IsTrueOpen system reads writes input (ToRead now) (is.ToRead reading) = GaveFile system reads now reading
+IsTrueOpen system reads writes input (ToWrite now) (is.ToWrite writing) = TookFile system writes now writing
+IsTrueOpen system reads writes input Output (is.ToWrite writing) = is_dash writing.name ≡ true
+IsTrueOpen system reads writes input held current = ⊥
+
+-- a use that is over: the handle was left as it was then
+abbrev pub IsTrueUse : {S F H I : Type 0} → Ghosts S F H → Reads F → Writes F → Reads I → FileUse → Type 0
+IsTrueUse system reads writes input (Opened (Absent name)) = system.lacks name
+IsTrueUse {F = F} {I = I} system reads writes input (Opened (Found reading)) =
+    ((now : I) × GaveInput input now reading) ⊎ ((now : F) × GaveFile system reads now reading)
+IsTrueUse {F = F} system reads writes input (Created writing) =
+    (is_dash writing.name ≡ true) ⊎ ((now : F) × TookFile system writes now writing)
+    ⊎ system.replaced writing.name writing.bytes
+
+-- what is held is held by this name
+abbrev pub IsHeldBy : {S F H : Type 0} → Ghosts S F H → Option H → Option Bytes → Type 0
+IsHeldBy system None None = Unit {0}
+IsHeldBy system (Some hold) (Some name) = system.holds hold name
+IsHeldBy system hold name = ⊥
+
+-- All that the record says of files and of standard input is what the system answered, of the names that it was asked
+-- for.
+pub record AreTrue {S F H I : Type 0} (system : Ghosts S F H) (reads : Reads F) (writes : Writes F) (input : Reads I)
+    (opened : Held F I) (hold : Option H) (kept : Record) : Type 0 where
+  pub uses : All (IsTrueUse system reads writes input) kept.uses
+  pub current : IsTrueOpen system reads writes input opened kept.current
+  pub denied : All system.denies kept.denied
+  pub held : IsHeldBy system hold kept.held

@@ -1,0 +1,89 @@
+//! Texts that no clause knows, of `clap` and of the system, printed at a desk: so that whoever prints them can print
+//! nowhere else.
+ghost use Rattle.std.specs.Prelude.{◌≡◌};
+ghost use Rattle.avr_tool.specs.Texts.{PrintsMore, PrintsText, ReportsText};
+ghost use Rattle.ghosts.specs.Stays.{Stays};
+
+use arrayvec::ArrayVec;
+use avr_desk::{Desk, Stream, write_all};
+use std::fmt;
+use std::fmt::{Display, Write};
+
+/// How much of a text is held at a time.
+const ROOM: usize = 512;
+
+/// The bytes of a text behind the first `skip` of them, as far as there is room: it takes the whole text.
+#[derive(Drop)]
+struct Part {
+    skip: usize,
+    bytes: ArrayVec<u8, ROOM>,
+}
+
+impl Write for Part {
+    fn write_str(&mut self, text: &str) -> fmt::Result {
+        for byte in text.as_bytes() {
+            if self.skip > 0 {
+                self.skip -= 1;
+            } else {
+                let _ = self.bytes.try_push(*byte);
+            }
+        }
+        Ok(())
+    }
+}
+
+/// Some bytes of a text behind the first so many; none at its end.
+fn part_of<T: Display>(text: &T, skip: usize) -> ArrayVec<u8, ROOM> {
+    let mut part = Part {
+        skip,
+        bytes: ArrayVec::new(),
+    };
+    let _ = part.write(text);
+    let Part { bytes, .. } = part;
+    bytes
+}
+
+#[tactic(auto, using(crate::proofs::Printed::printed_none, crate::proofs::Printed::printed_more, crate::proofs::Printed::printed_end))]
+/// Prints a text; whether all of it was printed, and there was some. No memory is asked for.
+pub(crate) fn print_text<D: Desk, T: Display>(desk: &mut D, stream: Stream, text: &T) -> bool
+    ensures prints { PrintsText stream (D.view desk.old) (D.view desk.new) result }
+    ensures stays { Stays D.comes_of desk.old desk.new }
+{
+    let mut at = 0usize;
+    for _ in 0..u64::MAX {
+        let part = part_of(text, at);
+        if part.is_empty() {
+            break;
+        }
+        match write_all(desk, stream, part.as_slice()) {
+            Ok(()) => at = at.saturating_add(part.len()),
+            Err(_) => return false,
+        }
+    }
+    at > 0
+}
+
+/// Prints a text and the end of its line.
+fn print_rest<D: Desk, T: Display>(desk: &mut D, text: &T)
+    ensures prints { PrintsMore (D.view desk.old) (D.view desk.new) }
+    ensures stays { Stays D.comes_of desk.old desk.new }
+{
+    print_text(desk, Stream::Messages, text);
+    match write_all(desk, Stream::Messages, b"\n") {
+        Ok(()) => {}
+        Err(_) => {}
+    }
+}
+
+/// Reports an error that isn't this program's own, as `avrstk: error: ` and its text, with status 1.
+pub fn refuse_text<D: Desk, T: Display>(desk: &mut D, error: &T) -> u8
+    ensures reports { ReportsText (D.view desk.old) (D.view desk.new) }
+    ensures stays { Stays D.comes_of desk.old desk.new }
+    ensures status { result ≡ 1 }
+{
+    match write_all(desk, Stream::Messages, b"avrstk: error: ") {
+        Ok(()) => print_rest(desk, error),
+        Err(_) => {}
+    }
+    1
+}
