@@ -53,12 +53,12 @@ abbrev pub Taking : Type 1
 Taking = List Opening → List Saying → Type 0
 
 -- before anything of it, if at all
-abbrev pub AtOnce : Bool → Taking
-AtOnce takes passed said = (takes ≡ true) × (passed ≡ []) × (said ≡ [])
+abbrev pub AtStart : Bool → Taking
+AtStart takes passed said = (takes ≡ true) × (passed ≡ []) × (said ≡ [])
 
-abbrev pub IsTaken : Taking → Break → List Opening → List Saying → Type 0
-IsTaken taking NoMemory passed said = taking passed said
-IsTaken taking break passed said = Unit {0}
+abbrev pub TakesThere : Taking → Break → List Opening → List Saying → Type 0
+TakesThere taking NoMemory passed said = taking passed said
+TakesThere taking break passed said = Unit {0}
 
 -- The desk failed at the file, and from then on the line of that was reported; or the line that memory was refused was
 -- reported. Of a line that could not be printed a prefix was, and a write to the messages has failed; nothing else is
@@ -86,7 +86,7 @@ pub record StageBrokeOff {A : Type 0} (taking : Taking) (stage : Stage A) (old n
   pub break : Break
   pub told : Bytes
   pub rest : (more : List Opening) → Rest (stage (passed ++ more)) whole break more
-  pub taken : IsTaken taking break passed whole
+  pub taken : TakesThere taking break passed whole
   pub tells : TellsBreak break told old new
   pub kept : Passes (after_all (whole ++ last_done break told)) old new
   pub follows : Follows old new

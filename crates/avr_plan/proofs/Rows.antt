@@ -24,8 +24,8 @@ use Rattle.avr_plan.specs.declared.part_choice.TheConstants.{LARGEST_PART_FILE}
 use Rattle.avr_plan.specs.Lines.{no_part_line}
 use Rattle.avr_plan.specs.Plan.{Plan}
 use Rattle.avr_plan.specs.Planning.{planned, parts_stage, judged_parts, file_image_stage, judged_image, warning_says}
-use Rattle.avr_plan.specs.Taking.{AtTaking, op_takes_memory}
-use Rattle.avr_desk.specs.Playing.{AtOnce, Goes}
+use Rattle.avr_plan.specs.Taking.{AtUpdate, op_takes_memory}
+use Rattle.avr_desk.specs.Playing.{AtStart, Goes}
 use Rattle.avr_desk.specs.Stage.{Stage, StageResult, Made, Refused, next_opening, verdict_stage, saying_stage, file_stage, ◌>>=◌}
 use Rattle.avr_plan.specs.declared.planned.Task.{Task}
 use Rattle.avr_plan.specs.declared.planned.Task.TheVariants.{Write}
@@ -98,7 +98,7 @@ only_due u due (x ∷ []) more is = let none : [] ≡ due ∷ more = cc in absur
 only_due u due (x ∷ y ∷ done) more is = let none : [] ≡ y ∷ (done ++ due ∷ more) = cc in absurd (cc)
 
 -- nowhere
-takes_none : (passed : List Opening) (said : List Saying) → AtTaking wanted passed said → ⊥
+takes_none : (passed : List Opening) (said : List Saying) → AtUpdate wanted passed said → ⊥
 takes_none passed said at =
     let takes : op_takes_memory of_file op.Write ≡ true = subst (λ u. op_takes_memory u u.op ≡ true)
     (only_due of_file at.due at.done at.more at.updates_are) at.takes in
@@ -127,7 +127,7 @@ begins_mixed passed said (x ∷ done) due more made is takes planned_so =
     (only_due of_file due done more rest) takes in
     absurd (cc)
 
-takes_first : (passed : List Opening) (said : List Saying) → AtTaking mixed passed said → (passed ≡ []) × (said ≡ [])
+takes_first : (passed : List Opening) (said : List Saying) → AtUpdate mixed passed said → (passed ≡ []) × (said ≡ [])
 takes_first passed said at =
     begins_mixed passed said at.done at.due at.more at.plan at.updates_are at.takes at.is_planned
 
@@ -135,7 +135,7 @@ takes_first passed said at =
 abbrev parted : Settings
 parted = record wanted { parts = Some other; updates = of_values ∷ [] }
 
-takes_behind_parts : (passed : List Opening) → AtTaking parted passed [] → ⊥
+takes_behind_parts : (passed : List Opening) → AtUpdate parted passed [] → ⊥
 takes_behind_parts passed at =
     let s : Settings = record parted { updates = at.done } in
     let begun = begins_then other (parts_stage s.parts) (behind_parts s)
@@ -147,16 +147,16 @@ takes_behind_parts passed at =
 module _ (r : Record) (k l m n status : ℕ) where
   -- the messages grew by this, and the status is that of a refusal
   abbrev Ends : Bytes → Type 0
-  Ends told = Goes (AtTaking wanted) (planned wanted) (showing r k m) (showing (after_err told r) l n) (Err status)
+  Ends told = Goes (AtUpdate wanted) (planned wanted) (showing r k m) (showing (after_err told r) l n) (Err status)
 
   abbrev Told : Bytes → Type 0
   Told told = TellsFailure (not_opened_line file) told (showing r k m) (showing (after_err told r) l n)
 
   told_by : (told : Bytes) → Ends told → Told told
-  told_by told ends = of_file_alone (unopened (AtTaking wanted) file told (planned wanted) begins r k l m n status ends)
+  told_by told ends = of_file_alone (unopened (AtUpdate wanted) file told (planned wanted) begins r k l m n status ends)
     where
       of_file_alone : Told told ⊎ (TellsLine memory_line told (showing r k m) (showing (after_err told r) l n)
-          × ((passed : List Opening) × AtTaking wanted passed []))
+          × ((passed : List Opening) × AtUpdate wanted passed []))
           → Told told
       of_file_alone (inl failure) = failure
       of_file_alone (inr memory) = absurd (takes_none memory.1.0 [] memory.1.1)
@@ -208,10 +208,10 @@ module _ (r : Record) (k l m n status : ℕ) where
   nothing_told sound failure = stood_has_not_risen k k failure.between.failures l (omega arith) failure.until.0
       sound failure.failed.0
 
-  silence : HasStood k l → Goes (AtTaking wanted) (planned wanted) (showing r k m) (showing r l n) (Err status) → ⊥
+  silence : HasStood k l → Goes (AtUpdate wanted) (planned wanted) (showing r k m) (showing r l n) (Err status) → ⊥
   silence sound ends =
       let same : after_err [] r ≡ r = ap (λ bytes. record r { messages = bytes }) (append-nil r.messages) in
-      nothing_told sound (told_by [] (subst (λ x. Goes (AtTaking wanted) (planned wanted) (showing r k m) (showing x l n) (Err status))
+      nothing_told sound (told_by [] (subst (λ x. Goes (AtUpdate wanted) (planned wanted) (showing r k m) (showing x l n) (Err status))
       (sym same) ends))
 
   -- silence, or half of its line, where no write to the messages has failed, however often files have
@@ -226,12 +226,12 @@ module _ (r : Record) (k l m n status : ℕ) where
   nothing_of_it : [] ≡ not_opened_line file → ⊥
   nothing_of_it whole = let e : ◌≡◌ {A = ℕ} 0 97 = ap (λ (bytes : Bytes). get_or bytes 0 0) whole in omega (arith, e)
 
-  silence_behind_a_file : HasStood m n → Goes (AtTaking wanted) (planned wanted) (showing r k m) (showing r l n)
+  silence_behind_a_file : HasStood m n → Goes (AtUpdate wanted) (planned wanted) (showing r k m) (showing r l n)
       (Err status) → ⊥
   silence_behind_a_file sound ends =
       let same : after_err [] r ≡ r = ap (λ bytes. record r { messages = bytes }) (append-nil r.messages) in
       nothing_of_it (told_whole [] sound (told_by []
-      (subst (λ x. Goes (AtTaking wanted) (planned wanted) (showing r k m) (showing x l n) (Err status)) (sym same)
+      (subst (λ x. Goes (AtUpdate wanted) (planned wanted) (showing r k m) (showing x l n) (Err status)) (sym same)
       ends)))
 
   half_is_not_whole : half ≡ not_opened_line file → ⊥
@@ -243,14 +243,14 @@ module _ (r : Record) (k l m n status : ℕ) where
 
   -- the line of a file that was opened, read to its end and good
   opened_well : (bytes : Bytes) (good : List (Option ℕ) × Ending) → judged_image file Ihex 32768 bytes ≡ Ok good
-      → Goes (AtOnce false) (file_stage file 4194304 (judged_image file Ihex 32768)) (showing r k m)
+      → Goes (AtStart false) (file_stage file 4194304 (judged_image file Ihex 32768)) (showing r k m)
       (showing (after_all (Opens (Found (record { name = file; bytes = bytes; ended = true }))
       ∷ Line (not_opened_line file) ∷ []) r) l n) (Err status)
       → ⊥
   opened_well bytes good given ends =
       differs 15 memory_line (not_opened_line file) (showing r k m) (showing r l n)
       (λ back is. let e : ◌≡◌ {A = ℕ} 120 111 = is in omega (arith, e))
-      (opened_is_told file 4194304 (judged_image file Ihex 32768) bytes (not_opened_line file) good given (AtOnce false) r
+      (opened_is_told file 4194304 (judged_image file Ihex 32768) bytes (not_opened_line file) good given (AtStart false) r
       k l m n
       status ends)
 
@@ -268,19 +268,19 @@ lacks : (openings : List Opening) → planned lacking openings
 lacks openings = refl
 
 -- without a part no memory is taken
-lacks_memory : (passed : List Opening) (said : List Saying) → AtTaking lacking passed said → ⊥
+lacks_memory : (passed : List Opening) (said : List Saying) → AtUpdate lacking passed said → ⊥
 lacks_memory passed said at =
     let clash : Refused refusal ≡ Made at.plan = ap (λ (p : StageResult Plan). p.answer) at.is_planned in cc
 
 module _ (r : Record) (k l m n status : ℕ) where
   -- that memory was refused, after the line of the refusal
-  refused_twice : TellsOne refusal (refusal ++ memory_line) (planned lacking) lacks (AtTaking lacking) r k l m n → ⊥
+  refused_twice : TellsOne refusal (refusal ++ memory_line) (planned lacking) lacks (AtUpdate lacking) r k l m n → ⊥
   refused_twice (inl one) =
       differs 27 refusal (refusal ++ memory_line) (showing r k m) (showing r l n)
       (λ back is. let e : ◌≡◌ {A = ℕ} 97 0 = is in omega (arith, e)) one
   refused_twice (inr memory) = lacks_memory memory.1.0 [] memory.1.1
 
-  two_faults : Goes (AtTaking lacking) (planned lacking) (showing r k m)
+  two_faults : Goes (AtUpdate lacking) (planned lacking) (showing r k m)
       (showing (after_err (refusal ++ memory_line) r) l n) (Err status) → ⊥
   two_faults ends = refused_twice (refused_once refusal (refusal ++ memory_line) (planned lacking) lacks
-      (AtTaking lacking) r k l m n status ends)
+      (AtUpdate lacking) r k l m n status ends)

@@ -30,7 +30,7 @@ op_takes_memory u op.Read = true
 
 -- An update that takes memory without a file was due. The updates before it were planned, of all that passed, and
 -- what was said is all that their plan says.
-pub record AtTaking (s : Settings) (passed : List Opening) (said : List Saying) : Type 0 where
+pub record AtUpdate (s : Settings) (passed : List Opening) (said : List Saying) : Type 0 where
   pub done : List Update
   pub due : Update
   pub more : List Update
@@ -41,7 +41,7 @@ pub record AtTaking (s : Settings) (passed : List Opening) (said : List Saying) 
       ≡ record { says = said; answer = Made plan; left = [] }
 
 -- inside: the same of the tasks of these updates, which follow other tasks
-pub record AtUpdate (switches : Switches) (part : Part) (tasks : List Task) (updates : List Update)
+pub record AtTask (switches : Switches) (part : Part) (tasks : List Task) (updates : List Update)
     (passed : List Opening) (said : List Saying) : Type 0 where
   pub done : List Update
   pub due : Update

@@ -4,8 +4,8 @@ ghost use Rattle.avr_cli.specs.declared.settings.Switches.{Switches as AnySwitch
 ghost use Rattle.avr_part.specs.Part.{Part as PartData};
 ghost use Rattle.avr_plan.specs.Plan.{IsFitted};
 ghost use Rattle.avr_plan.specs.Planning.{LacksPart, task_stage, op_stage, write_stage, tasks_stage, planned};
-ghost use Rattle.avr_plan.specs.Taking.{AtTaking, AtUpdate, op_takes_memory};
-ghost use Rattle.avr_desk.specs.Playing.{AtOnce, Goes};
+ghost use Rattle.avr_plan.specs.Taking.{AtUpdate, AtTask, op_takes_memory};
+ghost use Rattle.avr_desk.specs.Playing.{AtStart, Goes};
 ghost use Rattle.ghosts.specs.Stays.{Stays};
 
 use crate::messages::read_only_message;
@@ -25,7 +25,7 @@ fn write_task<D: Desk>(
     part: &Part,
     update: &Update,
 ) -> Result<Task, u8>
-    ensures goes { Goes (AtOnce (op_takes_memory update.now Op.Write))
+    ensures goes { Goes (AtStart (op_takes_memory update.now Op.Write))
         (write_stage switches part.now update.now) (D.view desk.old) (D.view desk.new) result }
     ensures fitted { IfOk result (IsFitted part.now) }
     ensures same { tasks.new.items ≡ tasks.old.items }
@@ -49,7 +49,7 @@ fn verify_task<D: Desk>(
     part: &Part,
     update: &Update,
 ) -> Result<Task, u8>
-    ensures goes { Goes (AtOnce (op_takes_memory update.now Op.Verify))
+    ensures goes { Goes (AtStart (op_takes_memory update.now Op.Verify))
         (op_stage switches part.now update.now Op.Verify) (D.view desk.old) (D.view desk.new) result }
     ensures fitted { IfOk result (IsFitted part.now) }
     ensures same { tasks.new.items ≡ tasks.old.items }
@@ -68,7 +68,7 @@ fn read_task<D: Desk>(
     tasks: &mut Vec<Task>,
     update: &Update,
 ) -> Result<Task, u8>
-    ensures goes { (switches : AnySwitches) (part : PartData) → Goes (AtOnce (op_takes_memory update.now Op.Read))
+    ensures goes { (switches : AnySwitches) (part : PartData) → Goes (AtStart (op_takes_memory update.now Op.Read))
         (op_stage switches part update.now Op.Read) (D.view desk.old) (D.view desk.new) result }
     ensures fitted { IfOk result (λ task. (part : PartData) → IsFitted part task) }
     ensures same { tasks.new.items ≡ tasks.old.items }
@@ -97,7 +97,7 @@ fn update_task<D: Desk>(
     part: &Part,
     update: &Update,
 ) -> Result<Task, u8>
-    ensures goes { Goes (AtOnce (op_takes_memory update.now update.now.op))
+    ensures goes { Goes (AtStart (op_takes_memory update.now update.now.op))
         (task_stage switches part.now update.now) (D.view desk.old) (D.view desk.new) result }
     ensures fitted { IfOk result (IsFitted part.now) }
     ensures same { tasks.new.items ≡ tasks.old.items }
@@ -119,7 +119,7 @@ fn update_tasks<D: Desk>(
     part: &Part,
     updates: &[Update],
 ) -> Result<Tasks, u8>
-    ensures goes { Goes (AtUpdate switches part.now [] updates.now)
+    ensures goes { Goes (AtTask switches part.now [] updates.now)
         (tasks_stage switches part.now [] updates.now) (D.view desk.old) (D.view desk.new) result }
     ensures fitted { IfOk result (All (IsFitted part.now)) }
     // Without updates no memory is taken.
@@ -140,11 +140,12 @@ fn update_tasks<D: Desk>(
 /// Every file is opened anew and read to its end, or past its limit, before it is judged. No file is created.
 ///
 /// The first refusal prints its line, and the answer is the status, 1. It is also 1 where the desk fails or memory is
-/// refused; then nothing more is opened, and the line of that was printed as far as the desk takes it.
+/// refused; then nothing more is opened, and the line of that was printed as far as the desk takes it. Memory is taken
+/// while a file is read, and before anything is done of an update of values or of a read.
 pub fn plan<D: Desk>(alloc: Global, settings: &Settings, desk: &mut D) -> Result<Plan, u8>
-    ensures goes { Goes (AtTaking settings.now) (planned settings.now) (D.view desk.old)
+    ensures goes { Goes (AtUpdate settings.now) (planned settings.now) (D.view desk.old)
         (D.view desk.new) result }
-    // Without a part file and updates nothing is read and no memory is taken: only the part can be wanting.
+    // Without a part file and updates nothing is read: only the part can be wanting.
     ensures bare { settings.now.parts ≡ None → settings.now.updates ≡ []
         → IfErr result (λ status. LacksPart settings.now.part [] (D.view desk.old) (D.view desk.new)) }
     ensures stays { Stays D.comes_of desk.old desk.new }

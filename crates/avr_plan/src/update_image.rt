@@ -4,7 +4,7 @@ ghost use Rattle.avr_cli.specs.declared.settings.Switches.{Switches as AnySwitch
 ghost use Rattle.avr_part.specs.Part.{size_of};
 ghost use Rattle.avr_plan.specs.Planning.{is_warned, warning_says, file_image_stage, image_stage, update_image as update_image_stage};
 ghost use Rattle.avr_plan.specs.Taking.{has_values};
-ghost use Rattle.avr_desk.specs.Playing.{AtOnce, Goes};
+ghost use Rattle.avr_desk.specs.Playing.{AtStart, Goes};
 ghost use Rattle.avr_desk.specs.Stage.{saying_stage};
 ghost use Rattle.ghosts.specs.Stays.{Stays};
 
@@ -35,7 +35,7 @@ fn warn_of_ending<D: Desk>(
     file: &str,
     ending: Ending,
 ) -> Result<(), u8>
-    ensures goes { Goes (AtOnce false) (saying_stage (warning_says switches file.now ending))
+    ensures goes { Goes (AtStart false) (saying_stage (warning_says switches file.now ending))
         (D.view desk.old) (D.view desk.new) result }
     ensures stays { Stays D.comes_of desk.old desk.new }
 {
@@ -59,7 +59,7 @@ fn file_image<D: Desk>(
     format: Format,
     size: u32,
 ) -> Result<Image, u8>
-    ensures goes { Goes (AtOnce false) (file_image_stage switches file.now format size)
+    ensures goes { Goes (AtStart false) (file_image_stage switches file.now format size)
         (D.view desk.old) (D.view desk.new) result }
     ensures sized { IfOk result (λ image. length image ≡ size) }
     ensures same { tasks.new.items ≡ tasks.old.items }
@@ -89,7 +89,7 @@ fn values_image<D: Desk>(
     text: &str,
     size: u32,
 ) -> Result<Image, u8>
-    ensures goes { (switches : AnySwitches) → Goes (AtOnce true)
+    ensures goes { (switches : AnySwitches) → Goes (AtStart true)
         (image_stage switches memory size text.now Format.Immediate) (D.view desk.old) (D.view desk.new) result }
     ensures sized { IfOk result (λ image. length image ≡ size) }
     ensures same { tasks.new.items ≡ tasks.old.items }
@@ -115,7 +115,7 @@ pub(crate) fn update_image<D: Desk>(
     part: &Part,
     update: &Update,
 ) -> Result<Image, u8>
-    ensures goes { Goes (AtOnce (has_values update.now.format))
+    ensures goes { Goes (AtStart (has_values update.now.format))
         (update_image_stage switches part.now update.now) (D.view desk.old) (D.view desk.new) result }
     ensures sized { IfOk result (λ image. length image ≡ size_of update.now.memory part.now) }
     ensures same { tasks.new.items ≡ tasks.old.items }

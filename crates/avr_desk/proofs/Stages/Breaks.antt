@@ -13,7 +13,7 @@ use Rattle.avr_desk.specs.Said.{Saying, Opens, Line, Creates, Writes, Outs, Tell
 use Rattle.avr_desk.proofs.Stages.Sayings.{after_append}
 use Rattle.avr_desk.proofs.Lines.Told.{follows_here, not_failed}
 use Rattle.avr_desk.proofs.FileUses.Uses.{openings_absent, openings_opened}
-use Rattle.avr_desk.specs.Playing.{Break, InLine, NotOpened, NotRead, NoMemory, NoMemoryFor, last_done, IsBreak, Taking, IsTaken, TellsBreak, StageBrokeOff, WentRefused, Goes, part_read}
+use Rattle.avr_desk.specs.Playing.{Break, InLine, NotOpened, NotRead, NoMemory, NoMemoryFor, last_done, IsBreak, Taking, TakesThere, TellsBreak, StageBrokeOff, WentRefused, Goes, part_read}
 use Rattle.avr_desk.specs.Stage.{Stage, StageAnswer, Made, Refused, Unread, StageResult, all_told, ◌>>=◌, content_stage, next_opening, file_stage}
 use Rattle.avr_desk.proofs.Stages.Played.{says_more}
 
@@ -207,7 +207,7 @@ module _ {A : Type 0} (taking : Taking) (name told : Bytes) (stage : Stage A) (b
       same_name name other passed opening
 
   by_break : (passed : List Opening) (behind : List Saying) (break : Break) (line : Bytes)
-      → IsBreak break [] (Opens (next_opening name (passed ++ [])) ∷ behind) → IsTaken taking break passed []
+      → IsBreak break [] (Opens (next_opening name (passed ++ [])) ∷ behind) → TakesThere taking break passed []
       → TellsBreak break line Old New
       → Leaves (last_done break line) → Told
   by_break passed behind (InLine due) line is taken tells kept =
@@ -228,7 +228,7 @@ module _ {A : Type 0} (taking : Taking) (name told : Bytes) (stage : Stage A) (b
       same_openings (Line told ∷ []) (Opens (Found reading) ∷ Line line ∷ []) r kept in absurd (cc)
 
   by_whole : (passed : List Opening) (answer : StageAnswer A) (whole later : List Saying) (break : Break) (line : Bytes)
-      → Next passed ≡ whole ++ later → IsBreak break [] (all_told later answer) → IsTaken taking break passed whole
+      → Next passed ≡ whole ++ later → IsBreak break [] (all_told later answer) → TakesThere taking break passed whole
       → TellsBreak break line Old New → Leaves (whole ++ last_done break line) → Told
   by_whole passed answer [] later break line says is taken tells kept =
       let next : IsBreak break [] (all_told (Next passed) answer) =
@@ -411,7 +411,7 @@ module _ {A : Type 0} (line told : Bytes) (stage : Stage A)
 
   -- what is reported of a break there
   at_once : (passed : List Opening) (break : Break) (some : Bytes) → IsBreak break [] (Line line ∷ [])
-      → IsTaken taking break passed [] → TellsBreak break some Here There
+      → TakesThere taking break passed [] → TellsBreak break some Here There
       → Only (last_done break some) → TellsOne
   at_once passed (InLine due) some is taken tells kept =
       let same : Line line ≡ Line due = let e = is.1 in cc in
@@ -433,7 +433,7 @@ module _ {A : Type 0} (line told : Bytes) (stage : Stage A)
       let e = is.1 in cc in absurd (cc)
 
   in_front : (passed : List Opening) (whole later : List Saying) (break : Break) (some : Bytes) → [] ≡ whole ++ later
-      → IsBreak break [] (all_told {A = A} later (Refused line)) → IsTaken taking break passed whole → TellsBreak break some Here There
+      → IsBreak break [] (all_told {A = A} later (Refused line)) → TakesThere taking break passed whole → TellsBreak break some Here There
       → Only (whole ++ last_done break some) → TellsOne
   in_front passed [] [] break some says is taken tells kept = at_once passed break some is taken tells kept
   in_front passed [] (x ∷ later) break some says is taken tells kept = absurd (cc)

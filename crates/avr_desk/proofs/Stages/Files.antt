@@ -12,11 +12,11 @@ use Rattle.avr_desk.specs.Lines.{file_fault_line, not_opened_line}
 use Rattle.avr_desk.specs.Said.{Saying, Tells}
 use Rattle.avr_desk.proofs.Stages.Openings.{goes_opened, goes_judged, goes_broken}
 use Rattle.avr_desk.proofs.Stages.Played.{goes_refused}
-use Rattle.avr_desk.specs.Playing.{Taking, AtOnce, Goes, Went}
+use Rattle.avr_desk.specs.Playing.{Taking, AtStart, Goes, Went}
 use Rattle.avr_desk.specs.Stage.{Made, verdict_stage, content_stage, file_stage}
 
 -- no memory is taken
-pub taken_never : (passed : List Opening) (said : List Saying) → AtOnce false passed said → ⊥
+pub taken_never : (passed : List Opening) (said : List Saying) → AtStart false passed said → ⊥
 taken_never passed said never = let clash : false ≡ true = never.0 in cc
 
 module _ {A : Type 0} (taking : Taking) (name : Bytes) (limit : ℕ) (judge : Bytes → Result A Bytes) where
@@ -24,13 +24,13 @@ module _ {A : Type 0} (taking : Taking) (name : Bytes) (limit : ℕ) (judge : By
   pub goes_whole : (bytes : Bytes) (ended : Bool) (old mid new : DeskView) (result : Result A ℕ)
       → Passes (with_read name bytes ended) old mid → IsWhole limit (record { bytes = bytes; ended = ended })
       → HasSameCounts old mid
-      → Goes (AtOnce false) (verdict_stage (judge bytes)) mid new result
+      → Goes (AtStart false) (verdict_stage (judge bytes)) mid new result
       → Goes taking (file_stage name limit judge) old new result
   goes_whole bytes ended old mid new result kept whole same goes =
       let reading : Reading = record { name = name; bytes = bytes; ended = ended } in
-      goes_opened (AtOnce false) taking name (content_stage name limit judge) (Found reading) old mid new result refl
+      goes_opened (AtStart false) taking name (content_stage name limit judge) (Found reading) old mid new result refl
       kept same (λ passed said never. absurd (taken_never passed said never))
-      (goes_judged (AtOnce false) name limit judge reading mid new result whole goes)
+      (goes_judged (AtStart false) name limit judge reading mid new result whole goes)
 
   pub went_whole : (bytes : Bytes) (ended : Bool) (old mid : DeskView) (a : A)
       → Passes (with_read name bytes ended) old mid → IsWhole limit (record { bytes = bytes; ended = ended })
@@ -45,9 +45,9 @@ module _ {A : Type 0} (taking : Taking) (name : Bytes) (limit : ℕ) (judge : By
       → Tells mid new (file_fault_line name fault)
       → Goes taking (file_stage name limit judge) old new (Err status)
   goes_file_fault file_fault.Absent old mid new status breaks rose counted one told =
-      goes_opened (AtOnce false) taking name (content_stage name limit judge) (Absent name) old mid new (Err status) refl
+      goes_opened (AtStart false) taking name (content_stage name limit judge) (Absent name) old mid new (Err status) refl
       breaks counted (λ passed said never. absurd (taken_never passed said never))
-      (goes_refused {A = A} (AtOnce false) mid new (not_opened_line name) status one told)
+      (goes_refused {A = A} (AtStart false) mid new (not_opened_line name) status one told)
   goes_file_fault file_fault.NotOpened old mid new status breaks rose counted one told =
       goes_broken taking name (content_stage name limit judge) file_fault.NotOpened old mid new status (λ e. cc) breaks rose
       counted one told

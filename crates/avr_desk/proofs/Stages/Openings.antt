@@ -15,7 +15,7 @@ use Rattle.avr_desk.proofs.Lines.Told.{failure_told, follows_on, follows_same, t
 use Rattle.avr_desk.specs.Lines.{file_fault_line, memory_line, not_opened_line, not_read_line}
 use Rattle.avr_desk.specs.Said.{Saying, Opens, Line, Tells, after_all}
 use Rattle.avr_desk.proofs.Stages.Played.{goes_on, goes_no_further}
-use Rattle.avr_desk.specs.Playing.{Break, NotOpened, NotRead, NoMemoryFor, last_done, IsBreak, IsTaken, Taking, TellsBreak, Goes, part_read}
+use Rattle.avr_desk.specs.Playing.{Break, NotOpened, NotRead, NoMemoryFor, last_done, IsBreak, TakesThere, Taking, TellsBreak, Goes, part_read}
 use Rattle.avr_desk.specs.Stage.{Stage, Made, StageResult, ◌>>=◌, verdict_stage, open_stage, under_name, content_stage, next_opening}
 
 -- ---- the opening passed
@@ -59,7 +59,7 @@ goes_judged taking name limit judge reading old new result whole goes =
 
 broke_opening : {A : Type 0} (taking : Taking) (name : Bytes) (next : Opening → Stage A) (break : Break) (told : Bytes)
     (old new : DeskView) (status : ℕ)
-    → IsTaken taking break [] [] → status ≡ 1 → ((more : List Opening) → IsBreak break more (Opens (next_opening name more) ∷ []))
+    → TakesThere taking break [] [] → status ≡ 1 → ((more : List Opening) → IsBreak break more (Opens (next_opening name more) ∷ []))
     → TellsBreak break told old new
     → Passes (after_all (last_done break told)) old new → Follows old new
     → Goes taking (open_stage name >>= next) old new (Err status)

@@ -12,7 +12,7 @@ use Rattle.avr_desk.specs.Said.{Saying, Line, Opens, TellsLine, Tells, after_all
 use Rattle.avr_desk.proofs.Stages.Sayings.{kept_none, kept_append}
 use Rattle.avr_desk.proofs.Lines.Told.{follows_on, follows_same, same_here, same_on, unsaid_since, tells_since, failure_since}
 use Rattle.avr_desk.specs.Lines.{memory_line, not_opened_line, not_read_line}
-use Rattle.avr_desk.specs.Playing.{Went, Break, InLine, NotOpened, NotRead, NoMemory, NoMemoryFor, last_done, IsNextSaying, IsBreak, TellsBreak, Rest, Taking, IsTaken, StageBrokeOff, Goes}
+use Rattle.avr_desk.specs.Playing.{Went, Break, InLine, NotOpened, NotRead, NoMemory, NoMemoryFor, last_done, IsNextSaying, IsBreak, TellsBreak, Rest, Taking, TakesThere, StageBrokeOff, Goes}
 use Rattle.avr_desk.specs.Stage.{Stage, StageAnswer, Made, Refused, Unread, StageResult, all_told, behind_sayings, going_on, ◌>>=◌, verdict_stage, saying_stage, next_opening}
 
 -- ---- counts
@@ -112,7 +112,7 @@ went_went stage go_on old mid new a answer first then = record {
 
 -- memory that is taken here is taken there
 taken_there : (inner taking : Taking) (break : Break) (passed all : List Opening) (said told : List Saying)
-    → (inner passed said → taking all told) → IsTaken inner break passed said → IsTaken taking break all told
+    → (inner passed said → taking all told) → TakesThere inner break passed said → TakesThere taking break all told
 taken_there inner taking (InLine line) passed all said told there is = tt
 taken_there inner taking (NotOpened name) passed all said told there is = tt
 taken_there inner taking (NotRead name bytes) passed all said told there is = tt
@@ -231,7 +231,7 @@ told_whole old new line kept same =
 
 -- or it broke off there
 broke_here : {A : Type 0} (taking : Taking) (stage : Stage A) (old new : DeskView) (break : Break) (told : List ℕ)
-    → IsTaken taking break [] []
+    → TakesThere taking break [] []
     → ((more : List Opening) → IsBreak break more (all_told (stage more).says (stage more).answer))
     → TellsBreak break told old new
     → Passes (after_all (last_done break told)) old new → Follows old new → StageBrokeOff taking stage old new

@@ -7,7 +7,7 @@ use Rattle.avr_desk.proofs.Stages.Played.{went_nowhere}
 use Rattle.avr_plan.proofs.Stages.Tasks.{goes_with_next, goes_without_next, all_one}
 use Rattle.avr_plan.specs.Plan.{IsFitted}
 use Rattle.avr_plan.specs.Planning.{tasks_stage}
-use Rattle.avr_plan.specs.Taking.{AtUpdate}
+use Rattle.avr_plan.specs.Taking.{AtTask}
 use Rattle.avr_desk.specs.Playing.{Goes}
 use Rattle.avr_plan.specs.declared.planned.Task.{Task}
 use Rattle.avr_plan.proofs.planning.update_tasks.Goals as goal
@@ -26,7 +26,7 @@ loop-update-preserved g c =
       goes = λ new result goes. c.loop-update.invariant.goes new result
           (goes_with_next c.args.switches part c.loop-update.tasks.items us i u _ _ new c.in_ok-task.task result cut
           c.in_ok-task.ensures.goes
-          (subst (λ (ts : List Task). Goes (AtUpdate c.args.switches part ts (drop (i + 1) us))
+          (subst (λ (ts : List Task). Goes (AtTask c.args.switches part ts (drop (i + 1) us))
           (tasks_stage c.args.switches part ts (drop (i + 1) us)) (g.D.Desk.view c.update_task.new.desk) new result)
           same goes));
       fitted = subst (λ (ts : List Task). All (IsFitted part) ts) (sym same)
@@ -54,5 +54,5 @@ returns-clause-goes g c =
     let d = g.D.Desk.view c.loop-update.desk in
     let made = c.loop-update.tasks.items in
     rw c.of.ensures (c.loop-update.invariant.goes d (Ok made)
-    (subst (λ (rest : List Update). Goes (AtUpdate c.args.switches c.args.part.now made rest)
+    (subst (λ (rest : List Update). Goes (AtTask c.args.switches c.args.part.now made rest)
     (tasks_stage c.args.switches c.args.part.now made rest) d d (Ok made)) (sym none) (went_nowhere d made)))
