@@ -89,18 +89,21 @@ opened_at opening passed said takes = (
 goes_whole : (part : Part) (file bytes : Bytes) (ended : Bool) (old mid new : DeskView) (result : Result ChipState ℕ)
     → Passes (with_read file bytes ended) old mid → IsWhole LARGEST_CHIP_FILE (record { bytes = bytes; ended = ended })
     → HasSameCounts old mid
-    → Goes (AtStart true) (verdict_stage (judged_chip part file bytes)) mid new result → Goes AtOpened (chip_stage part file) old new result
+    → Goes (AtStart true) (verdict_stage (judged_chip part file bytes)) mid new result
+    → Goes AtOpened (chip_stage part file) old new result
 goes_whole part file bytes ended old mid new result kept whole rose goes =
     let reading : Reading = record { name = file; bytes = bytes; ended = ended } in
     goes_opened (AtStart true) AtOpened file (chip_given part file) (Found reading) old mid new result refl kept rose
-    (opened_at (Found reading)) (goes_judged (AtStart true) file LARGEST_CHIP_FILE (judged_chip part file) reading mid new result whole goes)
+    (opened_at (Found reading)) (goes_judged (AtStart true) file LARGEST_CHIP_FILE (judged_chip part file) reading mid
+    new result whole goes)
 
 -- to its end
 pub goes_ended : (part : Part) (file bytes : Bytes) (ended : Bool) (old mid new : DeskView)
     (result : Result ChipState ℕ)
     → Passes (with_read file bytes ended) old mid → IsWhole LARGEST_CHIP_FILE (record { bytes = bytes; ended = ended })
     → ended ≡ true → HasSameCounts old mid
-    → Goes (AtStart true) (verdict_stage (chip_or_line part file bytes)) mid new result → Goes AtOpened (chip_stage part file) old new result
+    → Goes (AtStart true) (verdict_stage (chip_or_line part file bytes)) mid new result
+    → Goes AtOpened (chip_stage part file) old new result
 goes_ended part file bytes false old mid new result kept whole is rose goes = cc
 goes_ended part file bytes true old mid new result kept whole is rose goes =
     let fits : nat_le (length bytes) LARGEST_CHIP_FILE ≡ true = grind (arith, nat_tests, whole) in
@@ -118,4 +121,5 @@ goes_past part file bytes false old mid new status kept whole is rose one told =
     let long : nat_le (length bytes) LARGEST_CHIP_FILE ≡ false = grind (arith, nat_tests, more) in
     let given : judged_chip part file bytes ≡ Err (too_long_line file LARGEST_CHIP_FILE) = rw long refl in
     goes_whole part file bytes false old mid new (Err status) kept whole rose
-    (goes_unsettled (AtStart true) (judged_chip part file bytes) (too_long_line file LARGEST_CHIP_FILE) mid new status given one told)
+    (goes_unsettled (AtStart true) (judged_chip part file bytes) (too_long_line file LARGEST_CHIP_FILE) mid new status
+    given one told)

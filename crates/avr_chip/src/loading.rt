@@ -29,7 +29,8 @@ fn file_size(part: &Part) -> u32
 
 /// A chip of this part as it comes new.
 fn fresh_chip<D: Desk>(alloc: Global, part: &Part, desk: &mut D) -> Result<Chip, u8>
-    ensures goes { Goes (AtStart true) (verdict_stage (Ok (fresh_state part.now))) (D.view desk.old) (D.view desk.new) result }
+    ensures goes { Goes (AtStart true) (verdict_stage (Ok (fresh_state part.now))) (D.view desk.old)
+        (D.view desk.new) result }
     ensures part { IfOk result (λ c. c.part ≡ part.now) }
     ensures stays { Stays D.comes_of desk.old desk.new }
 {
@@ -48,8 +49,8 @@ fn chip_of<D: Desk>(
     desk: &mut D,
 ) -> Result<Chip, u8>
     requires { length bytes.now ≤ LARGEST_CHIP_FILE }
-    ensures goes { Goes (AtStart true) (verdict_stage (chip_or_line part.now file.now bytes.now)) (D.view desk.old) (D.view desk.new)
-        result }
+    ensures goes { Goes (AtStart true) (verdict_stage (chip_or_line part.now file.now bytes.now))
+        (D.view desk.old) (D.view desk.new) result }
     ensures part { IfOk result (λ c. c.part ≡ part.now) }
     ensures stays { Stays D.comes_of desk.old desk.new }
 {

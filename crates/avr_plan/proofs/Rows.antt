@@ -1,5 +1,5 @@
--- The limits of files. Then where memory may be refused with no file open, and wrong ends of a plan that writes the file
--- `x.hex` to flash, where the desk shows that no file was opened, and of one for a part that there is none of: its
+-- The limits of files. Then where memory may be refused with no file open. Then wrong ends of a plan that writes the
+-- file `x.hex` to flash, where the desk shows that no file was opened, and of one for a part that there is none of: its
 -- contract admits none of them.
 use Rattle.std.proofs.Common.{◌≡◌, ◌∙◌, sym, ap, subst, arith, ℕ, ◌+◌, ◌<◌, ◌≤◌, ◌-◌, ◌^◌, ◌⊎◌, inl, inr, List, [], ◌∷◌, ◌++◌, take, get_or, append-nil, refl, true, false, Option, Some, None, Ok, Err}
 use Rattle.std.specs.Prelude.{codes}
@@ -211,8 +211,9 @@ module _ (r : Record) (k l m n status : ℕ) where
   silence : HasStood k l → Goes (AtUpdate wanted) (planned wanted) (showing r k m) (showing r l n) (Err status) → ⊥
   silence sound ends =
       let same : after_err [] r ≡ r = ap (λ bytes. record r { messages = bytes }) (append-nil r.messages) in
-      nothing_told sound (told_by [] (subst (λ x. Goes (AtUpdate wanted) (planned wanted) (showing r k m) (showing x l n) (Err status))
-      (sym same) ends))
+      nothing_told sound (told_by []
+      (subst (λ x. Goes (AtUpdate wanted) (planned wanted) (showing r k m) (showing x l n) (Err status)) (sym same)
+      ends))
 
   -- silence, or half of its line, where no write to the messages has failed, however often files have
   told_whole : (told : Bytes) → HasStood m n → Told told → told ≡ not_opened_line file
@@ -250,9 +251,8 @@ module _ (r : Record) (k l m n status : ℕ) where
   opened_well bytes good given ends =
       differs 15 memory_line (not_opened_line file) (showing r k m) (showing r l n)
       (λ back is. let e : ◌≡◌ {A = ℕ} 120 111 = is in omega (arith, e))
-      (opened_is_told file 4194304 (judged_image file Ihex 32768) bytes (not_opened_line file) good given (AtStart false) r
-      k l m n
-      status ends)
+      (opened_is_told file 4194304 (judged_image file Ihex 32768) bytes (not_opened_line file) good given
+      (AtStart false) r k l m n status ends)
 
 -- ---- a refusal is the last that is reported
 

@@ -1,4 +1,4 @@
--- Where want of memory may stop a plan while no file is open. (Where one is open, it is the file that was due: avr_desk's
+-- Where want of memory may stop a plan while no file is open. (Where one is open, that file was due: avr_desk's
 -- `NoMemoryFor`.)
 use Rattle.std.specs.Prelude.{◌≡◌, Bool, true, false, List, [], ◌∷◌, ◌++◌, if◌then◌else◌}
 use Rattle.avr_cli.specs.declared.settings.Settings.{Settings}

@@ -105,8 +105,8 @@ fn values_image<D: Desk>(
     }
 }
 
-/// The image of an update, and room for its task behind the others: memory is refused before anything is said of an update
-/// of values, and for any other while its file is read.
+/// The image of an update, and room for its task behind the others. Memory is refused before anything is said of an
+/// update of values, and for any other while its file is read.
 pub(crate) fn update_image<D: Desk>(
     alloc: Global,
     desk: &mut D,

@@ -1,5 +1,5 @@
 -- Serving an emulated programmer, from settings to status.
-use Rattle.std.specs.Prelude.{◌≡◌, ◌⊎◌, ℕ, List, [], ◌∷◌, Option, Some, None, Result, Ok, Err, codes}
+use Rattle.std.specs.Prelude.{◌≡◌, ◌⊎◌, ℕ, false, List, [], ◌∷◌, Option, Some, None, Result, Ok, Err, codes}
 use Rattle.avr_chip.specs.Holding.{HoldsAndLoads, Loaded}
 use Rattle.avr_chip.specs.Saving.{Saves}
 use Rattle.avr_cli.specs.declared.settings.Settings.{Settings}

@@ -108,9 +108,9 @@ pub record StoppedPlaying (settings : Settings) (before now : Devices) (status :
   pub broke : StopsSession plan (devices before.link between) now
   pub status_is : status ≡ 1
 
--- As it was planned: a prefix of what planning says was done, and nothing was sent or heard. Memory was refused only for
--- the file that was due, or where an update was due that takes it without a file. Without a part file and updates it is
--- only that no part has the name, and that was told.
+-- As it was planned: a prefix of what planning says was done, and nothing was sent or heard. Memory was refused only
+-- for the file that was due, or where an update was due that takes it without a file. Without a part file and updates
+-- it is only that no part has the name, and that was told.
 pub record StoppedPlanning (settings : Settings) (before now : Devices) (status : ℕ) : Type 0 where
   pub broke : planning.StageBrokeOff (AtUpdate settings) (planned settings) before.desk now.desk
   pub bare : settings.parts ≡ None → settings.updates ≡ [] → LacksPart settings.part [] before.desk now.desk

@@ -421,19 +421,20 @@ module _ {A : Type 0} (line told : Bytes) (stage : Stage A)
             (subst (IsPrefixOf some) (sym lines) tells.0),
         tells.1,
       ))
-  at_once passed (NotOpened name) some is taken tells kept = let clash : Line line ≡ Opens (next_opening name []) = let e = is.1 in
-      cc in absurd (cc)
-  at_once passed (NotRead name bytes) some is taken tells kept = let clash : Line line ≡ Opens (next_opening name []) = let e =
-      is.1 in cc in absurd (cc)
+  at_once passed (NotOpened name) some is taken tells kept =
+      let clash : Line line ≡ Opens (next_opening name []) = let e = is.1 in cc in absurd (cc)
+  at_once passed (NotRead name bytes) some is taken tells kept =
+      let clash : Line line ≡ Opens (next_opening name []) = let e = is.1 in cc in absurd (cc)
   at_once passed NoMemory some is taken tells kept = inr (
     subst (λ t. TellsLine memory_line t Here There) (sym (only_told r told some kept)) tells,
     (passed, taken),
   )
-  at_once passed (NoMemoryFor reading) some is taken tells kept = let clash : Line line ≡ Opens (next_opening reading.name []) =
-      let e = is.1 in cc in absurd (cc)
+  at_once passed (NoMemoryFor reading) some is taken tells kept =
+      let clash : Line line ≡ Opens (next_opening reading.name []) = let e = is.1 in cc in absurd (cc)
 
   in_front : (passed : List Opening) (whole later : List Saying) (break : Break) (some : Bytes) → [] ≡ whole ++ later
-      → IsBreak break [] (all_told {A = A} later (Refused line)) → TakesThere taking break passed whole → TellsBreak break some Here There
+      → IsBreak break [] (all_told {A = A} later (Refused line)) → TakesThere taking break passed whole
+      → TellsBreak break some Here There
       → Only (whole ++ last_done break some) → TellsOne
   in_front passed [] [] break some says is taken tells kept = at_once passed break some is taken tells kept
   in_front passed [] (x ∷ later) break some says is taken tells kept = absurd (cc)

@@ -45,16 +45,15 @@ module _ {A : Type 0} (taking : Taking) (name : Bytes) (limit : ℕ) (judge : By
       → Tells mid new (file_fault_line name fault)
       → Goes taking (file_stage name limit judge) old new (Err status)
   goes_file_fault file_fault.Absent old mid new status breaks rose counted one told =
-      goes_opened (AtStart false) taking name (content_stage name limit judge) (Absent name) old mid new (Err status) refl
-      breaks counted (λ passed said never. absurd (taken_never passed said never))
+      goes_opened (AtStart false) taking name (content_stage name limit judge) (Absent name) old mid new (Err status)
+      refl breaks counted (λ passed said never. absurd (taken_never passed said never))
       (goes_refused {A = A} (AtStart false) mid new (not_opened_line name) status one told)
   goes_file_fault file_fault.NotOpened old mid new status breaks rose counted one told =
-      goes_broken taking name (content_stage name limit judge) file_fault.NotOpened old mid new status (λ e. cc) breaks rose
-      counted one told
+      goes_broken taking name (content_stage name limit judge) file_fault.NotOpened old mid new status (λ e. cc) breaks
+      rose counted one told
   goes_file_fault file_fault.NotRead old mid new status breaks rose counted one told =
-      goes_broken taking name (content_stage name limit judge) file_fault.NotRead old mid new status (λ e. cc) breaks rose
-      counted one told
+      goes_broken taking name (content_stage name limit judge) file_fault.NotRead old mid new status (λ e. cc) breaks
+      rose counted one told
   goes_file_fault file_fault.Memory old mid new status breaks rose counted one told =
-      goes_broken taking name (content_stage name limit judge) file_fault.Memory old mid new status (λ e. cc) breaks rose
-      counted
-      one told
+      goes_broken taking name (content_stage name limit judge) file_fault.Memory old mid new status (λ e. cc) breaks
+      rose counted one told

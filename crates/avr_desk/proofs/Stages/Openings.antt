@@ -46,9 +46,9 @@ whole-is limit bytes true whole = refl
 whole-is limit bytes false whole = let past = whole.0 in grind (arith, nat_tests, past)
 
 -- it was read to its end or past the limit, and judged
-pub goes_judged : {A : Type 0} (taking : Taking) (name : Bytes) (limit : ℕ) (judge : Bytes → Result A Bytes) (reading : Reading)
-    (old new : DeskView)
-    (result : Result A ℕ)
+pub goes_judged : {A : Type 0} (taking : Taking) (name : Bytes) (limit : ℕ) (judge : Bytes → Result A Bytes)
+    (reading : Reading)
+    (old new : DeskView) (result : Result A ℕ)
     → IsWhole limit (record { bytes = reading.bytes; ended = reading.ended })
     → Goes taking (verdict_stage (judge reading.bytes)) old new result
     → Goes taking (content_stage name limit judge (Found reading)) old new result
@@ -59,7 +59,8 @@ goes_judged taking name limit judge reading old new result whole goes =
 
 broke_opening : {A : Type 0} (taking : Taking) (name : Bytes) (next : Opening → Stage A) (break : Break) (told : Bytes)
     (old new : DeskView) (status : ℕ)
-    → TakesThere taking break [] [] → status ≡ 1 → ((more : List Opening) → IsBreak break more (Opens (next_opening name more) ∷ []))
+    → TakesThere taking break [] [] → status ≡ 1
+    → ((more : List Opening) → IsBreak break more (Opens (next_opening name more) ∷ []))
     → TellsBreak break told old new
     → Passes (after_all (last_done break told)) old new → Follows old new
     → Goes taking (open_stage name >>= next) old new (Err status)
@@ -80,7 +81,8 @@ broke_opening taking name next break told old new status taken one is tells kept
     )
 
 -- the file could not be opened
-goes_unopened : {A : Type 0} (taking : Taking) (name : Bytes) (next : Opening → Stage A) (old mid new : DeskView) (status : ℕ)
+goes_unopened : {A : Type 0} (taking : Taking) (name : Bytes) (next : Opening → Stage A) (old mid new : DeskView)
+    (status : ℕ)
     → mid.kept ≡ old.kept → Follows old mid → HasFailedAt File old mid → status ≡ 1
     → Tells mid new (not_opened_line name)
     → Goes taking (open_stage name >>= next) old new (Err status)
@@ -91,7 +93,8 @@ goes_unopened taking name next old mid new status same rose failed one told =
     (follows_on old mid new rose told.follows)
 
 -- or not be read on
-goes_unread : {A : Type 0} (taking : Taking) (name bytes : Bytes) (next : Opening → Stage A) (old mid new : DeskView) (status : ℕ)
+goes_unread : {A : Type 0} (taking : Taking) (name bytes : Bytes) (next : Opening → Stage A) (old mid new : DeskView)
+    (status : ℕ)
     → Passes (with_read name bytes false) old mid → Follows old mid → HasFailedAt File old mid → status ≡ 1
     → Tells mid new (not_read_line name) → Goes taking (open_stage name >>= next) old new (Err status)
 goes_unread taking name bytes next old mid new status kept rose failed one told =
@@ -101,7 +104,8 @@ goes_unread taking name bytes next old mid new status kept rose failed one told 
     (follows_on old mid new rose told.follows)
 
 -- or there was no memory for it
-goes_unheld : {A : Type 0} (taking : Taking) (name bytes : Bytes) (ended : Bool) (next : Opening → Stage A) (old mid new : DeskView)
+goes_unheld : {A : Type 0} (taking : Taking) (name bytes : Bytes) (ended : Bool) (next : Opening → Stage A)
+    (old mid new : DeskView)
     (status : ℕ)
     → Passes (with_read name bytes ended) old mid → HasSameCounts old mid → status ≡ 1 → Tells mid new memory_line
     → Goes taking (open_stage name >>= next) old new (Err status)
@@ -113,12 +117,14 @@ goes_unheld taking name bytes ended next old mid new status kept same one told =
     (follows_on old mid new (follows_same old mid same) told.follows)
 
 -- any fault of the file but that it is not there
-pub goes_broken : {A : Type 0} (taking : Taking) (name : Bytes) (next : Opening → Stage A) (fault : FileFault) (old mid new : DeskView)
+pub goes_broken : {A : Type 0} (taking : Taking) (name : Bytes) (next : Opening → Stage A) (fault : FileFault)
+    (old mid new : DeskView)
     (status : ℕ)
     → (fault ≡ file_fault.Absent → ⊥) → FileBreaks name old mid fault → Follows old mid → IsCounted old mid fault
     → status ≡ 1 → Tells mid new (file_fault_line name fault)
     → Goes taking (open_stage name >>= next) old new (Err status)
-goes_broken taking name next file_fault.Absent old mid new status there breaks rose counted one told = absurd (there refl)
+goes_broken taking name next file_fault.Absent old mid new status there breaks rose counted one told =
+    absurd (there refl)
 goes_broken taking name next file_fault.NotOpened old mid new status there breaks rose counted one told =
     goes_unopened taking name next old mid new status breaks rose counted one told
 goes_broken taking name next file_fault.NotRead old mid new status there breaks rose counted one told =

@@ -34,8 +34,8 @@ went_file : (file : Bytes) (format : Format) (size : ℕ) (old mid : DeskView) (
 went_file file format size old mid image ending reads same =
     let judge = judged_image file format size in
     let given : judge reads.bytes ≡ Ok (image, ending) = ap (image_or_line file) (sym reads.gives) in
-    went_whole (AtStart false) file LARGEST_IMAGE_FILE judge reads.bytes reads.ended old mid (image, ending) reads.kept reads.whole same
-    (went_settled (judge reads.bytes) (image, ending) mid given)
+    went_whole (AtStart false) file LARGEST_IMAGE_FILE judge reads.bytes reads.ended old mid (image, ending) reads.kept
+    reads.whole same (went_settled (judge reads.bytes) (image, ending) mid given)
 
 module _ (switches : Switches) (file : Bytes) (format : Format) (size : ℕ) where
   -- a file that is an image, and its warning
@@ -44,8 +44,7 @@ module _ (switches : Switches) (file : Bytes) (format : Format) (size : ℕ) whe
       → Went (saying_stage (warning_says switches file ending)) mid new (Made tt)
       → Went (file_image_stage switches file format size) old new (Made image)
   went_image old mid new image ending reads same warns =
-      went_went (file_stage file LARGEST_IMAGE_FILE (judged_image file format size)) (behind_file switches file) old mid
-      new
+      went_went (file_stage file LARGEST_IMAGE_FILE (judged_image file format size)) (behind_file switches file) old mid new
       (image, ending) (Made image)
       (went_file file format size old mid image ending reads same)
       (went_went (saying_stage (warning_says switches file ending)) (λ ok. verdict_stage (Ok image)) mid new new tt
@@ -57,12 +56,12 @@ module _ (switches : Switches) (file : Bytes) (format : Format) (size : ℕ) whe
       → Goes (AtStart false) (saying_stage (warning_says switches file ending)) mid new (Err status)
       → Goes (AtStart false) (file_image_stage switches file format size) old new (Err status)
   goes_unwarned old mid new image ending status reads same warns =
-      goes_on (AtStart false) (AtStart false) (file_stage file LARGEST_IMAGE_FILE (judged_image file format size)) (behind_file switches file) old mid
-      new
+      goes_on (AtStart false) (AtStart false) (file_stage file LARGEST_IMAGE_FILE (judged_image file format size))
+      (behind_file switches file) old mid new
       (image, ending) (Err status) (went_file file format size old mid image ending reads same)
       (λ passed said never. absurd (taken_never passed said never))
-      (goes_no_further (AtStart false) (saying_stage (warning_says switches file ending)) (λ ok. verdict_stage (Ok image)) mid new
-      status warns)
+      (goes_no_further (AtStart false) (saying_stage (warning_says switches file ending))
+      (λ ok. verdict_stage (Ok image)) mid new status warns)
 
   -- a file that is none
   goes_bad : (old mid new : DeskView) (bad : BadFile) (status : ℕ)
@@ -72,19 +71,18 @@ module _ (switches : Switches) (file : Bytes) (format : Format) (size : ℕ) whe
   goes_bad old mid new bad status reads same one told =
       let judge = judged_image file format size in
       let given : judge reads.bytes ≡ Err (bad_file_line file bad) = ap (image_or_line file) (sym reads.gives) in
-      goes_no_further (AtStart false) (file_stage file LARGEST_IMAGE_FILE judge) (behind_file switches file) old new status
-      (goes_whole (AtStart false) file LARGEST_IMAGE_FILE judge reads.bytes reads.ended old mid new (Err status)
-      reads.kept reads.whole same (goes_unsettled (AtStart false) (judge reads.bytes) (bad_file_line file bad) mid new status given one
-      told))
+      goes_no_further (AtStart false) (file_stage file LARGEST_IMAGE_FILE judge) (behind_file switches file) old new
+      status (goes_whole (AtStart false) file LARGEST_IMAGE_FILE judge reads.bytes reads.ended old mid new (Err status)
+      reads.kept reads.whole same (goes_unsettled (AtStart false) (judge reads.bytes) (bad_file_line file bad) mid new
+      status given one told))
 
   -- a file that was not read
   goes_unread : (old new : DeskView) (status : ℕ)
       → Goes (AtStart false) (file_stage file LARGEST_IMAGE_FILE (judged_image file format size)) old new (Err status)
       → Goes (AtStart false) (file_image_stage switches file format size) old new (Err status)
   goes_unread old new status goes =
-      goes_no_further (AtStart false) (file_stage file LARGEST_IMAGE_FILE (judged_image file format size)) (behind_file switches file)
-      old new
-      status goes
+      goes_no_further (AtStart false) (file_stage file LARGEST_IMAGE_FILE (judged_image file format size))
+      (behind_file switches file) old new status goes
 
   -- an image, but no room for its task
   pub goes_without_room : (old mid new : DeskView) (image : Image) (ending : Ending) (status : ℕ)
@@ -105,8 +103,7 @@ module _ (switches : Switches) (file : Bytes) (format : Format) (size : ℕ) whe
       → Goes (AtStart false) (file_image_stage switches file format size) old new (Err status)
   goes_without_image old mid new (fault_of.File fault) status reads rose counted one told =
       goes_unread old new status
-      (goes_file_fault (AtStart false) file LARGEST_IMAGE_FILE (judged_image file format size) fault old mid new status reads rose
-      counted one
-      told)
+      (goes_file_fault (AtStart false) file LARGEST_IMAGE_FILE (judged_image file format size) fault old mid new status
+      reads rose counted one told)
   goes_without_image old mid new (fault_of.Image bad) status reads rose counted one told =
       goes_bad old mid new bad status reads counted one told

@@ -38,7 +38,8 @@ goes_long_parts file bytes false old mid new status kept whole is same one told 
     let given : judged_parts file bytes ≡ Err (too_long_line file LARGEST_PART_FILE) = rw past refl in
     goes_whole (AtStart false) file LARGEST_PART_FILE (judged_parts file) bytes false old mid new (Err status)
     kept whole same
-    (goes_unsettled (AtStart false) (judged_parts file bytes) (too_long_line file LARGEST_PART_FILE) mid new status given one told)
+    (goes_unsettled (AtStart false) (judged_parts file bytes) (too_long_line file LARGEST_PART_FILE) mid new status
+    given one told)
 
 pub went_parts : (file bytes : Bytes) (ended : Bool) (old mid : DeskView) (parts : List Part)
     → Passes (with_read file bytes ended) old mid
@@ -64,7 +65,8 @@ goes_bad_parts file bytes true old mid new status refused kept whole is same (in
     judged-within file bytes whole ∙ ap (parts_or_line file) (sym gives) in
     goes_whole (AtStart false) file LARGEST_PART_FILE (judged_parts file) bytes true old mid new (Err status)
     kept whole same
-    (goes_unsettled (AtStart false) (judged_parts file bytes) (part_file_line file refused.fault) mid new status given one told)
+    (goes_unsettled (AtStart false) (judged_parts file bytes) (part_file_line file refused.fault) mid new status given
+    one told)
 goes_bad_parts file bytes true old mid new status refused kept whole is same (inr memory) one told =
     let memory_is : refused ≡ of_file Memory = cc in
     let told_so = subst (λ r. Tells mid new (part_file_line file r.fault)) memory_is told in

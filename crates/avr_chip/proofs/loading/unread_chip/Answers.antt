@@ -8,7 +8,8 @@ use Rattle.avr_chip.proofs.loading.unread_chip.Goals as goal
 
 pub returns-in-Absent-clause-goes : goal.returns-in-Absent-clause-goes
 returns-in-Absent-clause-goes g c = λ old breaks rose counted.
-    goes_opened (AtStart true) AtOpened c.args.file.now (chip_given c.args.part.now c.args.file.now) (Absent c.args.file.now) old _ _ _ refl
+    goes_opened (AtStart true) AtOpened c.args.file.now (chip_given c.args.part.now c.args.file.now)
+    (Absent c.args.file.now) old _ _ _ refl
     (rw c.in-Absent.is at breaks) (rw c.in-Absent.is at counted)
     (opened_at (Absent c.args.file.now)) c.fresh_chip.ensures.goes
 

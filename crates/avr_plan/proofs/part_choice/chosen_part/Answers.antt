@@ -11,5 +11,6 @@ returns-in-Ok-clause-goes g c = went_settled _ c.in-Ok.part _
 
 pub returns-in-Err-clause-goes : goal.returns-in-Err-clause-goes
 returns-in-Err-clause-goes g c =
-    goes_unsettled (AtStart false) _ (no_part_line c.args.id.now) _ _ _ (ap (part_or_line c.args.id.now) (sym c.in-Err.ensures.value))
+    goes_unsettled (AtStart false) _ (no_part_line c.args.id.now) _ _ _
+    (ap (part_or_line c.args.id.now) (sym c.in-Err.ensures.value))
     c.refuse.ensures.status (rw c.no_part_message.ensures at c.refuse.ensures.told)
