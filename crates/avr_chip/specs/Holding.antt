@@ -9,7 +9,7 @@ use Rattle.avr_desk.specs.Stage.{Made}
 use Rattle.avr_part.specs.Part.{Part}
 use Rattle.avr_part.specs.State.{ChipState as Chip}
 use Rattle.avr_chip.specs.Lines.{in_use_line}
-use Rattle.avr_chip.specs.Loading.{chip_stage}
+use Rattle.avr_chip.specs.Loading.{AtOpened, chip_stage}
 
 -- What stood in the way: it is held already; or it could not be replaced later.
 pub data HoldingTrouble : Type 0 where
@@ -49,7 +49,7 @@ pub record HeldInVain (part : Part) (file : Bytes) (old new : DeskView) (status 
   pub held_desk : DeskView
   pub left_desk : DeskView
   pub held : HoldsFile old held_desk file (Ok tt)
-  pub refused : Goes (chip_stage part file) held_desk left_desk (Err status)
+  pub refused : Goes AtOpened (chip_stage part file) held_desk left_desk (Err status)
   pub released_is : new ≡ released left_desk
 
 -- The file is held and its chip was loaded; or the one or the other could not be, and the file isn't held.

@@ -1,5 +1,5 @@
 -- A chip that is loaded, as a function of what the opening of its file gives.
-use Rattle.std.specs.Prelude.{◌==◌, nat_le, length, Result, Ok, Err, if◌then◌else◌}
+use Rattle.std.specs.Prelude.{◌≡◌, ◌==◌, nat_le, [], ◌∷◌, length, Result, Ok, Err, if◌then◌else◌}
 use Rattle.avr_desk.specs.Record.{Bytes}
 use Rattle.avr_desk.specs.declared.record.Opening.{Opening}
 use Rattle.avr_desk.specs.declared.record.Opening.TheVariants.{Absent, Found}
@@ -7,6 +7,8 @@ use Rattle.avr_desk.specs.Lines.{too_long_line}
 use Rattle.avr_part.specs.ChipFile.{chip_file_size, state_in}
 use Rattle.avr_part.specs.Part.{Part}
 use Rattle.avr_part.specs.State.{ChipState, fresh_state}
+use Rattle.avr_desk.specs.Playing.{Taking}
+use Rattle.avr_desk.specs.Said.{Opens}
 use Rattle.avr_desk.specs.Stage.{Stage, ◌>>=◌, verdict_stage, open_stage, content_stage}
 use Rattle.avr_chip.specs.declared.loading.TheConstants.{LARGEST_CHIP_FILE}
 use Rattle.avr_chip.specs.Lines.{length_line}
@@ -31,3 +33,7 @@ chip_given part file (Found reading) = content_stage file LARGEST_CHIP_FILE (jud
 -- the chip of this part that its file holds
 abbrev pub chip_stage : Part → Bytes → Stage ChipState
 chip_stage part file = open_stage file >>= chip_given part file
+
+-- where memory is taken for it: once its file was opened, or isn't there
+abbrev pub AtOpened : Taking
+AtOpened passed said = (opening : Opening) × (passed ≡ opening ∷ []) × (said ≡ Opens opening ∷ [])

@@ -1,13 +1,13 @@
 //! A chip is loaded from its file.
-ghost use Rattle.std.specs.Prelude.{◌≡◌, ◌≤◌, IfOk, Ok, length};
+ghost use Rattle.std.specs.Prelude.{◌≡◌, ◌≤◌, true, IfOk, Ok, length};
 ghost use Rattle.avr_desk.specs.Fault.{Follows};
 ghost use Rattle.avr_desk.specs.Files.{FileBreaks, IsCounted};
 ghost use Rattle.avr_desk.specs.Record.{DeskView};
 ghost use Rattle.avr_part.specs.ChipFile.{chip_file_size};
 ghost use Rattle.avr_part.specs.State.{fresh_state};
-ghost use Rattle.avr_desk.specs.Playing.{Goes};
+ghost use Rattle.avr_desk.specs.Playing.{AtStart, Goes};
 ghost use Rattle.avr_desk.specs.Stage.{verdict_stage};
-ghost use Rattle.avr_chip.specs.Loading.{chip_or_line, chip_stage};
+ghost use Rattle.avr_chip.specs.Loading.{AtOpened, chip_or_line, chip_stage};
 ghost use Rattle.ghosts.specs.Stays.{Stays};
 
 use crate::messages::length_message;
@@ -29,7 +29,8 @@ fn file_size(part: &Part) -> u32
 
 /// A chip of this part as it comes new.
 fn fresh_chip<D: Desk>(alloc: Global, part: &Part, desk: &mut D) -> Result<Chip, u8>
-    ensures goes { Goes (verdict_stage (Ok (fresh_state part.now))) (D.view desk.old) (D.view desk.new) result }
+    ensures goes { Goes (AtStart true) (verdict_stage (Ok (fresh_state part.now))) (D.view desk.old)
+        (D.view desk.new) result }
     ensures part { IfOk result (λ c. c.part ≡ part.now) }
     ensures stays { Stays D.comes_of desk.old desk.new }
 {
@@ -48,8 +49,8 @@ fn chip_of<D: Desk>(
     desk: &mut D,
 ) -> Result<Chip, u8>
     requires { length bytes.now ≤ LARGEST_CHIP_FILE }
-    ensures goes { Goes (verdict_stage (chip_or_line part.now file.now bytes.now)) (D.view desk.old) (D.view desk.new)
-        result }
+    ensures goes { Goes (AtStart true) (verdict_stage (chip_or_line part.now file.now bytes.now))
+        (D.view desk.old) (D.view desk.new) result }
     ensures part { IfOk result (λ c. c.part ≡ part.now) }
     ensures stays { Stays D.comes_of desk.old desk.new }
 {
@@ -75,7 +76,7 @@ fn unread_chip<D: Desk>(
     ensures goes { (old : DeskView) → FileBreaks file.now old (D.view desk.old) fault
         → Follows old (D.view desk.old)
         → IsCounted old (D.view desk.old) fault
-        → Goes (chip_stage part.now file.now) old (D.view desk.new) result }
+        → Goes AtOpened (chip_stage part.now file.now) old (D.view desk.new) result }
     ensures part { IfOk result (λ c. c.part ≡ part.now) }
     ensures stays { Stays D.comes_of desk.old desk.new }
 {
@@ -93,7 +94,7 @@ fn unread_chip<D: Desk>(
 /// `m328p`), also where it is empty, where it can't be opened or read on, and where memory is refused. Then the line
 /// that tells why was printed, as far as the desk takes it.
 pub fn load_chip<D: Desk>(alloc: Global, part: &Part, file: &str, desk: &mut D) -> Result<Chip, u8>
-    ensures goes { Goes (chip_stage part.now file.now) (D.view desk.old) (D.view desk.new) result }
+    ensures goes { Goes AtOpened (chip_stage part.now file.now) (D.view desk.old) (D.view desk.new) result }
     ensures part { IfOk result (λ c. c.part ≡ part.now) }
     ensures stays { Stays D.comes_of desk.old desk.new }
 {

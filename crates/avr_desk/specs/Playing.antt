@@ -1,5 +1,5 @@
 -- A stage over a desk: played whole, or broken off by a fault of the desk or for want of memory.
-use Rattle.std.specs.Prelude.{◌≡◌, ◌⊎◌, ℕ, List, [], ◌∷◌, ◌++◌, false, Result, Ok, Err}
+use Rattle.std.specs.Prelude.{◌≡◌, ◌⊎◌, ℕ, Bool, List, [], ◌∷◌, ◌++◌, true, false, Result, Ok, Err}
 use Rattle.avr_desk.specs.Fault.{Follows, HasFailedToSay, HasSameCounts}
 use Rattle.avr_desk.specs.Record.{DeskView, Passes, Bytes}
 use Rattle.avr_desk.specs.declared.record.Opening.{Opening}
@@ -19,7 +19,7 @@ pub record Went {A : Type 0} (stage : Stage A) (old new : DeskView) (answer : St
   pub sound : HasSameCounts old new
 
 -- Why it broke off: the next line could not be printed; the next file could not be opened, or be read on after these
--- bytes; or memory was refused, also for the next file, of which so much had been read.
+-- bytes; or memory was refused, where no file was open, or for the next file, of which so much had been read.
 pub data Break : Type 0 where
   InLine : Bytes → Break
   NotOpened : Bytes → Break
@@ -48,6 +48,18 @@ IsBreak (NotRead name bytes) more later = IsNextSaying (Opens (next_opening name
 IsBreak NoMemory more later = Unit {0}
 IsBreak (NoMemoryFor reading) more later = IsNextSaying (Opens (next_opening reading.name more)) later
 
+-- where a stage may be refused memory while no file is open: after these openings, with this said of them
+abbrev pub Taking : Type 1
+Taking = List Opening → List Saying → Type 0
+
+-- before anything of it, if at all
+abbrev pub AtStart : Bool → Taking
+AtStart takes passed said = (takes ≡ true) × (passed ≡ []) × (said ≡ [])
+
+abbrev pub TakesThere : Taking → Break → List Opening → List Saying → Type 0
+TakesThere taking NoMemory passed said = taking passed said
+TakesThere taking break passed said = Unit {0}
+
 -- The desk failed at the file, and from then on the line of that was reported; or the line that memory was refused was
 -- reported. Of a line that could not be printed a prefix was, and a write to the messages has failed; nothing else is
 -- reported.
@@ -67,13 +79,14 @@ pub record Rest {A : Type 0} (played : StageResult A) (whole : List Saying) (bre
   pub broken : IsBreak break more (all_told later played.answer)
 
 -- These openings passed, a prefix of what the stage says of them was done, whatever later ones would give, and then it
--- broke off, and why was reported.
-pub record StageBrokeOff {A : Type 0} (stage : Stage A) (old new : DeskView) : Type 0 where
+-- broke off, for want of memory only where that is taken, and why was reported.
+pub record StageBrokeOff {A : Type 0} (taking : Taking) (stage : Stage A) (old new : DeskView) : Type 0 where
   pub passed : List Opening
   pub whole : List Saying
   pub break : Break
   pub told : Bytes
   pub rest : (more : List Opening) → Rest (stage (passed ++ more)) whole break more
+  pub taken : TakesThere taking break passed whole
   pub tells : TellsBreak break told old new
   pub kept : Passes (after_all (whole ++ last_done break told)) old new
   pub follows : Follows old new
@@ -83,6 +96,7 @@ abbrev pub WentRefused : {A : Type 0} → Stage A → DeskView → DeskView → 
 WentRefused stage old new = (line : Bytes) × Went stage old new (Refused line)
 
 -- What was made was made by the stage; the status 1 is a refusal that was reported, or a break.
-abbrev pub Goes : {A : Type 0} → Stage A → DeskView → DeskView → Result A ℕ → Type 0
-Goes stage old new (Ok a) = Went stage old new (Made a)
-Goes stage old new (Err status) = (status ≡ 1) × (WentRefused stage old new ⊎ StageBrokeOff stage old new)
+abbrev pub Goes : {A : Type 0} → Taking → Stage A → DeskView → DeskView → Result A ℕ → Type 0
+Goes taking stage old new (Ok a) = Went stage old new (Made a)
+Goes taking stage old new (Err status) =
+    (status ≡ 1) × (WentRefused stage old new ⊎ StageBrokeOff taking stage old new)

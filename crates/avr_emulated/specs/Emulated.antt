@@ -10,6 +10,7 @@ use Rattle.avr_part.specs.Sound.{IsSoundChip}
 use Rattle.avr_part.specs.State.{ChipState as Chip}
 use Rattle.avr_plan.specs.Plan.{Plan, IsFitted}
 use Rattle.avr_plan.specs.Planning.{LacksPart, planned}
+use Rattle.avr_plan.specs.Taking.{AtUpdate}
 use Rattle.avr_desk.specs.Playing.{Goes, Went}
 use Rattle.avr_desk.specs.Stage.{Made}
 use Rattle.ghosts.specs.Stays.{Stays}
@@ -69,7 +70,7 @@ pub record LacksChip (settings : Settings) (file : Bytes) (old now : DeskView) (
 -- There is no plan: nothing was sent. Without a part file and updates it is only that no part has the name.
 abbrev pub LacksPlan : Settings → DeskView → DeskView → ℕ → Type 0
 LacksPlan settings old now status =
-    Goes (planned settings) old now (Err status)
+    Goes (AtUpdate settings) (planned settings) old now (Err status)
     × (settings.parts ≡ None → settings.updates ≡ [] → LacksPart settings.part [] old now)
 
 -- a whole run; or there is no chip, or no plan, and the status is 1

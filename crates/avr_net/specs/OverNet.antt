@@ -5,6 +5,7 @@ use Rattle.avr_desk.specs.Record.{DeskView, Bytes}
 use Rattle.avr_desk.specs.Said.{Tells}
 use Rattle.avr_plan.specs.Plan.{Plan}
 use Rattle.avr_plan.specs.Planning.{LacksPart, planned}
+use Rattle.avr_plan.specs.Taking.{AtUpdate}
 use Rattle.avr_desk.specs.Playing.{Goes, Went}
 use Rattle.avr_desk.specs.Stage.{Made}
 use Rattle.avr_session.specs.Run.{RunsSession}
@@ -42,5 +43,5 @@ abbrev pub RunsOverNet : (LinkView → Type 0) → Settings → Bytes → DeskVi
 RunsOverNet over settings address old new status =
     ((plays : PlaysOverNet settings old new status) × over (connection plays.talk plays.link_failures))
     ⊎ (LacksPort settings address old new status
-    ⊎ (Goes (planned settings) old new (Err status)
+    ⊎ (Goes (AtUpdate settings) (planned settings) old new (Err status)
     × (settings.parts ≡ None → settings.updates ≡ [] → LacksPart settings.part [] old new)))

@@ -5,6 +5,7 @@ pub mod ImageFile
 pub mod ImageReading
 pub mod Plan
 pub mod Planning
+pub mod Taking
 pub mod OnlyReading
 pub mod FilesRead
 -- inside: how things are kept, and what inner functions promise one another

@@ -9,6 +9,7 @@ ghost use Rattle.avr_desk.specs.Memory.{Stock};
 ghost use Rattle.avr_plan.specs.FilesRead.{AreSeen, lines_in, planned_of};
 ghost use Rattle.avr_plan.specs.OnlyReading.{OnlyReads};
 ghost use Rattle.avr_plan.specs.Planning.{planned};
+ghost use Rattle.avr_plan.specs.Taking.{AtUpdate};
 ghost use Rattle.avr_desk.specs.Playing.{Goes, WentRefused};
 ghost use Rattle.avr_desk.specs.Stage.{Unread, told_in};
 
@@ -23,7 +24,7 @@ pub fn a_plan_only_reads_and_warns()
 pub fn a_sound_plan_is_refused_aloud()
     ensures { (s : Settings) (before after : Record) (k l m n status : ℕ) → HasStood k l
         → ((prefix : Bytes) → after.messages ≡ prefix ++ memory_line → ⊥)
-        → Goes (planned s) (showing before k m) (showing after l n) (Err status)
+        → Goes (AtUpdate s) (planned s) (showing before k m) (showing after l n) (Err status)
         → WentRefused (planned s) (showing before k m) (showing after l n) }
 {}
 

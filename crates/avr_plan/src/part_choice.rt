@@ -1,7 +1,7 @@
 //! The part: the part file is read and judged, and the part looked up.
-ghost use Rattle.std.specs.Prelude.{◌≡◌, [], Some, None, Ok, IfErr};
+ghost use Rattle.std.specs.Prelude.{◌≡◌, false, [], Some, None, Ok, IfErr};
 ghost use Rattle.avr_plan.specs.Planning.{LacksPart, parts_stage, part_stage};
-ghost use Rattle.avr_desk.specs.Playing.{Goes};
+ghost use Rattle.avr_desk.specs.Playing.{AtStart, Goes};
 ghost use Rattle.ghosts.specs.Stays.{Stays};
 
 use crate::messages::{no_part_message, part_file_message};
@@ -14,7 +14,7 @@ use std::alloc::Global;
 const LARGEST_PART_FILE: usize = 65_536;
 
 fn file_parts<D: Desk>(alloc: Global, desk: &mut D, file: &str) -> Result<Parts, u8>
-    ensures goes { Goes (parts_stage (Some file.now)) (D.view desk.old) (D.view desk.new) result }
+    ensures goes { Goes (AtStart false) (parts_stage (Some file.now)) (D.view desk.old) (D.view desk.new) result }
     ensures stays { Stays D.comes_of desk.old desk.new }
 {
     let contents = match read_file(alloc, desk, file, LARGEST_PART_FILE) {
@@ -35,7 +35,7 @@ fn file_parts<D: Desk>(alloc: Global, desk: &mut D, file: &str) -> Result<Parts,
 /// The file has at most 65,536 bytes. Where it can't be read, is longer or is no part file, and where memory is
 /// refused, the line that tells why was printed, as far as the desk takes it, and the answer is the status, 1.
 pub fn given_parts<D: Desk>(alloc: Global, desk: &mut D, file: &Option<Text>) -> Result<Parts, u8>
-    ensures goes { Goes (parts_stage file.now) (D.view desk.old) (D.view desk.new) result }
+    ensures goes { Goes (AtStart false) (parts_stage file.now) (D.view desk.old) (D.view desk.new) result }
     ensures none { file.now ≡ None → (result ≡ Ok []) × (D.view desk.new ≡ D.view desk.old) }
     ensures stays { Stays D.comes_of desk.old desk.new }
 {
@@ -55,7 +55,7 @@ pub fn given_parts<D: Desk>(alloc: Global, desk: &mut D, file: &Option<Text>) ->
 /// let part = chosen_part(&mut desk, &parts, "m328p")?;
 /// ```
 pub fn chosen_part<D: Desk>(desk: &mut D, parts: &Parts, id: &str) -> Result<Part, u8>
-    ensures goes { Goes (part_stage id.now parts.now) (D.view desk.old) (D.view desk.new) result }
+    ensures goes { Goes (AtStart false) (part_stage id.now parts.now) (D.view desk.old) (D.view desk.new) result }
     ensures refused { IfErr result (λ status. LacksPart id.now parts.now (D.view desk.old) (D.view desk.new)) }
     ensures stays { Stays D.comes_of desk.old desk.new }
 {

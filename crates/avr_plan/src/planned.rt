@@ -1,11 +1,10 @@
 //! What a run is to do: a part, and tasks in their order.
-ghost use Rattle.std.specs.Prelude.{◌≡◌, ◌∷◌, ◌++◌, [], is_ok, if◌then◌else◌, All};
+ghost use Rattle.std.specs.Prelude.{◌≡◌, All};
 ghost use Rattle.avr_plan.specs.Plan.{IsFitted};
 
 use avr_cli::{Format, Switches, Text};
 use avr_image::Image;
 use avr_part::{Mem, Part};
-use std::alloc::{AllocError, Global};
 use std::marker::Model;
 
 /// What a session does with one memory. An image has a place for each byte of the memory; at some it may hold none.
@@ -41,20 +40,10 @@ impl Model for Tasks {
 }
 
 impl Tasks {
-    pub(crate) fn new(alloc: Global) -> Tasks
-        ensures { result ≡ [] }
+    pub(crate) fn of(items: Vec<Task>) -> Tasks
+        ensures { result ≡ items.items }
     {
-        Tasks {
-            items: Vec::new(alloc),
-        }
-    }
-
-    /// Puts a task after the others. Where memory is refused they stay as they are.
-    pub(crate) fn push(&mut self, task: Task) -> Result<(), AllocError>
-        ensures { self.new ≡ (if is_ok result then self.old ++ task ∷ [] else self.old) }
-    {
-        self.items.push(task)?;
-        Ok(())
+        Tasks { items }
     }
 
     pub(crate) fn as_slice(&self) -> &[Task]

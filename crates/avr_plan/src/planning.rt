@@ -1,10 +1,11 @@
 //! The plan of a run: everything that it needs is read and judged, before any frame is sent.
-ghost use Rattle.std.specs.Prelude.{◌≡◌, [], None, All, IfOk, IfErr, IsOk};
+ghost use Rattle.std.specs.Prelude.{◌≡◌, ◌<◌, [], None, All, IfOk, IfErr, IsOk, OnOk, vec_len, vec_capacity};
 ghost use Rattle.avr_cli.specs.declared.settings.Switches.{Switches as AnySwitches};
 ghost use Rattle.avr_part.specs.Part.{Part as PartData};
 ghost use Rattle.avr_plan.specs.Plan.{IsFitted};
 ghost use Rattle.avr_plan.specs.Planning.{LacksPart, task_stage, op_stage, write_stage, tasks_stage, planned};
-ghost use Rattle.avr_desk.specs.Playing.{Goes};
+ghost use Rattle.avr_plan.specs.Taking.{AtUpdate, AtTask, op_takes_memory};
+ghost use Rattle.avr_desk.specs.Playing.{AtStart, Goes};
 ghost use Rattle.ghosts.specs.Stays.{Stays};
 
 use crate::messages::read_only_message;
@@ -19,19 +20,22 @@ use std::alloc::Global;
 fn write_task<D: Desk>(
     alloc: Global,
     desk: &mut D,
+    tasks: &mut Vec<Task>,
     switches: Switches,
     part: &Part,
     update: &Update,
 ) -> Result<Task, u8>
-    ensures goes { Goes (write_stage switches part.now update.now)
-        (D.view desk.old) (D.view desk.new) result }
+    ensures goes { Goes (AtStart (op_takes_memory update.now Op.Write))
+        (write_stage switches part.now update.now) (D.view desk.old) (D.view desk.new) result }
     ensures fitted { IfOk result (IsFitted part.now) }
+    ensures same { tasks.new.items ≡ tasks.old.items }
+    ensures room { OnOk result (vec_len tasks.new < vec_capacity tasks.new) }
     ensures stays { Stays D.comes_of desk.old desk.new }
 {
     if !update.memory.writable() {
         return Err(refuse(desk, &read_only_message(update.memory)));
     }
-    match update_image(alloc, desk, switches, part, update) {
+    match update_image(alloc, desk, tasks, switches, part, update) {
         Ok(image) => Ok(Task::Write(update.memory, image)),
         Err(status) => Err(status),
     }
@@ -40,27 +44,40 @@ fn write_task<D: Desk>(
 fn verify_task<D: Desk>(
     alloc: Global,
     desk: &mut D,
+    tasks: &mut Vec<Task>,
     switches: Switches,
     part: &Part,
     update: &Update,
 ) -> Result<Task, u8>
-    ensures goes { Goes (op_stage switches part.now update.now Op.Verify)
-        (D.view desk.old) (D.view desk.new) result }
+    ensures goes { Goes (AtStart (op_takes_memory update.now Op.Verify))
+        (op_stage switches part.now update.now Op.Verify) (D.view desk.old) (D.view desk.new) result }
     ensures fitted { IfOk result (IsFitted part.now) }
+    ensures same { tasks.new.items ≡ tasks.old.items }
+    ensures room { OnOk result (vec_len tasks.new < vec_capacity tasks.new) }
     ensures stays { Stays D.comes_of desk.old desk.new }
 {
-    match update_image(alloc, desk, switches, part, update) {
+    match update_image(alloc, desk, tasks, switches, part, update) {
         Ok(image) => Ok(Task::Verify(update.memory, image)),
         Err(status) => Err(status),
     }
 }
 
-fn read_task<D: Desk>(alloc: Global, desk: &mut D, update: &Update) -> Result<Task, u8>
-    ensures goes { (switches : AnySwitches) (part : PartData) → Goes (op_stage switches part update.now Op.Read)
-        (D.view desk.old) (D.view desk.new) result }
+fn read_task<D: Desk>(
+    alloc: Global,
+    desk: &mut D,
+    tasks: &mut Vec<Task>,
+    update: &Update,
+) -> Result<Task, u8>
+    ensures goes { (switches : AnySwitches) (part : PartData) → Goes (AtStart (op_takes_memory update.now Op.Read))
+        (op_stage switches part update.now Op.Read) (D.view desk.old) (D.view desk.new) result }
     ensures fitted { IfOk result (λ task. (part : PartData) → IsFitted part task) }
+    ensures same { tasks.new.items ≡ tasks.old.items }
+    ensures room { OnOk result (vec_len tasks.new < vec_capacity tasks.new) }
     ensures stays { Stays D.comes_of desk.old desk.new }
 {
+    if tasks.reserve(1).is_err() {
+        return Err(refuse(desk, &memory_message()));
+    }
     match Text::new(alloc, update.file.as_str()) {
         Ok(file) => Ok(Task::Read {
             memory: update.memory,
@@ -71,22 +88,26 @@ fn read_task<D: Desk>(alloc: Global, desk: &mut D, update: &Update) -> Result<Ta
     }
 }
 
+/// The task of an update, and room for it behind the others.
 fn update_task<D: Desk>(
     alloc: Global,
     desk: &mut D,
+    tasks: &mut Vec<Task>,
     switches: Switches,
     part: &Part,
     update: &Update,
 ) -> Result<Task, u8>
-    ensures goes { Goes (task_stage switches part.now update.now)
-        (D.view desk.old) (D.view desk.new) result }
+    ensures goes { Goes (AtStart (op_takes_memory update.now update.now.op))
+        (task_stage switches part.now update.now) (D.view desk.old) (D.view desk.new) result }
     ensures fitted { IfOk result (IsFitted part.now) }
+    ensures same { tasks.new.items ≡ tasks.old.items }
+    ensures room { OnOk result (vec_len tasks.new < vec_capacity tasks.new) }
     ensures stays { Stays D.comes_of desk.old desk.new }
 {
     match update.op {
-        Op::Write => write_task(alloc, desk, switches, part, update),
-        Op::Verify => verify_task(alloc, desk, switches, part, update),
-        Op::Read => read_task(alloc, desk, update),
+        Op::Write => write_task(alloc, desk, tasks, switches, part, update),
+        Op::Verify => verify_task(alloc, desk, tasks, switches, part, update),
+        Op::Read => read_task(alloc, desk, tasks, update),
     }
 }
 
@@ -98,21 +119,19 @@ fn update_tasks<D: Desk>(
     part: &Part,
     updates: &[Update],
 ) -> Result<Tasks, u8>
-    ensures goes { Goes (tasks_stage switches part.now [] updates.now)
-        (D.view desk.old) (D.view desk.new) result }
+    ensures goes { Goes (AtTask switches part.now [] updates.now)
+        (tasks_stage switches part.now [] updates.now) (D.view desk.old) (D.view desk.new) result }
     ensures fitted { IfOk result (All (IsFitted part.now)) }
     // Without updates no memory is taken.
     ensures none { updates.now ≡ [] → IsOk result }
     ensures stays { Stays D.comes_of desk.old desk.new }
 {
-    let mut tasks = Tasks::new(alloc);
+    let mut tasks = Vec::new(alloc);
     for update in updates {
-        let task = update_task(alloc, desk, switches, part, update)?;
-        if tasks.push(task).is_err() {
-            return Err(refuse(desk, &memory_message()));
-        }
+        let task = update_task(alloc, desk, &mut tasks, switches, part, update)?;
+        tasks.push_reserved(task);
     }
-    Ok(tasks)
+    Ok(Tasks::of(tasks))
 }
 
 /// Makes the plan of a run: reads and judges the part file, looks the part up, and then reads and judges the file of
@@ -121,10 +140,12 @@ fn update_tasks<D: Desk>(
 /// Every file is opened anew and read to its end, or past its limit, before it is judged. No file is created.
 ///
 /// The first refusal prints its line, and the answer is the status, 1. It is also 1 where the desk fails or memory is
-/// refused; then nothing more is opened, and the line of that was printed as far as the desk takes it.
+/// refused; then nothing more is opened, and the line of that was printed as far as the desk takes it. Memory is taken
+/// while a file is read, and before anything is done of an update of values or of a read.
 pub fn plan<D: Desk>(alloc: Global, settings: &Settings, desk: &mut D) -> Result<Plan, u8>
-    ensures goes { Goes (planned settings.now) (D.view desk.old) (D.view desk.new) result }
-    // Without a part file and updates nothing is read and no memory is taken: only the part can be wanting.
+    ensures goes { Goes (AtUpdate settings.now) (planned settings.now) (D.view desk.old)
+        (D.view desk.new) result }
+    // Without a part file and updates nothing is read: only the part can be wanting.
     ensures bare { settings.now.parts ≡ None → settings.now.updates ≡ []
         → IfErr result (λ status. LacksPart settings.now.part [] (D.view desk.old) (D.view desk.new)) }
     ensures stays { Stays D.comes_of desk.old desk.new }

@@ -1,16 +1,18 @@
 //! The image of an update, in a file or in the words of the command.
-ghost use Rattle.std.specs.Prelude.{◌≡◌, length, IfOk};
+ghost use Rattle.std.specs.Prelude.{◌≡◌, ◌<◌, true, false, length, IfOk, OnOk, vec_len, vec_capacity};
 ghost use Rattle.avr_cli.specs.declared.settings.Switches.{Switches as AnySwitches};
 ghost use Rattle.avr_part.specs.Part.{size_of};
 ghost use Rattle.avr_plan.specs.Planning.{is_warned, warning_says, file_image_stage, image_stage, update_image as update_image_stage};
-ghost use Rattle.avr_desk.specs.Playing.{Goes};
+ghost use Rattle.avr_plan.specs.Taking.{has_values};
+ghost use Rattle.avr_desk.specs.Playing.{AtStart, Goes};
 ghost use Rattle.avr_desk.specs.Stage.{saying_stage};
 ghost use Rattle.ghosts.specs.Stays.{Stays};
 
 use crate::image_file::{ReadFault, read_image};
 use crate::messages::{image_message, values_message};
+use crate::planned::Task;
 use avr_cli::{Format, Switches, Update};
-use avr_desk::{Desk, Piece, print_warning, refuse};
+use avr_desk::{Desk, Piece, memory_message, print_warning, refuse};
 use avr_image::{Image, parse_immediate};
 use avr_part::{Mem, Part};
 use avr_records::Ending;
@@ -33,7 +35,7 @@ fn warn_of_ending<D: Desk>(
     file: &str,
     ending: Ending,
 ) -> Result<(), u8>
-    ensures goes { Goes (saying_stage (warning_says switches file.now ending))
+    ensures goes { Goes (AtStart false) (saying_stage (warning_says switches file.now ending))
         (D.view desk.old) (D.view desk.new) result }
     ensures stays { Stays D.comes_of desk.old desk.new }
 {
@@ -47,63 +49,83 @@ fn warn_of_ending<D: Desk>(
     }
 }
 
+/// The image in a file. Room for its task is made as soon as the file was read.
 fn file_image<D: Desk>(
     alloc: Global,
     desk: &mut D,
+    tasks: &mut Vec<Task>,
     switches: Switches,
     file: &str,
     format: Format,
     size: u32,
 ) -> Result<Image, u8>
-    ensures goes { Goes (file_image_stage switches file.now format size)
+    ensures goes { Goes (AtStart false) (file_image_stage switches file.now format size)
         (D.view desk.old) (D.view desk.new) result }
     ensures sized { IfOk result (λ image. length image ≡ size) }
+    ensures same { tasks.new.items ≡ tasks.old.items }
+    ensures room { OnOk result (vec_len tasks.new < vec_capacity tasks.new) }
     ensures stays { Stays D.comes_of desk.old desk.new }
 {
     match read_image(alloc, desk, file, format, size) {
-        Ok((image, ending)) => match warn_of_ending(desk, switches, file, ending) {
-            Ok(()) => Ok(image),
-            Err(status) => Err(status),
-        },
+        Ok((image, ending)) => {
+            if tasks.reserve(1).is_err() {
+                return Err(refuse(desk, &memory_message()));
+            }
+            match warn_of_ending(desk, switches, file, ending) {
+                Ok(()) => Ok(image),
+                Err(status) => Err(status),
+            }
+        }
         Err(fault) => Err(refuse(desk, &image_message(file, fault))),
     }
 }
 
-/// The image of values in the words of the command.
+/// The image of values in the words of the command, after room for its task.
 fn values_image<D: Desk>(
     alloc: Global,
     desk: &mut D,
+    tasks: &mut Vec<Task>,
     memory: Mem,
     text: &str,
     size: u32,
 ) -> Result<Image, u8>
-    ensures goes { (switches : AnySwitches) → Goes (image_stage switches memory size text.now Format.Immediate)
-        (D.view desk.old) (D.view desk.new) result }
+    ensures goes { (switches : AnySwitches) → Goes (AtStart true)
+        (image_stage switches memory size text.now Format.Immediate) (D.view desk.old) (D.view desk.new) result }
     ensures sized { IfOk result (λ image. length image ≡ size) }
+    ensures same { tasks.new.items ≡ tasks.old.items }
+    ensures room { OnOk result (vec_len tasks.new < vec_capacity tasks.new) }
     ensures stays { Stays D.comes_of desk.old desk.new }
 {
+    if tasks.reserve(1).is_err() {
+        return Err(refuse(desk, &memory_message()));
+    }
     match parse_immediate(alloc, text, size) {
         Ok(image) => Ok(image),
         Err(fault) => Err(refuse(desk, &values_message(memory, fault))),
     }
 }
 
+/// The image of an update, and room for its task behind the others. Memory is refused before anything is said of an
+/// update of values, and for any other while its file is read.
 pub(crate) fn update_image<D: Desk>(
     alloc: Global,
     desk: &mut D,
+    tasks: &mut Vec<Task>,
     switches: Switches,
     part: &Part,
     update: &Update,
 ) -> Result<Image, u8>
-    ensures goes { Goes (update_image_stage switches part.now update.now)
-        (D.view desk.old) (D.view desk.new) result }
+    ensures goes { Goes (AtStart (has_values update.now.format))
+        (update_image_stage switches part.now update.now) (D.view desk.old) (D.view desk.new) result }
     ensures sized { IfOk result (λ image. length image ≡ size_of update.now.memory part.now) }
+    ensures same { tasks.new.items ≡ tasks.old.items }
+    ensures room { OnOk result (vec_len tasks.new < vec_capacity tasks.new) }
     ensures stays { Stays D.comes_of desk.old desk.new }
 {
     let size = part.size_of(update.memory);
     let text = update.file.as_str();
     match update.format {
-        Format::Immediate => values_image(alloc, desk, update.memory, text, size),
-        format => file_image(alloc, desk, switches, text, format, size),
+        Format::Immediate => values_image(alloc, desk, tasks, update.memory, text, size),
+        format => file_image(alloc, desk, tasks, switches, text, format, size),
     }
 }

@@ -1,30 +1,32 @@
 -- A fresh emulator that served, from settings to status.
-use Rattle.std.proofs.Common.{◌≡◌, ℕ, List, [], ap₂, subst, Result, Err}
+use Rattle.std.proofs.Common.{◌≡◌, ℕ, false, List, [], ap₂, subst, Result, Err}
 use Rattle.avr_cli.specs.declared.settings.Settings.{Settings}
 use Rattle.avr_desk.specs.Record.{DeskView, Bytes}
 use Rattle.avr_part.specs.Part.{Part}
 use Rattle.avr_part.specs.State as chips
 use Rattle.avr_plan.specs.Planning.{parts_stage, part_stage}
-use Rattle.avr_desk.specs.Playing.{Goes, Went}
+use Rattle.avr_desk.specs.Playing.{AtStart, Goes, Went}
 use Rattle.avr_desk.specs.Stage.{Made}
+use Rattle.avr_desk.proofs.Stages.Files.{taken_never}
 use Rattle.avr_desk.proofs.Stages.Played.{goes_on, goes_no_further}
 use Rattle.stk_emu.specs.Programmer.{fresh_programmer}
 use Rattle.stk_emu.specs.Emulator.{Machine}
 use Rattle.avr_serve.specs.ServedRun.{settings_part, fresh_machine}
 
 pub goes_without_parts : (s : Settings) (old new : DeskView) (status : ℕ)
-    → Goes (parts_stage s.parts) old new (Err status)
-    → Goes (settings_part s) old new (Err status)
+    → Goes (AtStart false) (parts_stage s.parts) old new (Err status)
+    → Goes (AtStart false) (settings_part s) old new (Err status)
 goes_without_parts s old new status goes =
-    goes_no_further (parts_stage s.parts) (λ parts. part_stage s.part parts) old new status goes
+    goes_no_further (AtStart false) (parts_stage s.parts) (λ parts. part_stage s.part parts) old new status goes
 
 pub goes_with_parts : (s : Settings) (id : Bytes) (old mid new : DeskView) (parts : List Part) (result : Result Part ℕ)
     → id ≡ s.part
-    → Went (parts_stage s.parts) old mid (Made parts) → Goes (part_stage id parts) mid new result
-    → Goes (settings_part s) old new result
+    → Went (parts_stage s.parts) old mid (Made parts) → Goes (AtStart false) (part_stage id parts) mid new result
+    → Goes (AtStart false) (settings_part s) old new result
 goes_with_parts s id old mid new parts result same went goes =
-    goes_on (parts_stage s.parts) (λ parts. part_stage s.part parts) old mid new parts result went
-    (subst (λ (i : Bytes). Goes (part_stage i parts) mid new result) same goes)
+    goes_on (AtStart false) (AtStart false) (parts_stage s.parts) (λ parts. part_stage s.part parts) old mid new parts
+    result went (λ passed said never. absurd (taken_never passed said never))
+    (subst (λ (i : Bytes). Goes (AtStart false) (part_stage i parts) mid new result) same goes)
 
 pub is_fresh : (chip : chips.ChipState) (machine : Machine) → machine.held ≡ []
     → machine.programmer ≡ fresh_programmer chip → machine ≡ fresh_machine chip

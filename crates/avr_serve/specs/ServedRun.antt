@@ -1,5 +1,5 @@
 -- Serving an emulated programmer, from settings to status.
-use Rattle.std.specs.Prelude.{◌≡◌, ◌⊎◌, ℕ, List, [], ◌∷◌, Option, Some, None, Result, Ok, Err, codes}
+use Rattle.std.specs.Prelude.{◌≡◌, ◌⊎◌, ℕ, false, List, [], ◌∷◌, Option, Some, None, Result, Ok, Err, codes}
 use Rattle.avr_chip.specs.Holding.{HoldsAndLoads, Loaded}
 use Rattle.avr_chip.specs.Saving.{Saves}
 use Rattle.avr_cli.specs.declared.settings.Settings.{Settings}
@@ -11,7 +11,7 @@ use Rattle.avr_part.specs.ChipFile.{chip_file}
 use Rattle.avr_part.specs.Part.{Part}
 use Rattle.avr_part.specs.State as chips
 use Rattle.avr_plan.specs.Planning.{parts_stage, part_stage}
-use Rattle.avr_desk.specs.Playing.{Goes, Went}
+use Rattle.avr_desk.specs.Playing.{AtStart, Goes, Went}
 use Rattle.avr_desk.specs.Stage.{Stage, Made, ◌>>=◌}
 use Rattle.stk_host.specs.Talk.{LinkView}
 use Rattle.stk_emu.specs.Programmer.{fresh_programmer}
@@ -48,7 +48,7 @@ abbrev pub JudgesPart : Settings → Bytes → DeskView → DeskView → Result 
 JudgesPart settings file old new (Ok judged) =
     WithPart settings old (λ part desk. JudgesChip part file desk new (Ok judged))
 JudgesPart settings file old new (Err status) =
-    Goes (settings_part settings) old new (Err status)
+    Goes (AtStart false) (settings_part settings) old new (Err status)
     ⊎ WithPart settings old (λ part desk. JudgesChip part file desk new (Err status))
 
 -- an emulator with this chip that was fed nothing
@@ -130,7 +130,7 @@ ServesPart part file turns old new status =
 
 -- There is no part, which was told: nothing was heard or sent.
 pub record ServesNoPart (settings : Settings) (old new : Sides) (status : ℕ) : Type 0 where
-  pub refused : Goes (settings_part settings) old.desk new.desk (Err status)
+  pub refused : Goes (AtStart false) (settings_part settings) old.desk new.desk (Err status)
   pub silent : new.link ≡ old.link
 
 -- so with the part of the settings

@@ -1,7 +1,7 @@
 //! Serving an emulated programmer, from settings to status.
-ghost use Rattle.std.specs.Prelude.{◌≤◌};
+ghost use Rattle.std.specs.Prelude.{◌≤◌, false};
 ghost use Rattle.avr_desk.specs.Fault.{Follows};
-ghost use Rattle.avr_desk.specs.Playing.{Goes};
+ghost use Rattle.avr_desk.specs.Playing.{AtStart, Goes};
 ghost use Rattle.avr_serve.specs.ServedRun.{JudgesChip, JudgesPart, settings_part};
 ghost use Rattle.avr_serve.specs.ServedRun.{RunsServed, ServesChip, ServesPart, sides};
 ghost use Rattle.ghosts.specs.Stays.{Stays};
@@ -22,7 +22,7 @@ pub const READS: u32 = 16_777_216;
 
 /// The part of the settings: looked up in their part file, where they have one, before the built-in parts.
 fn find_part<D: Desk>(alloc: Global, desk: &mut D, settings: &Settings) -> Result<Part, u8>
-    ensures goes { Goes (settings_part settings.now) (D.view desk.old) (D.view desk.new) result }
+    ensures goes { Goes (AtStart false) (settings_part settings.now) (D.view desk.old) (D.view desk.new) result }
     ensures stays { Stays D.comes_of desk.old desk.new }
 {
     let parts = match given_parts(alloc, desk, &settings.parts) {

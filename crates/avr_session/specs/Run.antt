@@ -4,6 +4,7 @@ use Rattle.avr_cli.specs.declared.settings.Settings.{Settings}
 use Rattle.avr_desk.specs.Record.{DeskView}
 use Rattle.avr_plan.specs.Plan.{Plan}
 use Rattle.avr_plan.specs.Planning.{LacksPart, planned}
+use Rattle.avr_plan.specs.Taking.{AtUpdate}
 use Rattle.avr_desk.specs.Playing as planning
 use Rattle.avr_desk.specs.Playing.{Went, WentRefused}
 use Rattle.avr_desk.specs.Stage.{Made}
@@ -33,11 +34,12 @@ pub record RunsPlan (settings : Settings) (old : Devices) (between : DeskView) (
   pub made : Went (planned settings) old.desk between (Made plan)
   pub runs : RunsSession plan (devices old.link between) new status
 
--- There is no plan, or planning broke off: nothing was sent or heard, and the status is 1. Without a part file and
--- updates it is only that no part has the name, and that was reported.
+-- There is no plan, or planning broke off: nothing was sent or heard, and the status is 1. Memory was refused only for
+-- the file that was due, or where an update was due that takes it without a file. Without a part file and updates it is
+-- only that no part has the name, and that was reported.
 pub record RunsNone (settings : Settings) (old new : Devices) (status : ℕ) : Type 0 where
   pub refused : WentRefused (planned settings) old.desk new.desk
-      ⊎ planning.StageBrokeOff (planned settings) old.desk new.desk
+      ⊎ planning.StageBrokeOff (AtUpdate settings) (planned settings) old.desk new.desk
   pub bare : settings.parts ≡ None → settings.updates ≡ [] → LacksPart settings.part [] old.desk new.desk
   pub same : new.link ≡ old.link
   pub status_is : status ≡ 1

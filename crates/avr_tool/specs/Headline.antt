@@ -20,6 +20,7 @@ use Rattle.avr_desk.specs.declared.record.Opening.{Opening}
 use Rattle.avr_desk.specs.Said.{Saying, Line, SaidPart, after_all}
 use Rattle.avr_plan.specs.Plan.{Plan}
 use Rattle.avr_plan.specs.Planning.{LacksPart, planned}
+use Rattle.avr_plan.specs.Taking.{AtUpdate}
 use Rattle.avr_desk.specs.Playing as planning
 use Rattle.avr_desk.specs.Playing.{Went}
 use Rattle.avr_desk.specs.Stage as stage
@@ -107,10 +108,11 @@ pub record StoppedPlaying (settings : Settings) (before now : Devices) (status :
   pub broke : StopsSession plan (devices before.link between) now
   pub status_is : status ≡ 1
 
--- As it was planned: a prefix of what planning says was done, and nothing was sent or heard. Without a part file and
--- updates it is only that no part has the name, and that was told: there memory is not refused.
+-- As it was planned: a prefix of what planning says was done, and nothing was sent or heard. Memory was refused only
+-- for the file that was due, or where an update was due that takes it without a file. Without a part file and updates
+-- it is only that no part has the name, and that was told.
 pub record StoppedPlanning (settings : Settings) (before now : Devices) (status : ℕ) : Type 0 where
-  pub broke : planning.StageBrokeOff (planned settings) before.desk now.desk
+  pub broke : planning.StageBrokeOff (AtUpdate settings) (planned settings) before.desk now.desk
   pub bare : settings.parts ≡ None → settings.updates ≡ [] → LacksPart settings.part [] before.desk now.desk
   pub same : now.link ≡ before.link
   pub status_is : status ≡ 1

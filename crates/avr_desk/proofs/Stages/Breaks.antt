@@ -13,7 +13,7 @@ use Rattle.avr_desk.specs.Said.{Saying, Opens, Line, Creates, Writes, Outs, Tell
 use Rattle.avr_desk.proofs.Stages.Sayings.{after_append}
 use Rattle.avr_desk.proofs.Lines.Told.{follows_here, not_failed}
 use Rattle.avr_desk.proofs.FileUses.Uses.{openings_absent, openings_opened}
-use Rattle.avr_desk.specs.Playing.{Break, InLine, NotOpened, NotRead, NoMemory, NoMemoryFor, last_done, IsBreak, TellsBreak, StageBrokeOff, WentRefused, Goes, part_read}
+use Rattle.avr_desk.specs.Playing.{Break, InLine, NotOpened, NotRead, NoMemory, NoMemoryFor, last_done, IsBreak, Taking, TakesThere, TellsBreak, StageBrokeOff, WentRefused, Goes, part_read}
 use Rattle.avr_desk.specs.Stage.{Stage, StageAnswer, Made, Refused, Unread, StageResult, all_told, ◌>>=◌, content_stage, next_opening, file_stage}
 use Rattle.avr_desk.proofs.Stages.Played.{says_more}
 
@@ -42,9 +42,9 @@ whole_line line told old new sound (inr part) =
     absurd (not_failed old old new new (follows_here old) (follows_here new) sound part.1.0)
 
 -- and of the breaks only the want of memory is left
-broke_lacks : {A : Type 0} (stage : Stage A) (before after : Record) (k l m n : ℕ) → HasStood k l
-    → StageBrokeOff stage (showing before k m) (showing after l n) → EndsWith memory_line after
-broke_lacks stage before after k l m n sound b = by_break b.break b.told b.tells b.kept
+broke_lacks : {A : Type 0} (taking : Taking) (stage : Stage A) (before after : Record) (k l m n : ℕ) → HasStood k l
+    → StageBrokeOff taking stage (showing before k m) (showing after l n) → EndsWith memory_line after
+broke_lacks taking stage before after k l m n sound b = by_break b.break b.told b.tells b.kept
   where
     old : DeskView
     old = showing before k m
@@ -69,13 +69,14 @@ broke_lacks stage before after k l m n sound b = by_break b.break b.told b.tells
         (λ r. refl) kept
 
 -- So a status other than that of a plan is the refusal that the stage says.
-pub sound_refusal : {A : Type 0} (stage : Stage A) (before after : Record) (k l m n status : ℕ) → HasStood k l
+pub sound_refusal : {A : Type 0} (taking : Taking) (stage : Stage A) (before after : Record) (k l m n status : ℕ)
+    → HasStood k l
     → ((prefix : Bytes) → after.messages ≡ prefix ++ memory_line → ⊥)
-    → Goes stage (showing before k m) (showing after l n) (Err status)
+    → Goes taking stage (showing before k m) (showing after l n) (Err status)
     → WentRefused stage (showing before k m) (showing after l n)
-sound_refusal stage before after k l m n status sound has_memory (one, inl went) = went
-sound_refusal stage before after k l m n status sound has_memory (one, inr broke) =
-    let lacks = broke_lacks stage before after k l m n sound broke in absurd (has_memory lacks.0 lacks.1)
+sound_refusal taking stage before after k l m n status sound has_memory (one, inl went) = went
+sound_refusal taking stage before after k l m n status sound has_memory (one, inr broke) =
+    let lacks = broke_lacks taking stage before after k l m n sound broke in absurd (has_memory lacks.0 lacks.1)
 
 -- ---- where the desk shows no file that was opened
 
@@ -179,9 +180,8 @@ only_told r told line kept =
     append_cancel_left r.messages told line (ap (λ (x : Record). x.messages) same)
 
 -- Of a stage that begins so, where the desk shows no opening: the file could not be opened, and that was reported, or
--- memory
--- was refused, and that was.
-module _ {A : Type 0} (name told : Bytes) (stage : Stage A) (begins : Begins name stage) (r : Record)
+-- memory was refused, and that was, where it is taken before anything was said.
+module _ {A : Type 0} (taking : Taking) (name told : Bytes) (stage : Stage A) (begins : Begins name stage) (r : Record)
     (k l m n : ℕ) where
   abbrev pub Old : DeskView
   Old = showing r k m
@@ -190,7 +190,8 @@ module _ {A : Type 0} (name told : Bytes) (stage : Stage A) (begins : Begins nam
   New = showing (after_err told r) l n
 
   abbrev pub Told : Type 0
-  Told = TellsFailure (not_opened_line name) told Old New ⊎ TellsLine memory_line told Old New
+  Told = TellsFailure (not_opened_line name) told Old New
+      ⊎ (TellsLine memory_line told Old New × ((passed : List Opening) × taking passed []))
 
   abbrev Leaves : List Saying → Type 0
   Leaves sayings = after_err told r ≡ after_all sayings r
@@ -206,34 +207,37 @@ module _ {A : Type 0} (name told : Bytes) (stage : Stage A) (begins : Begins nam
       same_name name other passed opening
 
   by_break : (passed : List Opening) (behind : List Saying) (break : Break) (line : Bytes)
-      → IsBreak break [] (Opens (next_opening name (passed ++ [])) ∷ behind) → TellsBreak break line Old New
+      → IsBreak break [] (Opens (next_opening name (passed ++ [])) ∷ behind) → TakesThere taking break passed []
+      → TellsBreak break line Old New
       → Leaves (last_done break line) → Told
-  by_break passed behind (InLine due) line is tells kept =
+  by_break passed behind (InLine due) line is taken tells kept =
       let clash : Opens (next_opening name (passed ++ [])) ≡ Line due = let e = is.1 in cc in absurd (cc)
-  by_break passed behind (NotOpened other) line is tells kept =
+  by_break passed behind (NotOpened other) line is taken tells kept =
       let named = first_is passed other behind is.0 is.1 in
       inl (subst (λ n. TellsFailure (not_opened_line n) told Old New) (sym named)
       (subst (λ t. TellsFailure (not_opened_line other) t Old New) (sym (only_told r told line kept)) tells))
-  by_break passed behind (NotRead other bytes) line is tells kept =
+  by_break passed behind (NotRead other bytes) line is taken tells kept =
       let none : ◌≡◌ {A = List Opening} [] (Found (record { name = other; bytes = bytes; ended = false }) ∷ []) =
       same_openings (Line told ∷ []) (part_read other bytes ∷ Line line ∷ []) r kept in absurd (cc)
-  by_break passed behind NoMemory line is tells kept =
-      inr (subst (λ t. TellsLine memory_line t Old New) (sym (only_told r told line kept)) tells)
-  by_break passed behind (NoMemoryFor reading) line is tells kept =
+  by_break passed behind NoMemory line is taken tells kept = inr (
+    subst (λ t. TellsLine memory_line t Old New) (sym (only_told r told line kept)) tells,
+    (passed, taken),
+  )
+  by_break passed behind (NoMemoryFor reading) line is taken tells kept =
       let none : ◌≡◌ {A = List Opening} [] (Found reading ∷ []) =
       same_openings (Line told ∷ []) (Opens (Found reading) ∷ Line line ∷ []) r kept in absurd (cc)
 
   by_whole : (passed : List Opening) (answer : StageAnswer A) (whole later : List Saying) (break : Break) (line : Bytes)
-      → Next passed ≡ whole ++ later → IsBreak break [] (all_told later answer)
+      → Next passed ≡ whole ++ later → IsBreak break [] (all_told later answer) → TakesThere taking break passed whole
       → TellsBreak break line Old New → Leaves (whole ++ last_done break line) → Told
-  by_whole passed answer [] later break line says is tells kept =
+  by_whole passed answer [] later break line says is taken tells kept =
       let next : IsBreak break [] (all_told (Next passed) answer) =
       subst (λ (ls : List Saying). IsBreak break [] (all_told ls answer)) (sym says) is in
       let behind = (begins (passed ++ [])).0 in
       by_break passed (all_told behind answer) break line
-      (subst (IsBreak break []) (told_first (Opens (next_opening name (passed ++ []))) behind answer) next) tells
-      kept
-  by_whole passed answer (first ∷ whole) later break line says is tells kept =
+      (subst (IsBreak break []) (told_first (Opens (next_opening name (passed ++ []))) behind answer) next) taken
+      tells kept
+  by_whole passed answer (first ∷ whole) later break line says is taken tells kept =
       let opens : first ≡ Opens (next_opening name (passed ++ [])) = cc in
       let none = same_openings (Line told ∷ []) (first ∷ (whole ++ last_done break line)) r kept in
       let some : openings_in (first ∷ (whole ++ last_done break line))
@@ -242,7 +246,7 @@ module _ {A : Type 0} (name told : Bytes) (stage : Stage A) (begins : Begins nam
       let clash : [] ≡ next_opening name (passed ++ []) ∷ openings_in (whole ++ last_done break line) = none ∙ some in
       absurd (cc)
 
-  pub unopened : (status : ℕ) → Goes stage (showing r k m) (showing (after_err told r) l n) (Err status) → Told
+  pub unopened : (status : ℕ) → Goes taking stage (showing r k m) (showing (after_err told r) l n) (Err status) → Told
   unopened status (one, inl (line, went)) =
       let says : went.says ≡ Next went.passed =
       sym (ap (λ (p : StageResult A). p.says) (went.comes [])) ∙ (begins (went.passed ++ [])).1 in
@@ -254,13 +258,13 @@ module _ {A : Type 0} (name told : Bytes) (stage : Stage A) (begins : Begins nam
   unopened status (one, inr b) =
       let rest = b.rest [] in
       by_whole b.passed (stage (b.passed ++ [])).answer b.whole rest.later b.break b.told
-      (sym (begins (b.passed ++ [])).1 ∙ rest.says_are) rest.broken b.tells b.kept
+      (sym (begins (b.passed ++ [])).1 ∙ rest.says_are) rest.broken b.taken b.tells b.kept
 
 -- ---- a file that was opened and is good
 
 -- it was read to its end, and this is what it comes to
 module _ {A : Type 0} (name : Bytes) (limit : ℕ) (judge : Bytes → Result A Bytes) (bytes told : Bytes) (good : A)
-    (given : judge bytes ≡ Ok good) (r : Record) (k l m n : ℕ) where
+    (given : judge bytes ≡ Ok good) (taking : Taking) (r : Record) (k l m n : ℕ) where
   abbrev Before : DeskView
   Before = showing r k m
 
@@ -362,7 +366,7 @@ module _ {A : Type 0} (name : Bytes) (limit : ℕ) (judge : Bytes → Result A B
       by_end first (next_opening name openings) whole later break line first_is none is_made tells kept
 
   -- So the desk was shown to open it, to its end, and what was reported is the line of memory.
-  pub opened_is_told : (status : ℕ) → Goes (file_stage name limit judge) (showing r k m)
+  pub opened_is_told : (status : ℕ) → Goes taking (file_stage name limit judge) (showing r k m)
       (showing (after_all done r) l n) (Err status) → TellsLine memory_line told Before After
   opened_is_told status (one, inl (line, went)) =
       let openings = went.passed ++ [] in
@@ -387,11 +391,11 @@ same_refusal : {A : Type 0} (line other : Bytes) → ◌≡◌ {A = StageAnswer 
 same_refusal line other is = cc
 
 -- Whatever files give, it is refused by this line, and says nothing before it: so of it nothing was reported but that
--- line, or that memory was refused.
+-- line, or that memory was refused, where it is taken there.
 module _ {A : Type 0} (line told : Bytes) (stage : Stage A)
     (refuses : (openings : List Opening) → stage openings
     ≡ record { says = []; answer = Refused line; left = openings })
-    (r : Record) (k l m n : ℕ) where
+    (taking : Taking) (r : Record) (k l m n : ℕ) where
   abbrev Here : DeskView
   Here = showing r k m
 
@@ -399,15 +403,17 @@ module _ {A : Type 0} (line told : Bytes) (stage : Stage A)
   There = showing (after_err told r) l n
 
   abbrev pub TellsOne : Type 0
-  TellsOne = TellsLine line told Here There ⊎ TellsLine memory_line told Here There
+  TellsOne = TellsLine line told Here There
+      ⊎ (TellsLine memory_line told Here There × ((passed : List Opening) × taking passed []))
 
   abbrev Only : List Saying → Type 0
   Only sayings = after_err told r ≡ after_all sayings r
 
   -- what is reported of a break there
-  at_once : (break : Break) (some : Bytes) → IsBreak break [] (Line line ∷ []) → TellsBreak break some Here There
+  at_once : (passed : List Opening) (break : Break) (some : Bytes) → IsBreak break [] (Line line ∷ [])
+      → TakesThere taking break passed [] → TellsBreak break some Here There
       → Only (last_done break some) → TellsOne
-  at_once (InLine due) some is tells kept =
+  at_once passed (InLine due) some is taken tells kept =
       let same : Line line ≡ Line due = let e = is.1 in cc in
       let lines : line ≡ due = cc in
       inl (inr (
@@ -415,23 +421,26 @@ module _ {A : Type 0} (line told : Bytes) (stage : Stage A)
             (subst (IsPrefixOf some) (sym lines) tells.0),
         tells.1,
       ))
-  at_once (NotOpened name) some is tells kept = let clash : Line line ≡ Opens (next_opening name []) = let e = is.1 in
-      cc in absurd (cc)
-  at_once (NotRead name bytes) some is tells kept = let clash : Line line ≡ Opens (next_opening name []) = let e =
-      is.1 in cc in absurd (cc)
-  at_once NoMemory some is tells kept = inr
-      (subst (λ t. TellsLine memory_line t Here There) (sym (only_told r told some kept)) tells)
-  at_once (NoMemoryFor reading) some is tells kept = let clash : Line line ≡ Opens (next_opening reading.name []) =
-      let e = is.1 in cc in absurd (cc)
+  at_once passed (NotOpened name) some is taken tells kept =
+      let clash : Line line ≡ Opens (next_opening name []) = let e = is.1 in cc in absurd (cc)
+  at_once passed (NotRead name bytes) some is taken tells kept =
+      let clash : Line line ≡ Opens (next_opening name []) = let e = is.1 in cc in absurd (cc)
+  at_once passed NoMemory some is taken tells kept = inr (
+    subst (λ t. TellsLine memory_line t Here There) (sym (only_told r told some kept)) tells,
+    (passed, taken),
+  )
+  at_once passed (NoMemoryFor reading) some is taken tells kept =
+      let clash : Line line ≡ Opens (next_opening reading.name []) = let e = is.1 in cc in absurd (cc)
 
-  in_front : (whole later : List Saying) (break : Break) (some : Bytes) → [] ≡ whole ++ later
-      → IsBreak break [] (all_told {A = A} later (Refused line)) → TellsBreak break some Here There
+  in_front : (passed : List Opening) (whole later : List Saying) (break : Break) (some : Bytes) → [] ≡ whole ++ later
+      → IsBreak break [] (all_told {A = A} later (Refused line)) → TakesThere taking break passed whole
+      → TellsBreak break some Here There
       → Only (whole ++ last_done break some) → TellsOne
-  in_front [] [] break some says is tells kept = at_once break some is tells kept
-  in_front [] (x ∷ later) break some says is tells kept = absurd (cc)
-  in_front (x ∷ whole) later break some says is tells kept = absurd (cc)
+  in_front passed [] [] break some says is taken tells kept = at_once passed break some is taken tells kept
+  in_front passed [] (x ∷ later) break some says is taken tells kept = absurd (cc)
+  in_front passed (x ∷ whole) later break some says is taken tells kept = absurd (cc)
 
-  pub refused_once : (status : ℕ) → Goes stage Here There (Err status) → TellsOne
+  pub refused_once : (status : ℕ) → Goes taking stage Here There (Err status) → TellsOne
   refused_once status (one, inl (other, went)) =
       let openings = went.passed ++ [] in
       let says : [] ≡ went.says = sym (ap (λ (p : StageResult A). p.says) (refuses openings))
@@ -445,6 +454,6 @@ module _ {A : Type 0} (line told : Bytes) (stage : Stage A)
   refused_once status (one, inr b) =
       let rest = b.rest [] in
       let is = refuses (b.passed ++ []) in
-      in_front b.whole rest.later b.break b.told (sym (ap (λ (p : StageResult A). p.says) is) ∙ rest.says_are)
+      in_front b.passed b.whole rest.later b.break b.told (sym (ap (λ (p : StageResult A). p.says) is) ∙ rest.says_are)
       (subst (λ (answer : StageAnswer A). IsBreak b.break [] (all_told rest.later answer))
-      (ap (λ (p : StageResult A). p.answer) is) rest.broken) b.tells b.kept
+      (ap (λ (p : StageResult A). p.answer) is) rest.broken) b.taken b.tells b.kept

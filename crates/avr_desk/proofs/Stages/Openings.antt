@@ -13,9 +13,9 @@ use Rattle.avr_desk.specs.declared.stream.Stream.TheVariants.{File}
 use Rattle.avr_desk.proofs.Stages.Sayings.{kept_append}
 use Rattle.avr_desk.proofs.Lines.Told.{failure_told, follows_on, follows_same, tells_since}
 use Rattle.avr_desk.specs.Lines.{file_fault_line, memory_line, not_opened_line, not_read_line}
-use Rattle.avr_desk.specs.Said.{Opens, Line, Tells, after_all}
+use Rattle.avr_desk.specs.Said.{Saying, Opens, Line, Tells, after_all}
 use Rattle.avr_desk.proofs.Stages.Played.{goes_on, goes_no_further}
-use Rattle.avr_desk.specs.Playing.{Break, NotOpened, NotRead, NoMemoryFor, last_done, IsBreak, TellsBreak, Goes, part_read}
+use Rattle.avr_desk.specs.Playing.{Break, NotOpened, NotRead, NoMemoryFor, last_done, IsBreak, TakesThere, Taking, TellsBreak, Goes, part_read}
 use Rattle.avr_desk.specs.Stage.{Stage, Made, StageResult, ◌>>=◌, verdict_stage, open_stage, under_name, content_stage, next_opening}
 
 -- ---- the opening passed
@@ -24,19 +24,21 @@ abbrev after_opening : List Opening → Opening → StageResult Opening
 after_opening more opening = record { says = Opens opening ∷ []; answer = Made opening; left = more }
 
 -- the file of this name gave this, and so the stage goes on
-pub goes_opened : {A : Type 0} (name : Bytes) (next : Opening → Stage A) (opening : Opening) (old mid new : DeskView)
-    (result : Result A ℕ)
+pub goes_opened : {A : Type 0} (inner taking : Taking) (name : Bytes) (next : Opening → Stage A) (opening : Opening)
+    (old mid new : DeskView) (result : Result A ℕ)
     → under_name name opening ≡ opening → Passes (after_all (Opens opening ∷ [])) old mid → HasSameCounts old mid
-    → Goes (next opening) mid new result → Goes (open_stage name >>= next) old new result
-goes_opened name next opening old mid new result is kept same goes =
-    goes_on (open_stage name) next old mid new opening result
+    → ((passed : List Opening) (said : List Saying) → inner passed said
+    → taking (opening ∷ passed) (Opens opening ∷ said))
+    → Goes inner (next opening) mid new result → Goes taking (open_stage name >>= next) old new result
+goes_opened inner taking name next opening old mid new result is kept same behind goes =
+    goes_on inner taking (open_stage name) next old mid new opening result
     (record {
       passed = opening ∷ [];
       says = Opens opening ∷ [];
       comes = λ more. ap (after_opening more) is;
       kept = kept;
       sound = same;
-    }) goes
+    }) behind goes
 
 whole-is : (limit : ℕ) (bytes : Bytes) (ended : Bool) → IsWhole limit (record { bytes = bytes; ended = ended })
     → (ended || nat_lt limit (length bytes)) ≡ true
@@ -44,25 +46,26 @@ whole-is limit bytes true whole = refl
 whole-is limit bytes false whole = let past = whole.0 in grind (arith, nat_tests, past)
 
 -- it was read to its end or past the limit, and judged
-pub goes_judged : {A : Type 0} (name : Bytes) (limit : ℕ) (judge : Bytes → Result A Bytes) (reading : Reading)
-    (old new : DeskView)
-    (result : Result A ℕ)
+pub goes_judged : {A : Type 0} (taking : Taking) (name : Bytes) (limit : ℕ) (judge : Bytes → Result A Bytes)
+    (reading : Reading)
+    (old new : DeskView) (result : Result A ℕ)
     → IsWhole limit (record { bytes = reading.bytes; ended = reading.ended })
-    → Goes (verdict_stage (judge reading.bytes)) old new result
-    → Goes (content_stage name limit judge (Found reading)) old new result
-goes_judged name limit judge reading old new result whole goes =
+    → Goes taking (verdict_stage (judge reading.bytes)) old new result
+    → Goes taking (content_stage name limit judge (Found reading)) old new result
+goes_judged taking name limit judge reading old new result whole goes =
     let is = whole-is limit reading.bytes reading.ended whole in rw is goes
 
 -- ---- the opening broke off
 
-broke_opening : {A : Type 0} (name : Bytes) (next : Opening → Stage A) (break : Break) (told : Bytes)
+broke_opening : {A : Type 0} (taking : Taking) (name : Bytes) (next : Opening → Stage A) (break : Break) (told : Bytes)
     (old new : DeskView) (status : ℕ)
-    → status ≡ 1 → ((more : List Opening) → IsBreak break more (Opens (next_opening name more) ∷ []))
+    → TakesThere taking break [] [] → status ≡ 1
+    → ((more : List Opening) → IsBreak break more (Opens (next_opening name more) ∷ []))
     → TellsBreak break told old new
     → Passes (after_all (last_done break told)) old new → Follows old new
-    → Goes (open_stage name >>= next) old new (Err status)
-broke_opening name next break told old new status one is tells kept follows =
-    goes_no_further (open_stage name) next old new status (
+    → Goes taking (open_stage name >>= next) old new (Err status)
+broke_opening taking name next break told old new status taken one is tells kept follows =
+    goes_no_further taking (open_stage name) next old new status (
       one,
       inr (record {
         passed = [];
@@ -70,6 +73,7 @@ broke_opening name next break told old new status one is tells kept follows =
         break = break;
         told = told;
         rest = λ more. record { later = (open_stage name more).says; says_are = refl; broken = is more };
+        taken = taken;
         tells = tells;
         kept = kept;
         follows = follows;
@@ -77,51 +81,56 @@ broke_opening name next break told old new status one is tells kept follows =
     )
 
 -- the file could not be opened
-goes_unopened : {A : Type 0} (name : Bytes) (next : Opening → Stage A) (old mid new : DeskView) (status : ℕ)
+goes_unopened : {A : Type 0} (taking : Taking) (name : Bytes) (next : Opening → Stage A) (old mid new : DeskView)
+    (status : ℕ)
     → mid.kept ≡ old.kept → Follows old mid → HasFailedAt File old mid → status ≡ 1
     → Tells mid new (not_opened_line name)
-    → Goes (open_stage name >>= next) old new (Err status)
-goes_unopened name next old mid new status same rose failed one told =
-    broke_opening name next (NotOpened name) told.told old new status one (λ more. ([], refl))
+    → Goes taking (open_stage name >>= next) old new (Err status)
+goes_unopened taking name next old mid new status same rose failed one told =
+    broke_opening taking name next (NotOpened name) told.told old new status tt one (λ more. ([], refl))
     (failure_told old mid new (not_opened_line name) rose failed told)
     (subst (λ (kept : Record). new.kept ≡ after_err told.told kept) same told.kept)
     (follows_on old mid new rose told.follows)
 
 -- or not be read on
-goes_unread : {A : Type 0} (name bytes : Bytes) (next : Opening → Stage A) (old mid new : DeskView) (status : ℕ)
+goes_unread : {A : Type 0} (taking : Taking) (name bytes : Bytes) (next : Opening → Stage A) (old mid new : DeskView)
+    (status : ℕ)
     → Passes (with_read name bytes false) old mid → Follows old mid → HasFailedAt File old mid → status ≡ 1
-    → Tells mid new (not_read_line name) → Goes (open_stage name >>= next) old new (Err status)
-goes_unread name bytes next old mid new status kept rose failed one told =
-    broke_opening name next (NotRead name bytes) told.told old new status one (λ more. ([], refl))
+    → Tells mid new (not_read_line name) → Goes taking (open_stage name >>= next) old new (Err status)
+goes_unread taking name bytes next old mid new status kept rose failed one told =
+    broke_opening taking name next (NotRead name bytes) told.told old new status tt one (λ more. ([], refl))
     (failure_told old mid new (not_read_line name) rose failed told)
     (kept_append (part_read name bytes ∷ []) (Line told.told ∷ []) old.kept mid.kept new.kept kept told.kept)
     (follows_on old mid new rose told.follows)
 
 -- or there was no memory for it
-goes_unheld : {A : Type 0} (name bytes : Bytes) (ended : Bool) (next : Opening → Stage A) (old mid new : DeskView)
+goes_unheld : {A : Type 0} (taking : Taking) (name bytes : Bytes) (ended : Bool) (next : Opening → Stage A)
+    (old mid new : DeskView)
     (status : ℕ)
     → Passes (with_read name bytes ended) old mid → HasSameCounts old mid → status ≡ 1 → Tells mid new memory_line
-    → Goes (open_stage name >>= next) old new (Err status)
-goes_unheld name bytes ended next old mid new status kept same one told =
+    → Goes taking (open_stage name >>= next) old new (Err status)
+goes_unheld taking name bytes ended next old mid new status kept same one told =
     let reading : Reading = record { name = name; bytes = bytes; ended = ended } in
-    broke_opening name next (NoMemoryFor reading) told.told old new status one (λ more. ([], refl))
+    broke_opening taking name next (NoMemoryFor reading) told.told old new status tt one (λ more. ([], refl))
     (tells_since memory_line told.told old mid new same told.tells)
     (kept_append (Opens (Found reading) ∷ []) (Line told.told ∷ []) old.kept mid.kept new.kept kept told.kept)
     (follows_on old mid new (follows_same old mid same) told.follows)
 
 -- any fault of the file but that it is not there
-pub goes_broken : {A : Type 0} (name : Bytes) (next : Opening → Stage A) (fault : FileFault) (old mid new : DeskView)
+pub goes_broken : {A : Type 0} (taking : Taking) (name : Bytes) (next : Opening → Stage A) (fault : FileFault)
+    (old mid new : DeskView)
     (status : ℕ)
     → (fault ≡ file_fault.Absent → ⊥) → FileBreaks name old mid fault → Follows old mid → IsCounted old mid fault
     → status ≡ 1 → Tells mid new (file_fault_line name fault)
-    → Goes (open_stage name >>= next) old new (Err status)
-goes_broken name next file_fault.Absent old mid new status there breaks rose counted one told = absurd (there refl)
-goes_broken name next file_fault.NotOpened old mid new status there breaks rose counted one told =
-    goes_unopened name next old mid new status breaks rose counted one told
-goes_broken name next file_fault.NotRead old mid new status there breaks rose counted one told =
-    goes_unread name breaks.0 next old mid new status breaks.1 rose counted one told
-goes_broken name next file_fault.Memory old mid new status there breaks rose counted one told =
-    goes_unheld name breaks.0 breaks.1 next old mid new status breaks.2 counted one told
+    → Goes taking (open_stage name >>= next) old new (Err status)
+goes_broken taking name next file_fault.Absent old mid new status there breaks rose counted one told =
+    absurd (there refl)
+goes_broken taking name next file_fault.NotOpened old mid new status there breaks rose counted one told =
+    goes_unopened taking name next old mid new status breaks rose counted one told
+goes_broken taking name next file_fault.NotRead old mid new status there breaks rose counted one told =
+    goes_unread taking name breaks.0 next old mid new status breaks.1 rose counted one told
+goes_broken taking name next file_fault.Memory old mid new status there breaks rose counted one told =
+    goes_unheld taking name breaks.0 breaks.1 next old mid new status breaks.2 counted one told
 
 -- ---- a file that is kept whole as it is read
 

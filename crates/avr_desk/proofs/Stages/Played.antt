@@ -12,7 +12,7 @@ use Rattle.avr_desk.specs.Said.{Saying, Line, Opens, TellsLine, Tells, after_all
 use Rattle.avr_desk.proofs.Stages.Sayings.{kept_none, kept_append}
 use Rattle.avr_desk.proofs.Lines.Told.{follows_on, follows_same, same_here, same_on, unsaid_since, tells_since, failure_since}
 use Rattle.avr_desk.specs.Lines.{memory_line, not_opened_line, not_read_line}
-use Rattle.avr_desk.specs.Playing.{Went, Break, InLine, NotOpened, NotRead, NoMemory, NoMemoryFor, last_done, IsNextSaying, IsBreak, TellsBreak, Rest, StageBrokeOff, Goes}
+use Rattle.avr_desk.specs.Playing.{Went, Break, InLine, NotOpened, NotRead, NoMemory, NoMemoryFor, last_done, IsNextSaying, IsBreak, TellsBreak, Rest, Taking, TakesThere, StageBrokeOff, Goes}
 use Rattle.avr_desk.specs.Stage.{Stage, StageAnswer, Made, Refused, Unread, StageResult, all_told, behind_sayings, going_on, ◌>>=◌, verdict_stage, saying_stage, next_opening}
 
 -- ---- counts
@@ -88,7 +88,7 @@ rest_behind says whole p break more rest = record {
 }
 
 -- a stage that made something, and openings after its own
-made_then : {A B : Type 0} (stage : Stage A) (go_on : A → Stage B) (old new : DeskView) (a : A)
+pub made_then : {A B : Type 0} (stage : Stage A) (go_on : A → Stage B) (old new : DeskView) (a : A)
     (w : Went stage old new (Made a))
     (later : List Opening)
     → (stage >>= go_on) (w.passed ++ later) ≡ behind_sayings w.says (go_on a later)
@@ -110,10 +110,26 @@ went_went stage go_on old mid new a answer first then = record {
   sound = same_on old mid new first.sound then.sound;
 }
 
-went_broke : {A B : Type 0} (stage : Stage A) (go_on : A → Stage B) (old mid new : DeskView) (a : A)
-    → Went stage old mid (Made a)
-    → StageBrokeOff (go_on a) mid new → StageBrokeOff (stage >>= go_on) old new
-went_broke stage go_on old mid new a first then = record {
+-- memory that is taken here is taken there
+taken_there : (inner taking : Taking) (break : Break) (passed all : List Opening) (said told : List Saying)
+    → (inner passed said → taking all told) → TakesThere inner break passed said → TakesThere taking break all told
+taken_there inner taking (InLine line) passed all said told there is = tt
+taken_there inner taking (NotOpened name) passed all said told there is = tt
+taken_there inner taking (NotRead name bytes) passed all said told there is = tt
+taken_there inner taking NoMemory passed all said told there is = there is
+taken_there inner taking (NoMemoryFor reading) passed all said told there is = tt
+
+-- what takes memory after a stage that made something
+abbrev pub TakesBehind : {A : Type 0} (inner taking : Taking) (stage : Stage A) (old mid : DeskView) (a : A)
+    → Went stage old mid (Made a) → Type 0
+TakesBehind inner taking stage old mid a first = (passed : List Opening) (said : List Saying) → inner passed said
+    → taking (first.passed ++ passed) (first.says ++ said)
+
+went_broke : {A B : Type 0} (inner taking : Taking) (stage : Stage A) (go_on : A → Stage B) (old mid new : DeskView)
+    (a : A) (first : Went stage old mid (Made a))
+    → TakesBehind inner taking stage old mid a first
+    → StageBrokeOff inner (go_on a) mid new → StageBrokeOff taking (stage >>= go_on) old new
+went_broke inner taking stage go_on old mid new a first behind then = record {
   passed = first.passed ++ then.passed;
   whole = first.says ++ then.whole;
   break = then.break;
@@ -122,6 +138,8 @@ went_broke stage go_on old mid new a first then = record {
       ∙ made_then stage go_on old mid a first (then.passed ++ more) in
       subst (λ p. Rest p (first.says ++ then.whole) then.break more) (sym is)
       (rest_behind first.says then.whole _ then.break more (then.rest more));
+  taken = taken_there inner taking then.break then.passed (first.passed ++ then.passed) then.whole
+      (first.says ++ then.whole) (behind then.passed then.whole) then.taken;
   told = then.told;
   tells = break_since then.break then.told old mid new first.sound then.tells;
   kept = subst (λ ss. Passes (after_all ss) old new)
@@ -142,13 +160,14 @@ refused_then stage go_on old new line first = record {
   sound = first.sound;
 }
 
-broke_then : {A B : Type 0} (stage : Stage A) (go_on : A → Stage B) (old new : DeskView) → StageBrokeOff stage old new
-    → StageBrokeOff (stage >>= go_on) old new
-broke_then stage go_on old new first = record {
+broke_then : {A B : Type 0} (taking : Taking) (stage : Stage A) (go_on : A → Stage B) (old new : DeskView)
+    → StageBrokeOff taking stage old new → StageBrokeOff taking (stage >>= go_on) old new
+broke_then taking stage go_on old new first = record {
   passed = first.passed;
   whole = first.whole;
   break = first.break;
   rest = λ more. rest_more (stage (first.passed ++ more)) go_on first.whole first.break more (first.rest more);
+  taken = first.taken;
   told = first.told;
   tells = first.tells;
   kept = first.kept;
@@ -156,22 +175,46 @@ broke_then stage go_on old new first = record {
 }
 
 -- a stage that made something, and how the next one goes
-pub goes_on : {A B : Type 0} (stage : Stage A) (go_on : A → Stage B) (old mid new : DeskView) (a : A)
-    (result : Result B ℕ)
-    → Went stage old mid (Made a) → Goes (go_on a) mid new result → Goes (stage >>= go_on) old new result
-goes_on stage go_on old mid new a (Ok b) went then = went_went stage go_on old mid new a (Made b) went then
-goes_on stage go_on old mid new a (Err status) went (one, inl then) =
+pub goes_on : {A B : Type 0} (inner taking : Taking) (stage : Stage A) (go_on : A → Stage B) (old mid new : DeskView)
+    (a : A) (result : Result B ℕ) (went : Went stage old mid (Made a))
+    → TakesBehind inner taking stage old mid a went
+    → Goes inner (go_on a) mid new result → Goes taking (stage >>= go_on) old new result
+goes_on inner taking stage go_on old mid new a (Ok b) went behind then =
+    went_went stage go_on old mid new a (Made b) went then
+goes_on inner taking stage go_on old mid new a (Err status) went behind (one, inl then) =
     (one, inl (then.0, went_went stage go_on old mid new a (Refused then.0) went then.1))
-goes_on stage go_on old mid new a (Err status) went (one, inr then) =
-    (one, inr (went_broke stage go_on old mid new a went then))
+goes_on inner taking stage go_on old mid new a (Err status) went behind (one, inr then) =
+    (one, inr (went_broke inner taking stage go_on old mid new a went behind then))
 
 -- a stage that made nothing
-pub goes_no_further : {A B : Type 0} (stage : Stage A) (go_on : A → Stage B) (old new : DeskView) (status : ℕ)
-    → Goes stage old new (Err status)
-    → Goes (stage >>= go_on) old new (Err status)
-goes_no_further stage go_on old new status (one, inl went) =
+pub goes_no_further : {A B : Type 0} (taking : Taking) (stage : Stage A) (go_on : A → Stage B) (old new : DeskView)
+    (status : ℕ) → Goes taking stage old new (Err status) → Goes taking (stage >>= go_on) old new (Err status)
+goes_no_further taking stage go_on old new status (one, inl went) =
     (one, inl (went.0, refused_then stage go_on old new went.0 went.1))
-goes_no_further stage go_on old new status (one, inr broke) = (one, inr (broke_then stage go_on old new broke))
+goes_no_further taking stage go_on old new status (one, inr broke) =
+    (one, inr (broke_then taking stage go_on old new broke))
+
+-- where memory may be refused in more places
+pub goes_within : {A : Type 0} (inner taking : Taking) (stage : Stage A) (old new : DeskView) (result : Result A ℕ)
+    → ((passed : List Opening) (said : List Saying) → inner passed said → taking passed said)
+    → Goes inner stage old new result → Goes taking stage old new result
+goes_within inner taking stage old new (Ok a) within went = went
+goes_within inner taking stage old new (Err status) within (one, inl went) = (one, inl went)
+goes_within inner taking stage old new (Err status) within (one, inr broke) = (
+  one,
+  inr (record {
+    passed = broke.passed;
+    whole = broke.whole;
+    break = broke.break;
+    told = broke.told;
+    rest = broke.rest;
+    taken = taken_there inner taking broke.break broke.passed broke.passed broke.whole broke.whole
+        (within broke.passed broke.whole) broke.taken;
+    tells = broke.tells;
+    kept = broke.kept;
+    follows = broke.follows;
+  }),
+)
 
 -- ---- stages that read nothing
 
@@ -187,26 +230,28 @@ told_whole old new line kept same =
     record { passed = []; says = []; comes = λ more. refl; kept = kept; sound = same }
 
 -- or it broke off there
-broke_here : {A : Type 0} (stage : Stage A) (old new : DeskView) (break : Break) (told : List ℕ)
+broke_here : {A : Type 0} (taking : Taking) (stage : Stage A) (old new : DeskView) (break : Break) (told : List ℕ)
+    → TakesThere taking break [] []
     → ((more : List Opening) → IsBreak break more (all_told (stage more).says (stage more).answer))
     → TellsBreak break told old new
-    → Passes (after_all (last_done break told)) old new → Follows old new → StageBrokeOff stage old new
-broke_here stage old new break told is tells kept follows = record {
+    → Passes (after_all (last_done break told)) old new → Follows old new → StageBrokeOff taking stage old new
+broke_here taking stage old new break told taken is tells kept follows = record {
   passed = [];
   whole = [];
   break = break;
   told = told;
   rest = λ more. record { later = (stage more).says; says_are = refl; broken = is more };
+  taken = taken;
   tells = tells;
   kept = kept;
   follows = follows;
 }
 
 -- a refusal that was reported, or a prefix of its line
-refused_by : {A : Type 0} (old new : DeskView) (line told : List ℕ) → TellsLine line told old new
+refused_by : {A : Type 0} (taking : Taking) (old new : DeskView) (line told : List ℕ) → TellsLine line told old new
     → Passes (after_all (Line told ∷ [])) old new → Follows old new
-    → Goes {A = A} (verdict_stage (Err line)) old new (Err 1)
-refused_by {A} old new line told (inl whole) kept follows = (
+    → Goes {A = A} taking (verdict_stage (Err line)) old new (Err 1)
+refused_by {A} taking old new line told (inl whole) kept follows = (
   refl,
   inl (
     line,
@@ -214,23 +259,22 @@ refused_by {A} old new line told (inl whole) kept follows = (
         (subst (λ bytes. Passes (after_all (Line bytes ∷ [])) old new) whole.0 kept) whole.1,
   ),
 )
-refused_by {A} old new line told (inr part) kept follows = (
+refused_by {A} taking old new line told (inr part) kept follows = (
   refl,
-  inr (broke_here (verdict_stage {A = A} (Err line)) old new (InLine line) told (λ more. ([], refl)) part kept
-      follows),
+  inr (broke_here taking (verdict_stage {A = A} (Err line)) old new (InLine line) told tt (λ more. ([], refl)) part
+      kept follows),
 )
 
-pub goes_refused : {A : Type 0} (old new : DeskView) (line : List ℕ) (status : ℕ) → status ≡ 1 → Tells old new line
-    → Goes {A = A} (verdict_stage (Err line)) old new (Err status)
-goes_refused {A} old new line status one told =
-    (one, (refused_by {A = A} old new line told.told told.tells told.kept told.follows).1)
+pub goes_refused : {A : Type 0} (taking : Taking) (old new : DeskView) (line : List ℕ) (status : ℕ) → status ≡ 1
+    → Tells old new line → Goes {A = A} taking (verdict_stage (Err line)) old new (Err status)
+goes_refused {A} taking old new line status one told =
+    (one, (refused_by {A = A} taking old new line told.told told.tells told.kept told.follows).1)
 
 -- memory that was refused
-pub goes_without_memory : {A : Type 0} (stage : Stage A) (old new : DeskView) (status : ℕ) → status ≡ 1
-    → Tells old new memory_line
-    → Goes stage old new (Err status)
-goes_without_memory stage old new status one told =
-    (one, inr (broke_here stage old new NoMemory told.told (λ more. tt) told.tells told.kept told.follows))
+pub goes_without_memory : {A : Type 0} (taking : Taking) (stage : Stage A) (old new : DeskView) (status : ℕ)
+    → taking [] [] → status ≡ 1 → Tells old new memory_line → Goes taking stage old new (Err status)
+goes_without_memory taking stage old new status takes one told =
+    (one, inr (broke_here taking stage old new NoMemory told.told takes (λ more. tt) told.tells told.kept told.follows))
 
 -- ---- judgments, and what is said
 
@@ -238,12 +282,11 @@ pub went_settled : {A : Type 0} (r : Result A (List ℕ)) (a : A) (d : DeskView)
     → Went (verdict_stage r) d d (Made a)
 went_settled r a d is = subst (λ x. Went (verdict_stage x) d d (Made a)) (sym is) (went_nowhere d a)
 
-pub goes_unsettled : {A : Type 0} (r : Result A (List ℕ)) (line : List ℕ) (old new : DeskView) (status : ℕ)
-    → r ≡ Err line
-    → status ≡ 1 → Tells old new line
-    → Goes (verdict_stage r) old new (Err status)
-goes_unsettled r line old new status is one told =
-    subst (λ x. Goes (verdict_stage x) old new (Err status)) (sym is) (goes_refused old new line status one told)
+pub goes_unsettled : {A : Type 0} (taking : Taking) (r : Result A (List ℕ)) (line : List ℕ) (old new : DeskView)
+    (status : ℕ) → r ≡ Err line → status ≡ 1 → Tells old new line → Goes taking (verdict_stage r) old new (Err status)
+goes_unsettled taking r line old new status is one told =
+    subst (λ x. Goes taking (verdict_stage x) old new (Err status)) (sym is)
+    (goes_refused taking old new line status one told)
 
 pub went_silent : (d : DeskView) → Went (saying_stage []) d d (Made tt)
 went_silent d = record { passed = []; says = []; comes = λ more. refl; kept = kept_none d.kept; sound = same_here d }
@@ -259,12 +302,13 @@ failed_counts : (old new : DeskView) (fault : DeskFault) → fault ≡ Failed
 failed_counts old new NotFound is counts = cc
 failed_counts old new Failed is counts = counts.1
 
-pub goes_saying_part : (old new : DeskView) (line : List ℕ) (fault : DeskFault) → SendsPart Messages old new line
-    → fault ≡ Failed
-    → Counts {T = Unit {0}} Messages old new (Err fault) → Goes (saying_stage (Line line ∷ [])) old new (Err 1)
-goes_saying_part old new line fault part is counts = (
+pub goes_saying_part : (taking : Taking) (old new : DeskView) (line : List ℕ) (fault : DeskFault)
+    → SendsPart Messages old new line → fault ≡ Failed → Counts {T = Unit {0}} Messages old new (Err fault)
+    → Goes taking (saying_stage (Line line ∷ [])) old new (Err 1)
+goes_saying_part taking old new line fault part is counts = (
   refl,
-  inr (broke_here (saying_stage (Line line ∷ [])) old new (InLine line) (take part.0 line) (λ more. ([], refl))
+  inr (broke_here taking (saying_stage (Line line ∷ [])) old new (InLine line) (take part.0 line) tt
+      (λ more. ([], refl))
       ((drop part.0 line, take-append-drop part.0 line), failed_counts old new fault is counts) part.2 counts.0),
 )
 
@@ -275,8 +319,8 @@ went_into stage f old new a went = went_went stage (λ x. verdict_stage (Ok (f x
     (went_nowhere new (f a))
 
 -- however a stage goes, the counts of failures never fall
-pub goes_follows : {A : Type 0} (stage : Stage A) (old new : DeskView) (result : Result A ℕ) → Goes stage old new result
-    → Follows old new
-goes_follows stage old new (Ok a) went = follows_same old new went.sound
-goes_follows stage old new (Err status) (one, inl went) = follows_same old new went.1.sound
-goes_follows stage old new (Err status) (one, inr broke) = broke.follows
+pub goes_follows : {A : Type 0} (taking : Taking) (stage : Stage A) (old new : DeskView) (result : Result A ℕ)
+    → Goes taking stage old new result → Follows old new
+goes_follows taking stage old new (Ok a) went = follows_same old new went.sound
+goes_follows taking stage old new (Err status) (one, inl went) = follows_same old new went.1.sound
+goes_follows taking stage old new (Err status) (one, inr broke) = broke.follows

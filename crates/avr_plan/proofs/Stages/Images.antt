@@ -1,18 +1,21 @@
 -- The image of an update.
-use Rattle.std.proofs.Common.{◌≡◌, sym, ap, ℕ, List, Option, Ok, Err}
+use Rattle.std.proofs.Common.{◌≡◌, sym, ap, ℕ, false, List, Option, Ok, Err}
 use Rattle.avr_cli.specs.declared.settings.Switches.{Switches}
 use Rattle.avr_cli.specs.declared.update.Format.{Format}
 use Rattle.avr_desk.specs.Fault.{Follows, HasSameCounts}
+use Rattle.avr_desk.specs.Lines.{memory_line}
+use Rattle.avr_desk.specs.declared.files.FileFault.TheVariants as file_fault
 use Rattle.avr_desk.specs.Record.{DeskView, Bytes}
 use Rattle.avr_desk.specs.Said.{Tells}
 use Rattle.avr_records.specs.declared.kind.Ending.{Ending}
-use Rattle.avr_desk.proofs.Stages.Files.{goes_whole, went_whole, goes_file_fault}
+use Rattle.avr_desk.proofs.Lines.Told.{follows_same}
+use Rattle.avr_desk.proofs.Stages.Files.{goes_whole, went_whole, goes_file_fault, taken_never}
 use Rattle.avr_desk.proofs.Stages.Played.{goes_on, goes_no_further, goes_unsettled, went_went, went_nowhere, went_settled}
 use Rattle.avr_plan.specs.declared.image_file.TheConstants.{LARGEST_IMAGE_FILE}
 use Rattle.avr_plan.specs.ImageReading.{ReadsImage, ImageIsRead, IsCountedRead}
 use Rattle.avr_plan.specs.Lines.{bad_file_line, image_line}
 use Rattle.avr_plan.specs.Planning.{file_image_stage, judged_image, image_or_line, warning_says}
-use Rattle.avr_desk.specs.Playing.{Goes, Went}
+use Rattle.avr_desk.specs.Playing.{AtStart, Goes, Went}
 use Rattle.avr_desk.specs.Stage.{Stage, Made, ◌>>=◌, verdict_stage, saying_stage, file_stage}
 use Rattle.avr_plan.specs.declared.intake.BadFile.{BadFile}
 use Rattle.avr_plan.specs.declared.image_file.ReadFault.{ReadFault}
@@ -31,8 +34,8 @@ went_file : (file : Bytes) (format : Format) (size : ℕ) (old mid : DeskView) (
 went_file file format size old mid image ending reads same =
     let judge = judged_image file format size in
     let given : judge reads.bytes ≡ Ok (image, ending) = ap (image_or_line file) (sym reads.gives) in
-    went_whole file LARGEST_IMAGE_FILE judge reads.bytes reads.ended old mid (image, ending) reads.kept reads.whole same
-    (went_settled (judge reads.bytes) (image, ending) mid given)
+    went_whole (AtStart false) file LARGEST_IMAGE_FILE judge reads.bytes reads.ended old mid (image, ending) reads.kept
+    reads.whole same (went_settled (judge reads.bytes) (image, ending) mid given)
 
 module _ (switches : Switches) (file : Bytes) (format : Format) (size : ℕ) where
   -- a file that is an image, and its warning
@@ -41,8 +44,7 @@ module _ (switches : Switches) (file : Bytes) (format : Format) (size : ℕ) whe
       → Went (saying_stage (warning_says switches file ending)) mid new (Made tt)
       → Went (file_image_stage switches file format size) old new (Made image)
   went_image old mid new image ending reads same warns =
-      went_went (file_stage file LARGEST_IMAGE_FILE (judged_image file format size)) (behind_file switches file) old mid
-      new
+      went_went (file_stage file LARGEST_IMAGE_FILE (judged_image file format size)) (behind_file switches file) old mid new
       (image, ending) (Made image)
       (went_file file format size old mid image ending reads same)
       (went_went (saying_stage (warning_says switches file ending)) (λ ok. verdict_stage (Ok image)) mid new new tt
@@ -51,47 +53,57 @@ module _ (switches : Switches) (file : Bytes) (format : Format) (size : ℕ) whe
   -- its warning broke off
   pub goes_unwarned : (old mid new : DeskView) (image : Image) (ending : Ending) (status : ℕ)
       → ReadsImage LARGEST_IMAGE_FILE format size file old mid (Ok (image, ending)) → HasSameCounts old mid
-      → Goes (saying_stage (warning_says switches file ending)) mid new (Err status)
-      → Goes (file_image_stage switches file format size) old new (Err status)
+      → Goes (AtStart false) (saying_stage (warning_says switches file ending)) mid new (Err status)
+      → Goes (AtStart false) (file_image_stage switches file format size) old new (Err status)
   goes_unwarned old mid new image ending status reads same warns =
-      goes_on (file_stage file LARGEST_IMAGE_FILE (judged_image file format size)) (behind_file switches file) old mid
-      new
+      goes_on (AtStart false) (AtStart false) (file_stage file LARGEST_IMAGE_FILE (judged_image file format size))
+      (behind_file switches file) old mid new
       (image, ending) (Err status) (went_file file format size old mid image ending reads same)
-      (goes_no_further (saying_stage (warning_says switches file ending)) (λ ok. verdict_stage (Ok image)) mid new
-      status warns)
+      (λ passed said never. absurd (taken_never passed said never))
+      (goes_no_further (AtStart false) (saying_stage (warning_says switches file ending))
+      (λ ok. verdict_stage (Ok image)) mid new status warns)
 
   -- a file that is none
   goes_bad : (old mid new : DeskView) (bad : BadFile) (status : ℕ)
       → ReadsImage LARGEST_IMAGE_FILE format size file old mid (Err bad) → HasSameCounts old mid → status ≡ 1
       → Tells mid new (bad_file_line file bad)
-      → Goes (file_image_stage switches file format size) old new (Err status)
+      → Goes (AtStart false) (file_image_stage switches file format size) old new (Err status)
   goes_bad old mid new bad status reads same one told =
       let judge = judged_image file format size in
       let given : judge reads.bytes ≡ Err (bad_file_line file bad) = ap (image_or_line file) (sym reads.gives) in
-      goes_no_further (file_stage file LARGEST_IMAGE_FILE judge) (behind_file switches file) old new status
-      (goes_whole file LARGEST_IMAGE_FILE judge reads.bytes reads.ended old mid new (Err status)
-      reads.kept reads.whole same (goes_unsettled (judge reads.bytes) (bad_file_line file bad) mid new status given one
-      told))
+      goes_no_further (AtStart false) (file_stage file LARGEST_IMAGE_FILE judge) (behind_file switches file) old new
+      status (goes_whole (AtStart false) file LARGEST_IMAGE_FILE judge reads.bytes reads.ended old mid new (Err status)
+      reads.kept reads.whole same (goes_unsettled (AtStart false) (judge reads.bytes) (bad_file_line file bad) mid new
+      status given one told))
 
   -- a file that was not read
   goes_unread : (old new : DeskView) (status : ℕ)
-      → Goes (file_stage file LARGEST_IMAGE_FILE (judged_image file format size)) old new (Err status)
-      → Goes (file_image_stage switches file format size) old new (Err status)
+      → Goes (AtStart false) (file_stage file LARGEST_IMAGE_FILE (judged_image file format size)) old new (Err status)
+      → Goes (AtStart false) (file_image_stage switches file format size) old new (Err status)
   goes_unread old new status goes =
-      goes_no_further (file_stage file LARGEST_IMAGE_FILE (judged_image file format size)) (behind_file switches file)
-      old new
-      status goes
+      goes_no_further (AtStart false) (file_stage file LARGEST_IMAGE_FILE (judged_image file format size))
+      (behind_file switches file) old new status goes
+
+  -- an image, but no room for its task
+  pub goes_without_room : (old mid new : DeskView) (image : Image) (ending : Ending) (status : ℕ)
+      → ReadsImage LARGEST_IMAGE_FILE format size file old mid (Ok (image, ending)) → HasSameCounts old mid
+      → status ≡ 1 → Tells mid new memory_line
+      → Goes (AtStart false) (file_image_stage switches file format size) old new (Err status)
+  goes_without_room old mid new image ending status reads same one told =
+      goes_unread old new status
+      (goes_file_fault (AtStart false) file LARGEST_IMAGE_FILE (judged_image file format size) file_fault.Memory old mid
+      new status (reads.bytes, reads.ended, reads.kept) (follows_same old mid same) same one told)
 
   -- no image came of the file
   pub goes_without_image : (old mid new : DeskView) (fault : ReadFault) (status : ℕ)
       → ImageIsRead LARGEST_IMAGE_FILE format size file old mid (Err fault) → Follows old mid
       → IsCountedRead old mid fault
       → status ≡ 1
-      → Tells mid new (image_line file fault) → Goes (file_image_stage switches file format size) old new (Err status)
+      → Tells mid new (image_line file fault)
+      → Goes (AtStart false) (file_image_stage switches file format size) old new (Err status)
   goes_without_image old mid new (fault_of.File fault) status reads rose counted one told =
       goes_unread old new status
-      (goes_file_fault file LARGEST_IMAGE_FILE (judged_image file format size) fault old mid new status reads rose
-      counted one
-      told)
+      (goes_file_fault (AtStart false) file LARGEST_IMAGE_FILE (judged_image file format size) fault old mid new status
+      reads rose counted one told)
   goes_without_image old mid new (fault_of.Image bad) status reads rose counted one told =
       goes_bad old mid new bad status reads counted one told

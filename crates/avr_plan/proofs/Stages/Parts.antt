@@ -3,18 +3,20 @@ use Rattle.std.proofs.Common.{◌≡◌, ◌∙◌, sym, ap, refl, arith, ℕ, L
 use Rattle.std.proofs.lemmas.Bool.Decides.{nat_tests}
 use Rattle.avr_desk.specs.Fault.{HasSameCounts}
 use Rattle.avr_desk.specs.Files.{IsWhole, with_read}
+use Rattle.avr_desk.specs.declared.files.FileFault.TheVariants as file_fault
 use Rattle.avr_desk.specs.Record.{DeskView, Passes, Bytes}
 use Rattle.avr_desk.specs.Lines.{too_long_line}
 use Rattle.avr_desk.specs.Said.{Tells}
 use Rattle.avr_part.specs.Part.{Part}
 use Rattle.avr_part.specs.PartFile.{FileFault, ReadsOrMemory, of_file, parts_of}
 use Rattle.avr_part.specs.declared.fault.PartFault.TheVariants.{Memory}
-use Rattle.avr_desk.proofs.Stages.Files.{goes_whole, went_whole}
-use Rattle.avr_desk.proofs.Stages.Played.{went_settled, goes_unsettled, goes_without_memory}
+use Rattle.avr_desk.proofs.Stages.Files.{goes_whole, went_whole, goes_file_fault}
+use Rattle.avr_desk.proofs.Lines.Told.{follows_same}
+use Rattle.avr_desk.proofs.Stages.Played.{went_settled, goes_unsettled}
 use Rattle.avr_plan.specs.declared.part_choice.TheConstants.{LARGEST_PART_FILE}
 use Rattle.avr_plan.specs.Lines.{part_file_line}
 use Rattle.avr_plan.specs.Planning.{judged_parts, parts_or_line}
-use Rattle.avr_desk.specs.Playing.{Goes, Went}
+use Rattle.avr_desk.specs.Playing.{AtStart, Goes, Went}
 use Rattle.avr_desk.specs.Stage.{Made, verdict_stage, file_stage}
 
 -- the judgment of a file within the limit
@@ -29,14 +31,15 @@ pub goes_long_parts : (file bytes : Bytes) (ended : Bool) (old mid new : DeskVie
     → IsWhole LARGEST_PART_FILE (record { bytes = bytes; ended = ended }) → ended ≡ false → HasSameCounts old mid
     → status ≡ 1
     → Tells mid new (too_long_line file LARGEST_PART_FILE)
-    → Goes (file_stage file LARGEST_PART_FILE (judged_parts file)) old new (Err status)
+    → Goes (AtStart false) (file_stage file LARGEST_PART_FILE (judged_parts file)) old new (Err status)
 goes_long_parts file bytes true old mid new status kept whole is same one told = cc
 goes_long_parts file bytes false old mid new status kept whole is same one told =
     let past : nat_le (length bytes) LARGEST_PART_FILE ≡ false = let more = whole.0 in grind (arith, nat_tests, more) in
     let given : judged_parts file bytes ≡ Err (too_long_line file LARGEST_PART_FILE) = rw past refl in
-    goes_whole file LARGEST_PART_FILE (judged_parts file) bytes false old mid new (Err status)
+    goes_whole (AtStart false) file LARGEST_PART_FILE (judged_parts file) bytes false old mid new (Err status)
     kept whole same
-    (goes_unsettled (judged_parts file bytes) (too_long_line file LARGEST_PART_FILE) mid new status given one told)
+    (goes_unsettled (AtStart false) (judged_parts file bytes) (too_long_line file LARGEST_PART_FILE) mid new status
+    given one told)
 
 pub went_parts : (file bytes : Bytes) (ended : Bool) (old mid : DeskView) (parts : List Part)
     → Passes (with_read file bytes ended) old mid
@@ -47,7 +50,7 @@ went_parts file bytes false old mid parts kept whole is same gives = cc
 went_parts file bytes true old mid parts kept whole is same (inl gives) =
     let given : judged_parts file bytes ≡ Ok parts =
     judged-within file bytes whole ∙ ap (parts_or_line file) (sym gives) in
-    went_whole file LARGEST_PART_FILE (judged_parts file) bytes true old mid parts kept whole same
+    went_whole (AtStart false) file LARGEST_PART_FILE (judged_parts file) bytes true old mid parts kept whole same
     (went_settled (judged_parts file bytes) parts mid given)
 went_parts file bytes true old mid parts kept whole is same (inr memory) = cc
 
@@ -55,17 +58,17 @@ pub goes_bad_parts : (file bytes : Bytes) (ended : Bool) (old mid new : DeskView
     → Passes (with_read file bytes ended) old mid → IsWhole LARGEST_PART_FILE (record { bytes = bytes; ended = ended })
     → ended ≡ true → HasSameCounts old mid
     → ReadsOrMemory (parts_of bytes) (Err refused) → status ≡ 1 → Tells mid new (part_file_line file refused.fault)
-    → Goes (file_stage file LARGEST_PART_FILE (judged_parts file)) old new (Err status)
+    → Goes (AtStart false) (file_stage file LARGEST_PART_FILE (judged_parts file)) old new (Err status)
 goes_bad_parts file bytes false old mid new status refused kept whole is same gives one told = cc
 goes_bad_parts file bytes true old mid new status refused kept whole is same (inl gives) one told =
     let given : judged_parts file bytes ≡ Err (part_file_line file refused.fault) =
     judged-within file bytes whole ∙ ap (parts_or_line file) (sym gives) in
-    goes_whole file LARGEST_PART_FILE (judged_parts file) bytes true old mid new (Err status)
+    goes_whole (AtStart false) file LARGEST_PART_FILE (judged_parts file) bytes true old mid new (Err status)
     kept whole same
-    (goes_unsettled (judged_parts file bytes) (part_file_line file refused.fault) mid new status given one told)
+    (goes_unsettled (AtStart false) (judged_parts file bytes) (part_file_line file refused.fault) mid new status given
+    one told)
 goes_bad_parts file bytes true old mid new status refused kept whole is same (inr memory) one told =
     let memory_is : refused ≡ of_file Memory = cc in
     let told_so = subst (λ r. Tells mid new (part_file_line file r.fault)) memory_is told in
-    goes_whole file LARGEST_PART_FILE (judged_parts file) bytes true old mid new (Err status)
-    kept whole same
-    (goes_without_memory (verdict_stage (judged_parts file bytes)) mid new status one told_so)
+    goes_file_fault (AtStart false) file LARGEST_PART_FILE (judged_parts file) file_fault.Memory old mid new status
+    (bytes, true, kept) (follows_same old mid same) same one told_so

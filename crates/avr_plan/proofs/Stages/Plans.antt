@@ -1,13 +1,17 @@
 -- The stages of a plan, one after the other.
-use Rattle.std.proofs.Common.{◌≡◌, subst, ℕ, List, [], Result, Ok, Err}
+use Rattle.std.proofs.Common.{◌≡◌, ◌∙◌, ap, append-nil, subst, ℕ, false, List, [], ◌++◌, Result, Ok, Err}
 use Rattle.avr_cli.specs.declared.settings.Settings.{Settings}
 use Rattle.avr_desk.specs.Record.{DeskView, Bytes}
 use Rattle.avr_part.specs.Part.{Part}
-use Rattle.avr_desk.proofs.Stages.Played.{goes_on, goes_no_further, went_went, went_into}
+use Rattle.avr_desk.specs.Said.{Saying}
+use Rattle.avr_desk.specs.declared.record.Opening.{Opening}
+use Rattle.avr_desk.proofs.Stages.Files.{taken_never}
+use Rattle.avr_desk.proofs.Stages.Played.{goes_on, goes_no_further, goes_within, made_then, went_went, went_into}
 use Rattle.avr_plan.specs.Plan.{Plan}
 use Rattle.avr_plan.specs.Planning.{LacksPart, parts_stage, part_stage, tasks_stage, planned}
-use Rattle.avr_desk.specs.Playing.{Goes, Went}
-use Rattle.avr_desk.specs.Stage.{Stage, Made, ◌>>=◌, verdict_stage}
+use Rattle.avr_desk.specs.Playing.{AtStart, Goes, Taking, Went}
+use Rattle.avr_plan.specs.Taking.{AtUpdate, AtTask}
+use Rattle.avr_desk.specs.Stage.{Stage, Made, StageResult, behind_sayings, going_on, ◌>>=◌, verdict_stage}
 use Rattle.avr_plan.specs.declared.planned.Task.{Task}
 
 abbrev plan_of : Settings → Part → List Task → Plan
@@ -16,28 +20,76 @@ plan_of s part tasks = record { part = part; tasks = tasks; switches = s.switche
 abbrev behind_part : Settings → Part → Stage Plan
 behind_part s part = tasks_stage s.switches part [] s.updates >>= λ tasks. verdict_stage (Ok (plan_of s part tasks))
 
-abbrev behind_parts : Settings → List Part → Stage Plan
+abbrev pub behind_parts : Settings → List Part → Stage Plan
 behind_parts s parts = part_stage s.part parts >>= behind_part s
 
 pub goes_without_parts : (s : Settings) (old new : DeskView) (status : ℕ)
-    → Goes (parts_stage s.parts) old new (Err status) → Goes (planned s) old new (Err status)
-goes_without_parts s old new status goes = goes_no_further (parts_stage s.parts) (behind_parts s) old new status goes
+    → Goes (AtStart false) (parts_stage s.parts) old new (Err status)
+    → Goes (AtUpdate s) (planned s) old new (Err status)
+goes_without_parts s old new status goes =
+    goes_no_further (AtUpdate s) (parts_stage s.parts) (behind_parts s) old new status
+    (goes_within (AtStart false) (AtUpdate s) (parts_stage s.parts) old new (Err status)
+    (λ passed said never. absurd (taken_never passed said never)) goes)
 
 pub goes_without_part : (s : Settings) (old mid new : DeskView) (status : ℕ) (parts : List Part)
-    → Went (parts_stage s.parts) old mid (Made parts) → Goes (part_stage s.part parts) mid new (Err status)
-    → Goes (planned s) old new (Err status)
+    → Went (parts_stage s.parts) old mid (Made parts)
+    → Goes (AtStart false) (part_stage s.part parts) mid new (Err status)
+    → Goes (AtUpdate s) (planned s) old new (Err status)
 goes_without_part s old mid new status parts went goes =
-    goes_on (parts_stage s.parts) (behind_parts s) old mid new parts (Err status) went
-    (goes_no_further (part_stage s.part parts) (behind_part s) mid new status goes)
+    goes_on (AtStart false) (AtUpdate s) (parts_stage s.parts) (behind_parts s) old mid new parts (Err status) went
+    (λ passed said never. absurd (taken_never passed said never))
+    (goes_no_further (AtStart false) (part_stage s.part parts) (behind_part s) mid new status goes)
+
+-- where an update is due behind the part, there it is due in the plan
+at_due : (s : Settings) (old first mid : DeskView) (parts : List Part) (part : Part)
+    (went : Went (parts_stage s.parts) old first (Made parts))
+    (found : Went (part_stage s.part parts) first mid (Made part)) (passed : List Opening) (said : List Saying)
+    → AtTask s.switches part [] s.updates passed said
+    → AtUpdate s (went.passed ++ (found.passed ++ passed)) (went.says ++ (found.says ++ said))
+at_due s old first mid parts part went found passed said due = record {
+  done = due.done;
+  due = due.due;
+  more = due.more;
+  updates_are = due.updates_are;
+  takes = due.takes;
+  plan = plan_of s part due.made;
+  is_planned = planned_so;
+}
+  where
+    before : Settings
+    before = record s { updates = due.done }
+
+    made : Stage Plan
+    made = tasks_stage s.switches part [] due.done >>= λ tasks. verdict_stage (Ok (plan_of s part tasks))
+
+    made_so : made passed ≡ record { says = said ++ []; answer = Made (plan_of s part due.made); left = [] }
+    made_so = ap (λ p. going_on p.says p.left (λ ts. verdict_stage (Ok (plan_of s part ts))) p.answer) due.are_made
+
+    planned_so : planned before (went.passed ++ (found.passed ++ passed))
+        ≡ record { says = went.says ++ (found.says ++ said); answer = Made (plan_of s part due.made); left = [] }
+    planned_so =
+        made_then (parts_stage s.parts) (behind_parts before) old first parts went (found.passed ++ passed)
+        ∙ ap (behind_sayings went.says)
+        (made_then (part_stage s.part parts) (behind_part before) first mid part found passed
+        ∙ ap (behind_sayings found.says)
+        (made_so ∙ ap (λ (ss : List Saying). record { says = ss; answer = Made (plan_of s part due.made); left = [] })
+        (append-nil said)))
+
+-- where memory is taken behind the part file
+abbrev Behind : Settings → List Opening → List Saying → Taking
+Behind s before says passed said = AtUpdate s (before ++ passed) (says ++ said)
 
 pub goes_without_tasks : (s : Settings) (old first mid new : DeskView) (status : ℕ) (parts : List Part) (part : Part)
     → Went (parts_stage s.parts) old first (Made parts) → Went (part_stage s.part parts) first mid (Made part)
-    → Goes (tasks_stage s.switches part [] s.updates) mid new (Err status) → Goes (planned s) old new (Err status)
+    → Goes (AtTask s.switches part [] s.updates) (tasks_stage s.switches part [] s.updates) mid new (Err status)
+    → Goes (AtUpdate s) (planned s) old new (Err status)
 goes_without_tasks s old first mid new status parts part went found goes =
-    goes_on (parts_stage s.parts) (behind_parts s) old first new parts (Err status) went
-    (goes_on (part_stage s.part parts) (behind_part s) first mid new part (Err status) found
-    (goes_no_further (tasks_stage s.switches part [] s.updates) (λ ts. verdict_stage (Ok (plan_of s part ts))) mid new
-    status goes))
+    goes_on (Behind s went.passed went.says) (AtUpdate s) (parts_stage s.parts) (behind_parts s) old first new parts
+    (Err status) went (λ passed said there. there)
+    (goes_on (AtTask s.switches part [] s.updates) (Behind s went.passed went.says) (part_stage s.part parts)
+    (behind_part s) first mid new part (Err status) found (at_due s old first mid parts part went found)
+    (goes_no_further (AtTask s.switches part [] s.updates) (tasks_stage s.switches part [] s.updates)
+    (λ ts. verdict_stage (Ok (plan_of s part ts))) mid new status goes))
 
 pub went_whole_plan : (s : Settings) (old first mid new : DeskView) (parts : List Part) (part : Part)
     (tasks : List Task)

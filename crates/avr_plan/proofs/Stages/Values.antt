@@ -1,5 +1,5 @@
 -- The image of values.
-use Rattle.std.proofs.Common.{◌≡◌, sym, ap, ℕ, List, Option, Ok, Err, inl, inr, subst}
+use Rattle.std.proofs.Common.{◌≡◌, refl, sym, ap, ℕ, true, List, Option, Ok, Err, inl, inr, subst}
 use Rattle.avr_cli.specs.declared.settings.Switches.{Switches}
 use Rattle.avr_cli.specs.declared.update.Format.TheVariants.{Immediate}
 use Rattle.avr_desk.specs.Record.{DeskView, Bytes}
@@ -7,12 +7,13 @@ use Rattle.avr_image.specs.Fault.{OrMemory}
 use Rattle.avr_image.specs.Values.{values}
 use Rattle.avr_image.specs.declared.fault.ImageFault.{ImageFault}
 use Rattle.avr_image.specs.declared.fault.ImageFault.TheVariants.{Memory}
+use Rattle.avr_desk.specs.Lines.{memory_line}
 use Rattle.avr_desk.specs.Said.{Tells}
 use Rattle.avr_part.specs.declared.part.Mem.{Mem}
 use Rattle.avr_desk.proofs.Stages.Played.{went_settled, goes_unsettled, goes_without_memory}
 use Rattle.avr_plan.specs.Lines.{values_line}
 use Rattle.avr_plan.specs.Planning.{image_stage, values_or_line}
-use Rattle.avr_desk.specs.Playing.{Goes, Went}
+use Rattle.avr_desk.specs.Playing.{AtStart, Goes, Went}
 use Rattle.avr_desk.specs.Stage.{Made, verdict_stage}
 
 abbrev Image : Type 0
@@ -33,11 +34,20 @@ went_values switches memory size text d image gives =
 pub goes_bad_values : (switches : Switches) (memory : Mem) (size : ℕ) (text : Bytes) (old new : DeskView) (status : ℕ)
     (fault : ImageFault)
     → OrMemory (Err fault) (values text size) → status ≡ 1 → Tells old new (values_line memory fault)
-    → Goes (image_stage switches memory size text Immediate) old new (Err status)
+    → Goes (AtStart true) (image_stage switches memory size text Immediate) old new (Err status)
 goes_bad_values switches memory size text old new status fault (inl is) one told =
-    goes_unsettled (values_or_line memory (values text size)) (values_line memory fault) old new status
+    goes_unsettled (AtStart true) (values_or_line memory (values text size)) (values_line memory fault) old new status
     (ap (values_or_line memory) (sym is)) one told
 goes_bad_values switches memory size text old new status fault (inr refused) one told =
     let same : fault ≡ Memory = cc in
-    goes_without_memory (verdict_stage (values_or_line memory (values text size))) old new status one
+    goes_without_memory (AtStart true) (verdict_stage (values_or_line memory (values text size))) old new status
+    (refl, refl, refl) one
     (subst (λ f. Tells old new (values_line memory f)) same told)
+
+-- or there was no room for its task
+pub goes_without_room : (switches : Switches) (memory : Mem) (size : ℕ) (text : Bytes) (old new : DeskView) (status : ℕ)
+    → status ≡ 1 → Tells old new memory_line
+    → Goes (AtStart true) (image_stage switches memory size text Immediate) old new (Err status)
+goes_without_room switches memory size text old new status one told =
+    goes_without_memory (AtStart true) (image_stage switches memory size text Immediate) old new status
+    (refl, refl, refl) one told

@@ -5,6 +5,7 @@ use Rattle.avr_desk.specs.Fault.{Follows}
 use Rattle.avr_desk.specs.Record.{DeskView}
 use Rattle.avr_plan.specs.Plan.{Plan}
 use Rattle.avr_plan.specs.Planning.{LacksPart, planned}
+use Rattle.avr_plan.specs.Taking.{AtUpdate}
 use Rattle.avr_desk.specs.Playing as planning
 use Rattle.avr_desk.specs.Playing.{Went, WentRefused, Goes}
 use Rattle.avr_desk.specs.Stage.{Made}
@@ -71,12 +72,14 @@ module _ (settings : Settings) (old now : DeskView) (status : ℕ) where
     }
 
   -- no plan
-  pub runs_nowhere : (w : WiredState) → Goes {A = Plan} (planned settings) old now (Err status)
+  pub runs_nowhere : (w : WiredState) → Goes {A = Plan} (AtUpdate settings) (planned settings) old now (Err status)
       → (settings.parts ≡ None → settings.updates ≡ [] → LacksPart settings.part [] old now)
       → RunsNowhere settings w w old now status
   runs_nowhere w none bare = record { runs = either none.1; untouched = refl; status_is = none.0 }
     where
-      either : WentRefused (planned settings) old now ⊎ planning.StageBrokeOff (planned settings) old now
+      either : WentRefused (planned settings) old now ⊎ planning.StageBrokeOff (AtUpdate settings) (planned settings)
+      old
+          now
           → IsRun settings (wire_and_desk w old) (wire_and_desk w now) status
           ⊎ StoppedPlanning settings (wire_and_desk w old) (wire_and_desk w now) status
       either (inl went) = inl (subst (IsRun settings (wire_and_desk w old) (wire_and_desk w now)) (sym none.0)

@@ -1,3 +1,5 @@
+use Rattle.std.proofs.Common.{refl, true}
+use Rattle.avr_desk.specs.Playing.{AtStart}
 use Rattle.avr_desk.proofs.Stages.Played.{goes_without_memory}
 use Rattle.avr_desk.specs.Stage.{verdict_stage}
 use Rattle.avr_chip.proofs.Chips.{went_chip, chip_of_part, goes_wrong_length}
@@ -24,7 +26,8 @@ returns-in-Err-BadChipFile-clause-goes g c =
 
 pub returns-in-Err : goal.returns-in-Err
 returns-in-Err g c = record {
-  goes = goes_without_memory (verdict_stage (chip_or_line c.args.part.now c.args.file.now c.args.bytes.now)) _ _ _
+  goes = goes_without_memory (AtStart true)
+      (verdict_stage (chip_or_line c.args.part.now c.args.file.now c.args.bytes.now)) _ _ _ (refl, refl, refl)
       c.refuse-in-Err.ensures.status (rw c.memory_message.ensures at c.refuse-in-Err.ensures.told);
   part = tt;
   stays = c.refuse-in-Err.ensures.stays;

@@ -1,4 +1,5 @@
-use Rattle.std.proofs.Common.{Ok}
+use Rattle.std.proofs.Common.{refl, true, Ok}
+use Rattle.avr_desk.specs.Playing.{AtStart}
 use Rattle.avr_part.specs.State.{fresh_state}
 use Rattle.avr_desk.proofs.Stages.Played.{goes_without_memory}
 use Rattle.avr_desk.specs.Stage.{verdict_stage}
@@ -11,5 +12,6 @@ returns-in-Ok-clause-goes g c = let gives = c.in-Ok.ensures in
 
 pub returns-in-Err-clause-goes : goal.returns-in-Err-clause-goes
 returns-in-Err-clause-goes g c =
-    goes_without_memory (verdict_stage (Ok (fresh_state c.args.part.now))) _ _ _ c.refuse.ensures.status
+    goes_without_memory (AtStart true) (verdict_stage (Ok (fresh_state c.args.part.now))) _ _ _ (refl, refl, refl)
+    c.refuse.ensures.status
     (rw c.memory_message.ensures at c.refuse.ensures.told)

@@ -1,4 +1,5 @@
-use Rattle.std.proofs.Common.{subst}
+use Rattle.std.proofs.Common.{subst, false}
+use Rattle.avr_desk.specs.Playing.{AtStart}
 use Rattle.avr_desk.specs.Record.{Bytes}
 use Rattle.avr_part.specs.PartFile.{ReadsOrMemory, parts_of, unplaced}
 use Rattle.avr_plan.specs.declared.part_choice.TheConstants.{LARGEST_PART_FILE}
@@ -10,7 +11,8 @@ use Rattle.avr_plan.proofs.part_choice.file_parts.Goals as goal
 
 pub returns-in-Err-clause-goes : goal.returns-in-Err-clause-goes
 returns-in-Err-clause-goes g c =
-    goes_file_fault c.args.file.now LARGEST_PART_FILE (judged_parts c.args.file.now) c.in-Err.fault _ _ _ _
+    goes_file_fault (AtStart false) c.args.file.now LARGEST_PART_FILE (judged_parts c.args.file.now) c.in-Err.fault _ _
+    _ _
     (breaks_as _ _ _ c.in-Err.fault c.in-Err.ensures.kept)
     c.in-Err.ensures.counts.0 (counted_as _ _ _ _ c.in-Err.fault c.in-Err.ensures.counts) c.refuse.ensures.status
     (rw c.file_message.ensures at c.refuse.ensures.told)

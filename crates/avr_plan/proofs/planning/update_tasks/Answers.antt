@@ -3,10 +3,11 @@ use Rattle.std.proofs.lemmas.List.{drop_more, drop_all}
 use Rattle.std.proofs.lemmas.List.Elements.{All-append}
 use Rattle.std.proofs.lemmas.Result.{err_from_is_err_and}
 use Rattle.avr_cli.specs.declared.update.Update.{Update}
-use Rattle.avr_desk.proofs.Stages.Played.{went_nowhere, goes_without_memory}
-use Rattle.avr_plan.proofs.Stages.Tasks.{goes_with_next, goes_without_next, pushed, all_one}
+use Rattle.avr_desk.proofs.Stages.Played.{went_nowhere}
+use Rattle.avr_plan.proofs.Stages.Tasks.{goes_with_next, goes_without_next, all_one}
 use Rattle.avr_plan.specs.Plan.{IsFitted}
 use Rattle.avr_plan.specs.Planning.{tasks_stage}
+use Rattle.avr_plan.specs.Taking.{AtTask}
 use Rattle.avr_desk.specs.Playing.{Goes}
 use Rattle.avr_plan.specs.declared.planned.Task.{Task}
 use Rattle.avr_plan.proofs.planning.update_tasks.Goals as goal
@@ -19,17 +20,17 @@ loop-update-preserved g c =
     let part = c.args.part.now in
     let cut = drop_more us i u c.loop-update-test.true
     ∙ ap (λ (x : Update). x ∷ drop (i + 1) us) (sym c.update-item.is) in
-    let same = pushed c.push.result c.push.new.self (c.loop-update.tasks ++ c.in_ok-task.task ∷ []) c.loop-update.tasks
-    c.push.ensures
-    c.if-is_err.ensures.value in
+    let same = c.push_reserved.ensures.items
+    ∙ ap (λ (ts : List Task). ts ++ c.in_ok-task.task ∷ []) c.in_ok-task.ensures.same in
     record {
       goes = λ new result goes. c.loop-update.invariant.goes new result
-          (goes_with_next c.args.switches part c.loop-update.tasks us i u _ _ new c.in_ok-task.task result cut
+          (goes_with_next c.args.switches part c.loop-update.tasks.items us i u _ _ new c.in_ok-task.task result cut
           c.in_ok-task.ensures.goes
-          (subst (λ (ts : List Task). Goes (tasks_stage c.args.switches part ts (drop (i + 1) us))
-          (g.D.Desk.view c.update_task.new.desk) new result) same goes));
+          (subst (λ (ts : List Task). Goes (AtTask c.args.switches part ts (drop (i + 1) us))
+          (tasks_stage c.args.switches part ts (drop (i + 1) us)) (g.D.Desk.view c.update_task.new.desk) new result)
+          same goes));
       fitted = subst (λ (ts : List Task). All (IsFitted part) ts) (sym same)
-          (All-append (IsFitted part) c.loop-update.tasks (c.in_ok-task.task ∷ []) c.loop-update.invariant.fitted
+          (All-append (IsFitted part) c.loop-update.tasks.items (c.in_ok-task.task ∷ []) c.loop-update.invariant.fitted
           (all_one (IsFitted part) c.in_ok-task.task c.in_ok-task.ensures.fitted));
       stays = λ start of. c.in_ok-task.ensures.stays start (c.loop-update.invariant.stays start of);
     }
@@ -43,30 +44,15 @@ returns-in_err-task-clause-goes g c =
     ∙ ap (λ (x : Update). x ∷ drop (i + 1) us) (sym c.update-item.is) in
     let p = err_from_is_err_and c.from_residual.result c.from_residual.ensures.1 in
     rw (p.1, p.2) (c.loop-update.invariant.goes _ (Err c.in_err-task.field-0.0)
-    (goes_without_next c.args.switches c.args.part.now c.loop-update.tasks us i u _ _ c.in_err-task.field-0.0 cut
+    (goes_without_next c.args.switches c.args.part.now c.loop-update.tasks.items us i u _ _ c.in_err-task.field-0.0 cut
     c.in_err-task.ensures.goes))
-
-pub returns-then-is_err-clause-goes : goal.returns-then-is_err-clause-goes
-returns-then-is_err-clause-goes g c =
-    let us = c.args.updates.now in
-    let i = c.loop-update.update-index in
-    let u = c.update-item.result in
-    let part = c.args.part.now in
-    let cut = drop_more us i u c.loop-update-test.true
-    ∙ ap (λ (x : Update). x ∷ drop (i + 1) us) (sym c.update-item.is) in
-    c.loop-update.invariant.goes _ (Err c.refuse.result)
-    (goes_with_next c.args.switches part c.loop-update.tasks us i u _ _ _ c.in_ok-task.task (Err c.refuse.result) cut
-    c.in_ok-task.ensures.goes
-    (goes_without_memory (tasks_stage c.args.switches part (c.loop-update.tasks ++ c.in_ok-task.task ∷ [])
-    (drop (i + 1) us)) _ _ _
-    c.refuse.ensures.status (rw c.memory_message.ensures at c.refuse.ensures.told)))
 
 pub returns-clause-goes : goal.returns-clause-goes
 returns-clause-goes g c =
     let us = c.args.updates.now in
     let none = drop_all c.loop-update.update-index us c.loop-update-test.false in
     let d = g.D.Desk.view c.loop-update.desk in
-    c.loop-update.invariant.goes d (Ok c.loop-update.tasks)
-    (subst (λ (rest : List Update). Goes (tasks_stage c.args.switches c.args.part.now c.loop-update.tasks rest) d d
-    (Ok c.loop-update.tasks))
-    (sym none) (went_nowhere d c.loop-update.tasks))
+    let made = c.loop-update.tasks.items in
+    rw c.of.ensures (c.loop-update.invariant.goes d (Ok made)
+    (subst (λ (rest : List Update). Goes (AtTask c.args.switches c.args.part.now made rest)
+    (tasks_stage c.args.switches c.args.part.now made rest) d d (Ok made)) (sym none) (went_nowhere d made)))

@@ -2,6 +2,7 @@ use Rattle.std.proofs.Common.{ℕ, List, [], drop, Result, All}
 use Rattle.avr_desk.specs.Record.{DeskView}
 use Rattle.avr_plan.specs.Plan.{IsFitted}
 use Rattle.avr_plan.specs.Planning.{tasks_stage}
+use Rattle.avr_plan.specs.Taking.{AtTask}
 use Rattle.avr_desk.specs.Playing.{Goes}
 use Rattle.avr_plan.specs.declared.planned.Task.{Task}
 use Rattle.ghosts.specs.Stays.{Stays}
@@ -11,8 +12,10 @@ use Rattle.avr_plan.proofs.planning.update_tasks.Given as goal
 abbrev pub invariant-loop-update : goal.invariant-loop-update
 invariant-loop-update g l = record {
   goes : (new : DeskView) (result : Result (List Task) ℕ)
-      → Goes (tasks_stage l.switches l.part l.tasks (drop l.update-index l.updates)) (g.D.Desk.view l.desk) new result
-      → Goes (tasks_stage l.switches l.part [] l.updates) (g.D.Desk.view l.initial.desk) new result;
-  fitted : All (IsFitted l.part) l.tasks;
+      → Goes (AtTask l.switches l.part l.tasks.items (drop l.update-index l.updates))
+      (tasks_stage l.switches l.part l.tasks.items (drop l.update-index l.updates)) (g.D.Desk.view l.desk) new result
+      → Goes (AtTask l.switches l.part [] l.updates) (tasks_stage l.switches l.part [] l.updates)
+      (g.D.Desk.view l.initial.desk) new result;
+  fitted : All (IsFitted l.part) l.tasks.items;
   stays : Stays g.D.Desk.comes_of l.initial.desk l.desk;
 }

@@ -1,6 +1,8 @@
 use Rattle.std.proofs.Common.{Ok}
 use Rattle.avr_desk.proofs.Stages.Played.{went_into, goes_no_further}
 use Rattle.avr_plan.specs.Planning.{update_image}
+use Rattle.avr_plan.specs.Taking.{has_values}
+use Rattle.avr_desk.specs.Playing.{AtStart}
 use Rattle.avr_desk.specs.Stage.{verdict_stage}
 use Rattle.avr_plan.specs.declared.planned.Task.TheVariants.{Verify}
 use Rattle.avr_plan.proofs.planning.verify_task.Goals as goal
@@ -13,6 +15,6 @@ returns-in-Ok-clause-goes g c =
 pub returns-in-Err-clause-goes : goal.returns-in-Err-clause-goes
 returns-in-Err-clause-goes g c =
     let u = c.args.update.now in
-    goes_no_further (update_image c.args.switches c.args.part.now u)
+    goes_no_further (AtStart (has_values u.format)) (update_image c.args.switches c.args.part.now u)
     (λ image. verdict_stage (Ok (Verify u.memory image))) _ _ c.in-Err.status
     c.in-Err.ensures.goes

@@ -2,6 +2,8 @@ use Rattle.std.proofs.Common.{Ok, Err}
 use Rattle.avr_desk.proofs.Stages.Played.{went_into, goes_no_further}
 use Rattle.avr_plan.proofs.Stages.Tasks.{goes_writable, goes_read_only}
 use Rattle.avr_plan.specs.Planning.{update_image}
+use Rattle.avr_plan.specs.Taking.{has_values}
+use Rattle.avr_desk.specs.Playing.{AtStart}
 use Rattle.avr_desk.specs.Stage.{verdict_stage}
 use Rattle.avr_plan.specs.declared.planned.Task.TheVariants.{Write}
 use Rattle.avr_plan.proofs.planning.write_task.Goals as goal
@@ -16,7 +18,7 @@ pub returns-in-Err-clause-goes : goal.returns-in-Err-clause-goes
 returns-in-Err-clause-goes g c =
     let u = c.args.update.now in
     goes_writable c.args.switches c.args.part.now u _ _ (Err c.in-Err.status) c.if-not-writable.ensures
-    (goes_no_further (update_image c.args.switches c.args.part.now u)
+    (goes_no_further (AtStart (has_values u.format)) (update_image c.args.switches c.args.part.now u)
     (λ image. verdict_stage (Ok (Write u.memory image))) _ _ c.in-Err.status
     c.in-Err.ensures.goes)
 

@@ -1,5 +1,5 @@
 use Rattle.avr_plan.specs.declared.image_file.TheConstants.{LARGEST_IMAGE_FILE}
-use Rattle.avr_plan.proofs.Stages.Images.{went_image, goes_unwarned, goes_without_image}
+use Rattle.avr_plan.proofs.Stages.Images.{went_image, goes_unwarned, goes_without_image, goes_without_room}
 use Rattle.avr_plan.proofs.Files.Sizes.{image-size}
 use Rattle.avr_plan.proofs.update_image.file_image.Goals as goal
 
@@ -21,9 +21,16 @@ returns-in-Err-warn_of_ending-clause-goes g c =
     c.in-Ok.ensures.sound
     c.in-Err-warn_of_ending.ensures.goes
 
+pub returns-then-is_err-clause-goes : goal.returns-then-is_err-clause-goes
+returns-then-is_err-clause-goes g c =
+    goes_without_room c.args.switches c.args.file.now c.args.format c.args.size _ _ _ c.in-Ok.image c.in-Ok.ending _
+    c.in-Ok.ensures.read c.in-Ok.ensures.sound c.refuse.ensures.status
+    (rw c.memory_message.ensures at c.refuse.ensures.told)
+
 pub returns-in-Err-clause-goes : goal.returns-in-Err-clause-goes
 returns-in-Err-clause-goes g c =
     goes_without_image c.args.switches c.args.file.now c.args.format c.args.size _ _ _ c.in-Err.fault _
     c.in-Err.ensures.read
     c.in-Err.ensures.rises
-    c.in-Err.ensures.counted c.refuse.ensures.status (rw c.image_message.ensures at c.refuse.ensures.told)
+    c.in-Err.ensures.counted c.refuse-in-Err.ensures.status
+    (rw c.image_message.ensures at c.refuse-in-Err.ensures.told)

@@ -1,4 +1,6 @@
 use Rattle.avr_desk.proofs.Stages.Played.{went_silent, went_saying, goes_saying_part}
+use Rattle.std.proofs.Common.{false}
+use Rattle.avr_desk.specs.Playing.{AtStart}
 use Rattle.avr_plan.specs.Lines.{no_end_line}
 use Rattle.avr_plan.proofs.update_image.warn_of_ending.Goals as goal
 
@@ -11,5 +13,5 @@ returns-in-Ok-clause-goes g c = rw (← c.if-not-warns.ensures)
 
 pub returns-in-Err-clause-goes : goal.returns-in-Err-clause-goes
 returns-in-Err-clause-goes g c = rw (← c.if-not-warns.ensures)
-    (goes_saying_part _ _ (no_end_line c.args.file.now) c.in-Err.field-0 c.in-Err.ensures.printed
+    (goes_saying_part (AtStart false) _ _ (no_end_line c.args.file.now) c.in-Err.field-0 c.in-Err.ensures.printed
     c.in-Err.ensures.fault c.in-Err.ensures.counts)

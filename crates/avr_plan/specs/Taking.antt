@@ -1,0 +1,52 @@
+-- Where want of memory may stop a plan while no file is open. (Where one is open, that file was due: avr_desk's
+-- `NoMemoryFor`.)
+use Rattle.std.specs.Prelude.{◌≡◌, Bool, true, false, List, [], ◌∷◌, ◌++◌, if◌then◌else◌}
+use Rattle.avr_cli.specs.declared.settings.Settings.{Settings}
+use Rattle.avr_cli.specs.declared.settings.Switches.{Switches}
+use Rattle.avr_cli.specs.declared.update.Format.{Format}
+use Rattle.avr_cli.specs.declared.update.Format.TheVariants.{Immediate}
+use Rattle.avr_cli.specs.declared.update.Op.{Op}
+use Rattle.avr_cli.specs.declared.update.Op.TheVariants as op
+use Rattle.avr_cli.specs.declared.update.Update.{Update}
+use Rattle.avr_desk.specs.Said.{Saying}
+use Rattle.avr_desk.specs.Stage.{Made}
+use Rattle.avr_desk.specs.declared.record.Opening.{Opening}
+use Rattle.avr_part.specs.Mem.{is_writable}
+use Rattle.avr_part.specs.Part.{Part}
+use Rattle.avr_plan.specs.Plan.{Plan}
+use Rattle.avr_plan.specs.Planning.{planned, tasks_stage}
+use Rattle.avr_plan.specs.declared.planned.Task.{Task}
+
+-- the values stand in the words of the command
+abbrev pub has_values : Format → Bool
+has_values Immediate = true
+has_values format = false
+
+-- Memory is taken for the image of values, and for the name of the file that a read makes.
+abbrev pub op_takes_memory : Update → Op → Bool
+op_takes_memory u op.Write = if is_writable u.memory then has_values u.format else false
+op_takes_memory u op.Verify = has_values u.format
+op_takes_memory u op.Read = true
+
+-- An update that takes memory without a file was due. The updates before it were planned, of all that passed, and
+-- what was said is all that their plan says.
+pub record AtUpdate (s : Settings) (passed : List Opening) (said : List Saying) : Type 0 where
+  pub done : List Update
+  pub due : Update
+  pub more : List Update
+  pub updates_are : s.updates ≡ done ++ due ∷ more
+  pub takes : op_takes_memory due due.op ≡ true
+  pub plan : Plan
+  pub is_planned : planned (record s { updates = done }) passed
+      ≡ record { says = said; answer = Made plan; left = [] }
+
+-- inside: the same of the tasks of these updates, which follow other tasks
+pub record AtTask (switches : Switches) (part : Part) (tasks : List Task) (updates : List Update)
+    (passed : List Opening) (said : List Saying) : Type 0 where
+  pub done : List Update
+  pub due : Update
+  pub more : List Update
+  pub updates_are : updates ≡ done ++ due ∷ more
+  pub takes : op_takes_memory due due.op ≡ true
+  pub made : List Task
+  pub are_made : tasks_stage switches part tasks done passed ≡ record { says = said; answer = Made made; left = [] }
