@@ -89,6 +89,20 @@ impl Chip {
     {
         let flash = Memory::new(alloc, part.size_of(Mem::Flash) as usize)?;
         let eeprom = Memory::new(alloc, part.size_of(Mem::Eeprom) as usize)?;
+        Chip::holding(alloc, part, flash, eeprom)
+    }
+
+    /// A chip of this part with these memories, whose fuses and lock are FF.
+    pub(crate) fn holding(
+        alloc: Global,
+        part: Part,
+        flash: Memory,
+        eeprom: Memory,
+    ) -> Result<Chip, AllocError>
+        requires flash { length flash ≡ part.flash_size }
+        requires eeprom { length eeprom ≡ part.eeprom_size }
+        ensures { IfOk result (λ c. c ≡ record (fresh_state part) { flash = flash; eeprom = eeprom }) }
+    {
         let flash_buffer = Memory::new(alloc, part.page_of(Mem::Flash) as usize)?;
         let eeprom_buffer = Loads::new(alloc, part.page_of(Mem::Eeprom) as usize)?;
         Ok(Chip {

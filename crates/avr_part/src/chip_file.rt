@@ -5,7 +5,7 @@ ghost use Rattle.avr_part.specs.PartFile.{GivesOrMemory};
 
 use crate::chip::Chip;
 use crate::fault::PartFault;
-use crate::memory::{Loads, Memory};
+use crate::memory::Memory;
 use crate::part::{Mem, Part};
 use std::alloc::{AllocError, Global};
 
@@ -27,20 +27,12 @@ fn read_chip(alloc: Global, part: Part, bytes: &[u8]) -> Result<Chip, AllocError
     let (flash, rest) = bytes.split_at(flash_size);
     let flash = Memory::from_slice(alloc, flash)?;
     let eeprom = Memory::from_slice(alloc, &rest[..eeprom_size])?;
-    let flash_buffer = Memory::new(alloc, part.page_of(Mem::Flash) as usize)?;
-    let eeprom_buffer = Loads::new(alloc, part.page_of(Mem::Eeprom) as usize)?;
-    Ok(Chip {
-        part,
-        flash,
-        eeprom,
-        lfuse: bytes[fuses],
-        hfuse: bytes[fuses + 1],
-        efuse: bytes[fuses + 2],
-        lock: bytes[fuses + 3],
-        flash_buffer,
-        eeprom_buffer,
-        extended: 0,
-    })
+    let mut chip = Chip::holding(alloc, part, flash, eeprom)?;
+    chip.lfuse = bytes[fuses];
+    chip.hfuse = bytes[fuses + 1];
+    chip.efuse = bytes[fuses + 2];
+    chip.lock = bytes[fuses + 3];
+    Ok(chip)
 }
 
 /// The bytes of a chip file.

@@ -2,6 +2,8 @@
 ghost use Rattle.std.specs.Prelude.{◌≡◌};
 ghost use Rattle.avr_part.specs.Instruction.{instruction_of, write_of};
 
+use std::fmt;
+
 /// One of the two bytes of a word of flash.
 ///
 /// ```text
@@ -36,7 +38,7 @@ pub enum Fuse {
 /// ```text
 /// assert_eq!(rt; Instruction::of([0xAC, 0x53, 0, 0]), Instruction::Enable);
 /// ```
-#[derive(Clone, Copy, Debug, PartialEq, Eq)]
+#[derive(Clone, Copy, PartialEq, Eq)]
 pub enum Instruction {
     /// AC 53: programming enable.
     Enable,
@@ -137,6 +139,39 @@ impl Instruction {
             (0x4D, _) => Instruction::Extend { byte: third },
             _ => Instruction::Nothing,
         }
+    }
+}
+
+impl Instruction {
+    /// The name of the variant.
+    fn name(&self) -> &'static str {
+        match self {
+            Instruction::Enable => "Enable",
+            Instruction::Erase => "Erase",
+            Instruction::LoadFlash { .. } => "LoadFlash",
+            Instruction::WriteFlashPage { .. } => "WriteFlashPage",
+            Instruction::ReadFlash { .. } => "ReadFlash",
+            Instruction::ReadEeprom { .. } => "ReadEeprom",
+            Instruction::WriteEeprom { .. } => "WriteEeprom",
+            Instruction::LoadEeprom { .. } => "LoadEeprom",
+            Instruction::WriteEepromPage { .. } => "WriteEepromPage",
+            Instruction::WriteFuse { .. } => "WriteFuse",
+            Instruction::WriteLock { .. } => "WriteLock",
+            Instruction::ReadFuse { .. } => "ReadFuse",
+            Instruction::ReadLock => "ReadLock",
+            Instruction::ReadSignature { .. } => "ReadSignature",
+            Instruction::ReadCalibration => "ReadCalibration",
+            Instruction::Poll => "Poll",
+            Instruction::Extend { .. } => "Extend",
+            Instruction::Nothing => "Nothing",
+        }
+    }
+}
+
+/// Shows the name of the variant, and no field.
+impl fmt::Debug for Instruction {
+    fn fmt<W: fmt::Write>(&self, f: &mut fmt::Formatter<W>) -> fmt::Result {
+        f.write_str(self.name())
     }
 }
 

@@ -9,6 +9,7 @@ use crate::protocol::{
     CMD_READ_LOCK_ISP, CMD_READ_OSCCAL_ISP, CMD_READ_SIGNATURE_ISP, CMD_SET_PARAMETER, CMD_SIGN_ON,
     CMD_SPI_MULTI,
 };
+use std::fmt;
 use std::marker::Model;
 
 /// Bytes that a command lends from elsewhere. They are seen as the list of them.
@@ -149,7 +150,7 @@ pub struct ReadByte {
 ///     Some(Command::LoadAddress { address: 0x8000_1000 })));
 /// assert!(rt; Command::read(&[0x05]).is_none());
 /// ```
-#[derive(Debug, Drop)]
+#[derive(Drop)]
 pub enum Command<'a> {
     /// Asks for the programmer's name.
     SignOn,
@@ -230,5 +231,14 @@ impl Command<'_> {
             Command::ReadOsccal(_) => CMD_READ_OSCCAL_ISP,
             Command::SpiMulti { .. } => CMD_SPI_MULTI,
         }
+    }
+}
+
+/// Shows the command's byte, and no field.
+impl fmt::Debug for Command<'_> {
+    fn fmt<W: fmt::Write>(&self, f: &mut fmt::Formatter<W>) -> fmt::Result {
+        f.debug_struct("Command")
+            .field("code", &self.code())
+            .finish_non_exhaustive()
     }
 }

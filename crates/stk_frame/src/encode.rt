@@ -2,7 +2,7 @@
 ghost use Rattle.std.specs.Prelude.{◌≡◌, ◌+◌, ◌<◌, ◌≤◌, ◌++◌, length};
 ghost use Rattle.byteorder.specs.Endian.{big_bytes};
 ghost use Rattle.stk_frame.specs.Frame.{frame};
-ghost use Rattle.stk_frame.specs.Commands.{body, enter_progmode_fields, program_block_fields, read_block_fields, read_byte_fields};
+ghost use Rattle.stk_frame.specs.Commands.{body, fields, enter_progmode_fields, program_block_fields, read_block_fields, read_byte_fields};
 
 use crate::command::{Command, EnterProgmode, ProgramBlock, ReadBlock, ReadByte};
 use crate::frame::{begin, seal};
@@ -16,6 +16,15 @@ fn put<const CAP: usize>(out: &mut ArrayVec<u8, CAP>, bytes: &[u8])
     ensures { out.new.items ≡ out.old.items ++ bytes.now }
 {
     let _ = out.try_extend_from_slice(bytes);
+}
+
+/// Puts the bytes of `front` and then those of `back` after those of `out`.
+fn put_both<const CAP: usize>(out: &mut ArrayVec<u8, CAP>, front: &[u8], back: &[u8])
+    requires { length out.old.items + length (front.now ++ back.now) ≤ CAP }
+    ensures { out.new.items ≡ out.old.items ++ (front.now ++ back.now) }
+{
+    put(out, front);
+    put(out, back);
 }
 
 /// Puts a number in two bytes, its high byte first.
@@ -163,6 +172,14 @@ impl Command<'_> {
         ensures { out.new.items ≡ out.old.items ++ body self.now }
     {
         put(out, &[self.code()]);
+        self.put_fields(out);
+    }
+
+    /// Puts the command's fields after the bytes of `out`.
+    fn put_fields<const CAP: usize>(&self, out: &mut ArrayVec<u8, CAP>)
+        requires { length out.old.items + length (fields self.now) ≤ CAP }
+        ensures { out.new.items ≡ out.old.items ++ fields self.now }
+    {
         match self {
             Command::SignOn => {}
             Command::SetParameter { number, value } => put(out, &[*number, *value]),
@@ -177,10 +194,7 @@ impl Command<'_> {
                 erase_delay,
                 poll_method,
                 instruction,
-            } => {
-                put(out, &[*erase_delay, *poll_method]);
-                put(out, instruction);
-            }
+            } => put_both(out, &[*erase_delay, *poll_method], instruction),
             Command::ProgramFlash(block) | Command::ProgramEeprom(block) => put_program_block(
                 out, block,
             ),
@@ -198,10 +212,11 @@ impl Command<'_> {
                 receive_count,
                 receive_start,
                 bytes,
-            } => {
-                put(out, &[*send_count, *receive_count, *receive_start]);
-                put(out, bytes.bytes());
-            }
+            } => put_both(
+                out,
+                &[*send_count, *receive_count, *receive_start],
+                bytes.bytes(),
+            ),
         }
     }
 }
