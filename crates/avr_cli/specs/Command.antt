@@ -1,7 +1,8 @@
 -- The command line: its options, as `clap` reads them, and what they give.
-use Rattle.std.specs.Prelude.{ℕ, Bool, true, false, List, [], ◌∷◌, Option, Some, None, codes, pos, Result, unwrap_or}
+use Rattle.std.specs.Prelude.{ℕ, Bool, true, false, List, [], ◌∷◌, ◌≡◌, Option, Some, None, codes, pos, Result, IfOk, unwrap_or}
 use Rattle.std.specs.Str.{bytes_eq}
-use Rattle.clap.specs.Words.{App, Row, Rule, new_app, new_rule, with_rule, matches_of, first_of, all_of, count_of}
+use Rattle.clap.specs.declared.builder.command.Command.{Command}
+use Rattle.clap.specs.Words.{App, Row, Rule, app_of, new_app, new_rule, with_rule, matches_of, first_of, all_of, count_of}
 use Rattle.clap.specs.declared.builder.ArgAction.TheVariants.{SetTrue, Append, Count}
 use Rattle.clap.specs.declared.builder.value_parser.ValueParser.TheVariants.{Signed}
 use Rattle.avr_part.specs.PartFile.{Bytes}
@@ -75,6 +76,10 @@ with_rules a (rule ∷ rules) = with_rules (with_rule a rule) rules
 -- a command whose options may be given again
 abbrev pub overriding : App → App
 overriding a = record a { top = record a.top { args_override_self = true } }
+
+-- what was built is this command, if memory was there
+pub record Builds {E : Type 0} (built : Result Command E) (a : App) : Type 0 where
+  pub shape : IfOk built (λ c. app_of c ≡ a)
 
 -- the command with all its options
 unfoldable pub avrstk : App

@@ -1,12 +1,12 @@
 //! The command line, as `clap` reads it.
 ghost use Rattle.std.specs.Prelude.{◌≡◌, IfOk, IfErr, true, false, codes, map, string_bytes};
-ghost use Rattle.clap.specs.Words.{app_of, rule_of, rows_of, found_of, matches_of, takes, kind_of, fault_of, FailsBy};
-ghost use Rattle.avr_cli.specs.Command.{avrstk, with_rules, target_rules, write_rules, run_rules, telling_rules, file_rules};
+ghost use Rattle.clap.specs.Words.{App, Rule, new_app, with_rule, app_of, rule_of, rows_of, found_of, matches_of, takes, kind_of, fault_of, FailsBy};
+ghost use Rattle.avr_cli.specs.Command.{Builds, avrstk, overriding, with_rules, target_rules, write_rules, run_rules, telling_rules, file_rules};
 ghost use Rattle.avr_cli.specs.Command.{value_rule, list_rule, number_rule, flag_rule, count_rule, long_rule};
 
 use clap::error::ErrorKind;
 use clap::{Arg, ArgAction, ArgMatches, Command, Error, value_parser};
-use std::alloc::Global;
+use std::alloc::{AllocError, Global};
 
 const ABOUT: &str = "Programs AVR parts through an STK500v2 programmer";
 
@@ -76,6 +76,48 @@ fn counted<'a>(alloc: Global, id: &'a str, short: char, help: &'a str) -> Arg<'a
         .help(help)
 }
 
+/// `-p`.
+fn part<'a>(alloc: Global) -> Arg<'a>
+    ensures rule { rule_of result ≡ value_rule (codes "part") 112 }
+    ensures local { result.global ≡ false }
+{
+    value(
+        alloc,
+        "part",
+        'p',
+        "ID",
+        "The part: m328p, t85, m2560, or one of a part file; needed",
+    )
+}
+
+/// `-c`.
+fn programmer<'a>(alloc: Global) -> Arg<'a>
+    ensures rule { rule_of result ≡ value_rule (codes "programmer") 99 }
+    ensures local { result.global ≡ false }
+{
+    value(
+        alloc,
+        "programmer",
+        'c',
+        "NAME",
+        "The programmer: stk500v2, the default",
+    )
+}
+
+/// `-P`.
+fn port<'a>(alloc: Global) -> Arg<'a>
+    ensures rule { rule_of result ≡ value_rule (codes "port") 80 }
+    ensures local { result.global ≡ false }
+{
+    value(
+        alloc,
+        "port",
+        'P',
+        "PORT",
+        "Where the programmer is: stdio:, emu:CHIPFILE or net:HOST:PORT",
+    )
+}
+
 /// `-U`, whose values are collected.
 fn update<'a>(alloc: Global) -> Arg<'a>
     ensures rule { rule_of result ≡ list_rule (codes "update") 85 }
@@ -106,115 +148,159 @@ fn baud<'a>(alloc: Global) -> Arg<'a>
     .value_parser(value_parser!(u32))
 }
 
-/// The command with the options that say what is programmed, and over what.
-#[tactic(auto, using(crate::proofs::ParsedCommands::arg_added), unfolding(crate::specs::Command::target_rules))]
-fn with_target<'a>(alloc: Global, command: Command<'a>) -> Result<Command<'a>, Error>
-    ensures app { IfOk result (λ c. app_of c ≡ with_rules (app_of command.entry) target_rules) }
-    ensures memory { IfErr result (λ e. kind_of e ≡ ErrorKind.OutOfMemory) }
+/// `-A`.
+fn all<'a>(alloc: Global) -> Arg<'a>
+    ensures rule { rule_of result ≡ flag_rule (codes "all") 65 }
+    ensures local { result.global ≡ false }
 {
-    let part = value(
-        alloc,
-        "part",
-        'p',
-        "ID",
-        "The part: m328p, t85, m2560, or one of a part file; needed",
-    );
-    let programmer = value(
-        alloc,
-        "programmer",
-        'c',
-        "NAME",
-        "The programmer: stk500v2, the default",
-    );
-    let port = value(
-        alloc,
-        "port",
-        'P',
-        "PORT",
-        "Where the programmer is: stdio:, emu:CHIPFILE or net:HOST:PORT",
-    );
-    let command = command
-        .arg(part)?
-        .arg(programmer)?
-        .arg(port)?
-        .arg(update(alloc))?;
-    Ok(command)
-}
-
-/// The command with the flags about what is done before and after a write.
-#[tactic(auto, using(crate::proofs::ParsedCommands::arg_added), unfolding(crate::specs::Command::write_rules))]
-fn with_write<'a>(alloc: Global, command: Command<'a>) -> Result<Command<'a>, Error>
-    ensures app { IfOk result (λ c. app_of c ≡ with_rules (app_of command.entry) write_rules) }
-    ensures memory { IfErr result (λ e. kind_of e ≡ ErrorKind.OutOfMemory) }
-{
-    let erase = flag(alloc, "erase", 'e', "Erase the chip");
-    let keep_flash = flag(
-        alloc,
-        "keep-flash",
-        'D',
-        "Don't erase the chip because flash is written",
-    );
-    let no_verify = flag(alloc, "no-verify", 'V', "Don't read back what was written");
-    let command = command.arg(erase)?.arg(keep_flash)?.arg(no_verify)?;
-    Ok(command)
-}
-
-/// The command with the flags about how the whole run goes.
-#[tactic(auto, using(crate::proofs::ParsedCommands::arg_added), unfolding(crate::specs::Command::run_rules))]
-fn with_run<'a>(alloc: Global, command: Command<'a>) -> Result<Command<'a>, Error>
-    ensures app { IfOk result (λ c. app_of c ≡ with_rules (app_of command.entry) run_rules) }
-    ensures memory { IfErr result (λ e. kind_of e ≡ ErrorKind.OutOfMemory) }
-{
-    let dry = flag(alloc, "dry", 'n', "Write and erase nothing");
-    let force = flag(alloc, "force", 'F', "Go on with another signature");
-    let all = flag(
+    flag(
         alloc,
         "all",
         'A',
         "Keep trailing FF of what is read from flash",
+    )
+}
+
+/// Adds one option, unless memory was refused to an option before it. Only this function has the early exit: checking
+/// one costs much where a command and options are alive.
+#[tactic(auto, using(crate::proofs::ParsedCommands::arg_added))]
+fn add<'a>(
+    command: Result<Command<'a>, AllocError>,
+    arg: Arg<'a>,
+) -> Result<Command<'a>, AllocError>
+    requires { arg.global ≡ false }
+    ensures { (a : App) (r : Rule) → Builds command.entry a → rule_of arg.entry ≡ r → Builds result (with_rule a r) }
+{
+    command?.arg(arg)
+}
+
+/// The command with the options that say what is programmed, and over what.
+fn with_target<'a>(
+    alloc: Global,
+    command: Result<Command<'a>, AllocError>,
+) -> Result<Command<'a>, AllocError>
+    ensures app { (a : App) → Builds command.entry a → Builds result (with_rules a target_rules) }
+{
+    let command = add(command, part(alloc));
+    let command = add(command, programmer(alloc));
+    let command = add(command, port(alloc));
+    add(command, update(alloc))
+}
+
+/// The command with the flags about what is done before and after a write.
+fn with_write<'a>(
+    alloc: Global,
+    command: Result<Command<'a>, AllocError>,
+) -> Result<Command<'a>, AllocError>
+    ensures app { (a : App) → Builds command.entry a → Builds result (with_rules a write_rules) }
+{
+    let command = add(command, flag(alloc, "erase", 'e', "Erase the chip"));
+    let command = add(
+        command,
+        flag(
+            alloc,
+            "keep-flash",
+            'D',
+            "Don't erase the chip because flash is written",
+        ),
     );
-    let command = command.arg(dry)?.arg(force)?.arg(all)?;
-    Ok(command)
+    add(
+        command,
+        flag(alloc, "no-verify", 'V', "Don't read back what was written"),
+    )
+}
+
+/// The command with the flags about how the whole run goes.
+fn with_run<'a>(
+    alloc: Global,
+    command: Result<Command<'a>, AllocError>,
+) -> Result<Command<'a>, AllocError>
+    ensures app { (a : App) → Builds command.entry a → Builds result (with_rules a run_rules) }
+{
+    let command = add(command, flag(alloc, "dry", 'n', "Write and erase nothing"));
+    let command = add(
+        command,
+        flag(alloc, "force", 'F', "Go on with another signature"),
+    );
+    add(command, all(alloc))
 }
 
 /// The command with the options about what is reported, and those without effect.
-#[tactic(auto, using(crate::proofs::ParsedCommands::arg_added), unfolding(crate::specs::Command::telling_rules))]
-fn with_telling<'a>(alloc: Global, command: Command<'a>) -> Result<Command<'a>, Error>
-    ensures app { IfOk result (λ c. app_of c ≡ with_rules (app_of command.entry) telling_rules) }
-    ensures memory { IfErr result (λ e. kind_of e ≡ ErrorKind.OutOfMemory) }
+fn with_telling<'a>(
+    alloc: Global,
+    command: Result<Command<'a>, AllocError>,
+) -> Result<Command<'a>, AllocError>
+    ensures app { (a : App) → Builds command.entry a → Builds result (with_rules a telling_rules) }
 {
-    let quiet = counted(
-        alloc,
-        "quiet",
-        'q',
-        "No information is told; twice: no warnings either",
+    let command = add(
+        command,
+        counted(
+            alloc,
+            "quiet",
+            'q',
+            "No information is told; twice: no warnings either",
+        ),
     );
-    let verbose = counted(alloc, "verbose", 'v', "More to be told; no effect");
-    let command = command.arg(quiet)?.arg(baud(alloc))?.arg(verbose)?;
-    Ok(command)
+    let command = add(command, baud(alloc));
+    add(
+        command,
+        counted(alloc, "verbose", 'v', "More to be told; no effect"),
+    )
 }
 
 /// The command with the options of long names.
-#[tactic(auto, using(crate::proofs::ParsedCommands::arg_added), unfolding(crate::specs::Command::file_rules))]
-fn with_files<'a>(alloc: Global, command: Command<'a>) -> Result<Command<'a>, Error>
-    ensures app { IfOk result (λ c. app_of c ≡ with_rules (app_of command.entry) file_rules) }
-    ensures memory { IfErr result (λ e. kind_of e ≡ ErrorKind.OutOfMemory) }
+fn with_files<'a>(
+    alloc: Global,
+    command: Result<Command<'a>, AllocError>,
+) -> Result<Command<'a>, AllocError>
+    ensures app { (a : App) → Builds command.entry a → Builds result (with_rules a file_rules) }
 {
-    let parts = long_value(
-        alloc,
-        "parts",
-        "FILE",
-        "A file of parts in TOML, before the built-in ones",
+    let command = add(
+        command,
+        long_value(
+            alloc,
+            "parts",
+            "FILE",
+            "A file of parts in TOML, before the built-in ones",
+        ),
     );
-    let serve = long_value(
-        alloc,
-        "serve",
-        "PORT",
-        "Be a programmer, emulated, at this port of 127.0.0.1",
+    let command = add(
+        command,
+        long_value(
+            alloc,
+            "serve",
+            "PORT",
+            "Be a programmer, emulated, at this port of 127.0.0.1",
+        ),
     );
-    let chip = long_value(alloc, "chip", "FILE", "The chip file of --serve");
-    let command = command.arg(parts)?.arg(serve)?.arg(chip)?;
-    Ok(command)
+    add(
+        command,
+        long_value(alloc, "chip", "FILE", "The chip file of --serve"),
+    )
+}
+
+/// The command with no option yet.
+fn without_options<'a>(alloc: Global) -> Result<Command<'a>, AllocError>
+    ensures { Builds result (overriding (new_app (codes "avrstk"))) }
+{
+    Ok(
+        Command::new(alloc, "avrstk")
+            .about(ABOUT)
+            .after_help(AFTER)
+            .args_override_self(true),
+    )
+}
+
+/// The command with all its options.
+fn with_options<'a>(alloc: Global) -> Result<Command<'a>, AllocError>
+    ensures { Builds result avrstk }
+{
+    let command = without_options(alloc);
+    let command = with_target(alloc, command);
+    let command = with_write(alloc, command);
+    let command = with_run(alloc, command);
+    let command = with_telling(alloc, command);
+    with_files(alloc, command)
 }
 
 /// The command with all its options, for its help. An option that is given again has its last
@@ -225,20 +311,11 @@ fn with_files<'a>(alloc: Global, command: Command<'a>) -> Result<Command<'a>, Er
 /// let help = command.render_help()?;
 /// assert!(rt; help.as_str().contains("Usage: avrstk [OPTIONS]"));
 /// ```
-#[tactic(auto, unfolding(crate::specs::Command::avrstk))]
 pub fn make_command<'a>(alloc: Global) -> Result<Command<'a>, Error>
     ensures app { IfOk result (λ c. app_of c ≡ avrstk) }
     ensures memory { IfErr result (λ e. kind_of e ≡ ErrorKind.OutOfMemory) }
 {
-    let command = Command::new(alloc, "avrstk")
-        .about(ABOUT)
-        .after_help(AFTER)
-        .args_override_self(true);
-    let command = with_target(alloc, command)?;
-    let command = with_write(alloc, command)?;
-    let command = with_run(alloc, command)?;
-    let command = with_telling(alloc, command)?;
-    with_files(alloc, command)
+    Ok(with_options(alloc)?)
 }
 
 /// Reads the words of a command line, the program's name first. What is read is a function of the

@@ -1,5 +1,5 @@
 //! What the command line gave, by the names of its options, and the settings from that.
-ghost use Rattle.std.specs.Prelude.{◌≡◌, option_map, map, ◌≤◌, IsOk, length, [], unwrap_or};
+ghost use Rattle.std.specs.Prelude.{◌≡◌, Ok, option_map, map, ◌≤◌, IsOk, length, [], unwrap_or};
 ghost use Rattle.clap.specs.Words.{found_of, rows_of, first_of, all_of};
 ghost use Rattle.avr_cli.specs.Command.{is_on, switches_of, entries_of};
 ghost use Rattle.avr_cli.specs.Settings.{GivesOrMemory, TellsAnyway, settings_of, checked_programmer, updates_of, updates_from, update_at, run_settings, serve_settings};
@@ -7,7 +7,7 @@ ghost use Rattle.avr_cli.specs.Update.{update_of};
 
 use crate::owned::{owned, owned_option};
 use crate::ports::{port_given, served};
-use crate::settings::{Settings, SettingsFault, Switches};
+use crate::settings::{Port, Settings, SettingsFault, Switches};
 use crate::standard::check_streams;
 use crate::update::{Update, UpdateFault, Updates};
 use crate::update_text::parse_update;
@@ -112,6 +112,34 @@ fn updates_given(alloc: Global, texts: Option<&[&str]>) -> Result<Updates, Setti
     }
 }
 
+/// Settings that own the id of the part and the name of the file of parts.
+fn keep(
+    alloc: Global,
+    part: &str,
+    port: Port,
+    parts: Option<&str>,
+    updates: Updates,
+    switches: Switches,
+) -> Result<Settings, SettingsFault>
+    ensures { GivesOrMemory (Ok (record {
+      part = part.now;
+      port = port;
+      parts = option_map (λ s. s.now) parts.entry;
+      updates = updates;
+      switches = switches;
+    })) result }
+{
+    let part = owned(alloc, part)?;
+    let parts = owned_option(alloc, parts)?;
+    Ok(Settings {
+        part,
+        port,
+        parts,
+        updates,
+        switches,
+    })
+}
+
 /// The settings of a run over a port.
 fn run_settings(
     alloc: Global,
@@ -126,15 +154,7 @@ fn run_settings(
     let updates = updates_given(alloc, texts_of(matches, "update"))?;
     let parts = text_of(matches, "parts");
     check_streams(&port, updates.as_slice(), parts, text_of(matches, "chip"))?;
-    let part = owned(alloc, part)?;
-    let parts = owned_option(alloc, parts)?;
-    Ok(Settings {
-        part,
-        port,
-        parts,
-        updates,
-        switches: switches_of(matches),
-    })
+    keep(alloc, part, port, parts, updates, switches_of(matches))
 }
 
 /// The settings of an emulator that serves.
@@ -153,15 +173,14 @@ fn serve_settings(
     let chip = text_of(matches, "chip");
     let port = served(alloc, port, chip)?;
     check_streams(&port, &[], parts, chip)?;
-    let part = owned(alloc, part)?;
-    let parts = owned_option(alloc, parts)?;
-    Ok(Settings {
+    keep(
+        alloc,
         part,
         port,
         parts,
-        updates: Updates::new(alloc),
-        switches: Switches::none(),
-    })
+        Updates::new(alloc),
+        Switches::none(),
+    )
 }
 
 /// The settings that the command line gives. With `--serve` the options but `-p`, `--parts` and

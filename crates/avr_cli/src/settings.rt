@@ -6,6 +6,7 @@ ghost use Rattle.avr_cli.specs.Settings.{link_settings, no_switches};
 use crate::text::Text;
 use crate::update::{UpdateFault, Updates};
 use std::alloc::{AllocError, Global};
+use std::fmt;
 use thiserror::Error;
 
 /// What the frames go over.
@@ -106,7 +107,7 @@ impl Settings {
 /// Why a command line makes no settings. The first that holds is reported, in the order in which they
 /// stand here, but for memory, which may come in place of any other that keeps a text or follows a
 /// text that was kept.
-#[derive(Debug, Drop, Error)]
+#[derive(Drop, Error)]
 pub enum SettingsFault {
     /// No `-p`.
     #[error("no part given (-p)")]
@@ -155,5 +156,12 @@ impl SettingsFault {
             SettingsFault::Memory => 7,
             SettingsFault::NoChip => 8,
         }
+    }
+}
+
+/// Shows the message.
+impl fmt::Debug for SettingsFault {
+    fn fmt<W: fmt::Write>(&self, f: &mut fmt::Formatter<W>) -> fmt::Result {
+        fmt::Display::fmt(self, f)
     }
 }

@@ -3,6 +3,7 @@
 ghost use Rattle.std.specs.Prelude.{◌≡◌};
 ghost use Rattle.avr_image.specs.Fault.{number_of};
 
+use std::fmt;
 use thiserror::Error;
 
 /// Why no image came of some bytes, or one was not changed.
@@ -11,7 +12,7 @@ use thiserror::Error;
 /// let fault = parse_immediate(alloc, "1,256", 4).err();
 /// assert_eq!(rt; fault, Some(ImageFault::TooLarge(2)));
 /// ```
-#[derive(Clone, Copy, Debug, Drop, PartialEq, Eq, Error)]
+#[derive(Clone, Copy, Drop, PartialEq, Eq, Error)]
 pub enum ImageFault {
     /// This byte address lies outside the memory. Of a raw file it is the memory's size.
     #[error("address {0:08X} out of range")]
@@ -50,5 +51,12 @@ impl ImageFault {
             ImageFault::Memory => 5,
             ImageFault::OtherSize => 6,
         }
+    }
+}
+
+/// Shows the message.
+impl fmt::Debug for ImageFault {
+    fn fmt<W: fmt::Write>(&self, f: &mut fmt::Formatter<W>) -> fmt::Result {
+        fmt::Display::fmt(self, f)
     }
 }

@@ -9,7 +9,7 @@ use crate::memory::{Loads, Memory};
 use crate::part::{Mem, Part};
 use std::alloc::{AllocError, Global};
 use std::marker::Model;
-use std::slice;
+use std::{fmt, slice};
 
 /// A chip of some part: its memories, its page buffers and its extended address. Contracts see it as the record of
 /// these.
@@ -19,7 +19,7 @@ use std::slice;
 /// chip.spi([0xAC, 0xA0, 0, 0x62]);
 /// assert_eq!(rt; chip.memory(Mem::Lfuse), [0x62].as_slice());
 /// ```
-#[derive(Debug, Drop)]
+#[derive(Drop)]
 pub struct Chip {
     pub(crate) part: Part,
     pub(crate) flash: Memory,
@@ -484,5 +484,14 @@ impl Chip {
         ensures { result ≡ slice_get (memory_of mem self.now) addr }
     {
         self.memory(mem).get(addr as usize).copied()
+    }
+}
+
+/// Shows the part's id, and no memory.
+impl fmt::Debug for Chip {
+    fn fmt<W: fmt::Write>(&self, f: &mut fmt::Formatter<W>) -> fmt::Result {
+        f.debug_struct("Chip")
+            .field("part", &self.part.id())
+            .finish_non_exhaustive()
     }
 }

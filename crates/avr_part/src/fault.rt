@@ -59,7 +59,7 @@ impl fmt::Display for Field {
 /// ```text
 /// assert_eq!(rt; Parts::none().find("m9").err(), Some(PartFault::NoSuchPart));
 /// ```
-#[derive(Clone, Copy, Debug, PartialEq, Eq, Error)]
+#[derive(Clone, Copy, PartialEq, Eq, Error)]
 pub enum PartFault {
     /// The part file is no TOML, or not UTF-8.
     #[error("not TOML")]
@@ -102,5 +102,12 @@ impl PartFault {
             PartFault::BadChipFile(_) => 6,
             PartFault::Memory => 7,
         }
+    }
+}
+
+/// Shows the message.
+impl fmt::Debug for PartFault {
+    fn fmt<W: fmt::Write>(&self, f: &mut fmt::Formatter<W>) -> fmt::Result {
+        fmt::Display::fmt(self, f)
     }
 }

@@ -11,7 +11,7 @@ use std::fmt;
 use std::marker::Model;
 
 /// What is at fault in a part file, and the id of the part that has it, if one has.
-#[derive(Debug, Drop)]
+#[derive(Drop)]
 pub(crate) struct FileFault {
     part: Option<ArrayString<31>>,
     fault: PartFault,
@@ -69,7 +69,7 @@ impl FileFault {
 ///     assert_eq!(rt; fault.fault(), PartFault::Missing(Field::Signature));
 /// }
 /// ```
-#[derive(Debug, Drop)]
+#[derive(Drop)]
 pub struct PartFileFault {
     why: FileFault,
     line: Option<usize>,
@@ -153,6 +153,13 @@ impl fmt::Display for PartFileFault {
             write!(f, "part {}: ", id)?;
         }
         write!(f, "{}", self.fault())
+    }
+}
+
+/// Shows the message.
+impl fmt::Debug for PartFileFault {
+    fn fmt<W: fmt::Write>(&self, f: &mut fmt::Formatter<W>) -> fmt::Result {
+        fmt::Display::fmt(self, f)
     }
 }
 

@@ -6,7 +6,7 @@ use std::alloc::{AllocError, Global};
 use std::marker::Model;
 
 /// For each place of a page the byte that was loaded there, if one was.
-#[derive(Debug, Drop)]
+#[derive(Drop)]
 pub struct Loads {
     bytes: Vec<Option<u8>>,
 }
@@ -66,7 +66,7 @@ impl Loads {
 }
 
 /// The bytes of a memory. Contracts see it as their list.
-#[derive(Debug, Drop)]
+#[derive(Drop)]
 pub struct Memory {
     bytes: Vec<u8>,
 }

@@ -69,7 +69,7 @@ fn record_end(base: Base, offset: u32, bytes: &[u8]) -> Result<u32, u32>
 }
 
 /// What the lines leave that have ended, none of them an end record.
-#[derive(Clone, Copy, Debug)]
+#[derive(Clone, Copy)]
 pub struct Extent {
     /// Where the addresses of data records count from.
     pub(crate) base: Base,

@@ -5,6 +5,7 @@ ghost use Rattle.avr_records.specs.Fault.{fault_address, fault_number, fault_lin
 ghost use Rattle.avr_records.specs.Reading.{in_line};
 ghost use Rattle.avr_records.specs.Steps.{IsLineFault};
 
+use std::fmt;
 use thiserror::Error;
 
 /// Why no image came of a record file. The first number is that of the line, the first line being 1.
@@ -14,7 +15,7 @@ use thiserror::Error;
 /// let fault = reader.feed(b":020000040001F9\n:0100000055AA\n").err();
 /// assert_eq!(rt; fault, Some(RecordFault::OutOfRange(2, 0x10000)));
 /// ```
-#[derive(Clone, Copy, Debug, Drop, PartialEq, Eq, Error)]
+#[derive(Clone, Copy, Drop, PartialEq, Eq, Error)]
 pub enum RecordFault {
     /// The line doesn't begin with `:`, or with `S` and a decimal digit.
     #[error("line {0}: no record mark")]
@@ -114,7 +115,7 @@ impl RecordFault {
 }
 
 /// What is wrong with one line.
-#[derive(Clone, Copy, Debug, Drop, PartialEq, Eq)]
+#[derive(Clone, Copy, Drop)]
 pub enum LineFault {
     Mark,
     Digit,
@@ -143,5 +144,12 @@ impl LineFault {
             LineFault::TooLong => RecordFault::LineTooLong(line),
             LineFault::Count => RecordFault::BadCount(line),
         }
+    }
+}
+
+/// Shows the message.
+impl fmt::Debug for RecordFault {
+    fn fmt<W: fmt::Write>(&self, f: &mut fmt::Formatter<W>) -> fmt::Result {
+        fmt::Display::fmt(self, f)
     }
 }

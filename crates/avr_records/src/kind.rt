@@ -72,7 +72,7 @@ impl Found {
 }
 
 /// Where the addresses of data records count from.
-#[derive(Clone, Copy, Debug, PartialEq, Eq)]
+#[derive(Clone, Copy)]
 pub enum Base {
     /// The upper 16 bits of the address.
     Linear(u16),

@@ -34,7 +34,7 @@ pub(crate) fn split_line(text: &[u8]) -> Option<(&[u8], &[u8])>
 pub(crate) const LONGEST: usize = 600;
 
 /// What a good line says.
-#[derive(Clone, Copy, Debug)]
+#[derive(Clone, Copy)]
 pub enum Line<'a> {
     /// Nothing that counts.
     Nothing,

@@ -14,7 +14,7 @@ use std::fmt;
 use std::marker::Model;
 
 /// The fields of a record, whose data bytes stand elsewhere.
-#[derive(Clone, Copy, Debug)]
+#[derive(Clone, Copy)]
 pub struct LineRecord<'a> {
     pub(crate) record_type: u8,
     pub(crate) address: u32,
