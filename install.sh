@@ -31,9 +31,11 @@ completions=$prefix/share/bash-completion/completions/avrstk
 # bash looks for a command's completions under its name
 of_serial=$prefix/share/bash-completion/completions/avrstk-serial
 archive=$prefix/lib/libavr_records.a
-# its name says with which programs it goes: the version's first number
+# (examples/c/build.sh says what the number is)
 version=$(cat "$top/VERSION")
-shared=libavr_records.so.${version%%.*}
+number=${version%%.*}
+[ "$number" != 0 ] || number=${version%.*}
+shared=libavr_records.so.$number
 link=$prefix/lib/libavr_records.so
 config=$prefix/lib/pkgconfig/avr_records.pc
 header=$prefix/include/avr_records.h
