@@ -53,9 +53,11 @@ for page in "$top"/docs/*.1; do
     tool+=("$prefix/share/man/man1/${page##*/}")
 done
 archive=$prefix/lib/libavr_records.a
-# its name says with which programs it goes: the version's first number
+# (examples/c/build.sh says what the number is)
 version=$(cat "$top/VERSION")
-shared=libavr_records.so.${version%%.*}
+number=${version%%.*}
+[ "$number" != 0 ] || number=${version%.*}
+shared=libavr_records.so.$number
 link=$prefix/lib/libavr_records.so
 config=$prefix/lib/pkgconfig/avr_records.pc
 header=$prefix/include/avr_records.h

@@ -2,7 +2,7 @@
 """Times the reader of record files alone, through its library for C, beside a plain reader in C and python3-intelhex.
 
     bench/reader.py [ROUNDS]      megabytes of text a second, the best of so many rounds of each file
-    bench/reader.py --count       instructions a byte of text (needs valgrind)
+    bench/reader.py --count       instructions of a call, by the bytes of its text (needs valgrind)
 
 The library is made by examples/c/build.sh. Nothing is run where there is no C compiler; what else is missing is told.
 """
@@ -64,18 +64,16 @@ def time_all(program, texts, rounds):
     print(f"{length / min(times) / 1e6:8.1f} MB/s  ihex: python3-intelhex")
 
 
-def count_all(program, texts, folder):
-    """What a file costs beyond one that has the end record alone, which is what making and filling a memory costs."""
+def count_all(program, texts):
+    """What a call costs, with all that it does for its memory."""
     if not shutil.which("valgrind"):
         sys.exit("valgrind is not installed")
     front = ["valgrind", "--tool=callgrind", "--callgrind-out-file=/dev/null"]
     for kind, (file, length) in texts.items():
-        empty = folder / f"none.{kind}"
-        empty.write_text(FILES[kind](b""))
         for who, name in NAMES.items():
-            counts = [run(program, who, kind, it, 1, front).stderr for it in (file, empty)]
-            whole, none = (int(re.search(r"Collected : (\d+)", it)[1]) for it in counts)
-            print(f"{(whole - none) / length:8.1f} instructions a byte  {kind}: {name}")
+            told = run(program, who, kind, file, 1, [*front, f"--toggle-collect={who}_read"]).stderr
+            count = int(re.search(r"Collected : (\d+)", told)[1])
+            print(f"{count / length:8.1f} instructions a byte  {kind}: {name}")
 
 
 def main():
@@ -91,7 +89,7 @@ def main():
             file.write_text(made(image_of(SIZE)))
             texts[kind] = (file, file.stat().st_size)
         if "--count" in sys.argv:
-            count_all(program, texts, folder)
+            count_all(program, texts)
         else:
             time_all(program, texts, int(sys.argv[1]) if len(sys.argv) > 1 else 50)
 

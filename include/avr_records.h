@@ -4,8 +4,7 @@
  *
  * The functions are those of the archive libavr_records.a and of the shared library libavr_records.so of it, which
  * examples/c/build.sh makes. That they do what is said here is proved (crates/avr_records_c) for every caller that
- * keeps to these rules, but for the time that a call takes, and for avr_records_fault_text, which stands in this
- * header alone.
+ * keeps to these rules, but for the time that a call takes.
  *
  * - No pointer is NULL, also where its length is 0. Each points to as many bytes as its length says, which nothing else
  *   writes while the call runs. What a function changes overlaps nothing else that it is given.
@@ -28,8 +27,15 @@
 extern "C" {
 #endif
 
-/* The version of avrstk that this header is of. */
+/* The version of avrstk that this header belongs to, as a text and as numbers. */
 #define AVR_RECORDS_VERSION "0.9.0"
+#define AVR_RECORDS_VERSION_MAJOR 0
+#define AVR_RECORDS_VERSION_MINOR 9
+#define AVR_RECORDS_VERSION_PATCH 0
+
+/* The version as one number, which avr_records_version returns: 900 for 0.9.0. */
+#define AVR_RECORDS_VERSION_NUMBER \
+    (10000 * AVR_RECORDS_VERSION_MAJOR + 100 * AVR_RECORDS_VERSION_MINOR + AVR_RECORDS_VERSION_PATCH)
 
 /* Formats of files. */
 enum {
@@ -125,31 +131,30 @@ struct avr_records_piece avr_records_write(uint8_t format, const uint8_t *bytes,
                                            struct avr_records_cursor *cursor, uint8_t *room, size_t length);
 
 /*
- * Tells how many bytes the file of a memory has, in a format (AVR_RECORDS_IHEX or _SREC), for a room that is to take
- * all of it. It makes the file for that, in memory of its own, and has the faults of arguments that don't fit one
- * another and of memory, with which the length is 0.
+ * Returns how many bytes the file of a memory has, in a format (AVR_RECORDS_IHEX or _SREC), for a room that is to take
+ * all of it. The fault is AVR_RECORDS_MISFIT, for the arguments for which avr_records_write has it, and the length is
+ * then 0. A call takes no memory, and its time is that of writing the file.
  */
 struct avr_records_piece avr_records_length(uint8_t format, const uint8_t *bytes, size_t size,
                                             const uint8_t *present, size_t octets);
 
-/* What a fault's number means, in a few words; they last as long as the program. */
-static inline const char *avr_records_fault_text(uint8_t fault) {
-    switch (fault) {
-    case 0: return "no fault";
-    case AVR_RECORDS_BAD_MARK: return "no record mark";
-    case AVR_RECORDS_BAD_DIGIT: return "bad digit";
-    case AVR_RECORDS_BAD_LENGTH: return "bad length";
-    case AVR_RECORDS_BAD_SUM: return "bad checksum";
-    case AVR_RECORDS_BAD_TYPE: return "bad record type";
-    case AVR_RECORDS_OUT_OF_RANGE: return "address out of range";
-    case AVR_RECORDS_LINE_TOO_LONG: return "line too long";
-    case AVR_RECORDS_BAD_COUNT: return "bad record count";
-    case AVR_RECORDS_NO_MEMORY: return "out of memory";
-    case AVR_RECORDS_MISFIT: return "arguments don't fit one another";
-    case AVR_RECORDS_NO_RECORDS: return "no record file";
-    default: return "no fault of this number";
-    }
-}
+/* How many chars hold each text of avr_records_fault_text, with the 0 after it. */
+#define AVR_RECORDS_FAULT_TEXT 40
+
+/*
+ * Puts what the number of a fault means, in a few words of ASCII, into a room, with a 0 after it, and returns how many
+ * chars the text has, without the 0. If the room is too small, it gets as much of the text as leaves room for the 0;
+ * if `length` is 0, it gets nothing. The text of 0 is "no fault", that of a number that no fault has "no fault of this
+ * number".
+ */
+size_t avr_records_fault_text(uint8_t fault, char *room, size_t length);
+
+/*
+ * Returns AVR_RECORDS_VERSION_NUMBER of the library, so that a program can compare it with that of its header. Until
+ * version 1.0 each new MINOR, and from then on each new MAJOR, may change what is declared here; the shared library
+ * has another name then (libavr_records.so.0.9 for 0.9.0).
+ */
+uint32_t avr_records_version(void);
 
 #ifdef __cplusplus
 }

@@ -8,6 +8,7 @@ damaged files; is left out where there is no C compiler.
 import importlib.util
 import os
 import random
+import re
 import shutil
 import subprocess
 import sys
@@ -22,6 +23,21 @@ IMAGES = 60
 CURSORS = 2000
 SECONDS = 20
 USAGE = "records FILE SIZE ihex|srec [ROOM]"
+CALLS = [f"avr_records_{it}" for it in ("detect", "fault_text", "length", "read", "version", "write")]
+FAULTS = [*range(9), 10, 11, 12]
+VERSION = (ROOT / "VERSION").read_text().strip()
+VERSIONS = """
+#include <stdio.h>
+#include "avr_records.h"
+#if AVR_RECORDS_VERSION_NUMBER < 900
+#error "older than the macro"
+#endif
+int main(void) {
+    printf("%s %d.%d.%d %lu %lu\\n", AVR_RECORDS_VERSION, AVR_RECORDS_VERSION_MAJOR, AVR_RECORDS_VERSION_MINOR,
+           AVR_RECORDS_VERSION_PATCH, (unsigned long)AVR_RECORDS_VERSION_NUMBER, (unsigned long)avr_records_version());
+    return 0;
+}
+"""
 
 
 def checksum(fields):
@@ -86,11 +102,14 @@ def shown(image):
 class Library:
     def __init__(self, folder):
         self.folder = folder
-        self.program = folder / "records"
         subprocess.run([ROOT / "examples/c/build.sh", folder], check=True, stdout=subprocess.DEVNULL)
+        self.program = self.compiled(ROOT / "examples/c/records.c")
+
+    def compiled(self, source):
+        program = self.folder / source.stem
         words = [os.environ.get("CC", "cc"), "-std=c99", "-Wall", "-Wextra", "-Werror", "-O2", f"-I{ROOT / 'include'}"]
-        words += [ROOT / "examples/c/records.c", folder / "libavr_records.a", "-o", self.program]
-        subprocess.run(words, check=True)
+        subprocess.run([*words, source, self.folder / "libavr_records.a", "-o", program], check=True)
+        return program
 
     def written(self, file, size, kind, *room):
         words = [self.program, file, str(size), kind, *map(str, room)]
@@ -254,19 +273,52 @@ def sizes_are_judged(library):
         same(f"size '{size}'", library.refused(file, size, "ihex"), (2, "", f"usage: {USAGE}\n"))
 
 
-def only_its_calls_are_seen(library):
-    """The shared library has its name, and exports what the header declares, and nothing else."""
+def texts_are_put(library):
+    """A fault's text is put into any room as C keeps texts: with a 0 after it, and cut short where the room is small."""
+    records, loaded = library.in_python()
+    unknown = records.fault_text(loaded, 255)
+    known = {records.fault_text(loaded, fault) for fault in FAULTS}
+    same("each fault has a text of its own", (len(known), unknown in known), (len(FAULTS), False))
+    for fault in range(256):
+        text = records.fault_text(loaded, fault).split(":")[0].encode()
+        same(f"{fault} is a fault", text.decode() != unknown, fault in FAULTS)
+        for size in (0, 1, 5, len(text), len(text) + 1, 40):
+            room = bytearray(b"\xa5" * size)
+            put = (text[: size - 1] + b"\0" if size else b"") + b"\xa5" * max(0, size - len(text) - 1)
+            told = loaded.avr_records_fault_text(fault, *records.lent(room))
+            same(f"the text of {fault} in {size}", (told, room), (len(text), put))
+
+
+def versions_agree(library):
+    """The header, the library, pkg-config's file and the Python program are of the version that VERSION says."""
+    source = library.folder / "versions.c"
+    source.write_text(VERSIONS)
+    major, minor, patch = map(int, VERSION.split("."))
+    number = 10_000 * major + 100 * minor + patch
+    told = subprocess.run([library.compiled(source)], capture_output=True, check=True, text=True).stdout
+    same("the header and the archive", told, f"{VERSION} {VERSION} {number} {number}\n")
+    records, loaded = library.in_python()
+    same("Python and the shared library", (records.VERSION, loaded.avr_records_version()), (number, number))
+    config = (library.folder / "avr_records.pc").read_text()
+    same("pkg-config's file", f"\nVersion: {VERSION}\n" in config, True)
+    # the number in the shared library's name
+    name = f"libavr_records.so.{major or f'0.{minor}'}"
     shared = library.folder / "libavr_records.so"
-    words = ["nm", "-D", "--defined-only", shared]
-    listed = subprocess.run(words, capture_output=True, check=True, text=True).stdout
-    exported = [it.split()[-1] for it in listed.splitlines()]
-    same("what is exported", exported, [f"avr_records_{it}" for it in ("detect", "length", "read", "write")])
-    name = f"libavr_records.so.{(ROOT / 'VERSION').read_text().split('.')[0]}"
-    same("the name", os.readlink(shared), name)
-    program = (ROOT / "examples/python/records.py").read_text()
-    same("the name that Python looks for", f'SONAME = "{name}"' in program, True)
+    same("what the link leads to", os.readlink(shared), name)
+    same("the name that Python looks for", records.SONAME, name)
     listed = subprocess.run(["readelf", "-d", shared], capture_output=True, check=True, text=True).stdout
     same("the name in it", f"soname: [{name}]" in listed, True)
+
+
+def only_its_calls_are_seen(library):
+    """The archive and the shared library export what the header declares, and nothing else."""
+    header = (ROOT / "include/avr_records.h").read_text()
+    same("what is declared", sorted(re.findall(r"^[a-z].* \**(avr_records_\w+)\(", header, re.MULTILINE)), CALLS)
+    for words in (["-g", "libavr_records.a"], ["-D", "libavr_records.so"]):
+        words = ["nm", "--defined-only", *words]
+        listed = subprocess.run(words, cwd=library.folder, capture_output=True, check=True, text=True).stdout
+        exported = [it.split()[-1] for it in listed.splitlines() if len(it.split()) == 3]
+        same(f"what {words[-1]} exports", exported, CALLS)
 
 
 def main():
@@ -279,6 +331,8 @@ def main():
         cursors_are_judged,
         faults_are_told,
         sizes_are_judged,
+        texts_are_put,
+        versions_agree,
         only_its_calls_are_seen,
     )
     if shutil.which(os.environ.get("CC", "cc")) is None:

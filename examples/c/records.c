@@ -57,7 +57,8 @@ static uint8_t print(uint8_t format, const uint8_t *bytes, size_t size, const ui
 
 /* Says what is wrong with a file, and where. */
 static void complain(const char *name, struct avr_records_outcome read) {
-    const char *text = avr_records_fault_text(read.fault);
+    char text[AVR_RECORDS_FAULT_TEXT];
+    avr_records_fault_text(read.fault, text, sizeof text);
     if (read.line == 0) {
         fprintf(stderr, "%s: %s\n", name, text);
     } else if (read.fault == AVR_RECORDS_OUT_OF_RANGE) {
@@ -91,6 +92,10 @@ int main(int argc, char **argv) {
     free(file);
     free(bytes);
     free(present);
-    if (fault != 0) fprintf(stderr, "%s\n", avr_records_fault_text(fault));
+    if (fault != 0) {
+        char text[AVR_RECORDS_FAULT_TEXT];
+        avr_records_fault_text(fault, text, sizeof text);
+        fprintf(stderr, "%s\n", text);
+    }
     return fault == 0 && fflush(stdout) == 0 && !ferror(stdout) ? 0 : 1;
 }

@@ -13,21 +13,11 @@ import os
 import sys
 from pathlib import Path
 
-SONAME = "libavr_records.so.0"
+SONAME = "libavr_records.so.0.9"
+VERSION = 900
 FORMATS = {"ihex": 1, "srec": 2}
-FAULTS = {
-    1: "no record mark",
-    2: "bad digit",
-    3: "bad length",
-    4: "bad checksum",
-    5: "bad record type",
-    6: "address out of range",
-    7: "line too long",
-    8: "bad record count",
-    10: "out of memory",
-    11: "arguments don't fit one another",
-    12: "no record file",
-}
+OUT_OF_RANGE = 6
+FAULT_TEXT = 40
 
 
 class Outcome(ctypes.Structure):
@@ -64,9 +54,13 @@ def load():
         ("read", [octet] + 3 * slice_of, Outcome),
         ("length", [octet] + 2 * slice_of, Piece),
         ("write", [octet] + 2 * slice_of + [ctypes.POINTER(Cursor)] + slice_of, Piece),
+        ("fault_text", [octet] + slice_of, ctypes.c_size_t),
+        ("version", [], ctypes.c_uint32),
     ):
         function = getattr(library, f"avr_records_{name}")
         function.argtypes, function.restype = arguments, result
+    if library.avr_records_version() // 100 != VERSION // 100:
+        raise ValueError(f"version {library.avr_records_version()} of the library, not {VERSION}")
     return library
 
 
@@ -75,9 +69,11 @@ def lent(data):
     return (ctypes.c_uint8 * len(data)).from_buffer(data), len(data)
 
 
-def fault_text(fault, line=0, address=0):
+def fault_text(library, fault, line=0, address=0):
+    text = bytearray(FAULT_TEXT)
+    length = library.avr_records_fault_text(fault, *lent(text))
     place = f"line {line}: " if line else ""
-    return place + FAULTS[fault] + (f": {address:08X}" if fault == 6 else "")
+    return place + text[:length].decode() + (f": {address:08X}" if fault == OUT_OF_RANGE else "")
 
 
 def read(library, text, size):
@@ -86,7 +82,7 @@ def read(library, text, size):
     kind = library.avr_records_detect(*lent(text))
     outcome = library.avr_records_read(kind, *lent(text), *lent(data), *lent(present))
     if outcome.fault:
-        raise ValueError(fault_text(outcome.fault, outcome.line, outcome.address))
+        raise ValueError(fault_text(library, outcome.fault, outcome.line, outcome.address))
     return data, present, outcome.ended
 
 
@@ -96,7 +92,7 @@ def pieces(library, kind, data, present, length=4096):
     while True:
         piece = library.avr_records_write(kind, *lent(data), *lent(present), cursor, *lent(room))
         if piece.fault:
-            raise ValueError(fault_text(piece.fault))
+            raise ValueError(fault_text(library, piece.fault))
         yield room[: piece.length]
         if piece.length < length:
             return

@@ -3,7 +3,8 @@ use Rattle.std.proofs.Common.{◌≡◌, ap, refl, arith, false, ℕ, List, [], 
 use Rattle.avr_records.specs.declared.fault.RecordFault.TheVariants.{BadSum, OutOfRange}
 use Rattle.avr_records.specs.declared.kind.Kind.TheVariants.{Ihex, Srec}
 use Rattle.avr_records.specs.Sparse.{ihex_image_text, srec_image_text}
-use Rattle.avr_records_c.specs.Numbers.{outcome_of_fault, misfit, no_records}
+use Rattle.avr_records_c.specs.FaultText.{put_text}
+use Rattle.avr_records_c.specs.Numbers.{outcome_of_fault, misfit, no_records, version_number}
 use Rattle.avr_records_c.specs.Bitmap.{octets_of, bitmap, image_of}
 use Rattle.avr_records_c.specs.Reading.{Left, asked_read, left_in, Reads}
 use Rattle.avr_records_c.specs.Writing.{asked_write, file_left, file_start, put_none, Writes}
@@ -96,3 +97,16 @@ no_misfit_of_raw_bytes e = let same : 11 ≡ 12 = ap (λ (l : Left). l.outcome.f
 -- a file of nothing is its end record: no call may refuse it
 not_refused : Writes 1 [] [] file_start (0 ∷ []) (put_none file_start (0 ∷ [])) → ⊥
 not_refused put = absurd (omega (arith, put.good))
+
+-- a text goes with a 0 after it into a room that has bytes to spare, into one that is too small, and into none
+put_with_its_end : put_text (65 ∷ 66 ∷ []) (9 ∷ 9 ∷ 9 ∷ 9 ∷ []) ≡ 65 ∷ 66 ∷ 0 ∷ 9 ∷ []
+put_with_its_end = refl
+
+cut_before_its_end : put_text (65 ∷ 66 ∷ []) (9 ∷ 9 ∷ []) ≡ 65 ∷ 0 ∷ []
+cut_before_its_end = refl
+
+put_nowhere : put_text (65 ∷ []) [] ≡ []
+put_nowhere = refl
+
+version_as_one_number : version_number 0 9 0 ≡ 900
+version_as_one_number = refl

@@ -1,6 +1,6 @@
 -- A walk over a memory's bitmap, bit by bit, finds what a walk over its image finds.
 use Rattle.std.proofs.Common.{◌≡◌, ◌∙◌, ap, sym, refl, arith, ℕ, zero, suc, ◌+◌, ◌-◌, ◌<◌, ◌≤◌, List, [], ◌∷◌, length, take, drop, get_or, true, false, cond, Option, Some, None, is_some, inl, inr, add-zero, min}
-use Rattle.std.proofs.lemmas.Bool.{cases_Bool}
+use Rattle.std.proofs.lemmas.Bool.{cases_Bool, cases_lt}
 use Rattle.std.proofs.lemmas.List.{drop_all, drop_more, length-drop, take_min}
 use Rattle.std.specs.List.{position_from}
 use Rattle.avr_image.specs.Image.{first_from}
@@ -61,12 +61,30 @@ pub first-there : (k : ℕ) (present bytes : List ℕ) → k < length bytes → 
     → first_from (image_of present bytes) k ≡ Some k
 first-there k present bytes inside there = ap (from k) (there-here k present bytes inside there)
 
-pub first-gap : (k : ℕ) (present bytes : List ℕ) → k < length bytes → is_there present k ≡ false
+first-gap : (k : ℕ) (present bytes : List ℕ) → k < length bytes → is_there present k ≡ false
     → first_from (image_of present bytes) k ≡ first_from (image_of present bytes) (k + 1)
 first-gap k present bytes inside gap = ap (from k) (gap-here k present bytes inside gap)
 
 pub first-past : (k : ℕ) (present bytes : List ℕ) → length bytes ≤ k → first_from (image_of present bytes) k ≡ None
 first-past k present bytes past = ap (from k) (none-past k present bytes past)
+
+-- a gap of so many addresses, some of them perhaps past the memory
+pub first-gaps : (n k : ℕ) (present bytes : List ℕ)
+    → ((at : ℕ) → k ≤ at → at < k + n → is_there present at ≡ false)
+    → first_from (image_of present bytes) k ≡ first_from (image_of present bytes) (k + n)
+first-gaps zero k present bytes gap =
+    ap (λ (at : ℕ). first_from (image_of present bytes) at) (sym (add-zero k))
+first-gaps (suc n) k present bytes gap =
+    let rest = first-gaps n (k + 1) present bytes
+    (λ at after before. gap at (omega (arith, after)) (omega (arith, before))) in
+    let there : k + 1 + n ≡ k + suc n = omega arith in
+    let one : first_from (image_of present bytes) k ≡ first_from (image_of present bytes) (k + 1) =
+    elim (cases_lt k (length bytes)) [
+      | inl inside ↦ first-gap k present bytes inside (gap k (omega arith) (omega arith))
+      | inr past ↦
+          first-past k present bytes past ∙ sym (first-past (k + 1) present bytes (omega (arith, past)))
+    ] in
+    one ∙ rest ∙ ap (λ (at : ℕ). first_from (image_of present bytes) at) there
 
 -- ---- the bytes before a gap
 

@@ -1,4 +1,5 @@
 pub mod Numbers
+pub mod FaultText
 pub mod Bitmap
 pub mod Reading
 pub mod Cursor

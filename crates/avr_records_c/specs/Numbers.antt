@@ -1,5 +1,5 @@
--- The numbers by which C knows formats and faults.
-use Rattle.std.specs.Prelude.{ℕ, true, false, ◌==◌, Option, Some, None, Result, Ok, Err, unwrap_or, if◌then◌else◌}
+-- The numbers by which C knows formats, faults and versions.
+use Rattle.std.specs.Prelude.{ℕ, true, false, ◌+◌, ◌*◌, ◌==◌, Option, Some, None, Result, Ok, Err, unwrap_or, if◌then◌else◌}
 use Rattle.avr_records.specs.Fault.{fault_number, fault_line_number, fault_address}
 use Rattle.avr_records.specs.declared.fault.RecordFault.{RecordFault}
 use Rattle.avr_records.specs.declared.kind.Kind.{Kind}
@@ -53,3 +53,7 @@ kind_to_read number =
     else if number == 2 then Ok kind.Srec
     else if number == 3 then Err no_records
     else Err misfit
+
+-- a version by its three numbers
+abbrev pub version_number : ℕ → ℕ → ℕ → ℕ
+version_number major minor patch = major * 10000 + minor * 100 + patch

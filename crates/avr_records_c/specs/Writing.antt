@@ -1,9 +1,7 @@
 -- What C has of a record file that is written.
-use Rattle.std.specs.Prelude.{◌≡◌, ◌⊎◌, ℕ, ◌==◌, ◌&&◌, ◌^◌, nat_lt, min, List, [], ◌∷◌, ◌++◌, length, take, drop, Option, Some, None, MatchOption, if◌then◌else◌}
+use Rattle.std.specs.Prelude.{◌≡◌, ℕ, ◌==◌, ◌&&◌, ◌^◌, nat_lt, min, List, [], ◌∷◌, ◌++◌, length, take, drop, Option, Some, None, MatchOption, if◌then◌else◌}
 use Rattle.std.specs.Option.{option_map}
 use Rattle.avr_records.specs.Sparse.{ihex_image_text, srec_image_text}
-use Rattle.avr_records.specs.Fault.{fault_number}
-use Rattle.avr_records.specs.declared.fault.RecordFault.TheVariants.{Memory}
 use Rattle.avr_records.specs.declared.kind.Kind.{Kind}
 use Rattle.avr_records.specs.declared.kind.Kind.TheVariants.{Ihex, Srec}
 use Rattle.avr_records_c.specs.declared.cursor.Cursor.{Cursor}
@@ -83,10 +81,9 @@ Wrote kind image cursor [] = file_left kind image cursor ≡ Some []
 Wrote kind image cursor (piece ∷ more) =
     (next : Cursor) × PieceCall kind image cursor next piece × Wrote kind image next more
 
--- A call tells how many bytes the memory's file has, or memory was refused, or the arguments do not fit one another.
+-- A call returns how many bytes the memory's file has; where the arguments do not fit one another, none.
 abbrev pub Measures : ℕ → List ℕ → List ℕ → Piece → Type 0
 Measures kind bytes present piece =
     MatchOption (asked_write kind (length bytes) (length present))
     (piece ≡ record { length = 0; fault = 11 })
-    (λ k. (piece ≡ record { length = length (image_text k (image_of present bytes)); fault = 0 })
-    ⊎ (piece ≡ record { length = 0; fault = fault_number Memory }))
+    (λ k. piece ≡ record { length = length (image_text k (image_of present bytes)); fault = 0 })

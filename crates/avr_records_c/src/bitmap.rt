@@ -1,9 +1,8 @@
 //! A memory as C has it: its bytes, and a bitmap of those that are there.
-ghost use Rattle.std.specs.Prelude.{◌≡◌, ◌⊎◌, ◌==◌, ◌&&◌, ◌+◌, ◌*◌, ◌^◌, ◌<◌, ◌≤◌, Ok, Err, length, nat_lt};
-ghost use Rattle.avr_records_c.specs.Bitmap.{bit, bitmap, image_of as spec_image_of, is_there as spec_is_there, octet, octets_of};
+ghost use Rattle.std.specs.Prelude.{◌≡◌, ◌==◌, ◌&&◌, ◌+◌, ◌*◌, ◌^◌, ◌<◌, ◌≤◌, ℕ, length, nat_lt, slice_index};
+ghost use Rattle.avr_records_c.specs.Bitmap.{bit, bitmap, is_there as spec_is_there, octet, octets_of};
 
-use avr_image::{Image, ImageFault};
-use std::alloc::Global;
+use avr_image::Image;
 
 /// Whether a bitmap of so many octets is that of a memory of so many bytes, fewer than 2 to the power 32.
 pub fn is_bitmap_of(octets: usize, size: usize) -> bool
@@ -35,13 +34,66 @@ fn octet(image: &Image, addr: u32) -> u8
         + 128 * bit(image, addr + 7)
 }
 
+/// Returns the end of the octets without a gap that begin with this one; `first` if it has a gap.
+fn full_end(image: &Image, first: usize) -> usize
+    requires { first * 8 ≤ length image.now }
+    ensures after { first ≤ result }
+    ensures full { (i : ℕ) → first ≤ i → i < result → octet image.now (i * 8) ≡ 255 }
+{
+    let size = image.size();
+    image.run_from(first as u32 * 8, size) as usize / 8
+}
+
+/// Makes the octets from `first` up to `end` 255.
+fn fill_octets(present: &mut [u8], first: usize, end: usize)
+    requires ordered { first ≤ end }
+    requires within { end ≤ length present.old }
+    ensures size { length present.new ≡ length present.old }
+    ensures full { (i : ℕ) → first ≤ i → i < end → slice_index present.new i ≡ 255 }
+    ensures below { (i : ℕ) → i < first → slice_index present.new i ≡ slice_index present.old i }
+    ensures above { (i : ℕ) → end ≤ i → slice_index present.new i ≡ slice_index present.old i }
+{
+    present[first..end].fill(255);
+}
+
+/// Puts the next octets of an image's bitmap, from this one on: those that are 0, which stand there already, and after
+/// them either all that follow without a gap, or one. Returns the octet after them.
+fn put_octets(image: &Image, from: usize, present: &mut [u8]) -> usize
+    requires some { from < length present.old }
+    requires few { length present.old * 8 ≤ 2 ^ 32 }
+    requires zeros { (i : ℕ) → from ≤ i → slice_index present.old i ≡ 0 }
+    ensures after { from < result }
+    ensures within { result ≤ length present.old }
+    ensures size { length present.new ≡ length present.old }
+    ensures below { (i : ℕ) → i < from → slice_index present.new i ≡ slice_index present.old i }
+    ensures put { (i : ℕ) → from ≤ i → i < result → slice_index present.new i ≡ octet image.now (i * 8) }
+    ensures zeros { (i : ℕ) → result ≤ i → slice_index present.new i ≡ 0 }
+{
+    let first = match image.first_from(from as u32 * 8) {
+        Some(addr) => addr as usize / 8,
+        None => return present.len(),
+    };
+    if first >= present.len() {
+        return present.len();
+    }
+    let end = full_end(image, first).min(present.len());
+    if first < end {
+        fill_octets(present, first, end);
+        return end;
+    }
+    present[first] = octet(image, first as u32 * 8);
+    first + 1
+}
+
 /// Makes `present` the bitmap of an image.
 pub fn put_bitmap(image: &Image, present: &mut [u8])
     requires { length present.old * 8 ≤ 2 ^ 32 }
     ensures { present.new ≡ bitmap image.now (length present.old) }
 {
-    for k in 0..present.len() {
-        present[k] = octet(image, k as u32 * 8);
+    present.fill(0);
+    let mut next = 0;
+    while next < present.len() {
+        next = put_octets(image, next, present);
     }
 }
 
@@ -51,19 +103,4 @@ pub fn is_there(present: &[u8], addr: usize) -> bool
     ensures { result ≡ spec_is_there present.now addr }
 {
     (present[addr / 8] >> (addr % 8)) % 2 == 1
-}
-
-/// The image of the bytes that are there.
-pub fn image_of(alloc: Global, present: &[u8], bytes: &[u8]) -> Result<Image, ImageFault>
-    requires below { length bytes.now < 2 ^ 32 }
-    requires octets { length present.now ≡ octets_of (length bytes.now) }
-    ensures { (result ≡ Ok (spec_image_of present.now bytes.now)) ⊎ (result ≡ Err ImageFault.Memory) }
-{
-    let mut image = Image::new(alloc, bytes.len() as u32)?;
-    for addr in 0..bytes.len() {
-        if is_there(present, addr) {
-            image.put(addr as u32, bytes[addr])?;
-        }
-    }
-    Ok(image)
 }

@@ -2,6 +2,7 @@
 ghost use Rattle.std.specs.Prelude.{◌≡◌, ◌<◌, ◌≤◌, ◌↔◌, ◌++◌, length, IfSome, IsTrue};
 ghost use Rattle.avr_records_c.specs.Cursor.{cursor_of as spec_cursor_of, ended_of as spec_ended_of, kind_of_lines, lines_left};
 ghost use Rattle.avr_records_c.specs.Cursor.{lines_of as spec_lines_of, size_in_force as spec_size_of, HasSoundSize};
+ghost use Rattle.avr_records_c.specs.Writing.{image_text};
 
 use crate::memory::Memory;
 use arrayvec::ArrayVec;
@@ -74,6 +75,17 @@ pub(crate) fn lines_of(kind: Kind, cursor: &Cursor, memory: &Memory<'_>) -> Opti
             address_size: size_in_force(cursor.address_size, memory)?,
             ended,
         })),
+    }
+}
+
+/// Returns where the lines of a file stand at its beginning.
+pub(crate) fn first_lines(kind: Kind, memory: &Memory<'_>) -> Lines
+    ensures text { lines_left result memory.now ≡ image_text kind memory.now }
+    ensures sound { HasSoundSize result }
+{
+    match kind {
+        Kind::Ihex => Lines::Ihex(IhexCursor::new()),
+        Kind::Srec => Lines::Srec(SrecCursor::new(memory)),
     }
 }
 

@@ -1,8 +1,8 @@
 //! A memory as C has it, as the writers of record files walk over it.
-ghost use Rattle.std.specs.Prelude.{◌≡◌, ◌⊎◌, ◌+◌, ◌^◌, ◌<◌, ◌≤◌, length, take, drop, min};
+ghost use Rattle.std.specs.Prelude.{◌≡◌, ◌⊎◌, ◌+◌, ◌*◌, ◌^◌, ◌<◌, ◌≤◌, ℕ, false, length, take, drop, min};
 ghost use Rattle.avr_image.specs.Image.{first_from};
 ghost use Rattle.avr_image.specs.Runs.{lead};
-ghost use Rattle.avr_records_c.specs.Bitmap.{image_of, octets_of};
+ghost use Rattle.avr_records_c.specs.Bitmap.{image_of, is_there as spec_is_there, octets_of};
 
 use crate::bitmap::is_there;
 use avr_records::Sparse;
@@ -37,6 +37,21 @@ impl<'a> Memory<'a> {
     }
 }
 
+/// Returns how many addresses are passed over at one whose byte isn't there: all of an octet that is 0, else this one.
+fn gap_at(present: &[u8], addr: usize) -> usize
+    requires inside { addr < length present.now * 8 }
+    requires gap { spec_is_there present.now addr ≡ false }
+    ensures some { 0 < result }
+    ensures few { result ≤ 8 }
+    ensures gap { (k : ℕ) → addr ≤ k → k < addr + result → spec_is_there present.now k ≡ false }
+{
+    if addr % 8 == 0 && present[addr / 8] == 0 {
+        8
+    } else {
+        1
+    }
+}
+
 /// The least address from one on whose byte is there.
 fn next_there(present: &[u8], bytes: &[u8], addr: usize) -> Option<usize>
     requires { length present.now ≡ octets_of (length bytes.now) }
@@ -47,7 +62,7 @@ fn next_there(present: &[u8], bytes: &[u8], addr: usize) -> Option<usize>
         if is_there(present, at) {
             return Some(at);
         }
-        at += 1;
+        at += gap_at(present, at);
     }
     None
 }

@@ -1,19 +1,16 @@
 //! A record file written from the caller's memory.
-ghost use Rattle.std.specs.Prelude.{◌≡◌, ◌+◌, ◌-◌, ◌<◌, ◌≤◌, ◌^◌, ◌++◌, IfOk, IfSome, length, take, drop, min};
-ghost use Rattle.avr_records_c.specs.Bitmap.{image_of as spec_image_of, octets_of};
+ghost use Rattle.std.specs.Prelude.{◌≡◌, ◌+◌, ◌-◌, ◌<◌, ◌≤◌, ◌^◌, ◌++◌, length, take, drop, min};
 ghost use Rattle.avr_records_c.specs.Cursor.{kind_of_lines, lines_left, HasSoundSize};
-ghost use Rattle.avr_records_c.specs.Writing.{asked_write as spec_asked_write, image_text, Measures, PutsOn, Writes};
+ghost use Rattle.avr_records_c.specs.Writing.{asked_write as spec_asked_write, Measures, PutsOn, Writes};
 
-use crate::bitmap::{image_of, is_bitmap_of};
-use crate::cursor::{Cursor, Lines, cursor_of, lines_of, next_line};
+use crate::bitmap::is_bitmap_of;
+use crate::cursor::{Cursor, Lines, cursor_of, first_lines, lines_of, next_line};
 use crate::memory::Memory;
 use crate::numbers::kind_numbered;
 use crate::outcome::MISFIT;
 use crate::piece::Piece;
 use arrayvec::ArrayVec;
-use avr_image::{Image, Pieces};
-use avr_records::{IhexImageWriter, Kind, RecordFault, SrecImageWriter};
-use std::alloc::{AllocError, Global};
+use avr_records::Kind;
 
 /// The kind of file, where the arguments fit one another.
 fn asked_write(kind: u8, size: usize, present: usize) -> Option<Kind>
@@ -24,26 +21,6 @@ fn asked_write(kind: u8, size: usize, present: usize) -> Option<Kind>
     } else {
         None
     }
-}
-
-/// The record file of an image.
-fn image_text(alloc: Global, kind: Kind, image: &Image) -> Result<Vec<u8>, AllocError>
-    ensures { IfOk result (λ text. text.items ≡ image_text kind image.now) }
-{
-    match kind {
-        Kind::Ihex => IhexImageWriter::new(image).to_vec(alloc),
-        Kind::Srec => SrecImageWriter::new(image).to_vec(alloc),
-    }
-}
-
-/// The record file of the bytes that are there; none where memory is refused.
-fn text_of(alloc: Global, kind: Kind, present: &[u8], bytes: &[u8]) -> Option<Vec<u8>>
-    requires below { length bytes.now < 2 ^ 32 }
-    requires octets { length present.now ≡ octets_of (length bytes.now) }
-    ensures { IfSome result (λ text. text.items ≡ image_text kind (spec_image_of present.now bytes.now)) }
-{
-    let image = image_of(alloc, present, bytes).ok()?;
-    image_text(alloc, kind, &image).ok()
 }
 
 /// Puts a line, without its bytes that went out, after what stands in a room, as much as fits; how much that is.
@@ -86,21 +63,34 @@ fn put_left(lines: &mut Lines, gone: &mut u32, memory: &Memory<'_>, room: &mut [
     put
 }
 
-/// Tells how many bytes the record file of a memory has, so that a room for all of it can be had; each argument is as
-/// that of `avr_records_write`, and so are the faults, with which no length comes.
+/// Counts the bytes that lines have still to say of a memory.
+fn count_left(lines: Lines, memory: &Memory<'_>) -> usize
+    requires sound { HasSoundSize lines }
+    requires countable { length (lines_left lines memory.now) < 2 ^ 64 }
+    ensures { result ≡ length (lines_left lines memory.now) }
+{
+    let mut left = lines;
+    let mut line = ArrayVec::new();
+    let mut count = 0;
+    'lines: while next_line(&mut left, memory, &mut line) {
+        count += line.len();
+    }
+    count
+}
+
+/// Returns how many bytes the record file of a memory has, so that a room for all of it can be had. The arguments and
+/// the fault are those of `avr_records_write`; with the fault comes length 0. A call takes no memory.
 #[unsafe(no_mangle)]
-pub extern "C" fn avr_records_length(alloc: Global, kind: u8, bytes: &[u8], present: &[u8]) -> Piece
+pub extern "C" fn avr_records_length(kind: u8, bytes: &[u8], present: &[u8]) -> Piece
     ensures { Measures kind bytes.now present.now result }
 {
     let Some(kind) = asked_write(kind, bytes.len(), present.len()) else {
         return Piece::none(MISFIT);
     };
-    match text_of(alloc, kind, present, bytes) {
-        Some(text) => Piece {
-            length: text.len(),
-            fault: 0,
-        },
-        None => Piece::none(RecordFault::Memory.number()),
+    let memory = Memory::new(present, bytes);
+    Piece {
+        length: count_left(first_lines(kind, &memory), &memory),
+        fault: 0,
     }
 }
 
