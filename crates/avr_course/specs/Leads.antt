@@ -1,8 +1,7 @@
 -- What holds while a dialog goes along a line, and where it is done.
-use Rattle.std.specs.Prelude.{ℕ, ◌≡◌, ◌⊎◌, ◌++◌, List, [], ◌∷◌, length, Result, Ok, Err}
+use Rattle.std.specs.Prelude.{ℕ, ◌≡◌, ◌++◌, List, [], ◌∷◌, length, Ok, Err}
 use Rattle.avr_part.specs.Part.{Part}
 use Rattle.stk_frame.specs.declared.command.Command.{Command}
-use Rattle.stk_host.specs.declared.fault.HostFault.{HostFault}
 use Rattle.stk_host.specs.Dialog.{Dialog, Done}
 use Rattle.stk_host.specs.Steps.{StepOutcome}
 use Rattle.stk_host.specs.Talk.{sent}
@@ -35,22 +34,10 @@ AfterSteps part steps m before (Ok got) q =
     Settled part (struck_by part (length steps) steps m) q × (got ≡ before ++ all_given part steps m)
 AfterSteps part steps m before (Err fault) q = Reached part steps m q
 
--- after an operation on these steps that judges what they give
-abbrev pub AfterOperation : {A : Type 0} → Part → List (List Command) → Memories → (List ℕ → Result A HostFault)
-    → Result A HostFault → Programmer → Type 0
-AfterOperation part steps m judge result q =
-    (Settled part (struck_by part (length steps) steps m) q × (result ≡ judge (all_given part steps m)))
-    ⊎ ((fault : HostFault) × (result ≡ Err fault) × Reached part steps m q)
-
 -- after SIGN_ON, ENTER and the reading of the signature
 abbrev pub AfterBeginning : Part → Memories → StepOutcome → Programmer → Type 0
 AfterBeginning part m (Ok found) q = Settled part m q × (found ≡ part.signature)
 AfterBeginning part m (Err fault) q = Idle part m q
-
--- after the opening of a session: settled with these memories where a signature is answered
-abbrev pub AfterOpening : Part → Memories → Result (List ℕ) HostFault → Programmer → Type 0
-AfterOpening part m (Ok found) q = Settled part m q × (found ≡ part.signature)
-AfterOpening part m (Err fault) q = Idle part m q
 
 -- all turns to come are right
 abbrev pub AreGood : List Turn → Type 0

@@ -1,16 +1,14 @@
 -- What a comparison without a difference says, and which comparisons have none.
-use Rattle.std.proofs.Common.{◌≡◌, ℕ, zero, suc, ◌+◌, ◌<◌, List, [], ◌∷◌, length, get_or, replicate, refl, sym, ap, ◌∙◌, arith, inl, inr, Option, Some, None, unwrap_or, bit_and}
+use Rattle.std.proofs.Common.{◌≡◌, ℕ, zero, suc, ◌+◌, ◌<◌, List, [], ◌∷◌, get_or, refl, sym, ap, ◌∙◌, arith, inl, inr, Option, Some, None, unwrap_or, bit_and}
 use Rattle.std.proofs.lemmas.Bool.{cases_Bool, eqb-true, eq-eqb, cond-true, cond-false}
-use Rattle.std.proofs.lemmas.List.{length-replicate, get_or-replicate}
 use Rattle.std.proofs.Math.Nat.{mod-eq_of_lt}
 use Rattle.std.proofs.lemmas.Grind.{and_numeral}
 use Rattle.std.proofs.lemmas.Nat.{and_comm}
 use Rattle.std.specs.Prelude.{◌==◌}
-use Rattle.avr_image.specs.Image.{byte_at, or_blank}
 use Rattle.stk_host.specs.Operations.{Difference, difference_from}
-use Rattle.stk_emu.specs.Effect.{Image, with_image, and_in, and_with}
+use Rattle.stk_emu.specs.Effect.{Image, with_image}
 use Rattle.stk_emu.specs.Given.{Holds}
-use Rattle.stk_emu.proofs.Memories.LaidImages.{get_laid, length-laid, get_and_in}
+use Rattle.stk_emu.proofs.Memories.LaidImages.{get_laid, length-laid}
 
 none_some : (b : ℕ) → ◌≡◌ {A = Option ℕ} None (Some b) → ⊥
 none_some b e = cc

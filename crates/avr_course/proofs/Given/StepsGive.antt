@@ -15,14 +15,11 @@ use Rattle.stk_frame.specs.Decoding as decoding
 use Rattle.stk_frame.specs.HostCommands.{erase, program_page, program_eeprom_block, program_fuse, program_lock, read_flash_block, read_eeprom_block, read_fuse, read_lock, read_signature, read_calibration}
 use Rattle.stk_host.specs.Tape.{Answered}
 use Rattle.stk_host.specs.Places.{flash_address, load_flash, load_eeprom}
-use Rattle.stk_host.specs.Steps.{Data, answer_reply, reading_reply, step}
-use Rattle.stk_host.specs.Dialog.{Done}
+use Rattle.stk_host.specs.Steps.{Data, answer_reply, reading_reply}
 use Rattle.stk_host.proofs.ImagePlaces.PagesAndRuns.{page_most}
-use Rattle.stk_emu.specs.Turn.{Turn}
 use Rattle.stk_emu.specs.Programmer.{Programmer, obey_command, flash_looks, eeprom_looks}
 use Rattle.stk_emu.specs.Programmer as programmer
 use Rattle.stk_emu.specs.Device.{Device, device}
-use Rattle.stk_emu.specs.Along.{along}
 use Rattle.stk_emu.specs.Effect.{Memories, effect, effects, Item}
 use Rattle.stk_emu.specs.Settled.{Settled, Ready, FitsPart}
 use Rattle.stk_emu.specs.Strokes.{struck, stroke_of, IsStep, Erases, ProgramsPage, ProgramsRun, ProgramsFuse, ProgramsLock, ReadsFlash, ReadsEeprom, ReadsFuse, ReadsLock, ReadsSignature, ReadsCalibration, IsPage, FitsEepromPage, IsBlock, AreWords}
@@ -33,9 +30,8 @@ use Rattle.stk_emu.proofs.Memories.Runs.{narrow_loaded, program_test}
 use Rattle.stk_emu.proofs.Memories.BlocksRead.{Looked, flash_looked, eeprom_looked}
 use Rattle.avr_course.proofs.Given.ReadAnswers.{flash_block, eeprom_block}
 use Rattle.avr_course.proofs.Strokes.Steps.{address_fits}
-use Rattle.avr_course.proofs.Strokes.OutsideMode.{step_fits, in_mode_by_data, load_reply}
+use Rattle.avr_course.proofs.Strokes.OutsideMode.{in_mode_by_data, load_reply}
 use Rattle.avr_course.proofs.Strokes.Items.{effect_sizes, flash_even}
-use Rattle.avr_course.proofs.Hosts.AnyTurn.{step_along}
 
 module _ {P : Type 0} (m : Device P) where
   one_gathered : (c : Command) (p : P) (bytes : List ℕ) → reply_to m c p ≡ Data bytes

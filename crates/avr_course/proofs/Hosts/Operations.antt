@@ -1,19 +1,17 @@
 -- The operations of a host over any line, in the logic of dialogs: what holds during and after them.
-use Rattle.std.proofs.Common.{◌≡◌, ℕ, zero, suc, arith, List, [], ◌∷◌, ◌++◌, length, append_assoc, refl, sym, ap, ◌∙◌, subst, ◌⊎◌, inl, inr, Ok, Err, Result, Bool, true, false}
+use Rattle.std.proofs.Common.{◌≡◌, ℕ, zero, suc, arith, List, [], ◌∷◌, ◌++◌, length, append_assoc, refl, sym, ap, ◌∙◌, subst, ◌⊎◌, inl, inr, Ok, Err, Result}
 use Rattle.std.proofs.lemmas.List.{append-nil}
-use Rattle.std.specs.Prelude.{⊤, if◌then◌else◌}
-use Rattle.std.specs.Str.{bytes_eq}
+use Rattle.std.specs.Prelude.{⊤}
 use Rattle.avr_part.specs.Part.{Part, IsPart}
 use Rattle.stk_frame.specs.declared.command.Command.{Command}
 use Rattle.stk_frame.specs.declared.command.Command.TheVariants.{SignOn}
 use Rattle.stk_frame.specs.HostCommands.{enter, leave}
 use Rattle.stk_host.specs.declared.fault.HostFault.{HostFault}
-use Rattle.stk_host.specs.declared.fault.HostFault.TheVariants.{WrongSignature}
 use Rattle.stk_host.specs.declared.fault.StepFault.{StepFault}
 use Rattle.stk_host.specs.Dialog.{Dialog, Done, Say, Ask, ◌>>=◌, lifted}
 use Rattle.stk_host.specs.Steps.{StepOutcome, step, if_done, play}
 use Rattle.stk_host.specs.ReadSteps.{signature_steps}
-use Rattle.stk_host.specs.Operations.{host_fault, handshake, signature_judged, opening, without_bytes, closing, judged_by, operation}
+use Rattle.stk_host.specs.Operations.{host_fault, handshake, without_bytes, closing, judged_by, operation}
 use Rattle.stk_host.proofs.Dialogs.Logic.{OnOutcome, done, bind, told, wider, on_data}
 use Rattle.stk_emu.specs.Turn.{Turn, other_turns}
 use Rattle.stk_emu.specs.Programmer.{Programmer}
@@ -24,14 +22,14 @@ use Rattle.stk_emu.specs.Fits.{Fits}
 use Rattle.stk_emu.specs.Given.{given_by, all_given, Gives}
 use Rattle.stk_emu.specs.Settled.{Idle, Settled, FitsPart}
 use Rattle.stk_emu.specs.Strokes.{struck, struck_by, AreSteps, ReadsSignature}
-use Rattle.avr_course.specs.Leads.{Leads, Reached, AfterSteps, AfterOperation, AfterBeginning, AfterOpening}
+use Rattle.avr_course.specs.Leads.{Reached, AfterSteps, AfterBeginning}
 use Rattle.avr_course.proofs.Hosts.Attempts.{along_bind, onward}
-use Rattle.avr_course.proofs.Strokes.Steps.{sign_on_fits, enter_fits, leave_fits}
+use Rattle.avr_course.proofs.Strokes.Steps.{sign_on_fits, enter_fits}
 use Rattle.stk_emu.proofs.Answers.Commands.{settled_idle}
 use Rattle.avr_course.proofs.Given.WholeMemories.{one_by_one}
 use Rattle.avr_course.proofs.Strokes.OutsideMode.{step_fits}
 use Rattle.avr_course.proofs.Given.StepsGive.{gives_given, struck_sizes}
-use Rattle.avr_course.proofs.Hosts.AnyTurn.{any_turn, Keeps, leads, step_leads}
+use Rattle.avr_course.proofs.Hosts.AnyTurn.{any_turn, Keeps, step_leads}
 
 module _ (part : Part) (sound : IsPart part) where
   one_more : (commands : List Command) (steps : List (List Command)) (m : Memories) (q : Programmer)
@@ -143,13 +141,6 @@ closing_goes Stands fits p stands =
     left (Err fault) q i = (i, inr (fault, refl))
 
 -- ---- along a line
-
-module _ (part : Part) (sound : IsPart part) where
-      judged : (force : Bool) (o : StepOutcome) (q : Programmer) → AfterBeginning part m o q
-          → AfterOpening part m (signature_judged wanted force o) q
-      judged true (Ok found) q a = a
-      judged false (Ok found) q a = by_match (bytes_eq found wanted) found q a
-      judged force (Err fault) q a = a
 
 -- a dialog that says nothing beside the line, as a part of one that does
 abbrev raised : {E R P : Type 0} → LineState ⊥ R P → LineState E R P

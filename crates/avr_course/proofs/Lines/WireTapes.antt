@@ -3,19 +3,19 @@ use Rattle.std.proofs.Common.{◌≡◌, ◌≤◌, ℕ, zero, suc, List, [], �
 use Rattle.std.proofs.lemmas.List.Elements.{All-head, All-tail}
 use Rattle.stk_frame.specs.Frame.{frame}
 use Rattle.stk_host.specs.Tape.{Reading, answer}
-use Rattle.stk_host.specs.Dialog.{Dialog, Done, Say, Ask, Frame, Said, played, behind, by_answer, next, sayings, frames_in}
+use Rattle.stk_host.specs.Dialog.{Dialog, Done, Say, Ask, Frame, Said, played, behind, by_answer, next, frames_in}
 use Rattle.stk_host.proofs.Tapes.Answers.{answer_waits}
 use Rattle.stk_emu.specs.declared.fate.Fate.{Fate}
 use Rattle.stk_emu.specs.Device.{Device}
 use Rattle.stk_emu.specs.Wire.{first_fate, other_fates, turn_of, turns_of, becames_of, IsLawfulFate, AreLawful, Wire, wire_behind, wire_after, tape_of}
 use Rattle.stk_emu.specs.Lawful.{IsClear}
 use Rattle.stk_emu.specs.Turn.{Turn, Right, Wrong, became_in, after_became, after_turn, turn_reading}
-use Rattle.stk_emu.specs.Along.{along, said_along, AsksBodies, Fused}
+use Rattle.stk_emu.specs.Along.{along, AsksBodies, Fused}
 use Rattle.stk_emu.proofs.Answers.BodySizes.{AnswersBodies}
 use Rattle.stk_emu.proofs.Wires.Segments.{segment_read, segment_leaves, segment_late}
 use Rattle.avr_course.specs.AnyTape.{on_answer, AreHonest}
 use Rattle.avr_course.proofs.Lines.AnyTape.{turn_honest}
-use Rattle.avr_course.proofs.Lines.Plays.{played_along, said_played, done_played, head_is, tail_is, cons_none}
+use Rattle.avr_course.proofs.Lines.Plays.{played_along, done_played, head_is, tail_is, cons_none}
 
 pub turn_leaves : {P : Type 0} (turn : Turn) (obeyed kept : P) (reset : P → P)
     → after_turn turn obeyed kept reset ≡ after_became (became_in turn) obeyed kept reset

@@ -23,7 +23,7 @@ use Rattle.stk_emu.specs.Fits.{Fits}
 use Rattle.avr_course.specs.Climbs.{AllFit}
 use Rattle.stk_emu.specs.Strokes.{struck, struck_by, IsStep, Erases, ProgramsPage, ProgramsRun, ProgramsFuse, ProgramsLock, ReadsFlash, ReadsEeprom, ReadsFuse, ReadsLock, ReadsSignature, ReadsCalibration, AreSteps, IsPage, FitsEepromPage, IsBlock, AreWords}
 use Rattle.stk_emu.proofs.Memories.LaidImages.{laid_twice, and_in_twice, and_byte, laid_byte}
-use Rattle.stk_emu.proofs.Answers.Commands.{one_fits, steady, one_steady, two_steady, settled_idle, ready_settled, ready_idle, anew_idle, anew_settled, sign_on_keeps, sign_on_stays, enter_does, leave_keeps, load_keeps, fuse_does, lock_does, erase_does, fuse_read_after, lock_read_after, signature_read_after, calibration_read_after}
+use Rattle.stk_emu.proofs.Answers.Commands.{one_fits, steady, one_steady, two_steady, settled_idle, ready_settled, ready_idle, anew_idle, anew_settled, sign_on_keeps, enter_does, leave_keeps, load_keeps, fuse_does, lock_does, erase_does, fuse_read_after, lock_read_after, signature_read_after, calibration_read_after}
 use Rattle.stk_emu.proofs.Memories.Runs.{run_does}
 use Rattle.stk_emu.proofs.Memories.Pages.{page_does}
 use Rattle.avr_course.proofs.Given.ReadAnswers.{flash_read_keeps, eeprom_read_keeps}
