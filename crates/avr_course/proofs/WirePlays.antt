@@ -18,16 +18,16 @@ use Rattle.avr_session.specs.Stopping.{IsPlayed}
 use Rattle.stk_emu.specs.Along.{along, said_along, AsksBodies}
 use Rattle.stk_emu.specs.Device.{device}
 use Rattle.stk_emu.specs.Effect.{Memories, memories_of}
-use Rattle.stk_lines.specs.AnyTape.{AreHonest}
-use Rattle.stk_lines.specs.Few.{AreFew}
-use Rattle.stk_lines.specs.Leads.{Leads, GoesAlong}
+use Rattle.avr_course.specs.AnyTape.{AreHonest}
+use Rattle.avr_course.specs.Few.{AreFew}
+use Rattle.avr_course.specs.Leads.{Leads, GoesAlong}
 use Rattle.stk_emu.specs.Programmer.{Programmer, fresh_programmer}
 use Rattle.stk_emu.specs.Settled.{Idle, FitsPart}
 use Rattle.stk_emu.specs.Wire as line
 use Rattle.stk_emu.specs.Wire.{turns_of, becames_of}
 use Rattle.stk_emu.specs.Wired.{WiredState, Keeps, ComesOf, IsFresh, wired_view}
-use Rattle.stk_lines.proofs.Given.FirstSteps.{fresh_idle, fresh_fits}
-use Rattle.stk_lines.proofs.Lines.InTurn.{whole_along, whole_said, broken_along, honest_heard, shown_prefix}
+use Rattle.avr_course.proofs.Given.FirstSteps.{fresh_idle, fresh_fits}
+use Rattle.avr_course.proofs.Lines.InTurn.{whole_along, whole_said, broken_along, honest_heard, shown_prefix}
 use Rattle.avr_course.specs.Again.{AgreesAnyway}
 use Rattle.avr_course.specs.AnyLine.{weighed, bodies_in, memories, frames_over, Stopped, WereTrue, OverAnyLine}
 use Rattle.avr_course.specs.Bound.{run_steps}

@@ -9,7 +9,7 @@ use Rattle.avr_session.specs.Runs.{devices}
 use Rattle.avr_session.specs.Session.{session}
 use Rattle.stk_emu.specs.Device.{device}
 use Rattle.stk_emu.specs.Effect.{Memories, memories_of}
-use Rattle.stk_lines.specs.Few.{AreFew}
+use Rattle.avr_course.specs.Few.{AreFew}
 use Rattle.stk_emu.specs.Programmer.{fresh_programmer}
 use Rattle.stk_emu.specs.Wire.{turns_of}
 use Rattle.stk_emu.specs.Wired.{WiredState, wired_view}

@@ -1,3 +1,10 @@
+-- what a line does to a conversation with the emulated programmer, and what holds along it
+pub mod AnyTape
+pub mod NoFrame
+pub mod Climbs
+pub mod Leads
+pub mod Few
+pub mod Tallies
 -- what a run makes of a chip, does and says, over any line
 pub mod Items
 pub mod Bound
@@ -15,6 +22,8 @@ pub use Rattle.avr_desk.specs.Record
 pub use Rattle.avr_desk.specs.Said
 pub use Rattle.avr_image.specs.Image
 pub use Rattle.avr_part.specs.Part
+pub use Rattle.avr_part.specs.Sound
+pub use Rattle.avr_part.specs.State
 pub use Rattle.avr_plan.specs.Plan
 pub use Rattle.avr_session.specs.Actions
 pub use Rattle.avr_session.specs.Runs
@@ -23,13 +32,22 @@ pub use Rattle.avr_session.specs.Stopping
 pub use Rattle.stk_emu.specs.Along
 pub use Rattle.stk_emu.specs.Device
 pub use Rattle.stk_emu.specs.Effect
+pub use Rattle.stk_emu.specs.Fits
+pub use Rattle.stk_emu.specs.Given
+pub use Rattle.stk_emu.specs.Lawful
 pub use Rattle.stk_emu.specs.Programmer
 pub use Rattle.stk_emu.specs.Settled
+pub use Rattle.stk_emu.specs.Strokes
 pub use Rattle.stk_emu.specs.Turn
+pub use Rattle.stk_emu.specs.Wire
 pub use Rattle.stk_emu.specs.Wired
+pub use Rattle.stk_frame.specs.Cut
+pub use Rattle.stk_frame.specs.Frame
+pub use Rattle.stk_frame.specs.HostCommands
 pub use Rattle.stk_host.specs.Dialog
+pub use Rattle.stk_host.specs.Operations
+pub use Rattle.stk_host.specs.Play
+pub use Rattle.stk_host.specs.ReadSteps
+pub use Rattle.stk_host.specs.Steps
+pub use Rattle.stk_host.specs.Talk
 pub use Rattle.stk_host.specs.Tape
-pub use Rattle.stk_lines.specs.AnyTape
-pub use Rattle.stk_lines.specs.Few
-pub use Rattle.stk_lines.specs.Leads
-pub use Rattle.stk_lines.specs.Tallies

@@ -7,11 +7,11 @@ use Rattle.avr_session.specs.Actions.{Action, actions}
 use Rattle.avr_session.specs.Session.{phase}
 use Rattle.avr_session.specs.declared.standing.Standing.{Standing}
 use Rattle.avr_session.specs.declared.standing.Standing.TheVariants.{Fine}
-use Rattle.stk_lines.specs.Climbs.{steps_done}
+use Rattle.avr_course.specs.Climbs.{steps_done}
 use Rattle.stk_emu.specs.Device.{device}
 use Rattle.stk_emu.specs.Programmer.{Programmer}
 use Rattle.stk_emu.specs.Strokes.{all_steps}
-use Rattle.stk_lines.specs.Tallies.{Count, then_count}
+use Rattle.avr_course.specs.Tallies.{Count, then_count}
 use Rattle.avr_course.specs.Items.{action_items}
 
 abbrev pub none_made : Count Programmer

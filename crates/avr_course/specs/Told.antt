@@ -19,7 +19,7 @@ use Rattle.stk_host.specs.declared.fault.StepFault.{StepFault}
 use Rattle.stk_emu.specs.Device.{Device, after_frame}
 use Rattle.stk_emu.specs.Effect.{Image, Item, Erase, Write, Memories, effect, effects, memory_in}
 use Rattle.stk_emu.specs.Wire.{Wire, wire_behind}
-use Rattle.stk_lines.specs.AnyTape.{first_became, other_becames}
+use Rattle.avr_course.specs.AnyTape.{first_became, other_becames}
 use Rattle.stk_emu.specs.Turn.{Turn, Became, after_became, after_turn, turn_reading, first_turn, other_turns}
 use Rattle.avr_course.specs.Agrees.{Shows}
 use Rattle.avr_course.specs.Items.{items}

@@ -10,7 +10,7 @@ ghost use Rattle.stk_host.specs.Dialog.{Done};
 ghost use Rattle.stk_emu.specs.Along.{along, said_along};
 ghost use Rattle.stk_emu.specs.Device.{device};
 ghost use Rattle.stk_emu.specs.Effect.{Memories, memories_of};
-ghost use Rattle.stk_lines.specs.Few.{AreFew};
+ghost use Rattle.avr_course.specs.Few.{AreFew};
 ghost use Rattle.stk_emu.specs.Programmer.{Programmer};
 ghost use Rattle.stk_emu.specs.Settled.{Idle, FitsPart};
 ghost use Rattle.stk_emu.specs.Turn.{Turn};

@@ -11,6 +11,8 @@ mod again;
 mod any_line;
 // what it does over a line on which few frames go wrong
 mod few_bad_frames;
+// what becomes of a conversation over any line
+mod conversations;
 // what a plan writes, address by address
 mod written;
 
@@ -24,6 +26,12 @@ pub use any_line::{
     a_run_makes_its_strokes_in_order, a_run_sends_at_most_four_times_its_commands,
     a_session_says_its_course_up_to_a_fault, what_a_run_tells_is_true,
     what_is_told_over_any_line_is_true, what_was_told_was_true,
+};
+pub use conversations::{
+    a_conversation_goes_along_the_line, a_line_that_makes_no_frame_is_honest,
+    a_play_climbs_from_step_to_step, a_segment_is_read_whole, a_step_leads_to_its_stroke,
+    a_wire_is_an_honest_line, few_bad_fates_bring_all_data,
+    over_any_tape_a_conversation_goes_along_turns,
 };
 pub use few_bad_frames::a_run_with_few_bad_frames_has_its_course;
 pub use written::{

@@ -37,7 +37,7 @@ use Rattle.avr_course.specs.Items.{items, asked_items, has_erase}
 use Rattle.avr_course.specs.Outcome.{IsDone, MakesStrokes}
 use Rattle.avr_course.specs.Written.{IsWritten}
 use Rattle.stk_emu.specs.Effect.{memories_of}
-use Rattle.stk_lines.specs.Few.{AreFew}
+use Rattle.avr_course.specs.Few.{AreFew}
 use Rattle.stk_emu.specs.Lawful.{none_late}
 use Rattle.stk_emu.specs.Programmer.{Programmer, fresh_programmer}
 use Rattle.stk_emu.specs.Wire.{AreLawful}

@@ -45,9 +45,9 @@ pub use Rattle.stk_host.specs.Links
 pub use Rattle.stk_host.specs.Play
 pub use Rattle.stk_host.specs.Talk
 pub use Rattle.stk_host.specs.Tape
-pub use Rattle.stk_lines.specs.AnyTape
-pub use Rattle.stk_lines.specs.Few
-pub use Rattle.stk_lines.specs.NoFrame
+pub use Rattle.avr_course.specs.AnyTape
+pub use Rattle.avr_course.specs.Few
+pub use Rattle.avr_course.specs.NoFrame
 -- its own
 pub mod Ports
 pub mod ServedOn

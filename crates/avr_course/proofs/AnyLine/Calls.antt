@@ -9,9 +9,9 @@ use Rattle.stk_host.specs.Operations.{host_fault, judged_by, operation}
 use Rattle.stk_emu.specs.Turn.{Turn}
 use Rattle.stk_emu.specs.Device.{Device}
 use Rattle.stk_emu.specs.Along.{along}
-use Rattle.stk_lines.proofs.Hosts.Attempts.{along_bind, onward}
-use Rattle.stk_lines.proofs.Hosts.AnyTurn.{asks≢done, done_is}
-use Rattle.stk_lines.proofs.Hosts.Operations.{along_lifted, along_told}
+use Rattle.avr_course.proofs.Hosts.Attempts.{along_bind, onward}
+use Rattle.avr_course.proofs.Hosts.AnyTurn.{asks≢done, done_is}
+use Rattle.avr_course.proofs.Hosts.Operations.{along_lifted, along_told}
 use Rattle.avr_session.specs.declared.standing.Standing.{Standing}
 use Rattle.avr_session.specs.declared.standing.Standing.TheVariants.{Fine}
 use Rattle.avr_session.specs.Session.{says, standing, reported}

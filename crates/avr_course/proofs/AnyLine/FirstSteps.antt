@@ -10,9 +10,9 @@ use Rattle.stk_emu.specs.Programmer.{Programmer}
 use Rattle.stk_emu.specs.Effect.{Memories, Item, effect, effects}
 use Rattle.stk_emu.specs.Settled.{Idle, FitsPart}
 use Rattle.stk_emu.specs.Strokes.{struck, struck_by, stroke_of, steps_of, all_steps, AllFitItems}
-use Rattle.stk_lines.specs.Leads.{Reached}
+use Rattle.avr_course.specs.Leads.{Reached}
 use Rattle.stk_emu.proofs.Answers.Commands.{settled_idle}
-use Rattle.stk_lines.proofs.Strokes.Items.{items_do, struck_all, effect_sizes}
+use Rattle.avr_course.proofs.Strokes.Items.{items_do, struck_all, effect_sizes}
 
 -- the memories of the first so many of these steps, in any mode
 pub record Rests (part : Part) (steps : List (List Command)) (m : Memories) (q : Programmer) : Type 0 where

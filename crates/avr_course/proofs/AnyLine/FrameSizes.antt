@@ -14,8 +14,8 @@ use Rattle.stk_host.specs.WriteSteps.{write_steps}
 use Rattle.stk_emu.specs.Along.{AsksBodies}
 use Rattle.stk_emu.specs.Effect.{Erase}
 use Rattle.stk_emu.specs.Lawful.{IsBody}
-use Rattle.stk_lines.proofs.Hosts.FrameSizes.{AreSendable, EachSendable, all_sendable}
-use Rattle.stk_lines.proofs.Strokes.Items.{write_are_steps, read_are_steps, item_are_steps}
+use Rattle.avr_course.proofs.Hosts.FrameSizes.{AreSendable, EachSendable, all_sendable}
+use Rattle.avr_course.proofs.Strokes.Items.{write_are_steps, read_are_steps, item_are_steps}
 use Rattle.avr_session.specs.Actions.{Action, OpenSession, EraseChip, WriteImage, CompareImage, SaveMemory, LeaveOut}
 use Rattle.avr_session.specs.Session.{session}
 use Rattle.avr_course.specs.AnyLine.{Weight, weighed, bodies_in}

@@ -20,18 +20,18 @@ use Rattle.stk_emu.specs.Effect.{Memories, Image, Item, Erase, Write, effects, m
 use Rattle.stk_emu.specs.Settled.{Idle, Settled, FitsPart}
 use Rattle.stk_emu.specs.Strokes.{struck_by, steps_of, all_steps, AreSteps, AllFitItems}
 use Rattle.stk_emu.specs.Given.{all_given}
-use Rattle.stk_lines.specs.Leads.{Leads, Reached, AfterBeginning}
+use Rattle.avr_course.specs.Leads.{Leads, Reached, AfterBeginning}
 use Rattle.stk_emu.specs.Turn.{Turn}
-use Rattle.stk_lines.proofs.Hosts.AnyTurn.{any_turn, Keeps, leads}
+use Rattle.avr_course.proofs.Hosts.AnyTurn.{any_turn, Keeps, leads}
 use Rattle.stk_host.proofs.Dialogs.Logic.{Upholds, done, say, bind, told, wider, call}
 use Rattle.stk_host.specs.Steps.{StepOutcome}
 use Rattle.stk_host.specs.declared.fault.StepFault.{StepFault}
 use Rattle.stk_emu.proofs.Answers.Commands.{settled_idle}
-use Rattle.stk_lines.proofs.Strokes.Pages.{effects_on}
-use Rattle.stk_lines.proofs.Strokes.Items.{write_are_steps, read_are_steps, item_are_steps}
-use Rattle.stk_lines.proofs.Given.WholeMemories.{read_gives}
-use Rattle.stk_lines.proofs.Given.Comparisons.{no_difference}
-use Rattle.stk_lines.proofs.Hosts.Operations.{AfterCall, operation_goes, beginning_goes}
+use Rattle.avr_course.proofs.Strokes.Pages.{effects_on}
+use Rattle.avr_course.proofs.Strokes.Items.{write_are_steps, read_are_steps, item_are_steps}
+use Rattle.avr_course.proofs.Given.WholeMemories.{read_gives}
+use Rattle.avr_course.proofs.Given.Comparisons.{no_difference}
+use Rattle.avr_course.proofs.Hosts.Operations.{AfterCall, operation_goes, beginning_goes}
 use Rattle.avr_session.specs.declared.standing.Standing.{Standing}
 use Rattle.avr_session.specs.declared.standing.Standing.TheVariants.{Fine, Faulty, Over}
 use Rattle.avr_session.specs.Actions.{Action, OpenSession, EraseChip, WriteImage, CompareImage, SaveMemory, LeaveOut}

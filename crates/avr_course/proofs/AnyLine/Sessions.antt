@@ -12,11 +12,11 @@ use Rattle.stk_emu.specs.Effect.{Memories, Item, effects, memories_of}
 use Rattle.stk_emu.specs.Settled.{Idle, FitsPart}
 use Rattle.stk_emu.specs.Strokes.{struck_by, all_steps, AllFitItems}
 use Rattle.stk_emu.proofs.Answers.Commands.{settled_idle}
-use Rattle.stk_lines.proofs.Strokes.StepCounts.{items_counted}
-use Rattle.stk_lines.proofs.Hosts.Operations.{IsClosed, closing_goes}
+use Rattle.avr_course.proofs.Strokes.StepCounts.{items_counted}
+use Rattle.avr_course.proofs.Hosts.Operations.{IsClosed, closing_goes}
 use Rattle.stk_host.proofs.Dialogs.Logic.{HoldsFrom, done, bind, told, wider}
-use Rattle.stk_lines.proofs.Hosts.AnyTurn.{any_turn}
-use Rattle.stk_lines.proofs.Strokes.Steps.{leave_fits}
+use Rattle.avr_course.proofs.Hosts.AnyTurn.{any_turn}
+use Rattle.avr_course.proofs.Strokes.Steps.{leave_fits}
 use Rattle.avr_course.specs.Told.{TellsTrue}
 use Rattle.stk_emu.specs.Device.{Device}
 use Rattle.avr_session.specs.declared.standing.Standing.{Standing}

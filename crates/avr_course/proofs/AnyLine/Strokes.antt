@@ -13,17 +13,17 @@ use Rattle.stk_emu.specs.Turn.{Turn}
 use Rattle.stk_emu.specs.Programmer.{Programmer}
 use Rattle.stk_emu.specs.Device.{device}
 use Rattle.stk_emu.specs.Along.{along}
-use Rattle.stk_lines.specs.Climbs.{step_count, steps_done}
+use Rattle.avr_course.specs.Climbs.{step_count, steps_done}
 use Rattle.stk_emu.specs.Effect.{Memories, Item, effects}
 use Rattle.stk_emu.specs.Settled.{Idle, Settled, FitsPart}
 use Rattle.stk_emu.specs.Strokes.{struck, struck_by, all_steps, AreSteps, AllFitItems}
-use Rattle.stk_lines.specs.Leads.{Leads}
-use Rattle.stk_lines.specs.Tallies.{Count, with_next, then_count, Tallies, GoesOn}
-use Rattle.stk_lines.proofs.Hosts.Attempts.{along_bind, onward}
-use Rattle.stk_lines.proofs.Hosts.AnyTurn.{asks≢done, done_is}
-use Rattle.stk_lines.proofs.Strokes.Conditions.{along_before}
+use Rattle.avr_course.specs.Leads.{Leads}
+use Rattle.avr_course.specs.Tallies.{Count, with_next, then_count, Tallies, GoesOn}
+use Rattle.avr_course.proofs.Hosts.Attempts.{along_bind, onward}
+use Rattle.avr_course.proofs.Hosts.AnyTurn.{asks≢done, done_is}
+use Rattle.avr_course.proofs.Strokes.Conditions.{along_before}
 use Rattle.stk_emu.proofs.Answers.Commands.{settled_idle}
-use Rattle.stk_lines.proofs.Strokes.Counts.{tallies_wider, tallies_bind, steps_all, tallies_play, none_left}
+use Rattle.avr_course.proofs.Strokes.Counts.{tallies_wider, tallies_bind, steps_all, tallies_play, none_left}
 use Rattle.avr_session.specs.declared.standing.Standing.{Standing}
 use Rattle.avr_session.specs.declared.standing.Standing.TheVariants.{Fine, Faulty, Over}
 use Rattle.avr_session.specs.Session.{reported, unless_fault}

@@ -17,8 +17,8 @@ use Rattle.stk_host.specs.Tape.{Tape, Reading, on_tape, bytes_in, answer, read_t
 use Rattle.stk_host.specs.declared.link.Item.TheVariants.{Byte, Silence, End}
 use Rattle.stk_host.proofs.Dialogs.Questions.{sends_most}
 use Rattle.stk_emu.specs.Along.{AsksBodies}
-use Rattle.stk_lines.proofs.Lines.InTurn.{sends_whole, frames_sent, due_at}
-use Rattle.stk_lines.proofs.Given.LaterAnswers.{used_within}
+use Rattle.avr_course.proofs.Lines.InTurn.{sends_whole, frames_sent, due_at}
+use Rattle.avr_course.proofs.Given.LaterAnswers.{used_within}
 use Rattle.avr_course.specs.Bound.{run_steps, silences, bytes_on, ListensAtMost}
 use Rattle.avr_course.proofs.AnyLine.FrameSizes.{session_asks}
 use Rattle.avr_course.proofs.Bounds.Questions.{session_most}

@@ -8,7 +8,7 @@ use Rattle.stk_host.specs.Tape.{Tape, Reading, answer}
 use Rattle.stk_host.specs.Dialog.{Dialog, Done, Say, Ask, Played, played, by_answer, next, bytes_sent, frames_in}
 use Rattle.stk_host.specs.Play.{IsPrefixOf}
 use Rattle.stk_emu.specs.Along.{AsksBodies}
-use Rattle.stk_lines.proofs.Lines.InTurn.{sends_whole, frames_prefix}
+use Rattle.avr_course.proofs.Lines.InTurn.{sends_whole, frames_prefix}
 use Rattle.avr_course.specs.AnyLine.{Weight, weighed}
 use Rattle.avr_course.proofs.Bounds.Weights.{WeighsAtMost, weighed_append}
 

@@ -28,12 +28,12 @@ use Rattle.stk_emu.specs.Settled.{Idle, Ready, FitsPart}
 use Rattle.stk_emu.specs.Fits.{Fits}
 use Rattle.stk_emu.specs.Strokes.{AreSteps, struck_by}
 use Rattle.stk_emu.specs.Given.{joined_reply, all_given}
-use Rattle.stk_lines.specs.Few.{AreFew}
-use Rattle.stk_lines.proofs.Given.FewBadTurns.{others_few, step_steady, play_few, play_ready}
-use Rattle.stk_lines.proofs.Strokes.Items.{struck_all, item_does, item_are_steps, read_are_steps, effect_sizes}
+use Rattle.avr_course.specs.Few.{AreFew}
+use Rattle.avr_course.proofs.Given.FewBadTurns.{others_few, step_steady, play_few, play_ready}
+use Rattle.avr_course.proofs.Strokes.Items.{struck_all, item_does, item_are_steps, read_are_steps, effect_sizes}
 use Rattle.stk_emu.proofs.Answers.Commands.{steady, ready_idle}
-use Rattle.stk_lines.proofs.Given.WholeMemories.{read_gives}
-use Rattle.stk_lines.proofs.Strokes.Steps.{sign_on_steady, enter_ready, leave_steady}
+use Rattle.avr_course.proofs.Given.WholeMemories.{read_gives}
+use Rattle.avr_course.proofs.Strokes.Steps.{sign_on_steady, enter_ready, leave_steady}
 use Rattle.avr_course.proofs.AnyLine.FirstSteps.{quiet_stays, read_quiet}
 use Rattle.avr_course.proofs.FewBad.DialogEnds.{Ends, nothing_said, ends_done, ends_wider, ends_bind}
 use Rattle.avr_course.proofs.FewBad.Course.{Calls}

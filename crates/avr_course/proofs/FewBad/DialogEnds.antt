@@ -7,11 +7,11 @@ use Rattle.stk_emu.specs.Programmer.{Programmer}
 use Rattle.stk_emu.specs.Device.{device}
 use Rattle.stk_emu.specs.Along as line
 use Rattle.stk_emu.specs.Along.{along, said_along}
-use Rattle.stk_lines.proofs.Hosts.Attempts.{along_bind, onward, onwards}
-use Rattle.stk_lines.proofs.Hosts.AnyTurn.{asks≢done, done_is}
-use Rattle.stk_lines.proofs.Given.FewBadTurns.{turns_along}
-use Rattle.stk_lines.proofs.Hosts.Operations.{along_lifted}
-use Rattle.stk_lines.proofs.Lines.Sayings.{said_on, said_bind, said_lifted}
+use Rattle.avr_course.proofs.Hosts.Attempts.{along_bind, onward, onwards}
+use Rattle.avr_course.proofs.Hosts.AnyTurn.{asks≢done, done_is}
+use Rattle.avr_course.proofs.Given.FewBadTurns.{turns_along}
+use Rattle.avr_course.proofs.Hosts.Operations.{along_lifted}
+use Rattle.avr_course.proofs.Lines.Sayings.{said_on, said_bind, said_lifted}
 use Rattle.avr_session.specs.Session.{says}
 use Rattle.avr_course.proofs.AnyLine.Calls.{says≢done}
 

@@ -11,8 +11,8 @@ use Rattle.stk_emu.specs.Device.{device}
 use Rattle.stk_emu.specs.Programmer.{Programmer}
 use Rattle.stk_emu.specs.Effect.{Memories, memories_of}
 use Rattle.stk_emu.specs.Settled.{Idle, FitsPart}
-use Rattle.stk_lines.specs.Few.{AreFew}
-use Rattle.stk_lines.proofs.Given.FewBadTurns.{others_few, done_within}
+use Rattle.avr_course.specs.Few.{AreFew}
+use Rattle.avr_course.proofs.Given.FewBadTurns.{others_few, done_within}
 use Rattle.avr_session.specs.Session.{session}
 use Rattle.avr_course.specs.Bound.{run_steps}
 use Rattle.avr_course.specs.Course.{course}

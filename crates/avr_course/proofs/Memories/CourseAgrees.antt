@@ -11,8 +11,8 @@ use Rattle.avr_session.specs.Actions.{Action, OpenSession, EraseChip, WriteImage
 use Rattle.avr_session.specs.Session.{standing, status_of}
 use Rattle.stk_host.specs.Operations.{Difference, difference_from, differs}
 use Rattle.stk_emu.specs.Effect.{Memories, effects, memory_in}
-use Rattle.stk_lines.proofs.Given.Comparisons.{no_difference, held_same}
-use Rattle.stk_lines.proofs.Strokes.Pages.{effects_on}
+use Rattle.avr_course.proofs.Given.Comparisons.{no_difference, held_same}
+use Rattle.avr_course.proofs.Strokes.Pages.{effects_on}
 use Rattle.avr_course.specs.Agrees.{ActionAgrees, ActionsAgree, Agrees}
 use Rattle.avr_course.specs.Course.{Course, then_from, ◌then◌, action_course, actions_course, working_course, course}
 use Rattle.avr_course.specs.Items.{action_items, actions_items, items}

@@ -14,7 +14,7 @@ use Rattle.avr_plan.specs.declared.planned.Task.TheVariants as task
 use Rattle.avr_session.specs.Actions.{writes_flash, tasks_actions, TheErase, EraseChip, LeaveOut}
 use Rattle.stk_emu.specs.Effect.{Image, Memories, Item, Erase, erase_keeps_eeprom, effect, effects}
 use Rattle.stk_emu.specs.Settled.{FitsPart}
-use Rattle.stk_lines.proofs.Strokes.Pages.{effects_on}
+use Rattle.avr_course.proofs.Strokes.Pages.{effects_on}
 use Rattle.avr_course.specs.Agrees.{Shows, ActionsAgree}
 use Rattle.avr_course.specs.Course.{course}
 use Rattle.avr_course.specs.Items.{actions_items, items, asked_items, has_erase}

@@ -9,9 +9,9 @@ use Rattle.avr_part.specs.declared.part.Mem.{Mem}
 use Rattle.avr_part.specs.declared.part.Mem.TheVariants.{Flash, Eeprom, Lfuse, Hfuse, Efuse, Lock, Signature, Calibration}
 use Rattle.stk_emu.specs.Effect.{Image, Item, Erase, Write, Memories, with_image, and_in, and_with, are_locked, effect, effects, write_effect, memory_in}
 use Rattle.stk_emu.specs.Given.{Holds}
-use Rattle.stk_lines.proofs.Given.Comparisons.{and_from_blank, laid_holds}
+use Rattle.avr_course.proofs.Given.Comparisons.{and_from_blank, laid_holds}
 use Rattle.stk_emu.proofs.Memories.LaidImages.{length-and_in, get_and_in}
-use Rattle.stk_lines.proofs.Strokes.Pages.{effects_on}
+use Rattle.avr_course.proofs.Strokes.Pages.{effects_on}
 use Rattle.avr_course.specs.Agrees.{Shows}
 use Rattle.avr_course.specs.Items.{has_erase}
 use Rattle.avr_course.specs.Written.{memory_number, LeaveFree, IsErasedFor, IsTaken}

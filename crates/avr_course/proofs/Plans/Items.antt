@@ -10,7 +10,7 @@ use Rattle.avr_plan.specs.declared.planned.Task.{Task}
 use Rattle.avr_plan.specs.declared.planned.Task.TheVariants as task
 use Rattle.avr_session.specs.Actions.{TheErase, TheWrite, Action, EraseChip, WriteImage, CompareImage, LeaveOut, is_erase_due, erase_actions, tasks_actions}
 use Rattle.stk_emu.specs.Effect.{Image, Memories, Item, Erase, Write, effects}
-use Rattle.stk_lines.proofs.Strokes.Pages.{effects_on}
+use Rattle.avr_course.proofs.Strokes.Pages.{effects_on}
 use Rattle.avr_course.specs.Agrees.{ActionsAgree, Agrees}
 use Rattle.avr_course.specs.Items.{action_items, actions_items, items, has_erase, task_item, asked_items}
 

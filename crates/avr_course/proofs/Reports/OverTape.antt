@@ -7,8 +7,8 @@ use Rattle.stk_emu.specs.Device.{Device}
 use Rattle.stk_emu.specs.Lawful.{IsBody}
 use Rattle.stk_emu.specs.Along.{AsksBodies}
 use Rattle.stk_emu.specs.Turn.{Turn, Became, after_became, after_turn, IsHonest}
-use Rattle.stk_lines.specs.AnyTape.{first_became, other_becames, on_answer, AreHonest, turn_by}
-use Rattle.stk_lines.proofs.Lines.AnyTape.{honest_turn, obeyed_frame}
+use Rattle.avr_course.specs.AnyTape.{first_became, other_becames, on_answer, AreHonest, turn_by}
+use Rattle.avr_course.proofs.Lines.AnyTape.{honest_turn, obeyed_frame}
 use Rattle.avr_course.specs.Told.{TellsTrue, SaidTrueBy}
 
 module _ {P : Type 0} (m : Device P) where

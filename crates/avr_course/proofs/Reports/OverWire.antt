@@ -3,7 +3,7 @@ use Rattle.std.proofs.Common.{List, [], ◌∷◌, ◌++◌, length, sym, subst}
 use Rattle.stk_host.specs.Dialog.{Event, Frame, Said, frames_in}
 use Rattle.stk_emu.specs.Device.{Device, after_frame}
 use Rattle.stk_emu.specs.Wire.{first_fate, other_fates, turn_of, becames_of, Wire, wire_behind}
-use Rattle.stk_lines.proofs.Lines.WireTapes.{turn_leaves}
+use Rattle.avr_course.proofs.Lines.WireTapes.{turn_leaves}
 use Rattle.avr_course.specs.Told.{SaidTrue, SaidTrueBy}
 
 module _ {E P : Type 0} (m : Device P) (T : P → E → Type 0) where

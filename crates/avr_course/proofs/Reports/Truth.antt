@@ -24,16 +24,16 @@ use Rattle.stk_host.specs.declared.fault.StepFault.TheVariants as of_step
 use Rattle.stk_emu.specs.Turn.{Turn}
 use Rattle.stk_emu.specs.Device.{device}
 use Rattle.stk_emu.specs.Effect.{Memories, Image, Item, Erase, Write, effect, effects, memories_of, memory_in}
-use Rattle.stk_lines.specs.Leads.{Leads}
+use Rattle.avr_course.specs.Leads.{Leads}
 use Rattle.stk_emu.specs.Programmer.{Programmer}
 use Rattle.stk_emu.specs.Settled.{Idle, Settled, FitsPart}
-use Rattle.stk_lines.proofs.Given.Comparisons.{no_difference}
-use Rattle.stk_lines.proofs.Hosts.AnyTurn.{leads}
-use Rattle.stk_lines.proofs.Strokes.Pages.{effects_on}
+use Rattle.avr_course.proofs.Given.Comparisons.{no_difference}
+use Rattle.avr_course.proofs.Hosts.AnyTurn.{leads}
+use Rattle.avr_course.proofs.Strokes.Pages.{effects_on}
 use Rattle.avr_course.specs.Items.{action_items, actions_items, items}
 use Rattle.avr_course.specs.Told.{TellsTrue, count_line, kept_in, IsTrue, SignatureRead, ChipErased, BytesWritten, BytesVerified, Differed, BytesSaved, BytesRead, EraseLeftOut, WriteLeftOut, StepFailed, SessionDone}
 use Rattle.avr_course.proofs.AnyLine.Phases.{AllTrue, PhaseTrue, PhasesTrue, none_differs}
-use Rattle.stk_lines.proofs.Hosts.Operations.{IsClosed}
+use Rattle.avr_course.proofs.Hosts.Operations.{IsClosed}
 use Rattle.avr_course.proofs.AnyLine.Sessions.{Left, session_goes, true_along}
 use Rattle.avr_course.specs.Outcome.{IsTouched, IsDone}
 use Rattle.avr_course.proofs.FewBad.Calls.{bytes_same}

@@ -26,7 +26,7 @@ use Rattle.stk_host.specs.declared.fault.HostFault.TheVariants.{ReadOnly}
 use Rattle.stk_host.specs.declared.fault.StepFault.{StepFault}
 use Rattle.stk_host.specs.declared.fault.StepFault.TheVariants as of_step
 use Rattle.stk_emu.specs.Turn.{Turn, Became}
-use Rattle.stk_lines.specs.AnyTape.{AreHonest, GoesAs, turns_heard}
+use Rattle.avr_course.specs.AnyTape.{AreHonest, GoesAs, turns_heard}
 use Rattle.stk_emu.specs.Along.{along, said_along}
 use Rattle.stk_emu.specs.Device.{device}
 use Rattle.stk_emu.specs.Effect as item
@@ -36,17 +36,17 @@ use Rattle.stk_emu.specs.Fits.{Fits}
 use Rattle.stk_emu.specs.Programmer.{Programmer}
 use Rattle.stk_emu.specs.Settled.{Idle, Settled, FitsPart}
 use Rattle.stk_emu.proofs.Answers.Commands.{settled_idle}
-use Rattle.stk_lines.proofs.Strokes.Steps.{leave_fits}
+use Rattle.avr_course.proofs.Strokes.Steps.{leave_fits}
 use Rattle.avr_course.proofs.FewBad.DialogEnds.{Came}
 use Rattle.stk_emu.specs.Strokes.{struck_by, AreSteps}
-use Rattle.stk_lines.proofs.Lines.AnyTape.{goes_as}
-use Rattle.stk_lines.proofs.Hosts.Attempts.{along_bind, onward}
-use Rattle.stk_lines.proofs.Hosts.AnyTurn.{asks≢done, Keeps, leads_to, done_is}
+use Rattle.avr_course.proofs.Lines.AnyTape.{goes_as}
+use Rattle.avr_course.proofs.Hosts.Attempts.{along_bind, onward}
+use Rattle.avr_course.proofs.Hosts.AnyTurn.{asks≢done, Keeps, leads_to, done_is}
 use Rattle.stk_host.proofs.Dialogs.Logic.{call}
-use Rattle.stk_lines.proofs.Strokes.Items.{struck_all, item_does, item_are_steps, read_are_steps, effect_sizes}
-use Rattle.stk_lines.proofs.Hosts.Operations.{AfterCall, operation_goes, IsClosed, closing_goes}
-use Rattle.stk_lines.proofs.Given.WholeMemories.{read_gives}
-use Rattle.stk_lines.proofs.Lines.Sayings.{said_on, said_bind, said_lifted}
+use Rattle.avr_course.proofs.Strokes.Items.{struck_all, item_does, item_are_steps, read_are_steps, effect_sizes}
+use Rattle.avr_course.proofs.Hosts.Operations.{AfterCall, operation_goes, IsClosed, closing_goes}
+use Rattle.avr_course.proofs.Given.WholeMemories.{read_gives}
+use Rattle.avr_course.proofs.Lines.Sayings.{said_on, said_bind, said_lifted}
 use Rattle.avr_course.specs.Course.{Course, then_from, ◌then◌, action_course, actions_course, working_course, ending_says, course}
 use Rattle.avr_course.specs.Foretold.{SaysFirst, SaysFault, IsForetold, EndsAsForetold}
 use Rattle.avr_course.proofs.AnyLine.FrameSizes.{session_asks}

@@ -16,8 +16,8 @@ use Rattle.stk_host.specs.WriteSteps.{is_used, page_step, page_steps, begins_run
 use Rattle.stk_emu.specs.Effect.{Image, Memories, Item, Erase, Write, are_locked, erase_keeps_eeprom, effect, effects}
 use Rattle.stk_emu.specs.Settled.{FitsPart}
 use Rattle.stk_emu.specs.Strokes.{strokes_of, all_steps, AllFitItems}
-use Rattle.stk_lines.proofs.Strokes.Items.{items_do, effect_sizes}
-use Rattle.stk_lines.proofs.Strokes.Pages.{strokes_on}
+use Rattle.avr_course.proofs.Strokes.Items.{items_do, effect_sizes}
+use Rattle.avr_course.proofs.Strokes.Pages.{strokes_on}
 use Rattle.avr_course.specs.Again.{is_keeping, AreKeeping}
 use Rattle.avr_course.specs.Items.{items, has_erase}
 use Rattle.avr_course.specs.Outcome.{strokes}

@@ -11,7 +11,7 @@ use Rattle.avr_part.specs.declared.part.Mem.TheVariants.{Flash, Eeprom, Lfuse, H
 use Rattle.stk_emu.specs.Effect.{Image, Memories, Item, Erase, Write, with_image, and_in, and_with, erase_keeps_eeprom, effect, effects}
 use Rattle.avr_course.specs.Items.{has_erase}
 use Rattle.stk_emu.proofs.Memories.LaidImages.{length-laid, length-and_in, laid_twice, laid_byte}
-use Rattle.stk_lines.proofs.Strokes.Pages.{effects_on}
+use Rattle.avr_course.proofs.Strokes.Pages.{effects_on}
 
 -- ---- two images are one
 

@@ -10,7 +10,7 @@ use Rattle.avr_part.specs.Part.{Part}
 use Rattle.avr_part.specs.declared.part.Mem.TheVariants.{Flash, Eeprom, Lfuse, Hfuse, Efuse, Lock, Signature, Calibration}
 use Rattle.stk_emu.specs.Effect.{Image, Memories, Item, Erase, Write, with_image, and_in, and_with, are_locked, effect, effects}
 use Rattle.stk_emu.proofs.Memories.LaidImages.{laid_twice, laid_byte, and_byte, and_in_twice}
-use Rattle.stk_lines.proofs.Strokes.Pages.{effects_on}
+use Rattle.avr_course.proofs.Strokes.Pages.{effects_on}
 use Rattle.avr_course.specs.Items.{has_erase}
 use Rattle.avr_course.proofs.SecondRun.NetWrites.{joined, joined_byte, laid_none, laid_joined, six, writes_of, split}
 

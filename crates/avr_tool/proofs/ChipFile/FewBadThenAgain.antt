@@ -12,7 +12,7 @@ use Rattle.avr_session.proofs.Runs.SoundDevices.{broke_lacks}
 use Rattle.stk_host.specs.Dialog.{Event}
 use Rattle.stk_emu.specs.Wire.{turns_of}
 use Rattle.stk_emu.specs.Effect.{Memories, erase_keeps_eeprom, memories_of}
-use Rattle.stk_lines.specs.Few.{AreFew}
+use Rattle.avr_course.specs.Few.{AreFew}
 use Rattle.stk_emu.specs.Programmer.{Programmer}
 use Rattle.stk_emu.specs.Settled.{FitsPart}
 use Rattle.stk_emu.specs.Turn.{Turn}

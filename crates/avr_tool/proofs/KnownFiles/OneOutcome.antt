@@ -10,7 +10,7 @@ use Rattle.avr_desk.specs.declared.record.Opening.{Opening}
 use Rattle.avr_plan.specs.Plan.{Plan}
 use Rattle.avr_plan.specs.Planning.{planned}
 use Rattle.avr_session.specs.Session.{session}
-use Rattle.stk_lines.proofs.Given.LaterAnswers.{answer_extends}
+use Rattle.avr_course.proofs.Given.LaterAnswers.{answer_extends}
 use Rattle.stk_frame.specs.Frame.{frame}
 use Rattle.stk_host.specs.Dialog.{Dialog, Done, Say, Ask, Event, Frame, Said, played, behind, by_answer, next, bytes_sent, sayings}
 use Rattle.stk_host.specs.Tape.{Tape, Reading, answer}

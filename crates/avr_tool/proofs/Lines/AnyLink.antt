@@ -16,18 +16,18 @@ use Rattle.stk_host.specs.Play.{IsPrefixOf}
 use Rattle.stk_host.specs.Talk.{Talk, Grows, sent, heard}
 use Rattle.stk_host.specs.Tape.{Tape}
 use Rattle.stk_emu.specs.Along.{along, said_along, AsksBodies}
-use Rattle.stk_lines.specs.AnyTape.{AreHonest, GoesAs, CameThrough, after_sent, became_by, turns_heard}
-use Rattle.stk_lines.specs.NoFrame.{MakesNoFrame}
-use Rattle.stk_lines.proofs.Lines.NoFrame.{no_frame_honest, prefix_of_play}
+use Rattle.avr_course.specs.AnyTape.{AreHonest, GoesAs, CameThrough, after_sent, became_by, turns_heard}
+use Rattle.avr_course.specs.NoFrame.{MakesNoFrame}
+use Rattle.avr_course.proofs.Lines.NoFrame.{no_frame_honest, prefix_of_play}
 use Rattle.stk_emu.specs.Turn.{Turn, Became}
 use Rattle.stk_emu.specs.Device.{device, after_frames}
 use Rattle.stk_emu.specs.Effect.{memories_of}
-use Rattle.stk_lines.specs.Few.{AreFew}
+use Rattle.avr_course.specs.Few.{AreFew}
 use Rattle.stk_emu.specs.Programmer.{Programmer, fresh_programmer}
 use Rattle.stk_emu.specs.Settled.{Idle, FitsPart}
-use Rattle.stk_lines.proofs.Given.FirstSteps.{fresh_idle, fresh_fits}
-use Rattle.stk_lines.proofs.Lines.InTurn.{AreWhole, sends_whole, frames_prefix, frames_sent, shown_prefix}
-use Rattle.stk_lines.proofs.Lines.AnyTape.{goes_as, through_after}
+use Rattle.avr_course.proofs.Given.FirstSteps.{fresh_idle, fresh_fits}
+use Rattle.avr_course.proofs.Lines.InTurn.{AreWhole, sends_whole, frames_prefix, frames_sent, shown_prefix}
+use Rattle.avr_course.proofs.Lines.AnyTape.{goes_as, through_after}
 use Rattle.avr_course.specs.AnyLine.{weighed, bodies_in}
 use Rattle.avr_course.specs.Bound.{run_steps}
 use Rattle.avr_course.specs.Foretold.{EndsAsForetold}

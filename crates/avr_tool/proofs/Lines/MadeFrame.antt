@@ -11,9 +11,9 @@ use Rattle.stk_host.specs.Dialog.{Event, Played, played, bytes_sent}
 use Rattle.stk_host.specs.Operations.{handshake, opening, closing, operation}
 use Rattle.stk_host.specs.Steps.{exchange, attempt, tries, play}
 use Rattle.stk_host.specs.Tape.{Tape, answer}
-use Rattle.stk_lines.specs.AnyTape.{CameThrough, became_by}
+use Rattle.avr_course.specs.AnyTape.{CameThrough, became_by}
 use Rattle.stk_emu.specs.Device.{device}
-use Rattle.stk_lines.specs.NoFrame.{MakesNoFrame}
+use Rattle.avr_course.specs.NoFrame.{MakesNoFrame}
 use Rattle.stk_emu.specs.Programmer.{Programmer, fresh_programmer}
 use Rattle.stk_emu.specs.Turn.{Turn}
 use Rattle.avr_tool.specs.Headline.{OverAnyLink}

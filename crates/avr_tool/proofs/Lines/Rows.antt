@@ -9,7 +9,7 @@ use Rattle.stk_emu.specs.Programmer.{fresh_programmer}
 use Rattle.avr_part.specs.State as chips
 use Rattle.avr_tool.specs.TwoProcesses.{Call, HostSays, ServerHears, of_host, of_server, IsJoined, IsOrdered, StallsBetweenAnswers, worked_frame, worked_reply, worked_calls}
 use Rattle.avr_tool.proofs.TwoProcesses.NeverSilent.{no_silence}
-use Rattle.stk_lines.proofs.Lines.Plays.{cons_none, head_is, tail_is}
+use Rattle.avr_course.proofs.Lines.Plays.{cons_none, head_is, tail_is}
 
 -- from moment to moment
 abbrev Keeps : List Call → List Call → Type 0

@@ -9,7 +9,7 @@ use Rattle.stk_host.specs.declared.link.Item.TheVariants.{Byte, Silence, End}
 use Rattle.stk_host.specs.Tape.{Tape, Reading, Answered, Silent, Babbled, answer, read_to, silence_or_end, first_answer, bytes_in, limit}
 use Rattle.stk_host.specs.Dialog.{Dialog, Done, Say, Ask, Frame, played, behind, by_answer, next, frames_in, sayings}
 use Rattle.stk_emu.specs.Along.{along, said_along, AsksBodies}
-use Rattle.stk_lines.specs.AnyTape.{first_became, other_becames, after_sent}
+use Rattle.avr_course.specs.AnyTape.{first_became, other_becames, after_sent}
 use Rattle.stk_emu.specs.Device.{Device, after_frame}
 use Rattle.stk_emu.specs.Turn.{after_became}
 use Rattle.stk_emu.proofs.Answers.BodySizes.{AnswersBodies}

@@ -19,16 +19,16 @@ use Rattle.stk_host.proofs.Tapes.Answers.{bytes_of_append}
 use Rattle.stk_emu.specs.Along.{along, AsksBodies}
 use Rattle.stk_emu.specs.Effect.{memories_of}
 use Rattle.stk_emu.specs.Settled.{Idle, FitsPart}
-use Rattle.stk_lines.proofs.Given.FirstSteps.{fresh_idle, fresh_fits}
+use Rattle.avr_course.proofs.Given.FirstSteps.{fresh_idle, fresh_fits}
 use Rattle.avr_course.specs.Course.{course}
 use Rattle.avr_course.proofs.FewBad.Sessions.{session_ends}
-use Rattle.stk_lines.specs.AnyTape.{AreHonest, after_sent, turns_heard}
+use Rattle.avr_course.specs.AnyTape.{AreHonest, after_sent, turns_heard}
 use Rattle.stk_emu.specs.Device.{device, after_frames}
 use Rattle.stk_emu.specs.Emulator.{emulate}
 use Rattle.stk_emu.specs.Programmer.{Programmer, fresh_programmer}
-use Rattle.stk_lines.specs.NoFrame.{MakesNoFrame}
-use Rattle.stk_lines.proofs.Lines.NoFrame.{no_frame_honest}
-use Rattle.stk_lines.proofs.Lines.InTurn.{due_at, sends_whole, frames_sent, shown_prefix}
+use Rattle.avr_course.specs.NoFrame.{MakesNoFrame}
+use Rattle.avr_course.proofs.Lines.NoFrame.{no_frame_honest}
+use Rattle.avr_course.proofs.Lines.InTurn.{due_at, sends_whole, frames_sent, shown_prefix}
 use Rattle.avr_course.proofs.AnyLine.FrameSizes.{session_asks}
 use Rattle.avr_serve.specs.Serving.{HasNoEnd, AnswersInTurn}
 use Rattle.avr_serve.specs.ServedRun.{Sides, ServesChip, SavesAfterServing}

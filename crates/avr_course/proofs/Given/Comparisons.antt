@@ -1,0 +1,72 @@
+-- What a comparison without a difference says, and which comparisons have none.
+use Rattle.std.proofs.Common.{◌≡◌, ℕ, zero, suc, ◌+◌, ◌<◌, List, [], ◌∷◌, get_or, refl, sym, ap, ◌∙◌, arith, inl, inr, Option, Some, None, unwrap_or, bit_and}
+use Rattle.std.proofs.lemmas.Bool.{cases_Bool, eqb-true, eq-eqb, cond-true, cond-false}
+use Rattle.std.proofs.Math.Nat.{mod-eq_of_lt}
+use Rattle.std.proofs.lemmas.Grind.{and_numeral}
+use Rattle.std.proofs.lemmas.Nat.{and_comm}
+use Rattle.std.specs.Prelude.{◌==◌}
+use Rattle.stk_host.specs.Operations.{Difference, difference_from}
+use Rattle.stk_emu.specs.Effect.{Image, with_image}
+use Rattle.stk_emu.specs.Given.{Holds}
+use Rattle.stk_emu.proofs.Memories.LaidImages.{get_laid, length-laid}
+
+none_some : (b : ℕ) → ◌≡◌ {A = Option ℕ} None (Some b) → ⊥
+none_some b e = cc
+
+some_is : (a b : ℕ) → Some a ≡ Some b → a ≡ b
+some_is a b e = cc
+
+differs : (d : Difference) → ◌≡◌ {A = Option Difference} (Some d) None → ⊥
+differs d e = cc
+
+-- one byte that is the same
+same_byte : (addr want found : ℕ) (image : Image) (bytes : List ℕ)
+    → difference_from addr (Some want ∷ image) (found ∷ bytes) ≡ None
+    → (found ≡ want) × (difference_from (addr + 1) image bytes ≡ None)
+same_byte addr want found image bytes e = elim (cases_Bool (found == want)) [
+  | inl same ↦ (
+    eqb-true found want same,
+    sym
+        (cond-true (found == want) (difference_from (addr + 1) image bytes)
+        (Some (record { addr = addr; want = want; found = found })) same) ∙ e,
+  )
+  | inr other ↦
+      absurd (differs (record { addr = addr; want = want; found = found })
+      (sym (cond-false (found == want) (difference_from (addr + 1) image bytes)
+      (Some (record { addr = addr; want = want; found = found })) other) ∙ e))
+]
+
+-- without a difference the memory holds the image
+pub no_difference : (addr : ℕ) (image : Image) (bytes : List ℕ) → difference_from addr image bytes ≡ None
+    → Holds image bytes
+no_difference addr [] bytes e i b held l = absurd (none_some b held)
+no_difference addr (x ∷ image) [] e i b held l = absurd (omega (arith, l))
+no_difference addr (None ∷ image) (found ∷ bytes) e zero b held l = absurd (none_some b held)
+no_difference addr (None ∷ image) (found ∷ bytes) e (suc i) b held l =
+    no_difference (addr + 1) image bytes e i b held (omega (arith, l))
+no_difference addr (Some want ∷ image) (found ∷ bytes) e zero b held l =
+    (same_byte addr want found image bytes e).0 ∙ some_is want b held
+no_difference addr (Some want ∷ image) (found ∷ bytes) e (suc i) b held l =
+    no_difference (addr + 1) image bytes (same_byte addr want found image bytes e).1 i b held (omega (arith, l))
+
+-- and where it holds it there is none
+pub held_same : (addr : ℕ) (image : Image) (bytes : List ℕ) → Holds image bytes
+    → difference_from addr image bytes ≡ None
+held_same addr [] bytes holds = refl
+held_same addr (x ∷ image) [] holds = refl
+held_same addr (None ∷ image) (found ∷ bytes) holds =
+    held_same (addr + 1) image bytes (λ i b held l. holds (suc i) b held (omega (arith, l)))
+held_same addr (Some want ∷ image) (found ∷ bytes) holds =
+    cond-true (found == want) (difference_from (addr + 1) image bytes)
+    (Some (record { addr = addr; want = want; found = found }))
+    (eq-eqb found want (holds 0 want refl (omega arith)))
+    ∙ held_same (addr + 1) image bytes (λ i b held l. holds (suc i) b held (omega (arith, l)))
+
+-- an image that was laid over a memory is held
+pub laid_holds : (image : Image) (bytes : List ℕ) → Holds image (with_image image bytes)
+laid_holds image bytes i b held l =
+    get_laid image bytes i (omega (arith, l, length-laid image bytes))
+    ∙ ap (λ (o : Option ℕ). unwrap_or o (get_or bytes i 0)) held
+
+pub and_from_blank : (b : ℕ) → b < 256 → bit_and 255 b ≡ b
+and_from_blank b l = and_comm 255 b ∙ (and_numeral b 254 refl ∙ mod-eq_of_lt l)

@@ -1,0 +1,120 @@
+//! Laws of a conversation with the emulated programmer over a bad line: what a line does to a question is a turn, and a
+//! conversation goes along the turns question by question, over a wire and over any tape on which no frame is made.
+
+ghost use Rattle.std.specs.Prelude.{filter, true, ◌≡◌, ◌++◌, ℕ, List, [], ◌∷◌, Some, Ok, Bool, length, replicate, ◌<◌, ◌≤◌, Err};
+ghost use Rattle.avr_part.specs.State as chip;
+ghost use Rattle.avr_part.specs.Part.{Part, IsPart};
+ghost use Rattle.stk_frame.specs.declared.command.Command.{Command};
+ghost use Rattle.stk_frame.specs.Frame.{frame};
+ghost use Rattle.stk_frame.specs.Cut.{frames, is_good};
+ghost use Rattle.stk_host.specs.Tape.{Tape, answer};
+ghost use Rattle.stk_host.specs.Dialog.{Dialog, played, frames_in, Done};
+ghost use Rattle.stk_host.specs.Steps.{StepOutcome, step, play};
+ghost use Rattle.stk_host.specs.Talk.{sent};
+ghost use Rattle.stk_emu.specs.Programmer.{Programmer};
+ghost use Rattle.stk_emu.specs.Device.{device, after_frames};
+ghost use Rattle.avr_course.specs.NoFrame.{MakesNoFrame};
+ghost use Rattle.avr_course.specs.AnyTape.{AreHonest, GoesAs, CameThrough, after_sent, became_by};
+ghost use Rattle.stk_emu.specs.Lawful.{IsBody, IsClear};
+ghost use Rattle.stk_emu.specs.Wire.{Wire, AreLawful, IsLawfulFate, first_fate, turn_of, becames_of, segment, tape_of};
+ghost use Rattle.stk_emu.specs.Turn.{Became, Turn, turn_reading};
+ghost use Rattle.stk_emu.specs.Along.{along, AsksBodies, Fused};
+ghost use Rattle.stk_emu.specs.Effect.{Memories};
+ghost use Rattle.stk_emu.specs.Settled.{Settled, Ready, FitsPart};
+ghost use Rattle.stk_emu.specs.Fits.{Fits};
+ghost use Rattle.stk_emu.specs.Strokes.{IsStep, AreSteps, struck, struck_by};
+ghost use Rattle.stk_emu.specs.Given.{given_by, all_given};
+ghost use Rattle.avr_course.specs.Leads.{AreGood};
+ghost use Rattle.avr_course.specs.Few.{AreFew, FewOf, lost, each_second};
+ghost use Rattle.avr_course.specs.Climbs.{Climbs};
+ghost use Rattle.stk_host.specs.declared.fault.StepFault.TheVariants.{NoAnswer};
+ghost use Rattle.stk_frame.specs.declared.command.Command.TheVariants.{LoadAddress};
+
+/// Of what a frame brings over the wire nothing is left when its answer was read: it is the programmer's answer, the
+/// refusal or a silence, as the frame's fate is; a late answer to another frame is passed over.
+pub fn a_segment_is_read_whole()
+    ensures { (n : ℕ) (bytes : List ℕ) (w : Wire Programmer) (more : Tape) → IsBody bytes → IsClear n w.late
+        → IsLawfulFate (first_fate w.fates)
+        → answer n (segment device (frame n bytes) w ++ more) ≡ Some
+        (turn_reading (turn_of (first_fate w.fates)) (device.answer bytes w.programmer), more) }
+{}
+
+/// A conversation that is played over what a wire brings for its frames goes along the line question by question: the
+/// programmer obeys what the turns let through, in order, nothing waits, and what the conversation comes to is what it
+/// comes to along the line.
+pub fn a_conversation_goes_along_the_line<E, R>()
+    ensures { (d : Dialog E R) (n : ℕ) (w : Wire Programmer) (sent more : List (List ℕ)) → AsksBodies d
+        → IsClear n w.late → AreLawful w.fates
+        → frames_in (played d n (tape_of device sent w)).events ≡ sent ++ more → Fused device d n w sent }
+{}
+
+/// Obeying any first commands of a step from a settled programmer leaves the memories or what the step makes of them;
+/// all of the step leaves the latter, and keeps it where it was made before: also where the chip is locked.
+pub fn a_step_leads_to_its_stroke()
+    ensures { (part : Part) (commands : List Command) (m : Memories) → IsPart part → IsStep part commands
+        → Fits device commands (Settled part m) (Settled part (struck part commands m)) }
+{}
+
+/// Whatever the line does: at each moment of a play of steps the memories are those of the first so many steps, as many
+/// as were completed and perhaps one more; and where the play was completed, of all.
+pub fn a_play_climbs_from_step_to_step()
+    ensures { (part : Part) (steps : List (List Command)) (m : Memories) (k : ℕ) (before : List ℕ) (p : Programmer)
+        (turns : List Turn)
+        → IsPart part → AreSteps part steps → Settled part m p
+        → Climbs device (λ j. Settled part (struck_by part j steps m)) k steps p turns
+        (along device k (play steps before) p turns) }
+{}
+
+/// Where of any seven frames in a row at most three go wrong, a step comes to what it gives, and the line after it is
+/// such a line; so a play of steps comes to all that they give. A good line is the simplest one. The bound is sharp:
+/// four lost commands in a row are too many, and of any six frames three are, where each second one is lost.
+pub fn few_bad_fates_bring_all_data()
+    ensures step { (part : Part) (commands : List Command) (m : Memories) (k : ℕ) (p : Programmer) (turns : List Turn)
+        → IsPart part → IsStep part commands → FitsPart part m → Ready part m p → AreFew turns → 8 ≤ k
+        → (along device k (step commands) p turns).dialog ≡ Done (Ok (given_by part commands m)) }
+    ensures rest { (k : ℕ) (commands : List Command) (p : Programmer) (turns : List Turn)
+        → AreFew turns → AreFew (along device k (step commands) p turns).turns }
+    ensures play { (part : Part) (steps : List (List Command)) (m : Memories) (k : ℕ) (before : List ℕ) (p : Programmer)
+        (turns : List Turn)
+        (o : StepOutcome)
+        → IsPart part → AreSteps part steps → FitsPart part m → Ready part m p → AreFew turns
+        → (along device k (play steps before) p turns).dialog ≡ Done o → o ≡ Ok (before ++ all_given part steps m) }
+    ensures good { (turns : List Turn) → AreGood turns → AreFew turns }
+    ensures four { (command : Command) (commands : List Command) (p : Programmer)
+        → (along device 4 (step (command ∷ commands)) p (lost ∷ lost ∷ lost ∷ lost
+        ∷ [])).dialog ≡ Done (Err NoAnswer) }
+    ensures six { FewOf 6 each_second }
+    ensures six_fail { (address : ℕ) (command : Command) (commands : List Command) (p : Programmer)
+        → (along device 7 (step (LoadAddress address ∷ command ∷ commands)) p each_second).dialog
+        ≡ Done (Err NoAnswer) }
+{}
+
+/// Whatever the line does, as long as it makes no answer: a conversation that is played over any tape goes along turns,
+/// one for each frame sent. The programmer, whatever bytes it got, of whose good frames each is one of those sent, in
+/// their order, stands as along these turns; and what the conversation says and comes to is what it says and comes to
+/// there.
+pub fn over_any_tape_a_conversation_goes_along_turns<E, R>()
+    ensures goes { (d : Dialog E R) (n : ℕ) (tape : Tape) (p : Programmer) (becames : List Became)
+        → AsksBodies d → AreHonest device d n tape p becames → GoesAs device d n tape p becames }
+    ensures got { (got : List ℕ) (sent : List (List ℕ)) (through : List Bool) (p : Programmer)
+        → CameThrough got sent through
+        → after_frames device (frames got) p ≡ after_sent device sent (became_by through) p }
+{}
+
+/// On a line that makes no frame all that is read is honest, from the first frame on: an answer that is taken has the
+/// number of its question, and among the last 256 answers only the one to that question has it.
+pub fn a_line_that_makes_no_frame_is_honest<E, R>()
+    ensures { (d : Dialog E R) (n : ℕ) (tape : Tape) (p : Programmer) (becames : List Became)
+        → MakesNoFrame device d n tape p becames [] → AreHonest device d n tape p becames }
+{}
+
+/// A wire with fates is such a line, and a programmer that got a prefix of the bytes sent, as over a line that keeps
+/// their order, got some of the frames.
+pub fn a_wire_is_an_honest_line<E, R>()
+    ensures wire { (d : Dialog E R) (n : ℕ) (w : Wire Programmer) (sent more : List (List ℕ)) → AsksBodies d
+        → IsClear n w.late → AreLawful w.fates
+        → frames_in (played d n (tape_of device sent w)).events ≡ sent ++ more
+        → AreHonest device d n (tape_of device sent w) w.programmer (becames_of (length sent) w.fates) }
+    ensures prefix { (got : List ℕ) (sent others : List (List ℕ)) → sent ≡ frames got ++ others
+        → filter is_good sent ≡ sent → CameThrough got sent (replicate (length (frames got)) true) }
+{}
