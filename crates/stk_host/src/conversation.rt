@@ -20,7 +20,7 @@ use stk_frame::{Answer, Command, FrameFault, FrameReader};
 const ATTEMPTS: u8 = 4;
 
 /// What the answer to a command comes to.
-#[derive(Clone, Copy, Debug, Drop, PartialEq, Eq)]
+#[derive(Clone, Copy, Drop)]
 pub(crate) enum Reply {
     Data,
     /// The commands may be sent again.

@@ -4,6 +4,7 @@ ghost use Rattle.stk_host.specs.Calls.{command_named, host_fault_number, status_
 ghost use Rattle.stk_host.specs.Operations.{host_fault};
 
 use avr_part::Mem;
+use std::fmt;
 use thiserror::Error;
 
 /// Why a step came to no data. No call answers it: a [`crate::Host`] tells it as its [`HostFault`]. It is public as a
@@ -51,7 +52,7 @@ pub enum Broken {
 }
 
 /// Why a step stopped: for what was heard, or since the link failed.
-#[derive(Clone, Copy, Debug, Drop, PartialEq, Eq)]
+#[derive(Clone, Copy, Drop)]
 pub(crate) enum Stop {
     Fault(StepFault),
     Link(Broken),
@@ -67,7 +68,7 @@ pub(crate) enum Stop {
 /// let mut silent = TapeLink::new(alloc, vec![in alloc; Item::Silence; 8]?, 281);
 /// assert_eq!(rt; Host::new(&part).open(&mut silent, false), Err(HostFault::NoAnswer));
 /// ```
-#[derive(Clone, Copy, Debug, Drop, PartialEq, Eq, Error)]
+#[derive(Clone, Copy, Drop, PartialEq, Eq, Error)]
 pub enum HostFault {
     /// No answer came to the last of four attempts.
     #[error("no answer")]
@@ -160,5 +161,12 @@ impl HostFault {
             HostFault::Refused(_, status) => stk_frame::status_name(*status),
             _ => None,
         }
+    }
+}
+
+/// Shows the message.
+impl fmt::Debug for HostFault {
+    fn fmt<W: fmt::Write>(&self, f: &mut fmt::Formatter<W>) -> fmt::Result {
+        fmt::Display::fmt(self, f)
     }
 }

@@ -94,7 +94,7 @@ impl Unread {
 const LIMIT: usize = 4096;
 
 /// How listening ended.
-#[derive(Clone, Copy, Debug, PartialEq, Eq)]
+#[derive(Clone, Copy)]
 pub enum Reading {
     /// The reader holds the answer.
     Answered,
