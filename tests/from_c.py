@@ -23,6 +23,7 @@ IMAGES = 60
 CURSORS = 2000
 SECONDS = 20
 USAGE = "records FILE SIZE ihex|srec [ROOM]"
+# what the header declares, and the faults that have a text of their own
 CALLS = [f"avr_records_{it}" for it in ("detect", "fault_text", "length", "read", "version", "write")]
 FAULTS = [*range(9), 10, 11, 12]
 VERSION = (ROOT / "VERSION").read_text().strip()
@@ -36,6 +37,17 @@ int main(void) {
     printf("%s %d.%d.%d %lu %lu\\n", AVR_RECORDS_VERSION, AVR_RECORDS_VERSION_MAJOR, AVR_RECORDS_VERSION_MINOR,
            AVR_RECORDS_VERSION_PATCH, (unsigned long)AVR_RECORDS_VERSION_NUMBER, (unsigned long)avr_records_version());
     return 0;
+}
+"""
+OTHERS = """
+#include "avr_records.h"
+void *rattle_alloc(void) { return 0; }
+void *rattle_realloc(void) { return 0; }
+void rattle_dealloc(void) {}
+int main(void) {
+    const uint8_t file[] = ":0100000055AA";
+    uint8_t byte, present;
+    return avr_records_read(AVR_RECORDS_IHEX, file, sizeof file - 1, &byte, 1, &present, 1).fault;
 }
 """
 
@@ -97,17 +109,6 @@ def shown(image):
         lines[-1] += f"{image[address]:02x}"
         last = address
     return lines
-OTHERS = """
-#include "avr_records.h"
-void *rattle_alloc(void) { return 0; }
-void *rattle_realloc(void) { return 0; }
-void rattle_dealloc(void) {}
-int main(void) {
-    const uint8_t file[] = ":0100000055AA";
-    uint8_t byte, present;
-    return avr_records_read(AVR_RECORDS_IHEX, file, sizeof file - 1, &byte, 1, &present, 1).fault;
-}
-"""
 
 
 class Library:
