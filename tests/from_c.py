@@ -23,6 +23,7 @@ IMAGES = 60
 CURSORS = 2000
 SECONDS = 20
 USAGE = "records FILE SIZE ihex|srec [ROOM]"
+# what the header declares, and the faults that have a text of their own
 CALLS = [f"avr_records_{it}" for it in ("detect", "fault_text", "length", "read", "version", "write")]
 FAULTS = [*range(9), 10, 11, 12]
 VERSION = (ROOT / "VERSION").read_text().strip()
@@ -36,6 +37,17 @@ int main(void) {
     printf("%s %d.%d.%d %lu %lu\\n", AVR_RECORDS_VERSION, AVR_RECORDS_VERSION_MAJOR, AVR_RECORDS_VERSION_MINOR,
            AVR_RECORDS_VERSION_PATCH, (unsigned long)AVR_RECORDS_VERSION_NUMBER, (unsigned long)avr_records_version());
     return 0;
+}
+"""
+OTHERS = """
+#include "avr_records.h"
+void *rattle_alloc(void) { return 0; }
+void *rattle_realloc(void) { return 0; }
+void rattle_dealloc(void) {}
+int main(void) {
+    const uint8_t file[] = ":0100000055AA";
+    uint8_t byte, present;
+    return avr_records_read(AVR_RECORDS_IHEX, file, sizeof file - 1, &byte, 1, &present, 1).fault;
 }
 """
 
@@ -106,6 +118,7 @@ class Library:
         self.program = self.compiled(ROOT / "examples/c/records.c")
 
     def compiled(self, source):
+        """The program of a source, which is a file, linked with the archive."""
         program = self.folder / source.stem
         words = [os.environ.get("CC", "cc"), "-std=c99", "-Wall", "-Wextra", "-Werror", "-O2", f"-I{ROOT / 'include'}"]
         subprocess.run([*words, source, self.folder / "libavr_records.a", "-o", program], check=True)
@@ -310,6 +323,13 @@ def versions_agree(library):
     same("the name in it", f"soname: [{name}]" in listed, True)
 
 
+def other_names_are_free(library):
+    """A program may have functions that are named as those inside the archive, as another library of Rattle's has."""
+    source = library.folder / "others.c"
+    source.write_text(OTHERS)
+    same("the fault of a good file", subprocess.run([library.compiled(source)]).returncode, 0)
+
+
 def only_its_calls_are_seen(library):
     """The archive and the shared library export what the header declares, and nothing else."""
     header = (ROOT / "include/avr_records.h").read_text()
@@ -333,6 +353,7 @@ def main():
         sizes_are_judged,
         texts_are_put,
         versions_agree,
+        other_names_are_free,
         only_its_calls_are_seen,
     )
     if shutil.which(os.environ.get("CC", "cc")) is None:

@@ -56,8 +56,9 @@ fn fill_octets(present: &mut [u8], first: usize, end: usize)
     present[first..end].fill(255);
 }
 
-/// Puts the next octets of an image's bitmap, from this one on: those that are 0, which stand there already, and after
-/// them either all that follow without a gap, or one. Returns the octet after them.
+/// Puts the next octets of an image's bitmap, the first being `from`, over octets that are 0, and returns the number of
+/// the octet after them. These are the octets up to the next byte, which stay 0, and from there on either all octets
+/// without a gap, or one.
 fn put_octets(image: &Image, from: usize, present: &mut [u8]) -> usize
     requires some { from < length present.old }
     requires few { length present.old * 8 ≤ 2 ^ 32 }

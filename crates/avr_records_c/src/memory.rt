@@ -37,7 +37,7 @@ impl<'a> Memory<'a> {
     }
 }
 
-/// Returns how many addresses are passed over at one whose byte isn't there: all of an octet that is 0, else this one.
+/// Returns how far a search steps from an address whose byte isn't there: over a whole octet that is 0, else by one.
 fn gap_at(present: &[u8], addr: usize) -> usize
     requires inside { addr < length present.now * 8 }
     requires gap { spec_is_there present.now addr ≡ false }
