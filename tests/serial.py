@@ -444,12 +444,13 @@ def failing(cases):
 
     def ran(case):
         _, words, _, _, board = case
-        it = Board(**board)
-        status, _, others, own = run([word.replace("DEVICE", it.device) for word in [*words, "-P", "DEVICE"]])
-        return status, others, own, it.end()
+        it, begun = Board(**board), time.monotonic()
+        status, _, others, own = run([*words, "-P", it.device])
+        return status, others, own, it.end(), time.monotonic() - begun
 
     chips = []
-    for (name, _, wanted, told, _), (status, others, own, chip) in zip(cases, side_by_side(ran, cases)):
+    for (name, _, wanted, told, _), (status, others, own, chip, took) in zip(cases, side_by_side(ran, cases)):
+        see(f"{name}: it ends by itself soon", took < 40, took)
         see(name, (status, len(own)) == (1, 1) and wanted in own[0], (status, others, own))
         see(f"{name}: {told}", told.encode() in others, others)
         chips.append(chip)
@@ -539,7 +540,7 @@ def progress():
     for text in ["writing flash: 128 bytes, 50 %", "writing flash: 256 bytes, 100 %", "reading flash: 256 bytes, 0 %"]:
         see(text, f"\ravrstk-serial: {text}" in got, got)
     left = re.search(r"\ravrstk-serial: reading flash: 1,\d+ bytes, \d %, (\d+) s left", got)
-    see("the time that is left", left and 20 < int(left[1]) < 120, got)
+    see("the time that is left", left and int(left[1]) > 20, got)
     got, status = on_a_terminal(["-p", "m328p", "-U", "eeprom:w:whole.bin:r", "-U", "flash:w:blink.srec", "-V"])
     see("each write has its own", status == 0 and "writing eeprom: 4 bytes, 0 %" in got, got)
     see("by its image", "writing flash: 128 bytes, 50 %" in got, got)
@@ -598,10 +599,7 @@ def hints():
         ("vanished early", FLASH, f"the device is gone: check the cable; {whole}", "link ended", {"vanish": 1}),
         ("talks", FLASH, "the device sends data, but no valid reply", "", {"talk": b"temp=21.5 hum=40\r\n"}),
     ]
-    begun = time.monotonic()
     chips = failing(cases)
-    took = time.monotonic() - begun
-    see("a board that talks doesn't hold it for long", took < 25, took)
     same("the chip of the silent one", chips[0], b"\xff" * 33_796)
     it = Board()
     shell = ["sh", "-c", 'exec "$0" "$@" >&-', sys.executable, str(SCRIPT), *reading, "lfuse:r:-:h", "-P", it.device]
