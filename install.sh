@@ -48,7 +48,8 @@ parts=$prefix/share/avrstk/classic.toml
 completions=$prefix/share/bash-completion/completions/avrstk
 # bash looks for a command's completions under its name
 of_serial=$prefix/share/bash-completion/completions/avrstk-serial
-tool=("$program" "$serial" "$serve" "$parts" "$completions" "$of_serial")
+of_serve=$prefix/share/bash-completion/completions/avrstk-serve
+tool=("$program" "$serial" "$serve" "$parts" "$completions" "$of_serial" "$of_serve")
 for page in "$top"/docs/*.1; do
     tool+=("$prefix/share/man/man1/${page##*/}")
 done
@@ -180,6 +181,7 @@ for page in "$top"/docs/*.1; do
 done
 put 644 "$top/completions/avrstk.bash" "$completions"
 put_link avrstk "$of_serial"
+put_link avrstk "$of_serve"
 command -v python3 >/dev/null || echo "avrstk-serial and avrstk-serve need python3, which is not on the path"
 [ -n "$with_c" ] || exit 0
 if ! command -v rt >/dev/null || ! command -v ar >/dev/null; then

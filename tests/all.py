@@ -30,8 +30,10 @@ PROVED = TOP / "crates/avrstk/out/avrstk"
 CHECKED = ("measure --check", "reach --check")
 # the scripts that run no program of this project, or compile it themselves, the longest first
 SOURCES = ("rattle tests", "rattle programs", "rattle refused", "rattle documentation", "vendor", "build", *CHECKED)
+# those that take seconds
+SHORT = ("made_frames", "manual", "programmer")
 # those over the program without proofs, and those over the proved one, the longest first
-QUICK = ("serial", "parts", "avrdude", "runs", "chips", "recipes", "why", "claims", "lines", "hostile", "made_frames", "manual", "programmer")
+QUICK = ("serial", "parts", "avrdude", "runs", "chips", "package", "recipes", "why", "claims", "lines", "hostile", *SHORT)
 PROGRAM = ("faults", "cuts_and_stalls", "mega", "from_c", "others", "vendor proof", "calls", *QUICK)
 
 LANES = len(os.sched_getaffinity(0))
