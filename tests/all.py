@@ -33,7 +33,7 @@ SOURCES = ("rattle tests", "rattle programs", "rattle refused", "rattle document
 # those that take seconds
 SHORT = ("made_frames", "manual", "programmer")
 # those over the program without proofs, and those over the proved one, the longest first
-QUICK = ("serial", "parts", "avrdude", "runs", "chips", "package", "recipes", "why", "claims", "lines", "hostile", *SHORT)
+QUICK = ("serial", "parts", "avrdude", "runs", "chips", "package", "serve", "recipes", "why", "claims", "lines", "hostile", *SHORT)
 PROGRAM = ("faults", "cuts_and_stalls", "mega", "from_c", "others", "vendor proof", "calls", *QUICK)
 
 LANES = len(os.sched_getaffinity(0))
