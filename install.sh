@@ -1,35 +1,58 @@
 #!/usr/bin/env bash
-# Puts the built program, avrstk-serial, the part file, the page of manual and the completions for bash under a folder,
-# and with --with-c the library for C (archive, shared library, header, pkg-config's file); or takes them all away
-# again.
+# Installs the program that is there (the proved one, or else the one without proofs, which it says), avrstk-serial,
+# avrstk-serve, the part file, the man pages and the completions for bash under a folder, and with --with-c the library
+# for C (archive, shared library, header, pkg-config's file); or removes all of it again.
 #
-#     ./install.sh [--with-c] [PREFIX]      PREFIX is /usr/local where it isn't given
-#     ./install.sh --remove [PREFIX]
+#     ./install.sh [--with-c] [PREFIX]      PREFIX is /usr/local if it isn't given
+#     ./install.sh --remove [PREFIX]        removes what it installed there, and the folders that it made for it
+#
+# AVRSTK in the environment names another program to install. With DESTDIR there, for packages, all goes under
+# $DESTDIR/PREFIX, without the note of folders that --remove needs.
 set -euo pipefail
 
 top=$(dirname "$(readlink -f "$0")")
+
+fail() {
+    echo "install.sh: error: $*" >&2
+    exit 1
+}
 
 usage() {
     echo "usage: install.sh [--with-c | --remove] [PREFIX]" >&2
     exit 1
 }
 
-remove= with_c=
+remove='' with_c=''
 case ${1:-} in
     --remove) remove=yes && shift ;;
     --with-c) with_c=yes && shift ;;
 esac
-prefix=${1:-/usr/local}
+prefix=${1-/usr/local}
 [ $# -le 1 ] && [[ $prefix != -* ]] || usage
-prefix=$(realpath -m "$prefix")
+[ -n "$prefix" ] || fail "the folder's name is empty"
+destination=${DESTDIR:-}
+given=$prefix$destination
+if [ -n "$destination" ]; then
+    # (a link of this system says nothing of the one that the package is for)
+    prefix=$(realpath -m -- "$destination")$(realpath -ms -- "$prefix")
+else
+    prefix=$(realpath -m -- "$prefix")
+fi
+# (the note of folders has one in a line)
+[[ $given$prefix != *$'\n'* ]] || fail "the folder's name has a newline"
 
 program=$prefix/bin/avrstk
 serial=$prefix/bin/avrstk-serial
+serve=$prefix/bin/avrstk-serve
 parts=$prefix/share/avrstk/classic.toml
-manual=$prefix/share/man/man1/avrstk.1
 completions=$prefix/share/bash-completion/completions/avrstk
 # bash looks for a command's completions under its name
 of_serial=$prefix/share/bash-completion/completions/avrstk-serial
+of_serve=$prefix/share/bash-completion/completions/avrstk-serve
+tool=("$program" "$serial" "$serve" "$parts" "$completions" "$of_serial" "$of_serve")
+for page in "$top"/docs/*.1; do
+    tool+=("$prefix/share/man/man1/${page##*/}")
+done
 archive=$prefix/lib/libavr_records.a
 # (examples/c/build.sh says what the number is)
 version=$(cat "$top/VERSION")
@@ -39,13 +62,26 @@ shared=libavr_records.so.$number
 link=$prefix/lib/libavr_records.so
 config=$prefix/lib/pkgconfig/avr_records.pc
 header=$prefix/include/avr_records.h
-all=("$program" "$serial" "$parts" "$manual" "$completions" "$of_serial")
-all+=("$archive" "$header" "$config" "$link" "$prefix/lib/$shared")
+library=("$archive" "$header" "$config" "$link" "$prefix/lib/$shared")
 
 # the folders that were made for these, so that --remove takes away no other
 folders=$prefix/share/avrstk/folders
 
-# Puts a file there, with the folders that it needs.
+# Fails where a file can't be put in its place, before anything is written.
+check() {
+    local file folder
+    for file; do
+        [ ! -d "$file" ] || fail "$file is a folder"
+        folder=$(dirname "$file")
+        while [ ! -e "$folder" ] && [ ! -L "$folder" ]; do
+            folder=$(dirname "$folder")
+        done
+        [ -d "$folder" ] || fail "$folder is not a folder"
+        [ -w "$folder" ] || fail "$folder cannot be written"
+    done
+}
+
+# Puts a file there, whole or not at all, with the folders that it needs.
 put() {
     local folder made=()
     folder=$(dirname "$3")
@@ -53,29 +89,69 @@ put() {
         made+=("$folder")
         folder=$(dirname "$folder")
     done
-    install -D -m "$1" "$2" "$3"
-    [ ${#made[@]} -eq 0 ] || printf '%s\n' "${made[@]}" >>"$folders"
+    install -d -m 755 "$(dirname "$3")"
+    if [ -z "$destination" ]; then
+        # (it is there also where no folder was made: it says that this script was at work)
+        printf '%s\n' "${made[@]}" | sed '/^$/d' >>"$folders"
+    fi
+    unfinished=$3.new
+    install -m "$1" "$2" "$unfinished"
+    mv -fT "$unfinished" "$3"
+    unfinished=
     echo "installed $3"
 }
 
-if [ -n "$remove" ]; then
-    for file in "${all[@]}"; do
-        [ ! -e "$file" ] && [ ! -L "$file" ] || { rm -f "$file" && echo "removed $file"; }
+put_link() {
+    ln -sfn "$1" "$2"
+    echo "installed $2"
+}
+
+# Prints the folders of all that is installed, from the prefix on, each behind those in it.
+folders_of_all() {
+    local file folder
+    for file in "${tool[@]}" "${library[@]}"; do
+        folder=$file
+        while [ "$folder" != "$prefix" ] && [ "$folder" != / ]; do
+            folder=$(dirname "$folder")
+            echo "$folder"
+        done
+    done | LC_ALL=C sort -ru
+}
+
+# Removes what was installed, and the folders of it that the note has; gives whether nothing of it is left.
+remove() {
+    local file folder noted status=0 found=()
+    for file in "${tool[@]}" "${library[@]}"; do
+        [ ! -e "$file" ] && [ ! -L "$file" ] || found+=("$file")
     done
-    [ -e "$folders" ] || exit 0
-    # a folder stands after those that it holds
-    made=$(sort -r "$folders")
-    rm -f "$folders"
+    if [ ! -f "$folders" ]; then
+        [ ${#found[@]} -eq 0 ] || fail "${found[0]} is there, but not by this script: nothing is removed"
+        return 0
+    fi
+    for file in "${found[@]}"; do
+        { rm -f -- "$file" && echo "removed $file"; } || status=1
+    done
+    [ "$status" = 0 ] || return 1
+    noted=$(cat "$folders")
+    rm -f "$folders" || return 1
     while IFS= read -r folder; do
-        rmdir "$folder" 2>/dev/null || true
-    done <<<"$made"
-    exit
+        if grep -qxF -- "$folder" <<<"$noted"; then
+            # (it stays where somebody else's files are in it)
+            rmdir "$folder" 2>/dev/null || true
+        fi
+    done < <(folders_of_all)
+}
+
+if [ -n "$remove" ]; then
+    remove || exit 1
+    exit 0
 fi
 
 # What is started runs in a group of its own, which ends with this script.
-started=
+started='' unfinished=''
 finish() {
     [ -z "$started" ] || kill -- "-$started" 2>/dev/null || true
+    [ -z "$unfinished" ] || rm -f "$unfinished"
 }
 trap finish EXIT
 trap 'exit 1' INT TERM HUP
@@ -90,21 +166,26 @@ start() {
     return "$status"
 }
 
-# builds the program where there is none, or the sources have changed
-start "$top/avrstk" --help
+# (if there is none, it says so)
+built=${AVRSTK:-$("$top/avrstk" --which)}
+[ -f "$built" ] || fail "$built is no file"
+check "$folders" "${tool[@]}"
+[ -z "$with_c" ] || check "${library[@]}"
 # (the part file first, beside which the made folders are noted)
 put 644 "$top/parts/classic.toml" "$parts"
-put 755 "$top/crates/avrstk/out/avrstk" "$program"
+put 755 "$built" "$program"
 put 755 "$top/avrstk-serial" "$serial"
-put 644 "$top/docs/avrstk.1" "$manual"
+put 755 "$top/avrstk-serve" "$serve"
+for page in "$top"/docs/*.1; do
+    put 644 "$page" "$prefix/share/man/man1/${page##*/}"
+done
 put 644 "$top/completions/avrstk.bash" "$completions"
-ln -sf avrstk "$of_serial"
-echo "installed $of_serial"
-command -v python3 >/dev/null || echo "avrstk-serial needs python3, which is not on the path"
+put_link avrstk "$of_serial"
+put_link avrstk "$of_serve"
+command -v python3 >/dev/null || echo "avrstk-serial and avrstk-serve need python3, which is not on the path"
 [ -n "$with_c" ] || exit 0
 if ! command -v rt >/dev/null || ! command -v ar >/dev/null; then
-    echo "error: $archive and $header need rt of Rattle's kit, and ar" >&2
-    exit 1
+    fail "$archive and $header need rt of Rattle's kit, and ar"
 fi
 echo "proves and builds the library for C, in several minutes"
 start "$top/examples/c/build.sh" "$top/out/c"
@@ -113,8 +194,7 @@ put 644 "$top/include/avr_records.h" "$header"
 put 644 "$top/out/c/avr_records.pc" "$config"
 if [ -e "$top/out/c/$shared" ]; then
     put 644 "$top/out/c/$shared" "$prefix/lib/$shared"
-    ln -sf "$shared" "$link"
-    echo "installed $link"
+    put_link "$shared" "$link"
 else
     echo "no shared library was made, since there is no C compiler"
 fi

@@ -1,4 +1,4 @@
-# Completions of bash for avrstk and avrstk-serial: options, parts with those of a given part file, ports and devices, and
+# Completions of bash for avrstk, avrstk-serial and avrstk-serve: options, parts with those of a given part file, ports and devices, and
 # updates piece by piece, also where they are glued to their option.
 
 # What can stand behind a front in colons: one of these words, or without words a file's name.
@@ -41,12 +41,17 @@ _avrstk_update() {
     esac
 }
 
-# The parts: of the part file that is given, else the built-in ones, and for the script those that come with it.
+# The folder of the command that is being typed.
+_avrstk_folder() {
+    dirname "$(readlink -f "$(type -P "${line%%[[:blank:]]*}")" 2>/dev/null)" 2>/dev/null
+}
+
+# The parts: of the part file that is given, else the built-in ones, and for the scripts those that come with them.
 _avrstk_parts() {
     local file built_in="m328p t85 m2560" found top
     file=$(sed -nE 's/.*[[:blank:]]--parts[=[:blank:]][[:blank:]]*([^[:blank:]]+).*/\1/p' <<<"$line")
-    if [ -z "$file" ] && [ "$script" = avrstk-serial ]; then
-        top=$(dirname "$(readlink -f "$(type -P "${line%%[[:blank:]]*}")" 2>/dev/null)" 2>/dev/null)
+    if [ -z "$file" ] && [ "$script" != avrstk ]; then
+        top=$(_avrstk_folder)
         for found in "$top/parts/classic.toml" "$top/../share/avrstk/classic.toml"; do
             [ ! -f "$found" ] || { file=$found && break; }
         done
@@ -59,15 +64,15 @@ _avrstk_parts() {
 _avrstk_value() {
     case $1 in
         -p) _avrstk_parts ;;
-        -c) _avrstk_behind "" "stk500v2$([ "$script" = avrstk ] || echo " wiring")" ;;
-        -P) if [ "$script" = avrstk-serial ]; then
-            compgen -W "$(compgen -G "/dev/ttyACM*"; compgen -G "/dev/ttyUSB*")" -- "$value"
-        else
+        -c) _avrstk_behind "" "stk500v2$([ "$script" = avrstk ] || echo " wiring avrispv2 stk500")" ;;
+        -P)
+            if [ "$script" = avrstk-serial ]; then
+                compgen -W "$(compgen -G "/dev/ttyACM*"; compgen -G "/dev/ttyUSB*")" -- "$value"
+            fi
             case $value in
                 emu:*) _avrstk_behind emu: ;;
                 *) _avrstk_behind "" "stdio: emu: net:" ;;
-            esac
-        fi ;;
+            esac ;;
         -U) _avrstk_update ;;
         -b) [ "$script" = avrstk ] || _avrstk_behind "" "9600 19200 38400 57600 115200 250000" ;;
         --parts | --chip) _avrstk_behind "" ;;
@@ -75,19 +80,27 @@ _avrstk_value() {
 }
 
 _avrstk() {
-    local line=${COMP_LINE:0:COMP_POINT} typed value before front= found script
+    local line=${COMP_LINE:0:COMP_POINT} typed value before front="" found script
     local options="-p -c -P -U -e -D -V -n -F -A -q -b -v --parts --serve --chip -h --help"
     script=${line%%[[:blank:]]*}
     script=${script##*/}
-    [ "$script" = avrstk-serial ] || script=avrstk
-    [ "$script" = avrstk ] || options="-p -c -P -U -e -D -V -n -F -A -q -b -v -C -l --parts --wait -h --help"
+    case $script in
+        avrstk-serial) options="-p -c -P -U -e -D -V -n -F -A -q -b -v -C -l --parts --wait -h --help" ;;
+        avrstk-serve) options="-p --chip --parts --idle -h --help" ;;
+        *) script=avrstk ;;
+    esac
     typed=${line##*[[:blank:]]}
     before=${line%"$typed"}
     before=${before%"${before##*[![:blank:]]}"}
+    # the first option in a clone
+    if [[ $before != *[[:blank:]]* ]] && [ -e "$(_avrstk_folder)/crates.txt" ]; then
+        [ "$script" = avrstk-serve ] || options+=" --unproved"
+        [ "$script" != avrstk ] || options+=" --build --which"
+    fi
     before=${before##*[[:blank:]]}
     value=$typed
     case $before in
-        -[pcPUb] | --parts | --chip | --serve | --wait) found=$(_avrstk_value "$before") ;;
+        -[pcPUb] | --parts | --chip | --serve | --wait | --idle) found=$(_avrstk_value "$before") ;;
         *) case $typed in
             --parts=* | --chip=*)
                 front=${typed%%=*}=
@@ -111,4 +124,4 @@ _avrstk() {
     [[ $COMP_WORDBREAKS != *:* ]] || COMPREPLY=("${COMPREPLY[@]#"${typed%"${typed##*:}"}"}")
 }
 
-complete -F _avrstk avrstk avrstk-serial
+complete -F _avrstk avrstk avrstk-serial avrstk-serve

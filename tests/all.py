@@ -1,13 +1,15 @@
 #!/usr/bin/env python3
-"""Runs the scripts beside this one, side by side, and with `--all` also all proofs, and says at the end what came of each.
+"""Runs the tests side by side, each line of the log with the minutes so far.
 
-    tests/all.py            builds the sources without proofs, and runs the quick scripts over that program
-    tests/all.py --all      the same, and beside it proves all (rt ci); then the scripts over what rt ci leaves
+    tests/all.py             builds the program without proofs, and runs the quick scripts over it
+    tests/all.py NAME ..     runs these scripts, over the program that AVRSTK names, or the one that is built
+    tests/all.py --all       proves everything (rt ci), with the quick scripts beside it; then runs all scripts over the
+                             proved program
 
-Each line has the minutes so far in front; the output of a script comes when it has ended. What fails hides nothing: all
-that follows is run, and the status is 1 at the end. The summary has the status of each, its minutes and its last line,
-the lines that say what failed, how the wrong bodies of rt ci were refused, and what was left out since a tool isn't
-installed (`./test --tools`); with NEED_ALL=1 in the environment that is a failure too.
+A script's output is printed when the script has ended. All steps run even if one fails; the status is then 1. The summary
+has each step's status, minutes and last line, the lines that say what failed, and how the wrong bodies were refused. It
+lists what was left out because a tool isn't installed (`./test --tools` installs them); with NEED_ALL=1 in the
+environment that is a failure. Its last line counts what passed and what failed in all steps.
 """
 
 import os
@@ -24,20 +26,26 @@ TOP = Path(__file__).resolve().parent.parent
 UNPROVED = TOP / "out/unproved/avrstk"
 PROVED = TOP / "crates/avrstk/out/avrstk"
 
-# what runs no program of this project's, or compiles it itself
-SOURCES = ("rattle tests", "rattle refused", "rattle programs", "rattle documentation", "build", "measure --check", "vendor")
-# over the program without proofs, and over the proved one, those first that take longest
-QUICK = ("serial", "parts", "avrdude", "runs", "chips", "why", "claims", "lines", "hostile", "made_frames", "manual", "programmer")
+# those that only read
+CHECKED = ("measure --check", "reach --check")
+# the scripts that run no program of this project, or compile it themselves, the longest first
+SOURCES = ("rattle tests", "rattle programs", "rattle refused", "rattle documentation", "vendor", "build", *CHECKED)
+# those that take seconds
+SHORT = ("made_frames", "manual", "programmer")
+# those over the program without proofs, and those over the proved one, the longest first
+QUICK = ("serial", "parts", "avrdude", "runs", "chips", "package", "serve", "recipes", "why", "claims", "lines", "hostile", *SHORT)
 PROGRAM = ("faults", "cuts_and_stalls", "mega", "from_c", "others", "vendor proof", "calls", *QUICK)
 
 LANES = len(os.sched_getaffinity(0))
-GIGABYTE = 1_000_000  # in kB
+# what a check needs of memory at most, in kB
+CHECK = 3_000_000
 BEGUN = time.monotonic()
 
-# what a script says of what it leaves out
+# what a script says of what it leaves out, and of how many checks passed and failed
 LEFT_OUT = re.compile(r"\s*(?:left out|skipped): (.*)")
+COUNTS = re.compile(r".*?(\d+) passed, (\d+) failed")
 
-# what a script, and rt, say of what fails, and how many such lines the summary says again
+# what a script, and rt, say of what fails, and how many such lines the summary repeats
 FAILURE = re.compile(r"(?:rt: )?FAILED: |.*(?:NOT PROVED|NOT REFUSED|BAD EDIT)")
 MOST_FAILURES = 20
 
@@ -55,12 +63,19 @@ REFUSALS = {
 
 @dataclass
 class Done:
-    """What came of one command: what it is, its status, how long it took, and its lines."""
+    """One step that has ended: its name, its status, how long it took, on a clock and of processors, and its lines."""
 
     what: str
     status: int
     seconds: float
+    processor: float
     lines: list
+
+    def end(self):
+        return "ok" if self.status == 0 else f"FAILED ({self.status})"
+
+    def took(self):
+        return f"{self.seconds / 60:.1f} minutes, {self.processor:.0f} s of a processor"
 
     def last(self):
         return self.lines[-1].strip()[:200] if self.lines else ""
@@ -68,16 +83,22 @@ class Done:
     def left_out(self):
         return [f"{self.what}: {found[1]}" for found in map(LEFT_OUT.fullmatch, self.lines) if found]
 
+    def counts(self):
+        """How many of its checks passed and how many failed; a step that counts none is one check."""
+        found = next(filter(None, map(COUNTS.match, reversed(self.lines))), None)
+        passed, failed = (int(found[1]), int(found[2])) if found else (int(self.status == 0), 0)
+        return passed, failed or int(self.status != 0)
+
 
 def say(lines):
-    """Prints lines, each with the minutes so far, and none of another lane between them."""
+    """Prints lines with the minutes so far, and none of another step between them."""
     minutes = (time.monotonic() - BEGUN) / 60
     sys.stdout.write("".join(f"{minutes:5.1f} {it}\n" for it in lines))
     sys.stdout.flush()
 
 
 def run(what, command, comes=False, **environment):
-    """Runs a command, whose output goes through as it `comes`, or when it has ended."""
+    """Runs a command. Its output is printed as it `comes`, or when it has ended."""
     say([f"== {what}"])
     begun, lines = time.monotonic(), []
     try:
@@ -87,52 +108,79 @@ def run(what, command, comes=False, **environment):
                 lines.append(line.rstrip())
                 if comes:
                     say(lines[-1:])
-        status = started.returncode
+            _, ended, used = os.wait4(started.pid, 0)
+            started.returncode = status = os.waitstatus_to_exitcode(ended)
+        processor = used.ru_utime + used.ru_stime
     except OSError as fault:
-        status, lines = 127, [f"cannot be run: {fault}"]
-    done = Done(what, status, time.monotonic() - begun, [it for it in lines if it.strip()])
-    say([*([] if comes else lines), f"== {'ok' if status == 0 else f'FAILED ({status})'}: {what}, {done.seconds / 60:.1f} minutes"])
+        status, processor, lines = 127, 0, [f"cannot be run: {fault}"]
+    done = Done(what, status, time.monotonic() - begun, processor, [it for it in lines if it.strip()])
+    say([*([] if comes else lines), f"== {done.end()}: {what}, {done.took()}"])
     return done
 
 
-def script(name, program):
-    """Runs a script over a program."""
+def script(name, kind="", **environment):
+    """Runs a script; what `kind` of program it runs is in its name in the log."""
     file, *words = name.split()
     command = [TOP / "bench/run.py", "--calls"] if file == "calls" else [TOP / f"tests/{file}.py", *words]
-    return run(f"{'proved' if program == PROVED else 'unproved'}: {name}", command, AVRSTK=str(program), PYTHONUNBUFFERED="1")
+    return run(f"{kind}{name}", command, PYTHONUNBUFFERED="1", **environment)
 
 
 def build():
     return run("./avrstk --unproved", ["sh", "-c", "./avrstk --unproved --help >/dev/null"])
 
 
+def current():
+    """Whether ./avrstk has a program to run."""
+    return subprocess.run(["./avrstk", "--which"], cwd=TOP, capture_output=True).returncode == 0
+
+
 def ci():
-    """Proves all: one task a processor where each has 3 GB, else as many as rt finds room for."""
+    """Proves everything, with one task for each processor for which there is memory."""
     free = int(re.search(r"MemAvailable: +(\d+)", Path("/proc/meminfo").read_text())[1])
-    lanes = {"RT_JOBS": str(LANES)} if free >= 3 * GIGABYTE * LANES and "RT_JOBS" not in os.environ else {}
-    return run("rt ci", ["rt", "ci"], comes=True, **lanes)
+    jobs = os.environ.get("RT_JOBS") or str(max(1, min(LANES, free // CHECK)))
+    return run("rt ci", ["rt", "ci"], comes=True, RT_JOBS=jobs)
 
 
-def everything(proves):
-    """Runs all, in lanes; beside rt ci, which has the processors, in two."""
-    built = build()
-    quick = QUICK if built.status == 0 else ()
-    # (what breaks is to be seen soon; alone, what takes longest begins)
-    first = (*quick, *SOURCES) if proves else (*SOURCES, *quick)
-    with ThreadPoolExecutor(1) as beside, ThreadPoolExecutor(2 if proves else LANES) as lanes:
-        proving = [beside.submit(ci)] if proves else []
-        done = [built, *lanes.map(lambda it: script(it, UNPROVED), first), *(it.result() for it in proving)]
-    if proves:
-        with ThreadPoolExecutor(LANES) as lanes:
-            done += lanes.map(lambda it: script(it, PROVED), PROGRAM)
-    return done
+def quick(lanes):
+    """Begins to build the program without proofs, and to run the scripts that need no program and those over it."""
+    built = lanes.submit(build)
+
+    def over_it(name):
+        return [script(name, "unproved: ", AVRSTK=str(UNPROVED))] if built.result().status == 0 else []
+
+    begun = [lanes.submit(lambda it: [script(it)], name) for name in SOURCES]
+    begun += [lanes.submit(over_it, name) for name in QUICK]
+    return lambda: [built.result(), *(done for it in begun for done in it.result())]
+
+
+def few():
+    """Runs the quick scripts, one a processor."""
+    with ThreadPoolExecutor(LANES) as lanes:
+        return quick(lanes)()
+
+
+def everything():
+    """Runs rt ci with the quick scripts beside it, then all scripts over the proved program."""
+    with ThreadPoolExecutor(1) as beside, ThreadPoolExecutor(max(1, LANES // 2)) as lanes:
+        proving, others = beside.submit(ci), quick(lanes)
+        done = [*others(), proving.result()]
+    with ThreadPoolExecutor(LANES) as lanes:
+        return done + list(lanes.map(lambda it: script(it, "proved: ", AVRSTK=str(PROVED)), PROGRAM))
+
+
+def chosen(names):
+    """Runs the scripts of these names, which take the program that is built."""
+    steps = [it for it in dict.fromkeys([*SOURCES, *PROGRAM]) if {it, it.split()[0]} & set(names)]
+    built = [] if os.environ.get("AVRSTK") or current() else [build()]
+    with ThreadPoolExecutor(LANES) as lanes:
+        return built + list(lanes.map(script, steps))
 
 
 def summary(done):
-    """Prints what came of all, and gives the status."""
+    """Prints the outcome of all steps, and returns the status."""
     print("== summary")
     for it in done:
-        print(f"{'ok    ' if it.status == 0 else f'FAILED ({it.status})'} {it.seconds / 60:5.1f} min  {it.what}: {it.last()}")
+        print(f"{it.end():10} {it.seconds / 60:5.1f} min {it.processor:6.0f} s  {it.what}: {it.last()}")
         for line in [it.strip() for it in it.lines if FAILURE.match(it)][:MOST_FAILURES] if it.status else []:
             print(f"    {line[:300]}")
     refused = [found[1] for it in done for found in map(REFUSED.search, it.lines) if found]
@@ -141,16 +189,24 @@ def summary(done):
         told = ", ".join(f"{kinds[kind]} {kind}" for kind in REFUSALS if kinds[kind])
         print(f"wrong bodies: {len(refused)} refused, of these {told}")
     left = [line for it in done for line in it.left_out()]
-    print(f"left out, since a tool is not installed: {len(left) or 'nothing'}", *left, sep="\n    ")
-    failed = sum(it.status != 0 for it in done)
-    print(f"{len(done) - failed} ok, {failed} failed, {len(left)} left out, in {(time.monotonic() - BEGUN) / 60:.0f} minutes")
-    if left and os.environ.get("NEED_ALL") == "1":
-        print("FAILED: with NEED_ALL=1 nothing may be left out")
-        return 1
-    return int(failed > 0)
+    print(f"left out because a tool isn't installed: {len(left) or 'nothing'}", *left, sep="\n    ")
+    wrong = sum(it.status != 0 for it in done)
+    took = f"{(time.monotonic() - BEGUN) / 60:.0f} minutes on {LANES} processors, {sum(it.processor for it in done):.0f} s of one"
+    print(f"{len(done)} steps in {took}; {wrong} of them failed")
+    passed, failed = (sum(counts) for counts in zip(*(it.counts() for it in done)))
+    print(f"{passed} passed, {failed} failed")
+    return int(wrong > 0)
+
+
+def main(words):
+    if words in ([], ["--all"]):
+        return summary(everything() if words else few())
+    known = {it.split()[0] for it in (*SOURCES, *PROGRAM)} | {*SOURCES, *PROGRAM}
+    if set(words) - known:
+        print(__doc__.strip(), "", "Scripts:", *(f"    {it}" for it in sorted(known)), sep="\n")
+        return 2
+    return summary(chosen(words))
 
 
 if __name__ == "__main__":
-    if sys.argv[1:] not in ([], ["--all"]):
-        sys.exit(__doc__.strip())
-    sys.exit(summary(everything(sys.argv[1:] == ["--all"])))
+    sys.exit(main(sys.argv[1:]))

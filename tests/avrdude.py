@@ -2,7 +2,7 @@
 """AVRDUDE 7.1 as the client of the programmer that this program serves: what it writes, reads and erases is what this
 program does over `emu:`.
 
-    tests/avrdude.py [CASE ..]    needs crates/avrstk/out/avrstk, as rt ci leaves it; AVRDUDE 7.1, or all is left out
+    tests/avrdude.py [CASE ..]    needs a built program (program.py); AVRDUDE 7.1, or all is left out
 
 For an ATmega328P, an ATtiny85 and an ATmega2560, each request is made twice: by AVRDUDE over `net:` to `--serve`, and
 by this program over `emu:` to a chip file of its own, both with the same words. Flash and EEPROM are filled with drawn

@@ -8,21 +8,17 @@ chip is wanted while another run or a served session has it. What a refused call
 """
 
 import os
-import re
 import shutil
 import signal
-import socket
 import stat
-import struct
 import subprocess
 import sys
 import tempfile
 import threading
 import time
-from pathlib import Path
 
 from cases import PATIENCE, leave_out, named, run_cases, same, see
-from program import CHIP_FILE, FRAMES, PROGRAM, TOP, Room, Server, free_port, has_avrdude, lines
+from program import CHIP_FILE, PROGRAM, TOP, Room, Server, lines
 
 room = Room()
 
@@ -262,51 +258,9 @@ def a_full_disk():
     same("no file is left beside it", room.read(NEW_FILE), None)
 
 
-def the_recipe():
-    """The recipe of USAGE for callers one after another, as it stands but for its port: each call succeeds, with no pause
-    between them."""
-    room.clear()
-    usage = (TOP / "docs/USAGE.md").read_text()
-    first, *calls = re.search(r"^    \$ examples/serve_all.*\n(    \$ .*\n)+", usage, re.M)[0].replace("    $ ", "").splitlines()
-    if not has_avrdude():
-        leave_out("AVRDUDE's calls in the recipe", "AVRDUDE 7.1 is not installed")
-        calls = [it for it in calls if not it.startswith("avrdude")]
-    for name, target in [("examples", TOP / "examples"), ("avrstk", PROGRAM)]:
-        (room.folder / name).symlink_to(target)
-    pasted = "\n".join([first, "server=$!", *(f"{it} || echo failed" for it in calls), "kill $server"])
-    port = str(free_port())
-    how = {"cwd": room.folder, "env": os.environ | {"AVRSTK": str(PROGRAM)}, "capture_output": True, "text": True}
-    ran = subprocess.run(["bash", "-c", pasted.replace("5000", port)], timeout=PATIENCE, **how)
-    see("each call succeeds", ran.returncode == 0 and "failed" not in ran.stdout, (ran.stdout, ran.stderr))
-    see("the chip has the firmware", (room.read("chip.bin") or b"")[:2] == b"\x0c\x94")
-
-
-def callers_that_reset():
-    """Callers one after another: each second one resets the connection, in the middle of a session, and the others get
-    what they want."""
-    fresh_room()
-    port = str(free_port())
-    words = [str(TOP / "examples/serve_all.py"), port, "--chip", "chip.bin", "-p", "m328p"]
-    server = subprocess.Popen(words, cwd=room.folder, env=os.environ | {"AVRSTK": str(PROGRAM)})
-    try:
-        wait_for(lambda: f" 0100007F:{int(port):04X} 00000000:0000 0A " in Path("/proc/net/tcp").read_text())
-        for value in range(0x60, 0x68):
-            found = room.run(["-p", "m328p", "-P", f"net:127.0.0.1:{port}", "-U", f"lfuse:w:{value}:m"])
-            see(f"fuse {value}", found[0] == 0, found)
-            with socket.create_connection(("127.0.0.1", int(port)), PATIENCE) as caller:
-                caller.sendall(FRAMES[0])
-                see("an answer", caller.recv(1) == b"\x1b")
-                caller.setsockopt(socket.SOL_SOCKET, socket.SO_LINGER, struct.pack("ii", 1, 0))
-        wait_for(lambda: room.read(NEW_FILE) is None)
-        see("the last one's fuse is there", room.read("chip.bin") == with_fuse(OLD, 0x67))
-    finally:
-        server.terminate()
-        server.wait()
-
-
 CASES = named(
     *(ended_anywhere, at_once, held_by_a_run, held_by_a_session, refused_by_then, told_before, what_stays, left_behind),
-    *(no_regular_file, a_full_disk, the_recipe, callers_that_reset),
+    *(no_regular_file, a_full_disk),
 )
 
 

@@ -2,13 +2,14 @@
 """Tries sentences of README and docs/USAGE, docs/PROTOCOL and docs/FORMATS as they stand: what `written` and status 0
 mean, what is sent after a fault, what a silence is, what a file is taken for, and what AVRDUDE does where USAGE says.
 
-    tests/claims.py        needs crates/avrstk/out/avrstk, as rt ci leaves it; AVRDUDE 7.1, or its rows are left out
+    tests/claims.py        needs a built program (program.py); AVRDUDE 7.1, or its rows are left out
 """
 
 import fcntl
 import os
 import re
 import shlex
+import shutil
 import signal
 import socket
 import struct
@@ -102,6 +103,11 @@ def what_another_tool_left_stays_elsewhere():
     chip = run("a chip of 00 everywhere", ["-U", "flash:w:1:m"], told, chip=bytes(CHIP_FILE))
     see("its fuses stay", chip[LFUSE:LOCK] == bytes(3), chip[LFUSE:])
     see("its EEPROM too, as its fuse keeps it", chip[FLASH:LFUSE] == bytes(EEPROM))
+
+
+def comparisons_look_at_the_image_alone():
+    told = [SIGNATURE, "flash: 2 bytes verified", "done"]
+    run("other bytes elsewhere", ["-U", "flash:v:0x42,0x42:m"], told, chip=b"\x42" * (CHIP_FILE - 1) + b"\xff")
 
 
 # ---- files
@@ -468,12 +474,29 @@ def avrdude():
             see("and the chip has them", chip[:2] == b"\x0c\x94", chip[:2])
 
 
+# ---- the toolchain
+
+
+def the_logic():
+    """The sum of the logic that the documents name is that of the kit that proves here."""
+    if not shutil.which("rt"):
+        return leave_out("the sum of the logic", "rt is not installed")
+    ran = subprocess.run(["rt", "version"], capture_output=True, text=True)
+    named = {it for it in ("README.md", "CONTRIBUTING.md", "docs/PROOFS.md", "docs/LIBRARY.md") if "logic" in text(it)}
+    see("README names it", "README.md" in named)
+    for page in sorted(named):
+        sums = set(re.findall(r"logic\s+([0-9a-f]{16})", text(page)))
+        see(f"the logic that {page} names", sums <= set(ran.stdout.split()), (sums, ran.stdout))
+
+
 CASES = named(
+    the_logic,
     written_is_no_more_than_answered,
     what_is_written_is_there,
     a_locked_chip_without_an_erase,
     plans_that_no_second_run_heals,
     what_another_tool_left_stays_elsewhere,
+    comparisons_look_at_the_image_alone,
     files_are_written_over,
     text_is_flashed,
     an_empty_file_erases,

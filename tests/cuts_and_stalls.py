@@ -2,7 +2,7 @@
 """A run and the programmer that the program serves, as two processes at the ends of a line that keeps the order of bytes,
 loses none and adds none, and cuts and stalls wherever it was drawn to, inside frames too: 150 runs, of fixed seeds.
 
-    tests/cuts_and_stalls.py [CASE ..]    needs crates/avrstk/out/avrstk, as rt ci leaves it
+    tests/cuts_and_stalls.py [CASE ..]    needs a built program (program.py)
 
 What the laws of two processes say is looked at in each run: without a stall it does what it does over `emu:`; with status
 0 the chip has what was written, and the messages are those of `emu:`; whatever the status, the chip is as the first so

@@ -2,7 +2,7 @@
 """Lets each call that the built program makes of the system fail in turn: requests for memory, reads, writes, openings, and
 what it asks of sockets.
 
-    tests/faults.py [CASE ..]        needs crates/avrstk/out/avrstk, as rt ci leaves it, and a C compiler (tests/refuse.c),
+    tests/faults.py [CASE ..]        needs a built program (program.py), and a C compiler (tests/refuse.c),
                                      or all is left out
 
 The runs over the emulator begin with a chip that has something to lose, and its file has to be whole, and as it was or

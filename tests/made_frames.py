@@ -4,7 +4,7 @@ inside one answer, which carries bytes of the chip that read as the answers to w
 status 0 leaves another byte than the image's. And a line that spoils one byte, the size of a frame, makes none: the
 programmer takes what follows for the rest of that frame, and the run ends with an error.
 
-    tests/made_frames.py       needs crates/avrstk/out/avrstk, as rt ci leaves it
+    tests/made_frames.py       needs a built program (program.py)
 """
 
 import socket

@@ -1,11 +1,13 @@
 #!/usr/bin/env python3
-"""Holds the page of manual to docs/USAGE, and both to the options of the program.
+"""Holds the man pages to docs/USAGE, and both to the options of the programs.
 
-    tests/manual.py [CASE ..]  docs/avrstk.1 is what is made of docs/USAGE.md; USAGE, the completions and docs/PART name
-                               the options and parts that the program's --help names; runs over `emu:` print what README
-                               and USAGE show of them, and what USAGE tells of differences from AVRDUDE holds: needs
-                               crates/avrstk/out/avrstk, as rt ci leaves it
-    tests/manual.py --write    makes docs/avrstk.1 of docs/USAGE.md
+    tests/manual.py [CASE ..]  docs/*.1 have what is made of docs/USAGE.md, the sections that a man page has, and every
+                               option of --help; mandoc and groff take them without a warning; USAGE, the completions and
+                               docs/PART name the options and parts that the program's --help names; runs over `emu:`
+                               print what README and USAGE show of them, and what USAGE says of differences from AVRDUDE
+                               holds: needs a built program (program.py)
+    tests/manual.py --write    makes those parts of docs/*.1 that come from docs/USAGE.md: each between a comment that
+                               names its section, perhaps with the one kind of block that is taken, and `.\\" end`
 """
 
 import re
@@ -15,34 +17,26 @@ import subprocess
 import sys
 import tempfile
 from pathlib import Path
+from textwrap import wrap
 
 from cases import leave_out, named, run_cases, same, see
 from program import PROGRAM, TOP
 
 USAGE = TOP / "docs/USAGE.md"
-PAGE = TOP / "docs/avrstk.1"
+PAGES = {it: TOP / f"docs/{it}.1" for it in ["avrstk", "avrstk-serial", "avrstk-serve"]}
 
 VERSION = (TOP / "VERSION").read_text().strip()
 
-HEAD = rf""".\" Made of docs/USAGE.md by tests/manual.py --write.
-.TH AVRSTK 1 "" "avrstk {VERSION}" "Programming AVR parts"
-.SH NAME
-avrstk \- programs AVR parts through an STK500v2 programmer
-.SH SYNOPSIS
-.B avrstk
-.RI \-p\~ PART
-.RI \-P\~ PORT
-.RI [ option ]..
-.RI [\-U\~ UPDATE ]..
-.br
-.B avrstk
-.RI \-p\~ PART
-.RI \-\-serve\~ PORT
-.RI \-\-chip\~ FILE
-.SH DESCRIPTION
-Reads every image, opens a session with the programmer, erases, writes, reads back, compares, reads memories into files,
-and leaves.
-"""
+# the first line of what comes from USAGE, with its section and a kind of block, and the last
+MADE = re.compile(r'\.\\" docs/USAGE\.md, ([^:\n]+)(?:: (\w+))?')
+END = '.\\" end'
+
+# how wide a line of a page may be, and a tag as it is shown
+WIDTH = 79
+SHOWN_WIDTH = 66
+
+# what is said for those who have the repository alone
+HERE_ALONE = re.compile(r"\bclone\b|\brepository\b")
 
 
 # what roff would take for something else
@@ -73,6 +67,13 @@ def line(text):
     return f"\\&{text}" if text[:1] in (".", "'") else text
 
 
+def filled(text):
+    """A text in lines, each sentence on lines of its own."""
+    for sentence in re.split(r"(?<=[.?!]) (?=[A-Z\\(])", text):
+        for it in wrap(sentence, WIDTH - 2, break_long_words=False, break_on_hyphens=False):
+            yield line(it)
+
+
 def cells(row):
     return [it.strip() for it in row.strip().strip("|").split(" | ")]
 
@@ -84,7 +85,22 @@ def table(rows):
         tag, *rest = cells(row)
         more = [ended(it, head) for head, it in zip(heads[2:], rest[1:])]
         said = [ended(rest[0]), *more] if more else rest
-        yield from [".TP", line(inline(tag)), line(inline(" ".join(it for it in said if it))) or "\\&"]
+        yield from tagged(tag)
+        yield from list(filled(inline(" ".join(it for it in said if it)))) or ["\\&"]
+
+
+def tagged(tag):
+    """A tag of as many lines as it needs; code is not broken."""
+    lines = [""]
+    for word in re.findall(r"(?:`[^`]*`|[^\s`])+", tag):
+        longer = f"{lines[-1]} {word}".strip()
+        is_wide = len(inline(longer)) > WIDTH or len(longer.replace("`", "")) > SHOWN_WIDTH
+        if lines[-1] and is_wide:
+            lines.append(word)
+        else:
+            lines[-1] = longer
+    for macro, it in zip([".TP"] + [".TQ"] * len(lines), lines):
+        yield from [macro, line(inline(it))]
 
 
 def ended(text, head=""):
@@ -108,10 +124,10 @@ def item(rows):
             blocks.append(it[6:])
             continue
         if blocks and it.strip():
-            yield from [line(inline(" ".join(texts))), *code(blocks), ".IP \"\" 2"]
+            yield from [*filled(inline(" ".join(texts))), *code(blocks), ".IP \"\" 2"]
             texts, blocks = [], []
         texts += [it.strip()] if it.strip() else []
-    yield from [line(inline(" ".join(texts)))] if texts else []
+    yield from filled(inline(" ".join(texts)))
     yield from code(blocks) if blocks else []
 
 
@@ -133,28 +149,72 @@ def blocks_of(text):
         yield kind, held
 
 
-def page():
-    """The page of manual."""
-    # the title and the synopsis are those of the head
-    _, _, *blocks = blocks_of(USAGE.read_text())
-    first = next(at for at, (kind, _) in enumerate(blocks) if kind == "table")
-    blocks.insert(first, ("head", ["## Options"]))
-    made = []
-    for kind, rows in blocks:
+def sections():
+    """The blocks of each section of USAGE, by its heading."""
+    found, blocks = {}, []
+    for kind, rows in blocks_of(USAGE.read_text()):
         if kind == "head":
-            deep, name = rows[0].split(" ", 1)
-            made.append(f".SH {escaped(name).upper()}" if deep == "##" else f".SS {escaped(name)}")
-        elif kind == "table":
-            made += table(rows)
-        elif kind == "item":
-            while rows and not rows[-1].strip():
-                rows.pop()
-            made += item(rows)
-        elif kind == "code":
-            made += [".PP", *code([it[4:] for it in rows])]
+            blocks = found.setdefault(rows[0].lstrip("# "), [])
         else:
-            made += [".PP", line(inline(" ".join(it.strip() for it in rows)))]
-    return HEAD + "\n".join(made) + "\n"
+            blocks.append((kind, rows))
+    return found
+
+
+def places():
+    """The page and the heading under which each section of USAGE is."""
+    found = {}
+    for name, file in PAGES.items():
+        heading = None
+        for row in file.read_text().splitlines():
+            heading = row.split(" ", 1)[1] if row.startswith((".SH ", ".SS ")) else heading
+            if made := MADE.fullmatch(row):
+                found[made[1]] = name, heading
+    return found
+
+
+def for_page(text, page, places):
+    """A text of USAGE as the page says it: without what is only in the repository, and with the page's own headings."""
+    text = re.sub(r"; docs/[A-Z]+(?=\))| \((?:docs/|CHANGELOG)[^()]*\)", "", text)
+
+    def named(found):
+        where = places.get(found[1])
+        if where is None:
+            return found[0]
+        return f"(see **{where[1]}**" + ("" if where[0] == page else f" in {where[0]}(1)") + ")"
+
+    return re.sub(r'\("([^"]+)"(?:, below)?\)', named, text)
+
+
+def made(page, section, only, places):
+    """What a page has of a section of USAGE."""
+    is_first = True
+    for kind, rows in sections()[section]:
+        if only not in (None, kind):
+            continue
+        if kind in ("table", "item"):
+            while not rows[-1].strip():
+                rows.pop()
+            rows = [for_page(it, page, places) for it in rows if not HERE_ALONE.search(it)]
+            yield from table(rows) if kind == "table" else item(rows)
+        elif kind == "code":
+            yield from [*([] if is_first else [".PP"]), *code([it[4:] for it in rows])]
+        else:
+            sentences = re.split(r"(?<=[.?:]) (?=[A-Z`*(])", " ".join(it.strip() for it in rows))
+            text = " ".join(it for it in sentences if not HERE_ALONE.search(it))
+            yield from [*([] if is_first else [".PP"]), *filled(inline(for_page(text, page, places)))]
+        is_first = False
+
+
+def page(name):
+    """A page with what is made of USAGE."""
+    rows, is_kept = [], True
+    for row in PAGES[name].read_text().splitlines():
+        is_kept |= row == END
+        rows += [row] if is_kept else []
+        if begun := MADE.fullmatch(row):
+            rows += made(name, *begun.groups(), places())
+            is_kept = False
+    return "\n".join(rows) + "\n"
 
 
 def of_help():
@@ -181,7 +241,7 @@ def parts():
 
 
 def shown_runs(file):
-    """Runs the commands over `emu:` that a document shows, in turn in one folder: each prints what is shown, or not."""
+    """Runs the commands over `emu:` that a document shows, in turn in one folder: each prints what is shown of it."""
     blocks = [rows for kind, rows in blocks_of((TOP / file).read_text()) if kind == "code"]
     with tempfile.TemporaryDirectory() as folder:
         shutil.copytree(TOP / "examples", f"{folder}/examples")
@@ -195,7 +255,9 @@ def shown_runs(file):
             ran = subprocess.run([PROGRAM, *words], cwd=folder, **how)
             wanted = [it for it in shown if "avrstk: unproved: " not in it]
             printed = ran.stdout.splitlines()
-            yield f"{file}: {row}: {printed}", not ran.returncode and wanted in ([], printed)
+            # (tests/recipes.py tries those of which nothing is shown)
+            if wanted:
+                yield f"{file}: {row}: {printed}", not ran.returncode and wanted == printed
 
 
 def differences():
@@ -240,9 +302,84 @@ def differences():
         yield f"one byte of EEPROM: {eeprom.hex()}", eeprom == b"\xff" * 100 + b"\x2a" + b"\xff" * 923
 
 
-def page_is_made():
-    """docs/avrstk.1 is made of docs/USAGE.md."""
-    see("docs/avrstk.1 is made of docs/USAGE.md", PAGE.read_text() == page(), "tests/manual.py --write")
+# the headings of each page, in this order, with others between OPTIONS and EXIT STATUS
+HEADINGS = ["NAME", "SYNOPSIS", "DESCRIPTION", "OPTIONS", "EXIT STATUS", "ENVIRONMENT", "FILES", "EXAMPLES", "SEE ALSO"]
+
+# what is not installed: folders and files of the repository
+NOT_INSTALLED = re.compile(r"\b(?:docs|examples|crates|tests|tools|parts)/|\./|\binstall\.sh|CHANGELOG|README|" + HERE_ALONE.pattern)
+
+
+def pages_are_made():
+    """What man pages have of docs/USAGE.md is made of it."""
+    for name, file in PAGES.items():
+        see(f"docs/{name}.1 has what is made of docs/USAGE.md", file.read_text() == page(name), "tests/manual.py --write")
+
+
+def pages_are_whole():
+    """Each page has its headings, the version, and no name of a file that is not installed."""
+    for name, file in PAGES.items():
+        text = file.read_text()
+        head = rf'\.TH {re.escape(escaped(name.upper()))} 1 \d{{4}}-\d\d-\d\d "avrstk {re.escape(VERSION)}" '
+        see(f"{name}(1) has its name, a date and the version", re.match(head, text), text.splitlines()[0])
+        headings = [it for it in re.findall(r"^\.SH (.*)", text, re.M) if it in HEADINGS]
+        same(f"{name}(1) has its headings", headings, HEADINGS)
+        shown = re.sub(r'^\.\\".*|\\f.|\\(?=-)', "", text, flags=re.M)
+        same(f"{name}(1) names what is installed", NOT_INSTALLED.findall(shown), [])
+        others = {escaped(it) for it in PAGES if it != name}
+        named = set(re.findall(r"^\.BR (\S+) \(1\)", text.split("\n.SH SEE ALSO\n")[1], re.M))
+        see(f"{name}(1) names the other pages", others <= named, named)
+
+
+def pages_have_the_options():
+    """Each option that --help names at the begin of a line is one of the page's."""
+    scripts = [("avrstk", PROGRAM), ("avrstk-serial", TOP / "avrstk-serial"), ("avrstk-serve", TOP / "avrstk-serve")]
+    for name, command in scripts:
+        ran = subprocess.run([command, "--help"], capture_output=True, text=True)
+        shown = "\n".join(it for it in ran.stdout.splitlines() if not HERE_ALONE.search(it))
+        rows = re.findall(r"^ +(-.*?)(?:  |$)", shown, re.M)
+        wanted = {it for row in rows for it in re.findall(r"(?<![\w-])--?[\w?][\w-]*", row)}
+        tags = re.findall(r"^\.T[PQ]\n(.*)", PAGES[name].read_text(), re.M)
+        found = set(re.findall(r"(?<![\w-])--?[\w?][\w-]*", " ".join(tags).replace("\\-", "-").replace("\\fB", " ")))
+        see(f"{name} --help names options", not ran.returncode and wanted, ran)
+        same(f"{name}(1) has the options of --help", wanted - found, set())
+
+
+def pages_are_clean():
+    """The pages are without warnings, also of style, and are shown as they are meant."""
+    if shutil.which("mandoc"):
+        for name, file in PAGES.items():
+            ran = subprocess.run(["mandoc", "-T", "lint", file], capture_output=True, text=True)
+            same(f"mandoc's findings in {name}(1)", (ran.returncode, ran.stdout), (0, ""))
+    else:
+        leave_out("the man pages as mandoc takes them", "mandoc is not installed")
+    if not shutil.which("groff"):
+        return leave_out("the man pages as groff shows them", "groff is not installed")
+    for name, file in PAGES.items():
+        ran = subprocess.run(["groff", "-ww", "-man", "-Tutf8", "-rLL=100n", file], capture_output=True, text=True)
+        see(f"{name}(1) is without warnings", not ran.returncode and not ran.stderr, ran.stderr[:300])
+        plain = re.sub(r"\x1b\[[0-9;]*m|.\x08", "", ran.stdout)
+        see(f"{name}(1) shows commands as they are typed", f"\n           {name} " in plain)
+        see(f"{name}(1) shows no mark of docs/USAGE", "`" not in plain and "**" not in plain)
+
+
+def examples_of(name):
+    """The commands under EXAMPLES of a page."""
+    text = PAGES[name].read_text().split("\n.SH EXAMPLES\n")[1].split("\n.SH ")[0]
+    for block in re.findall(r"^\.nf\n(.*?)^\.fi", text, re.M | re.S):
+        typed = block.replace("\\-", "-").replace("\\(aq", "'").replace("\\e\n", "")
+        yield from (shlex.split(row) for row in typed.splitlines())
+
+
+def examples_run():
+    """The examples of pages that need no device do what they are to do."""
+    with tempfile.TemporaryDirectory() as folder:
+        shutil.copy(TOP / "examples/blink.hex", f"{folder}/firmware.hex")
+        for words in (it for name in PAGES for it in examples_of(name)):
+            if not any(it.startswith("emu:") for it in words):
+                continue
+            words = [str(TOP / "parts/classic.toml") if it.endswith("/classic.toml") else it for it in words]
+            ran = subprocess.run([PROGRAM, *words[1:]], cwd=folder, capture_output=True, text=True)
+            see(" ".join(words), ran.returncode == 0 and ran.stderr.endswith("avrstk: done\n"), ran)
 
 
 def names_agree():
@@ -281,23 +418,14 @@ def differences_hold():
         see(what, holds)
 
 
-def page_is_shown():
-    """The page as groff shows it."""
-    if not shutil.which("groff"):
-        return leave_out("the page of manual as it is shown", "groff is not installed")
-    ran = subprocess.run(["groff", "-ww", "-man", "-Tutf8", "-rLL=100n", PAGE], capture_output=True, text=True)
-    see("the page is without warnings", not ran.returncode and not ran.stderr, ran.stderr[:300])
-    plain = re.sub(r"\x1b\[[0-9;]*m|.\x08", "", ran.stdout)
-    see("the page shows a recipe as it is typed", "avrstk-serial -p m328p -P /dev/ttyACM0 -b 115200" in plain)
-    see("the page shows no mark of docs/USAGE", not set("*`") & set(plain))
-
-
-CASES = named(page_is_made, names_agree, version_agrees, runs_of_readme, runs_of_usage, differences_hold, page_is_shown)
+PAGES_HOLD = [pages_are_made, pages_are_whole, pages_have_the_options, pages_are_clean, examples_run]
+CASES = named(*PAGES_HOLD, names_agree, version_agrees, runs_of_readme, runs_of_usage, differences_hold)
 
 
 def main():
     if sys.argv[1:] == ["--write"]:
-        PAGE.write_text(page())
+        for name, file in PAGES.items():
+            file.write_text(page(name))
         return 0
     return run_cases(CASES, __doc__)
 

@@ -2,7 +2,7 @@
 """A programmer that is not this project's own: the bootloader of the Arduino Mega 2560, as Debian's package has it, on
 an ATmega2560 of simavr (mega.c), behind `net:`.
 
-    tests/mega.py [CASE ..]    needs crates/avrstk/out/avrstk, as rt ci leaves it; cc, and the Debian packages
+    tests/mega.py [CASE ..]    needs a built program (program.py); cc, and the Debian packages
                                libsimavr-dev and arduino-core-avr, or all is left out
 
 Flash is written and verified with -D, read, compared with another image and with the simulated chip's own flash; a

@@ -4,7 +4,7 @@ part that both describe alike, and that the program describes fully, stands in i
 else does. Each name is loaded by the program. AVRDUDE writes flash, EEPROM and fuses of a dozen parts at `--serve`, and
 the chip is that which the program itself leaves over `emu:`.
 
-    tests/parts.py [CASE ..]  needs crates/avrstk/out/avrstk, as rt ci leaves it; without avrdude or avr-gcc with
+    tests/parts.py [CASE ..]  needs a built program (program.py); without avrdude or avr-gcc with
                               avr-libc what needs them is left out
     tests/parts.py --all      a session for each part
     tests/parts.py --write    makes parts/classic.toml of the two sources

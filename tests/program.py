@@ -1,4 +1,5 @@
-"""The built program in a folder of its own, and served at a port, for the scripts beside this one."""
+"""The built program in a folder of its own, and served at a port, for the scripts beside this one. AVRSTK names it, else
+it is the one that ./avrstk runs: the proved one, or else the one without proofs."""
 
 import os
 import socket
@@ -11,14 +12,22 @@ from pathlib import Path
 from cases import PATIENCE
 
 TOP = Path(__file__).resolve().parent.parent
-# the program that is run: the one that AVRSTK names, or else as rt ci leaves it, or else the one that is not proved
-BUILT = [TOP / "crates/avrstk/out/avrstk", TOP / "out/unproved/avrstk"]
 NAMED = os.environ.get("AVRSTK")
-PROGRAM = Path(NAMED).resolve() if NAMED else next(filter(Path.exists, BUILT), BUILT[0])
-if not PROGRAM.exists():
-    sys.exit(f"{PROGRAM} is not built: rt ci leaves it there; ./avrstk --unproved builds one without proofs")
-if not NAMED:
-    print(f"over {PROGRAM.relative_to(TOP)}", flush=True)
+
+
+def program():
+    """The program that is run: the one that AVRSTK names, else the one that ./avrstk runs, and then says which that is."""
+    if NAMED:
+        return Path(NAMED).resolve()
+    which = subprocess.run([TOP / "avrstk", "--which"], stdout=subprocess.PIPE, text=True)
+    if which.returncode:
+        sys.exit(which.returncode)
+    found = Path(which.stdout.strip())
+    print(f"over {found.relative_to(TOP)}", flush=True)
+    return found
+
+
+PROGRAM = program()
 
 # the answers of a session in which nothing is done, and how many bytes there are up to the end of each
 ANSWERS = (TOP / "crates/avrstk/stdin").read_bytes()

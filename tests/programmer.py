@@ -1,7 +1,7 @@
 #!/usr/bin/env python3
 """Asks the programmer that the built program serves, frame by frame: what each command answers, up to the edges of its fields.
 
-    tests/programmer.py [CASE ..]      needs crates/avrstk/out/avrstk, as rt ci leaves it
+    tests/programmer.py [CASE ..]      needs a built program (program.py)
 """
 
 import socket

@@ -1,9 +1,9 @@
 #!/usr/bin/env python3
 """How much a reader has to read: the definitions that a contract reaches.
 
-    tests/reach.py                          of `run_wired`, the headline (docs/PROOFS has the figures)
-    tests/reach.py CRATE.FILE.NAME ..       of these definitions of specs/
-    tests/reach.py -v ..                    and lists them, file by file
+    tests/reach.py FILE.NAME ..      of these definitions of specs/; CRATE.FILE.NAME where several crates have one
+    tests/reach.py -v ..             and lists them, file by file
+    tests/reach.py --check           compares the table of docs/PROOFS with what its definitions reach; --write puts it there
 
 A definition reaches what its text names: definitions of its own file and those that the `use` lines bring in. What stands
 in std, in other libraries or in Rust (an enum, a struct) is named with the definition and not counted. A variable that has
@@ -16,7 +16,8 @@ import sys
 from pathlib import Path
 
 TOP = Path(__file__).resolve().parent.parent
-HEADLINE = ["avr_tool.Headline.RunsWired", "avr_tool.Headline.IsNew"]
+PAGE = TOP / "docs/PROOFS.md"
+TABLE = "| Sentence | Definition | Definitions | Lines |"
 
 HEADER = re.compile(r"^\s*(?:(?:abbrev|unfoldable) pub|pub (?:record|data)) (\S+)")
 USE = re.compile(r"^use Rattle\.(\w+)\.specs\.(\w+)(?: as (\w+)|\.\{(.*)\})?$")
@@ -102,18 +103,49 @@ def reached(roots):
     return seen
 
 
+def definition(name):
+    """The definition that a name of two or three parts means."""
+    *crate, file, name = name.split(".")
+    places = [found(*it, name) for it in FILES if it[1] == file and crate in ([], [it[0]])]
+    known = [it for it in places if it]
+    if len(known) != 1:
+        sys.exit(f"{'.'.join([*crate, file, name])}: {len(known)} definitions of this name\n\n{__doc__}")
+    return known[0]
+
+
+def lines_of(places):
+    return sum(len(FILES[crate, file].definitions[name]) for crate, file, name in places)
+
+
+def with_figures(page):
+    """The page with the figures of its table: in each row the definitions that are read together, then a `;`."""
+    head, rest = page.split(TABLE, 1)
+    rows, behind = rest.split("\n\n", 1)
+    made = rows.splitlines()[:2]
+    for row in rows.splitlines()[2:]:
+        sentence, named, *_ = row.strip("| ").split(" | ")
+        seen = [reached(map(definition, re.findall("`([^`]*)`", it))) for it in named.split(";")]
+        counts = ["; ".join(f"{count:,}" for count in counts) for counts in (map(len, seen), map(lines_of, seen))]
+        made.append(f"| {sentence} | {named} | {counts[0]} | {counts[1]} |")
+    return f"{head}{TABLE}" + "\n".join(made) + f"\n\n{behind}"
+
+
 def main(words):
-    listed = "-v" in words
-    roots = [found(*root.split(".")) for root in [w for w in words if w != "-v"] or HEADLINE]
-    if None in roots:
-        sys.exit(__doc__)
+    if words in (["--check"], ["--write"]):
+        page = PAGE.read_text()
+        same = with_figures(page) == page
+        if words == ["--write"]:
+            return PAGE.write_text(with_figures(page))
+        print("1 passed, 0 failed" if same else f"{PAGE.name} has other figures: tests/reach.py --write\n0 passed, 1 failed")
+        return sys.exit(0 if same else 1)
+    roots = [definition(it) for it in words if it != "-v"] or sys.exit(__doc__)
     seen = reached(roots)
-    lines = sum(len(FILES[crate, file].definitions[name]) for crate, file, name in seen)
     files = sorted({(crate, file) for crate, file, _ in seen})
-    print(f"{len(seen)} definitions, {lines} lines, in {len(files)} files")
-    for crate, file in files if listed else []:
+    print(f"{len(seen)} definitions, {lines_of(seen)} lines, in {len(files)} files")
+    for crate, file in files if "-v" in words else []:
         names = sorted(name for c, f, name in seen if (c, f) == (crate, file))
         print(f"  {crate}/specs/{file}: {', '.join(names)}")
+    return None
 
 
 if __name__ == "__main__":

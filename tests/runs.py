@@ -3,7 +3,7 @@
 and the chip that is left. Each run is made over the port `emu:`, and again over a TCP line to the emulator that the program
 serves, where its frames are seen. Then runs over bad lines, at once: each silence takes a second.
 
-    tests/runs.py [CASE ..]        needs crates/avrstk/out/avrstk, as rt ci leaves it
+    tests/runs.py [CASE ..]        needs a built program (program.py)
 """
 
 import itertools

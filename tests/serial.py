@@ -9,6 +9,7 @@ talk, and how it ends at a signal; and the recipes of docs/USAGE for a serial li
 
 import array
 import fcntl
+import itertools
 import os
 import pty
 import re
@@ -18,21 +19,33 @@ import signal
 import socket
 import subprocess
 import sys
+import tempfile
 import termios
 import threading
 import time
 import tty
+from concurrent.futures import ThreadPoolExecutor
+from functools import lru_cache
 from pathlib import Path
 
 from cases import PATIENCE, leave_out, named, run_cases, same, see
-from program import PROGRAM, TOP, Room, Server, free_port, lines
+from program import PROGRAM, TOP, Room, Server, free_port, has_avrdude, lines
 
 SCRIPT = TOP / "avrstk-serial"
+PYTHON = shutil.which("python3", path="/usr/bin:/bin") or sys.executable
 SIGNATURE = "device signature = 1E 95 0F"
 FIRMWARE = [SIGNATURE, "chip erased", "flash: 228 bytes written", "flash: 228 bytes verified", "done"]
 FLASH = ["-p", "m328p", "-U", "flash:w:blink.hex:i"]
 CALL = "avrstk -p m328p -P net:127.0.0.1:5000 -U flash:w:firmware.hex:i"
 room = Room()
+boards = itertools.count()
+
+
+def is_open(line):
+    """Whether the other end of a pseudo terminal is open."""
+    look = select.poll()
+    look.register(line)
+    return not any(what & select.POLLHUP for _, what in look.poll(0))
 
 
 class Board:
@@ -43,30 +56,22 @@ class Board:
 
     def __init__(self, deaf=0.0, gone=None, part="m328p", talk=None, vanish=None, answer=None, words=()):
         self.deaf, self.gone, self.talk, self.vanish, self.answer = deaf, gone, talk, vanish, answer
-        self.opened = self.heard = 0
-        self.server = None if talk else Server(room, "served.bin", part, words)
-        self.line, slave = pty.openpty()
-        tty.setraw(slave)
-        self.device = os.ttyname(slave)
-        os.close(slave)
+        self.opened, self.heard, self.chip = 0, b"", f"served{next(boards)}.bin"
+        self.server = None if talk else Server(room, self.chip, part, words)
+        self.line, self.device = terminal()
         self.stopped = threading.Event()
         self.thread = threading.Thread(target=self.live, daemon=True)
         self.thread.start()
 
-    def is_open(self):
-        look = select.poll()
-        look.register(self.line)
-        return not any(what & select.POLLHUP for _, what in look.poll(0))
-
     def live(self):
-        while not self.is_open():
+        while not is_open(self.line):
             if self.stopped.wait(0.001):
                 return
         self.opened = 1
         self.talks() if self.talk else self.answers()
 
     def talks(self):
-        while self.is_open() and not self.stopped.wait(0.05):
+        while is_open(self.line) and not self.stopped.wait(0.05):
             os.write(self.line, self.talk)
 
     def answers(self):
@@ -80,7 +85,7 @@ class Board:
                     except OSError:
                         return
                     age = time.monotonic() - begun
-                    self.heard += len(heard)
+                    self.heard += heard
                     called = called or age >= self.deaf and (self.gone is None or age < self.gone)
                     if called:
                         programmer.sendall(heard)
@@ -105,7 +110,7 @@ class Board:
             self.server.end()
         if self.vanish is None:
             os.close(self.line)
-        return room.read("served.bin")
+        return room.read(self.chip)
 
 
 def start(words, **more):
@@ -124,7 +129,49 @@ def run(words, **more):
     return started.returncode, output, others, own
 
 
-def emulated(words, part="m328p"):
+def wait_until(what):
+    ends = time.monotonic() + PATIENCE
+    while not what():
+        if time.monotonic() > ends:
+            raise SystemExit("what is waited for does not come")
+        time.sleep(0.002)
+
+
+def speed(line):
+    """Both speeds of a pseudo terminal, whose two ends have one set of flags (TCGETS2 has any speed)."""
+    held = array.array("I", bytes(44))
+    fcntl.ioctl(line, 0x802C542A, held)
+    return held[9], held[10]
+
+
+def run_as_anyone(words, program):
+    """Runs the script as nobody if this is root, who may do all. (A Python that root alone may run doesn't serve.)"""
+    how = {"user": 65534, "group": 65534, "extra_groups": []} if os.geteuid() == 0 else {}
+    how |= {"input": SCRIPT.read_bytes(), "capture_output": True, "cwd": "/", "timeout": PATIENCE}
+    return subprocess.run([PYTHON, "-", *words], env=os.environ | {"AVRSTK": str(program)}, **how)
+
+
+def terminal():
+    """A pseudo terminal that passes each byte: its line, and the name of its device."""
+    line, slave = pty.openpty()
+    tty.setraw(slave)
+    device = os.ttyname(slave)
+    os.close(slave)
+    return line, device
+
+
+def stand_in(text, folder=None):
+    """A program in Python to be run in the place of avrstk: it is called with the script's port as `port`."""
+    file = (folder or room.folder) / "stand-in"
+    begin = f"#!{PYTHON}\nimport os, socket, sys, time\n"
+    port = "port = int(sys.argv[sys.argv.index('-P') + 1].rpartition(':')[2])\n"
+    file.write_text(begin + port + text)
+    file.chmod(0o755)
+    return {"AVRSTK": str(file)}
+
+
+@lru_cache
+def emulated(*words, part="m328p"):
     """The chip that these words leave over `emu:`."""
     room.clear()
     room.run(["-p", part, "-P", "emu:wanted.bin", "-qq", *words])
@@ -132,44 +179,57 @@ def emulated(words, part="m328p"):
 
 
 def flashed():
-    return emulated(FLASH[2:])
+    return emulated(*FLASH[2:])
 
 
-def flashes(name, words, **board):
-    """The words, to a board whose device is put after -P, flash the firmware."""
-    wanted = flashed()
+def side_by_side(call, given):
+    """What comes of each call, of which some run at once since they wait for silences."""
+    with ThreadPoolExecutor(8) as lanes:
+        return list(lanes.map(call, given))
+
+
+def flashes(words, **board):
+    """Runs these words, with a board's device after -P. Returns the status, the lines of avrstk, whether the chip holds
+    the firmware, and the script's own lines."""
     # the window of a board that is deaf and gone soon can be missed where the machine is busy, as a person can miss it
     for _ in range(3):
-        room.clear()
         it = Board(**board)
         status, _, told, own = run([word.replace("DEVICE", it.device) for word in words])
         chip = it.end()
         if status == 0:
             break
-    same(name, (status, told, chip == wanted), (0, lines(*FIRMWARE), True))
-    return own
+    return status, told, chip == flashed(), own
 
 
 def words_of_avrdude():
     """Words as AVRDUDE has them."""
-    same("plain", flashes("plain", [*FLASH, "-P", "DEVICE", "-b", "115200"]), [])
-    same("no speed", flashes("no speed", [*FLASH, "-P", "DEVICE"]), [])
-    same("-c wiring", flashes("-c wiring", [*FLASH, "-c", "wiring", "-P", "DEVICE"]), [])
-    same("-cstk500v2", flashes("-cstk500v2", [*FLASH, "-cstk500v2", "-PDEVICE", "-b115200"]), [])
-    same("-v -v", flashes("-v -v", [*FLASH, "-v", "-v", "-PDEVICE"]), [])
-    long = ["-patmega328p", "-PDEVICE", "-Uflash:w:blink.hex:i"]
-    same("a long name", flashes("a long name", long), [])
-    long[0] = "-pATmega328P"
-    same("a long name with capitals", flashes("capitals", long), [])
+    flashed()
+    room.clear()
+    long = "ATmega328P"
     recipe = ["-C/etc/avrdude.conf", "-v", "-patmega328p", "-cwiring", "-PDEVICE", "-b115200", "-Uflash:w:blink.hex:i"]
-    same("-C is left out", flashes("a recipe of an IDE", recipe), ["left out: -C /etc/avrdude.conf"])
-    own = flashes("-C and -l", [*FLASH, "-C", "x.conf", "-l", "x.log", "-P", "DEVICE"])
-    same("-C and -l are left out", own, ["left out: -C x.conf, -l x.log"])
-    same("--wait", flashes("--wait", ["--wait", "0", *FLASH, "-P", "DEVICE"]), [])
-    for wait in ["2.5", "3"]:
-        same(f"--wait={wait}", flashes(f"--wait={wait}", [f"--wait={wait}", *FLASH, "-P", "DEVICE"]), [])
-    for baud in ["9600", "74880", "250000", "1000000"]:
-        same(f"{baud} baud", flashes(baud, [*FLASH, "-P", "DEVICE", "-b", baud]), [])
+    room.put("blink.HEX", room.read("blink.hex"))
+    named = "blink.hex is read as Intel HEX (:i)"
+    cases = [
+        ([*FLASH, "-P", "DEVICE", "-b", "115200"], []),
+        ([*FLASH, "-P", "DEVICE"], []),
+        *(([*FLASH, "-P", "DEVICE", "-c", it], []) for it in ["wiring", "stk500v2", "avrispv2", "stk500", "STK500"]),
+        ([*FLASH, "-cstk500v2", "-PDEVICE", "-b115200"], []),
+        ([*FLASH, "-v", "-v", "-PDEVICE"], []),
+        *(([f"-p{it}", "-PDEVICE", "-Uflash:w:blink.hex:i"], []) for it in [long, long.lower()]),
+        (recipe, ["left out: -C /etc/avrdude.conf"]),
+        ([*FLASH, "-C", "x.conf", "-l", "x.log", "-P", "DEVICE"], ["left out: -C x.conf, -l x.log"]),
+        ([*FLASH, "-us", "-P", "DEVICE"], ["left out: -u, -s"]),
+        (["--wait", "0", *FLASH, "-P", "DEVICE"], []),
+        *(([f"--wait={it}", *FLASH, "-P", "DEVICE"], []) for it in ["2.5", "3"]),
+        *(([*FLASH, "-P", "DEVICE", "-b", it], []) for it in ["9600", "74880", "250000", "1000000"]),
+        (["-p", "m328p", "-P", "DEVICE", "-U", "flash:w:blink.hex"], [named]),
+        (["-p", "m328p", "-P", "DEVICE", "-U", "blink.hex"], [named]),
+        (["-p", "m328p", "-P", "DEVICE", "-U", "flash:w:blink.hex:a"], []),
+        (["-p", "m328p", "-P", "DEVICE", "-U", "flash:w:blink.HEX"], ["blink.HEX is read as Intel HEX (:i)"]),
+        (["-p", "m328p", "-P", "DEVICE", "-U", "blink.srec"], ["blink.srec is read as S-records (:s)"]),
+    ]
+    for (words, own), found in zip(cases, side_by_side(lambda it: flashes(it[0]), cases)):
+        same(" ".join(words), found, (0, lines(*FIRMWARE), True, own))
 
 
 def speed_and_line():
@@ -177,12 +237,8 @@ def speed_and_line():
     room.clear()
     it = Board(deaf=1000)
     started = start([*FLASH, "-P", it.device, "-b", "250000"])
-    while not it.heard:
-        time.sleep(0.005)
-    # (the line of a pseudo terminal has one set of flags for both of its ends; TCGETS2 tells any speed)
-    held = array.array("I", bytes(44))
-    fcntl.ioctl(it.line, 0x802C542A, held)
-    same("the speed", (held[9], held[10]), (250_000, 250_000))
+    wait_until(lambda: it.heard)
+    same("the speed", speed(it.line), (250_000, 250_000))
     read, written, control, local, *_ = termios.tcgetattr(it.line)
     same("bytes that are read are left alone", read, termios.IGNPAR)
     same("bytes that are written, and the terminal", (written, local), (0, 0))
@@ -209,14 +265,17 @@ def reads():
 
 def boards_that_reset():
     """A board that is deaf at first, and starts its application soon."""
-    same("deaf", flashes("deaf", [*FLASH, "-P", "DEVICE"], deaf=0.25, gone=1.2), [])
-    waits = ["--wait", "1.5", *FLASH, "-P", "DEVICE"]
-    same("deaf for longer", flashes("deaf for longer", waits, deaf=1.4, gone=3.5), [])
+    flashed()
+    room.clear()
+    longer = ["--wait", "1.5", *FLASH, "-P", "DEVICE"]
+    for words, deaf, gone in [([*FLASH, "-P", "DEVICE"], 0.25, 1.2), (longer, 1.4, 3.5)]:
+        found = flashes(words, deaf=deaf, gone=gone)
+        same(f"deaf for {deaf} s", found, (0, lines(*FIRMWARE), True, []))
 
 
 def parts():
     """The part file that comes with it."""
-    wanted = emulated(["-e"], "t85")
+    wanted = emulated("-e", part="t85")
     room.clear()
     it = Board(part="t85")
     status, _, _, own = run(["-p", "attiny85", "-P", it.device, "-e"])
@@ -232,23 +291,41 @@ def parts():
     status, _, told, own = run(["--parts", "parts.toml", "-p", "atmega32u4", "-P", it.device, "-e"])
     see("a given part file counts alone", (status, b"no part atmega32u4" in told, it.opened) == (1, True, 0), told)
     it.end()
-    status, output, _, _ = run(["-p", "?"])
-    see("-p ? lists the parts", status == 0 and b"1E 93 0B   t85, attiny85\n" in output, output)
+    status, output, told, own = run(["-p", "?"])
+    rows = output.decode().splitlines()
+    see("-p ? lists the parts", (status, told, own, len(rows)) == (0, b"", [], 74), (status, rows))
+    see("in the order of their names", rows == sorted(rows), rows)
+    see("each with its names and signature", "  t85      = ATtiny85      1E 93 0B" in rows, rows)
+    if not has_avrdude():
+        return leave_out("the names of AVRDUDE's parts", "AVRDUDE 7.1 is not installed")
+    theirs = subprocess.run(["avrdude", "-c", "stk500v2", "-p", "?"], capture_output=True, text=True).stderr
+    theirs = {tuple(row.split()[:3]) for row in theirs.splitlines()}
+    others = [row for row in rows if tuple(row.split()[:3]) not in theirs]
+    same("AVRDUDE has each under the same names", others, [])
 
 
 def refused():
     """What is refused opens no device, and tells why."""
     note = "nothing was sent, and the device was not opened"
-    for words, wanted in [
-        (["-B", "10"], "-B is not here: the clock of the chip's pins"),
+    room.clear()
+    room.put("x.elf", b"\x7fELF\x01\x01\x01")
+    room.put("note.hex", b"# a note\n" + room.read("blink.hex"))
+    room.put("empty.hex", b"")
+    (room.folder / "gone.hex").symlink_to("nowhere")
+    cases = [
+        (["-B", "10"], "-B is not here: the programmer has its own clock"),
         (["-B10"], "-B is not here"),
-        (["-x", "vtarg=5"], "-x is not here"),
+        (["-E", "noreset"], "-E is not here: the pins of a parallel port"),
+        (["-O"], "-O is not here: the oscillator is not calibrated"),
+        (["-i", "10"], "-i is not here: the programmer has its own clock"),
         (["-t"], "-t is not here"),
+        (["-x", "vtarg=5"], "-x is not here"),
+        (["-y"], "-y is not here: erase cycles are not counted"),
         (["-c", "arduino"], "-c arduino is the bootloader of Uno and Nano"),
         (["-c", "usbasp"], "-c usbasp is a programmer with a protocol of its own"),
         (["-cusbtiny"], "-c usbtiny is a programmer with a protocol of its own"),
         (["-c", "avrispmkII"], "-c avrispmkII is a programmer on USB"),
-        (["-c", "buspirate"], f"{note}; -c is stk500v2 or wiring"),
+        (["-c", "buspirate"], "-c buspirate: this speaks STK500v2 only: use avrdude -c buspirate"),
         (["-b", "0"], "-b 0: no speed"),
         (["-b", "fast"], "-b fast: no speed"),
         (["--wait", "soon"], "--wait soon: no number of seconds from 0 to 3"),
@@ -256,22 +333,48 @@ def refused():
         (["--wait"], "--wait: its value is missing"),
         (["-U"], "-U: its value is missing"),
         (["--serve", "5000"], "--serve is for a programmer without a device"),
-        (["-P", "net:127.0.0.1:5000"], "-P net:127.0.0.1:5000 is no device: give it to avrstk"),
         (["-P", "usb"], "-P usb is for programmers without a serial device: use avrdude"),
-        (["-p", "m8"], f"{note}; -p ? lists the parts"),
-        (["-E", "noreset"], note),
-        (["-U", "nofile.hex"], note),
-        (["-U", "lfuse:w:0xE2"], f"{note}; a value has :m after it"),
-        (["-U", "flash:w:x.elf"], f"{note}; avr-objcopy"),
-        (["-U", "fuse:w:1:m"], note),
-    ]:
-        room.clear()
-        room.put("x.elf", b"\x7fELF\x01\x01\x01")
+        (["-p", "m8"], f"-p ? lists the parts; others need a part file (--parts); {note}"),
+        (["-U", "nofile"], f"there is no such file; {note}"),
+        (["-U", "flash:w:gone.hex:i"], f"it is a link to a file that is not there; {note}"),
+        (["-U", "lfuse:w:0xE2"], f"a value needs :m after it, as lfuse:w:0xE2:m; {note}"),
+        (["-U", "flash:w:x.elf"], "avr-objcopy"),
+        (["-U", "fuse:w:1:m"], "-U fuse:w:1:m: the memories are flash, eeprom, lfuse, "),
+        (["-U", "lfuse:r:-:h", "-U", "fl:r:x:i"], "-U fl:r:x:i: the memories are flash, eeprom, lfuse, "),
+        (["-U", "flash:x:1:m"], note),
+        (["-U", "flash:w:note.hex"], "the format was named by the end of the file's name: :a detects it, :r is raw"),
+        (["-U", "empty.hex"], f"empty.hex is empty (did its build fail?): {note}"),
+        (["-U", "flash:w:empty.hex:i"], f"empty.hex is empty (did its build fail?): {note}"),
+        (["-U", "eeprom:w:empty.bin:r"], f"empty.bin is empty (did its build fail?): {note}"),
+    ]
+
+    def ran(words):
         it = Board()
         status, output, _, own = run(["-p", "m328p", "-P", it.device, *words])
-        found = (status, output, len(own), it.opened)
-        see(" ".join(words), found == (1, b"", 1, 0) and own[0].startswith(wanted), (found, own))
+        own = [row for row in own if not row.endswith("is read as Intel HEX (:i)")]
+        opened = it.opened
         it.end()
+        return (status, output, len(own), opened), own
+
+    for (words, wanted), (found, own) in zip(cases, side_by_side(lambda it: ran(it[0]), cases)):
+        see(" ".join(words), found == (1, b"", 1, 0) and own[0].startswith(wanted), (found, own))
+
+
+def ports_of_avrstk():
+    """A port of avrstk goes to it, with the words that are the script's put right; the programmers are listed."""
+    wanted = flashed()
+    room.clear()
+    words = ["-C", "x.conf", "-c", "wiring", "-b", "9600", "-p", "atmega328p", "-U", "blink.hex"]
+    notes = ["left out: -C x.conf", "blink.hex is read as Intel HEX (:i)"]
+    status, _, told, own = run([*words, "-P", "emu:chip.bin"])
+    same("emu:", (status, told, own, room.read("chip.bin") == wanted), (0, lines(*FIRMWARE), notes, True))
+    with Server(room) as server:
+        status, _, told, own = run([*words, "-P", f"net:127.0.0.1:{server.port}"])
+        server.end()
+    same("net:", (status, told, own, room.read("served.bin") == wanted), (0, lines(*FIRMWARE), notes, True))
+    status, output, told, own = run(["-c", "?"])
+    names = [row.split()[0] for row in output.decode().splitlines()]
+    same("-c ?", (status, told, own, names), (0, b"", [], ["avrispv2", "stk500", "stk500v2", "wiring"]))
 
 
 def devices():
@@ -289,15 +392,29 @@ def devices():
         status, _, _, own = run([*FLASH, *words])
         see(f"device {words}", (status, len(own)) == (1, 1) and own[0].startswith(wanted), own)
     os.chmod(device, 0)
-    # (as nobody where this is root, who may do all; a Python that root alone may run doesn't serve there)
-    how = {"user": 65534, "group": 65534, "extra_groups": []} if os.geteuid() == 0 else {}
-    python = shutil.which("python3", path="/usr/bin:/bin") or sys.executable
-    how |= {"input": SCRIPT.read_bytes(), "capture_output": True, "cwd": "/"}
-    environment = os.environ | {"AVRSTK": shutil.which("true")}
-    ran = subprocess.run([python, "-", *FLASH, "-P", device], env=environment, **how)
-    see("no right to it", f"{device}: you may not read and write it".encode() in ran.stderr, ran.stderr)
+    # (group 5 is `tty`, which has terminals, in every Linux)
+    cure, belongs = "(often: sudo adduser ", "(its owner is "
+    for mode, group, wanted in [(0o660, 5, cure), (0o600, 5, belongs), (0o660, 0, belongs)]:
+        if os.geteuid() == 0:
+            os.chown(device, 0, group)
+        os.chmod(device, mode if os.geteuid() == 0 else 0)
+        ran = run_as_anyone([*FLASH, "-P", device], shutil.which("true"))
+        wanted = f"{device}: you may not read and write it {wanted if os.geteuid() == 0 else belongs}"
+        see(f"no right to it, of group {group}, mode {mode:o}", wanted.encode() in ran.stderr, ran.stderr)
     os.close(slave)
     os.close(line)
+    with tempfile.TemporaryDirectory(dir="/tmp") as folder:
+        os.chmod(folder, 0o755)
+        closed = Path(folder, "closed.hex")
+        closed.write_bytes(b"x")
+        closed.chmod(0)
+        error = f"sys.stderr.write('avrstk: error: {closed}: cannot be opened\\n')\nsys.exit(1)\n"
+        line, device = terminal()
+        os.chmod(device, 0o666)
+        program = stand_in(error, Path(folder))["AVRSTK"]
+        ran = run_as_anyone(["-p", "m328p", "-P", device, "-U", f"flash:w:{closed}:i"], program)
+        see("no right to a file", b"avrstk-serial: you may not read it; nothing was sent" in ran.stderr, ran.stderr)
+        os.close(line)
 
 
 def what_is_missing():
@@ -320,16 +437,118 @@ def what_is_missing():
         see(word, (status, told, own) == (0, b"", []) and output.startswith(b"Runs avrstk with a programmer"), output)
 
 
-def fails(name, words, wanted, told=None, **board):
-    """A run that fails has one hint, which begins so or holds it."""
+def failing(cases):
+    """Runs what fails: each has a name, words, what its one hint holds, a line of avrstk, and a board. Returns the
+    chips."""
     room.clear()
-    it = Board(**board)
-    status, _, others, own = run([word.replace("DEVICE", it.device) for word in [*words, "-P", "DEVICE"]])
-    chip = it.end()
-    see(name, (status, len(own)) == (1, 1) and wanted in own[0], (status, others, own))
-    if told:
+
+    def ran(case):
+        _, words, _, _, board = case
+        it, begun = Board(**board), time.monotonic()
+        status, _, others, own = run([*words, "-P", it.device])
+        return status, others, own, it.end(), time.monotonic() - begun
+
+    chips = []
+    for (name, _, wanted, told, _), (status, others, own, chip, took) in zip(cases, side_by_side(ran, cases)):
+        see(f"{name}: it ends by itself soon", took < 40, took)
+        see(name, (status, len(own)) == (1, 1) and wanted in own[0], (status, others, own))
         see(f"{name}: {told}", told.encode() in others, others)
-    return chip
+        chips.append(chip)
+    return chips
+
+
+def programs():
+    """Which program it runs if none is named: the one beside it, and in a clone what ./avrstk runs without building."""
+    room.clear()
+    folder = room.folder / "clone"
+    front, proved, unproved = (folder / it for it in ["avrstk", "crates/avrstk/out/avrstk", "out/unproved/avrstk"])
+    for it in [proved, unproved]:
+        it.parent.mkdir(parents=True)
+    shutil.copy(SCRIPT, folder)
+    environment = {name: value for name, value in os.environ.items() if name != "AVRSTK"}
+
+    def ran(*words):
+        command = [sys.executable, str(folder / "avrstk-serial"), *words]
+        it = subprocess.run(command, capture_output=True, text=True, env=environment, timeout=PATIENCE)
+        return it.returncode, it.stdout, it.stderr
+
+    def put(file):
+        file.write_text(f"#!/bin/sh\necho {file} $1\n")
+        file.chmod(0o755)
+
+    port = ["-p", "m328p", "-P", "emu:x"]
+    needed = "avrstk is needed beside this script, or named by AVRSTK"
+    same("nothing", ran(*port), (1, "", f"avrstk-serial: {front} is not there, or can't be run: {needed}\n"))
+    put(front)
+    same("the installed one", ran(*port), (0, f"{front} -P\n", ""))
+    same("--unproved", ran("--unproved", *port), (0, f"{front} --unproved\n", ""))
+    shutil.copy(TOP / "avrstk", folder)
+    line, device = terminal()
+    status, _, told = ran("-p", "m328p", "-P", device)
+    see("not built", status == 1 and all(f"{front} {it} " in told for it in ["--unproved", "--build"]), told)
+    os.close(line)
+    put(unproved)
+    same("the unproved one", ran(*port), (0, f"{unproved} -P\n", "avrstk: unproved: nothing of this program was proved\n"))
+    put(proved)
+    same("the proved one", ran(*port), (0, f"{proved} -P\n", ""))
+    shutil.rmtree(folder)
+
+
+def screen(text):
+    """What stands on a terminal after a text."""
+    rows, at = [""], 0
+    for it in text:
+        if it == "\n":
+            rows.append("")
+        elif it == "\r":
+            at = 0
+        else:
+            rows[-1], at = rows[-1][:at].ljust(at) + it + rows[-1][at + 1 :], at + 1
+    return [row.rstrip() for row in rows]
+
+
+def on_a_terminal(words, answer=None):
+    """What a terminal gets as standard error, and the status."""
+    it = Board(answer=answer)
+    line, slave = pty.openpty()
+    started = start([*words, "-P", it.device], stderr=slave)
+    os.close(slave)
+    got = b""
+    try:
+        while heard := os.read(line, 65_536):
+            got += heard
+    except OSError:
+        pass
+    it.end()
+    os.close(line)
+    return got.decode(), started.wait(PATIENCE)
+
+
+def progress():
+    """A sign of life on a terminal alone, which leaves the lines of messages as they are."""
+    flashed()
+    room.clear()
+    rows = [it.decode() for it in lines(*FIRMWARE).splitlines()]
+
+    def slow(answer):
+        time.sleep(0.3 if answer[5] == 0x13 or answer[5:7] == b"\x14\0" and next(read) < 5 else 0)
+        return answer
+
+    read = itertools.count()
+    got, status = on_a_terminal(FLASH, slow)
+    same("the lines that stay", (status, screen(got)), (0, [*rows, ""]))
+    for text in ["writing flash: 128 bytes, 50 %", "writing flash: 256 bytes, 100 %", "reading flash: 256 bytes, 0 %"]:
+        see(text, f"\ravrstk-serial: {text}" in got, got)
+    left = re.search(r"\ravrstk-serial: reading flash: 1,\d+ bytes, \d %, (\d+) s left", got)
+    see("the time that is left", left and int(left[1]) > 20, got)
+    got, status = on_a_terminal(["-p", "m328p", "-U", "eeprom:w:whole.bin:r", "-U", "flash:w:blink.srec", "-V"])
+    see("each write has its own", status == 0 and "writing eeprom: 4 bytes, 0 %" in got, got)
+    see("by its image", "writing flash: 128 bytes, 50 %" in got, got)
+    room.put("mine.toml", (TOP / "parts/classic.toml").read_bytes())
+    got, status = on_a_terminal(["--parts", "mine.toml", *FLASH])
+    see("a part file of one's own", status == 0 and "\ravrstk-serial: writing flash: 128 bytes\r" in got, got)
+    got, status = on_a_terminal([*FLASH, "-q"])
+    same("-q", (status, got), (0, ""))
 
 
 def changes(command, body):
@@ -349,59 +568,56 @@ def changes(command, body):
 
 def hints():
     """The hint after each fault."""
-    new = b"\xff" * 33_796
-    chip = fails("silent", FLASH, "nobody answers; the chip is as it was", "error: no answer", deaf=1000)
-    same("the chip of the silent one", chip, new)
-    fails("another part", ["-p", "t85", "-e"], "1E 95 0F is m328p or atmega328p: give its -p", "error: signature is")
-    for text in ["000000", "FFFFFF"]:
-        signature = changes(0x1B, bytes([0x1B, 0, int(text[:2], 16), 0]))
-        fails(f"signature {text}", FLASH, "no chip answers the programmer", "error: signature is", answer=signature)
-    other = changes(0x1B, bytes([0x1B, 0, 0x12, 0]))
-    fails("a signature that nobody knows", FLASH, "12 12 12 is not known here", answer=other)
-    for command, wanted in [
-        (0x10, "the programmer doesn't reach the chip, which is as it was"),
-        (0x12, "a bootloader doesn't erase the chip, which is as it was: give -D"),
-        (0x13, "the programmer refused it: the chip is erased or written in part"),
-    ]:
-        it = changes(command, bytes([command, 0xC0]))
-        fails(f"command {command:02X}", FLASH, wanted, f"error: command {command:02X} refused", answer=it)
-    fuse = ["-p", "m328p", "-U", "lfuse:w:0xE2:m"]
-    it = changes(0x17, bytes([0x17, 0xC0]))
-    fails("command 17", fuse, "a bootloader doesn't write fuses", "error: command 17 refused", answer=it)
-    it = changes(0x18, bytes([0x18, 0, 0xF2, 0]))
-    wanted = "perhaps a bit that the part doesn't have: read it with -U lfuse:r:-:h"
-    fails("a fuse's bits", fuse, wanted, "F2 found", answer=it)
-    it = changes(0x14, bytes([0x14, 0]) + bytes(256) + b"\0")
-    wanted = "give the same command again; if it ends at the same address"
-    fails("flash", FLASH, wanted, "expected, 00 found", answer=it)
-    fails("flash with -D", [*FLASH, "-D"], "without an erase old bytes stay in the way", answer=it)
-    fails("a bad answer", FLASH, "something else talks on the line", answer=changes(0x12, b"\x12\0\0"))
-    fails("a folder that isn't there", ["-p", "m328p", "-U", "lfuse:r:no/where:h"], "see to the folder and the disk")
-    silent = lambda command: lambda answer: b"" if answer[5] == command else answer
-    fails("leaving", FLASH, "only the leaving was not answered", "flash: 228 bytes verified", answer=silent(0x11))
-    wanted = "the programmer fell silent: see to the cable and the power; the chip is "
-    fails("silent later", FLASH, f"{wanted}erased or written", "error: no answer", answer=silent(0x13))
-    fails("silent early", FLASH, f"{wanted}as it was", "error: no answer", answer=silent(0x1B))
-
-
-def boards_that_fail():
-    """Boards that vanish, or talk."""
-    wanted = "the device is gone: see to the cable; the chip is "
-    fails("vanished", FLASH, f"{wanted}erased or written", "link ended", vanish=8)
-    fails("vanished early", FLASH, f"{wanted}as it was", "link ended", vanish=1)
-    begun = time.monotonic()
-    fails("talks", FLASH, "the device sends bytes that are no answer", talk=b"temp=21.5 hum=40\r\n")
-    took = time.monotonic() - begun
-    see("a board that talks doesn't hold it for long", took < 25, took)
+    silent = lambda command: {"answer": lambda answer: b"" if answer[5] == command else answer}
+    instead = lambda command, *body: {"answer": changes(command, bytes([command, *body]))}
+    whole, partly = "the chip is unchanged", "the chip is erased or partly written, and may be held in reset: run the"
+    stopped = "the programmer stopped replying: check the cable and the power"
+    another = "the chip is m328p or atmega328p (1E 95 0F): use -p m328p"
+    bit = "may not have such a bit: read the value with -U lfuse:r:-:h"
+    fuse, found = ["-p", "m328p", "-U", "lfuse:w:0xE2:m"], "expected, 00 found"
+    reading = ["-p", "m328p", "-U"]
+    stays = "everything reported above was done. The chip stays in programming mode: power-cycle the board"
+    cases = [
+        ("silent", FLASH, f"no reply; {whole}. Check: the speed (-b 115200)", "error: no answer", {"deaf": 1000}),
+        ("another part", ["-p", "t85", "-e"], another, "error: signature is", {}),
+        ("signature 00", FLASH, "the programmer finds no chip", "error: signature is", instead(0x1B, 0, 0, 0)),
+        ("signature FF", FLASH, "the programmer finds no chip", "error: signature is", instead(0x1B, 0, 0xFF, 0)),
+        ("signature 12", FLASH, "another part (12 12 12), which is not known", "error: sig", instead(0x1B, 0, 0x12, 0)),
+        ("command 10", FLASH, f"the programmer can't reach the chip, which is unch", "command 10", instead(0x10, 0xC0)),
+        ("command 12", FLASH, f"can't erase the chip, which is unchanged: use -D", "command 12", instead(0x12, 0xC0)),
+        ("command 13", FLASH, f"the programmer refused the command: {partly}", "command 13", instead(0x13, 0xC0)),
+        ("command 17", fuse, "a bootloader can't write fuses", "command 17 refused", instead(0x17, 0xC0)),
+        ("a bit", fuse, bit, "expected, F2 found", instead(0x18, 0, 0xF2, 0)),
+        ("flash", FLASH, "run the same command again; if it always", found, instead(0x14, 0, *bytes(256), 0)),
+        ("flash with -D", [*FLASH, "-D"], "without an erase old bytes remain", found, instead(0x14, 0, *bytes(256), 0)),
+        ("a bad answer", FLASH, "something else sends data", "command 12: bad answer", instead(0x12, 0, 0)),
+        ("a folder", [*reading, "lfuse:r:no/where:h"], f"check the folder and free space; {stays}", "no/where", {}),
+        ("leaving", FLASH, "everything above was done; only the last", "flash: 228 bytes verified", silent(0x11)),
+        ("silent later", FLASH, f"{stopped}; {partly}", "error: no answer", silent(0x13)),
+        ("silent early", FLASH, f"{stopped}; {whole}", "error: no answer", silent(0x1B)),
+        ("vanished", FLASH, f"the device is gone: check the cable; {partly}", "link ended", {"vanish": 8}),
+        ("vanished early", FLASH, f"the device is gone: check the cable; {whole}", "link ended", {"vanish": 1}),
+        ("talks", FLASH, "the device sends data, but no valid reply", "", {"talk": b"temp=21.5 hum=40\r\n"}),
+    ]
+    chips = failing(cases)
+    same("the chip of the silent one", chips[0], b"\xff" * 33_796)
+    it = Board()
+    shell = ["sh", "-c", 'exec "$0" "$@" >&-', sys.executable, str(SCRIPT), *reading, "lfuse:r:-:h", "-P", it.device]
+    how = {"cwd": room.folder, "env": os.environ | {"AVRSTK": str(PROGRAM)}, "capture_output": True, "text": True}
+    ran = subprocess.run(shell, **how, timeout=PATIENCE)
+    last = ran.stderr.splitlines()[-1]
+    it.end()
+    wanted = f"avrstk-serial: standard output is closed or full; {stays}"
+    same("a closed output", (ran.returncode, "-: cannot be written" in ran.stderr, last), (1, True, wanted))
 
 
 def signals():
     """How it ends at a signal."""
     for number, reach, wanted in [
-        (signal.SIGINT, 0, "ended by SIGINT: the chip is as it was"),
-        (signal.SIGINT, 0x13, "ended by SIGINT: the chip is erased or written in part: give the same command again"),
-        (signal.SIGTERM, 0x13, "ended by SIGTERM: the chip is erased or written in part"),
-        (signal.SIGHUP, 0x13, "ended by SIGHUP: the chip is erased or written in part"),
+        (signal.SIGINT, 0, "ended by SIGINT: the chip is unchanged"),
+        (signal.SIGINT, 0x13, "ended by SIGINT: the chip is erased or partly written, and may be held in reset: run"),
+        (signal.SIGTERM, 0x13, "ended by SIGTERM: the chip is erased or partly written"),
+        (signal.SIGHUP, 0x13, "ended by SIGHUP: the chip is erased or partly written"),
     ]:
         room.clear()
         reached = threading.Event()
@@ -433,15 +649,179 @@ def cut_lines():
     halts.chmod(0o700)
     line, slave = pty.openpty()
     started = start([*FLASH, "-P", os.ttyname(slave)], env={"AVRSTK": str(halts)})
-    ends = time.monotonic() + PATIENCE
-    while not (room.folder / "told").exists() and time.monotonic() < ends:
-        time.sleep(0.01)
+    wait_until((room.folder / "told").exists)
     started.send_signal(signal.SIGHUP)
     _, told = started.communicate(timeout=PATIENCE)
-    wanted = ["avrstk: error: ", "avrstk-serial: ended by SIGHUP: nothing was sent: the chip is as it was"]
+    wanted = ["avrstk: error: ", "avrstk-serial: ended by SIGHUP: nothing was sent: the chip is unchanged"]
     same("a line that is cut", (started.returncode, told.decode().splitlines()), (1, wanted))
     os.close(slave)
     os.close(line)
+
+
+# what a stand-in does that calls, and stays until it hears its byte again
+CALLS = "line = socket.create_connection(('127.0.0.1', port))\nline.sendall(b'x')\nline.recv(1)\n"
+
+
+def echo(line):
+    """Once the device is opened gives back one byte. The list gets the speed then."""
+    speeds = []
+
+    def live():
+        wait_until(lambda: is_open(line))
+        heard = os.read(line, 1)
+        speeds.append(speed(line))
+        os.write(line, heard)
+
+    threading.Thread(target=live, daemon=True).start()
+    return speeds
+
+
+def closed_streams():
+    """What is printed never goes to the board, and a run whose messages can't be printed goes on to its end."""
+    wanted = flashed()
+    room.clear()
+    for closed in ["2>&-", "0<&- 2>&-", "1>&- 2>&-", "2>/dev/full"]:
+        it = Board()
+        words = [sys.executable, str(SCRIPT), *FLASH, "-P", it.device]
+        shell = ["sh", "-c", f'exec "$0" "$@" {closed}', *words]
+        ran = subprocess.run(shell, cwd=room.folder, env=os.environ | {"AVRSTK": str(PROGRAM)}, timeout=PATIENCE)
+        same(f"{closed}: the chip and the status", (it.end() == wanted, ran.returncode), (True, 1))
+        see(f"{closed}: no message at the board", it.heard and b"avrstk" not in it.heard, it.heard)
+    for words in [["-p", "?"], ["-c", "?"], ["--help"]]:
+        with open("/dev/full", "w") as full:
+            status, _, told, own = run(words, stdout=full)
+        found = (status, told, own)
+        same(f"{words} to a full disk", found, (1, b"", ["standard output cannot be written: No space left on device"]))
+
+
+def messages_that_nobody_reads():
+    """A pipe that is closed after the first line, or full, doesn't hold up the run."""
+    wanted = flashed()
+    room.clear()
+    it = Board()
+    started = start([*FLASH, "-P", it.device])
+    same("the first line", started.stderr.readline(), lines(SIGNATURE))
+    started.stderr.close()
+    same("a pipe that is closed", (it.end() == wanted, started.wait(PATIENCE)), (True, 1))
+    for name, reads in [("a full pipe that is read late", True), ("a full pipe, and a signal", False)]:
+        it = Board()
+        reader, writer = os.pipe()
+        fcntl.fcntl(writer, fcntl.F_SETPIPE_SZ, 4096)
+        os.write(writer, b"x" * 4096)
+        started = start([*FLASH, "-P", it.device], stderr=writer)
+        os.close(writer)
+        wait_until(lambda: it.opened)
+        see(f"{name}: the chip", it.end() == wanted)
+        if reads:
+            with os.fdopen(reader, "rb") as pipe:
+                same(name, (pipe.read()[4096:], started.wait(PATIENCE)), (lines(*FIRMWARE), 0))
+        else:
+            started.send_signal(signal.SIGTERM)
+            same(name, started.wait(PATIENCE), 1)
+            os.close(reader)
+
+
+def one_run_at_a_time():
+    """A second run over a device is refused and changes nothing of it, also for root; one after the other isn't."""
+    room.clear()
+    line, device = terminal()
+    fake = stand_in(CALLS)
+    first = start([*FLASH, "-P", device, "-b", "57600", "--wait", "0"], env=fake)
+    wait_until(lambda: speed(line) == (57_600, 57_600))
+    status, _, told, own = run([*FLASH, "-P", device, "-b", "9600"])
+    wanted = f"{device}: cannot be opened: another program has it"
+    see("a second run at once", (status, own[-1:]) == (1, [wanted]), (status, told, own))
+    same("the first one's speed", speed(line), (57_600, 57_600))
+    echo(line)
+    first.communicate(timeout=PATIENCE)
+    same("the first one", first.returncode, 0)
+    with tempfile.TemporaryDirectory(dir="/tmp") as folder:
+        os.chmod(folder, 0o755)
+        if os.geteuid() == 0:
+            os.chown(device, 65534, 65534)
+        program = stand_in(CALLS, Path(folder))["AVRSTK"]
+        for count in ["a first", "a second"]:
+            echo(line)
+            ran = run_as_anyone([*FLASH, "-P", device, "--wait", "0"], program)
+            same(f"{count} run of an ordinary user over a terminal that stays", (ran.returncode, ran.stderr), (0, b""))
+    os.close(line)
+
+
+def settings_that_are_kept():
+    """After a run the device has the settings that it had."""
+    room.clear()
+    line, device = terminal()
+    kept = os.open(device, os.O_RDWR | os.O_NOCTTY)
+    it = termios.tcgetattr(kept)
+    it[2] |= termios.PARENB
+    it[3] |= termios.ECHO | termios.ICANON
+    it[4] = it[5] = termios.B9600
+    termios.tcsetattr(kept, termios.TCSANOW, it)
+    before = termios.tcgetattr(kept)
+    during = echo(line)
+    status, *_ = run([*FLASH, "-P", device, "-b", "74880", "--wait", "0"], env=stand_in(CALLS))
+    same("the speed of a run", during, [(74_880, 74_880)])
+    same("settings after it", (status, termios.tcgetattr(kept)), (0, before))
+    os.close(kept)
+    os.close(line)
+
+
+def devices_that_go():
+    """A device that goes while its board is left alone."""
+    room.clear()
+    line, device = terminal()
+    started = start([*FLASH, "-P", device, "--wait", "1"])
+    wait_until(lambda: is_open(line))
+    os.close(line)
+    _, told = started.communicate(timeout=PATIENCE)
+    told = told.decode().splitlines()
+    see("two lines", started.returncode == 1 and len(told) == 2 and told[0] == "avrstk: error: link ended", told)
+    wanted = "avrstk-serial: the device is gone: check the cable; the chip is unchanged"
+    see("it is gone", told[-1].startswith(wanted), told)
+
+
+def strangers():
+    """Another program of the machine that calls the script's port first hears nothing of the board."""
+    wanted = flashed()
+    room.clear()
+    it = Board()
+    # (a program that avrstk is started by may stay beside it)
+    late = f"while not os.path.exists('go'):\n    time.sleep(0.01)\nimport subprocess\n"
+    late += f"sys.exit(subprocess.call(['{PROGRAM}', *sys.argv[1:]]))\n"
+    fake = stand_in("open('port', 'w').write(str(port) + '\\n')\n" + late)
+    started = start([*FLASH, "-P", it.device], env=fake)
+    wait_until(lambda: (room.read("port") or b"").endswith(b"\n"))
+    with socket.create_connection(("127.0.0.1", int(room.read("port"))), PATIENCE) as stranger:
+        stranger.sendall(bytes.fromhex("1B0100010E0114"))
+        try:
+            heard = stranger.recv(100)
+        except ConnectionResetError:
+            heard = b""
+    same("the stranger hears", heard, b"")
+    room.put("go", b"")
+    _, told = started.communicate(timeout=PATIENCE)
+    line = b"avrstk-serial: another program called the port of this run, and was refused\n"
+    same("the run", (started.returncode, told, it.end() == wanted), (0, line + lines(*FIRMWARE), True))
+
+
+def names_and_interrupts():
+    """Control bytes and bytes that are not UTF-8, and Ctrl-C before there is a run."""
+    for device, shown in [
+        (b"/dev/\xff\xc3\xa9", "/dev/\\xff\u00e9"),
+        ("/dev/\x1b[31m\nx\x7f\u009b".encode(), "/dev/\\x1b[31m\\x0ax\\x7f\\xc2\\x9b"),
+    ]:
+        started = start([*FLASH, "-P", device])
+        _, told = started.communicate(timeout=PATIENCE)
+        wanted = f"avrstk-serial: {shown}: there is no such device (is the cable in?)\n".encode()
+        same(f"the name {device}", (started.returncode, told), (1, wanted))
+    # a module of this name is loaded in the place of Python's, and is where Ctrl-C comes
+    modules = room.folder / "modules"
+    modules.mkdir()
+    (modules / "glob.py").write_text("import os, signal, time\nos.kill(os.getpid(), signal.SIGINT)\ntime.sleep(1)\n")
+    started = start(["--help"], env={"PYTHONPATH": str(modules)})
+    found = (*started.communicate(timeout=PATIENCE), started.returncode)
+    same("Ctrl-C at once", found, (b"", b"", -signal.SIGINT))
+    shutil.rmtree(modules)
 
 
 def recipe(begin):
@@ -476,11 +856,7 @@ def ended(started):
 def wait_for(port):
     """Waits until somebody listens, without a call."""
     mark = f" 0100007F:{port:04X} 00000000:0000 0A "
-    ends = time.monotonic() + PATIENCE
-    while mark not in Path("/proc/net/tcp").read_text():
-        if time.monotonic() > ends:
-            raise SystemExit(f"nobody listens at port {port}")
-        time.sleep(0.01)
+    wait_until(lambda: mark in Path("/proc/net/tcp").read_text())
 
 
 def recipe_of_the_script():
@@ -489,7 +865,7 @@ def recipe_of_the_script():
     it = Board()
     found = ended(typed(recipe("avrstk-serial -p m328p -P /dev/ttyACM0"), it.device))
     same("avrstk-serial", (*found, it.end() == firmware), (0, lines(*FIRMWARE), True))
-    firmware = emulated(["-D", *FLASH[2:]], "m2560")
+    firmware = emulated("-D", *FLASH[2:], part="m2560")
     room.clear()
     it = Board(part="m2560")
     status, told = ended(typed(recipe("avrstk-serial -C/etc/avrdude.conf"), it.device))
@@ -549,10 +925,19 @@ CASES = named(
     refused,
     devices,
     what_is_missing,
+    ports_of_avrstk,
+    programs,
     hints,
-    boards_that_fail,
+    progress,
     signals,
     cut_lines,
+    closed_streams,
+    messages_that_nobody_reads,
+    one_run_at_a_time,
+    settings_that_are_kept,
+    devices_that_go,
+    strangers,
+    names_and_interrupts,
     recipe_of_the_script,
     recipe_of_a_plain_bridge,
     recipe_of_ser2net,

@@ -65,6 +65,14 @@ def all_that_it_stands_on():
         see("what is the kit's", "of the kit: arrayvec thiserror hex memchr toml" in text, text)
 
 
+def the_network_is_named():
+    needs = "HANDLES of {} needs the line 'Handles allowed: Net.'"
+    for crate, told in [("avr_tool", True), ("avr_session", False)]:
+        with repository() as top:
+            status, text = vendor(crate, top)
+            see(f"{crate}: HANDLES", status == 0 and (needs.format(top) in text) == told, text)
+
+
 def what_is_there_stays():
     with repository() as top:
         lines = "own:\navr_image:   arrayvec thiserror # by hand"
@@ -140,7 +148,7 @@ def proof():
         see("it is proved", status == 0 and " passed, 0 failed" in text.splitlines()[-1], text[-600:])
 
 
-CASES = named(all_that_it_stands_on, what_is_there_stays, refusals, build)
+CASES = named(all_that_it_stands_on, the_network_is_named, what_is_there_stays, refusals, build)
 if "proof" in sys.argv:
     CASES |= named(proof)
 

@@ -1,7 +1,7 @@
 #!/usr/bin/env python3
 """Runs examples/lossy/compare.py and holds the table of docs/WHY to what it prints.
 
-    tests/why.py        needs crates/avrstk/out/avrstk, as rt ci leaves it; AVRDUDE 7.1, or its rows are left out
+    tests/why.py        needs a built program (program.py); AVRDUDE 7.1, or its rows are left out
 """
 
 import os

@@ -2,7 +2,7 @@
 """Flashes one firmware over a line that loses one frame, with AVRDUDE, where it is installed, and with avrstk, and
 looks at the chip afterwards.
 
-    compare.py          AVRSTK names another program than the one of this repository
+    compare.py          AVRSTK names another program than the one of this repository that is there, proved or not
 
 The programmer and the ATmega328P are the emulated ones of `avrstk --serve`. The chip has an older firmware above the
 new one, so that an erase that never came is seen. Prints a row for each run; the status is 1 where a run of avrstk
@@ -19,13 +19,25 @@ import time
 from pathlib import Path
 
 HERE = Path(__file__).resolve().parent
-AVRSTK = os.environ.get("AVRSTK", str(HERE.parent.parent / "avrstk"))
 FIRMWARE = HERE.parent / "blink.hex"
 FLASH, CHIP = 32_768, 33_796
 OLD = slice(8192, 8448)
 
 # what is lost, with its command and which of them
 LOST = [("nothing", "00", 1), ("a PROGRAM_FLASH", "13", 2), ("the CHIP_ERASE", "12", 1)]
+
+
+def program():
+    """The program that AVRSTK names, or else the one of this repository that is there."""
+    named = os.environ.get("AVRSTK")
+    if named:
+        return named
+    found = subprocess.run([HERE.parent.parent / "avrstk", "--which"], stdout=subprocess.PIPE, text=True)
+    # (why there is none was printed)
+    return found.stdout.rstrip("\n") or sys.exit(1)
+
+
+AVRSTK = program()
 
 
 def tools():

@@ -321,3 +321,27 @@ fn a_short_chip_file_is_no_chip(rt: HostRuntime) {
     let fault = chip_of(&rt, rt.alloc(), &[0xFF; 100]).err();
     assert_eq!(rt; fault, Some(PartFault::BadChipFile(100)));
 }
+
+#[test]
+fn faults_are_told_apart(rt: HostRuntime) -> Result<(), Fail> {
+    let refused = parse_parts(rt.alloc(), b"[parts.x1]");
+    assert!(rt; refused.is_err());
+    if let Err(fault) = &refused {
+        assert_eq!(rt; fault.part(), Some("x1"));
+        assert_eq!(rt; fault.fault(), PartFault::Missing(Field::Signature));
+    }
+    if let Err(fault) = parse_parts(rt.alloc(), b"parts = 3") {
+        assert_eq!(rt; fault.part(), None);
+        assert_eq!(rt; fault.fault(), PartFault::BadValue(Field::Parts));
+    }
+    if let Err(fault) = parse_parts(rt.alloc(), b"a = 1\na = 2\n") {
+        assert_eq!(rt; fault.line(), Some(2));
+        assert_eq!(rt; fault.fault(), PartFault::NotToml);
+    }
+    assert_eq!(rt; PartFault::Missing(Field::Signature).number(), 2);
+    assert_eq!(rt; Field::FlashSize.name(), "flash_size");
+    assert_eq!(rt; Field::Id.name(), "id");
+    let shown = format!(in rt.alloc(); "{} {}", Mem::Hfuse, Field::Id)?;
+    assert_eq!(rt; shown.as_str(), "hfuse id");
+    Ok(())
+}

@@ -1,0 +1,295 @@
+#!/usr/bin/env python3
+"""Makes the packages of tools/package.sh in two clones of this repository, with a script in place of `rt`: they are the
+same to the byte, hold what install.sh installs and what they were made from, and can be installed, run and removed.
+
+    tests/package.py [CASE ..]
+"""
+
+import functools
+import os
+import re
+import shutil
+import subprocess
+import sys
+import tempfile
+import time
+from pathlib import Path
+
+from cases import PATIENCE, leave_out, named, run_cases, same, see
+from program import PROGRAM, TOP
+from recipes import Clone
+
+VERSION = (TOP / "VERSION").read_text().strip()
+MAJOR = VERSION.split(".")[0]
+KIT = "rattle-kit-stand-in logic 0123456789abcdef"
+NEEDED = ["git", "dpkg-deb", "dpkg-shlibdeps", "strip", "xz", "gcc", "ar"]
+
+# `rt`: tells its version and where the kit is, and makes an archive for C
+RT = f"""#!/bin/sh
+case $1 in
+    version) echo {KIT} ;;
+    doc) echo "$(dirname "$0")/../kit/START-HERE.md" ;;
+    lib)
+        mkdir -p out
+        echo '#include <stdlib.h>
+            int avr_records_size(void) {{ return *(char *)malloc(7); }}' | gcc -fPIC -x c -c -o out/calls.o -
+        ar rcD out/libavr_records_c.a out/calls.o ;;
+    *) exit 1 ;;
+esac
+"""
+
+UNPROVED = "UNPROVED: this build was compiled without its proofs"
+PROVED = "Its behaviour is proved"
+DEVELOPMENT = [
+    "usr/include/avr_records.h",
+    "usr/lib/libavr_records.a",
+    "usr/lib/libavr_records.so",
+    "usr/lib/pkgconfig/avr_records.pc",
+]
+
+
+class Packager(Clone):
+    """A clone with the stand-in, in which packages are made."""
+
+    def __init__(self, folder, name):
+        (Path(folder) / name).mkdir()
+        super().__init__(Path(folder) / name)
+        self.made = self.folder / "made"
+        self.made.mkdir()
+        (self.folder / "bin/rt").write_text(RT)
+        (self.folder / "kit/c").mkdir(parents=True)
+        kit = {"cwd": self.folder / "kit/c", "check": True}
+        subprocess.run(["gcc", "-fPIC", "-x", "c", "-c", "-o", "heap.pic.o", "-"], input=b"int heap;", **kit)
+        subprocess.run(["ar", "rcD", "liblibc_c.a", "heap.pic.o"], **kit)
+
+    def give_to(self, user):
+        """Gives another user what packaging writes to."""
+        self.folder.chmod(0o755)
+        written = [self.made, self.top / "out", self.top / "crates/avr_records_c", self.folder / "home"]
+        subprocess.run(["chown", "-R", user, *written], check=True)
+
+    def start(self, *words, front=(), **more):
+        """Begins to make the packages of the program that is there, or of the one that AVRSTK names; what stands in
+        front runs it."""
+        kept = {name: it for name, it in os.environ.items() if name not in ("AVRSTK", "SOURCE_DATE_EPOCH")}
+        own = {"PATH": f"{self.folder}/bin:{os.environ['PATH']}", "HOME": str(self.folder / "home")}
+        how = {"stdout": subprocess.PIPE, "stderr": subprocess.STDOUT, "text": True}
+        command = [*front, self.top / "tools/package.sh", *words, self.made]
+        return subprocess.Popen(command, env=kept | own | more, **how)
+
+    def commit(self):
+        return self.git("rev-parse", "HEAD").strip()
+
+    def packages(self):
+        return {it.name: it.read_bytes() for it in self.made.iterdir()}
+
+
+def ended(started):
+    """The status of a run, and what it printed."""
+    told = started.communicate(timeout=PATIENCE)[0]
+    return started.returncode, told
+
+
+def field(package, name):
+    return subprocess.run(["dpkg-deb", "-f", package, name], capture_output=True, text=True, check=True).stdout.strip()
+
+
+def files(folder):
+    """What is below a folder but folders."""
+    return sorted(str(it.relative_to(folder)) for it in folder.rglob("*") if it.is_symlink() or not it.is_dir())
+
+
+ROOM = tempfile.TemporaryDirectory()
+# a user who is not root, if this is root
+NOBODY = ["setpriv", "--reuid=65534", "--regid=65534", "--clear-groups"] if os.geteuid() == 0 else []
+
+
+@functools.cache
+def made():
+    """Two clones in which the packages were made, side by side, by two users with habits of their own."""
+    os.chmod(ROOM.name, 0o755)
+    clones = [Packager(ROOM.name, it) for it in ["one", "two"]]
+    if NOBODY:
+        clones[1].give_to("65534:65534")
+    private = ["sh", "-c", 'umask 077 && exec "$0" "$@"']
+    started = [clones[0].start("--with-c", TZ="Asia/Tokyo", XZ_DEFAULTS="--check=none")]
+    # (so that the files of both have other times)
+    time.sleep(1.1)
+    started.append(clones[1].start("--with-c", front=[*NOBODY, *private], LC_ALL="C.UTF-8"))
+    for status, told in [ended(it) for it in started]:
+        if status:
+            raise SystemExit(f"tools/package.sh ends with {status}: {told}")
+    return clones
+
+
+def package(name):
+    """The package of this name in the first clone."""
+    (found,) = made()[0].made.glob(f"{name}_*.deb")
+    return found
+
+
+def packages_are_the_same():
+    """Two clones make the same packages, to the byte."""
+    one, two = (it.packages() for it in made())
+    arch = field(package("avrstk"), "Architecture")
+    debs = [("avrstk", f"{VERSION}~unproved"), (f"libavr-records{MAJOR}", VERSION), ("libavr-records-dev", VERSION)]
+    wanted = [f"avrstk-{VERSION}~unproved-{os.uname().machine}.tar.xz", *(f"{it}_{of}_{arch}.deb" for it, of in debs)]
+    same("the packages", sorted(one), sorted(wanted))
+    same("those of the other clone", sorted(two), sorted(one))
+    for name, content in one.items():
+        see(f"{name} is the same in both", two.get(name) == content)
+
+
+def packages_say_what_they_are():
+    """Each says from which commit and by which kit it was made; the program says that nothing of it was proved, and the
+    library, which `rt lib` proves, that it is."""
+    for name in ["avrstk", f"libavr-records{MAJOR}", "libavr-records-dev"]:
+        told = field(package(name), "Description")
+        flat = " ".join(told.split())
+        mark, proof = (" (unproved build)", UNPROVED) if name == "avrstk" else ("", PROVED)
+        see(f"{name} is marked in its first line or not", told.splitlines()[0].endswith(mark), told)
+        same(f"{name} says once what is proved", flat.count(f"{proof}, by {KIT}. "), 1)
+        same(f"{name} says whether it is unproved", "unproved" in flat.lower(), bool(mark))
+        see(f"{name} has the commit", f"Commit {made()[0].commit()}" in flat, told)
+    depends = field(package("avrstk"), "Depends")
+    see("avrstk depends on libc6 and Python", re.match(r"libc6 \(>= 2\.\d+\).*, python3 \(>= 3\.8\)$", depends), depends)
+    see("the library depends on libc6", field(package(f"libavr-records{MAJOR}"), "Depends").startswith("libc6"))
+    needed = f"libavr-records{MAJOR} (= {VERSION})"
+    same("who develops needs the library", field(package("libavr-records-dev"), "Depends"), needed)
+
+
+def a_proved_program_is_not_marked():
+    """The proved program of a clone is packaged as such, also with changes since the commit, which are told."""
+    clone = made()[0]
+    shutil.rmtree(clone.made)
+    program = clone.top / "crates/avrstk/out/avrstk"
+    program.parent.mkdir(exist_ok=True)
+    subprocess.run(["gcc", "-x", "c", "-o", program, "-"], input=b"int main(void) { return 0; }", check=True)
+    with open(clone.top / "README.md", "a") as readme:
+        readme.write("changed\n")
+    status, told = ended(clone.start())
+    same("two packages are made", (status, re.findall("^made", told, re.M)), (0, ["made"] * 2))
+    found = package("avrstk")
+    description = field(found, "Description")
+    same("its version", field(found, "Version"), VERSION)
+    see("it has no mark", "unproved" not in description.lower(), description)
+    flat = " ".join(description.split())
+    see("it says that it is proved", f"{PROVED}, by {KIT}." in flat, description)
+    see("and of changes", f"Commit {made()[0].commit()}, with changes since." in flat, description)
+    os.utime(program, (0, 0))
+    ended(clone.start(AVRSTK=str(program)))
+    see("a program older than the sources is marked", list(clone.made.glob("avrstk_*~unproved_*.deb")))
+
+
+def unpacked(name, folder):
+    subprocess.run(["dpkg-deb", "-x", package(name), folder], check=True)
+    return files(folder)
+
+
+def packages_hold_what_is_installed():
+    """A package holds what install.sh installs, with the documents of a package."""
+    with tempfile.TemporaryDirectory() as folder:
+        prefix = Path(folder, "installed")
+        environment = os.environ | {"AVRSTK": str(PROGRAM)}
+        subprocess.run([TOP / "install.sh", prefix], env=environment, check=True, stdout=subprocess.DEVNULL)
+        (prefix / "share/avrstk/folders").unlink()
+        wanted = [f"usr/{it}.gz" if it.endswith(".1") else f"usr/{it}" for it in files(prefix)]
+        docs = ["README.md", "USAGE.md", "built-from", "changelog.gz", "copyright"]
+        found = unpacked("avrstk", Path(folder, "avrstk"))
+        same("avrstk", found, sorted([*wanted, *(f"usr/share/doc/avrstk/{it}" for it in docs)]))
+        name = f"libavr-records{MAJOR}"
+        wanted = [f"usr/lib/libavr_records.so.{MAJOR}", *(f"usr/share/doc/{name}/{it}" for it in docs[2:])]
+        same(name, unpacked(name, Path(folder, "shared")), wanted)
+        wanted = [*DEVELOPMENT, *(f"usr/share/doc/libavr-records-dev/{it}" for it in docs[2:])]
+        same("libavr-records-dev", unpacked("libavr-records-dev", Path(folder, "dev")), wanted)
+        copyright = Path(folder, "avrstk/usr/share/doc/avrstk/copyright").read_text()
+        see("the package says that there is no licence", "There is no licence yet." in copyright, copyright)
+        told = Path(folder, "avrstk/usr/share/doc/avrstk/built-from").read_text()
+        see("and what it was built from", all(it in told for it in [KIT, made()[0].commit(), UNPROVED]), told)
+        modes = {it: oct((Path(folder, "avrstk") / it).stat().st_mode & 0o777) for it in found}
+        programs = {it for it, mode in modes.items() if mode == "0o755"}
+        same("programs alone can be run", programs, {it for it in found if it.startswith("usr/bin/")})
+        same("all others can be read by everybody", {modes[it] for it in found if it not in programs}, {"0o644"})
+
+
+def runs(prefix, folder):
+    """What is below the prefix runs from there."""
+    how = {"cwd": folder, "capture_output": True, "text": True, "timeout": PATIENCE}
+    environment = {it: text for it, text in os.environ.items() if it != "AVRSTK"}
+    words = ["-p", "m328p", "-P", "emu:chip.bin", "-U", f"flash:w:{TOP}/examples/blink.hex:i"]
+    ran = subprocess.run([prefix / "bin/avrstk", *words], **how, env=environment)
+    same("avrstk", (ran.returncode, ran.stderr.splitlines()[-1:]), (0, ["avrstk: done"]))
+    for script in sorted(it.name for it in (prefix / "bin").iterdir() if it.name != "avrstk"):
+        ran = subprocess.run([prefix / "bin" / script, "--help"], **how, env=environment)
+        see(f"{script} --help", ran.returncode == 0 and script in ran.stdout, ran)
+    ran = subprocess.run([prefix / "bin/avrstk-serial", "-p", "?"], **how, env=environment)
+    see("avrstk-serial finds the part file", "ATmega32U4" in ran.stdout, ran)
+
+
+def package_is_installed_and_removed():
+    """dpkg installs the package below a folder, where it runs, and removes all of it."""
+    with tempfile.TemporaryDirectory() as folder:
+        root = Path(folder, "root")
+        for it in ["updates", "info", "triggers"]:
+            (root / "var/lib/dpkg" / it).mkdir(parents=True)
+        (root / "var/lib/dpkg/status").write_text("")
+        # (what it depends on is not below that folder)
+        dpkg = ["dpkg", f"--root={root}", "--force-not-root", "--force-depends", "--log=/dev/null"]
+        how = {"capture_output": True, "text": True}
+        ran = subprocess.run([*dpkg, "-i", *(package(it) for it in ["avrstk", f"libavr-records{MAJOR}"])], **how)
+        same("the status of dpkg -i", ran.returncode, 0) or print(ran.stderr)
+        listed = subprocess.run(["dpkg-query", f"--admindir={root}/var/lib/dpkg", "-W", "-f", "${Status} ", "avrstk"], **how)
+        same("dpkg has it", listed.stdout, "install ok installed ")
+        runs(root / "usr", folder)
+        ran = subprocess.run([*dpkg, "-P", "avrstk", f"libavr-records{MAJOR}"], **how)
+        same("the status of dpkg -P", ran.returncode, 0) or print(ran.stderr)
+        same("what is left", files(root / "usr") if (root / "usr").exists() else [], [])
+
+
+def archive_runs_anywhere():
+    """The archive runs where it is unpacked."""
+    with tempfile.TemporaryDirectory() as folder:
+        (archive,) = made()[0].made.glob("*.tar.xz")
+        subprocess.run(["tar", "-xf", archive], cwd=folder, check=True)
+        name = archive.name.removesuffix(".tar.xz")
+        same("it has one folder", os.listdir(folder), [name])
+        runs(Path(folder, name), folder)
+
+
+def lintian_finds_no_error():
+    if not shutil.which("lintian"):
+        return leave_out("the packages as lintian judges them", "lintian is not installed")
+    debs = sorted(made()[0].made.glob("*.deb"))
+    ran = subprocess.run(["lintian", "--fail-on", "error", *debs], capture_output=True, text=True)
+    see("lintian finds no error", ran.returncode == 0, ran.stdout + ran.stderr)
+
+
+def refusals():
+    """What tools/package.sh can't package, it refuses."""
+    clone = made()[1]
+    nothing = f"{clone.folder}/nothing"
+    told = f"package.sh: error: {nothing} is not there\n"
+    same("a program that is not there", ended(clone.start(AVRSTK=nothing)), (1, told))
+    told = "package.sh: error: usage: tools/package.sh [--with-c] FOLDER\n"
+    same("an option that is not known", ended(clone.start("--other")), (1, told))
+    (clone.top / "out/unproved/avrstk").unlink()
+    status, told = ended(clone.start())
+    same("no program", (status, "avrstk: error: not built yet" in told), (1, True))
+
+
+FROM_BOTH = [packages_are_the_same, packages_say_what_they_are, packages_hold_what_is_installed]
+RUN = [package_is_installed_and_removed, archive_runs_anywhere, lintian_finds_no_error]
+# (the last change the clones)
+CASES = named(*FROM_BOTH, *RUN, a_proved_program_is_not_marked, refusals)
+
+
+def main():
+    lacking = [it for it in NEEDED if not shutil.which(it)]
+    if lacking or not (TOP / ".git").exists():
+        leave_out("the packages", f"{', '.join(lacking)} not installed" if lacking else "this is no clone")
+        CASES.clear()
+    return run_cases(CASES, __doc__)
+
+
+if __name__ == "__main__":
+    sys.exit(main())

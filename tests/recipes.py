@@ -1,0 +1,153 @@
+#!/usr/bin/env python3
+"""Runs the commands that README and docs/USAGE show, as they are typed, in a fresh clone in which only the first of README
+was run: each ends with status 0, none starts a build, and git sees no file that they made.
+
+    tests/recipes.py [CASE ..]      needs a built program (program.py), which is the one without proofs in the clone; calls
+                                    of AVRDUDE are left out without AVRDUDE 7.1, and those of srec_cmp without srecord
+
+Only what is somebody's own is another here: the port, the home folder, the firmware, and the board, which is a pseudo
+terminal with the emulated programmer behind it.
+"""
+
+import os
+import re
+import shlex
+import shutil
+import subprocess
+import sys
+import tempfile
+from pathlib import Path
+
+from cases import PATIENCE, leave_out, named, run_cases, same, see
+from program import PROGRAM, TOP, free_port, has_avrdude
+from serial import Board
+
+# what isn't a step of a user's work with the tool, or proves when it is typed
+NOT_HERE = ("cd ", "git ", "./test", ".ci/", "./avrstk --build", "./install.sh --with-c")
+
+# `rt` here: notes that it was called
+RT = '#!/bin/sh\necho "$@" >>"$NOTED"\nexit 1\n'
+
+# in the shell of the commands: for a second's sleep what was started in the background is waited for until it listens or
+# ends, however long that takes
+WAITS = """
+listens() {{ grep -q " 0100007F:{0:04X} 00000000:0000 0A " /proc/net/tcp; }}
+sleep() {{ [ "$1" = 1 ] || command sleep "$1"; until [ "$1" != 1 ] || listens || ! kill -0 $!; do command sleep 0.02; done; }}
+trap 'kill $(jobs -p) 2>/dev/null; wait' EXIT
+"""
+
+
+class Clone:
+    """A clone with what isn't committed yet, in a folder with a home and an `rt` that notes its words."""
+
+    def __init__(self, folder):
+        self.folder = Path(folder)
+        self.top = self.folder / "avrstk"
+        self.noted = self.folder / "noted"
+        for it in ["home", "bin"]:
+            (self.folder / it).mkdir()
+        # (whoever owns the repository)
+        (self.folder / "home/.gitconfig").write_text("[safe]\n\tdirectory = *\n")
+        self.git("clone", "-q", TOP, self.top)
+        changed = self.git("diff", "-z", "--name-only", "HEAD") + self.git("ls-files", "-z", "-o", "--exclude-standard")
+        for name in changed.split("\0"):
+            if name and (TOP / name).exists():
+                (self.top / name).parent.mkdir(parents=True, exist_ok=True)
+                shutil.copy(TOP / name, self.top / name)
+        self.was = self.status()
+        (self.top / "out/unproved").mkdir(parents=True)
+        shutil.copyfile(PROGRAM, self.top / "out/unproved/avrstk")
+        (self.top / "out/unproved/avrstk").chmod(0o755)
+        (self.folder / "bin/rt").write_text(RT)
+        (self.folder / "bin/rt").chmod(0o755)
+
+    def git(self, *words, at=TOP):
+        environment = os.environ | {"HOME": str(self.folder / "home")}
+        ran = subprocess.run(["git", "-C", at, *words], capture_output=True, text=True, check=True, env=environment)
+        return ran.stdout
+
+    def status(self):
+        """What git sees in it that isn't committed."""
+        return self.git("status", "--porcelain", at=self.top)
+
+    def types(self, commands):
+        """Types commands, one after another, into one shell; gives what it printed."""
+        port = free_port()
+        path = f"{self.folder}/bin:{self.folder}/home/.local/bin:{os.environ['PATH']}"
+        own = {"PATH": path, "HOME": str(self.folder / "home"), "NOTED": str(self.noted)}
+        environment = {name: it for name, it in (os.environ | own).items() if name != "AVRSTK"}
+        typed = [f"{it} || echo 'FAILED here'" for it in commands]
+        text = WAITS.format(port) + "\n".join(typed).replace("5000", str(port))
+        how = {"stdin": subprocess.DEVNULL, "stdout": subprocess.PIPE, "stderr": subprocess.STDOUT, "text": True}
+        return subprocess.run(["bash", "-c", text], cwd=self.top, env=environment, timeout=PATIENCE, **how).stdout
+
+    def tries(self, commands):
+        """Types the commands of one block, if they are for here."""
+        for tool, is_here in [("avrdude", has_avrdude()), ("srec_cmp", shutil.which("srec_cmp"))]:
+            if not is_here and any(it.startswith(f"{tool} ") for it in commands):
+                leave_out(f"calls of {tool}", "it is not installed")
+                commands = [it for it in commands if not it.startswith(f"{tool} ")]
+        commands = [it.replace("firmware.hex", "examples/blink.hex") for it in commands if not it.startswith(NOT_HERE)]
+        device = next((it for it in re.findall(r"/dev/tty\w+", " ".join(commands))), None)
+        if device:
+            words = next(shlex.split(it) for it in commands if device in it)
+            board = Board(part="m2560" if "2560" in words[words.index("-p") + 1] else "m328p")
+            commands = [it.replace(device, board.device) for it in commands]
+        printed = self.types(commands)
+        if device:
+            board.end()
+        for it in commands:
+            see(f"is right: {it}", "FAILED here" not in printed, printed)
+        see("nothing is built", not self.noted.exists(), self.noted.exists() and self.noted.read_text())
+
+
+def blocks(file):
+    """The commands of each block of a document, as they are typed."""
+    found = re.findall(r"(?:^    (?!  ).*\n)+", (TOP / file).read_text(), re.M)
+    # (what is noted behind a command is left out)
+    return [typed for block in found if (typed := re.findall(r"^    \$ (.*?)(?: +# .*)?$", block, re.M))]
+
+
+def in_a_clone(case):
+    """A case with a clone of its own, in which git sees nothing new at the end."""
+
+    def run():
+        with tempfile.TemporaryDirectory() as folder:
+            clone = Clone(folder)
+            case(clone)
+            same("git sees no new file", clone.status(), clone.was)
+
+    run.__name__ = case.__name__
+    return run
+
+
+def readme(clone):
+    """The commands of README, from its first one."""
+    found = blocks("README.md")
+    first = found[0][0]
+    see("the first command needs no proof", first.startswith("./avrstk --unproved "), first)
+    for commands in found:
+        clone.tries(commands)
+
+
+def usage(clone):
+    """The commands of docs/USAGE; those of an installed avrstk where install.sh has put it."""
+    clone.types(["./install.sh ~/.local"])
+    for commands in blocks("docs/USAGE.md"):
+        clone.tries(commands)
+
+
+def somebody_else(clone):
+    """Another user of the clone runs the program that is there, and builds nothing."""
+    if os.geteuid() != 0:
+        leave_out("another user", "this isn't root")
+        return
+    clone.folder.chmod(0o755)
+    printed = clone.types(["setpriv --reuid=65534 --regid=65534 --clear-groups ./avrstk --help"])
+    see("it runs", "Usage: " in printed and "FAILED" not in printed, printed)
+
+
+CASES = named(*map(in_a_clone, [readme, usage, somebody_else]))
+
+if __name__ == "__main__":
+    sys.exit(run_cases(CASES, __doc__))

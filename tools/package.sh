@@ -1,0 +1,191 @@
+#!/usr/bin/env bash
+# Makes Debian packages, and an archive for other systems, of what install.sh installs: of the program that AVRSTK names,
+# or the one that is there. If it isn't the proved one, its version ends with ~unproved, and its description says so.
+#
+#     tools/package.sh [--with-c] FOLDER
+#
+# FOLDER gets avrstk_VERSION_ARCH.deb and avrstk-VERSION-MACHINE.tar.xz. With --with-c the library for C, which is always
+# proved, is in libavr-recordsN_VERSION_ARCH.deb and libavr-records-dev_VERSION_ARCH.deb.
+#
+# The same commit and program make the same packages, to the byte, wherever that is done (by the same dpkg-deb and xz).
+# Needed: git, rt of Rattle's kit, dpkg-dev, binutils, xz.
+set -euo pipefail
+umask 022
+export LC_ALL=C TZ=UTC
+
+top=$(dirname "$(dirname "$(readlink -f "$0")")")
+
+fail() {
+    echo "package.sh: error: $*" >&2
+    exit 1
+}
+
+with_c=""
+if [ "${1:-}" = --with-c ]; then
+    with_c=$1
+    shift
+fi
+if [ $# -ne 1 ] || [[ $1 == -* ]]; then
+    fail "usage: tools/package.sh [--with-c] FOLDER"
+fi
+for it in git rt dpkg-deb dpkg-shlibdeps strip xz; do
+    command -v "$it" >/dev/null || fail "$it is not on the path"
+done
+mkdir -p "$1"
+folder=$(cd "$1" && pwd)
+named=${AVRSTK:-$("$top/avrstk" --which)}
+program=$(readlink -e "$named") || fail "$named is not there"
+
+# what it rests on
+in_git() { git -C "$top" "$@"; }
+commit=$(in_git rev-parse HEAD)
+[ -z "$(in_git status --porcelain --untracked-files=no)" ] || commit+=", with changes since"
+kit=$(rt version)
+maintainer=$(in_git log -1 --format='%an <%ae>')
+SOURCE_DATE_EPOCH=${SOURCE_DATE_EPOCH:-$(in_git log -1 --format=%ct)}
+export SOURCE_DATE_EPOCH
+release=$(cat "$top/VERSION")
+major=${release%%.*}
+proved="Its behaviour is proved, by $kit."
+# (of the program)
+version=$release
+proof=$proved
+mark=""
+if [ "$program" != "$top/crates/avrstk/out/avrstk" ] || [ "$("$top/avrstk" --which 2>/dev/null)" != "$program" ]; then
+    proof="UNPROVED: this build was compiled without its proofs, by $kit. Nothing of it was proved."
+    mark=" (unproved build)"
+    # (a proved package is newer than it)
+    version+="~unproved"
+fi
+arch=$(dpkg --print-architecture)
+
+work=$(mktemp -d)
+trap 'rm -rf "$work"' EXIT
+all=$work/all
+
+# Writes a package's description: a line, and paragraphs in lines that are not too long.
+described() {
+    echo "Description: $1"
+    shift
+    local it between=""
+    for it; do
+        [ -z "$between" ] || echo " ."
+        tr '\n' ' ' <<<"$it" | fold -s -w 76 | sed 's/^/ /; s/ *$//'
+        echo
+        between=yes
+    done
+}
+
+# Puts the documents of a package of this version and proof below a folder.
+document() {
+    local docs=$2/usr/share/doc/$1 version=$3 proof=$4
+    mkdir -p "$docs"
+    cat >"$docs/copyright" <<END
+avrstk is written by the $maintainer.
+
+There is no licence yet. Until its authors choose one, they keep all rights:
+nobody else may copy, change or pass on avrstk or its packages.
+
+Copyright (C) $(date -d "@$SOURCE_DATE_EPOCH" +%Y) the authors of avrstk. What was compiled contains code of the
+Rattle kit ($kit), which has terms of its own.
+END
+    cat >"$docs/changelog" <<END
+avrstk ($version) unstable; urgency=medium
+
+  * Made from commit
+    $commit.
+
+ -- $maintainer  $(date -R -d "@$SOURCE_DATE_EPOCH")
+END
+    gzip -9n "$docs/changelog"
+    cat >"$docs/built-from" <<END
+version: $version
+commit: $commit
+kit: $kit
+proof: $proof
+END
+}
+
+# The packages of the shared libraries that these files are linked with, and their versions.
+shared_by() {
+    mkdir -p "$work/shlibs/debian"
+    printf 'Source: avrstk\n\nPackage: avrstk\nArchitecture: any\n' >"$work/shlibs/debian/control"
+    (cd "$work/shlibs" && dpkg-shlibdeps -O "${@/#/-e}") | sed -n 's/^shlibs:Depends=//p'
+}
+
+# Makes the package of this name and version of the files below a folder, with the fields that are read.
+package() {
+    local name=$1 root=$2 version=$3 control=$2/DEBIAN
+    mkdir -p "$control"
+    (cd "$root" && find usr -type f -print0 | sort -z | xargs -0 md5sum) >"$control/md5sums"
+    {
+        printf 'Package: %s\nVersion: %s\nArchitecture: %s\n' "$name" "$version" "$arch"
+        printf 'Maintainer: %s\nSource: avrstk\nPriority: optional\n' "$maintainer"
+        find "$root/usr" -printf '%y %s\n' |
+            awk '{ kB += $1 == "f" ? int(($2 + 1023) / 1024) : 1 } END { print "Installed-Size: " kB }'
+        cat
+    } | sed "/^Source: $name\$/d" >"$control/control"
+    touched "$root"
+    DPKG_DEB_THREADS_MAX=1 dpkg-deb --root-owner-group -Zxz -z3 --build "$root" \
+        "$folder/${name}_${version}_$arch.deb" >/dev/null
+    echo "made $folder/${name}_${version}_$arch.deb"
+}
+
+# Gives all that is below a folder the time of the commit.
+touched() {
+    find "$1" -exec touch -h -d "@$SOURCE_DATE_EPOCH" {} +
+}
+
+[ -z "$with_c" ] || echo "proves and builds the library for C, in several minutes, if it isn't built" >&2
+AVRSTK=$program DESTDIR=$all "$top/install.sh" ${with_c:+"$with_c"} /usr >/dev/null
+mkdir "$all/DEBIAN"
+strip --remove-section=.comment --remove-section=.note "$all/usr/bin/avrstk"
+gzip -9n "$all"/usr/share/man/man1/*.1
+document avrstk "$all" "$version" "$proof"
+install -m 644 "$top/README.md" "$top/docs/USAGE.md" "$all/usr/share/doc/avrstk/"
+(cd "$all" && sha256sum usr/bin/avrstk) >>"$all/usr/share/doc/avrstk/built-from"
+
+if [ -n "$with_c" ]; then
+    shared=$work/shared
+    dev=$work/dev
+    mkdir -p "$shared/usr/lib" "$shared/DEBIAN" "$dev/usr"
+    mv "$all/usr/lib/libavr_records.so.$major" "$shared/usr/lib/"
+    mv "$all/usr/lib" "$all/usr/include" "$dev/usr/"
+    strip --strip-unneeded --remove-section=.comment --remove-section=.note "$shared/usr/lib/"*
+    document "libavr-records$major" "$shared" "$release" "$proved"
+    echo "activate-noawait ldconfig" >"$shared/DEBIAN/triggers"
+    echo "libavr_records $major libavr-records$major (>= $release)" >"$shared/DEBIAN/shlibs"
+    document libavr-records-dev "$dev" "$release" "$proved"
+    reads="reads Intel HEX and Motorola S-records into a memory, and writes them from one"
+    depends=$(shared_by "$shared/usr/lib/libavr_records.so.$major")
+    package "libavr-records$major" "$shared" "$release" <<END
+Section: libs
+Depends: $depends
+$(described "Intel HEX and S-records for C" "The library $reads." "$proved" "Commit $commit.")
+END
+    package libavr-records-dev "$dev" "$release" <<END
+Section: libdevel
+Depends: libavr-records$major (= $release)
+$(described "Intel HEX and S-records for C, to develop with" \
+        "The header, the archive and the file for pkg-config of a library that $reads." "$proved" "Commit $commit.")
+END
+fi
+
+# (the archive can be unpacked below any prefix)
+name=avrstk-$version-$(uname -m)
+mkdir "$work/$name"
+cp -a "$all/usr/." "$work/$name"
+touched "$work/$name"
+tar -C "$work" --sort=name --format=gnu --owner=0 --group=0 --numeric-owner -cf - "$name" |
+    XZ_DEFAULTS='' XZ_OPT='' xz -3 --threads=1 >"$folder/$name.tar.xz"
+echo "made $folder/$name.tar.xz"
+
+depends=$(shared_by "$all/usr/bin/avrstk")
+package avrstk "$all" "$version" <<END
+Section: electronics
+Depends: $depends, python3 (>= 3.8)
+$(described "program AVR microcontrollers through an STK500v2 programmer$mark" \
+    "It takes the options of AVRDUDE and speaks STK500v2 to a programmer or a bootloader. An emulated programmer and
+part are built in. avrstk-serial is for programmers and boards on a serial device, avrstk-serve is an emulated
+programmer on the network." "$proof" "Commit $commit.")
+END
