@@ -44,8 +44,8 @@ module _ (switches : Switches) (file : Bytes) (format : Format) (size : ℕ) whe
       → Went (saying_stage (warning_says switches file ending)) mid new (Made tt)
       → Went (file_image_stage switches file format size) old new (Made image)
   went_image old mid new image ending reads same warns =
-      went_went (file_stage file LARGEST_IMAGE_FILE (judged_image file format size)) (behind_file switches file) old mid new
-      (image, ending) (Made image)
+      went_went (file_stage file LARGEST_IMAGE_FILE (judged_image file format size)) (behind_file switches file) old mid
+      new (image, ending) (Made image)
       (went_file file format size old mid image ending reads same)
       (went_went (saying_stage (warning_says switches file ending)) (λ ok. verdict_stage (Ok image)) mid new new tt
       (Made image) warns (went_nowhere new image))

@@ -77,9 +77,8 @@ module _ (settings : Settings) (old now : DeskView) (status : ℕ) where
       → RunsNowhere settings w w old now status
   runs_nowhere w none bare = record { runs = either none.1; untouched = refl; status_is = none.0 }
     where
-      either : WentRefused (planned settings) old now ⊎ planning.StageBrokeOff (AtUpdate settings) (planned settings)
-      old
-          now
+      either : WentRefused (planned settings) old now
+          ⊎ planning.StageBrokeOff (AtUpdate settings) (planned settings) old now
           → IsRun settings (wire_and_desk w old) (wire_and_desk w now) status
           ⊎ StoppedPlanning settings (wire_and_desk w old) (wire_and_desk w now) status
       either (inl went) = inl (subst (IsRun settings (wire_and_desk w old) (wire_and_desk w now)) (sym none.0)
