@@ -60,8 +60,8 @@ def is_good(what, found):
 
 
 def ended_anywhere():
-    """A run is ended at each of its calls in turn; then the chip is the old one or the new one, and the next run is as
-    good as ever."""
+    """A run is ended at each of its calls in turn; then the chip is the old one or the new one with its permissions, and
+    each time the next run is as good as ever."""
     if not shutil.which("cc"):
         return leave_out("runs that are ended", "there is no C compiler")
     shim = room.folder / "refuse.so"
@@ -70,7 +70,6 @@ def ended_anywhere():
     for how, number in [("kill", signal.SIGKILL), ("int", signal.SIGINT)]:
         left = {ended_at(shim, f"any {call} {how}", number) for call in range(1, calls_of(shim) + 1)}
         see(f"{how}: both the old and the new chip are seen", left == {OLD, with_fuse(OLD, 0x62)}, len(left))
-    is_good("a run after them", room.run(writes_fuse(0x62)))
 
 
 def calls_of(shim):
@@ -87,11 +86,20 @@ def calls_of(shim):
 def ended_at(shim, refused, number):
     """The chip that a run leaves which is ended there."""
     fresh_room()
+    (room.folder / "chip.bin").chmod(0o640)
     ran = room.run(writes_fuse(0x62), b"", {"LD_PRELOAD": str(shim), "REFUSE": refused, "REFUSED": "refused"})
     chip = room.read("chip.bin")
     see(f"{refused}: ended", ran[0] == -number, ran)
     see(f"{refused}: the chip is the old one or the new one", chip in (OLD, with_fuse(OLD, 0x62)), len(chip or b""))
+    same(f"{refused}: its permissions", mode_of("chip.bin") & 0o777, 0o640)
+    is_good(f"{refused}: the next run", room.run(writes_fuse(0x63)))
+    see(f"{refused}: the next run writes the chip", room.read("chip.bin") == with_fuse(OLD, 0x63))
+    same(f"{refused}: its mode after that", mode_of("chip.bin"), 0o640)
     return chip
+
+
+def mode_of(name):
+    return stat.S_IMODE((room.folder / name).stat().st_mode)
 
 
 def at_once():
@@ -118,10 +126,7 @@ def at_once():
 def held_by_a_run():
     """While a run has the chip another one is refused, before a frame."""
     fresh_room()
-    os.mkfifo(room.folder / "pipe")
-    holder = room.start([*EMULATED, "-U", "eeprom:r:pipe:r"])
-    # nobody reads the pipe yet, so the run waits after its first line
-    see("the first run", SIGNATURE.encode() in holder.stderr.readline())
+    holder = waiting_run()
     same("another run", room.run(writes_fuse(0x62)), (1, b"", IN_USE))
     server = Server(room, "chip.bin", waits=False)
     same("the emulator served", server.end(), (1, b"", IN_USE))
@@ -149,10 +154,8 @@ def held_by_a_session():
 def refused_by_then():
     """Another run has the chip when the caller comes: he hears the end, which is told."""
     fresh_room()
-    os.mkfifo(room.folder / "pipe")
     with Server(room, "chip.bin") as server:
-        holder = room.start([*EMULATED, "-U", "eeprom:r:pipe:r"])
-        holder.stderr.readline()
+        holder = waiting_run()
         with server.call() as caller:
             same("the caller hears", caller.recv(1), b"")
         same("the server says", server.end(), (1, b"", IN_USE))
@@ -217,7 +220,12 @@ def what_stays():
     is_good("a run over a link", room.run(["-p", "m328p", "-P", "emu:link.bin", "-U", "lfuse:w:0x62:m"]))
     see("the link stays", (room.folder / "link.bin").is_symlink())
     see("the chip after it is written", room.read("chip.bin") == with_fuse(OLD, 0x62))
-    same("its permissions", stat.S_IMODE((room.folder / "chip.bin").stat().st_mode), 0o640)
+    same("its permissions", mode_of("chip.bin"), 0o640)
+    for mode, kept in [(0o4751, 0o751), (0o2750, 0o750), (0o1600, 0o600), (0o6777, 0o777)]:
+        fresh_room()
+        (room.folder / "chip.bin").chmod(mode)
+        is_good(f"a chip of mode {mode:o}", room.run(writes_fuse(0x62)))
+        same(f"what stays of mode {mode:o}", mode_of("chip.bin"), kept)
     room.clear()
     (room.folder / "link.bin").symlink_to("chip.bin")
     is_good("a link to no file yet", room.run(["-p", "m328p", "-P", "emu:link.bin", "-U", "lfuse:w:0x62:m"]))
@@ -225,12 +233,147 @@ def what_stays():
     see("and stays a link", (room.folder / "link.bin").is_symlink())
 
 
-def left_behind():
-    """A new file that an ended run left is used up by the next one."""
+def whose_it_stays():
+    """A chip keeps its owner and its group where the system allows it, and what an ended run left is its owner's."""
+    groups = [it for it in os.getgroups() if it != os.getegid()]
+    if os.geteuid() == 0:
+        owner, group = 65534, 65533
+    elif groups:
+        owner, group = -1, groups[0]
+    else:
+        return leave_out("whose a chip stays", "this isn't root, and has one group alone")
     fresh_room()
-    room.put(NEW_FILE, b"x" * 100_000)
-    is_good("the next run", room.run(writes_fuse(0x62)))
-    see("writes the chip", room.read("chip.bin") == with_fuse(OLD, 0x62))
+    os.chown(room.folder / "chip.bin", owner, group)
+    wanted = owner_of("chip.bin")
+    is_good("a run", room.run(writes_fuse(0x62)))
+    same("whose the chip is", owner_of("chip.bin"), wanted)
+    held = waiting_run()
+    same("whose the new file is", owner_of(NEW_FILE), wanted)
+    held.kill()
+    held.communicate()
+
+
+def owner_of(name):
+    status = (room.folder / name).stat()
+    return status.st_uid, status.st_gid
+
+
+def waiting_run(pipe="pipe", words=()):
+    """A run that has the chip and waits in its session, since nobody reads the pipe yet."""
+    os.mkfifo(room.folder / pipe)
+    started = room.start([*EMULATED, *words, "-U", f"eeprom:r:{pipe}:r"])
+    see("a run that waits", SIGNATURE.encode() in started.stderr.readline())
+    return started
+
+
+def left_behind():
+    """A new file that an ended run left is used up by the next one: it is empty, or marked as being written."""
+    for content, mode in [(b"", 0o644), (b"", 0o1600), (b"x" * 100_000, 0o1644)]:
+        fresh_room()
+        room.put(NEW_FILE, content)
+        (room.folder / NEW_FILE).chmod(mode)
+        is_good(f"the next run over {len(content)} bytes of mode {mode:o}", room.run(writes_fuse(0x62)))
+        see("writes the chip", room.read("chip.bin") == with_fuse(OLD, 0x62))
+
+
+def taken_away():
+    """Somebody removes the new file of a run that waits, and another run begins: the first one ends with the old chip in
+    place, whatever becomes of the other one."""
+    for ends_well in (True, False):
+        fresh_room()
+        first = waiting_run(words=["-U", "lfuse:w:0x11:m"])
+        (room.folder / NEW_FILE).unlink()
+        second = waiting_run("pipe2", ["-U", "lfuse:w:0x22:m"])
+        (room.folder / "pipe").read_bytes()
+        messages = first.communicate(timeout=PATIENCE)[1]
+        same("the first run", (first.returncode, messages.splitlines()[-1]), (1, b"avrstk: error: chip.bin: cannot be written"))
+        see("the chip is as it was", room.read("chip.bin") == OLD)
+        if ends_well:
+            (room.folder / "pipe2").read_bytes()
+            second.communicate(timeout=PATIENCE)
+            same("the second run", second.returncode, 0)
+            see("writes the chip", room.read("chip.bin") == with_fuse(OLD, 0x22))
+        else:
+            second.kill()
+            second.communicate()
+            see("the chip is as it was when the second run was ended", room.read("chip.bin") == OLD)
+        is_good("a run after them", room.run(writes_fuse(0x62)))
+
+
+def what_is_not_ours():
+    """What has the new file's name and was not left by a run stays as it is: the run is refused before a frame."""
+    told = (1, b"", lines("error: chip.bin: cannot be written"))
+
+    def plant_file(path):
+        path.write_bytes(b"mine")
+
+    def plant_link(path):
+        path.symlink_to("victim")
+
+    def plant_link_to_nothing(path):
+        path.symlink_to("nothing")
+
+    def plant_name(path):
+        path.hardlink_to(room.folder / "victim")
+
+    for plant in [plant_file, plant_link, plant_link_to_nothing, plant_name, os.mkfifo, Path.mkdir]:
+        fresh_room()
+        room.put("victim", b"")
+        path = room.folder / NEW_FILE
+        plant(path)
+        before = path.lstat()
+        same(f"{plant.__name__}: a run", room.run(writes_fuse(0x62)), told)
+        same(f"{plant.__name__}: serving", Server(room, "chip.bin", waits=False).end(), told)
+        room.run(["-P", "emu:chip.bin"])
+        same(f"{plant.__name__}: what is there", kept_of(path.lstat()), kept_of(before))
+        see(f"{plant.__name__}: the chip is as it was", room.read("chip.bin") == OLD)
+        same(f"{plant.__name__}: the file behind it", (room.read("victim"), room.read("nothing")), (b"", None))
+        path.rmdir() if path.is_dir() else path.unlink()
+        is_good(f"{plant.__name__}: a run once it is removed", room.run(writes_fuse(0x62)))
+
+
+def kept_of(status):
+    return status.st_ino, status.st_mode, status.st_size, status.st_nlink, status.st_mtime_ns
+
+
+def read_into_the_new_file():
+    """A read whose file has the new file's name: the run fails, what was read stays, and the chip is as it was."""
+    fresh_room()
+    told = lines(SIGNATURE, "eeprom: 1024 bytes read", "done", "error: chip.bin: cannot be written")
+    same("the run", room.run([*EMULATED, "-U", f"eeprom:r:{NEW_FILE}:r"]), (1, b"", told))
+    see("what was read", room.read(NEW_FILE) == OLD[EEPROM:LFUSE])
+    see("the chip is as it was", room.read("chip.bin") == OLD)
+    same("the next run", room.run(writes_fuse(0x62)), (1, b"", lines("error: chip.bin: cannot be written")))
+    see("what was read is there still", room.read(NEW_FILE) == OLD[EEPROM:LFUSE])
+
+
+def long_names():
+    """A chip's name may have 244 bytes; a longer one is refused before a frame, and nothing is made."""
+    room.clear()
+    for length, good in [(244, True), (245, False), (255, False)]:
+        name = "c" * length
+        found = room.run(["-p", "m328p", "-P", f"emu:{name}", "-U", "lfuse:w:0x62:m"])
+        if good:
+            see(f"a name of {length} bytes", found[0] == 0 and room.read(name), found)
+        else:
+            same(f"a name of {length} bytes", (found, room.read(name)), ((1, b"", lines(f"error: {name}: cannot be written")), None))
+    room.clear()
+
+
+def on_the_disk():
+    """The new file is on the disk before it has the chip's name, and the folder with that name before the run ends."""
+    if not shutil.which("strace"):
+        return leave_out("what is on the disk", "strace is not installed")
+    fresh_room()
+    traced = ["strace", "-y", "-o", "calls", "-e", "trace=fsync,rename,renameat,renameat2"]
+    # (what finds leaks in the program that is not proved can't run beside strace)
+    started = room.start(writes_fuse(0x62), front=traced, env=os.environ | {"ASAN_OPTIONS": "detect_leaks=0"})
+    started.communicate(timeout=PATIENCE)
+    same("the run", started.returncode, 0)
+    calls = [it for it in (room.read("calls") or b"").decode().splitlines() if not it.startswith("+++")]
+    folder = os.path.realpath(room.folder)
+    wanted = [rf"fsync\(\d+<{folder}/{NEW_FILE}>\)", r"rename", rf"fsync\(\d+<{folder}>\)"]
+    see("the calls", len(calls) == 3 and all(map(re.match, wanted, calls)), calls)
 
 
 def no_regular_file():
@@ -249,17 +392,15 @@ def no_regular_file():
 
 
 def a_full_disk():
-    """A file that may not grow so long: the chip stays."""
-    fresh_room()
-    found = subprocess.run(
-        ["sh", "-c", 'trap "" XFSZ; ulimit -f 16; exec "$0" "$@"', str(PROGRAM), *writes_fuse(0x62)],
-        capture_output=True,
-        cwd=room.folder,
-    )
+    """A file that may not grow so long: the chip stays, whether or not the signal of that (SIGXFSZ) is ignored."""
     told = lines(SIGNATURE, "lfuse: 1 bytes written", "lfuse: 1 bytes verified", "done", "error: chip.bin: cannot be written")
-    same("it is told", (found.returncode, found.stderr), (1, told))
-    see("the chip is as it was", room.read("chip.bin") == OLD)
-    same("no file is left beside it", room.read(NEW_FILE), None)
+    for limit in ['trap "" XFSZ; ulimit -f 16', "ulimit -f 16", "ulimit -f 0"]:
+        fresh_room()
+        words = ["sh", "-c", f'{limit}; exec "$0" "$@"', str(PROGRAM), *writes_fuse(0x62)]
+        found = subprocess.run(words, capture_output=True, cwd=room.folder)
+        same(f"{limit}: it is told", (found.returncode, found.stderr), (1, told))
+        see(f"{limit}: the chip is as it was", room.read("chip.bin") == OLD)
+        same(f"{limit}: no file is left beside it", room.read(NEW_FILE), None)
 
 
 def the_recipe():
@@ -305,8 +446,9 @@ def callers_that_reset():
 
 
 CASES = named(
-    *(ended_anywhere, at_once, held_by_a_run, held_by_a_session, refused_by_then, told_before, what_stays, left_behind),
-    *(no_regular_file, a_full_disk, the_recipe, callers_that_reset),
+    *(ended_anywhere, at_once, held_by_a_run, held_by_a_session, refused_by_then, told_before, what_stays, whose_it_stays),
+    *(left_behind, taken_away, what_is_not_ours, read_into_the_new_file, long_names, on_the_disk, no_regular_file),
+    *(a_full_disk, the_recipe, callers_that_reset),
 )
 
 

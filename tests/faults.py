@@ -117,7 +117,9 @@ class Sweep:
 
     def is_told(self, kind, how, status, output, messages, chip, read_file):
         """Whether a run says that it failed, and leaves nothing that is half written without a word."""
-        file = Path(self.room.read("refused").decode()).name.removesuffix(".avrstk-new")
+        refused = Path(self.room.read("refused").decode())
+        # (the folder is waited for once the chip is in place)
+        file = "chip.bin" if refused == self.room.folder.resolve() else refused.name.removesuffix(".avrstk-new")
         lines = [line.format(file=file) for line in LINES[kind]]
         if how == "onwards" and self.old and chip == self.old:
             # (after a fault of the session there is no memory to save the chip either, which is told too)

@@ -1,21 +1,33 @@
 //! A file is replaced by another one, whole or not at all, by one program at a time.
 //!
-//! The new file stands beside the one that it replaces, whose name with `.avrstk-new` it has, and whoever has locked it
-//! holds that file. It stays locked until it is renamed or removed, and the system unlocks it where a program ends.
+//! The new file is made beside the one that it replaces, under its name with `.avrstk-new`. The program that has locked
+//! the new file holds the old one, until the new one is renamed or removed; where a program ends the system unlocks it.
+//!
+//! A new file is empty until its bytes are written, and has a mark while they are. So what is neither was not made here,
+//! and is left alone.
 ghost use Rattle.std.specs.Prelude.{Option, OnOk};
 ghost use Rattle.avr_desk.specs.Handles.{IsHeldBy};
 ghost use Rattle.avr_desk.specs.Record.{Bytes};
 
 use crate::file_system::FileSystem;
 use std::alloc::Global;
-use std::fs::{File, Metadata, OpenOptions, TryLockError};
+use std::fs::{File, Metadata, OpenOptions, Permissions, TryLockError};
 use std::io::{ErrorKind, Seek, SeekFrom, Write};
-use std::os::unix::fs::MetadataExt;
+use std::os::unix::fs::{MetadataExt, PermissionsExt, fchown};
 use std::rt::Files;
 use std::{fs, io};
 
 /// How often a new file is opened again that another program has put in place or removed in the meantime.
 const ATTEMPTS: u32 = 100;
+
+/// The bits of a mode that a new file takes over from the old one: no setuid, no setgid.
+const PERMISSIONS: u32 = 0o777;
+
+/// The mark of a file whose bytes are being written: the sticky bit, which means nothing at a regular file.
+const MARK: u32 = 0o1000;
+
+/// The resource of `getrlimit` that bounds the length of files.
+const LENGTH_OF_FILES: i32 = 1;
 
 /// The new file, which is renamed to `target`.
 #[derive(Drop)]
@@ -23,6 +35,7 @@ struct NewFile {
     file: File,
     path: String,
     target: String,
+    is_begun: bool,
 }
 
 /// What takes the place of the file of this name. Without a new file it is written as it is, and not locked.
@@ -46,24 +59,118 @@ fn is_at<R: Files>(rt: &R, file: &File, path: &str) -> io::Result<bool> {
     }
 }
 
+/// Whether a program that was ended may have left this file: a regular file of one name, which is empty or marked.
+fn is_left(there: &Metadata) -> bool {
+    there.is_file() && there.nlink() == 1 && (there.len() == 0 || there.mode() & MARK != 0)
+}
+
+/// The error of a file that is not ours.
+fn not_ours() -> io::Error {
+    io::Error::from(ErrorKind::AlreadyExists)
+}
+
+/// What was opened; none if it failed for this reason.
+fn unless(opened: io::Result<File>, reason: ErrorKind) -> io::Result<Option<File>> {
+    match opened {
+        Ok(file) => Ok(Some(file)),
+        Err(error) if error.kind() == reason => Ok(None),
+        Err(error) => Err(error),
+    }
+}
+
+/// Opens the file of this path, or makes it; none if another program made or removed it just now. Any file that no
+/// program here can have left is refused, and so is a link.
+fn open_or_make<R: Files<File = File>>(rt: &R, path: &str) -> io::Result<Option<File>> {
+    let mut options = OpenOptions::new();
+    options.read(true).write(true);
+    match fs::symlink_metadata(rt, path) {
+        Ok(there) if is_left(&there) => unless(options.open(rt, path), ErrorKind::NotFound),
+        Ok(_) => Err(not_ours()),
+        Err(error) if error.kind() == ErrorKind::NotFound => unless(
+            options.create_new(true).open(rt, path),
+            ErrorKind::AlreadyExists,
+        ),
+        Err(error) => Err(error),
+    }
+}
+
+/// Locks the file; false where another one has locked it.
+fn lock(file: &File) -> io::Result<bool> {
+    match file.try_lock() {
+        Ok(()) => Ok(true),
+        Err(TryLockError::WouldBlock) => Ok(false),
+        Err(TryLockError::Error(error)) => Err(error),
+    }
+}
+
 /// Opens or makes the file of this path and locks it; none where another one has locked it.
 fn open_locked<R: Files<File = File>>(rt: &R, path: &str) -> io::Result<Option<File>> {
     for _ in 0..ATTEMPTS {
-        let file = OpenOptions::new()
-            .read(true)
-            .write(true)
-            .create(true)
-            .open(rt, path)?;
-        match file.try_lock() {
-            Ok(()) => {}
-            Err(TryLockError::WouldBlock) => return Ok(None),
-            Err(TryLockError::Error(error)) => return Err(error),
-        }
-        if is_at(rt, &file, path)? {
-            return Ok(Some(file));
+        if let Some(file) = open_or_make(rt, path)? {
+            if !lock(&file)? {
+                return Ok(None);
+            }
+            if is_at(rt, &file, path)? {
+                return Ok(Some(file));
+            }
         }
     }
     Err(io::Error::from(ErrorKind::WouldBlock))
+}
+
+/// Makes a file that is locked an empty one without the mark. (The file was opened by its name, so it is judged again.)
+fn empty(file: &File) -> io::Result<()> {
+    let there = file.metadata()?;
+    if !is_left(&there) {
+        return Err(not_ours());
+    }
+    if there.len() != 0 {
+        file.set_len(0)?;
+    }
+    if there.mode() & MARK != 0 {
+        file.set_permissions(Permissions::from_mode(there.mode() & PERMISSIONS))?;
+    }
+    Ok(())
+}
+
+/// Gives the file the group and the owner of the file of this path, as far as the system allows it.
+fn give_owner<R: Files>(rt: &R, file: &File, target: &str) -> io::Result<()> {
+    let own = file.metadata()?;
+    if let Ok(old) = fs::metadata(rt, target) {
+        if old.gid() != own.gid() {
+            let _ = fchown(file, None, Some(old.gid()));
+        }
+        if old.uid() != own.uid() {
+            let _ = fchown(file, Some(old.uid()), None);
+        }
+    }
+    Ok(())
+}
+
+/// Whether the system lets files be so long. (A write past its limit would end the program, by SIGXFSZ.)
+fn may_be_so_long(length: usize) -> bool {
+    let mut limit = libc::types::rlimit {
+        rlim_cur: u64::MAX,
+        rlim_max: u64::MAX,
+    };
+    libc::getrlimit(LENGTH_OF_FILES, &mut limit) != 0 || length as u64 <= limit.rlim_cur
+}
+
+/// Waits until the name of the file of this path is on the disk. A folder that can't be opened, or that the system
+/// can't wait for, is passed over.
+fn sync_folder<R: Files<File = File>>(rt: &R, path: &str) -> io::Result<()> {
+    let folder = match path.rsplit_once('/') {
+        Some(("", _)) => "/",
+        Some((folder, _)) => folder,
+        None => ".",
+    };
+    let Ok(opened) = fs::open(rt, folder) else {
+        return Ok(());
+    };
+    match opened.sync_all() {
+        Err(error) if error.kind() == ErrorKind::InvalidInput => Ok(()),
+        synced => synced,
+    }
 }
 
 /// Whether there is a link of this name, to whatever.
@@ -95,19 +202,60 @@ fn target_of<R: Files<File = File> + Alloc<A = Global>>(
 }
 
 impl NewFile {
-    /// Makes the file of these bytes, waits until they are on the disk, and puts it in place, with the permissions of
-    /// the old one.
-    fn put<R: Files>(&mut self, rt: &R, bytes: &[u8]) -> io::Result<()> {
+    /// Whether nobody else has written to the file.
+    fn is_own(&self) -> io::Result<bool> {
+        Ok(self.is_begun || self.file.metadata()?.len() == 0)
+    }
+
+    /// The permissions that the file will have: those of the old one, or else its own.
+    fn permissions<R: Files>(&self, rt: &R) -> io::Result<u32> {
+        let like = match fs::metadata(rt, self.target.as_str()) {
+            Ok(old) => old,
+            Err(error) if error.kind() == ErrorKind::NotFound => self.file.metadata()?,
+            Err(error) => return Err(error),
+        };
+        Ok(like.mode() & PERMISSIONS)
+    }
+
+    /// Writes these bytes under the mark, and waits until they are on the disk.
+    fn write(&mut self, permissions: u32, bytes: &[u8]) -> io::Result<()> {
+        self.is_begun = true;
+        self.file
+            .set_permissions(Permissions::from_mode(permissions | MARK))?;
         self.file.set_len(0)?;
         self.file.seek(SeekFrom::Start(0))?;
         self.file.write_all(bytes)?;
-        match fs::metadata(rt, self.target.as_str()) {
-            Ok(old) => self.file.set_permissions(old.permissions())?,
-            Err(error) if error.kind() == ErrorKind::NotFound => {}
-            Err(error) => return Err(error),
+        self.file.sync_all()
+    }
+
+    /// Puts a file of these bytes in place, and waits until it is on the disk under its name. Nothing is put in place if
+    /// another program wrote to the file, or if it is no longer the one of its path.
+    fn put<R: Files<File = File>>(&mut self, rt: &R, bytes: &[u8]) -> io::Result<()> {
+        if !self.is_own()? {
+            return Err(not_ours());
         }
-        self.file.sync_all()?;
-        fs::rename(rt, self.path.as_str(), self.target.as_str())
+        if !may_be_so_long(bytes.len()) {
+            return Err(io::Error::from(ErrorKind::FileTooLarge));
+        }
+        let permissions = self.permissions(rt)?;
+        self.write(permissions, bytes)?;
+        if !is_at(rt, &self.file, self.path.as_str())? {
+            return Err(not_ours());
+        }
+        fs::rename(rt, self.path.as_str(), self.target.as_str())?;
+        // the file is in place, whether or not this takes its mark away
+        let _ = self
+            .file
+            .set_permissions(Permissions::from_mode(permissions));
+        sync_folder(rt, self.target.as_str())
+    }
+
+    /// Removes the file, unless it was put in place or is another one by now.
+    fn remove<R: Files>(&self, rt: &R) {
+        let is_there = matches!(is_at(rt, &self.file, self.path.as_str()), Ok(true));
+        if is_there && matches!(self.is_own(), Ok(true)) {
+            let _ = fs::remove_file(rt, self.path.as_str());
+        }
     }
 }
 
@@ -129,9 +277,16 @@ impl Replacement {
         let Some(file) = open_locked(rt, path.as_str())? else {
             return Ok(None);
         };
+        empty(&file)?;
+        give_owner(rt, &file, target.as_str())?;
         Ok(Some(Replacement {
             name: own_name,
-            new: Some(NewFile { file, path, target }),
+            new: Some(NewFile {
+                file,
+                path,
+                target,
+                is_begun: false,
+            }),
         }))
     }
 
@@ -141,7 +296,7 @@ impl Replacement {
     }
 
     /// Puts these bytes in the place of the file.
-    pub(crate) fn put<R: Files>(&mut self, rt: &R, bytes: &[u8]) -> io::Result<()> {
+    pub(crate) fn put<R: Files<File = File>>(&mut self, rt: &R, bytes: &[u8]) -> io::Result<()> {
         match &mut self.new {
             Some(new) => new.put(rt, bytes),
             None => fs::write(rt, self.name.as_str(), bytes),
@@ -151,9 +306,7 @@ impl Replacement {
     /// Removes the new file, unless it was put in place, and unlocks it.
     pub(crate) fn leave<R: Files>(self, rt: &R) {
         if let Some(new) = &self.new {
-            if matches!(is_at(rt, &new.file, new.path.as_str()), Ok(true)) {
-                let _ = fs::remove_file(rt, new.path.as_str());
-            }
+            new.remove(rt);
         }
     }
 }
