@@ -175,26 +175,37 @@ def told_before():
     same("emu:", room.run(["-p", "m328p", "-P", "emu:nowhere/chip.bin", "-e"]), told)
     same("--serve", Server(room, "nowhere/chip.bin", waits=False).end(), told)
     with tempfile.TemporaryDirectory() as bare:
-        may_not_write(bare)
+        may_not_write(nobody(bare))
 
 
-def may_not_write(bare):
-    """The same of a chip, and of a folder, that may only be read: by a copy of the program in a bare folder, and as
-    nobody where this is root, who may write all."""
+def nobody(bare):
+    """How runs are started as nobody where this is root, who may write all: by a copy of the program in a bare folder."""
     copy = shutil.copy(PROGRAM, bare)
     for path in [bare, copy]:
         os.chmod(path, 0o755)
-    room.put("chip.bin", OLD)
     how = {"executable": copy}
-    if os.geteuid() == 0:
-        how |= {"user": 65534, "group": 65534, "extra_groups": []}
-        os.chown(room.folder, 65534, 65534)
-        os.chown(room.folder / "chip.bin", 65534, 65534)
+    return how | {"user": 65534, "group": 65534, "extra_groups": []} if os.geteuid() == 0 else how
+
+
+def give_to(how, *names):
+    """The room, and these files in it, are whose these runs are."""
+    for path in [room.folder, *(room.folder / it for it in names)]:
+        os.chown(path, how.get("user", -1), how.get("group", -1))
+
+
+def ended(started):
+    """The status, the output and the messages."""
+    output, messages = started.communicate(timeout=PATIENCE)
+    return started.returncode, output, messages
+
+
+def may_not_write(how):
+    """The same of a chip, and of a folder, that may only be read."""
+    room.put("chip.bin", OLD)
+    give_to(how, "chip.bin")
 
     def run():
-        started = room.start(writes_fuse(0x62), **how)
-        output, messages = started.communicate(timeout=PATIENCE)
-        return started.returncode, output, messages
+        return ended(room.start(writes_fuse(0x62), **how))
 
     told = (1, b"", lines("error: chip.bin: cannot be written"))
     (room.folder / "chip.bin").chmod(0o444)
@@ -205,7 +216,7 @@ def may_not_write(bare):
     room.folder.chmod(0o755)
     same("the chip is as it was", room.read("chip.bin"), OLD)
     same("a chip and a folder that may be written", run()[0], 0)
-    os.chown(room.folder, os.geteuid(), os.getegid())
+    give_to({"user": os.geteuid(), "group": os.getegid()})
 
 
 def what_stays():
@@ -247,6 +258,21 @@ def whose_it_stays():
     same("whose the new file is", owner_of(NEW_FILE), wanted)
     held.kill()
     held.communicate()
+    if os.geteuid() == 0:
+        with tempfile.TemporaryDirectory() as bare:
+            after_root(nobody(bare))
+
+
+def after_root(how):
+    """What root's run left beside a chip of nobody's is used up by nobody; what is root's alone is in nobody's way."""
+    give_to(how)
+    is_good("a run after root's", ended(room.start(writes_fuse(0x63), **how)))
+    room.put(NEW_FILE, b"")
+    told = (1, b"", lines("error: chip.bin: cannot be written"))
+    same("a run beside root's file", ended(room.start(writes_fuse(0x64), **how)), told)
+    same("which stays", (room.read(NEW_FILE), owner_of(NEW_FILE)), (b"", (0, 0)))
+    see("and so does the chip", room.read("chip.bin") == with_fuse(OLD, 0x63))
+    give_to({"user": 0, "group": 0})
 
 
 def owner_of(name):

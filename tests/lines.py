@@ -7,12 +7,13 @@ that none of USAGE's lines is left out.
 
 import os
 import re
+import shutil
 import socket
 import subprocess
 import sys
 import time
 
-from cases import PATIENCE, chosen, named, run_cases, same, see
+from cases import PATIENCE, chosen, leave_out, named, run_cases, same, see
 from line import Peer, frames_of
 from program import ANSWERS, CHIP_FILE, PROGRAM, TOP, Room, frame, kept_port, lines, port_of
 
@@ -305,6 +306,44 @@ def ports_are_refused():
         refused("a port where nobody listens", [*PART, "-P", nobody], f"port {nobody} cannot be opened")
 
 
+# ---- a line is one write
+
+
+def long_lines():
+    """A line of any length is printed whole, also where it is longer than what is written at once."""
+    most = 4096 - len(lines("error: : cannot be opened"))
+    for length in (most - 1, most, most + 1, 3 * most):
+        name = "x" * length
+        refused(f"a name of {length} bytes", [*EMULATED, "-U", f"flash:w:{name}"], f"{name}: cannot be opened")
+
+
+def a_line_is_one_write():
+    """Each line goes out in one write: of a run that succeeds, and of one that is refused at a long name."""
+    if not shutil.which("strace"):
+        return leave_out("how lines are written", "strace is not installed")
+    # (what finds leaks in the program that is not proved can't run beside strace)
+    more = {"front": ["strace", "-o", "calls", "-e", "trace=write"], "env": os.environ | {"ASAN_OPTIONS": "detect_leaks=0"}}
+    for words, count in [([*EMULATED, "-e", "-n", "-U", "lfuse:w:0x62:m"], 4), ([*EMULATED, "-U", f"flash:w:{'x' * 4000}"], 1)]:
+        room.clear()
+        messages = room.start(words, **more).communicate(timeout=PATIENCE)[1].splitlines(keepends=True)
+        written = re.findall(r"^write\(2, .* = (\d+)$", (room.read("calls") or b"").decode(), re.M)
+        same(f"the writes of {words[4]}", [int(it) for it in written], [len(it) for it in messages])
+        same(f"the lines of {words[4]}", len(messages), count)
+
+
+def runs_share_a_log():
+    """Fifty runs at once append to one log: no line of theirs is torn."""
+    room.clear()
+    with open(room.folder / "log", "ab") as log:
+        words = ["-U", "lfuse:w:0x62:m", "-U", "hfuse:v:0xFF:m"]
+        runs = [room.start([*PART, "-P", f"emu:chip{number}.bin", *words], stderr=log) for number in range(50)]
+        for started in runs:
+            started.communicate(timeout=PATIENCE)
+            same("a run", started.returncode, 0)
+    told = [SIGNATURE, "lfuse: 1 bytes written", "lfuse: 1 bytes verified", "hfuse: 1 bytes verified", DONE]
+    same("the log", sorted((room.read("log") or b"").splitlines()), sorted(lines(*told).splitlines() * 50))
+
+
 # ---- nothing is left out
 
 
@@ -355,6 +394,9 @@ CASES = named(
     answers_are_bad,
     a_silence_is_a_second,
     ports_are_refused,
+    long_lines,
+    a_line_is_one_write,
+    runs_share_a_log,
     usage_is_met,
 )
 

@@ -23,7 +23,7 @@ struct SoundRun {
     is_late: bool,
     /// Two for each frame.
     link_calls: u64,
-    /// One for each piece of a line, each output, and each opening and reading of a file.
+    /// One for each line, each output, and each opening and reading of a file.
     desk_calls: u64,
     /// The calls of the desk whose failure is reported; where any other fails, printing itself did.
     told: &'static [(u64, &'static [&'static str])],
@@ -42,7 +42,7 @@ const SESSION: SoundRun = SoundRun {
     size: 0,
     is_late: false,
     link_calls: 12,
-    desk_calls: 4 + 3,
+    desk_calls: 2,
     told: &[],
 };
 
@@ -63,14 +63,14 @@ const EMPTY_FLASH: SoundRun = SoundRun {
     size: 0,
     is_late: false,
     link_calls: 2 * 263,
-    desk_calls: 2 + 4 + 3 + 6 + 6 + 3,
+    desk_calls: 2 + 5,
     told: &[
         (1, &["error: e.bin: cannot be opened"]),
         (2, &["error: e.bin: cannot be read"]),
     ],
 };
 
-/// A fuse, which is written, compared and read: the 17th call of the desk writes it.
+/// A fuse, which is written, compared and read: the fourth call of the desk writes it.
 const FUSE: SoundRun = SoundRun {
     row: Row {
         words: &["-p", "m328p", "-U", "lfuse:w:0xE2:m", "-U", "lfuse:r:-:h"],
@@ -87,8 +87,8 @@ const FUSE: SoundRun = SoundRun {
     size: 0,
     is_late: false,
     link_calls: 18,
-    desk_calls: 4 + 6 + 6 + 1 + 6 + 3,
-    told: &[(17, &["error: -: cannot be written"])],
+    desk_calls: 3 + 1 + 2,
+    told: &[(4, &["error: -: cannot be written"])],
 };
 
 /// The whole EEPROM, over a wire whose frame 255 is answered late.
@@ -106,7 +106,7 @@ const EEPROM: SoundRun = SoundRun {
     size: 1_024,
     is_late: true,
     link_calls: 2 * 520,
-    desk_calls: 3 + 4 + 6 + 3,
+    desk_calls: 3 + 3,
     told: &[
         (1, &["error: e.bin: cannot be opened"]),
         (2, &["error: e.bin: cannot be read"]),
@@ -292,8 +292,7 @@ fn pieces_change_nothing(rt: HostRuntime) -> Result<(), Fail> {
     Ok(())
 }
 
-/// After the four pieces of the signature's line the desk is to write the fuse, and fails: the sixth frame is the
-/// last.
+/// After the signature's line the desk is to write the fuse, and fails: the sixth frame is the last.
 #[test]
 fn no_leave_follows_an_output_that_fails(rt: HostRuntime) -> Result<(), Fail> {
     let alloc = rt.alloc();
@@ -303,7 +302,7 @@ fn no_leave_follows_an_output_that_fails(rt: HostRuntime) -> Result<(), Fail> {
         messages: &["device signature = 1E 95 0F", "error: -: cannot be written"],
         status: 1,
     };
-    let desk = FailingDesk::new(desk_with(alloc, &[])?, 5);
+    let desk = FailingDesk::new(desk_with(alloc, &[])?, 2);
     let wire = wire_to(alloc, "m328p", Fates::none(alloc))?;
     let over = run_on(alloc, row.words, desk, wire)?;
     shows(&rt, alloc, &row, over.desk.inner(), over.status)?;

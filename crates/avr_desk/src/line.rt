@@ -1,5 +1,5 @@
 //! The lines of messages, piece by piece.
-ghost use Rattle.std.specs.Prelude.{◌≡◌, ◌∷◌, [], OnOk, OnErr, IfErr, decimal, map};
+ghost use Rattle.std.specs.Prelude.{◌≡◌, ◌<◌, ◌+◌, ◌∷◌, ◌++◌, [], length, OnOk, OnErr, IfOk, IfErr, decimal, map};
 ghost use Rattle.byteorder.specs.Endian.{big_bytes};
 ghost use Rattle.avr_desk.specs.Fault.{Counts};
 ghost use Rattle.avr_desk.specs.Record.{Passes, after_err};
@@ -11,7 +11,14 @@ ghost use Rattle.ghosts.specs.Stays.{Stays};
 
 use crate::desk::{Desk, DeskFault};
 use crate::stream::{Stream, write_all};
+use arrayvec::{ArrayVec, CapacityError};
 use byteorder::{BigEndian, ByteOrder};
+
+/// The longest line that is written at once, with its LF: a pipe takes so many bytes whole.
+const AT_ONCE: usize = 4096;
+
+/// A line that is gathered to be written at once.
+type Gathered = ArrayVec<u8, AT_ONCE>;
 
 /// A piece of a line.
 #[derive(Clone, Copy, Debug)]
@@ -118,8 +125,38 @@ fn end_line<D: Desk>(desk: &mut D) -> Result<(), DeskFault>
     write_all(desk, Stream::Messages, b"\n")
 }
 
-/// Prints a line that begins with this mark.
-fn print_line<D: Desk>(desk: &mut D, mark: &str, pieces: &[Piece<'_>]) -> Result<(), DeskFault>
+/// Appends the text of a piece to a line; nothing changes if there is no room for it.
+fn add_piece(line: &mut Gathered, piece: &Piece<'_>) -> Result<(), CapacityError>
+    ensures added { OnOk result (line.new.items ≡ line.old.items ++ text_of piece.now) }
+    ensures full { OnErr result (AT_ONCE < length line.old.items + length (text_of piece.now)) }
+{
+    match piece {
+        Piece::Text(text) => line.try_extend_from_slice(text.as_bytes()),
+        Piece::Byte(byte) => line.try_extend_from_slice(&digits(*byte)),
+        Piece::Signature(bytes) => line.try_extend_from_slice(&spaced(*bytes)),
+        Piece::Address(address) => line.try_extend_from_slice(&address_digits(*address)),
+        Piece::Number(number) => {
+            line.try_extend_from_slice(itoa::Buffer::new().format(*number).as_bytes())
+        }
+    }
+}
+
+/// Gathers a line that begins with this mark; an error if it is longer than what is written at once.
+fn gathered(mark: &str, pieces: &[Piece<'_>]) -> Result<Gathered, CapacityError>
+    ensures whole { IfOk result (λ it. it.items ≡ line mark.now (map text_of pieces.now)) }
+    ensures long { OnErr result (AT_ONCE < length (line mark.now (map text_of pieces.now))) }
+{
+    let mut line = ArrayVec::new();
+    line.try_extend_from_slice(mark.as_bytes())?;
+    for piece in pieces {
+        add_piece(&mut line, piece)?;
+    }
+    line.try_extend_from_slice(b"\n")?;
+    Ok(line)
+}
+
+/// Prints a line that begins with this mark, piece by piece.
+fn print_by_pieces<D: Desk>(desk: &mut D, mark: &str, pieces: &[Piece<'_>]) -> Result<(), DeskFault>
     ensures printed { IsPrinted (D.view desk.old) (D.view desk.new) (line mark.now (map text_of pieces.now)) result }
     ensures counts { Counts Stream.Messages (D.view desk.old) (D.view desk.new) result }
     ensures fault { IfErr result (λ e. e ≡ DeskFault.Failed) }
@@ -128,6 +165,20 @@ fn print_line<D: Desk>(desk: &mut D, mark: &str, pieces: &[Piece<'_>]) -> Result
     write_all(desk, Stream::Messages, mark.as_bytes())?;
     write_pieces(desk, pieces)?;
     end_line(desk)
+}
+
+/// Prints a line that begins with this mark: in one write, so that other programs' lines don't come between its pieces,
+/// or else piece by piece.
+fn print_line<D: Desk>(desk: &mut D, mark: &str, pieces: &[Piece<'_>]) -> Result<(), DeskFault>
+    ensures printed { IsPrinted (D.view desk.old) (D.view desk.new) (line mark.now (map text_of pieces.now)) result }
+    ensures counts { Counts Stream.Messages (D.view desk.old) (D.view desk.new) result }
+    ensures fault { IfErr result (λ e. e ≡ DeskFault.Failed) }
+    ensures stays { Stays D.comes_of desk.old desk.new }
+{
+    match gathered(mark, pieces) {
+        Ok(line) => write_all(desk, Stream::Messages, line.as_slice()),
+        Err(_) => print_by_pieces(desk, mark, pieces),
+    }
 }
 
 /// Prints a line of information to the desk's messages: `avrstk: `, the pieces and LF. The one fault

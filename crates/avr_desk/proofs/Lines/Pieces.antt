@@ -1,13 +1,13 @@
 -- Pieces of a line, written one after the other.
-use Rattle.std.proofs.Common.{◌≡◌, ◌∙◌, ap, sym, refl, subst, ℕ, ◌+◌, List, [], ◌∷◌, ◌++◌, append_assoc, append-nil, take, drop, length, map, get_or, ◌<◌, OnOk, OnErr, Result, Ok, Err}
+use Rattle.std.proofs.Common.{◌≡◌, ◌∙◌, ap, sym, refl, subst, arith, ℕ, ◌+◌, List, [], ◌∷◌, ◌++◌, append_assoc, append-nil, take, drop, length, map, get_or, ◌<◌, OnOk, OnErr, Result, Ok, Err}
 use Rattle.std.specs.List.{concat}
-use Rattle.std.proofs.lemmas.List.{drop_more, take_more, take-append-drop}
+use Rattle.std.proofs.lemmas.List.{drop_more, length-append, take_more, take-append-drop}
 use Rattle.avr_desk.specs.Record.{Record, after_err, showing}
 use Rattle.avr_desk.specs.Stream.{SendsPart}
 use Rattle.avr_desk.specs.declared.stream.Stream.TheVariants.{Messages}
 use Rattle.avr_desk.specs.declared.desk.DeskFault.{DeskFault}
 use Rattle.avr_desk.proofs.Lines.SentBytes.{sent_next, sent_next_part}
-use Rattle.avr_desk.specs.Lines.{text_of}
+use Rattle.avr_desk.specs.Lines.{line, text_of}
 use Rattle.avr_desk.specs.Said.{IsPrinted}
 use Rattle.avr_desk.specs.declared.line.Piece.{Piece}
 
@@ -32,6 +32,26 @@ pub all_text_more : (ps : List Piece) (i : ℕ) (d : Piece) → i < length ps
 all_text_more ps i d l =
     ap all_text (take_more ps i d l) ∙ all_text-append (take i ps) (get_or ps i d ∷ [])
     ∙ ap (λ (b : List ℕ). all_text (take i ps) ++ b) (append-nil (text_of (get_or ps i d)))
+
+-- a line is as long as its mark and the pieces up to the ith, or longer
+pub line_longer : (mark so_far : List ℕ) (ps : List Piece) (i : ℕ) (d : Piece) (room : ℕ) → i < length ps
+    → so_far ≡ mark ++ all_text (take i ps) → room < length so_far + length (text_of (get_or ps i d))
+    → room < length (line mark (map text_of ps))
+line_longer mark so_far ps i d room within is over =
+    let before = all_text (take i ps) in
+    let it = text_of (get_or ps i d) in
+    let after = all_text (drop (i + 1) ps) in
+    omega (
+      arith,
+      over,
+      ap length is,
+      length-append mark before,
+      length-append mark (all_text ps ++ 10 ∷ []),
+      length-append (all_text ps) (10 ∷ []),
+      ap length (all_text_at ps i d within),
+      length-append before (it ++ after),
+      length-append it after,
+    )
 
 -- the end of a line after its mark and its text (the counts say nothing here)
 pub line_ends : (old first then new : Record) (mark text : List ℕ) (result : Result (Unit {0}) DeskFault)

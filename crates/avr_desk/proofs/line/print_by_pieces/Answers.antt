@@ -3,7 +3,7 @@ use Rattle.std.proofs.lemmas.Result.{err_from_is_err_and}
 use Rattle.avr_desk.specs.declared.stream.Stream.TheVariants.{Messages}
 use Rattle.avr_desk.proofs.Lines.SentBytes.{sent_next_part}
 use Rattle.avr_desk.proofs.Lines.Pieces.{all_text, line_ends}
-use Rattle.avr_desk.proofs.line.print_line.Goals as goal
+use Rattle.avr_desk.proofs.line.print_by_pieces.Goals as goal
 
 pub returns-in_err-write_pieces-clause-printed : goal.returns-in_err-write_pieces-clause-printed
 returns-in_err-write_pieces-clause-printed g c =
