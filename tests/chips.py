@@ -8,14 +8,15 @@ chip is wanted while another run or a served session has it. What a refused call
 """
 
 import os
+import re
 import shutil
 import signal
 import stat
 import subprocess
 import sys
 import tempfile
-import threading
 import time
+from pathlib import Path
 
 from cases import PATIENCE, leave_out, named, run_cases, same, see
 from program import CHIP_FILE, PROGRAM, TOP, Room, Server, lines
