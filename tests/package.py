@@ -20,9 +20,11 @@ from program import PROGRAM, TOP
 from recipes import Clone
 
 VERSION = (TOP / "VERSION").read_text().strip()
-MAJOR = VERSION.split(".")[0]
+MAJOR, MINOR, _ = VERSION.split(".")
+# in the name of the shared library
+NUMBER = MAJOR if MAJOR != "0" else f"0.{MINOR}"
 KIT = "rattle-kit-stand-in logic 0123456789abcdef"
-NEEDED = ["git", "dpkg-deb", "dpkg-shlibdeps", "strip", "xz", "gcc", "ar"]
+NEEDED = ["git", "dpkg-deb", "dpkg-shlibdeps", "strip", "xz", "gcc", "ar", "ld", "objcopy"]
 
 # `rt`: tells its version and where the kit is, and makes an archive for C
 RT = f"""#!/bin/sh
@@ -132,7 +134,7 @@ def packages_are_the_same():
     """Two clones make the same packages, to the byte."""
     one, two = (it.packages() for it in made())
     arch = field(package("avrstk"), "Architecture")
-    debs = [("avrstk", f"{VERSION}~unproved"), (f"libavr-records{MAJOR}", VERSION), ("libavr-records-dev", VERSION)]
+    debs = [("avrstk", f"{VERSION}~unproved"), (f"libavr-records{NUMBER}", VERSION), ("libavr-records-dev", VERSION)]
     wanted = [f"avrstk-{VERSION}~unproved-{os.uname().machine}.tar.xz", *(f"{it}_{of}_{arch}.deb" for it, of in debs)]
     same("the packages", sorted(one), sorted(wanted))
     same("those of the other clone", sorted(two), sorted(one))
@@ -143,7 +145,7 @@ def packages_are_the_same():
 def packages_say_what_they_are():
     """Each says from which commit and by which kit it was made; the program says that nothing of it was proved, and the
     library, which `rt lib` proves, that it is."""
-    for name in ["avrstk", f"libavr-records{MAJOR}", "libavr-records-dev"]:
+    for name in ["avrstk", f"libavr-records{NUMBER}", "libavr-records-dev"]:
         told = field(package(name), "Description")
         flat = " ".join(told.split())
         mark, proof = (" (unproved build)", UNPROVED) if name == "avrstk" else ("", PROVED)
@@ -153,8 +155,8 @@ def packages_say_what_they_are():
         see(f"{name} has the commit", f"Commit {made()[0].commit()}" in flat, told)
     depends = field(package("avrstk"), "Depends")
     see("avrstk depends on libc6 and Python", re.match(r"libc6 \(>= 2\.\d+\).*, python3 \(>= 3\.8\)$", depends), depends)
-    see("the library depends on libc6", field(package(f"libavr-records{MAJOR}"), "Depends").startswith("libc6"))
-    needed = f"libavr-records{MAJOR} (= {VERSION})"
+    see("the library depends on libc6", field(package(f"libavr-records{NUMBER}"), "Depends").startswith("libc6"))
+    needed = f"libavr-records{NUMBER} (= {VERSION})"
     same("who develops needs the library", field(package("libavr-records-dev"), "Depends"), needed)
 
 
@@ -197,8 +199,8 @@ def packages_hold_what_is_installed():
         docs = ["README.md", "USAGE.md", "built-from", "changelog.gz", "copyright"]
         found = unpacked("avrstk", Path(folder, "avrstk"))
         same("avrstk", found, sorted([*wanted, *(f"usr/share/doc/avrstk/{it}" for it in docs)]))
-        name = f"libavr-records{MAJOR}"
-        wanted = [f"usr/lib/libavr_records.so.{MAJOR}", *(f"usr/share/doc/{name}/{it}" for it in docs[2:])]
+        name = f"libavr-records{NUMBER}"
+        wanted = [f"usr/lib/libavr_records.so.{NUMBER}", *(f"usr/share/doc/{name}/{it}" for it in docs[2:])]
         same(name, unpacked(name, Path(folder, "shared")), wanted)
         wanted = [*DEVELOPMENT, *(f"usr/share/doc/libavr-records-dev/{it}" for it in docs[2:])]
         same("libavr-records-dev", unpacked("libavr-records-dev", Path(folder, "dev")), wanted)
@@ -236,12 +238,12 @@ def package_is_installed_and_removed():
         # (what it depends on is not below that folder)
         dpkg = ["dpkg", f"--root={root}", "--force-not-root", "--force-depends", "--log=/dev/null"]
         how = {"capture_output": True, "text": True}
-        ran = subprocess.run([*dpkg, "-i", *(package(it) for it in ["avrstk", f"libavr-records{MAJOR}"])], **how)
+        ran = subprocess.run([*dpkg, "-i", *(package(it) for it in ["avrstk", f"libavr-records{NUMBER}"])], **how)
         same("the status of dpkg -i", ran.returncode, 0) or print(ran.stderr)
         listed = subprocess.run(["dpkg-query", f"--admindir={root}/var/lib/dpkg", "-W", "-f", "${Status} ", "avrstk"], **how)
         same("dpkg has it", listed.stdout, "install ok installed ")
         runs(root / "usr", folder)
-        ran = subprocess.run([*dpkg, "-P", "avrstk", f"libavr-records{MAJOR}"], **how)
+        ran = subprocess.run([*dpkg, "-P", "avrstk", f"libavr-records{NUMBER}"], **how)
         same("the status of dpkg -P", ran.returncode, 0) or print(ran.stderr)
         same("what is left", files(root / "usr") if (root / "usr").exists() else [], [])
 

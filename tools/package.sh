@@ -45,7 +45,9 @@ maintainer=$(in_git log -1 --format='%an <%ae>')
 SOURCE_DATE_EPOCH=${SOURCE_DATE_EPOCH:-$(in_git log -1 --format=%ct)}
 export SOURCE_DATE_EPOCH
 release=$(cat "$top/VERSION")
-major=${release%%.*}
+# (examples/c/build.sh says what the number is)
+number=${release%%.*}
+[ "$number" != 0 ] || number=${release%.*}
 proved="Its behaviour is proved, by $kit."
 # (of the program)
 version=$release
@@ -149,23 +151,23 @@ if [ -n "$with_c" ]; then
     shared=$work/shared
     dev=$work/dev
     mkdir -p "$shared/usr/lib" "$shared/DEBIAN" "$dev/usr"
-    mv "$all/usr/lib/libavr_records.so.$major" "$shared/usr/lib/"
+    mv "$all/usr/lib/libavr_records.so.$number" "$shared/usr/lib/"
     mv "$all/usr/lib" "$all/usr/include" "$dev/usr/"
     strip --strip-unneeded --remove-section=.comment --remove-section=.note "$shared/usr/lib/"*
-    document "libavr-records$major" "$shared" "$release" "$proved"
+    document "libavr-records$number" "$shared" "$release" "$proved"
     echo "activate-noawait ldconfig" >"$shared/DEBIAN/triggers"
-    echo "libavr_records $major libavr-records$major (>= $release)" >"$shared/DEBIAN/shlibs"
+    echo "libavr_records $number libavr-records$number (>= $release)" >"$shared/DEBIAN/shlibs"
     document libavr-records-dev "$dev" "$release" "$proved"
     reads="reads Intel HEX and Motorola S-records into a memory, and writes them from one"
-    depends=$(shared_by "$shared/usr/lib/libavr_records.so.$major")
-    package "libavr-records$major" "$shared" "$release" <<END
+    depends=$(shared_by "$shared/usr/lib/libavr_records.so.$number")
+    package "libavr-records$number" "$shared" "$release" <<END
 Section: libs
 Depends: $depends
 $(described "Intel HEX and S-records for C" "The library $reads." "$proved" "Commit $commit.")
 END
     package libavr-records-dev "$dev" "$release" <<END
 Section: libdevel
-Depends: libavr-records$major (= $release)
+Depends: libavr-records$number (= $release)
 $(described "Intel HEX and S-records for C, to develop with" \
         "The header, the archive and the file for pkg-config of a library that $reads." "$proved" "Commit $commit.")
 END

@@ -28,7 +28,7 @@ ar x "$(dirname "$(rt doc)")/c/liblibc_c.a" heap.pic.o
 ld -r -o avr_records.o --whole-archive "$proved" --no-whole-archive heap.pic.o
 objcopy --wildcard --keep-global-symbol='avr_records_*' avr_records.o
 rm -f libavr_records.a
-ar rcs libavr_records.a avr_records.o
+ar rcsD libavr_records.a avr_records.o
 rm heap.pic.o avr_records.o
 cat >avr_records.pc <<END
 prefix=\${pcfiledir}/../..
