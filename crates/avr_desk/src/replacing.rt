@@ -61,7 +61,7 @@ fn is_at<R: Files>(rt: &R, file: &File, path: &str) -> io::Result<bool> {
 
 /// Whether a program that was ended may have left this file: a regular file of one name, which is empty or marked.
 fn is_left(there: &Metadata) -> bool {
-    there.is_file() && there.nlink() == 1 && (there.len() == 0 || there.mode() & MARK != 0)
+    there.is_file() && there.nlink() <= 1 && (there.len() == 0 || there.mode() & MARK != 0)
 }
 
 /// The error of a file that is not ours.
@@ -217,11 +217,21 @@ impl NewFile {
         Ok(like.mode() & PERMISSIONS)
     }
 
+    /// Gives the file these permissions, and the mark if the file system keeps it.
+    fn mark(&self, permissions: u32) -> io::Result<()> {
+        let marked = Permissions::from_mode(permissions | MARK);
+        match self.file.set_permissions(marked) {
+            Ok(()) => Ok(()),
+            Err(_) => self
+                .file
+                .set_permissions(Permissions::from_mode(permissions)),
+        }
+    }
+
     /// Writes these bytes under the mark, and waits until they are on the disk.
     fn write(&mut self, permissions: u32, bytes: &[u8]) -> io::Result<()> {
         self.is_begun = true;
-        self.file
-            .set_permissions(Permissions::from_mode(permissions | MARK))?;
+        self.mark(permissions)?;
         self.file.set_len(0)?;
         self.file.seek(SeekFrom::Start(0))?;
         self.file.write_all(bytes)?;
