@@ -12,5 +12,7 @@ fn a_serial_number_stands_in_the_file(rt: HostRuntime) -> Result<(), Fail> {
     assert!(rt; patched.as_slice() == b":050000000102A1A2A312\n:00000001FF\n".as_slice());
     let fault = patch_serial_number(rt.alloc(), &part, b"no record file", 2, &[]).err();
     assert!(rt; matches!(fault, Some(PatchFault::NoRecords)));
+    assert_eq!(rt; PatchFault::NoRecords.number(), 1);
+    assert_eq!(rt; PatchFault::Memory.number(), 4);
     Ok(())
 }

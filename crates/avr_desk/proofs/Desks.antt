@@ -1,5 +1,4 @@
 -- What the desks keep, call after call.
 pub mod Writers
 pub mod InMemory
-pub mod Handles
 pub mod TwoWriters

@@ -1,5 +1,5 @@
--- What the desk of a program says of files and of standard input, by the handles that the system gave it: by parametricity, as
--- its contracts know of a system's files nothing but what their own calls ensure.
+-- What the desk of a program says of files and of standard input, by the handles that the system gave it. It is true by
+-- parametricity, as its contracts know of a system's files only what their own calls ensure.
 use Rattle.std.specs.Prelude.{◌≡◌, ◌≤◌, ◌⊎◌, true, length, Option, Some, None, IfSome}
 use Rattle.std.specs.Io.KnownBytes.{Appends, Consumes}
 use Rattle.std.specs.List.{All}
@@ -18,7 +18,7 @@ use Rattle.avr_desk.specs.declared.record.Writing.{Writing}
 use Rattle.avr_desk.specs.declared.system.Held.{Held}
 use Rattle.avr_desk.specs.declared.system.Held.TheVariants.{Nothing, Input, ToRead, ToWrite, Output}
 
--- what a handle that was `first` has given until it is `now`: its next bytes, and where its end was seen, it had no more
+-- what a handle that was `first` has given until it is `now`: its next bytes, and no more are left if its end was seen
 pub record HasGiven {H : Type 0} (reads : Reads H) (first now : H) (reading : Reading) : Type 0 where
   pub gave : Consumes (reads.remaining first) (reads.remaining now) reading.bytes
   pub ends : reading.ended ≡ true → IfSome (reads.remaining first) (λ bytes. length bytes ≤ length reading.bytes)
@@ -39,12 +39,15 @@ TookFile {F = F} system writes now writing =
 
 -- what is open is what the record says of it
 abbrev pub IsTrueOpen : {S F H I : Type 0} → Ghosts S F H → Reads F → Writes F → Reads I → Held F I → Open → Type 0
-IsTrueOpen system reads writes input Nothing is.Closed = Unit {0}
-IsTrueOpen system reads writes input (Input now) (is.ToRead reading) = GaveInput input now reading
-IsTrueOpen system reads writes input (ToRead now) (is.ToRead reading) = GaveFile system reads now reading
-IsTrueOpen system reads writes input (ToWrite now) (is.ToWrite writing) = TookFile system writes now writing
-IsTrueOpen system reads writes input Output (is.ToWrite writing) = is_dash writing.name ≡ true
-IsTrueOpen system reads writes input held current = ⊥
+IsTrueOpen system reads writes input Nothing current = current ≡ is.Closed
+IsTrueOpen system reads writes input (Input now) current =
+    (reading : Reading) × (current ≡ is.ToRead reading) × GaveInput input now reading
+IsTrueOpen system reads writes input (ToRead now) current =
+    (reading : Reading) × (current ≡ is.ToRead reading) × GaveFile system reads now reading
+IsTrueOpen system reads writes input (ToWrite now) current =
+    (writing : Writing) × (current ≡ is.ToWrite writing) × TookFile system writes now writing
+IsTrueOpen system reads writes input Output current =
+    (writing : Writing) × (current ≡ is.ToWrite writing) × (is_dash writing.name ≡ true)
 
 -- a use that is over: the handle was left as it was then
 abbrev pub IsTrueUse : {S F H I : Type 0} → Ghosts S F H → Reads F → Writes F → Reads I → FileUse → Type 0

@@ -82,9 +82,9 @@ to_output_created name (Err fault) before = before
 abbrev pub has_dash : List Writing → Bool
 has_dash = list_any (λ file. is_dash file.name)
 
--- What a desk keeps since it was `old` is true. Of its writers: their bytes, where they are known, have grown by what was
--- sent to them. For the output that is so as long as no file is the output too, then and since; one that was stays among
--- the files. Of files and standard input: it is what the system answered, if it was so of what it kept before.
+-- What a desk keeps since it was `old` is true. Of its writers: their bytes, where they are known, have grown by what
+-- was sent to them. For the output that is so as long as no file is the output too, then and since; one that was stays
+-- among the files. Of files and standard input: it is what the system answered, if it was so of what it kept before.
 pub record IsTrueSince {S F H I O E : Type 0} (system : Ghosts S F H) (reads : Reads F) (writes : Writes F)
     (input : Reads I) (output_of : Writes O) (messages_of : Writes E) (old new : Shown F H I O E) : Type 0 where
   pub said : Bytes

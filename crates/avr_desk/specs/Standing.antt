@@ -5,7 +5,7 @@ use Rattle.std.specs.declared.io.Read.{Ghosts as Reads}
 use Rattle.avr_desk.specs.Record.{Bytes, is_to_read, is_to_write}
 use Rattle.avr_desk.specs.declared.record.Open.{Open}
 use Rattle.avr_desk.specs.declared.system.Held.{Held}
-use Rattle.avr_desk.specs.declared.system.Held.TheVariants.{Nothing, Input, ToRead, ToWrite, Output}
+use Rattle.avr_desk.specs.declared.system.Held.TheVariants.{Input, ToRead, ToWrite, Output}
 
 abbrev pub is_output : {F I : Type 0} → Held F I → Bool
 is_output Output = true
@@ -26,22 +26,21 @@ pub record Stands {F I : Type 0} (held : Held F I) (current : Open) : Type 0 whe
   pub reads : is_to_read current ≡ gives held
   pub writes : is_to_write current ≡ takes held
 
--- a handle gave n bytes, which lie at the start of the buffer, and none of them only at its end or where there is no room
+-- a handle gave n bytes, which lie at the start of the buffer, and none only at its end or where there is no room
 pub record GivesBytes {H : Type 0} (reads : Reads H) (old new : H) (buf : Bytes) (n : ℕ) : Type 0 where
   pub gave : Consumes (reads.remaining old) (reads.remaining new) (take n buf)
   pub ends : n ≡ 0 → 0 < length buf → IsAtEnd (reads.remaining new)
 
 -- what is open gave them
 abbrev pub Gives : {F I : Type 0} → Reads F → Reads I → Held F I → Held F I → Bytes → ℕ → Type 0
-Gives reads input (Input old) (Input new) buf n = GivesBytes input old new buf n
-Gives reads input (ToRead old) (ToRead new) buf n = GivesBytes reads old new buf n
+Gives {I = I} reads input (Input old) new buf n = (now : I) × (new ≡ Input now) × GivesBytes input old now buf n
+Gives {F = F} reads input (ToRead old) new buf n = (now : F) × (new ≡ ToRead now) × GivesBytes reads old now buf n
 Gives reads input old new buf n = ⊥
 
 -- it gave none, and is open still
 abbrev pub GivesNone : {F I : Type 0} → Reads F → Reads I → Held F I → Held F I → Type 0
-GivesNone reads input (Input old) (Input new) = Keeps (input.remaining old) (input.remaining new)
-GivesNone reads input (ToRead old) (ToRead new) = Keeps (reads.remaining old) (reads.remaining new)
-GivesNone reads input (ToWrite file) new = new ≡ ToWrite file
-GivesNone reads input Output new = new ≡ Output
-GivesNone reads input Nothing new = new ≡ Nothing
-GivesNone reads input old new = ⊥
+GivesNone {I = I} reads input (Input old) new =
+    (now : I) × (new ≡ Input now) × Keeps (input.remaining old) (input.remaining now)
+GivesNone {F = F} reads input (ToRead old) new =
+    (now : F) × (new ≡ ToRead now) × Keeps (reads.remaining old) (reads.remaining now)
+GivesNone reads input old new = new ≡ old

@@ -9,10 +9,10 @@ use std::io::{ErrorKind, Read, Write};
 use std::rt::Files;
 use std::{fs, io};
 
-/// The files of a system, by their names. What its ghost members say of a file or a name, only a call here can say: so
-/// a desk over any such system can tell of a name nothing but what the system answered of that name.
+/// Opens, creates and replaces the files of a system by their names. Only a call here can say what the ghost members say
+/// of a file or a name. So a desk over any such system can record of a name only what the system answered of that name.
 ///
-/// A runtime over the system's own files is one. That it does with a name what it was asked, tests show.
+/// A runtime with the system's files is a `FileSystem`. Tests show that it does with a name what it was asked.
 pub trait FileSystem {
     /// A file that was opened or created.
     type File: Read + Write + Drop;
@@ -35,29 +35,30 @@ pub trait FileSystem {
     /// The file of this name was replaced by one of these bytes.
     ghost replaced: { Bytes → Bytes → Type 0 };
 
-    /// Opens a file to read.
+    /// Opens a file to read. The error is the system's, `NotFound` if there is no such file.
     fn open_named(&self, name: &str) -> io::Result<Self::File>
         ensures named { IfOk result (λ file. is_of file name.now) }
         ensures absent { IfErr result (λ error. error_kind error ≡ ErrorKind.NotFound → lacks name.now) };
 
-    /// Creates a file.
+    /// Creates a file, or empties the one that is there. The error is the system's.
     fn create_named(&self, name: &str) -> io::Result<Self::File>
         ensures named { IfOk result (λ file. is_of file name.now) };
 
-    /// Holds the file of this name; none where another one does.
+    /// Locks the file of this name, which is to be replaced. Returns none if another process has locked it. The error is
+    /// the system's.
     fn hold_named(&self, name: &str) -> io::Result<Option<Self::Hold>>
         ensures held { IfOk result (λ answer. MatchOption answer (denies name.now) (λ hold. holds hold name.now)) };
 
-    /// Whether the file of this name is held by it.
+    /// Whether `hold` is of the file of this name.
     fn is_held(&self, hold: &Self::Hold, name: &str) -> bool
         ensures held { result ≡ true → holds hold.now name.now };
 
-    /// Puts these bytes in the place of the file that is held.
+    /// Replaces the file that is held by one of these bytes. The error is the system's.
     fn put_held(&self, hold: &mut Self::Hold, bytes: &[u8]) -> io::Result<()>
         ensures put { OnOk result ((name : Bytes) → holds hold.old name → replaced name bytes.now) }
         ensures stays { (name : Bytes) → holds hold.old name → holds hold.new name };
 
-    /// Holds it no more.
+    /// Unlocks the file.
     fn leave_held(&self, hold: Self::Hold);
 }
 

@@ -26,9 +26,9 @@ pub fn what_a_desk_in_memory_gives_is_true(before: &MemDesk, after: &MemDesk)
         → AreTrueOf stock [] (all_uses after.now.kept) }
 {}
 
-/// Whatever was done with the desk of a program, its record is true: of its writers, as their bytes, where they are known,
-/// have grown by what was sent to the messages, and to the output as long as no file is the output too; and of files and
-/// standard input, as the system answered so, of the names that it was asked for.
+/// Whatever was done with the desk of a program, its record is true. Of its writers: their bytes, where they are known,
+/// have grown by what was sent to the messages, and to the output as long as no file is the output too. Of files and
+/// standard input: the system answered so, of the names that it was asked for.
 pub fn what_a_desk_of_a_program_keeps_is_true<
     'a,
     R: FileSystem + Input,

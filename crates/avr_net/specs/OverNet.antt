@@ -1,5 +1,5 @@
 -- A run over a port of the network, from settings to status.
-use Rattle.std.specs.Prelude.{ℕ, ◌≡◌, ◌⊎◌, [], None, Err, codes}
+use Rattle.std.specs.Prelude.{ℕ, ◌≡◌, ◌⊎◌, [], Option, Some, None, Err, codes}
 use Rattle.avr_cli.specs.declared.settings.Settings.{Settings}
 use Rattle.avr_desk.specs.Record.{DeskView, Bytes}
 use Rattle.avr_desk.specs.Said.{Tells}
@@ -37,11 +37,11 @@ pub record LacksPort (settings : Settings) (address : Bytes) (old new : DeskView
   pub told : Tells planned_desk new (unopened_line (codes "net:") address)
   pub status_is : status ≡ 1
 
--- The one, over a socket of which `over` holds (as `IsOverAddress`), or the other, or there is no plan (that the port was left alone then, no clause says). Without a part file
--- and updates that is only since no part has the name.
-abbrev pub RunsOverNet : (LinkView → Type 0) → Settings → Bytes → DeskView → DeskView → ℕ → Type 0
+-- The one or the other, and `over` says what came of the socket (as `IsOverAddress` does); or there is no plan. Without
+-- a part file and updates that is only since no part has the name. (That the port was left alone then, no clause says.)
+abbrev pub RunsOverNet : (Option LinkView → Type 0) → Settings → Bytes → DeskView → DeskView → ℕ → Type 0
 RunsOverNet over settings address old new status =
-    ((plays : PlaysOverNet settings old new status) × over (connection plays.talk plays.link_failures))
-    ⊎ (LacksPort settings address old new status
+    ((plays : PlaysOverNet settings old new status) × over (Some (connection plays.talk plays.link_failures)))
+    ⊎ ((LacksPort settings address old new status × over None)
     ⊎ (Goes (AtUpdate settings) (planned settings) old new (Err status)
     × (settings.parts ≡ None → settings.updates ≡ [] → LacksPart settings.part [] old new)))

@@ -22,25 +22,27 @@ pub record LacksCaller (port : Bytes) (old new : DeskView) (status : ℕ) : Type
   pub told : Tells old new (unopened_line [] port)
   pub status_is : status ≡ 1
 
--- the one, over a socket of which `over` holds (as `IsOver` that of a caller), or the other
-abbrev pub ServesOn : (LinkView → Type 0) → Part → Bytes → Bytes → DeskView → DeskView → ℕ → Type 0
+-- the one or the other, and `over` says what came of the socket (as `IsOverCaller` does)
+abbrev pub ServesOn : (Option LinkView → Type 0) → Part → Bytes → Bytes → DeskView → DeskView → ℕ → Type 0
 ServesOn over part port file old new status =
-    ((serves : ServesCaller part file old new status) × over (connection serves.talk serves.link_failures))
-    ⊎ LacksCaller port old new status
+    ((serves : ServesCaller part file old new status) × over (Some (connection serves.talk serves.link_failures)))
+    ⊎ (LacksCaller port old new status × over None)
 
 -- a text that is no port's number cannot be opened
-abbrev pub ServesAt : (ℕ → LinkView → Type 0) → Option ℕ → Part → Bytes → Bytes → DeskView → DeskView → ℕ → Type 0
+abbrev pub ServesAt : (ℕ → Option LinkView → Type 0) → Option ℕ → Part → Bytes → Bytes → DeskView → DeskView → ℕ
+    → Type 0
 ServesAt over None part port file old new status = LacksCaller port old new status
 ServesAt over (Some number) part port file old new status = ServesOn (over number) part port file old new status
 
 -- The part and the chip file of the settings were judged; then a caller was served, or the port could not be opened.
-pub record ServesJudged (OverPort : ℕ → LinkView → Type 0) (settings : Settings) (port file : Bytes) (old new : DeskView) (status : ℕ) : Type 0 where
+pub record ServesJudged (OverPort : ℕ → Option LinkView → Type 0) (settings : Settings) (port file : Bytes)
+    (old new : DeskView) (status : ℕ) : Type 0 where
   pub part : Part
   pub judged_desk : DeskView
   pub judged : JudgesPart settings file old judged_desk (Ok part)
   pub serves : ServesAt OverPort (port_number port) part port file judged_desk new status
 
 -- so it was, or they are refused (that the port was left alone then, no clause says)
-abbrev pub ServesNet : (ℕ → LinkView → Type 0) → Settings → Bytes → Bytes → DeskView → DeskView → ℕ → Type 0
+abbrev pub ServesNet : (ℕ → Option LinkView → Type 0) → Settings → Bytes → Bytes → DeskView → DeskView → ℕ → Type 0
 ServesNet over settings port file old new status =
     ServesJudged over settings port file old new status ⊎ JudgesPart settings file old new (Err status)

@@ -1,5 +1,5 @@
 -- Links over sockets: whose they are, and what passed over them.
-use Rattle.std.specs.Prelude.{ℕ, ◌≡◌, [], None}
+use Rattle.std.specs.Prelude.{ℕ, ◌≡◌, ◌⊎◌, [], Option, Some, None}
 use Rattle.std.specs.declared.io.Read.{Ghosts as Reads}
 use Rattle.std.specs.declared.io.Write.{Ghosts as Writes}
 use Rattle.avr_desk.specs.Record.{Bytes}
@@ -25,11 +25,37 @@ pub record IsOver {S : Type 0} (reads : Reads S) (writes : Writes S) (IsSide : S
   pub shows : stream_view after ≡ now
   pub truly : IsTrueSince reads.remaining writes.contents before after
 
--- it was a connection to this address
-abbrev pub IsOverAddress : {N S L : Type 0} → Networks N S L → Reads S → Writes S → Bytes → LinkView → Type 0
-IsOverAddress network reads writes address = IsOver reads writes (λ side. network.reaches side address)
+-- What came of a socket: a link over it showed this, or, where there is none, it could not be had.
 
--- or one of a caller at this port
-abbrev pub IsOverPort : {N S L : Type 0} → Networks N S L → Called L S → Reads S → Writes S → ℕ → LinkView → Type 0
-IsOverPort {L = L} network called reads writes port now =
-    (listener : L) × network.listens listener port × IsOver reads writes (called.calls listener) now
+-- a connection to this address
+abbrev pub IsOverAddress : {N S L : Type 0} → Networks N S L → Reads S → Writes S → Bytes → Option LinkView → Type 0
+IsOverAddress network reads writes address (Some now) =
+    IsOver reads writes (λ side. network.reaches side address) now
+IsOverAddress network reads writes address None = network.misses address
+
+-- that of a caller at this listener
+abbrev pub IsOverCaller : {L S : Type 0} → Called L S → Reads S → Writes S → L → Option LinkView → Type 0
+IsOverCaller called reads writes listener (Some now) = IsOver reads writes (called.calls listener) now
+IsOverCaller called reads writes listener None = called.lacks listener
+
+-- or at a listener at this port
+abbrev pub IsAtPort : {N S L : Type 0} → Networks N S L → Called L S → Reads S → Writes S → ℕ → Option LinkView
+    → Type 0
+IsAtPort {L = L} network called reads writes port seen =
+    (listener : L) × network.listens listener port × IsOverCaller called reads writes listener seen
+
+-- where there is none, there was no listener either, or nobody could be accepted
+abbrev pub IsOverPort : {N S L : Type 0} → Networks N S L → Called L S → Reads S → Writes S → ℕ → Option LinkView
+    → Type 0
+IsOverPort network called reads writes port (Some now) = IsAtPort network called reads writes port (Some now)
+IsOverPort network called reads writes port None =
+    network.is_shut port ⊎ IsAtPort network called reads writes port None
+
+-- whom a run meets on the network: at an address, and at a port
+pub record Peers : Type 1 where
+  pub at_address : Bytes → Option LinkView → Type 0
+  pub at_port : ℕ → Option LinkView → Type 0
+
+abbrev pub peers_of : {N S L : Type 0} → Networks N S L → Called L S → Reads S → Writes S → Peers
+peers_of network called reads writes =
+    record { at_address = IsOverAddress network reads writes; at_port = IsOverPort network called reads writes }

@@ -16,14 +16,14 @@ use std::alloc::Global;
 ///
 /// The status is 0 where no fault came, else 1. Every fault has its line; what is refused is reported before the port
 /// is opened. There a read that waits for a second is a silence; a connection that was reset is a failure of the link.
-pub fn run_net<R: Network, D: Desk>(
-    rt: &R,
+pub fn run_net<N: Network + Drop, D: Desk>(
+    network: N,
     alloc: Global,
     settings: &Settings,
     address: &str,
     desk: &mut D,
 ) -> u8
-    ensures runs { RunsOverNet (IsOverAddress R.Network R.Stream.Read R.Stream.Write address.now) settings.now
+    ensures runs { RunsOverNet (IsOverAddress N.Network N.Stream.Read N.Stream.Write address.now) settings.now
         address.now (D.view desk.old) (D.view desk.new) result }
     ensures stays { Stays D.comes_of desk.old desk.new }
 {
@@ -31,7 +31,7 @@ pub fn run_net<R: Network, D: Desk>(
         Ok(plan) => plan,
         Err(status) => return status,
     };
-    let mut link = match connect(rt, address) {
+    let mut link = match connect(network, address) {
         Ok(link) => link,
         Err(_) => return refuse(desk, &unopened_message("net:", address)),
     };

@@ -1,7 +1,7 @@
 //! Serving an emulated programmer at a port of this machine, from settings to status.
 ghost use Rattle.avr_cli.specs.Port.{port_number as number_of};
 ghost use Rattle.avr_net.specs.ServedNet.{ServesNet, ServesOn, ServesAt};
-ghost use Rattle.avr_net.specs.Sockets.{IsOver, IsOverPort};
+ghost use Rattle.avr_net.specs.Sockets.{IsOverCaller, IsOverPort};
 ghost use Rattle.ghosts.specs.Stays.{Stays};
 
 use crate::messages::unopened_message;
@@ -27,7 +27,8 @@ pub fn serve_on<L: Callers, D: Desk>(
     listener: &L,
     desk: &mut D,
 ) -> u8
-    ensures serves { ServesOn (IsOver L.Stream.Read L.Stream.Write (L.calls listener.now)) part.now port.now file.now (D.view desk.old) (D.view desk.new) result }
+    ensures serves { ServesOn (IsOverCaller L.Callers L.Stream.Read L.Stream.Write listener.now) part.now port.now
+        file.now (D.view desk.old) (D.view desk.new) result }
     ensures stays { Stays D.comes_of desk.old desk.new }
 {
     let mut link = match accept(listener) {
@@ -38,22 +39,22 @@ pub fn serve_on<L: Callers, D: Desk>(
 }
 
 /// Opens the port and serves a chip of this part there, to the first caller.
-fn serve_at<R: Network, D: Desk>(
-    rt: &R,
+fn serve_at<N: Network + Drop, D: Desk>(
+    network: N,
     alloc: Global,
     part: &Part,
     port: &str,
     file: &str,
     desk: &mut D,
 ) -> u8
-    ensures serves { ServesAt (IsOverPort R.Network R.Listener.Callers R.Stream.Read R.Stream.Write) (number_of port.now) part.now port.now file.now
-        (D.view desk.old) (D.view desk.new) result }
+    ensures serves { ServesAt (IsOverPort N.Network N.Listener.Callers N.Stream.Read N.Stream.Write)
+        (number_of port.now) part.now port.now file.now (D.view desk.old) (D.view desk.new) result }
     ensures stays { Stays D.comes_of desk.old desk.new }
 {
     let Some(number) = port_number(port) else {
         return refuse(desk, &unopened_message("", port));
     };
-    match listen(rt, number) {
+    match listen(network, number) {
         Ok(listener) => serve_on(alloc, part, port, file, &listener, desk),
         Err(_) => refuse(desk, &unopened_message("", port)),
     }
@@ -67,20 +68,21 @@ fn serve_at<R: Network, D: Desk>(
 /// opened is reported, and no file is written.
 ///
 /// The status is 0 where the caller ended it and the chip was saved, else 1.
-pub fn serve_net<R: Network, D: Desk>(
-    rt: &R,
+pub fn serve_net<N: Network + Drop, D: Desk>(
+    network: N,
     alloc: Global,
     settings: &Settings,
     port: &str,
     file: &str,
     desk: &mut D,
 ) -> u8
-    ensures serves { ServesNet (IsOverPort R.Network R.Listener.Callers R.Stream.Read R.Stream.Write) settings.now port.now file.now (D.view desk.old) (D.view desk.new) result }
+    ensures serves { ServesNet (IsOverPort N.Network N.Listener.Callers N.Stream.Read N.Stream.Write) settings.now
+        port.now file.now (D.view desk.old) (D.view desk.new) result }
     ensures stays { Stays D.comes_of desk.old desk.new }
 {
     let part = match judge_part(alloc, settings, file, desk) {
         Ok(part) => part,
         Err(status) => return status,
     };
-    serve_at(rt, alloc, &part, port, file, desk)
+    serve_at(network, alloc, &part, port, file, desk)
 }

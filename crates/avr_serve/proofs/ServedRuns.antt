@@ -1,10 +1,11 @@
 -- A fresh emulator that served, from settings to status.
-use Rattle.std.proofs.Common.{◌≡◌, ℕ, false, List, [], ap₂, subst, Result, Err}
+use Rattle.std.proofs.Common.{◌≡◌, ℕ, false, List, [], ap₂, subst, Result, Ok, Err, IfErr}
 use Rattle.avr_cli.specs.declared.settings.Settings.{Settings}
 use Rattle.avr_desk.specs.Record.{DeskView, Bytes}
 use Rattle.avr_part.specs.Part.{Part}
 use Rattle.avr_part.specs.State as chips
-use Rattle.avr_plan.specs.Planning.{parts_stage, part_stage}
+use Rattle.avr_plan.proofs.Stages.Plans.{lacks_part}
+use Rattle.avr_plan.specs.Planning.{LacksPart, parts_stage, part_stage}
 use Rattle.avr_desk.specs.Playing.{AtStart, Goes, Went}
 use Rattle.avr_desk.specs.Stage.{Made}
 use Rattle.avr_desk.proofs.Stages.Files.{taken_never}
@@ -27,6 +28,14 @@ goes_with_parts s id old mid new parts result same went goes =
     goes_on (AtStart false) (AtStart false) (parts_stage s.parts) (λ parts. part_stage s.part parts) old mid new parts
     result went (λ passed said never. absurd (taken_never passed said never))
     (subst (λ (i : Bytes). Goes (AtStart false) (part_stage i parts) mid new result) same goes)
+
+-- without a part file there are no parts but the built-in ones
+pub bare_part : (id own : Bytes) (parts : List Part) (old mid new : DeskView) (result : Result Part ℕ) → id ≡ own
+    → ◌≡◌ {A = Result (List Part) ℕ} (Ok parts) (Ok []) → mid ≡ old
+    → IfErr result (λ status. LacksPart id parts mid new) → IfErr result (λ status. LacksPart own [] old new)
+bare_part id own parts old mid new (Ok part) same given view lacks = tt
+bare_part id own parts old mid new (Err status) same given view lacks =
+    lacks_part id own parts old mid new same given view lacks
 
 pub is_fresh : (chip : chips.ChipState) (machine : Machine) → machine.held ≡ []
     → machine.programmer ≡ fresh_programmer chip → machine ≡ fresh_machine chip

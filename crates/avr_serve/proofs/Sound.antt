@@ -61,4 +61,4 @@ pub run_sound : (settings : Settings) (file : Bytes) (turns : ℕ) (old new : Si
 run_sound settings file turns old new (inl s) =
     behind_desk old.desk s.part_desk new.desk old.link new.link s.found.sound
     (part_sound s.part file turns (sides old.link s.part_desk) new s.then_is)
-run_sound settings file turns old new (inr none) = absurd (not_0 none.refused.0)
+run_sound settings file turns old new (inr none) = absurd (not_0 none.finds.refused.0)

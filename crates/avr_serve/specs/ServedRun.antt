@@ -10,7 +10,7 @@ use Rattle.avr_desk.specs.Said.{Tells}
 use Rattle.avr_part.specs.ChipFile.{chip_file}
 use Rattle.avr_part.specs.Part.{Part}
 use Rattle.avr_part.specs.State as chips
-use Rattle.avr_plan.specs.Planning.{parts_stage, part_stage}
+use Rattle.avr_plan.specs.Planning.{LacksPart, parts_stage, part_stage}
 use Rattle.avr_desk.specs.Playing.{AtStart, Goes, Went}
 use Rattle.avr_desk.specs.Stage.{Stage, Made, ◌>>=◌}
 use Rattle.stk_host.specs.Talk.{LinkView}
@@ -43,12 +43,17 @@ pub record WithPart (settings : Settings) (old : DeskView) (Then : Part → Desk
   pub found : Went (settings_part settings) old part_desk (Made part)
   pub then_is : Then part part_desk
 
+-- There is no part. Without a part file that is only since no built-in part has the name.
+pub record FindsNoPart (settings : Settings) (old new : DeskView) (status : ℕ) : Type 0 where
+  pub refused : Goes (AtStart false) (settings_part settings) old new (Err status)
+  pub bare : settings.parts ≡ None → LacksPart settings.part [] old new
+
 -- The part of the settings was found, and this file judged as that of a chip of it; or the one or the other is refused.
 abbrev pub JudgesPart : Settings → Bytes → DeskView → DeskView → Result Part ℕ → Type 0
 JudgesPart settings file old new (Ok judged) =
     WithPart settings old (λ part desk. JudgesChip part file desk new (Ok judged))
 JudgesPart settings file old new (Err status) =
-    Goes (AtStart false) (settings_part settings) old new (Err status)
+    FindsNoPart settings old new status
     ⊎ WithPart settings old (λ part desk. JudgesChip part file desk new (Err status))
 
 -- an emulator with this chip that was fed nothing
@@ -130,7 +135,7 @@ ServesPart part file turns old new status =
 
 -- There is no part, which was told: nothing was heard or sent.
 pub record ServesNoPart (settings : Settings) (old new : Sides) (status : ℕ) : Type 0 where
-  pub refused : Goes (AtStart false) (settings_part settings) old.desk new.desk (Err status)
+  pub finds : FindsNoPart settings old.desk new.desk status
   pub silent : new.link ≡ old.link
 
 -- so with the part of the settings

@@ -1,7 +1,8 @@
 //! Serving an emulated programmer, from settings to status.
-ghost use Rattle.std.specs.Prelude.{◌≤◌, false};
+ghost use Rattle.std.specs.Prelude.{◌≡◌, ◌≤◌, [], None, IfErr, false};
 ghost use Rattle.avr_desk.specs.Fault.{Follows};
 ghost use Rattle.avr_desk.specs.Playing.{AtStart, Goes};
+ghost use Rattle.avr_plan.specs.Planning.{LacksPart};
 ghost use Rattle.avr_serve.specs.ServedRun.{JudgesChip, JudgesPart, settings_part};
 ghost use Rattle.avr_serve.specs.ServedRun.{RunsServed, ServesChip, ServesPart, sides};
 ghost use Rattle.ghosts.specs.Stays.{Stays};
@@ -23,6 +24,8 @@ pub const READS: u32 = 16_777_216;
 /// The part of the settings: looked up in their part file, where they have one, before the built-in parts.
 fn find_part<D: Desk>(alloc: Global, desk: &mut D, settings: &Settings) -> Result<Part, u8>
     ensures goes { Goes (AtStart false) (settings_part settings.now) (D.view desk.old) (D.view desk.new) result }
+    ensures bare { settings.now.parts ≡ None
+        → IfErr result (λ status. LacksPart settings.now.part [] (D.view desk.old) (D.view desk.new)) }
     ensures stays { Stays D.comes_of desk.old desk.new }
 {
     let parts = match given_parts(alloc, desk, &settings.parts) {

@@ -27,3 +27,7 @@ Asks words old new (Ok settings) = (Ok settings ≡ asked_by words) × (fault_of
 Asks words old new (Err (Refused status)) = IsRefused words old new status
 Asks words old new (Err (Words error)) =
     HasKind (fault_of avrstk words) error × (takes avrstk words ≡ true → kind_of error ≡ OutOfMemory) × (new ≡ old)
+
+abbrev pub not_asked_number : NotAsked → ℕ
+not_asked_number (Words error) = 1
+not_asked_number (Refused status) = 2

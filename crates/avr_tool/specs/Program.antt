@@ -14,6 +14,7 @@ use Rattle.avr_desk.specs.Said.{Tells}
 use Rattle.avr_emulated.specs.Emulated.{RunsEmulator}
 use Rattle.avr_net.specs.OverNet.{RunsOverNet}
 use Rattle.avr_net.specs.ServedNet.{ServesNet}
+use Rattle.avr_net.specs.Sockets.{Peers}
 use Rattle.avr_session.specs.Refusal.{refusal_line}
 use Rattle.avr_session.specs.Runs.{devices}
 use Rattle.avr_desk.specs.declared.stream.Stream.{Stream}
@@ -24,25 +25,26 @@ use Rattle.avr_tool.specs.Texts.{PrintsText, ReportsText}
 use Rattle.stk_host.specs.Talk.{LinkView}
 
 -- The port of the settings decides: standard input and output, between `before` and `after`; the emulator over a chip
--- file; a connection `to` the address; or a service `at` the port, of which nothing but the chip file, the port and the
--- part are looked at.
-abbrev pub RunsPort : (Bytes → LinkView → Type 0) → (ℕ → LinkView → Type 0) → Port → Settings → LinkView → LinkView → DeskView → DeskView → ℕ → Type 0
-RunsPort to at Stdio settings before after old new status =
+-- file; a connection to the address; or a service at the port, of which nothing but the chip file, the port and the part
+-- are looked at.
+abbrev pub RunsPort : Peers → Port → Settings → LinkView → LinkView → DeskView → DeskView → ℕ → Type 0
+RunsPort peers Stdio settings before after old new status =
     IsRun settings (devices before old) (devices after new) status
     ⊎ IsStopped settings (devices before old) (devices after new) status
-RunsPort to at (Emulated file) settings before after old new status =
+RunsPort peers (Emulated file) settings before after old new status =
     RunsEmulator settings file old new status × (after ≡ before)
-RunsPort to at (Network address) settings before after old new status =
-    RunsOverNet (to address) settings address old new status × (after ≡ before)
-RunsPort to at (Served port chip) settings before after old new status =
-    ServesNet at settings port chip old new status × (after ≡ before)
+RunsPort peers (Network address) settings before after old new status =
+    RunsOverNet (peers.at_address address) settings address old new status × (after ≡ before)
+RunsPort peers (Served port chip) settings before after old new status =
+    ServesNet peers.at_port settings port chip old new status × (after ≡ before)
 
 -- The command takes the words, which ask for these settings, and that is what was run.
-pub record RunsAsked (to : Bytes → LinkView → Type 0) (at : ℕ → LinkView → Type 0) (words : List Bytes) (before after : LinkView) (old new : DeskView) (status : ℕ) : Type 0 where
+pub record RunsAsked (peers : Peers) (words : List Bytes) (before after : LinkView) (old new : DeskView) (status : ℕ)
+    : Type 0 where
   pub settings : Settings
   pub asked : Ok settings ≡ asked_by words
   pub taken : fault_of avrstk words ≡ []
-  pub runs : RunsPort to at settings.port settings before after old new status
+  pub runs : RunsPort peers settings.port settings before after old new status
 
 -- What they ask for has a fault, or memory was refused: that was reported, and nothing else was done.
 pub record RunsNothing (words : List Bytes) (before after : LinkView) (old new : DeskView) (status : ℕ) : Type 0 where
@@ -60,10 +62,10 @@ pub record LeavesError (words : List Bytes) (before after : LinkView) (old new :
   pub untold : new ≡ old
   pub untouched : after ≡ before
 
-abbrev pub RunsWords : (Bytes → LinkView → Type 0) → (ℕ → LinkView → Type 0) → List Bytes → LinkView → LinkView → DeskView → DeskView → Result ℕ Error → Type 0
-RunsWords to at words before after old new (Ok status) =
-    RunsAsked to at words before after old new status ⊎ RunsNothing words before after old new status
-RunsWords to at words before after old new (Err error) = LeavesError words before after old new error
+abbrev pub RunsWords : Peers → List Bytes → LinkView → LinkView → DeskView → DeskView → Result ℕ Error → Type 0
+RunsWords peers words before after old new (Ok status) =
+    RunsAsked peers words before after old new status ⊎ RunsNothing words before after old new status
+RunsWords peers words before after old new (Err error) = LeavesError words before after old new error
 
 -- an error of `clap`: that memory was refused is reported, any other is left
 abbrev pub LeavesWords : Error → DeskView → DeskView → Result ℕ Error → Type 0
@@ -83,7 +85,8 @@ usage_stream DisplayHelp = Output
 usage_stream DisplayVersion = Output
 usage_stream kind = Messages
 
--- Its text was printed there, or could not be (what it is no clause says), nothing else was done, and the status is its.
+-- Its text was printed there, or could not be, and nothing else was done. The status is its own. (No clause says which
+-- text it is.)
 pub record TellsUsage (words : List Bytes) (before after : LinkView) (old new : DeskView) (status : ℕ) : Type 0 where
   pub error : Error
   pub leaves : LeavesError words before after old old error
@@ -92,13 +95,13 @@ pub record TellsUsage (words : List Bytes) (before after : LinkView) (old new : 
   pub status_is : status ≡ usage_status (kind_of error) printed
 
 -- From words to a status.
-abbrev pub RunsProgram : (Bytes → LinkView → Type 0) → (ℕ → LinkView → Type 0) → List Bytes → LinkView → LinkView → DeskView → DeskView → ℕ → Type 0
-RunsProgram to at words before after old new status =
-    RunsWords to at words before after old new (Ok status) ⊎ TellsUsage words before after old new status
+abbrev pub RunsProgram : Peers → List Bytes → LinkView → LinkView → DeskView → DeskView → ℕ → Type 0
+RunsProgram peers words before after old new status =
+    RunsWords peers words before after old new (Ok status) ⊎ TellsUsage words before after old new status
 
 -- From the start of a process: its words, which no clause knows, were read and run, or could not be read, and then
 -- that was reported, and the status is 1.
-abbrev pub RunsArguments : (Bytes → LinkView → Type 0) → (ℕ → LinkView → Type 0) → LinkView → LinkView → DeskView → DeskView → ℕ → Type 0
-RunsArguments to at before after old new status =
-    ((words : List Bytes) × RunsProgram to at words before after old new status)
+abbrev pub RunsArguments : Peers → LinkView → LinkView → DeskView → DeskView → ℕ → Type 0
+RunsArguments peers before after old new status =
+    ((words : List Bytes) × RunsProgram peers words before after old new status)
     ⊎ ((status ≡ 1) × ReportsText old new × (after ≡ before))

@@ -1,6 +1,6 @@
 //! From the words of a command line to settings.
-ghost use Rattle.std.specs.Prelude.{map, string_bytes};
-ghost use Rattle.avr_tool.specs.Asked.{Asks};
+ghost use Rattle.std.specs.Prelude.{◌≡◌, map, string_bytes};
+ghost use Rattle.avr_tool.specs.Asked.{Asks, not_asked_number};
 ghost use Rattle.ghosts.specs.Stays.{Stays};
 
 use avr_cli::{Settings, read_settings, read_words};
@@ -19,6 +19,7 @@ use thiserror::Error;
 /// let mut desk = MemDesk::new(alloc);
 /// // without `-p` the words ask for no run; the line is printed
 /// assert!(rt; matches!(asked(alloc, words.as_slice(), &mut desk), Err(NotAsked::Refused(1))));
+/// assert_eq!(rt; NotAsked::Refused(1).number(), 2);
 /// ```
 #[derive(Debug, Drop, Error)]
 pub enum NotAsked {
@@ -28,6 +29,18 @@ pub enum NotAsked {
     /// What they ask for has a fault, whose line was printed as far as the desk takes it: the status, 1.
     #[error("the command line asks for no run: status {0}")]
     Refused(u8),
+}
+
+impl NotAsked {
+    /// The fault's number, from 1 on, which no later version changes.
+    pub fn number(&self) -> u8
+        ensures { result ≡ not_asked_number self.now }
+    {
+        match self {
+            NotAsked::Words(_) => 1,
+            NotAsked::Refused(_) => 2,
+        }
+    }
 }
 
 /// The settings that the words of a command line ask for, the program's name first.

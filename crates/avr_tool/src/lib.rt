@@ -11,8 +11,8 @@
 //! let status = match &settings.port {
 //!     Port::Stdio => run(alloc, &settings, &mut desk, &mut link),
 //!     Port::Emulated(_) => run_emu(alloc, &settings, &mut desk),
-//!     Port::Network(_) => run_net(rt, alloc, &settings, &mut desk),
-//!     Port::Served { .. } => serve_net(rt, alloc, &settings, &mut desk),
+//!     Port::Network(_) => run_net(&rt, alloc, &settings, &mut desk),
+//!     Port::Served { .. } => serve_net(&rt, alloc, &settings, &mut desk),
 //! };
 //! ```
 #![tactic(auto)]

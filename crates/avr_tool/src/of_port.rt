@@ -1,7 +1,7 @@
 //! Runs over the port that the settings name, and services at it.
 ghost use Rattle.avr_net.specs.OverNet.{RunsOverNet};
 ghost use Rattle.avr_net.specs.ServedNet.{ServesNet};
-ghost use Rattle.avr_net.specs.Sockets.{IsOver, IsOverAddress, IsOverPort};
+ghost use Rattle.avr_net.specs.Sockets.{IsOverAddress, IsOverCaller, IsOverPort};
 ghost use Rattle.avr_serve.specs.ServedRun.{RunsServed, sides};
 ghost use Rattle.avr_emulated.specs.Emulated.{RunsEmulator};
 ghost use Rattle.ghosts.specs.Stays.{Stays};
@@ -50,16 +50,21 @@ pub fn run_emu<D: Desk>(alloc: Global, settings: &Settings, desk: &mut D) -> u8
 /// // the part is judged before a connection is opened
 /// assert_eq!(rt; run_net(&rt, alloc, &settings, &mut desk), 1);
 /// ```
-pub fn run_net<R: Network, D: Desk>(rt: &R, alloc: Global, settings: &Settings, desk: &mut D) -> u8
+pub fn run_net<N: Network + Drop, D: Desk>(
+    network: N,
+    alloc: Global,
+    settings: &Settings,
+    desk: &mut D,
+) -> u8
     requires port { IsNetwork settings.now.port }
-    ensures runs { RunsOverNet (IsOverAddress R.Network R.Stream.Read R.Stream.Write (port_place settings.now.port))
+    ensures runs { RunsOverNet (IsOverAddress N.Network N.Stream.Read N.Stream.Write (port_place settings.now.port))
         settings.now (port_place settings.now.port) (D.view desk.old) (D.view desk.new) result }
     ensures stays { Stays D.comes_of desk.old desk.new }
 {
     let Port::Network(address) = &settings.port else {
         unreachable!()
     };
-    run_at(rt, alloc, settings, address.as_str(), desk)
+    run_at(network, alloc, settings, address.as_str(), desk)
 }
 
 /// Serves the emulator over a link, as [`avr_serve::serve`] does with the chip file of the settings.
@@ -97,7 +102,8 @@ fn serve_first<L: Callers, D: Desk>(
     listener: &L,
     desk: &mut D,
 ) -> u8
-    ensures serves { ServesListener (IsOver L.Stream.Read L.Stream.Write (L.calls listener.now)) settings.now port.now file.now (D.view desk.old) (D.view desk.new) result }
+    ensures serves { ServesListener (IsOverCaller L.Callers L.Stream.Read L.Stream.Write listener.now) settings.now
+        port.now file.now (D.view desk.old) (D.view desk.new) result }
     ensures stays { Stays D.comes_of desk.old desk.new }
 {
     let part = match judge_part(alloc, settings, file, desk) {
@@ -121,8 +127,8 @@ pub fn serve_on<L: Callers, D: Desk>(
     desk: &mut D,
 ) -> u8
     requires port { IsServed settings.now.port }
-    ensures serves { ServesListener (IsOver L.Stream.Read L.Stream.Write (L.calls listener.now)) settings.now (port_place settings.now.port) (chip_file_of settings.now.port)
-        (D.view desk.old) (D.view desk.new) result }
+    ensures serves { ServesListener (IsOverCaller L.Callers L.Stream.Read L.Stream.Write listener.now) settings.now
+        (port_place settings.now.port) (chip_file_of settings.now.port) (D.view desk.old) (D.view desk.new) result }
     ensures stays { Stays D.comes_of desk.old desk.new }
 {
     let Port::Served { port, chip } = &settings.port else {
@@ -149,19 +155,19 @@ pub fn serve_on<L: Callers, D: Desk>(
 /// // the part is judged before anybody is waited for
 /// assert_eq!(rt; serve_net(&rt, alloc, &settings, &mut desk), 1);
 /// ```
-pub fn serve_net<R: Network, D: Desk>(
-    rt: &R,
+pub fn serve_net<N: Network + Drop, D: Desk>(
+    network: N,
     alloc: Global,
     settings: &Settings,
     desk: &mut D,
 ) -> u8
     requires port { IsServed settings.now.port }
-    ensures serves { ServesNet (IsOverPort R.Network R.Listener.Callers R.Stream.Read R.Stream.Write) settings.now (port_place settings.now.port) (chip_file_of settings.now.port)
-        (D.view desk.old) (D.view desk.new) result }
+    ensures serves { ServesNet (IsOverPort N.Network N.Listener.Callers N.Stream.Read N.Stream.Write) settings.now
+        (port_place settings.now.port) (chip_file_of settings.now.port) (D.view desk.old) (D.view desk.new) result }
     ensures stays { Stays D.comes_of desk.old desk.new }
 {
     let Port::Served { port, chip } = &settings.port else {
         unreachable!()
     };
-    serve_at(rt, alloc, settings, port.as_str(), chip.as_str(), desk)
+    serve_at(network, alloc, settings, port.as_str(), chip.as_str(), desk)
 }

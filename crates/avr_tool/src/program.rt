@@ -2,7 +2,7 @@
 ghost use Rattle.std.specs.Prelude.{◌≡◌, map, string_bytes};
 ghost use Rattle.clap.specs.Words.{kind_of};
 ghost use Rattle.avr_tool.specs.Program.{LeavesWords, RunsPort, RunsProgram, RunsWords, usage_status, usage_stream};
-ghost use Rattle.avr_net.specs.Sockets.{IsOverAddress, IsOverPort};
+ghost use Rattle.avr_net.specs.Sockets.{peers_of};
 ghost use Rattle.stk_host.specs.Links.{IsTrueSince, stream_view};
 ghost use Rattle.ghosts.specs.Stays.{Stays};
 
@@ -22,24 +22,23 @@ use stk_host::StreamLink;
 
 /// Runs over the port of the settings: `stdio:` has its frames on the link, `emu:` is the emulator, `net:` a
 /// connection; or serves the emulator.
-fn run_port<N: Network, D: Desk, R: Read + Drop, W: Write + Drop>(
-    rt: &N,
+fn run_port<N: Network + Drop, D: Desk, R: Read + Drop, W: Write + Drop>(
+    network: N,
     alloc: Global,
     settings: &Settings,
     desk: &mut D,
     link: &mut StreamLink<R, W>,
 ) -> u8
-    ensures runs { RunsPort (IsOverAddress N.Network N.Stream.Read N.Stream.Write)
-        (IsOverPort N.Network N.Listener.Callers N.Stream.Read N.Stream.Write) settings.now.port settings.now (stream_view link.old) (stream_view link.new)
-        (D.view desk.old) (D.view desk.new) result }
+    ensures runs { RunsPort (peers_of N.Network N.Listener.Callers N.Stream.Read N.Stream.Write) settings.now.port settings.now
+        (stream_view link.old) (stream_view link.new) (D.view desk.old) (D.view desk.new) result }
     ensures tells { IsTrueSince R.remaining W.contents link.old link.new }
     ensures stays { Stays D.comes_of desk.old desk.new }
 {
     match &settings.port {
         Port::Stdio => run_streams(alloc, settings, desk, link),
         Port::Emulated(_) => run_emu(alloc, settings, desk),
-        Port::Network(_) => run_net(rt, alloc, settings, desk),
-        Port::Served { .. } => serve_net(rt, alloc, settings, desk),
+        Port::Network(_) => run_net(network, alloc, settings, desk),
+        Port::Served { .. } => serve_net(network, alloc, settings, desk),
     }
 }
 
@@ -72,21 +71,20 @@ fn words_untaken<D: Desk>(error: Error, desk: &mut D) -> Result<u8, Error>
 /// assert_eq!(rt; run_words(&rt, alloc, words.as_slice(), &mut desk, &mut streams)?, 0);
 /// assert!(rt; desk.messages().is_empty());
 /// ```
-pub fn run_words<N: Network, D: Desk, R: Read + Drop, W: Write + Drop>(
-    rt: &N,
+pub fn run_words<N: Network + Drop, D: Desk, R: Read + Drop, W: Write + Drop>(
+    network: N,
     alloc: Global,
     words: &[String],
     desk: &mut D,
     link: &mut StreamLink<R, W>,
 ) -> Result<u8, Error>
-    ensures runs { RunsWords (IsOverAddress N.Network N.Stream.Read N.Stream.Write)
-        (IsOverPort N.Network N.Listener.Callers N.Stream.Read N.Stream.Write) (map string_bytes words.now) (stream_view link.old) (stream_view link.new)
-        (D.view desk.old) (D.view desk.new) result }
+    ensures runs { RunsWords (peers_of N.Network N.Listener.Callers N.Stream.Read N.Stream.Write) (map string_bytes words.now)
+        (stream_view link.old) (stream_view link.new) (D.view desk.old) (D.view desk.new) result }
     ensures tells { IsTrueSince R.remaining W.contents link.old link.new }
     ensures stays { Stays D.comes_of desk.old desk.new }
 {
     match asked(alloc, words, desk) {
-        Ok(settings) => Ok(run_port(rt, alloc, &settings, desk, link)),
+        Ok(settings) => Ok(run_port(network, alloc, &settings, desk, link)),
         Err(NotAsked::Refused(status)) => Ok(status),
         Err(NotAsked::Words(error)) => words_untaken(error, desk),
     }
@@ -125,20 +123,19 @@ fn stream_of_usage(error: &Error) -> Stream
 /// let mut streams = StreamLink::new(b"".as_slice(), Vec::new(alloc));
 /// assert_eq!(rt; run_program(&rt, alloc, words.as_slice(), &mut desk, &mut streams), 0);
 /// ```
-pub fn run_program<N: Network, D: Desk, R: Read + Drop, W: Write + Drop>(
-    rt: &N,
+pub fn run_program<N: Network + Drop, D: Desk, R: Read + Drop, W: Write + Drop>(
+    network: N,
     alloc: Global,
     words: &[String],
     desk: &mut D,
     link: &mut StreamLink<R, W>,
 ) -> u8
-    ensures runs { RunsProgram (IsOverAddress N.Network N.Stream.Read N.Stream.Write)
-        (IsOverPort N.Network N.Listener.Callers N.Stream.Read N.Stream.Write) (map string_bytes words.now) (stream_view link.old) (stream_view link.new)
-        (D.view desk.old) (D.view desk.new) result }
+    ensures runs { RunsProgram (peers_of N.Network N.Listener.Callers N.Stream.Read N.Stream.Write) (map string_bytes words.now)
+        (stream_view link.old) (stream_view link.new) (D.view desk.old) (D.view desk.new) result }
     ensures tells { IsTrueSince R.remaining W.contents link.old link.new }
     ensures stays { Stays D.comes_of desk.old desk.new }
 {
-    match run_words(rt, alloc, words, desk, link) {
+    match run_words(network, alloc, words, desk, link) {
         Ok(status) => status,
         Err(error) => {
             let was_printed = print_text(desk, stream_of_usage(&error), &error);

@@ -43,7 +43,7 @@ fn part_of<T: Display>(text: &T, skip: usize) -> ArrayVec<u8, ROOM> {
     bytes
 }
 
-#[tactic(auto, using(crate::proofs::Printed::printed_none, crate::proofs::Printed::printed_more, crate::proofs::Printed::printed_end))]
+#[tactic(auto, using(crate::proofs::Printed::printed_none, crate::proofs::Printed::printed_end))]
 /// Prints a text; whether all of it was printed, and there was some. No memory is asked for.
 pub(crate) fn print_text<D: Desk, T: Display>(desk: &mut D, stream: Stream, text: &T) -> bool
     ensures prints { PrintsText stream (D.view desk.old) (D.view desk.new) result }

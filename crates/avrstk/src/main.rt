@@ -4,7 +4,7 @@
 ghost use Rattle.std.specs.Prelude.{◌≡◌};
 ghost use Rattle.avr_tool.specs.Links.{stream_view};
 ghost use Rattle.avr_tool.specs.Program.{RunsArguments};
-ghost use Rattle.avr_tool.specs.Sockets.{IsOverAddress, IsOverPort};
+ghost use Rattle.avr_tool.specs.Sockets.{peers_of};
 
 use avr_tool::{Desk, Network, StreamLink, SystemDesk, refuse_text, run_program};
 use std::alloc::Global;
@@ -18,7 +18,7 @@ fn main(rt: HostRuntime) -> ExitCode {
     let _taken = take_closed_streams(&rt);
     let mut desk = SystemDesk::new(&rt, rt.stdout(), rt.stderr());
     let mut link = StreamLink::new(rt.stdin(), rt.stdout());
-    ExitCode::from(run(&rt, &mut desk, &mut link))
+    ExitCode::from(run(&rt, &rt, &mut desk, &mut link))
 }
 
 /// Takes the places of standard streams that were closed, as long as the program runs: else a file or a connection that
@@ -28,22 +28,22 @@ fn take_closed_streams(rt: &HostRuntime) -> [io::Result<File>; 3] {
 }
 
 /// Runs what the words of the command line ask for.
-fn run<N: Network + Env + Alloc<A = Global>, D: Desk, R: Read + Drop, W: Write + Drop>(
-    rt: &N,
+fn run<E: Env + Alloc<A = Global>, N: Network + Drop, D: Desk, R: Read + Drop, W: Write + Drop>(
+    rt: &E,
+    network: N,
     desk: &mut D,
     link: &mut StreamLink<R, W>,
 ) -> u8
-    ensures { RunsArguments (IsOverAddress N.Network N.Stream.Read N.Stream.Write)
-        (IsOverPort N.Network N.Listener.Callers N.Stream.Read N.Stream.Write) (stream_view link.old)
+    ensures { RunsArguments (peers_of N.Network N.Listener.Callers N.Stream.Read N.Stream.Write) (stream_view link.old)
         (stream_view link.new) (D.view desk.old) (D.view desk.new) result }
 {
     match read_arguments(rt) {
-        Ok(words) => run_program(rt, rt.alloc(), words.as_slice(), desk, link),
+        Ok(words) => run_program(network, rt.alloc(), words.as_slice(), desk, link),
         Err(error) => refuse_text(desk, &error),
     }
 }
 
 /// The words of the command line, the program's name first.
-fn read_arguments<N: Env + Alloc<A = Global>>(rt: &N) -> io::Result<Vec<String>> {
+fn read_arguments<E: Env + Alloc<A = Global>>(rt: &E) -> io::Result<Vec<String>> {
     Ok(env::args(rt)?.collect(rt.alloc())?)
 }

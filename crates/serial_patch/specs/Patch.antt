@@ -7,6 +7,8 @@ use Rattle.avr_records.specs.declared.kind.Kind.{Kind}
 use Rattle.avr_records.specs.declared.kind.Kind.TheVariants.{Ihex}
 use Rattle.avr_records.specs.declared.kind.Ending.{Ending}
 use Rattle.avr_records.specs.declared.kind.Ending.TheVariants.{Ended}
+use Rattle.serial_patch.specs.declared.PatchFault.{PatchFault}
+use Rattle.serial_patch.specs.declared.PatchFault.TheVariants.{NoRecords, Records, Outside, Memory}
 
 -- These bytes stand there, and every other byte is as it was.
 pub record IsPatched (at : ℕ) (serial : List ℕ) (before after : List (Option ℕ)) : Type 0 where
@@ -24,3 +26,9 @@ pub record IsPatchedFile (size : ℕ) (text : List ℕ) (at : ℕ) (serial : Lis
   pub reads : image_in_text kind text size ≡ Ok (before, ending)
   pub reads_back : image_in_text Ihex patched size ≡ Ok (after, Ended)
   pub is_patched : IsPatched at serial before after
+
+abbrev pub patch_fault_number : PatchFault → ℕ
+patch_fault_number NoRecords = 1
+patch_fault_number (Records fault) = 2
+patch_fault_number (Outside fault) = 3
+patch_fault_number Memory = 4

@@ -7,7 +7,7 @@
 ghost use Rattle.std.specs.Prelude.{◌≡◌, length, IfOk, OnOk, OnErr};
 ghost use Rattle.avr_part.specs.Part.{size_of};
 ghost use Rattle.avr_part.specs.declared.part.Mem.TheVariants.{Flash};
-ghost use Rattle.serial_patch.specs.Patch.{IsPatched, IsPatchedFile};
+ghost use Rattle.serial_patch.specs.Patch.{IsPatched, IsPatchedFile, patch_fault_number};
 
 use avr_image::{Image, ImageFault, Pieces, a_span_is_by_address, bytes_fit_below_the_size};
 use avr_part::{Mem, Part};
@@ -30,6 +30,20 @@ pub enum PatchFault {
     /// Memory was refused.
     #[error("out of memory")]
     Memory,
+}
+
+impl PatchFault {
+    /// The fault's number, from 1 on, which no later version changes.
+    pub fn number(&self) -> u8
+        ensures { result ≡ patch_fault_number self.now }
+    {
+        match self {
+            PatchFault::NoRecords => 1,
+            PatchFault::Records(_) => 2,
+            PatchFault::Outside(_) => 3,
+            PatchFault::Memory => 4,
+        }
+    }
 }
 
 /// Puts a serial number into an image, from this address on.

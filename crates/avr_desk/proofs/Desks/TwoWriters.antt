@@ -1,23 +1,30 @@
 -- A desk over two writers and the files of a system, call after call: what it keeps of them stays true.
-use Rattle.std.proofs.Common.{◌≡◌, ◌∙◌, sym, ap, subst, refl, ℕ, ◌||◌, Bool, false, List, [], ◌∷◌, ◌++◌, append_assoc, append-nil, take, Option, None, Some, Result, Ok, Err}
-use Rattle.std.proofs.KnownBytes.{Appends-nil, Appends-trans}
+use Rattle.std.proofs.Common.{◌≡◌, ◌∙◌, sym, ap, subst, refl, arith, ℕ, ◌==◌, ◌&&◌, ◌||◌, ◌≤◌, not, Bool, true, false, List, [], ◌∷◌, ◌++◌, append_assoc, append-nil, length, take, Option, None, Some, IfSome, inl, inr}
+use Rattle.std.proofs.KnownBytes.{Appends-nil, Appends-trans, Consumes-kept, Consumes-nil, Consumes-trans}
 use Rattle.std.proofs.lemmas.Bool.{or_parts}
-use Rattle.std.specs.Io.KnownBytes.{Appends, Keeps}
+use Rattle.std.proofs.lemmas.Bool.Decides.{nat_tests}
+use Rattle.std.proofs.lemmas.Grind.{common_steps}
+use Rattle.std.proofs.lemmas.List.Elements.{All-append, All-cons, All-nil}
+use Rattle.std.specs.Io.KnownBytes.{Appends, Consumes, IsAtEnd, Keeps}
+use Rattle.std.specs.List.{All}
+use Rattle.std.specs.declared.io.ErrorKind.{ErrorKind}
 use Rattle.std.specs.declared.io.Read.{Ghosts as Reads}
 use Rattle.std.specs.declared.io.Write.{Ghosts as Writes}
 use Rattle.ghosts.specs.Stays.{Stays}
-use Rattle.avr_desk.specs.Record.{Bytes, Record, all_files, file_of, files_among, noted, read_on, written_on, with_absent, with_denied, with_held, with_none_held, with_open, with_replaced, after_write}
+use Rattle.avr_desk.specs.Record.{Bytes, Record, all_files, all_uses, file_of, files_among, is_nil, noted, nothing_kept, read_on, use_of, written_on, with_absent, with_open, with_replaced, after_write}
 use Rattle.avr_desk.specs.Named.{is_dash}
 use Rattle.avr_desk.proofs.FileUses.Uses.{files_absent, files_opened, files_replaced}
-use Rattle.avr_desk.specs.Handles.{AreTrue, IsHeldBy, IsTrueOpen}
-use Rattle.avr_desk.specs.Standing.{Gives, GivesNone, is_output}
-use Rattle.avr_desk.specs.Shown.{Shown, IsTrueSince, TakesTruly, has_dash, to_output}
-use Rattle.avr_desk.proofs.Desks.Handles.{current_true, hold_true, kept_open, kept_written, read_on_open, with_absent_true, with_denied_true, with_held_true, with_none_held_true, with_open_true, with_replaced_true, write_on_open, write_on_output}
+use Rattle.avr_desk.specs.Handles.{AreTrue, HasGiven, IsHeldBy, IsTrueOpen, IsTrueUse}
+use Rattle.avr_desk.specs.Standing.{Gives, GivesBytes, GivesNone, is_output}
+use Rattle.avr_desk.specs.Shown.{Shown, IsTrueSince, has_dash, to_output}
 use Rattle.avr_desk.specs.declared.file_system.FileSystem.{Ghosts}
+use Rattle.avr_desk.specs.declared.record.FileUse.{FileUse}
+use Rattle.avr_desk.specs.declared.record.FileUse.TheVariants.{Opened, Created}
 use Rattle.avr_desk.specs.declared.record.Open.{Open}
 use Rattle.avr_desk.specs.declared.record.Open.TheVariants.{Closed, ToRead, ToWrite}
+use Rattle.avr_desk.specs.declared.record.Opening.TheVariants.{Absent, Found}
+use Rattle.avr_desk.specs.declared.record.Reading.{Reading}
 use Rattle.avr_desk.specs.declared.record.Writing.{Writing}
-use Rattle.avr_desk.specs.declared.stream.Stream.TheVariants.{File, Output, Messages}
 use Rattle.avr_desk.specs.declared.system.Held.{Held}
 use Rattle.avr_desk.specs.declared.system.Held.TheVariants as held
 
@@ -56,6 +63,58 @@ written_dashes : (bytes : Bytes) (r : Record) → has_dash (all_files (after_wri
 written_dashes bytes r = same_dash_behind (files_among r.uses) (file_of (written_on bytes r.current))
     (file_of r.current) (written_dash bytes r.current)
 
+-- ---- a handle that gives
+
+module _ {H : Type 0} (reads : Reads H) where
+  given_none : (h : H) (name : Bytes) → HasGiven reads h h (record { name = name; bytes = []; ended = false })
+  given_none h name = record { gave = Consumes-nil (reads.remaining h); ends = λ e. absurd (cc) }
+
+  given_kept : (first old new : H) (x : Reading) → HasGiven reads first old x
+      → Keeps (reads.remaining old) (reads.remaining new) → HasGiven reads first new x
+  given_kept first old new x given kept = record {
+    gave = Consumes-kept (reads.remaining first) (reads.remaining old) (reads.remaining new) x.bytes given.gave kept;
+    ends = given.ends;
+  }
+
+  -- all that it had
+  all_given : (a b : Option Bytes) (bytes : Bytes) → Consumes a b bytes → IsAtEnd b
+      → IfSome a (λ xs. length xs ≤ length bytes)
+  all_given None b bytes gave end = tt
+  all_given (Some x) None bytes gave end = absurd gave
+  all_given (Some x) (Some y) bytes gave end =
+      let same : x ≡ bytes = gave ∙ ap (λ (l : Bytes). bytes ++ l) end ∙ append-nil bytes in
+      let e : length x ≡ length bytes = ap length same in
+      omega (arith, e)
+
+  no_more : (a : Option Bytes) (bytes piece : Bytes) → IfSome a (λ xs. length xs ≤ length bytes)
+      → IfSome a (λ xs. length xs ≤ length (bytes ++ piece))
+  no_more None bytes piece few = tt
+  no_more (Some x) bytes piece few = grind (arith, common_steps, few)
+
+  -- a read of no bytes into some room is one at the end
+  end_seen : (old new : H) (buf : Bytes) (n : ℕ) → GivesBytes reads old new buf n
+      → (n == 0 && not (is_nil buf)) ≡ true → IsAtEnd (reads.remaining new)
+  end_seen old new buf n gives end = gives.ends (grind (arith, nat_tests, common_steps, end))
+      (grind (arith, nat_tests, common_steps, end))
+
+  given_more : (first old new : H) (x : Reading) (buf : Bytes) (n : ℕ) → HasGiven reads first old x
+      → GivesBytes reads old new buf n
+      → HasGiven reads first new
+      (record x { bytes = x.bytes ++ take n buf; ended = x.ended || (n == 0 && not (is_nil buf)) })
+  given_more first old new x buf n given gives =
+      let all : Consumes (reads.remaining first) (reads.remaining new) (x.bytes ++ take n buf) =
+      Consumes-trans (reads.remaining first) (reads.remaining old) (reads.remaining new) x.bytes (take n buf) given.gave
+      gives.gave in
+      record { gave = all; ends = ended x.ended refl all }
+    where
+      ended : (was : Bool) → x.ended ≡ was
+          → Consumes (reads.remaining first) (reads.remaining new) (x.bytes ++ take n buf)
+          → (was || (n == 0 && not (is_nil buf))) ≡ true
+          → IfSome (reads.remaining first) (λ xs. length xs ≤ length (x.bytes ++ take n buf))
+      ended true is all now = no_more (reads.remaining first) x.bytes (take n buf) (given.ends is)
+      ended false is all now = all_given (reads.remaining first) (reads.remaining new) (x.bytes ++ take n buf) all
+          (end_seen old new buf n gives now)
+
 -- ---- one call
 
 module _ {S F H I O E : Type 0} (system : Ghosts S F H) (reads : Reads F) (writes : Writes F) (input : Reads I)
@@ -66,8 +125,36 @@ module _ {S F H I O E : Type 0} (system : Ghosts S F H) (reads : Reads F) (write
   abbrev Since : Desk → Desk → Type 0
   Since = IsTrueSince system reads writes input output_of messages_of
 
-  abbrev Files : Desk → Type 0
-  Files d = AreTrue system reads writes input d.opened d.hold d.kept
+  abbrev TrueOpen : Held F I → Open → Type 0
+  TrueOpen = IsTrueOpen system reads writes input
+
+  abbrev TrueUse : FileUse → Type 0
+  TrueUse = IsTrueUse system reads writes input
+
+  abbrev Files : Held F I → Option H → Record → Type 0
+  Files = AreTrue system reads writes input
+
+  -- what is open is a use too
+  of_open : (opened : Held F I) (o : Open) → TrueOpen opened o → All TrueUse (use_of o)
+  of_open held.Nothing o same = rw same (All-nil TrueUse)
+  of_open (held.Input i) o (x, same, was) =
+      rw same (All-cons TrueUse (Opened (Found x)) [] (inl (i, was)) (All-nil TrueUse))
+  of_open (held.ToRead f) o (x, same, was) =
+      rw same (All-cons TrueUse (Opened (Found x)) [] (inr (f, was)) (All-nil TrueUse))
+  of_open (held.ToWrite f) o (x, same, was) =
+      rw same (All-cons TrueUse (Created x) [] (inr (inl (f, was))) (All-nil TrueUse))
+  of_open held.Output o (x, same, was) =
+      rw same (All-cons TrueUse (Created x) [] (inl was) (All-nil TrueUse))
+
+  uses_true : (opened : Held F I) (hold : Option H) (r : Record) → Files opened hold r → All TrueUse (all_uses r)
+  uses_true opened hold r are =
+      All-append TrueUse r.uses (use_of r.current) are.uses (of_open opened r.current are.current)
+
+  -- one more use, after all others
+  more_true : (opened : Held F I) (hold : Option H) (r : Record) (u : FileUse) → TrueUse u → Files opened hold r
+      → All TrueUse (all_uses r ++ u ∷ [])
+  more_true opened hold r u is are = All-append TrueUse (all_uses r) (u ∷ []) (uses_true opened hold r are)
+      (All-cons TrueUse u [] is (All-nil TrueUse))
 
   pub true_now : (a : Desk) → Since a a
   true_now a = record {
@@ -100,291 +187,280 @@ module _ {S F H I O E : Type 0} (system : Ghosts S F H) (reads : Reads F) (write
     files = λ are. g.files (f.files are);
   }
 
-  pub since_true : (b c : Desk) → Since b c → Stays Since b c
-  since_true b c then = λ start first. true_on start b c first then
-
   -- what a desk shows is what it was inside
-  pub from_inside : (inside now new : Desk) → inside ≡ now → Stays Since inside new → Stays Since now new
-  from_inside inside now new is stays = λ start first. stays start (subst (Since start) (sym is) first)
+  pub from_inside : {inside now new : Desk} → inside ≡ now → Since inside new → Stays Since now new
+  from_inside {inside = inside} {new = new} is then =
+      λ start first. true_on start inside new (subst (Since start) (sym is) first) then
 
-  -- nothing was sent
-  quiet : (b c : Desk) → c.output ≡ b.output → c.messages ≡ b.messages → c.kept.output ≡ b.kept.output
-      → c.kept.messages ≡ b.kept.messages
-      → (has_dash (all_files c.kept) ≡ false → has_dash (all_files b.kept) ≡ false)
-      → (has_dash (all_files c.kept) ≡ false → to_output b ≡ false → to_output c ≡ false)
-      → (Files b → Files c)
-      → Stays Since b c
-  quiet b c output messages put said dashes elsewhere files = since_true b c (record {
+  -- a desk after a call that sent nothing
+  abbrev Next : Desk → ℕ → ℕ → Option ErrorKind → Held F I → Option H → Record → Desk
+  Next b f u e o h k = record b { failures = f; unsaid = u; error = e; opened = o; hold = h; kept = k }
+
+  quiet : {b : Desk} {f u : ℕ} {e : Option ErrorKind} {o : Held F I} {h : Option H} {k : Record}
+      → k.output ≡ b.kept.output → k.messages ≡ b.kept.messages
+      → (has_dash (all_files k) ≡ false → has_dash (all_files b.kept) ≡ false)
+      → (has_dash (all_files k) ≡ false → to_output b ≡ false → is_output o ≡ false)
+      → (Files b.opened b.hold b.kept → Files o h k)
+      → Since b (Next b f u e o h k)
+  quiet {b = b} put said dashes elsewhere files = record {
     said = [];
     messages = said ∙ sym (append-nil b.kept.messages);
-    told = subst (λ (w : E). Appends (messages_of.contents b.messages) (messages_of.contents w) []) (sym messages)
-        (Appends-nil (messages_of.contents b.messages));
+    told = Appends-nil (messages_of.contents b.messages);
     put = [];
     output = put ∙ sym (append-nil b.kept.output);
     dashes = dashes;
-    out = λ none was. (
-      elsewhere none was,
-      subst (λ (w : O). Appends (output_of.contents b.output) (output_of.contents w) []) (sym output)
-          (Appends-nil (output_of.contents b.output)),
-    );
+    out = λ none was. (elsewhere none was, Appends-nil (output_of.contents b.output));
     files = files;
-  })
+  }
 
-  -- what is true of this is true of the desk
-  files_as : (c : Desk) (opened : Held F I) (hold : Option H) (kept : Record) → c.opened ≡ opened → c.hold ≡ hold
-      → c.kept ≡ kept → AreTrue system reads writes input opened hold kept → Files c
-  files_as c opened hold kept is_open is_held is_kept are =
-      rw (is_open, is_held, is_kept) are
+  -- it was opened
+  opened_true : {b : Desk} {f u : ℕ} {e : Option ErrorKind} {o : Held F I} {k : Record} (x : Reading)
+      → k ≡ with_open (ToRead x) b.kept → is_output o ≡ false → TrueOpen o (ToRead x)
+      → Since b (Next b f u e o b.hold k)
+  opened_true {b = b} x kept elsewhere is = rw kept (quiet refl refl
+      (λ none. no_dash_in_front (all_files b.kept) [] (sym (ap has_dash (files_opened (ToRead x) b.kept)) ∙ none))
+      (λ none was. elsewhere)
+      (λ are. record {
+        uses = uses_true b.opened b.hold b.kept are;
+        current = is;
+        denied = are.denied;
+        held = are.held;
+      }))
 
-  -- the same uses and files, another thing open or held
-  same_files : (r : Record) (b c : Desk) → c.output ≡ b.output → c.messages ≡ b.messages → c.kept ≡ r
-      → r.output ≡ b.kept.output → r.messages ≡ b.kept.messages → has_dash (all_files r) ≡ has_dash (all_files b.kept)
-      → to_output c ≡ to_output b → (Files b → Files c) → Stays Since b c
-  same_files r b c output messages kept put said dash to_output files =
-      quiet b c output messages (ap (λ (k : Record). k.output) kept ∙ put) (ap (λ (k : Record). k.messages) kept ∙ said)
-      (λ none. sym dash ∙ sym (ap (λ (k : Record). has_dash (all_files k)) kept) ∙ none)
-      (λ none was. to_output ∙ was) files
+  pub input_true : {b : Desk} {f u : ℕ} {e : Option ErrorKind} {k : Record} {name own : Bytes} {i : I} → own ≡ name
+      → true ≡ is_dash name → k ≡ with_open (ToRead (record { name = own; bytes = []; ended = false })) b.kept
+      → Since b (Next b f u e (held.Input i) b.hold k)
+  input_true {own = own} {i = i} same dash kept =
+      let x : Reading = record { name = own; bytes = []; ended = false } in
+      opened_true x kept refl
+      (x, refl, (sym (dash ∙ ap is_dash (sym same)), i, given_none input i own))
 
-  -- nothing but the counts has changed
-  pub kept_true : (b c : Desk) → c.output ≡ b.output → c.messages ≡ b.messages → c.opened ≡ b.opened → c.hold ≡ b.hold
-      → c.kept ≡ b.kept → Stays Since b c
-  kept_true b c output messages opened hold kept =
-      same_files b.kept b c output messages kept refl refl refl (ap (λ (h : Held F I). is_output h) opened)
-      (files_as c b.opened b.hold b.kept opened hold kept)
+  pub file_true : {b : Desk} {f u : ℕ} {e : Option ErrorKind} {k : Record} {name own : Bytes} {h : F} → own ≡ name
+      → system.is_of h name → k ≡ with_open (ToRead (record { name = own; bytes = []; ended = false })) b.kept
+      → Since b (Next b f u e (held.ToRead h) b.hold k)
+  file_true {own = own} {h = h} same named kept =
+      let x : Reading = record { name = own; bytes = []; ended = false } in
+      opened_true x kept refl
+      (x, refl, (h, subst (system.is_of h) (sym same) named, given_none reads h own))
 
-  -- or what is held, and as before
-  pub unreplaced_true : (b c : Desk) → c.output ≡ b.output → c.messages ≡ b.messages → c.opened ≡ b.opened
-      → c.kept ≡ b.kept → ((name : Option Bytes) → IsHeldBy system b.hold name → IsHeldBy system c.hold name)
-      → Stays Since b c
-  unreplaced_true b c output messages opened kept still =
-      same_files b.kept b c output messages kept refl refl refl (ap (λ (h : Held F I). is_output h) opened)
-      (λ are. files_as c b.opened c.hold b.kept opened refl kept
-      (hold_true system reads writes input b.opened b.hold c.hold b.kept still are))
+  -- there was no such file
+  pub absent_true : {b : Desk} {f u : ℕ} {e : Option ErrorKind} {k : Record} {name own : Bytes} → own ≡ name
+      → system.lacks name → k ≡ with_absent own b.kept → Since b (Next b f u e held.Nothing b.hold k)
+  absent_true {b = b} {own = own} same lacks kept =
+      rw kept (quiet refl refl
+      (λ none. sym (ap has_dash (files_absent own b.kept)) ∙ none) (λ none was. refl)
+      (λ are. record {
+        uses = more_true b.opened b.hold b.kept (Opened (Absent own)) (subst system.lacks (sym same) lacks) are;
+        current = refl;
+        denied = are.denied;
+        held = are.held;
+      }))
 
-  pub held_true : (name own : Bytes) (now : H) (b c : Desk) → own ≡ name → c.output ≡ b.output → c.messages ≡ b.messages
-      → c.opened ≡ b.opened → c.hold ≡ Some now → c.kept ≡ with_held own b.kept → system.holds now name
-      → Stays Since b c
-  held_true name own now b c same output messages opened hold kept holds =
-      same_files (with_held own b.kept) b c output messages kept refl refl refl
-      (ap (λ (h : Held F I). is_output h) opened)
-      (λ are. files_as c b.opened (Some now) (with_held own b.kept) opened hold kept
-      (with_held_true system reads writes input b.opened b.hold now own b.kept (subst (system.holds now) (sym same) holds)
-      are))
+  -- it was created
+  create_true : {b : Desk} {f u : ℕ} {e : Option ErrorKind} {o : Held F I} {k : Record} (x : Writing)
+      → k ≡ with_open (ToWrite x) b.kept → is_output o ≡ is_dash x.name → TrueOpen o (ToWrite x)
+      → Since b (Next b f u e o b.hold k)
+  create_true {b = b} x kept to_output is =
+      let files = ap has_dash (files_opened (ToWrite x) b.kept) in
+      rw kept (quiet refl refl
+      (λ none. no_dash_in_front (all_files b.kept) (x ∷ []) (sym files ∙ none))
+      (λ none was. to_output
+      ∙ (or_parts (is_dash x.name) false (no_dash_behind (all_files b.kept) (x ∷ []) (sym files ∙ none))).0)
+      (λ are. record {
+        uses = uses_true b.opened b.hold b.kept are;
+        current = is;
+        denied = are.denied;
+        held = are.held;
+      }))
 
-  pub denied_true : (name own : Bytes) (b c : Desk) → own ≡ name → c.output ≡ b.output → c.messages ≡ b.messages
-      → c.opened ≡ b.opened → c.hold ≡ b.hold → c.kept ≡ with_denied own b.kept → system.denies name
-      → Stays Since b c
-  denied_true name own b c same output messages opened hold kept denies =
-      same_files (with_denied own b.kept) b c output messages kept refl refl refl
-      (ap (λ (h : Held F I). is_output h) opened)
-      (λ are. files_as c b.opened b.hold (with_denied own b.kept) opened hold kept
-      (with_denied_true system reads writes input b.opened b.hold own b.kept (subst system.denies (sym same) denies) are))
+  pub output_true : {b : Desk} {f u : ℕ} {e : Option ErrorKind} {k : Record} {name own : Bytes} → own ≡ name
+      → true ≡ is_dash name → k ≡ with_open (ToWrite (record { name = own; bytes = [] })) b.kept
+      → Since b (Next b f u e held.Output b.hold k)
+  output_true {own = own} same dash kept =
+      let is : true ≡ is_dash own = dash ∙ ap is_dash (sym same) in
+      let x : Writing = record { name = own; bytes = [] } in
+      create_true x kept is (x, refl, sym is)
 
-  pub released_true : (b c : Desk) → c.output ≡ b.output → c.messages ≡ b.messages
-      → c.opened ≡ b.opened → c.hold ≡ None → c.kept ≡ with_none_held b.kept → Stays Since b c
-  released_true b c output messages opened hold kept =
-      same_files (with_none_held b.kept) b c output messages kept refl refl refl
-      (ap (λ (h : Held F I). is_output h) opened)
-      (λ are. files_as c b.opened None (with_none_held b.kept) opened hold kept
-      (with_none_held_true system reads writes input b.opened b.hold b.kept are))
+  pub created_true : {b : Desk} {f u : ℕ} {e : Option ErrorKind} {k : Record} {name own : Bytes} {h : F}
+      → own ≡ name → false ≡ is_dash name → system.is_of h name
+      → k ≡ with_open (ToWrite (record { name = own; bytes = [] })) b.kept
+      → Since b (Next b f u e (held.ToWrite h) b.hold k)
+  created_true {own = own} {h = h} same no_dash named kept =
+      let x : Writing = record { name = own; bytes = [] } in
+      create_true x kept (no_dash ∙ ap is_dash (sym same))
+      (x, refl, (h, subst (system.is_of h) (sym same) named, Appends-nil (writes.contents h)))
 
-  pub opened_true : (name own : Bytes) (b c : Desk) → own ≡ name → c.output ≡ b.output → c.messages ≡ b.messages → c.hold ≡ b.hold
-      → c.kept ≡ with_open (ToRead (record { name = own; bytes = []; ended = false })) b.kept → to_output c ≡ false
-      → IsTrueOpen system reads writes input c.opened (ToRead (record { name = name; bytes = []; ended = false }))
-      → Stays Since b c
-  opened_true name own b c same output messages hold kept to_output is =
-      let now : Open = ToRead (record { name = own; bytes = []; ended = false }) in
-      let files = ap all_files kept ∙ files_opened now b.kept in
-      quiet b c output messages (ap (λ (r : Record). r.output) kept) (ap (λ (r : Record). r.messages) kept)
-      (λ none. no_dash_in_front (all_files b.kept) [] (sym (ap has_dash files) ∙ none)) (λ none was. to_output)
-      (λ are. files_as c c.opened b.hold (with_open now b.kept) refl hold kept
-      (with_open_true system reads writes input b.opened c.opened b.hold now b.kept
-      (subst (λ n. IsTrueOpen system reads writes input c.opened (ToRead (record { name = n; bytes = []; ended = false })))
-      (sym same) is) are))
+  -- a file was replaced; what was held is let go
+  pub replace_true : {b c : Desk} {name own bytes : Bytes} → own ≡ name → c.output ≡ b.output
+      → c.messages ≡ b.messages → c.hold ≡ None → c.opened ≡ held.Nothing → c.kept ≡ with_replaced own bytes b.kept
+      → system.replaced name bytes → Since b c
+  replace_true {b = b} {c = c} {own = own} {bytes = bytes} same output messages hold opened kept replaced =
+      let x : Writing = record { name = own; bytes = bytes } in
+      let files = ap has_dash (files_replaced own bytes b.kept) in
+      let now = Next b c.failures c.unsaid c.error held.Nothing None (with_replaced own bytes b.kept) in
+      let is : c ≡ now = rw (← output, ← messages, ← hold, ← opened, ← kept) refl in
+      subst (Since b) (sym is) (quiet refl refl (λ none. no_dash_in_front (all_files b.kept) (x ∷ []) (sym files ∙ none)) (λ none was. refl)
+      (λ are. record {
+        uses = more_true b.opened b.hold b.kept (Created x)
+            (inr (inr (subst (λ n. system.replaced n bytes) (sym same) replaced))) are;
+        current = refl;
+        denied = are.denied;
+        held = tt;
+      }))
 
-  pub absent_true : (name own : Bytes) (b c : Desk) → own ≡ name → c.output ≡ b.output → c.messages ≡ b.messages → c.hold ≡ b.hold
-      → c.kept ≡ with_absent own b.kept → c.opened ≡ held.Nothing → system.lacks name → Stays Since b c
-  absent_true name own b c same output messages hold kept opened lacks =
-      let files = ap all_files kept ∙ files_absent own b.kept in
-      quiet b c output messages (ap (λ (r : Record). r.output) kept) (ap (λ (r : Record). r.messages) kept)
-      (λ none. sym (ap has_dash files) ∙ none) (λ none was. ap (λ (h : Held F I). is_output h) opened)
-      (λ are. files_as c held.Nothing b.hold (with_absent own b.kept) opened hold kept
-      (with_absent_true system reads writes input b.opened b.hold own b.kept (subst system.lacks (sym same) lacks) are))
-
-  pub create_true : (name own : Bytes) (b c : Desk) → c.output ≡ b.output → c.messages ≡ b.messages → c.hold ≡ b.hold
-      → own ≡ name
-      → c.kept ≡ with_open (ToWrite (record { name = own; bytes = [] })) b.kept → to_output c ≡ is_dash name
-      → IsTrueOpen system reads writes input c.opened (ToWrite (record { name = name; bytes = [] }))
-      → Stays Since b c
-  create_true name own b c output messages hold same kept to_output is =
-      let file : Writing = record { name = own; bytes = [] } in
-      let files = ap all_files kept ∙ files_opened (ToWrite file) b.kept in
-      quiet b c output messages (ap (λ (r : Record). r.output) kept) (ap (λ (r : Record). r.messages) kept)
-      (λ none. no_dash_in_front (all_files b.kept) (file ∷ []) (sym (ap has_dash files) ∙ none))
-      (λ none was. to_output ∙ ap is_dash (sym same)
-      ∙ (or_parts (is_dash own) false (no_dash_behind (all_files b.kept) (file ∷ [])
-      (sym (ap has_dash files) ∙ none))).0)
-      (λ are. files_as c c.opened b.hold (with_open (ToWrite file) b.kept) refl hold kept
-      (with_open_true system reads writes input b.opened c.opened b.hold (ToWrite file) b.kept
-      (subst (λ n. IsTrueOpen system reads writes input c.opened (ToWrite (record { name = n; bytes = [] })))
-      (sym same) is) are))
-
-  pub replace_true : (name own bytes : Bytes) (b c : Desk) → own ≡ name → c.output ≡ b.output → c.messages ≡ b.messages
-      → c.kept ≡ with_replaced own bytes b.kept → c.opened ≡ held.Nothing → c.hold ≡ None
-      → system.replaced name bytes → Stays Since b c
-  replace_true name own bytes b c same output messages kept opened hold replaced =
-      let file : Writing = record { name = own; bytes = bytes } in
-      let files = ap all_files kept ∙ files_replaced own bytes b.kept in
-      quiet b c output messages (ap (λ (r : Record). r.output) kept) (ap (λ (r : Record). r.messages) kept)
-      (λ none. no_dash_in_front (all_files b.kept) (file ∷ []) (sym (ap has_dash files) ∙ none))
-      (λ none was. ap (λ (h : Held F I). is_output h) opened)
-      (λ are. files_as c held.Nothing None (with_replaced own bytes b.kept) opened hold kept
-      (with_replaced_true system reads writes input b.opened b.hold own bytes b.kept
-      (subst (λ n. system.replaced n bytes) (sym same) replaced) are))
+  pub unreplaced_true : {b : Desk} {f u : ℕ} {e : Option ErrorKind} {h : Option H}
+      → ((name : Option Bytes) → IsHeldBy system b.hold name → IsHeldBy system h name)
+      → Since b (Next b f u e b.opened h b.kept)
+  unreplaced_true {b = b} {h = h} still =
+      quiet refl refl (λ none. none) (λ none was. was)
+      (λ are. record {
+        uses = are.uses;
+        current = are.current;
+        denied = are.denied;
+        held = still b.kept.held are.held;
+      })
 
   -- bytes were read of what is open
-  pub read_true : (buffer : Bytes) (n : ℕ) (b c : Desk) → c.output ≡ b.output → c.messages ≡ b.messages
-      → c.hold ≡ b.hold → c.kept ≡ record b.kept { current = read_on buffer n b.kept.current }
-      → to_output c ≡ to_output b → Gives reads input b.opened c.opened buffer n → Stays Since b c
-  read_true buffer n b c output messages hold kept to_output gives =
-      let now : Record = record b.kept { current = read_on buffer n b.kept.current } in
-      same_files now b c output messages kept refl refl
-      (ap (λ (fs : List Writing). has_dash (files_among b.kept.uses ++ fs)) (noted_files _ _ b.kept.current))
-      to_output
-      (λ are. files_as c c.opened b.hold now refl hold kept
-      (current_true system reads writes input b.opened c.opened b.hold (read_on buffer n b.kept.current) b.kept
-      (read_on_open system reads writes input b.opened c.opened buffer n b.kept.current gives) are))
+  read_on_open : (old new : Held F I) (buf : Bytes) (n : ℕ) (o : Open) → Gives reads input old new buf n
+      → TrueOpen old o → TrueOpen new (read_on buf n o)
+  read_on_open (held.Input i) new buf n o (now, is, gives) (x, same, (dash, first, given)) =
+      rw is (_, ap (read_on buf n) same, (dash, first, given_more input first i now x buf n given gives))
+  read_on_open (held.ToRead h) new buf n o (now, is, gives) (x, same, (first, named, given)) =
+      rw is (_, ap (read_on buf n) same, (first, named, given_more reads first h now x buf n given gives))
+  read_on_open held.Nothing new buf n o gives was = elim gives [ ]
+  read_on_open (held.ToWrite h) new buf n o gives was = elim gives [ ]
+  read_on_open held.Output new buf n o gives was = elim gives [ ]
 
-  pub unread_true : (b c : Desk) → c.output ≡ b.output → c.messages ≡ b.messages
-      → c.hold ≡ b.hold → c.kept ≡ b.kept → to_output c ≡ to_output b → GivesNone reads input b.opened c.opened
-      → Stays Since b c
-  unread_true b c output messages hold kept to_output none =
-      same_files b.kept b c output messages kept refl refl refl to_output
-      (λ are. files_as c c.opened b.hold b.kept refl hold kept
-      (current_true system reads writes input b.opened c.opened b.hold b.kept.current b.kept
-      (kept_open system reads writes input b.opened c.opened b.kept.current none) are))
+  pub read_true : {b : Desk} {f u : ℕ} {e : Option ErrorKind} {o : Held F I} {k : Record} (buf : Bytes) (n : ℕ)
+      → k ≡ record b.kept { current = read_on buf n b.kept.current } → is_output o ≡ is_output b.opened
+      → Gives reads input b.opened o buf n → Since b (Next b f u e o b.hold k)
+  read_true {b = b} {o = o} buf n kept same gives =
+      let now : Record = record b.kept { current = read_on buf n b.kept.current } in
+      let files : has_dash (all_files now) ≡ has_dash (all_files b.kept) =
+      ap (λ (fs : List Writing). has_dash (files_among b.kept.uses ++ fs)) (noted_files _ _ b.kept.current) in
+      rw kept (quiet refl refl (λ none. sym files ∙ none) (λ none was. same ∙ was)
+      (λ are. record {
+        uses = are.uses;
+        current = read_on_open b.opened o buf n b.kept.current gives are.current;
+        denied = are.denied;
+        held = are.held;
+      }))
 
-  -- bytes went to the file, which may be the output
-  wrote : (bytes : Bytes) (b c : Desk) → c.messages ≡ b.messages → c.hold ≡ b.hold → c.kept ≡ after_write bytes b.kept
-      → to_output c ≡ to_output b
-      → (to_output b ≡ false → c.output ≡ b.output)
-      → (IsTrueOpen system reads writes input b.opened b.kept.current
-      → IsTrueOpen system reads writes input c.opened (written_on bytes b.kept.current))
-      → Stays Since b c
-  wrote bytes b c messages hold kept to_output output on = since_true b c (record {
+  -- or none were
+  kept_open : (old new : Held F I) (o : Open) → GivesNone reads input old new → TrueOpen old o → TrueOpen new o
+  kept_open (held.Input i) new o (now, is, kept) (x, same, (dash, first, given)) =
+      rw is (x, same, (dash, first, given_kept input first i now x given kept))
+  kept_open (held.ToRead h) new o (now, is, kept) (x, same, (first, named, given)) =
+      rw is (x, same, (first, named, given_kept reads first h now x given kept))
+  kept_open held.Nothing new o same was = rw same was
+  kept_open (held.ToWrite h) new o same was = rw same was
+  kept_open held.Output new o same was = rw same was
+
+  pub unread_true : {b : Desk} {f u : ℕ} {e : Option ErrorKind} {o : Held F I} → is_output o ≡ is_output b.opened
+      → GivesNone reads input b.opened o → Since b (Next b f u e o b.hold b.kept)
+  unread_true {b = b} {o = o} same none =
+      quiet refl refl (λ none. none) (λ none was. same ∙ was)
+      (λ are. record {
+        uses = are.uses;
+        current = kept_open b.opened o b.kept.current none are.current;
+        denied = are.denied;
+        held = are.held;
+      })
+
+  -- bytes went to a file of its own
+  write_on : (old new : F) (bytes : Bytes) (o : Open) → Appends (writes.contents old) (writes.contents new) bytes
+      → TrueOpen (held.ToWrite old) o → TrueOpen (held.ToWrite new) (written_on bytes o)
+  write_on old new bytes o took (x, same, (first, named, all)) = (
+    _,
+    ap (written_on bytes) same,
+    (
+      first,
+      named,
+      Appends-trans (writes.contents first) (writes.contents old) (writes.contents new) x.bytes bytes all took,
+    ),
+  )
+
+  pub write_true : {b : Desk} {f u : ℕ} {e : Option ErrorKind} {k : Record} {old new : F} (bytes : Bytes)
+      → b.opened ≡ held.ToWrite old → Appends (writes.contents old) (writes.contents new) bytes
+      → k ≡ after_write bytes b.kept → Since b (Next b f u e (held.ToWrite new) b.hold k)
+  write_true {b = b} {old = old} {new = new} bytes was took kept =
+      rw kept (quiet refl refl
+      (λ none. sym (written_dashes bytes b.kept) ∙ none) (λ none elsewhere. refl)
+      (λ are. record {
+        uses = are.uses;
+        current = write_on old new bytes b.kept.current took
+            (subst (λ (h : Held F I). TrueOpen h b.kept.current) was are.current);
+        denied = are.denied;
+        held = are.held;
+      }))
+
+  -- a desk after a call that sent to the output
+  abbrev Put : Desk → O → ℕ → ℕ → Option ErrorKind → Record → Desk
+  Put b w f u e k = record b { output = w; failures = f; unsaid = u; error = e; kept = k }
+
+  -- as the file
+  write_on_output : (bytes : Bytes) (o : Open) → TrueOpen held.Output o → TrueOpen held.Output (written_on bytes o)
+  write_on_output bytes o (x, same, dash) = (_, ap (written_on bytes) same, dash)
+
+  pub write_out_true : {b : Desk} {w : O} {f u : ℕ} {e : Option ErrorKind} {k : Record} (bytes : Bytes)
+      → b.opened ≡ held.Output → k ≡ after_write bytes b.kept → Since b (Put b w f u e k)
+  write_out_true {b = b} bytes was kept = rw kept (record {
     said = [];
-    messages = ap (λ (r : Record). r.messages) kept ∙ sym (append-nil b.kept.messages);
-    told = subst (λ (w : E). Appends (messages_of.contents b.messages) (messages_of.contents w) []) (sym messages)
-        (Appends-nil (messages_of.contents b.messages));
+    messages = sym (append-nil b.kept.messages);
+    told = Appends-nil (messages_of.contents b.messages);
     put = [];
-    output = ap (λ (r : Record). r.output) kept ∙ sym (append-nil b.kept.output);
-    dashes = λ none. sym (ap (λ (r : Record). has_dash (all_files r)) kept ∙ written_dashes bytes b.kept) ∙ none;
-    out = λ none was. (
-      to_output ∙ was,
-      subst (λ (w : O). Appends (output_of.contents b.output) (output_of.contents w) [])
-          (sym (output was)) (Appends-nil (output_of.contents b.output)),
-    );
-    files = λ are. files_as c c.opened b.hold (after_write bytes b.kept) refl hold kept
-        (current_true system reads writes input b.opened c.opened b.hold (written_on bytes b.kept.current) b.kept on
-        are);
+    output = sym (append-nil b.kept.output);
+    dashes = λ none. sym (written_dashes bytes b.kept) ∙ none;
+    out = λ none elsewhere. absurd (let now : is_output b.opened ≡ true = ap (λ (h : Held F I). is_output h) was in cc);
+    files = λ are. record {
+      uses = are.uses;
+      current = subst (λ (h : Held F I). TrueOpen h (written_on bytes b.kept.current)) (sym was)
+          (write_on_output bytes b.kept.current
+          (subst (λ (h : Held F I). TrueOpen h b.kept.current) was are.current));
+      denied = are.denied;
+      held = are.held;
+    };
   })
 
-  -- to a file of its own, or to the output
-  pub write_true : (bytes : Bytes) (f h : F) (b c : Desk) → c.messages ≡ b.messages → c.output ≡ b.output
-      → c.hold ≡ b.hold → c.kept ≡ after_write bytes b.kept
-      → b.opened ≡ held.ToWrite f → c.opened ≡ held.ToWrite h → Appends (writes.contents f) (writes.contents h) bytes
-      → Stays Since b c
-  write_true bytes f h b c messages output hold kept was now took =
-      wrote bytes b c messages hold kept
-      (ap (λ (held : Held F I). is_output held) now ∙ sym (ap (λ (held : Held F I). is_output held) was))
-      (λ was. output)
-      (λ is. subst (λ held. IsTrueOpen system reads writes input held (written_on bytes b.kept.current)) (sym now)
-      (write_on_open system reads writes input f h bytes b.kept.current took
-      (subst (λ held. IsTrueOpen system reads writes input held b.kept.current) was is)))
-
-  -- or not, as the file failed
-  pub unwritten_true : (f h : F) (b c : Desk) → c.messages ≡ b.messages → c.output ≡ b.output
-      → c.hold ≡ b.hold → c.kept ≡ b.kept
-      → b.opened ≡ held.ToWrite f → c.opened ≡ held.ToWrite h → Keeps (writes.contents f) (writes.contents h)
-      → Stays Since b c
-  unwritten_true f h b c messages output hold kept was now keeps =
-      same_files b.kept b c output messages kept refl refl refl
-      (ap (λ (held : Held F I). is_output held) now ∙ sym (ap (λ (held : Held F I). is_output held) was))
-      (λ are. files_as c c.opened b.hold b.kept refl hold kept
-      (current_true system reads writes input b.opened c.opened b.hold b.kept.current b.kept
-      (λ is. subst (λ held. IsTrueOpen system reads writes input held b.kept.current) (sym now)
-      (kept_written system reads writes input f h b.kept.current keeps
-      (subst (λ held. IsTrueOpen system reads writes input held b.kept.current) was is))) are))
-
-  pub write_out_true : {T : Type 0} (bytes : Bytes) (result : Result ℕ T) (b c : Desk) → c.messages ≡ b.messages
-      → c.hold ≡ b.hold → b.opened ≡ held.Output → c.opened ≡ held.Output
-      → TakesTruly File bytes (output_of.contents b.output) (output_of.contents c.output) b.kept c.kept result
-      → Stays Since b c
-  write_out_true bytes result b c messages hold was now taken = of_result result taken
-    where
-      outward : (n : ℕ) → c.kept ≡ after_write (take n bytes) b.kept → Stays Since b c
-      outward n kept = wrote (take n bytes) b c messages hold kept
-          (ap (λ (held : Held F I). is_output held) now ∙ sym (ap (λ (held : Held F I). is_output held) was))
-          (λ elsewhere. absurd (cc))
-          (λ is. subst (λ held. IsTrueOpen system reads writes input held (written_on (take n bytes) b.kept.current))
-          (sym now) (write_on_output system reads writes input (take n bytes) b.kept.current
-          (subst (λ held. IsTrueOpen system reads writes input held b.kept.current) was is)))
-
-      of_result : {T : Type 0} (result : Result ℕ T) → TakesTruly File bytes (output_of.contents b.output)
-          (output_of.contents c.output) b.kept c.kept result → Stays Since b c
-      of_result (Ok n) taken = outward n taken.0
-      of_result (Err fault) taken = outward taken.0 taken.2.0
-
-  put_out : (bytes : Bytes) (n : ℕ) (b c : Desk) → c.messages ≡ b.messages → c.opened ≡ b.opened → c.hold ≡ b.hold
-      → c.kept ≡ record b.kept { output = b.kept.output ++ take n bytes }
-      → Appends (output_of.contents b.output) (output_of.contents c.output) (take n bytes)
-      → Stays Since b c
-  put_out bytes n b c messages opened hold kept took = since_true b c (record {
+  pub out_true : {b : Desk} {w : O} {f u : ℕ} {e : Option ErrorKind} {k : Record} (bytes : Bytes)
+      → k ≡ record b.kept { output = b.kept.output ++ bytes }
+      → Appends (output_of.contents b.output) (output_of.contents w) bytes → Since b (Put b w f u e k)
+  out_true {b = b} bytes kept took = rw kept (record {
     said = [];
-    messages = ap (λ (r : Record). r.messages) kept ∙ sym (append-nil b.kept.messages);
-    told = subst (λ (w : E). Appends (messages_of.contents b.messages) (messages_of.contents w) []) (sym messages)
-        (Appends-nil (messages_of.contents b.messages));
-    put = take n bytes;
-    output = ap (λ (r : Record). r.output) kept;
-    dashes = λ none. sym (ap (λ (r : Record). has_dash (all_files r)) kept) ∙ none;
-    out = λ none was. (ap (λ (held : Held F I). is_output held) opened ∙ was, took);
-    files = λ are. rw (opened, hold, kept)
-        (record { uses = are.uses; current = are.current; denied = are.denied; held = are.held });
+    messages = sym (append-nil b.kept.messages);
+    told = Appends-nil (messages_of.contents b.messages);
+    put = bytes;
+    output = refl;
+    dashes = λ none. none;
+    out = λ none was. (was, took);
+    files = λ are. record { uses = are.uses; current = are.current; denied = are.denied; held = are.held };
   })
 
-  pub out_true : {T : Type 0} (bytes : Bytes) (result : Result ℕ T) (b c : Desk) → c.messages ≡ b.messages
-      → c.opened ≡ b.opened → c.hold ≡ b.hold
-      → TakesTruly Output bytes (output_of.contents b.output) (output_of.contents c.output) b.kept c.kept result
-      → Stays Since b c
-  out_true bytes (Ok n) b c messages opened hold taken = put_out bytes n b c messages opened hold taken.0 taken.1
-  out_true bytes (Err fault) b c messages opened hold taken =
-      put_out bytes taken.0 b c messages opened hold taken.2.0 taken.2.1
+  -- a desk after a call that sent to the messages
+  abbrev Told : Desk → E → ℕ → ℕ → Option ErrorKind → Record → Desk
+  Told b w f u e k = record b { messages = w; failures = f; unsaid = u; error = e; kept = k }
 
-  told_err : (bytes : Bytes) (n : ℕ) (b c : Desk) → c.output ≡ b.output → c.opened ≡ b.opened → c.hold ≡ b.hold
-      → c.kept ≡ record b.kept { messages = b.kept.messages ++ take n bytes }
-      → Appends (messages_of.contents b.messages) (messages_of.contents c.messages) (take n bytes)
-      → Stays Since b c
-  told_err bytes n b c output opened hold kept took = since_true b c (record {
-    said = take n bytes;
-    messages = ap (λ (r : Record). r.messages) kept;
+  pub err_true : {b : Desk} {w : E} {f u : ℕ} {e : Option ErrorKind} {k : Record} (bytes : Bytes)
+      → k ≡ record b.kept { messages = b.kept.messages ++ bytes }
+      → Appends (messages_of.contents b.messages) (messages_of.contents w) bytes → Since b (Told b w f u e k)
+  err_true {b = b} bytes kept took = rw kept (record {
+    said = bytes;
+    messages = refl;
     told = took;
     put = [];
-    output = ap (λ (r : Record). r.output) kept ∙ sym (append-nil b.kept.output);
-    dashes = λ none. sym (ap (λ (r : Record). has_dash (all_files r)) kept) ∙ none;
-    out = λ none was. (
-      ap (λ (held : Held F I). is_output held) opened ∙ was,
-      subst (λ (w : O). Appends (output_of.contents b.output) (output_of.contents w) []) (sym output)
-          (Appends-nil (output_of.contents b.output)),
-    );
-    files = λ are. rw (opened, hold, kept)
-        (record { uses = are.uses; current = are.current; denied = are.denied; held = are.held });
+    output = sym (append-nil b.kept.output);
+    dashes = λ none. none;
+    out = λ none was. (was, Appends-nil (output_of.contents b.output));
+    files = λ are. record { uses = are.uses; current = are.current; denied = are.denied; held = are.held };
   })
 
-  pub err_true : {T : Type 0} (bytes : Bytes) (result : Result ℕ T) (b c : Desk) → c.output ≡ b.output
-      → c.opened ≡ b.opened → c.hold ≡ b.hold
-      → TakesTruly Messages bytes (messages_of.contents b.messages) (messages_of.contents c.messages) b.kept c.kept
-      result
-      → Stays Since b c
-  err_true bytes (Ok n) b c output opened hold taken = told_err bytes n b c output opened hold taken.0 taken.1
-  err_true bytes (Err fault) b c output opened hold taken =
-      told_err bytes taken.0 b c output opened hold taken.2.0 taken.2.1
+-- ---- a new desk
+
+module _ {S F H I : Type 0} (system : Ghosts S F H) (reads : Reads F) (writes : Writes F) (input : Reads I) where
+  pub none_kept_true : AreTrue system reads writes input held.Nothing None nothing_kept
+  none_kept_true = record {
+    uses = All-nil (IsTrueUse system reads writes input);
+    current = refl;
+    denied = All-nil system.denies;
+    held = tt;
+  }

@@ -7,21 +7,23 @@ use Rattle.avr_cli.specs.Command.{avrstk}
 use Rattle.avr_cli.specs.declared.settings.SettingsFault.TheVariants.{Memory}
 use Rattle.avr_desk.specs.Record.{DeskView, Bytes}
 use Rattle.avr_desk.specs.Said.{Tells}
+use Rattle.avr_net.specs.Sockets.{Peers}
 use Rattle.avr_session.specs.Refusal.{refusal_line}
 use Rattle.avr_tool.specs.Asked.{Asks}
 use Rattle.avr_tool.specs.Program.{LeavesWords, RunsWords}
 use Rattle.avr_tool.specs.declared.asking.NotAsked.TheVariants.{Words}
 use Rattle.stk_host.specs.Talk.{LinkView}
 
-pub untaken : (to : Bytes → LinkView → Type 0) (at : ℕ → LinkView → Type 0) (words : List Bytes) (link : LinkView) (old mid new : DeskView) (error : Error) (result : Result ℕ Error)
+pub untaken : (peers : Peers) (words : List Bytes)
+    (link : LinkView) (old mid new : DeskView) (error : Error) (result : Result ℕ Error)
     → Asks words old mid (Err (Words error)) → LeavesWords error mid new result
-    → RunsWords to at words link link old new result
-untaken to at words link old mid new error (Ok status) asks leaves = inr (record {
+    → RunsWords peers words link link old new result
+untaken peers words link old mid new error (Ok status) asks leaves = inr (record {
   why = inr (subst (λ (d : DeskView). Tells d new (refusal_line Memory)) asks.2 leaves.1);
   untouched = refl;
   status_is = leaves.2;
 })
-untaken to at words link old mid new error (Err left) asks leaves = record {
+untaken peers words link old mid new error (Err left) asks leaves = record {
   kind = subst (λ (e : Error). HasKind (fault_of avrstk words) e) (sym leaves.1) asks.0;
   not_memory = subst (λ (e : Error). kind_of e ≡ OutOfMemory → ⊥) (sym leaves.1) leaves.0;
   not_taken = λ taken. leaves.0 (asks.1 taken);

@@ -1,9 +1,8 @@
-use Rattle.avr_desk.proofs.Desks.Handles.{none_kept_true}
-use Rattle.avr_desk.proofs.Desks.TwoWriters.{true_now}
+use Rattle.avr_desk.proofs.Desks.TwoWriters.{none_kept_true, true_now}
 use Rattle.avr_desk.proofs.laws.what_a_desk_of_a_program_keeps_is_true.Goals as goal
 
 pub returns-clause-since : goal.returns-clause-since
-returns-clause-since g c = c.requires c.args.before.now (true_now g.R.FileSystem g.R.File.Read g.R.File.Write g.R.Reader.Read g.O.Write g.E.Write c.args.before.now)
+returns-clause-since g c = c.requires c.args.before.now (true_now _ _ _ _ _ _ c.args.before.now)
 
 pub returns-clause-begins : goal.returns-clause-begins
 returns-clause-begins g c = none_kept_true g.R.FileSystem g.R.File.Read g.R.File.Write g.R.Reader.Read

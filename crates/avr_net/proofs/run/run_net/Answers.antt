@@ -14,14 +14,14 @@ returns-clause-runs g c = inl (
     talk = c.drive.new.link.talk;
     link_failures = c.drive.new.link.failures;
     made = rw c.in-Ok.is at c.plan.ensures.goes;
-    runs = rw c.in-Ok-connect.ensures.fresh at (rw c.in-Ok-connect.ensures.quiet at c.drive.ensures.runs);
+    runs = rw c.in-Ok-connect.ensures.new.fresh at (rw c.in-Ok-connect.ensures.new.quiet at c.drive.ensures.runs);
   },
   record {
     before = c.in-Ok-connect.link;
     after = c.drive.new.link;
-    new = c.in-Ok-connect.ensures;
+    new = c.in-Ok-connect.ensures.new;
     shows = refl;
     truly = c.drive.ensures.comes c.in-Ok-connect.link
-        (true_now g.R.Stream.Read.remaining g.R.Stream.Write.contents c.in-Ok-connect.link);
+        (true_now g.N.Stream.Read.remaining g.N.Stream.Write.contents c.in-Ok-connect.link);
   },
 )

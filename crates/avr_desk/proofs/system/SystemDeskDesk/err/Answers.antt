@@ -1,6 +1,6 @@
-use Rattle.std.proofs.Common.{ap, refl, subst}
+use Rattle.std.proofs.Common.{ap, subst}
 use Rattle.avr_desk.proofs.Desks.Writers.{took_prefix}
-use Rattle.avr_desk.proofs.Desks.TwoWriters.{err_true, from_inside}
+use Rattle.avr_desk.proofs.Desks.TwoWriters.{from_inside, err_true}
 use Rattle.avr_desk.specs.Shown.{AppendsPrefix}
 use Rattle.avr_desk.proofs.system.SystemDeskDesk.err.Goals as goal
 
@@ -12,15 +12,9 @@ returns-in-Err-clause-messages g c = subst
     c.in-Err.ensures.taken.0 c.args.bytes.now c.in-Err.ensures.taken.2.1)
 
 pub returns-in-Err-clause-stays : goal.returns-in-Err-clause-stays
-returns-in-Err-clause-stays g c =
-    from_inside g.R.FileSystem g.R.File.Read g.R.File.Write g.R.Reader.Read g.O.Write g.E.Write _ _ _ c.self.view_is
-    (err_true g.R.FileSystem g.R.File.Read g.R.File.Write g.R.Reader.Read g.O.Write g.E.Write _ _ _ _ refl refl refl
-    c.write_through.ensures.taken)
+returns-in-Err-clause-stays g c = from_inside _ _ _ _ _ _ c.self.view_is
+    (err_true _ _ _ _ _ _ _ c.in-Err.ensures.taken.2.0 c.in-Err.ensures.taken.2.1)
 
 pub returns-in-Ok-clause-stays : goal.returns-in-Ok-clause-stays
-returns-in-Ok-clause-stays g c =
-    from_inside g.R.FileSystem g.R.File.Read g.R.File.Write g.R.Reader.Read
-    g.O.Write g.E.Write _ _ _ c.self.view_is
-    (err_true g.R.FileSystem g.R.File.Read g.R.File.Write g.R.Reader.Read
-    g.O.Write g.E.Write _ _ _ _ refl refl refl
-    c.write_through.ensures.taken)
+returns-in-Ok-clause-stays g c = from_inside _ _ _ _ _ _ c.self.view_is
+    (err_true _ _ _ _ _ _ _ c.in-Ok.ensures.taken.0 c.in-Ok.ensures.taken.1)

@@ -6,18 +6,10 @@ use Rattle.avr_desk.proofs.system.SystemDeskDesk.replace.Goals as goal
 pub returns-in-Ok-clause-stays : goal.returns-in-Ok-clause-stays
 returns-in-Ok-clause-stays g c =
     let left = c.self-in-Ok.view_is ∙ c.leave_replacement.ensures in
-    from_inside g.R.FileSystem g.R.File.Read g.R.File.Write g.R.Reader.Read
-    g.O.Write g.E.Write _ _ _ c.self.view_is
-    (replace_true g.R.FileSystem g.R.File.Read g.R.File.Write g.R.Reader.Read
-    g.O.Write g.E.Write c.args.name.now _ c.args.bytes.now _ _
-    c.as_bytes.ensures.value (ap (λ d. d.output) left) (ap (λ d. d.messages) left)
-    (c.then-self-inside.ensures ∙ ap (λ d. with_replaced c.as_bytes.result.now c.args.bytes.now d.kept) left) refl
-    (ap (λ d. d.hold) left) c.in-Ok.ensures.put)
+    from_inside _ _ _ _ _ _ c.self.view_is (replace_true _ _ _ _ _ _ c.as_bytes.ensures.value (ap (λ d. d.output) left)
+    (ap (λ d. d.messages) left) (ap (λ d. d.hold) left) refl
+    (c.then-self-inside.ensures ∙ ap (λ d. with_replaced c.as_bytes.result.now c.args.bytes.now d.kept) left)
+    c.in-Ok.ensures.put)
 
 pub returns-in-Err-clause-stays : goal.returns-in-Err-clause-stays
-returns-in-Err-clause-stays g c =
-    from_inside g.R.FileSystem g.R.File.Read g.R.File.Write g.R.Reader.Read
-    g.O.Write g.E.Write _ _ _ c.self.view_is
-    (unreplaced_true g.R.FileSystem g.R.File.Read g.R.File.Write g.R.Reader.Read
-    g.O.Write g.E.Write _ _ refl refl refl refl
-    c.replace_named.ensures.stays)
+returns-in-Err-clause-stays g c = from_inside _ _ _ _ _ _ c.self.view_is (unreplaced_true _ _ _ _ _ _ c.replace_named.ensures.stays)

@@ -1,4 +1,4 @@
-use Rattle.std.proofs.Common.{ap, refl, subst}
+use Rattle.std.proofs.Common.{ap, subst}
 use Rattle.avr_desk.proofs.Desks.Writers.{took_prefix}
 use Rattle.avr_desk.proofs.Desks.TwoWriters.{from_inside, write_out_true, write_true}
 use Rattle.avr_desk.specs.Shown.{AppendsPrefix}
@@ -12,21 +12,13 @@ returns-in-Err-write_through-clause-output g c =
     c.in-Err-write_through.ensures.taken.0 c.args.bytes.now c.in-Err-write_through.ensures.taken.2.1)
 
 pub returns-in-Ok-write_through-clause-stays : goal.returns-in-Ok-write_through-clause-stays
-returns-in-Ok-write_through-clause-stays g c =
-    from_inside g.R.FileSystem g.R.File.Read g.R.File.Write g.R.Reader.Read g.O.Write g.E.Write _ _ _ c.self.view_is
-    (write_out_true g.R.FileSystem g.R.File.Read g.R.File.Write g.R.Reader.Read g.O.Write g.E.Write _ _ _ _ refl refl c.in-Output.is c.in-Output.is
-    c.write_through.ensures.taken)
+returns-in-Ok-write_through-clause-stays g c = from_inside _ _ _ _ _ _ c.self.view_is
+    (write_out_true _ _ _ _ _ _ _ c.in-Output.is c.in-Ok-write_through.ensures.taken.0)
 
 pub returns-in-Err-write_through-clause-stays : goal.returns-in-Err-write_through-clause-stays
-returns-in-Err-write_through-clause-stays g c =
-    from_inside g.R.FileSystem g.R.File.Read g.R.File.Write g.R.Reader.Read g.O.Write g.E.Write _ _ _ c.self.view_is
-    (write_out_true g.R.FileSystem g.R.File.Read g.R.File.Write g.R.Reader.Read g.O.Write g.E.Write _ _ _ _ refl refl c.in-Output.is c.in-Output.is
-    c.write_through.ensures.taken)
+returns-in-Err-write_through-clause-stays g c = from_inside _ _ _ _ _ _ c.self.view_is
+    (write_out_true _ _ _ _ _ _ _ c.in-Output.is c.in-Err-write_through.ensures.taken.2.0)
 
 pub returns-in-Ok-clause-stays : goal.returns-in-Ok-clause-stays
-returns-in-Ok-clause-stays g c =
-    from_inside g.R.FileSystem g.R.File.Read g.R.File.Write g.R.Reader.Read
-    g.O.Write g.E.Write _ _ _ c.self.view_is
-    (write_true g.R.FileSystem g.R.File.Read g.R.File.Write g.R.Reader.Read
-    g.O.Write g.E.Write _ _ _ _ _ refl refl refl
-    c.then-self-inside.ensures c.in-ToWrite.is refl c.in-Ok.ensures.ok)
+returns-in-Ok-clause-stays g c = from_inside _ _ _ _ _ _ c.self.view_is
+    (write_true _ _ _ _ _ _ _ c.in-ToWrite.is c.in-Ok.ensures.ok c.then-self-inside.ensures)
