@@ -66,8 +66,8 @@ IsHeldBy system hold name = ⊥
 
 -- All that the record says of files and of standard input is what the system answered, of the names that it was asked
 -- for.
-pub record AreTrue {S F H I : Type 0} (system : Ghosts S F H) (reads : Reads F) (writes : Writes F) (input : Reads I)
-    (opened : Held F I) (hold : Option H) (kept : Record) : Type 0 where
+pub record IsTrueRecord {S F H I : Type 0} (system : Ghosts S F H) (reads : Reads F) (writes : Writes F)
+    (input : Reads I) (opened : Held F I) (hold : Option H) (kept : Record) : Type 0 where
   pub uses : All (IsTrueUse system reads writes input) kept.uses
   pub current : IsTrueOpen system reads writes input opened kept.current
   pub denied : All system.denies kept.denied

@@ -5,7 +5,7 @@ use Rattle.std.specs.List.{list_any}
 use Rattle.std.specs.declared.io.ErrorKind.{ErrorKind}
 use Rattle.std.specs.declared.io.Read.{Ghosts as Reads}
 use Rattle.std.specs.declared.io.Write.{Ghosts as Writes}
-use Rattle.avr_desk.specs.Handles.{AreTrue}
+use Rattle.avr_desk.specs.Handles.{IsTrueRecord}
 use Rattle.avr_desk.specs.Named.{is_dash}
 use Rattle.avr_desk.specs.Record.{Bytes, Record, DeskView, all_files, showing}
 use Rattle.avr_desk.specs.Standing.{is_output}
@@ -95,5 +95,5 @@ pub record IsTrueSince {S F H I O E : Type 0} (system : Ghosts S F H) (reads : R
   pub dashes : has_dash (all_files new.kept) ≡ false → has_dash (all_files old.kept) ≡ false
   pub out : has_dash (all_files new.kept) ≡ false → to_output old ≡ false
       → (to_output new ≡ false) × Appends (output_of.contents old.output) (output_of.contents new.output) put
-  pub files : AreTrue system reads writes input old.opened old.hold old.kept
-      → AreTrue system reads writes input new.opened new.hold new.kept
+  pub files : IsTrueRecord system reads writes input old.opened old.hold old.kept
+      → IsTrueRecord system reads writes input new.opened new.hold new.kept

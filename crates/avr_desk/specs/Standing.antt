@@ -32,15 +32,15 @@ pub record GivesBytes {H : Type 0} (reads : Reads H) (old new : H) (buf : Bytes)
   pub ends : n ≡ 0 → 0 < length buf → IsAtEnd (reads.remaining new)
 
 -- what is open gave them
-abbrev pub Gives : {F I : Type 0} → Reads F → Reads I → Held F I → Held F I → Bytes → ℕ → Type 0
-Gives {I = I} reads input (Input old) new buf n = (now : I) × (new ≡ Input now) × GivesBytes input old now buf n
-Gives {F = F} reads input (ToRead old) new buf n = (now : F) × (new ≡ ToRead now) × GivesBytes reads old now buf n
-Gives reads input old new buf n = ⊥
+abbrev pub HeldGives : {F I : Type 0} → Reads F → Reads I → Held F I → Held F I → Bytes → ℕ → Type 0
+HeldGives {I = I} reads input (Input old) new buf n = (now : I) × (new ≡ Input now) × GivesBytes input old now buf n
+HeldGives {F = F} reads input (ToRead old) new buf n = (now : F) × (new ≡ ToRead now) × GivesBytes reads old now buf n
+HeldGives reads input old new buf n = ⊥
 
 -- it gave none, and is open still
-abbrev pub GivesNone : {F I : Type 0} → Reads F → Reads I → Held F I → Held F I → Type 0
-GivesNone {I = I} reads input (Input old) new =
+abbrev pub HeldGivesNone : {F I : Type 0} → Reads F → Reads I → Held F I → Held F I → Type 0
+HeldGivesNone {I = I} reads input (Input old) new =
     (now : I) × (new ≡ Input now) × Keeps (input.remaining old) (input.remaining now)
-GivesNone {F = F} reads input (ToRead old) new =
+HeldGivesNone {F = F} reads input (ToRead old) new =
     (now : F) × (new ≡ ToRead now) × Keeps (reads.remaining old) (reads.remaining now)
-GivesNone reads input old new = new ≡ old
+HeldGivesNone reads input old new = new ≡ old

@@ -9,8 +9,8 @@ use std::io::{ErrorKind, Read, Write};
 use std::rt::Files;
 use std::{fs, io};
 
-/// Opens, creates and replaces the files of a system by their names. Only a call here can say what the ghost members say
-/// of a file or a name. So a desk over any such system can record of a name only what the system answered of that name.
+/// Opens, creates and replaces the files of a system by their names. Only a call here can say what the ghost members
+/// say of a file or a name. So a desk over any such system can record of a name only what the system answered of it.
 ///
 /// A runtime with the system's files is a `FileSystem`. Tests show that it does with a name what it was asked.
 pub trait FileSystem {
@@ -44,8 +44,8 @@ pub trait FileSystem {
     fn create_named(&self, name: &str) -> io::Result<Self::File>
         ensures named { IfOk result (λ file. is_of file name.now) };
 
-    /// Locks the file of this name, which is to be replaced. Returns none if another process has locked it. The error is
-    /// the system's.
+    /// Locks the file of this name, which is to be replaced. Returns none if another process has locked it. The error
+    /// is the system's.
     fn hold_named(&self, name: &str) -> io::Result<Option<Self::Hold>>
         ensures held { IfOk result (λ answer. MatchOption answer (denies name.now) (λ hold. holds hold name.now)) };
 

@@ -1,11 +1,11 @@
 //! Laws of what desks keep, over their definitions alone.
 ghost use Rattle.std.specs.Prelude.{◌≡◌, [], None};
 ghost use Rattle.ghosts.specs.Stays.{Stays};
-ghost use Rattle.avr_desk.specs.Handles.{AreTrue};
+ghost use Rattle.avr_desk.specs.Handles.{IsTrueRecord};
 ghost use Rattle.avr_desk.specs.Memory.{MemDeskState, Stock, stock_of};
 ghost use Rattle.avr_desk.specs.Record.{all_uses, nothing_kept};
 ghost use Rattle.avr_desk.specs.Shown.{IsTrueSince};
-ghost use Rattle.avr_desk.specs.Truth.{AreTrue as AreTrueOf, HoldsTrue};
+ghost use Rattle.avr_desk.specs.Truth.{AreTrue, HoldsTrue};
 ghost use Rattle.avr_desk.specs.declared.system.Held.TheVariants.{Nothing};
 
 use crate::file_system::FileSystem;
@@ -23,7 +23,7 @@ pub fn what_a_desk_in_memory_gives_is_true(before: &MemDesk, after: &MemDesk)
     ensures begins { (fresh : MemDeskState) → fresh.kept ≡ nothing_kept
         → HoldsTrue (stock_of fresh) fresh }
     ensures gives { (stock : Stock) → HoldsTrue stock before.now
-        → AreTrueOf stock [] (all_uses after.now.kept) }
+        → AreTrue stock [] (all_uses after.now.kept) }
 {}
 
 /// Whatever was done with the desk of a program, its record is true. Of its writers: their bytes, where they are known,
@@ -39,5 +39,5 @@ pub fn what_a_desk_of_a_program_keeps_is_true<
         before.now after.now }
     ensures since { IsTrueSince R.FileSystem R.File.Read R.File.Write R.Reader.Read O.Write E.Write
         before.now after.now }
-    ensures begins { AreTrue R.FileSystem R.File.Read R.File.Write R.Reader.Read Nothing None nothing_kept }
+    ensures begins { IsTrueRecord R.FileSystem R.File.Read R.File.Write R.Reader.Read Nothing None nothing_kept }
 {}

@@ -7,7 +7,7 @@ ghost use Rattle.ghosts.specs.Stays.{Stays};
 ghost use Rattle.avr_desk.specs.Fault.{Counts, WriteCounts};
 ghost use Rattle.avr_desk.specs.Record.{HasOpen, Passes, after_open, after_create, after_hold, after_read, after_replace, released, is_to_read, is_to_write, nothing_kept};
 ghost use Rattle.avr_desk.specs.Shown.{AppendsTaken, IsTrueSince, KeepsError, Shown, TakesTruly, shown_view, to_output, to_output_opened, to_output_created, to_output_replaced};
-ghost use Rattle.avr_desk.specs.Standing.{Gives, GivesNone};
+ghost use Rattle.avr_desk.specs.Standing.{HeldGives, HeldGivesNone};
 ghost use Rattle.avr_desk.specs.Stream.{SendsTaken};
 ghost use Rattle.avr_desk.specs.declared.desk.DeskFault.TheVariants.{Failed};
 ghost use Rattle.avr_desk.specs.declared.stream.Stream.TheVariants.{File, Output, Messages};
@@ -96,8 +96,8 @@ fn read_some<I: Read>(from: &mut I, buf: &mut [u8]) -> io::Result<usize>
 /// Reads what is open.
 fn read_held<F: Read, I: Read>(held: &mut Held<F, I>, buf: &mut [u8]) -> io::Result<usize>
     ensures bound { IfOk result (λ n. n ≤ length buf.new) }
-    ensures ok { IfOk result (λ n. Gives F.Read I.Read held.old held.new buf.new n) }
-    ensures err { OnErr result (GivesNone F.Read I.Read held.old held.new) }
+    ensures ok { IfOk result (λ n. HeldGives F.Read I.Read held.old held.new buf.new n) }
+    ensures err { OnErr result (HeldGivesNone F.Read I.Read held.old held.new) }
 {
     match held {
         Held::Input(input) => read_some(input, buf),

@@ -25,8 +25,7 @@ use Rattle.avr_tool.specs.Texts.{PrintsText, ReportsText}
 use Rattle.stk_host.specs.Talk.{LinkView}
 
 -- The port of the settings decides: standard input and output, between `before` and `after`; the emulator over a chip
--- file; a connection to the address; or a service at the port, of which nothing but the chip file, the port and the part
--- are looked at.
+-- file; a connection to the address; or a service at the port, which looks at the chip file, port and part alone.
 abbrev pub RunsPort : Peers → Port → Settings → LinkView → LinkView → DeskView → DeskView → ℕ → Type 0
 RunsPort peers Stdio settings before after old new status =
     IsRun settings (devices before old) (devices after new) status

@@ -29,8 +29,8 @@ fn run_port<N: Network + Drop, D: Desk, R: Read + Drop, W: Write + Drop>(
     desk: &mut D,
     link: &mut StreamLink<R, W>,
 ) -> u8
-    ensures runs { RunsPort (peers_of N.Network N.Listener.Callers N.Stream.Read N.Stream.Write) settings.now.port settings.now
-        (stream_view link.old) (stream_view link.new) (D.view desk.old) (D.view desk.new) result }
+    ensures runs { RunsPort (peers_of N.Network N.Listener.Callers N.Stream.Read N.Stream.Write) settings.now.port
+        settings.now (stream_view link.old) (stream_view link.new) (D.view desk.old) (D.view desk.new) result }
     ensures tells { IsTrueSince R.remaining W.contents link.old link.new }
     ensures stays { Stays D.comes_of desk.old desk.new }
 {
@@ -78,8 +78,9 @@ pub fn run_words<N: Network + Drop, D: Desk, R: Read + Drop, W: Write + Drop>(
     desk: &mut D,
     link: &mut StreamLink<R, W>,
 ) -> Result<u8, Error>
-    ensures runs { RunsWords (peers_of N.Network N.Listener.Callers N.Stream.Read N.Stream.Write) (map string_bytes words.now)
-        (stream_view link.old) (stream_view link.new) (D.view desk.old) (D.view desk.new) result }
+    ensures runs { RunsWords (peers_of N.Network N.Listener.Callers N.Stream.Read N.Stream.Write)
+        (map string_bytes words.now) (stream_view link.old) (stream_view link.new) (D.view desk.old)
+        (D.view desk.new) result }
     ensures tells { IsTrueSince R.remaining W.contents link.old link.new }
     ensures stays { Stays D.comes_of desk.old desk.new }
 {
@@ -130,8 +131,9 @@ pub fn run_program<N: Network + Drop, D: Desk, R: Read + Drop, W: Write + Drop>(
     desk: &mut D,
     link: &mut StreamLink<R, W>,
 ) -> u8
-    ensures runs { RunsProgram (peers_of N.Network N.Listener.Callers N.Stream.Read N.Stream.Write) (map string_bytes words.now)
-        (stream_view link.old) (stream_view link.new) (D.view desk.old) (D.view desk.new) result }
+    ensures runs { RunsProgram (peers_of N.Network N.Listener.Callers N.Stream.Read N.Stream.Write)
+        (map string_bytes words.now) (stream_view link.old) (stream_view link.new) (D.view desk.old)
+        (D.view desk.new) result }
     ensures tells { IsTrueSince R.remaining W.contents link.old link.new }
     ensures stays { Stays D.comes_of desk.old desk.new }
 {

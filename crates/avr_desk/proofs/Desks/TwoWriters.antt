@@ -14,8 +14,8 @@ use Rattle.ghosts.specs.Stays.{Stays}
 use Rattle.avr_desk.specs.Record.{Bytes, Record, all_files, all_uses, file_of, files_among, is_nil, noted, nothing_kept, read_on, use_of, written_on, with_absent, with_open, with_replaced, after_write}
 use Rattle.avr_desk.specs.Named.{is_dash}
 use Rattle.avr_desk.proofs.FileUses.Uses.{files_absent, files_opened, files_replaced}
-use Rattle.avr_desk.specs.Handles.{AreTrue, HasGiven, IsHeldBy, IsTrueOpen, IsTrueUse}
-use Rattle.avr_desk.specs.Standing.{Gives, GivesBytes, GivesNone, is_output}
+use Rattle.avr_desk.specs.Handles.{IsTrueRecord, HasGiven, IsHeldBy, IsTrueOpen, IsTrueUse}
+use Rattle.avr_desk.specs.Standing.{HeldGives, GivesBytes, HeldGivesNone, is_output}
 use Rattle.avr_desk.specs.Shown.{Shown, IsTrueSince, has_dash, to_output}
 use Rattle.avr_desk.specs.declared.file_system.FileSystem.{Ghosts}
 use Rattle.avr_desk.specs.declared.record.FileUse.{FileUse}
@@ -132,7 +132,7 @@ module _ {S F H I O E : Type 0} (system : Ghosts S F H) (reads : Reads F) (write
   TrueUse = IsTrueUse system reads writes input
 
   abbrev Files : Held F I → Option H → Record → Type 0
-  Files = AreTrue system reads writes input
+  Files = IsTrueRecord system reads writes input
 
   -- what is open is a use too
   of_open : (opened : Held F I) (o : Open) → TrueOpen opened o → All TrueUse (use_of o)
@@ -321,7 +321,7 @@ module _ {S F H I O E : Type 0} (system : Ghosts S F H) (reads : Reads F) (write
       })
 
   -- bytes were read of what is open
-  read_on_open : (old new : Held F I) (buf : Bytes) (n : ℕ) (o : Open) → Gives reads input old new buf n
+  read_on_open : (old new : Held F I) (buf : Bytes) (n : ℕ) (o : Open) → HeldGives reads input old new buf n
       → TrueOpen old o → TrueOpen new (read_on buf n o)
   read_on_open (held.Input i) new buf n o (now, is, gives) (x, same, (dash, first, given)) =
       rw is (_, ap (read_on buf n) same, (dash, first, given_more input first i now x buf n given gives))
@@ -333,7 +333,7 @@ module _ {S F H I O E : Type 0} (system : Ghosts S F H) (reads : Reads F) (write
 
   pub read_true : {b : Desk} {f u : ℕ} {e : Option ErrorKind} {o : Held F I} {k : Record} (buf : Bytes) (n : ℕ)
       → k ≡ record b.kept { current = read_on buf n b.kept.current } → is_output o ≡ is_output b.opened
-      → Gives reads input b.opened o buf n → Since b (Next b f u e o b.hold k)
+      → HeldGives reads input b.opened o buf n → Since b (Next b f u e o b.hold k)
   read_true {b = b} {o = o} buf n kept same gives =
       let now : Record = record b.kept { current = read_on buf n b.kept.current } in
       let files : has_dash (all_files now) ≡ has_dash (all_files b.kept) =
@@ -347,7 +347,7 @@ module _ {S F H I O E : Type 0} (system : Ghosts S F H) (reads : Reads F) (write
       }))
 
   -- or none were
-  kept_open : (old new : Held F I) (o : Open) → GivesNone reads input old new → TrueOpen old o → TrueOpen new o
+  kept_open : (old new : Held F I) (o : Open) → HeldGivesNone reads input old new → TrueOpen old o → TrueOpen new o
   kept_open (held.Input i) new o (now, is, kept) (x, same, (dash, first, given)) =
       rw is (x, same, (dash, first, given_kept input first i now x given kept))
   kept_open (held.ToRead h) new o (now, is, kept) (x, same, (first, named, given)) =
@@ -357,7 +357,7 @@ module _ {S F H I O E : Type 0} (system : Ghosts S F H) (reads : Reads F) (write
   kept_open held.Output new o same was = rw same was
 
   pub unread_true : {b : Desk} {f u : ℕ} {e : Option ErrorKind} {o : Held F I} → is_output o ≡ is_output b.opened
-      → GivesNone reads input b.opened o → Since b (Next b f u e o b.hold b.kept)
+      → HeldGivesNone reads input b.opened o → Since b (Next b f u e o b.hold b.kept)
   unread_true {b = b} {o = o} same none =
       quiet refl refl (λ none. none) (λ none was. same ∙ was)
       (λ are. record {
@@ -457,7 +457,7 @@ module _ {S F H I O E : Type 0} (system : Ghosts S F H) (reads : Reads F) (write
 -- ---- a new desk
 
 module _ {S F H I : Type 0} (system : Ghosts S F H) (reads : Reads F) (writes : Writes F) (input : Reads I) where
-  pub none_kept_true : AreTrue system reads writes input held.Nothing None nothing_kept
+  pub none_kept_true : IsTrueRecord system reads writes input held.Nothing None nothing_kept
   none_kept_true = record {
     uses = All-nil (IsTrueUse system reads writes input);
     current = refl;
