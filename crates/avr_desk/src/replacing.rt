@@ -3,8 +3,8 @@
 //! The new file is made beside the one that it replaces, under its name with `.avrstk-new`. The program that has locked
 //! the new file holds the old one, until the new one is renamed or removed; where a program ends the system unlocks it.
 //!
-//! A new file is empty until its bytes are written, and has a mark while they are. So what is neither was not made here,
-//! and is left alone.
+//! A new file is empty until its bytes are written, and has a mark while they are. So what is neither was not made
+//! here, and is left alone.
 ghost use Rattle.std.specs.Prelude.{Option, OnOk};
 ghost use Rattle.avr_desk.specs.Handles.{IsHeldBy};
 ghost use Rattle.avr_desk.specs.Record.{Bytes};
@@ -238,8 +238,8 @@ impl NewFile {
         self.file.sync_all()
     }
 
-    /// Puts a file of these bytes in place, and waits until it is on the disk under its name. Nothing is put in place if
-    /// another program wrote to the file, or if it is no longer the one of its path.
+    /// Puts a file of these bytes in place, and waits until it is on the disk under its name. Nothing is put in place
+    /// if another program wrote to the file, or if it is no longer the one of its path.
     fn put<R: Files<File = File>>(&mut self, rt: &R, bytes: &[u8]) -> io::Result<()> {
         if !self.is_own()? {
             return Err(not_ours());
