@@ -6,6 +6,8 @@
 //! take from here.
 #![tactic(auto)]
 
+mod inlet;
 mod outlet;
 
+pub use inlet::Inlet;
 pub use outlet::Outlet;

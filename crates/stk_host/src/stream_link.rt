@@ -5,11 +5,12 @@ ghost use Rattle.std.specs.Io.{ReadsAtMost, WritesAtMost};
 ghost use Rattle.std.specs.Io.KnownBytes.{Keeps, Appends, Consumes, IsAtEnd};
 ghost use Rattle.ghosts.specs.Stays.{Stays};
 ghost use Rattle.stk_host.specs.Talk.{Sends, Receives, FitsBuffer};
+ghost use Rattle.stk_host.specs.declared.link.Heard.TheVariants.{Silence};
 ghost use Rattle.stk_host.specs.Links.{StreamState, IsTrueSince, stream_view, HearsKnown, AppendsPrefix, IsOfListening};
 
 use crate::history::History;
 use crate::link::{Heard, Link, LinkFault};
-use ghosts::Outlet;
+use ghosts::{Inlet, Outlet};
 use std::io::{ErrorKind, Read, Write};
 use std::marker::Model;
 use std::{fmt, io};
@@ -52,15 +53,17 @@ impl<R, W> Model for StreamLink<R, W> {
 }
 
 /// Reads, and again where that was interrupted.
-fn read_bytes<R: Read>(reader: &mut R, buffer: &mut [u8]) -> io::Result<usize>
+fn read_bytes<R: Inlet>(reader: &mut R, buffer: &mut [u8]) -> io::Result<usize>
     ensures bound { ReadsAtMost result buffer.new }
     ensures ok { IfOk result (λ n. Consumes (R.remaining reader.old) (R.remaining reader.new) (take n buffer.new)) }
     ensures end { IfOk result (λ n. n ≡ 0 → 0 < length buffer.old → IsAtEnd (R.remaining reader.new)) }
     ensures err { OnErr result (Keeps (R.remaining reader.old) (R.remaining reader.new)) }
     ensures again { IfErr result (λ error. error_kind error ≢ ErrorKind.Interrupted) }
+    ensures blocked { IfErr result (λ error. error_kind error ≡ ErrorKind.WouldBlock → R.is_silent reader.new) }
+    ensures timed { IfErr result (λ error. error_kind error ≡ ErrorKind.TimedOut → R.is_silent reader.new) }
 {
     for _ in 0..u64::MAX {
-        match reader.read(buffer) {
+        match reader.read_in(buffer) {
             Ok(count) => return Ok(count),
             Err(error) if error.kind() == ErrorKind::Interrupted => {}
             Err(error) => return Err(error),
@@ -103,11 +106,12 @@ fn put_bytes<W: Outlet>(writer: &mut W, bytes: &[u8]) -> io::Result<usize>
 }
 
 /// Listens to a reader.
-fn hear_bytes<R: Read>(reader: &mut R, buffer: &mut [u8]) -> io::Result<Heard>
+fn hear_bytes<R: Inlet>(reader: &mut R, buffer: &mut [u8]) -> io::Result<Heard>
     requires { 0 < length buffer.old }
     ensures within { IfOk result (λ heard. FitsBuffer heard (length buffer.new)) }
     ensures ok { IfOk result (λ heard. HearsKnown heard buffer.new (R.remaining reader.old) (R.remaining reader.new)) }
     ensures err { OnErr result (Keeps (R.remaining reader.old) (R.remaining reader.new)) }
+    ensures silent { IfOk result (λ heard. heard ≡ Silence → R.is_silent reader.new) }
     ensures fault { IfErr result (λ error. IsOfListening (Some (error_kind error))) }
 {
     match read_bytes(reader, buffer) {
@@ -188,7 +192,7 @@ impl<R, W> StreamLink<R, W> {
     }
 }
 
-impl<R: Read + Drop, W: Outlet + Drop> Link for StreamLink<R, W> {
+impl<R: Inlet + Drop, W: Outlet + Drop> Link for StreamLink<R, W> {
     ghost view = { stream_view };
 
     ghost Start = { StreamState R W };
@@ -231,6 +235,8 @@ impl<R: Read + Drop, W: Outlet + Drop> Link for StreamLink<R, W> {
         // The bytes heard are the reader's next ones, none is lost, and an end comes only after the last.
         ensures read { IfOk result (λ heard. HearsKnown heard buffer.new (R.remaining self.old.reader)
             (R.remaining self.new.reader)) }
+        // It was silent only where a read timed out.
+        ensures silent { IfOk result (λ heard. heard ≡ Silence → R.is_silent self.new.reader) }
         ensures kept { OnErr result (Keeps (R.remaining self.old.reader) (R.remaining self.new.reader)) }
         ensures writer { self.new.writer ≡ self.old.writer }
         // A failure has an error, which is no silence, and a success leaves the last one.

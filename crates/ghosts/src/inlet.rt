@@ -1,0 +1,32 @@
+//! Readers that wait.
+ghost use Rattle.std.specs.Prelude.{◌≡◌, ⊤, IfErr};
+ghost use Rattle.std.specs.Io.{ReadsAtMost};
+ghost use Rattle.std.specs.Io.KnownBytes.{ReadConsumes};
+ghost use Rattle.std.specs.IoError.{error_kind};
+
+use std::io;
+use std::io::{ErrorKind, Read};
+
+/// A reader, of which a call can promise that it timed out: only a read here that failed so can say what the ghost member
+/// says of a reader.
+///
+/// Every reader is an `Inlet`. Tests show which faults of the system's own readers are timeouts.
+pub trait Inlet: Read {
+    /// A read of it has just timed out, or would have blocked.
+    ghost is_silent: { Self → Type 0 };
+
+    /// Reads as [`Read::read`] does. The error is the reader's.
+    fn read_in(&mut self, buf: &mut [u8]) -> io::Result<usize>
+        ensures bound { ReadsAtMost result buf.new }
+        ensures bytes { ReadConsumes (Self.remaining self.old) (Self.remaining self.new) result buf.new }
+        ensures blocked { IfErr result (λ error. error_kind error ≡ ErrorKind.WouldBlock → is_silent self.new) }
+        ensures timed { IfErr result (λ error. error_kind error ≡ ErrorKind.TimedOut → is_silent self.new) };
+}
+
+impl<R: Read> Inlet for R {
+    ghost is_silent = { λ reader. ⊤ };
+
+    fn read_in(&mut self, buf: &mut [u8]) -> io::Result<usize> {
+        self.read(buf)
+    }
+}
