@@ -123,7 +123,7 @@ fn a_bad_cursor_is_told(rt: HostRuntime) -> Result<(), Fail> {
 
 #[test]
 fn a_length_is_told(rt: HostRuntime) -> Result<(), Fail> {
-    let told = avr_records_length(rt.alloc(), 2, &[0xFF, 0x0A, 0x0B], &[0b110]);
+    let told = avr_records_length(2, &[0xFF, 0x0A, 0x0B], &[0b110]);
     assert_eq!(rt;
         told,
         Piece {
@@ -131,7 +131,7 @@ fn a_length_is_told(rt: HostRuntime) -> Result<(), Fail> {
             fault: 0
         }
     );
-    let told = avr_records_length(rt.alloc(), 3, &[], &[]);
+    let told = avr_records_length(3, &[], &[]);
     assert_eq!(rt;
         told,
         Piece {
