@@ -172,6 +172,24 @@ def callers_are_odd():
         same("a port that is taken", room.run(words), (1, b"", lines(f"error: port {port} cannot be opened")))
 
 
+def a_second_caller():
+    """Who calls while another one is served is refused at once, and the other one is served on."""
+    room.clear()
+    with Server(room) as server, server.call() as first:
+        first.sendall(FRAMES[0])
+        see("the first caller is answered", first.recv(1) == b"\x1b")
+        try:
+            with server.call():
+                see("a second caller is refused", False, "a connection")
+        except ConnectionRefusedError:
+            see("a second caller is refused", True)
+        first.sendall(FRAMES[-1])
+        first.shutdown(socket.SHUT_WR)
+        answered = b"".join(iter(lambda: first.recv(4096), b""))
+        see("the first one is served on", answered[-8:-6] == bytes.fromhex("1B06"), answered.hex(" "))
+        same("how serving ends", server.end(), (0, b"", b""))
+
+
 def served(sent, resets=False):
     """The status and messages of a server whose caller sends this, and what the caller was answered."""
     answered = b""
@@ -212,7 +230,7 @@ def exchanged(caller, sent):
 
 CASES = named(
     *(output_fails, input_fails, descriptors_are_closed, closed_streams_stay_closed, files_fail, answers_are_cut),
-    *(lines_are_bad, callers_are_odd),
+    *(lines_are_bad, callers_are_odd, a_second_caller),
 )
 
 if __name__ == "__main__":

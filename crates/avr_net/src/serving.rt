@@ -38,6 +38,29 @@ pub fn serve_on<L: Callers, D: Desk>(
     serve_part(alloc, part, file, desk, &mut link, READS)
 }
 
+/// Serves the first caller of a listener, as [`serve_on`] does, and nobody after him: the port is closed once he is there,
+/// so that a second caller is refused at once.
+fn serve_first<L: Callers + Drop, D: Desk>(
+    alloc: Global,
+    part: &Part,
+    port: &str,
+    file: &str,
+    listener: L,
+    desk: &mut D,
+) -> u8
+    ensures serves { ServesOn (IsOverCaller L.Callers L.Stream.Read L.Stream.Write listener) part.now port.now
+        file.now (D.view desk.old) (D.view desk.new) result }
+    ensures stays { Stays D.comes_of desk.old desk.new }
+{
+    let called = accept(&listener);
+    drop(listener);
+    let mut link = match called {
+        Ok(link) => link,
+        Err(_) => return refuse(desk, &unopened_message("", port)),
+    };
+    serve_part(alloc, part, file, desk, &mut link, READS)
+}
+
 /// Opens the port and serves a chip of this part there, to the first caller.
 fn serve_at<N: Network + Drop, D: Desk>(
     network: N,
@@ -55,7 +78,7 @@ fn serve_at<N: Network + Drop, D: Desk>(
         return refuse(desk, &unopened_message("", port));
     };
     match listen(network, number) {
-        Ok(listener) => serve_on(alloc, part, port, file, &listener, desk),
+        Ok(listener) => serve_first(alloc, part, port, file, listener, desk),
         Err(_) => refuse(desk, &unopened_message("", port)),
     }
 }
@@ -64,8 +87,9 @@ fn serve_at<N: Network + Drop, D: Desk>(
 ///
 /// The part and the chip file are judged before the port is opened: where they are refused, that is reported at once
 /// and nobody is waited for. When the caller is there the chip is loaded from the file of this name, fresh where there
-/// is no such file, and saved to it when the caller is gone. `port` is the text of `--serve`; a port that cannot be
-/// opened is reported, and no file is written.
+/// is no such file, and saved to it when the caller is gone. The port is closed as soon as the caller is there, so a
+/// second one is refused. `port` is the text of `--serve`; a port that cannot be opened is reported, and no file is
+/// written.
 ///
 /// The status is 0 where the caller ended it and the chip was saved, else 1.
 pub fn serve_net<N: Network + Drop, D: Desk>(
