@@ -2,7 +2,7 @@
 """Runs the built program where its surroundings fail it: outputs that are closed or full, files that can't be read or made,
 programmers that go away, and callers that send rubbish.
 
-    tests/hostile.py [CASE ..]      needs crates/avrstk/out/avrstk, as rt ci leaves it
+    tests/hostile.py [CASE ..]      needs a built program (program.py)
 """
 
 import os

@@ -2,7 +2,7 @@
 """Brings about each line that a user can meet, by the built program, and holds it to the text that docs/USAGE gives; and sees
 that none of USAGE's lines is left out.
 
-    tests/lines.py [CASE ..]      needs crates/avrstk/out/avrstk, as rt ci leaves it
+    tests/lines.py [CASE ..]      needs a built program (program.py)
 """
 
 import os

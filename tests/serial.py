@@ -3,7 +3,7 @@
 takes, drops or refuses, each hint after a run that failed, boards that are deaf after a reset, vanish, are silent or
 talk, and how it ends at a signal; and the recipes of docs/USAGE for a serial line, as they stand there.
 
-    tests/serial.py [CASE ..]      needs crates/avrstk/out/avrstk, as rt ci leaves it; of the recipes those that need
+    tests/serial.py [CASE ..]      needs a built program (program.py); of the recipes those that need
                                    socat or ser2net are left out where these are not installed
 """
 

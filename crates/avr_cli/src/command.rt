@@ -26,11 +26,11 @@ Examples:
   avrstk -p m328p -P emu:chip.bin -U lfuse:w:0xE2:m -U lfuse:r:-:h
   avrstk -p m328p --serve 5000 --chip chip.bin
 
-From AVRDUDE: a serial device (-P /dev/ttyACM0 -b 115200) is given to avrstk-serial, with
-the other words as they are. -C is not here, since there is no configuration; nor -B, since
-the programmer has its own clock; nor -t: use -U. Long names of parts (atmega328p), and more
-parts, stand in share/avrstk/classic.toml, for --parts. A value in a file's place has :m
-after it. The manual is man avrstk. This is avrstk 0.9.0.";
+From AVRDUDE: for a serial device (-P /dev/ttyACM0) use avrstk-serial with the same options.
+There is no -C (no configuration file), no -B (the programmer has its own clock) and no -t
+(use -U). Long part names (atmega328p) and more parts are in share/avrstk/classic.toml: give
+it to --parts. Values in place of a file need the format m. Manual: man avrstk.
+This is avrstk 0.9.0.";
 
 /// An option of one letter, with a value.
 fn value<'a>(alloc: Global, id: &'a str, short: char, value_name: &'a str, help: &'a str) -> Arg<'a>
@@ -128,7 +128,7 @@ fn update<'a>(alloc: Global) -> Arg<'a>
         "update",
         'U',
         "UPDATE",
-        "What is done with a memory, up to 16 times",
+        "Write, compare or read a memory; up to 16 times",
     )
     .action(ArgAction::Append)
 }
@@ -201,7 +201,7 @@ fn with_write<'a>(
             alloc,
             "keep-flash",
             'D',
-            "Don't erase the chip because flash is written",
+            "Don't erase the chip before flash is written",
         ),
     );
     add(
@@ -220,7 +220,7 @@ fn with_run<'a>(
     let command = add(command, flag(alloc, "dry", 'n', "Write and erase nothing"));
     let command = add(
         command,
-        flag(alloc, "force", 'F', "Go on with another signature"),
+        flag(alloc, "force", 'F', "Go on despite a wrong signature"),
     );
     add(command, all(alloc))
 }
@@ -238,13 +238,18 @@ fn with_telling<'a>(
             alloc,
             "quiet",
             'q',
-            "No information is told; twice: no warnings either",
+            "Suppress information lines; twice: warnings too",
         ),
     );
     let command = add(command, baud(alloc));
     add(
         command,
-        counted(alloc, "verbose", 'v', "More to be told; no effect"),
+        counted(
+            alloc,
+            "verbose",
+            'v',
+            "Accepted for compatibility; no effect",
+        ),
     )
 }
 
@@ -270,7 +275,7 @@ fn with_files<'a>(
             alloc,
             "serve",
             "PORT",
-            "Be a programmer, emulated, at this port of 127.0.0.1",
+            "Be an emulated programmer at this port of 127.0.0.1",
         ),
     );
     add(

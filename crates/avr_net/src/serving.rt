@@ -38,8 +38,8 @@ pub fn serve_on<L: Callers, D: Desk>(
     serve_part(alloc, part, file, desk, &mut link, READS)
 }
 
-/// Serves the first caller of a listener, as [`serve_on`] does, and nobody after him: the port is closed once he is there,
-/// so that a second caller is refused at once.
+/// Serves the first caller of a listener, as [`serve_on`] does, and nobody after him: the port is closed once he is
+/// there, so that a second caller is refused at once.
 fn serve_first<L: Callers + Drop, D: Desk>(
     alloc: Global,
     part: &Part,
@@ -54,11 +54,11 @@ fn serve_first<L: Callers + Drop, D: Desk>(
 {
     let called = accept(&listener);
     drop(listener);
-    let mut link = match called {
-        Ok(link) => link,
+    let mut caller = match called {
+        Ok(caller) => caller,
         Err(_) => return refuse(desk, &unopened_message("", port)),
     };
-    serve_part(alloc, part, file, desk, &mut link, READS)
+    serve_part(alloc, part, file, desk, &mut caller, READS)
 }
 
 /// Opens the port and serves a chip of this part there, to the first caller.

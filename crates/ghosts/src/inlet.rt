@@ -7,8 +7,8 @@ ghost use Rattle.std.specs.IoError.{error_kind};
 use std::io;
 use std::io::{ErrorKind, Read};
 
-/// A reader, of which a call can promise that it timed out: only a read here that failed so can say what the ghost member
-/// says of a reader.
+/// A reader, of which a call can promise that it timed out: only a read here that failed so can say what the ghost
+/// member says of a reader.
 ///
 /// Every reader is an `Inlet`. Tests show which faults of the system's own readers are timeouts.
 pub trait Inlet: Read {

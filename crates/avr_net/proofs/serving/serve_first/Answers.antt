@@ -10,11 +10,11 @@ returns-clause-serves g c = inl (
     serves = rw c.in-Ok.ensures.new.fresh at (rw c.in-Ok.ensures.new.quiet at c.serve_part.ensures.runs);
   },
   record {
-    before = c.in-Ok.link;
+    before = c.in-Ok.caller;
     after = c.serve_part.new.link;
     new = c.in-Ok.ensures.new;
     shows = refl;
-    truly = c.serve_part.ensures.comes c.in-Ok.link
-        (true_now g.L.Stream.Read.remaining g.L.Stream.Write.contents c.in-Ok.link);
+    truly = c.serve_part.ensures.comes c.in-Ok.caller
+        (true_now g.L.Stream.Read.remaining g.L.Stream.Write.contents c.in-Ok.caller);
   },
 )
