@@ -170,7 +170,8 @@ def everything():
 
 def chosen(names):
     """Runs the scripts of these names, which take the program that is built."""
-    steps = [it for it in dict.fromkeys([*SOURCES, *PROGRAM]) if {it, it.split()[0]} & set(names)]
+    known = list(dict.fromkeys([*SOURCES, *PROGRAM]))
+    steps = [it for it in known if it in names or it.split()[0] in set(names) - set(known)]
     built = [] if os.environ.get("AVRSTK") or current() else [build()]
     with ThreadPoolExecutor(LANES) as lanes:
         return built + list(lanes.map(script, steps))
