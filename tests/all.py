@@ -6,10 +6,11 @@
     tests/all.py --all       proves everything (rt ci), with the quick scripts beside it; then runs all scripts over the
                              proved program
 
-A script's output is printed when the script has ended. All steps run even if one fails; the status is then 1. The summary
-has each step's status, minutes and last line, the lines that say what failed, and how the wrong bodies were refused. It
-lists what was left out because a tool isn't installed (`./test --tools` installs them); with NEED_ALL=1 in the
-environment that is a failure. Its last line counts what passed and what failed in all steps.
+A script's output is printed when the script has ended. All steps run even if one fails; the status is then 1. A script
+that failed beside others is run once more with nothing beside it, since some measure silences; that run counts, and the
+summary names it. The summary has each step's status, minutes and last line, the lines that say what failed, and how the
+wrong bodies were refused. It lists what was left out because a tool isn't installed (`./test --tools` installs them);
+with NEED_ALL=1 in the environment that is a failure. Its last line counts what passed and what failed in all steps.
 """
 
 import os
@@ -70,6 +71,7 @@ class Done:
     seconds: float
     processor: float
     lines: list
+    again = None
 
     def end(self):
         return "ok" if self.status == 0 else f"FAILED ({self.status})"
@@ -122,7 +124,15 @@ def script(name, kind="", **environment):
     """Runs a script; what `kind` of program it runs is in its name in the log."""
     file, *words = name.split()
     command = [TOP / "bench/run.py", "--calls"] if file == "calls" else [TOP / f"tests/{file}.py", *words]
-    return run(f"{kind}{name}", command, PYTHONUNBUFFERED="1", **environment)
+    once = lambda again="": run(f"{kind}{name}{again}", command, PYTHONUNBUFFERED="1", **environment)
+    done = once()
+    done.again = lambda: once(" (again, alone)")
+    return done
+
+
+def settled(done):
+    """What came of all steps, where each script that failed was run again alone."""
+    return [it.again() if it.status and it.again else it for it in done]
 
 
 def build():
@@ -156,7 +166,8 @@ def quick(lanes):
 def few():
     """Runs the quick scripts, one a processor."""
     with ThreadPoolExecutor(LANES) as lanes:
-        return quick(lanes)()
+        done = quick(lanes)()
+    return settled(done)
 
 
 def everything():
@@ -165,7 +176,8 @@ def everything():
         proving, others = beside.submit(ci), quick(lanes)
         done = [*others(), proving.result()]
     with ThreadPoolExecutor(LANES) as lanes:
-        return done + list(lanes.map(lambda it: script(it, "proved: ", AVRSTK=str(PROVED)), PROGRAM))
+        done += lanes.map(lambda it: script(it, "proved: ", AVRSTK=str(PROVED)), PROGRAM)
+    return settled(done)
 
 
 def chosen(names):
@@ -174,7 +186,8 @@ def chosen(names):
     steps = [it for it in known if it in names or it.split()[0] in set(names) - set(known)]
     built = [] if os.environ.get("AVRSTK") or current() else [build()]
     with ThreadPoolExecutor(LANES) as lanes:
-        return built + list(lanes.map(script, steps))
+        done = built + list(lanes.map(script, steps))
+    return settled(done)
 
 
 def summary(done):
