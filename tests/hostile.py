@@ -115,6 +115,62 @@ def files_fail():
         same(f"{words}", room.run(words), (1, b"", lines(*told)))
 
 
+def with_limit(kibibytes, words, redirected=""):
+    """The status, output and messages of a run whose files may have so many KiB. (Python ignores the signal of that,
+    SIGXFSZ, for itself and not for the shell.)"""
+    started = room.start(words, closed=redirected, front=["bash", "-c", f'ulimit -f {kibibytes}; exec "$0" "$@"'])
+    output, messages = started.communicate(timeout=PATIENCE)
+    return started.returncode, output, messages
+
+
+def files_are_full():
+    """Files that become as long as they may be (`ulimit -f`): what doesn't fit is a failed write, and no death by SIGXFSZ."""
+    chip = bytes(place % 255 for place in range(32_768)) + b"\xff" * 1_028
+    limit = 36 * 1_024
+    whole = (0, b"", lines(SIGNATURE, "flash: 32768 bytes read", "done"))
+    unsaid = (1, b"", b"")
+
+    def cut(name):
+        return 1, b"", lines(SIGNATURE, f"error: {name}: cannot be written")
+
+    for update, redirected, before, wanted, length in [
+        *((f"flash:r:out:{form}", "", 0, cut("out"), limit) for form in "isdhob"),
+        ("flash:r:out:r", "", 0, whole, 32_768),
+        ("flash:r:-:r", ">>out", limit - 32_768, whole, limit),
+        ("flash:r:-:r", ">>out", limit - 32_767, cut("-"), limit),
+        ("flash:r:-:i", ">out", 0, cut("-"), limit),
+        ("flash:r:-:i", ">>out", limit, cut("-"), limit),
+        ("flash:r:-:i", ">>out 2>&1", 20_000, unsaid, limit),
+        ("flash:r:-:i", ">>out 2>>out", 20_000, unsaid, limit),
+        ("flash:r:/dev/stdout:i", ">out", 0, cut("/dev/stdout"), limit),
+        ("lfuse:r:-:h", "2>>out", limit - 14, unsaid, limit),
+        ("lfuse:r:-:h", "2>>out", limit, unsaid, limit),
+    ]:
+        room.clear()
+        room.put("chip.bin", chip)
+        room.put("out", bytes(before))
+        # (a log that may be written to, and not read)
+        (room.folder / "out").chmod(0o200)
+        same(f"{update} {redirected}", with_limit(36, [*EMULATED, "-U", update], redirected), wanted)
+        same(f"{update} {redirected}: its length", (room.folder / "out").stat().st_size, length)
+        see(f"{update} {redirected}: the chip is as it was", room.read("chip.bin") == chip)
+
+
+def no_file_may_grow():
+    """Files that may hold nothing: streams that go to them fail, and streams that go elsewhere don't."""
+    link = room.folder / "link.bin"
+    for words, redirected, wanted in [
+        (SESSION, ">out", (1, b"", lines("error: link cannot be written"))),
+        (["--help"], ">out", (1, b"", b"")),
+        (["--help"], ">/dev/null", (0, b"", b"")),
+        ([*EMULATED, "-e"], "2>out", (1, b"", b"")),
+        (["-p", "m328p", "-P", "emu:link.bin"], "", (1, b"", lines(SIGNATURE, "done", "error: link.bin: cannot be written"))),
+    ]:
+        room.clear()
+        link.symlink_to("nowhere.bin")
+        same(f"{words} {redirected}", with_limit(0, words, redirected), wanted)
+
+
 def answers_are_cut():
     """A programmer behind a port that ends or resets the connection after each of its answers' bytes. A reset can come while the
     call is made still, or before its options are set, and the port then cannot be opened; both are right."""
@@ -229,8 +285,8 @@ def exchanged(caller, sent):
 
 
 CASES = named(
-    *(output_fails, input_fails, descriptors_are_closed, closed_streams_stay_closed, files_fail, answers_are_cut),
-    *(lines_are_bad, callers_are_odd, a_second_caller),
+    *(output_fails, input_fails, descriptors_are_closed, closed_streams_stay_closed, files_fail, files_are_full),
+    *(no_file_may_grow, answers_are_cut, lines_are_bad, callers_are_odd, a_second_caller),
 )
 
 if __name__ == "__main__":

@@ -22,13 +22,13 @@ from textwrap import wrap
 from cases import leave_out, named, run_cases, same, see
 from program import PROGRAM, TOP
 
-USAGE = TOP / "docs/USAGE.md"
+USAGE, BOARDS = TOP / "docs/USAGE.md", TOP / "docs/BOARDS.md"
 PAGES = {it: TOP / f"docs/{it}.1" for it in ["avrstk", "avrstk-serial", "avrstk-serve"]}
 
 VERSION = (TOP / "VERSION").read_text().strip()
 
 # the first line of what comes from USAGE, with its section and a kind of block, and the last
-MADE = re.compile(r'\.\\" docs/USAGE\.md, ([^:\n]+)(?:: (\w+))?')
+MADE = re.compile(r'\.\\" docs/(?:USAGE|BOARDS)\.md, ([^:\n]+)(?:: (\w+))?')
 END = '.\\" end'
 
 # how wide a line of a page may be, and a tag as it is shown
@@ -152,7 +152,7 @@ def blocks_of(text):
 def sections():
     """The blocks of each section of USAGE, by its heading."""
     found, blocks = {}, []
-    for kind, rows in blocks_of(USAGE.read_text()):
+    for kind, rows in blocks_of(USAGE.read_text() + BOARDS.read_text()):
         if kind == "head":
             blocks = found.setdefault(rows[0].lstrip("# "), [])
         else:

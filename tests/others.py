@@ -2,12 +2,11 @@
 """Holds the record files of this project beside those of other programs: srec_cat, avr-objcopy and python3-intelhex, as far as
 they are installed.
 
-    tests/others.py [TOOL ..]        needs crates/record_convert/out/record_convert, as rt ci leaves it, or where
-                                     RECORD_CONVERT says
+    tests/others.py [TOOL ..]        needs a C compiler, for examples/c/records.c over the library for C
 
 Images with gaps, drawn from fixed seeds, are written here as Intel HEX and S-records, and each of the others reads them; each of
-the others writes them, and they are read here. Every byte has to stand at its address, and no other. A plain reader and writer
-in this file stand between. What isn't installed is left out, and told.
+the others writes them, and they are read here. Every byte has to be at its address, and no other. A plain reader and writer
+in this file are between them. What isn't installed is left out, and reported.
 """
 
 import functools
@@ -20,9 +19,8 @@ import tempfile
 from pathlib import Path
 
 from cases import leave_out, run_cases, see
+from from_c import Library
 
-TOP = Path(__file__).resolve().parent.parent
-PROGRAM = Path(os.environ.get("RECORD_CONVERT") or TOP / "crates/record_convert/out/record_convert").resolve()
 IMAGES = 120
 
 # where a distribution keeps its modules, if this python looks elsewhere
@@ -102,16 +100,22 @@ def drawn(seed):
     return image, size, draw
 
 
-def run(words, given=None):
-    done = subprocess.run(words, input=given, capture_output=True)
+def run(words):
+    done = subprocess.run(words, capture_output=True)
     if done.returncode != 0:
         raise SystemExit(f"{words}: {done.stderr.decode()[:300]}")
     return done.stdout
 
 
+@functools.cache
+def library():
+    """The library for C, and the program over it."""
+    return Library(room)
+
+
 def here(text, format, size):
     """A record file, read and written again by this project."""
-    return run([PROGRAM, format, str(size)], text)
+    return library().written(put("given", text), size, format)
 
 
 def put(name, text):
@@ -178,9 +182,14 @@ def beside(name):
                 same_image(f"seed {seed}: {to} of {name} read here", plain_read(here(theirs, "ihex", size)), image)
 
 
+def unless_left_out(name, case):
+    if shutil.which(os.environ.get("CC", "cc")) is None:
+        return leave_out(f"record files beside {name}", "there is no C compiler")
+    return case()
+
+
 CASES = {"here": here_alone} | {name: lambda name=name: beside(name) for name in OTHERS}
 
 if __name__ == "__main__":
-    if not PROGRAM.exists():
-        sys.exit(f"{PROGRAM} is not built: rt ci leaves it there")
-    sys.exit(run_cases(CASES, __doc__))
+    looks = {name: lambda name=name, case=case: unless_left_out(name, case) for name, case in CASES.items()}
+    sys.exit(run_cases(looks, __doc__))

@@ -196,13 +196,13 @@ def packages_hold_what_is_installed():
         subprocess.run([TOP / "install.sh", prefix], env=environment, check=True, stdout=subprocess.DEVNULL)
         (prefix / "share/avrstk/folders").unlink()
         wanted = [f"usr/{it}.gz" if it.endswith(".1") else f"usr/{it}" for it in files(prefix)]
-        docs = ["README.md", "USAGE.md", "built-from", "changelog.gz", "copyright"]
+        docs = ["BOARDS.md", "README.md", "USAGE.md", "built-from", "changelog.gz", "copyright"]
         found = unpacked("avrstk", Path(folder, "avrstk"))
         same("avrstk", found, sorted([*wanted, *(f"usr/share/doc/avrstk/{it}" for it in docs)]))
         name = f"libavr-records{NUMBER}"
-        wanted = [f"usr/lib/libavr_records.so.{NUMBER}", *(f"usr/share/doc/{name}/{it}" for it in docs[2:])]
+        wanted = [f"usr/lib/libavr_records.so.{NUMBER}", *(f"usr/share/doc/{name}/{it}" for it in docs[3:])]
         same(name, unpacked(name, Path(folder, "shared")), wanted)
-        wanted = [*DEVELOPMENT, *(f"usr/share/doc/libavr-records-dev/{it}" for it in docs[2:])]
+        wanted = [*DEVELOPMENT, *(f"usr/share/doc/libavr-records-dev/{it}" for it in docs[3:])]
         same("libavr-records-dev", unpacked("libavr-records-dev", Path(folder, "dev")), wanted)
         copyright = Path(folder, "avrstk/usr/share/doc/avrstk/copyright").read_text()
         see("the package says that there is no licence", "There is no licence yet." in copyright, copyright)

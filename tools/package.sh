@@ -144,7 +144,7 @@ mkdir "$all/DEBIAN"
 strip --remove-section=.comment --remove-section=.note "$all/usr/bin/avrstk"
 gzip -9n "$all"/usr/share/man/man1/*.1
 document avrstk "$all" "$version" "$proof"
-install -m 644 "$top/README.md" "$top/docs/USAGE.md" "$all/usr/share/doc/avrstk/"
+install -m 644 "$top/README.md" "$top/docs/USAGE.md" "$top/docs/BOARDS.md" "$all/usr/share/doc/avrstk/"
 (cd "$all" && sha256sum usr/bin/avrstk) >>"$all/usr/share/doc/avrstk/built-from"
 
 if [ -n "$with_c" ]; then

@@ -98,5 +98,5 @@ for name in "${crates[@]}"; do
     echo "$name: $did"
 done
 echo "of the kit: ${kit[*]:-none}"
-[[ " ${crates[*]} " != *" avr_net "* ]] ||
-    echo "avr_net uses the network: HANDLES of $folder needs the line '$(cat "$top/HANDLES")'"
+[[ " ${crates[*]} " != *" avr_tool "* ]] ||
+    echo "avr_tool uses the network: HANDLES of $folder needs the line '$(cat "$top/HANDLES")'"

@@ -33,8 +33,8 @@ fn main(rt: HostRuntime) -> Result<()> {
     let outcome = drive_outcome(alloc, &plan, &mut desk, &mut wire);
     match outcome {
         Outcome::Done => println!(rt; "the chip has the file's bytes")?,
-        Outcome::Faulty(HostFault::Differs(mem, address, want, found)) => {
-            println!(rt; "{} differs at byte {address}: {want:02X} wanted, {found:02X} found", mem.name())?;
+        Outcome::Faulty(HostFault::Differs { mem, addr, want, found }) => {
+            println!(rt; "{} differs at byte {addr}: {want:02X} wanted, {found:02X} found", mem.name())?;
         }
         Outcome::Faulty(fault) => println!(rt; "{fault}")?,
         Outcome::Stopped => println!(rt; "the line or a file failed")?,

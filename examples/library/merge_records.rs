@@ -13,7 +13,7 @@
 
 use anyhow::{Result, bail};
 use avr_image::{Image, Pieces};
-use avr_records::{IhexImageWriter, detect, read_records};
+use avr_records::{Kind, Writer, detect, read_records};
 use std::alloc::Global;
 use std::io::{self, BufWriter, Write};
 
@@ -33,7 +33,7 @@ fn main(rt: HostRuntime) -> Result<()> {
     image.lay_over(&patch)?;
     image.put_slice(0x7F00, b"SN-1")?;
     let mut out = BufWriter::new(rt.alloc(), io::writer(&rt))?;
-    IhexImageWriter::new(&image).write_to(&mut out)?;
+    Writer::new(Kind::Ihex, &image).write_to(&mut out)?;
     out.flush()?;
     Ok(())
 }

@@ -37,8 +37,8 @@ fn main(rt: HostRuntime) -> Result<()> {
     println!(rt; "verified")?;
     image.put(2, 0x35)?;
     match host.verify(alloc, &mut wire, Mem::Flash, &image) {
-        Err(HostFault::Differs(mem, addr, wanted, found)) => {
-            println!(rt; "{} at {addr}: wanted {wanted:02X}, found {found:02X}", mem.name())?
+        Err(HostFault::Differs { mem, addr, want, found }) => {
+            println!(rt; "{} at {addr}: wanted {want:02X}, found {found:02X}", mem.name())?
         }
         Err(fault) => bail!("{fault}"),
         Ok(()) => bail!("no byte differs"),

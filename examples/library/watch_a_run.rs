@@ -1,50 +1,52 @@
 // crates: anyhow avr_tool
-//! Watches a run, as a program with a window does: a bar grows by a mark for each frame that is sent, and the messages
-//! stand between the marks, as they come.
+//! Watches a run, as a program with a window does: it shows how far the run is, in percent, and the messages as they
+//! come.
 //!
-//! A desk and a link are each put into one that tells a watcher of its calls; the run is the same. What the watchers
-//! make of what they are told no proof asks here, so each says `Unit {0}` of it.
+//! A desk and a link are each put into one that tells a watcher of its calls; the run is the same. How many frames the
+//! plan asks for is known before the first one is sent. What the watchers make of what they are told no proof asks here,
+//! so each says `Unit {0}` of it.
 //!
 //! What it prints was worked out by hand: by docs/PROTOCOL five frames open a session (SIGN_ON, ENTER_PROGMODE and three
 //! bytes of the signature), a fuse is written by one and read by one, and one leaves; the messages are those of
 //! docs/USAGE.
 //= opened fuse.hex
-//= # # # # # avrstk: device signature = 1E 95 0F
-//= # avrstk: lfuse: 1 bytes written
-//= # avrstk: lfuse: 1 bytes verified
-//= # avrstk: done
-//= status 0, 8 frames
+//= 12% 25% 37% 50% 62% avrstk: device signature = 1E 95 0F
+//= 75% avrstk: lfuse: 1 bytes written
+//= 87% avrstk: lfuse: 1 bytes verified
+//= 100% avrstk: done
+//= status 0, 8 of 8 frames
 #![tactic(auto)]
 
 use anyhow::{Result, bail};
 use avr_tool::{
     Chip, DeskCall, Fates, LinkCall, MemDesk, Parts, Stream, WatchDesk, WatchLink, WatchedDesk, WatchedLink, Wired,
-    asked, run,
+    asked, drive_outcome, frame_count, plan,
 };
 use std::alloc::Global;
 use std::io::{self, Write};
 
 const WORDS: [&str; 7] = ["avrstk", "-P", "stdio:", "-p", "m328p", "-U", "lfuse:w:fuse.hex"];
 
-/// A bar, drawn on a writer, and how many marks it has.
+/// How far a run is, shown on a writer: how many frames were sent, of how many.
 #[derive(Drop)]
-struct Bar<W> {
+struct Progress<W> {
     out: W,
-    frames: usize,
+    sent: u64,
+    all: u64,
 }
 
-impl<W: Write> WatchLink for Bar<W> {
+impl<W: Write> WatchLink for Progress<W> {
     ghost after = { λ call old new. Unit {0} };
 
     fn told(&mut self, call: &LinkCall<'_>) {
         if let LinkCall::Sent(_, Ok(_)) = call {
-            self.frames += 1;
-            let _ = self.out.write_all(b"# ");
+            self.sent += 1;
+            let _ = write!(self.out, "{}% ", self.sent * 100 / self.all);
         }
     }
 }
 
-/// What is shown beside the bar.
+/// What is shown beside it.
 #[derive(Drop)]
 struct Notes<W> {
     out: W,
@@ -72,12 +74,16 @@ fn main(rt: HostRuntime) -> Result<()> {
     };
     let chip = Chip::fresh(alloc, Parts::none().find("m328p")?)?;
     let mut desk = WatchedDesk { desk: files, watcher: Notes { out: io::writer(&rt) } };
+    let Ok(plan) = plan(alloc, &settings, &mut desk) else {
+        bail!("there is no plan");
+    };
     let mut link = WatchedLink {
         link: Wired::new(alloc, chip, Fates::none(alloc)),
-        watcher: Bar { out: io::writer(&rt), frames: 0 },
+        watcher: Progress { out: io::writer(&rt), sent: 0, all: frame_count(&plan) },
     };
-    let status = run(alloc, &settings, &mut desk, &mut link);
-    println!(rt; "status {status}, {} frames", link.watcher.frames)?;
+    let outcome = drive_outcome(alloc, &plan, &mut desk, &mut link);
+    let Progress { sent, all, .. } = link.watcher;
+    println!(rt; "status {}, {sent} of {all} frames", outcome.status())?;
     Ok(())
 }
 

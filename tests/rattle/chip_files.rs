@@ -1,6 +1,6 @@
 //! Chip files that are missing, whole, of another length, and at a desk that fails.
-use avr_chip::{hold_chip, load_chip, save_chip};
 use avr_desk::{Desk, FailingDesk, MemDesk};
+use avr_emulator::{hold_chip, load_chip, save_chip};
 use avr_part::{Chip, Mem, Part, PartFault, Parts};
 use std::alloc::{AllocError, Global};
 use std::test::Fail;

@@ -4,6 +4,7 @@ ghost use Rattle.std.specs.Prelude.{◌<◌, ◌≤◌, length};
 use arrayvec::ArrayVec;
 use avr_part::{Chip, Mem, Parts};
 use std::alloc::{AllocError, Global};
+use std::fmt::Write;
 use std::test::Fail;
 use stk_emu::{Emulator, Fate, Fates, FatesFault, Wired, noise_is_lawful};
 use stk_frame::{Command, put_frame};
@@ -253,7 +254,7 @@ fn a_programmer_that_begins_anew_is_outside_the_mode(rt: HostRuntime) -> Result<
     let mut host = Host::new(&Parts::none().find("m328p")?);
     assert_eq!(rt;
         host.open(&mut link, false),
-        Err(HostFault::Refused(0x1B, 0xC0))
+        Err(HostFault::Refused { command: 0x1B, status: 0xC0 })
     );
     assert_eq!(rt; host.close(&mut link), Ok(()));
     Ok(())
@@ -308,19 +309,49 @@ fn a_late_answer_comes_before_the_next(rt: HostRuntime) -> Result<(), Fail> {
     Ok(())
 }
 
-#[test]
-fn held_answers_come_together(rt: HostRuntime) -> Result<(), Fail> {
-    let alloc = rt.alloc();
-    let mut fates = fates(alloc, 0, 0, Fate::HeldAnswer)?;
-    fates.push(Fate::HeldAnswer)?;
+fn fate(letter: u8) -> Fate {
+    match letter {
+        b'H' => Fate::HeldAnswer,
+        b'A' => Fate::LateAnswer,
+        b'L' => Fate::LostAnswer,
+        b'R' => Fate::Reset,
+        _ => Fate::Good,
+    }
+}
+
+/// What frames 1 to 5 bring over a wire whose fates these letters are: a dot for a silence, an answer's number.
+fn brought(alloc: Global, letters: &str, count: usize) -> Result<String, Fail> {
+    let mut fates = Fates::none(alloc);
+    for letter in letters.bytes() {
+        fates.push(fate(letter))?;
+    }
     let mut link = Wired::new(alloc, m328p(alloc)?, fates);
-    let mut buffer = [0; 64];
-    assert_eq!(rt; link.send(&FRAMES), Ok(7));
-    assert_eq!(rt; link.recv(&mut buffer), Ok(Heard::Silence));
-    assert_eq!(rt; link.send(&FRAMES[7..25]), Ok(18));
-    assert_eq!(rt; link.recv(&mut buffer), Ok(Heard::Silence));
-    assert_eq!(rt; link.send(&FRAMES[25..37]), Ok(12));
-    assert_eq!(rt; link.recv(&mut buffer), Ok(Heard::Bytes(35)));
-    assert!(rt; buffer.starts_with(&ANSWERS[..35]));
+    for number in 1..6u8 {
+        let mut frame = ArrayVec::new();
+        put_frame(number, &[0x05], &mut frame);
+        link.send(frame.as_slice())?;
+    }
+    let mut items = String::new(alloc);
+    let mut answer = [0; 8];
+    for _ in 0..count {
+        match link.recv(&mut answer)? {
+            Heard::Bytes(_) => write!(items, "{}", answer[1])?,
+            _ => write!(items, ".")?,
+        }
+    }
+    Ok(items)
+}
+
+#[test]
+fn answers_that_wait_come_in_their_order(rt: HostRuntime) -> Result<(), Fail> {
+    for (letters, items) in [
+        ("HHG", "..12345"),
+        ("AHL", "..12.45"),
+        ("HA", ".1.2345"),
+        ("HHHH", "....2345"),
+        ("HR", ".1.345"),
+    ] {
+        assert_eq!(rt; brought(rt.alloc(), letters, items.len())?.as_str(), items);
+    }
     Ok(())
 }

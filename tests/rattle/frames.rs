@@ -1,4 +1,6 @@
 //! Frames of a whole session with an ATmega328P, and what no clause says.
+ghost use Rattle.std.specs.Prelude.{◌≤◌, length};
+
 use arrayvec::ArrayVec;
 use std::test::Fail;
 use stk_frame::{
@@ -66,6 +68,42 @@ fn faults_are_numbered_and_told(rt: HostRuntime) -> Result<(), Fail> {
         assert_eq!(rt; format!(in rt.alloc(); "{fault}")?.as_str(), text);
     }
     Ok(())
+}
+
+/// Whether the body in this frame is read as a command, and that command makes this frame.
+fn is_read_and_made(frame: &[u8]) -> bool
+    requires { 8 ≤ length frame.now }
+{
+    let Some(command) = Command::read(&frame[5..frame.len() - 1]) else {
+        return false;
+    };
+    let mut again = ArrayVec::new();
+    command.put_frame(frame[1], &mut again);
+    again.as_slice() == frame
+}
+
+#[test]
+fn frames_are_read_and_made(rt: HostRuntime) {
+    for frame in [
+        [0x1B, 0x03, 0x00, 0x03, 0x0E, 0x02, 0x98, 0x05, 0x8A].as_slice(),
+        [0x1B, 0x04, 0x00, 0x02, 0x0E, 0x03, 0x98, 0x88].as_slice(),
+        [0x1B, 0x09, 0x00, 0x05, 0x0E, 0x06, 0x00, 0x00, 0x00, 0x40, 0x5F].as_slice(),
+        [0x1B, 0x06, 0x00, 0x07, 0x0E, 0x12, 0x09, 0x00, 0xAC, 0x80, 0x00, 0x00, 0x23].as_slice(),
+        [0x1B, 0x06, 0x00, 0x05, 0x0E, 0x17, 0xAC, 0xA0, 0x00, 0xE2, 0xEF].as_slice(),
+    ] {
+        assert!(rt; is_read_and_made(frame));
+    }
+}
+
+#[test]
+fn a_bad_header_hides_a_start_byte(rt: HostRuntime) {
+    let mut reader = FrameReader::new();
+    assert_eq!(rt; reader.feed(&[0x07, 0x1B, 0x01, 0x00, 0x1B, 0x01]), (6, Event::More));
+    assert_eq!(rt;
+        reader.feed(&[0x1B, 0x01, 0x00, 0x01, 0x0E, 0x01, 0x14, 0x1B]),
+        (7, Event::Frame)
+    );
+    assert_eq!(rt; reader.body(), [0x01].as_slice());
 }
 
 #[test]

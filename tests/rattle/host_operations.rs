@@ -78,7 +78,7 @@ fn reads_a_fuse_and_finds_it_different(rt: HostRuntime) -> Result<(), Fail> {
     let mut link = answering(rt.alloc(), bodies)?;
     let mut host = Host::new(&part);
     let mut bytes = Vec::new(rt.alloc());
-    let differs = HostFault::Differs(Mem::Lfuse, 0, 0xE2, 0x62);
+    let differs = HostFault::Differs { mem: Mem::Lfuse, addr: 0, want: 0xE2, found: 0x62 };
     assert!(rt; host.verify(rt.alloc(), &mut link, Mem::Lfuse, &image) == Err(differs));
     assert!(rt; host.read(&mut link, Mem::Lfuse, &mut bytes) == Ok(()));
     assert_eq!(rt; bytes.as_slice(), [0x62].as_slice());

@@ -172,6 +172,7 @@ fn values_of_every_base_are_read(rt: HostRuntime) -> Result<(), Fail> {
         ("1,256", 5, ImageFault::TooLarge(2)),
         ("1,2", 1, ImageFault::OutOfRange(1)),
         (",", 1, ImageFault::BadNumber(1)),
+        ("x1", 1, ImageFault::BadNumber(1)),
         ("", 1, ImageFault::BadNumber(1)),
         ("0XFF 0B2", 5, ImageFault::BadNumber(2)),
         ("99999999999999999999", 5, ImageFault::TooLarge(1)),

@@ -224,6 +224,26 @@ fn faults_have_numbers_and_texts(rt: HostRuntime) -> Result<(), Fail> {
 }
 
 #[test]
+fn a_memory_is_named_in_its_own_spelling_alone(rt: HostRuntime) {
+    assert_eq!(rt; Mem::named("efuse"), Some(Mem::Efuse));
+    for name in ["", "fuse", "efuses", "Flash"] {
+        assert_eq!(rt; Mem::named(name), None, "{name}");
+    }
+}
+
+#[test]
+fn the_longest_id_has_31_bytes(rt: HostRuntime) -> Result<(), Fail> {
+    let id = "abcdefghijklmnopqrstuvwxy-_1234";
+    let text = format!(in rt.alloc();
+        "[parts.{id}]\nsignature = \"1E950F\"\nflash_size = 2\nflash_page = 2\neeprom_size = 1\n\
+        eeprom_page = 1\neesave_bit = 0\n"
+    )?;
+    let parts = parse_parts(rt.alloc(), text.as_str().as_bytes())?;
+    assert_eq!(rt; parts.find(id)?.id(), id);
+    Ok(())
+}
+
+#[test]
 fn a_chip_obeys(rt: HostRuntime) -> Result<(), Fail> {
     let mut chip = Chip::fresh(rt.alloc(), built_in(&rt, "m328p"))?;
     let rows = [

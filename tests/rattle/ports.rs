@@ -1,8 +1,7 @@
 //! Both ends of a port of this machine, in one thread.
 use avr_cli::{Settings, read_settings, read_words};
 use avr_desk::MemDesk;
-use avr_net::{accept, listen, run_net, serve_net, serve_on};
-use avr_part::Parts;
+use avr_tool::{accept, listen, run_net, serve_net, serve_on};
 use std::alloc::Global;
 use std::io;
 use std::io::{ErrorKind, Read, Write};
@@ -155,9 +154,9 @@ fn a_caller_is_answered_and_the_chip_is_saved(rt: HostRuntime) -> Result<(), Fai
     let mut caller = TcpStream::connect(&rt, listener.local_addr()?)?;
     caller.write_all(FRAME.as_slice())?;
     caller.shutdown(Shutdown::Write)?;
-    let part = Parts::none().find("m328p")?;
+    let settings = settings_for(alloc, "m328p")?;
     let mut desk = MemDesk::new(alloc);
-    let status = serve_on(alloc, &part, "5000", "chip.bin", &listener, &mut desk);
+    let status = serve_on(alloc, &settings, "5000", "chip.bin", &listener, &mut desk);
     assert_eq!(rt; status, 0);
     assert!(rt; desk.messages().is_empty());
     assert_eq!(rt; desk.file("chip.bin").map(|file| file.len()), Some(33_796));

@@ -4,8 +4,7 @@ mod slow;
 
 use avr_image::Image;
 use avr_records::{
-    Ending, Found, IhexImageWriter, IhexWriter, Kind, RecordFault, RecordReader, SrecImageWriter,
-    SrecWriter, detect, needed_size, read_record,
+    Ending, Found, Kind, RecordFault, RecordReader, Writer, detect, needed_size, read_record,
 };
 use slow::slow_read;
 use std::alloc::Global;
@@ -65,7 +64,7 @@ fn reads_ihex(rt: HostRuntime) {
     let two: &[(u32, u8)] = &[(0, 0xAA), (1, 0xBB)];
     let high: &[(u32, u8)] = &[(0x20000, 0x55)];
     let later: &[(u32, u8)] = &[(0, 2), (1, 1)];
-    let rows: [(u32, &[u8], Says<'_>); 14] = [
+    let rows: [(u32, &[u8], Says<'_>); 17] = [
         (
             4,
             b":0400000001020304F2\n:00000001FF",
@@ -116,6 +115,13 @@ fn reads_ihex(rt: HostRuntime) {
         ),
         (4, b":00000006FA\n", Err(RecordFault::BadType(1))),
         (
+            4,
+            b":0400000001020304F2\nrubbish\n:00000001FF\n",
+            Err(RecordFault::BadMark(2)),
+        ),
+        (4, b":0400000001020304G", Err(RecordFault::BadDigit(1))),
+        (4, b":0100000155A9", Err(RecordFault::BadLength(1))),
+        (
             2,
             b":020000000101FC\n:0100000002FD\n:00000001FF",
             Ok((later, Ending::Ended)),
@@ -131,7 +137,7 @@ fn reads_srec(rt: HostRuntime) {
     let alloc = rt.alloc();
     let four: &[(u32, u8)] = &[(0, 1), (1, 2), (2, 3), (3, 4)];
     let high: &[(u32, u8)] = &[(0x10000, 0xAA)];
-    let rows: [(u32, &[u8], Says<'_>); 10] = [
+    let rows: [(u32, &[u8], Says<'_>); 11] = [
         (
             4,
             b"S107000001020304EE\nS9030000FC\n",
@@ -173,6 +179,7 @@ fn reads_srec(rt: HostRuntime) {
             Err(RecordFault::OutOfRange(1, 3)),
         ),
         (4, b"S4030000FC\n", Err(RecordFault::BadType(1))),
+        (4, b"S100", Err(RecordFault::BadLength(1))),
         (
             4,
             b"S107000001020304EF\nS9030000FC\n",
@@ -219,6 +226,12 @@ fn reads_long_lines(rt: HostRuntime) -> Result<(), Fail> {
         text.push(b'\n')?;
         says(&rt, alloc, Kind::Ihex, 4, text.as_slice(), want);
     }
+    // after an end record no line is looked at
+    let mut text = b":00000001FF\n".to_vec(alloc)?;
+    for _ in 0..601 {
+        text.push(b' ')?;
+    }
+    says(&rt, alloc, Kind::Ihex, 1, text.as_slice(), Ok((&[], Ending::Ended)));
     Ok(())
 }
 
@@ -376,23 +389,7 @@ fn readers_and_writers_tell_where_they_are(rt: HostRuntime) -> Result<(), Fail> 
         "RecordReader { kind: Ihex, fed: 19, failed: false, .. }"
     );
     let (image, _) = reader.finish()?;
-    let shown = format!(in alloc; "{:?}", IhexImageWriter::new(&image))?;
-    let want =
-        "IhexImageWriter { image: Image { size: 32, len: 4, .. }, addr: 0, ended: false, .. }";
-    assert_eq!(rt; shown.as_str(), want);
-    let shown = format!(in alloc; "{:?}", SrecImageWriter::new(&image))?;
-    let want =
-        "SrecImageWriter { image: Image { size: 32, len: 4, .. }, addr: 0, ended: false, .. }";
-    assert_eq!(rt; shown.as_str(), want);
-    let shown = format!(in alloc; "{:?}", IhexWriter::new(16, &[1, 2]))?;
-    assert_eq!(rt;
-        shown.as_str(),
-        "IhexWriter { addr: 16, left: 2, ended: false, .. }"
-    );
-    let shown = format!(in alloc; "{:?}", SrecWriter::new(16, &[1, 2]))?;
-    assert_eq!(rt;
-        shown.as_str(),
-        "SrecWriter { addr: 16, left: 2, ended: false, .. }"
-    );
+    let shown = format!(in alloc; "{:?}", Writer::new(Kind::Srec, &image))?;
+    assert_eq!(rt; shown.as_str(), "Writer { kind: Srec, addr: 0, ended: false, .. }");
     Ok(())
 }

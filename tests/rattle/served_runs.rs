@@ -1,7 +1,8 @@
 //! From settings to status: how serving ends, what is reported of it, and the chip file.
 use avr_cli::{Settings, read_settings, read_words};
 use avr_desk::MemDesk;
-use avr_serve::{serve, serve_for};
+use avr_emulator::{serve, serve_part};
+use avr_part::Parts;
 use std::alloc::{AllocError, Global};
 use std::test::Fail;
 use stk_host::{FailingLink, Item, Link, TapeLink};
@@ -35,18 +36,7 @@ fn settings_to_serve(alloc: Global) -> Result<Settings, Fail> {
     Ok(read_settings(alloc, &matches)?)
 }
 
-/// Serves at this desk and over this link, for so many reads. It says nothing of them, nor does [`served`]: a test
-/// carries each clause that it meets to its end, and these are long.
-fn served_for<L: Link>(
-    alloc: Global,
-    settings: &Settings,
-    desk: &mut MemDesk,
-    link: &mut L,
-    reads: u32,
-) -> u8 {
-    serve_for(alloc, settings, "chip.bin", desk, link, reads)
-}
-
+/// Serves at this desk and over this link.
 fn served<L: Link>(alloc: Global, settings: &Settings, desk: &mut MemDesk, link: &mut L) -> u8 {
     serve(alloc, settings, "chip.bin", desk, link)
 }
@@ -62,7 +52,7 @@ fn an_end_that_is_heard_saves_the_chip(rt: HostRuntime) -> Result<(), Fail> {
     let settings = settings_to_serve(alloc)?;
     let mut link = TapeLink::new(alloc, items, 281);
     let mut desk = MemDesk::new(alloc);
-    assert_eq!(rt; served_for(alloc, &settings, &mut desk, &mut link, 100), 0);
+    assert_eq!(rt; served(alloc, &settings, &mut desk, &mut link), 0);
     assert_eq!(rt; link.sent(), ANSWER.as_slice());
     assert_eq!(rt; saved_size(&desk), Some(33_796));
     assert!(rt; desk.messages().is_empty());
@@ -73,10 +63,10 @@ fn an_end_that_is_heard_saves_the_chip(rt: HostRuntime) -> Result<(), Fail> {
 fn too_many_reads_are_told_and_the_chip_is_saved(rt: HostRuntime) -> Result<(), Fail> {
     let alloc = rt.alloc();
     let items = vec![in alloc; Item::Silence; 5]?;
-    let settings = settings_to_serve(alloc)?;
+    let part = Parts::none().find("m328p")?;
     let mut link = TapeLink::new(alloc, items, 281);
     let mut desk = MemDesk::new(alloc);
-    assert_eq!(rt; served_for(alloc, &settings, &mut desk, &mut link, 3), 1);
+    assert_eq!(rt; serve_part(alloc, &part, "chip.bin", &mut desk, &mut link, 3), 1);
     let line = "avrstk: error: too many reads\n";
     assert_eq!(rt; desk.messages(), line.as_bytes());
     assert_eq!(rt; saved_size(&desk), Some(33_796));

@@ -1,6 +1,6 @@
 //! Frames that come in pieces, silences, and every call of the link failing in turn.
+use avr_emulator::{Served, answer_all};
 use avr_part::{Chip, PartFault, Parts};
-use avr_serve::{Served, answer_all};
 use std::alloc::{AllocError, Global};
 use std::test::Fail;
 use stk_emu::Emulator;

@@ -1,11 +1,8 @@
--- in the order in which to read: texts that are cut, updates and addresses; the command and what is kept of it; worked
--- lines
+-- in the order in which to read: texts that are cut, updates and addresses; the command and what is kept of it
 pub mod TextCuts
 pub mod UpdatesReread
 pub mod AddressCuts
 pub mod ParsedCommands
 pub mod KeptTexts
-mod LineRows
 pub mod PortNumbers
-mod UpdateRows
 pub mod UpdateLists

@@ -15,14 +15,14 @@ use clap::ArgMatches;
 use std::alloc::Global;
 
 /// The text of an option with one value, the last one given.
-pub fn text_of<'a>(matches: &ArgMatches<'a>, id: &str) -> Option<&'a str>
+pub(crate) fn text_of<'a>(matches: &ArgMatches<'a>, id: &str) -> Option<&'a str>
     ensures { option_map (λ s. s.now) result ≡ first_of id.now (rows_of (found_of matches.now)) }
 {
     matches.get_str(id)
 }
 
 /// The texts of an option that collects them.
-pub fn texts_of<'m, 'a>(matches: &'m ArgMatches<'a>, id: &str) -> Option<&'m [&'a str]>
+pub(crate) fn texts_of<'m, 'a>(matches: &'m ArgMatches<'a>, id: &str) -> Option<&'m [&'a str]>
     ensures { option_map (λ t. map (λ s. s.now) t.now) result ≡ all_of id.now (rows_of (found_of matches.now)) }
 {
     matches.get_strs(id)
@@ -38,7 +38,7 @@ fn is_on(matches: &ArgMatches<'_>, id: &str) -> bool
 }
 
 /// The switches that are given.
-pub fn switches_of(matches: &ArgMatches<'_>) -> Switches
+pub(crate) fn switches_of(matches: &ArgMatches<'_>) -> Switches
     ensures { result ≡ switches_of (rows_of (found_of matches.now)) }
 {
     Switches {

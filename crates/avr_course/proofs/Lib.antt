@@ -1,4 +1,5 @@
 -- in the order in which to read; the list of a folder says what it holds
+pub mod Leads
 pub mod Lines
 pub mod Given
 pub mod Hosts
@@ -10,4 +11,6 @@ pub mod FewBad
 pub mod Reports
 pub mod Memories
 pub mod SecondRun
+pub mod OverTurns
+pub mod AnyLink
 pub mod WirePlays

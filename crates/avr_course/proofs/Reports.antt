@@ -2,5 +2,4 @@
 pub mod Truth
 pub mod UpToFault
 pub mod OverTape
-pub mod OverWire
 pub mod Rows

@@ -1,8 +1,8 @@
--- Section 4 of the page (avr_tool's specs/Headline): what the session of a plan does over a wire to the emulated
--- programmer, whatever the line loses, delays and spoils.
+-- Section 4 of the page (avr_tool's specs/Headline): what the session of a plan did over a line, whatever that loses,
+-- delays and spoils; by the turns of its frames, and over a wire to the emulated programmer by their fates.
 use Rattle.std.specs.Prelude.{ℕ, ◌+◌, ◌*◌, ◌≡◌, ◌≤◌, ◌⊎◌, true, false, List, [], ◌∷◌, ◌++◌, map, length}
-use Rattle.avr_desk.specs.Record.{DeskView}
-use Rattle.avr_desk.specs.Said.{Saying}
+use Rattle.avr_desk.specs.Record.{DeskView, Passes}
+use Rattle.avr_desk.specs.Said.{Saying, after_all}
 use Rattle.avr_plan.specs.Plan.{Plan}
 use Rattle.avr_session.specs.Run.{StopsSession}
 use Rattle.avr_session.specs.Runs.{devices}
@@ -10,7 +10,8 @@ use Rattle.avr_session.specs.Session.{session}
 use Rattle.stk_emu.specs.Device.{device}
 use Rattle.stk_emu.specs.Effect.{Memories, memories_of}
 use Rattle.avr_course.specs.Few.{AreFew}
-use Rattle.stk_emu.specs.Programmer.{fresh_programmer}
+use Rattle.stk_emu.specs.Programmer.{Programmer, fresh_programmer}
+use Rattle.stk_emu.specs.Turn.{Turn}
 use Rattle.stk_emu.specs.Wire.{turns_of}
 use Rattle.stk_emu.specs.Wired.{WiredState, wired_view}
 use Rattle.stk_frame.specs.Commands.{body}
@@ -19,8 +20,8 @@ use Rattle.stk_frame.specs.declared.command.Command.{Command}
 use Rattle.stk_host.specs.Dialog.{Event, played, sayings}
 use Rattle.stk_host.specs.Talk.{sent, heard}
 use Rattle.avr_course.specs.Again.{AgreesAnyway}
-use Rattle.avr_course.specs.Bound.{run_steps}
-use Rattle.avr_course.specs.Foretold.{IsForetold}
+use Rattle.avr_session.specs.PlanSteps.{run_steps}
+use Rattle.avr_course.specs.Foretold.{IsForetold, EndsAsForetold}
 use Rattle.avr_course.specs.Items.{items, asked_items, has_erase}
 use Rattle.avr_course.specs.Outcome.{IsCourse, IsDone, MakesStrokes}
 use Rattle.avr_course.specs.Told.{IsTrue, SaidTrue}
@@ -39,12 +40,61 @@ abbrev pub bodies_in : List (List Command) → List (List ℕ)
 bodies_in [] = []
 bodies_in (commands ∷ steps) = map body commands ++ bodies_in steps
 
--- the memories of the chip behind a wire; the frames that went out over it
+-- Whatever is reported among these events was true of the chip as the frames sent before had left it.
+abbrev pub WereTrue : Plan → Programmer → List Turn → List (Event Saying) → Type 0
+WereTrue plan p turns events =
+    SaidTrue device (λ q saying. IsTrue plan (memories_of p.chip) (memories_of q.chip) saying) events turns p
+
+-- However a session of this plan ends, also if it is broken off or waits for ever: its frames had these turns and led
+-- the programmer from the one to the other, these bytes were sent, and over what was heard it does these events.
+pub record OverTurns (plan : Plan) (p q : Programmer) (turns : List Turn) (bytes : List ℕ)
+    (events : List (Event Saying)) : Type 0 where
+  -- the first strokes of the plan were made, those that were completed, and perhaps one more
+  pub strokes : MakesStrokes plan p turns (length (frames bytes)) (memories_of p.chip) (memories_of q.chip)
+  -- at most four frames for each command of the plan's steps, by every weight of bodies
+  pub four : (weight : Weight) → weighed weight (map body_of (frames bytes))
+      ≤ 4 * weighed weight (bodies_in (run_steps plan))
+  -- each line that the session reports and each file that it writes was true of the chip at that moment
+  pub believable : WereTrue plan p turns events
+  -- and what it says is what the course says, or as much of that as actions came to their ends, and then the line of
+  -- the step that failed
+  pub foretold : IsForetold plan (memories_of p.chip) (sayings events)
+
+-- What is so too of a session that came to this status. A course is what is said, the status and the memories of the
+-- same plan over a perfect line.
+pub record ComesOverTurns (plan : Plan) (before after : Memories) (turns : List Turn) (says : List Saying)
+    (status : ℕ) : Type 0 where
+  -- with the line of a step that failed the status is 1
+  pub said : EndsAsForetold plan before says status
+  -- status 0 can be trusted: nothing but the line's own trouble was hidden
+  pub success : status ≡ 0 → IsCourse plan before after says status
+  -- all that the plan writes was written, and all that it compares agreed
+  pub done : status ≡ 0 → IsDone plan before after
+  -- each memory holds its images, later over earlier, and the rest is as it was, or as an erase leaves it
+  pub images : status ≡ 0 → plan.switches.no_verify ≡ false
+      → IsWritten plan.part (asked_items plan) before after
+  -- a line that is bad, but not too bad, changes nothing: where of any seven frames in a row at most three go wrong,
+  -- of which a reset counts four, the session is its course
+  pub few_bad : AreFew turns → IsCourse plan before after says status
+  -- and then a plan that erases, and agrees on a chip of 00 and on one of FF, succeeds, whatever the chip was
+  pub again : AreFew turns → has_erase (items plan) ≡ true → AgreesAnyway plan → status ≡ 0
+
+abbrev pub WholeOverTurns : Plan → Programmer → Programmer → List Turn → List ℕ → List (Event Saying) → ℕ → Type 0
+WholeOverTurns plan p q turns bytes events status =
+    OverTurns plan p q turns bytes events
+    × ComesOverTurns plan (memories_of p.chip) (memories_of q.chip) turns (sayings events) status
+
+-- ---- over a wire
+
+-- the memories of the chip behind it; the frames that went out; all that the session does over what was heard
 abbrev pub memories : WiredState → Memories
 memories w = memories_of w.wire.programmer.chip
 
 abbrev pub frames_over : WiredState → List (List ℕ)
 frames_over w = frames (sent w.talk)
+
+abbrev pub events_over : Plan → WiredState → List (Event Saying)
+events_over plan w = (played (session plan) 1 (heard w.talk)).events
 
 -- It stopped as it was played: a device failed, by the count of its failures and as the first, or memory was refused
 -- where an action takes it.
@@ -52,39 +102,11 @@ abbrev pub Stopped : Plan → WiredState → WiredState → DeskView → DeskVie
 Stopped plan before after old now =
     StopsSession plan (devices (wired_view before) old) (devices (wired_view after) now)
 
--- Whatever is reported among these events was true of the chip as the frames sent before had left it.
-abbrev pub WereTrue : Plan → WiredState → List (Event Saying) → Type 0
-WereTrue plan before events =
-    SaidTrue device (λ q saying. IsTrue plan (memories before) (memories_of q.chip) saying) events before.wire
-
--- What a session of this plan did from one state of a wire to another, whatever the fates of its frames. A course is
--- what is said, the status and the memories of the same plan over a perfect line.
+-- What a session of this plan did from one state of a wire to another, whatever the fates of its frames: it came to
+-- its status, and all that it said was done at the desk; or it stopped, with status 1.
 pub record OverAnyLine (plan : Plan) (before after : WiredState) (old now : DeskView) (status : ℕ) : Type 0 where
-  -- status 0 can be trusted: nothing but the line's own trouble was hidden
-  pub success : status ≡ 0 → IsCourse plan (memories before) (memories after) old now status
-  -- all that the plan writes was written, and all that it compares agreed
-  pub done : status ≡ 0 → IsDone plan (memories before) (memories after)
-  -- each memory holds its images, later over earlier, and the rest is as it was, or as an erase leaves it
-  pub images : status ≡ 0 → plan.switches.no_verify ≡ false
-      → IsWritten plan.part (asked_items plan) (memories before) (memories after)
-  -- whatever the status: the first strokes of the plan were made, those that were completed, and perhaps one more
-  pub strokes : MakesStrokes plan (fresh_programmer before.wire.programmer.chip) (turns_of before.wire.fates)
-      (length (frames_over after)) (memories before) (memories after)
-  -- where no frame went out the chip is untouched
-  pub untouched : frames_over after ≡ [] → memories after ≡ memories before
-  -- at most four frames for each command of the plan's steps, by every weight of bodies
-  pub four : (weight : Weight) → weighed weight (map body_of (frames_over after))
-      ≤ 4 * weighed weight (bodies_in (run_steps plan))
-  -- whatever the status: each line that the session tells and each file that it writes, over what was heard, was true
-  -- of the chip at that moment; and what was reported and written is a prefix of that
-  pub believable : WereTrue plan before (played (session plan) 1 (heard after.talk)).events
-  -- and it is what the course says, or as much of that as actions came to their ends, and then the line of the step
-  -- that failed
-  pub foretold : IsForetold plan (memories before) (sayings (played (session plan) 1 (heard after.talk)).events)
-  -- a line that is bad, but not too bad, changes nothing: where of any seven frames in a row at most three go wrong,
-  -- of which a reset counts four, the session is its course, unless it stopped
-  pub few_bad : AreFew (turns_of before.wire.fates)
-      → IsCourse plan (memories before) (memories after) old now status ⊎ Stopped plan before after old now
-  -- and then a plan that erases, and agrees on a chip of 00 and on one of FF, succeeds, whatever the chip was
-  pub again : AreFew (turns_of before.wire.fates) → has_erase (items plan) ≡ true → AgreesAnyway plan
-      → (status ≡ 0) ⊎ Stopped plan before after old now
+  pub line : OverTurns plan (fresh_programmer before.wire.programmer.chip) after.wire.programmer
+      (turns_of before.wire.fates) (sent after.talk) (events_over plan after)
+  pub end : (ComesOverTurns plan (memories before) (memories after) (turns_of before.wire.fates)
+      (sayings (events_over plan after)) status × Passes (after_all (sayings (events_over plan after))) old now)
+      ⊎ (Stopped plan before after old now × (status ≡ 1))

@@ -42,9 +42,12 @@ after_sent m (piece ∷ sent) becames p =
 
 -- The turn of a question, by what became of the programmer and what was read: an answer to a command that was obeyed is
 -- its own, if it isn't the refusal.
+abbrev pub answered_turn : Became → List ℕ → Turn
+answered_turn Obeyed body = if bytes_eq body refusal then Wrong Obeyed Refusal else Right
+answered_turn became body = Wrong became Refusal
+
 abbrev pub turn_by : Became → Reading → Turn
-turn_by Obeyed (Answered body) = if bytes_eq body refusal then Wrong Obeyed Refusal else Right
-turn_by became (Answered body) = Wrong became Refusal
+turn_by became (Answered body) = answered_turn became body
 turn_by became Silent = Wrong became Nothing
 turn_by became Ended = Wrong became Ending
 turn_by became Babbled = Wrong became Babble

@@ -8,8 +8,7 @@ use Rattle.avr_plan.specs.Plan.{Plan}
 use Rattle.stk_host.specs.declared.fault.HostFault.{HostFault}
 use Rattle.stk_host.specs.Operations.{comparison}
 use Rattle.stk_emu.specs.Effect.{Memories, Erase, Write, effect, memory_in}
-use Rattle.avr_session.specs.declared.standing.Standing.{Standing}
-use Rattle.avr_session.specs.declared.standing.Standing.TheVariants.{Fine}
+use Rattle.avr_session.specs.Standing.{Standing, Fine}
 use Rattle.avr_session.specs.Actions.{Action, OpenSession, EraseChip, WriteImage, CompareImage, SaveMemory, LeaveOut, actions}
 use Rattle.avr_session.specs.Session.{standing, fault_or, opening_says, left_out_says, erased_says, written_says, verified_says, closed_says, read_says, status_of}
 
@@ -70,12 +69,12 @@ ending_says plan Fine = closed_says plan.switches.quiet plan.part (Ok tt)
 ending_says plan _ = []
 
 -- all that is said, the status, and the memories at the end
-pub record Run : Type 0 where
+pub record WholeCourse : Type 0 where
   pub says : List Saying
   pub status : ℕ
   pub memories : Memories
 
-abbrev pub course : Plan → Memories → Run
+abbrev pub course : Plan → Memories → WholeCourse
 course plan m = record {
   says = (working_course plan m).says ++ ending_says plan (working_course plan m).standing;
   status = status_of (working_course plan m).standing;

@@ -1,5 +1,5 @@
 -- A line on which few frames go wrong.
-use Rattle.std.specs.Prelude.{ℕ, zero, suc, ◌+◌, ◌≤◌, List, [], ◌∷◌}
+use Rattle.std.specs.Prelude.{◌≡◌, ℕ, zero, suc, ◌+◌, ◌≤◌, List, [], ◌∷◌}
 use Rattle.stk_emu.specs.Turn.{Turn, Became, Kept, Obeyed, Anew, Instead, Refusal, Nothing, Babble, Ending, Right, Wrong, first_turn, other_turns}
 
 -- One, where a question goes wrong; four, where a programmer begins anew or the line ends, since no attempt can succeed
@@ -41,3 +41,8 @@ lost = Wrong Kept Nothing
 -- Each second command is lost: of any six frames in a row three go wrong, and of these seven four.
 abbrev pub each_second : List Turn
 each_second = lost ∷ Right ∷ lost ∷ Right ∷ lost ∷ Right ∷ lost ∷ []
+
+-- all turns to come are right
+abbrev pub AreGood : List Turn → Type 0
+AreGood [] = Unit {0}
+AreGood (turn ∷ turns) = (turn ≡ Right) × AreGood turns

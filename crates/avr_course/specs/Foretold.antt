@@ -8,7 +8,7 @@ use Rattle.avr_plan.specs.Plan.{Plan}
 use Rattle.stk_host.specs.Operations.{host_fault}
 use Rattle.stk_host.specs.declared.fault.StepFault.{StepFault}
 use Rattle.stk_emu.specs.Effect.{Memories}
-use Rattle.avr_session.specs.declared.standing.Standing.TheVariants.{Fine}
+use Rattle.avr_session.specs.Standing.{Fine}
 use Rattle.avr_session.specs.Actions.{Action, actions}
 use Rattle.avr_session.specs.Lines.{fault_line}
 use Rattle.avr_course.specs.Course.{actions_course, course}

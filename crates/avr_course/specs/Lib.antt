@@ -1,8 +1,6 @@
 -- what a line does to a conversation with the emulated programmer, and what holds along it
 pub mod AnyTape
 pub mod NoFrame
-pub mod Climbs
-pub mod Leads
 pub mod Few
 pub mod Tallies
 -- what a run makes of a chip, does and says, over any line
@@ -26,6 +24,7 @@ pub use Rattle.avr_part.specs.Sound
 pub use Rattle.avr_part.specs.State
 pub use Rattle.avr_plan.specs.Plan
 pub use Rattle.avr_session.specs.Actions
+pub use Rattle.avr_session.specs.Run
 pub use Rattle.avr_session.specs.Runs
 pub use Rattle.avr_session.specs.Session
 pub use Rattle.avr_session.specs.Stopping

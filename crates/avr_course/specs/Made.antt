@@ -1,18 +1,36 @@
 -- How many strokes of a plan have been completed along a line, each by all of its commands.
-use Rattle.std.specs.Prelude.{List, [], ◌∷◌}
+use Rattle.std.specs.Prelude.{ℕ, suc, List, [], ◌∷◌, Ok, Err}
 use Rattle.avr_cli.specs.declared.settings.Switches.{Switches}
 use Rattle.avr_part.specs.Part.{Part}
 use Rattle.avr_plan.specs.Plan.{Plan}
 use Rattle.avr_session.specs.Actions.{Action, actions}
 use Rattle.avr_session.specs.Session.{phase}
-use Rattle.avr_session.specs.declared.standing.Standing.{Standing}
-use Rattle.avr_session.specs.declared.standing.Standing.TheVariants.{Fine}
-use Rattle.avr_course.specs.Climbs.{steps_done}
-use Rattle.stk_emu.specs.Device.{device}
+use Rattle.avr_session.specs.Standing.{Standing, Fine}
+use Rattle.stk_emu.specs.Along.{along}
+use Rattle.stk_emu.specs.Device.{Device, device}
+use Rattle.stk_emu.specs.Turn.{Turn}
+use Rattle.stk_frame.specs.declared.command.Command.{Command}
+use Rattle.stk_host.specs.Dialog.{Dialog, Done, Say, Ask}
+use Rattle.stk_host.specs.Steps.{StepOutcome, step}
 use Rattle.stk_emu.specs.Programmer.{Programmer}
 use Rattle.stk_emu.specs.Strokes.{all_steps}
 use Rattle.avr_course.specs.Tallies.{Count, then_count}
 use Rattle.avr_course.specs.Items.{action_items}
+
+-- one more step, where it was completed
+abbrev pub step_count : Dialog ⊥ StepOutcome → ℕ → ℕ
+step_count (Done (Ok bytes)) more = suc more
+step_count (Done (Err fault)) more = 0
+step_count (Say e dialog) more = 0
+step_count (Ask bytes go_on) more = 0
+
+-- How many steps have been completed after so many questions, along the line: by what its turns bring, not by what
+-- somebody heard.
+abbrev pub steps_done : {P : Type 0} → Device P → List (List Command) → ℕ → P → List Turn → ℕ
+steps_done m [] k p turns = 0
+steps_done m (commands ∷ steps) k p turns =
+    let s = along m k (step commands) p turns in
+    step_count s.dialog (steps_done m steps s.left s.programmer s.turns)
 
 abbrev pub none_made : Count Programmer
 none_made k p turns = 0

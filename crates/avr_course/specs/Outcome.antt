@@ -1,7 +1,6 @@
 -- What a run leaves in a chip, whatever the line did.
 use Rattle.std.specs.Prelude.{ℕ, suc, ◌≡◌, ◌≤◌, ◌-◌, List, take}
-use Rattle.avr_desk.specs.Record.{DeskView, Passes}
-use Rattle.avr_desk.specs.Said.{after_all}
+use Rattle.avr_desk.specs.Said.{Saying}
 use Rattle.avr_plan.specs.Plan.{Plan}
 use Rattle.stk_emu.specs.Turn.{Turn}
 use Rattle.stk_emu.specs.Effect.{Item, Memories, effects}
@@ -22,12 +21,13 @@ pub record IsTouched (plan : Plan) (before after : Memories) : Type 0 where
   pub memories : after ≡ effects plan.part (take count (strokes plan)) before
 
 -- The same, sharper, after so many frames over a line of these turns: at least as many strokes as have been completed
--- by then, and at most one more than had before the last frame, whose answer may not have come.
+-- by then, and at most one more than had before the last frame, whose answer may not have come; none without a frame.
 pub record MakesStrokes (plan : Plan) (p : Programmer) (turns : List Turn) (frames : ℕ)
     (before after : Memories) : Type 0 where
   pub count : ℕ
   pub at_least : made_by plan frames p turns ≤ count
   pub at_most : count ≤ suc (made_by plan (frames - 1) p turns)
+  pub none : frames ≡ 0 → count ≡ 0
   pub memories : after ≡ effects plan.part (take count (strokes plan)) before
 
 -- After a run of status 0: all that the plan writes was written, and all that it compares agreed.
@@ -35,8 +35,8 @@ pub record IsDone (plan : Plan) (before after : Memories) : Type 0 where
   pub memories : after ≡ effects plan.part (items plan) before
   pub agrees : Agrees plan before
 
--- A run that went as its course says: what was said at the desk, its status, and the memories.
-pub record IsCourse (plan : Plan) (before after : Memories) (old new : DeskView) (status : ℕ) : Type 0 where
-  pub said : Passes (after_all (course plan before).says) old new
+-- A run that went as its course says, over a perfect line: what was said, its status, and the memories.
+pub record IsCourse (plan : Plan) (before after : Memories) (says : List Saying) (status : ℕ) : Type 0 where
+  pub said : says ≡ (course plan before).says
   pub status_is : status ≡ (course plan before).status
   pub memories : after ≡ (course plan before).memories

@@ -1,9 +1,9 @@
 -- How many strokes are made along a dialog of several calls.
-use Rattle.std.specs.Prelude.{ℕ, suc, ◌+◌, ◌-◌, ◌≤◌, ◌≡◌, ◌⊎◌, List}
+use Rattle.std.specs.Prelude.{ℕ, suc, ◌+◌, ◌-◌, ◌≤◌, ◌≡◌, List}
 use Rattle.stk_host.specs.Dialog.{Dialog, Done, Say, Ask}
 use Rattle.stk_emu.specs.Turn.{Turn}
 use Rattle.stk_emu.specs.Device.{Device}
-use Rattle.stk_emu.specs.Along.{LineState, along}
+use Rattle.stk_emu.specs.Along.{along}
 
 -- how many have been completed after so many questions, from a programmer and the turns to come
 abbrev pub Count : Type 0 → Type 0
@@ -29,10 +29,3 @@ pub record Tallies {E R P : Type 0} (m : Device P) (d : Dialog E R) (done : Coun
   pub at_least : (k : ℕ) → done k p turns ≤ count k
   pub at_most : (k : ℕ) → count k ≤ suc (done (k - 1) p turns)
   pub stands : (k : ℕ) → At (count k) (along m k d p turns).programmer
-
--- How the next dialog goes on from where one stands: it makes its strokes after those made; and either so many had
--- been completed earlier, before the last question, or it makes none.
-pub record GoesOn {E A B P : Type 0} (m : Device P) (At : ℕ → P → Type 0) (s : LineState E A P) (made earlier : ℕ)
-    (next : Dialog E B) (more : Count P) : Type 0 where
-  pub rest : Tallies m next more (λ j. At (made + j)) s.programmer s.turns
-  pub sharp : ((l : ℕ) → s.left ≡ suc l → made ≤ earlier) ⊎ ((l : ℕ) → rest.count l ≡ 0)

@@ -18,9 +18,7 @@ use Rattle.stk_host.specs.declared.fault.HostFault.{HostFault}
 use Rattle.stk_host.specs.declared.fault.StepFault.{StepFault}
 use Rattle.stk_emu.specs.Device.{Device, after_frame}
 use Rattle.stk_emu.specs.Effect.{Image, Item, Erase, Write, Memories, effect, effects, memory_in}
-use Rattle.stk_emu.specs.Wire.{Wire, wire_behind}
-use Rattle.avr_course.specs.AnyTape.{first_became, other_becames}
-use Rattle.stk_emu.specs.Turn.{Turn, Became, after_became, after_turn, turn_reading, first_turn, other_turns}
+use Rattle.stk_emu.specs.Turn.{Turn, after_turn, turn_reading, first_turn, other_turns}
 use Rattle.avr_course.specs.Agrees.{Shows}
 use Rattle.avr_course.specs.Items.{items}
 
@@ -74,16 +72,9 @@ pub data IsTrue (plan : Plan) (before now : Memories) (saying : Saying) : Type 0
       → IsTrue plan before now saying
   SessionDone : saying ≡ Line (information (codes "done" ∷ [])) → IsTrue plan before now saying
 
--- Whatever is said among events holds of the programmer as the frames sent before it left it, over a wire.
-abbrev pub SaidTrue : {E P : Type 0} → Device P → (P → E → Type 0) → List (Event E) → Wire P → Type 0
-SaidTrue m IsTrue [] w = ⊤
-SaidTrue m IsTrue (Frame bytes ∷ events) w = SaidTrue m IsTrue events (wire_behind m bytes w)
-SaidTrue m IsTrue (Said e ∷ events) w = IsTrue w.programmer e × SaidTrue m IsTrue events w
-
--- the same over any line, by what became of the programmer at each frame
-abbrev pub SaidTrueBy : {E P : Type 0} → Device P → (P → E → Type 0) → List (Event E) → List Became → P → Type 0
-SaidTrueBy m IsTrue [] becames p = ⊤
-SaidTrueBy m IsTrue (Frame bytes ∷ events) becames p =
-    SaidTrueBy m IsTrue events (other_becames becames)
-    (after_became (first_became becames) (after_frame m bytes p) p m.reset)
-SaidTrueBy m IsTrue (Said e ∷ events) becames p = IsTrue p e × SaidTrueBy m IsTrue events becames p
+-- Whatever is said among events holds of the programmer as the frames sent before it left it, by their turns.
+abbrev pub SaidTrue : {E P : Type 0} → Device P → (P → E → Type 0) → List (Event E) → List Turn → P → Type 0
+SaidTrue m IsTrue [] turns p = ⊤
+SaidTrue m IsTrue (Frame bytes ∷ events) turns p =
+    SaidTrue m IsTrue events (other_turns turns) (after_turn (first_turn turns) (after_frame m bytes p) p m.reset)
+SaidTrue m IsTrue (Said e ∷ events) turns p = IsTrue p e × SaidTrue m IsTrue events turns p

@@ -1,30 +1,16 @@
 //! When the same run again comes to what one run comes to, and when it succeeds whatever the chip was. No code.
 #![tactic(auto)]
 
-ghost use Rattle.std.specs.Prelude.{◌≡◌, ◌∷◌, ℕ, true, false, List, take, All};
-ghost use Rattle.avr_part.specs.Part.{Part, IsPart};
+ghost use Rattle.std.specs.Prelude.{◌≡◌, ℕ, true, take, All};
+ghost use Rattle.avr_part.specs.Part.{IsPart};
 ghost use Rattle.avr_plan.specs.Plan.{Plan, IsFitted};
-ghost use Rattle.stk_emu.specs.Effect.{Memories, Item, Erase, erase_keeps_eeprom, effects};
+ghost use Rattle.stk_emu.specs.Effect.{Memories, erase_keeps_eeprom, effects};
 ghost use Rattle.stk_emu.specs.Settled.{FitsPart};
 ghost use Rattle.avr_course.specs.Again.{AreKeeping, AgreesAnyway, Heals};
 ghost use Rattle.avr_course.specs.Agrees.{Agrees};
 ghost use Rattle.avr_course.specs.Course.{course};
 ghost use Rattle.avr_course.specs.Items.{items, has_erase};
 ghost use Rattle.avr_course.specs.Outcome.{strokes, IsTouched, IsDone};
-
-/// An erase and writes after any first ones of them come to what they come to alone, unless these took the EEPROM's
-/// keeping away.
-pub fn first_items_and_then_all_are_all()
-    ensures { (part : Part) (items : List Item) (k : ℕ) (m : Memories) → has_erase items ≡ false
-        → (erase_keeps_eeprom part m ≡ true → erase_keeps_eeprom part (effects part (take k (Erase ∷ items)) m) ≡ true)
-        → effects part (Erase ∷ items) (effects part (take k (Erase ∷ items)) m) ≡ effects part (Erase ∷ items) m }
-{}
-
-/// Writes after any first ones of them come to what they come to alone, whatever they lock.
-pub fn first_writes_and_then_all_are_all()
-    ensures { (part : Part) (items : List Item) (k : ℕ) (m : Memories) → has_erase items ≡ false
-        → effects part items (effects part (take k items) m) ≡ effects part items m }
-{}
 
 /// A plan comes, over the memories that any first strokes of it left, to what it comes to over those before. Only where
 /// it erases and the chip keeps EEPROM at an erase, each byte that it writes to the high fuse must keep it too.

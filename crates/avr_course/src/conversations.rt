@@ -1,8 +1,7 @@
 //! Laws of a conversation with the emulated programmer over a bad line: what a line does to a question is a turn, and a
 //! conversation goes along the turns question by question, over a wire and over any tape on which no frame is made.
 
-ghost use Rattle.std.specs.Prelude.{filter, true, ◌≡◌, ◌++◌, ℕ, List, [], ◌∷◌, Some, Ok, Bool, length, replicate, ◌<◌, ◌≤◌, Err};
-ghost use Rattle.avr_part.specs.State as chip;
+ghost use Rattle.std.specs.Prelude.{filter, true, ◌≡◌, ◌++◌, ℕ, List, [], ◌∷◌, Ok, Bool, length, replicate, ◌<◌, ◌≤◌, Err};
 ghost use Rattle.avr_part.specs.Part.{Part, IsPart};
 ghost use Rattle.stk_frame.specs.declared.command.Command.{Command};
 ghost use Rattle.stk_frame.specs.Frame.{frame};
@@ -15,55 +14,17 @@ ghost use Rattle.stk_emu.specs.Programmer.{Programmer};
 ghost use Rattle.stk_emu.specs.Device.{device, after_frames};
 ghost use Rattle.avr_course.specs.NoFrame.{MakesNoFrame};
 ghost use Rattle.avr_course.specs.AnyTape.{AreHonest, GoesAs, CameThrough, after_sent, became_by};
-ghost use Rattle.stk_emu.specs.Lawful.{IsBody, IsClear};
-ghost use Rattle.stk_emu.specs.Wire.{Wire, AreLawful, IsLawfulFate, first_fate, turn_of, becames_of, segment, tape_of};
-ghost use Rattle.stk_emu.specs.Turn.{Became, Turn, turn_reading};
-ghost use Rattle.stk_emu.specs.Along.{along, AsksBodies, Fused};
+ghost use Rattle.stk_emu.specs.Lawful.{IsClear};
+ghost use Rattle.stk_emu.specs.Wire.{Wire, AreLawful, becames_of, tape_of};
+ghost use Rattle.stk_emu.specs.Turn.{Became, Turn};
+ghost use Rattle.stk_emu.specs.Along.{along, AsksBodies};
 ghost use Rattle.stk_emu.specs.Effect.{Memories};
-ghost use Rattle.stk_emu.specs.Settled.{Settled, Ready, FitsPart};
-ghost use Rattle.stk_emu.specs.Fits.{Fits};
-ghost use Rattle.stk_emu.specs.Strokes.{IsStep, AreSteps, struck, struck_by};
+ghost use Rattle.stk_emu.specs.Settled.{Ready, FitsPart};
+ghost use Rattle.stk_emu.specs.Strokes.{IsStep, AreSteps};
 ghost use Rattle.stk_emu.specs.Given.{given_by, all_given};
-ghost use Rattle.avr_course.specs.Leads.{AreGood};
-ghost use Rattle.avr_course.specs.Few.{AreFew, FewOf, lost, each_second};
-ghost use Rattle.avr_course.specs.Climbs.{Climbs};
+ghost use Rattle.avr_course.specs.Few.{AreFew, FewOf, lost, each_second, AreGood};
 ghost use Rattle.stk_host.specs.declared.fault.StepFault.TheVariants.{NoAnswer};
 ghost use Rattle.stk_frame.specs.declared.command.Command.TheVariants.{LoadAddress};
-
-/// Of what a frame brings over the wire nothing is left when its answer was read: it is the programmer's answer, the
-/// refusal or a silence, as the frame's fate is; a late answer to another frame is passed over.
-pub fn a_segment_is_read_whole()
-    ensures { (n : ℕ) (bytes : List ℕ) (w : Wire Programmer) (more : Tape) → IsBody bytes → IsClear n w.late
-        → IsLawfulFate (first_fate w.fates)
-        → answer n (segment device (frame n bytes) w ++ more) ≡ Some
-        (turn_reading (turn_of (first_fate w.fates)) (device.answer bytes w.programmer), more) }
-{}
-
-/// A conversation that is played over what a wire brings for its frames goes along the line question by question: the
-/// programmer obeys what the turns let through, in order, nothing waits, and what the conversation comes to is what it
-/// comes to along the line.
-pub fn a_conversation_goes_along_the_line<E, R>()
-    ensures { (d : Dialog E R) (n : ℕ) (w : Wire Programmer) (sent more : List (List ℕ)) → AsksBodies d
-        → IsClear n w.late → AreLawful w.fates
-        → frames_in (played d n (tape_of device sent w)).events ≡ sent ++ more → Fused device d n w sent }
-{}
-
-/// Obeying any first commands of a step from a settled programmer leaves the memories or what the step makes of them;
-/// all of the step leaves the latter, and keeps it where it was made before: also where the chip is locked.
-pub fn a_step_leads_to_its_stroke()
-    ensures { (part : Part) (commands : List Command) (m : Memories) → IsPart part → IsStep part commands
-        → Fits device commands (Settled part m) (Settled part (struck part commands m)) }
-{}
-
-/// Whatever the line does: at each moment of a play of steps the memories are those of the first so many steps, as many
-/// as were completed and perhaps one more; and where the play was completed, of all.
-pub fn a_play_climbs_from_step_to_step()
-    ensures { (part : Part) (steps : List (List Command)) (m : Memories) (k : ℕ) (before : List ℕ) (p : Programmer)
-        (turns : List Turn)
-        → IsPart part → AreSteps part steps → Settled part m p
-        → Climbs device (λ j. Settled part (struck_by part j steps m)) k steps p turns
-        (along device k (play steps before) p turns) }
-{}
 
 /// Where of any seven frames in a row at most three go wrong, a step comes to what it gives, and the line after it is
 /// such a line; so a play of steps comes to all that they give. A good line is the simplest one. The bound is sharp:

@@ -14,7 +14,7 @@ ghost use Rattle.avr_course.specs.Few.{AreFew};
 ghost use Rattle.stk_emu.specs.Programmer.{Programmer};
 ghost use Rattle.stk_emu.specs.Settled.{Idle, FitsPart};
 ghost use Rattle.stk_emu.specs.Turn.{Turn};
-ghost use Rattle.avr_course.specs.Bound.{run_steps};
+ghost use Rattle.avr_session.specs.PlanSteps.{run_steps};
 ghost use Rattle.avr_course.specs.Course.{course};
 
 /// Where of any seven frames in a row at most three go wrong (a reset of the programmer counts four), a session is done

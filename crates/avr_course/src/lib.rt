@@ -17,20 +17,16 @@ mod conversations;
 mod written;
 
 pub use again::{
-    a_second_run_heals_the_first, first_items_and_then_all_are_all,
-    first_writes_and_then_all_are_all, the_same_run_again_heals,
-    what_agrees_on_two_chips_agrees_on_all,
+    a_second_run_heals_the_first, the_same_run_again_heals, what_agrees_on_two_chips_agrees_on_all,
 };
 pub use any_line::{
-    a_run_leaves_its_strokes, a_run_listens_at_most_once_for_each_frame,
-    a_run_makes_its_strokes_in_order, a_run_sends_at_most_four_times_its_commands,
-    a_session_says_its_course_up_to_a_fault, what_a_run_tells_is_true,
-    what_is_told_over_any_line_is_true, what_was_told_was_true,
+    a_run_listens_at_most_once_for_each_frame, a_run_makes_its_strokes_in_order,
+    a_run_sends_at_most_four_times_its_commands, a_session_over_any_line,
+    a_session_says_its_course_up_to_a_fault, what_a_run_tells_is_true, what_was_told_was_true,
+    whatever_becomes_of_a_session_its_first_strokes_were_made,
 };
 pub use conversations::{
-    a_conversation_goes_along_the_line, a_line_that_makes_no_frame_is_honest,
-    a_play_climbs_from_step_to_step, a_segment_is_read_whole, a_step_leads_to_its_stroke,
-    a_wire_is_an_honest_line, few_bad_fates_bring_all_data,
+    a_line_that_makes_no_frame_is_honest, a_wire_is_an_honest_line, few_bad_fates_bring_all_data,
     over_any_tape_a_conversation_goes_along_turns,
 };
 pub use few_bad_frames::a_run_with_few_bad_frames_has_its_course;

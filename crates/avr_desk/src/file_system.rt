@@ -3,6 +3,7 @@ ghost use Rattle.std.specs.Prelude.{◌≡◌, ⊤, true, IfOk, IfErr, OnOk, Mat
 ghost use Rattle.std.specs.IoError.{error_kind};
 ghost use Rattle.avr_desk.specs.Record.{Bytes};
 
+use crate::bounded::{Bounded, create};
 use crate::replacing::Replacement;
 use std::alloc::Global;
 use std::io::{ErrorKind, Read, Write};
@@ -63,7 +64,7 @@ pub trait FileSystem {
 }
 
 impl<R: Files<File = fs::File> + Alloc<A = Global>> FileSystem for R {
-    type File = fs::File;
+    type File = Bounded<fs::File>;
 
     type Hold = Replacement;
 
@@ -77,12 +78,12 @@ impl<R: Files<File = fs::File> + Alloc<A = Global>> FileSystem for R {
 
     ghost replaced = { λ name bytes. ⊤ };
 
-    fn open_named(&self, name: &str) -> io::Result<fs::File> {
-        fs::open(self, name)
+    fn open_named(&self, name: &str) -> io::Result<Bounded<fs::File>> {
+        Ok(Bounded::new(fs::open(self, name)?, None))
     }
 
-    fn create_named(&self, name: &str) -> io::Result<fs::File> {
-        fs::create(self, name)
+    fn create_named(&self, name: &str) -> io::Result<Bounded<fs::File>> {
+        create(self, name)
     }
 
     fn hold_named(&self, name: &str) -> io::Result<Option<Replacement>> {

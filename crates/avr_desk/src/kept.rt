@@ -1,6 +1,6 @@
 //! What a desk in memory keeps.
-ghost use Rattle.std.specs.Prelude.{◌≡◌, is_ok, if◌then◌else◌};
-ghost use Rattle.std.specs.Option.{option_copied};
+ghost use Rattle.std.specs.Prelude.{◌≡◌, ◌++◌, is_ok, if◌then◌else◌};
+ghost use Rattle.std.specs.Option.{option_copied, option_to_list};
 
 use crate::bytes::Bytes;
 use crate::record::{FileUse, Open, Opening, Writing, newest_created};
@@ -35,7 +35,7 @@ impl Model for Kept {
 }
 
 impl Kept {
-    ghost use Rattle.avr_desk.specs.Record.{after_err, after_out, after_write, with_open, with_absent, with_denied, with_held, with_none_held, with_replaced, nothing_kept, all_files, is_to_read, is_to_write};
+    ghost use Rattle.avr_desk.specs.Record.{after_err, after_out, after_write, with_open, with_absent, with_denied, with_held, with_none_held, with_replaced, nothing_kept, all_files, all_uses, is_to_read, is_to_write};
     ghost use Rattle.avr_desk.specs.Files.{after_reading};
     ghost use Rattle.avr_desk.specs.Named.{bytes_given, holds, newest};
 
@@ -116,11 +116,13 @@ impl Kept {
         self.messages.extend(bytes)
     }
 
-    /// Puts the open file by, and has another one open.
-    pub fn begin(&mut self, next: Open) -> Result<(), AllocError>
-        ensures { self.new ≡ (if is_ok result then with_open next self.old else self.old) }
+    /// Puts the open file by, adds `last` to the uses, and has `next` open.
+    fn close_current(&mut self, last: Option<FileUse>, next: Open) -> Result<(), AllocError>
+        ensures { self.new ≡ (if is_ok result
+            then record self.old { uses = all_uses self.old ++ option_to_list last; current = next }
+            else self.old) }
     {
-        self.uses.reserve(1)?;
+        self.uses.reserve(2)?;
         match mem::replace(&mut self.current, next) {
             Open::Closed => {}
             Open::ToRead(reading) => {
@@ -129,25 +131,25 @@ impl Kept {
             }
             Open::ToWrite(writing) => self.uses.push(FileUse::Created(writing)).unwrap(),
         }
+        if let Some(last) = last {
+            self.uses.push(last).unwrap();
+        }
         Ok(())
+    }
+
+    /// Puts the open file by, and has another one open.
+    pub fn begin(&mut self, next: Open) -> Result<(), AllocError>
+        ensures { self.new ≡ (if is_ok result then with_open next self.old else self.old) }
+    {
+        self.close_current(None, next)
     }
 
     /// Puts the open file by, and notes that there is no file of this name.
     pub fn note_absent(&mut self, name: Bytes) -> Result<(), AllocError>
         ensures { self.new ≡ (if is_ok result then with_absent name self.old else self.old) }
     {
-        self.uses.reserve(2)?;
-        match mem::replace(&mut self.current, Open::Closed) {
-            Open::Closed => {}
-            Open::ToRead(reading) => {
-                let found = Opening::Found(reading);
-                self.uses.push(FileUse::Opened(found)).unwrap()
-            }
-            Open::ToWrite(writing) => self.uses.push(FileUse::Created(writing)).unwrap(),
-        }
         let absent = Opening::Absent(name);
-        self.uses.push(FileUse::Opened(absent)).unwrap();
-        Ok(())
+        self.close_current(Some(FileUse::Opened(absent)), Open::Closed)
     }
 
     /// Whether the file of this name is held.
@@ -186,16 +188,7 @@ impl Kept {
     pub fn add(&mut self, file: Writing) -> Result<(), AllocError>
         ensures { self.new ≡ (if is_ok result then with_replaced file.name file.bytes self.old else self.old) }
     {
-        self.uses.reserve(2)?;
-        match mem::replace(&mut self.current, Open::Closed) {
-            Open::Closed => {}
-            Open::ToRead(reading) => {
-                let found = Opening::Found(reading);
-                self.uses.push(FileUse::Opened(found)).unwrap()
-            }
-            Open::ToWrite(writing) => self.uses.push(FileUse::Created(writing)).unwrap(),
-        }
-        self.uses.push(FileUse::Created(file)).unwrap();
+        self.close_current(Some(FileUse::Created(file)), Open::Closed)?;
         self.held = None;
         Ok(())
     }

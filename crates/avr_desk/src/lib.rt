@@ -22,6 +22,7 @@ mod line;
 mod message;
 
 // The desks.
+mod bounded;
 mod failing;
 mod file_system;
 mod journal;
@@ -34,6 +35,7 @@ mod watched;
 // What they keep.
 mod laws;
 
+pub use bounded::Bounded;
 pub use bytes::Bytes;
 pub use desk::{Desk, DeskFault};
 pub use failing::FailingDesk;

@@ -9,6 +9,7 @@ ghost use Rattle.std.specs.Prelude.{Option, OnOk};
 ghost use Rattle.avr_desk.specs.Handles.{IsHeldBy};
 ghost use Rattle.avr_desk.specs.Record.{Bytes};
 
+use crate::bounded::{create, longest_file};
 use crate::file_system::FileSystem;
 use std::alloc::Global;
 use std::fs::{File, Metadata, OpenOptions, Permissions, TryLockError};
@@ -25,9 +26,6 @@ const PERMISSIONS: u32 = 0o777;
 
 /// The mark of a file whose bytes are being written: the sticky bit, which means nothing at a regular file.
 const MARK: u32 = 0o1000;
-
-/// The resource of `getrlimit` that bounds the length of files.
-const LENGTH_OF_FILES: i32 = 1;
 
 /// The new file, which is renamed to `target`.
 #[derive(Drop)]
@@ -147,15 +145,6 @@ fn give_owner<R: Files>(rt: &R, file: &File, target: &str) -> io::Result<()> {
     Ok(())
 }
 
-/// Whether the system lets files be so long. (A write past its limit would end the program, by SIGXFSZ.)
-fn may_be_so_long(length: usize) -> bool {
-    let mut limit = libc::types::rlimit {
-        rlim_cur: u64::MAX,
-        rlim_max: u64::MAX,
-    };
-    libc::getrlimit(LENGTH_OF_FILES, &mut limit) != 0 || length as u64 <= limit.rlim_cur
-}
-
 /// Waits until the name of the file of this path is on the disk. A folder that can't be opened, or that the system
 /// can't wait for, is passed over.
 fn sync_folder<R: Files<File = File>>(rt: &R, path: &str) -> io::Result<()> {
@@ -244,7 +233,7 @@ impl NewFile {
         if !self.is_own()? {
             return Err(not_ours());
         }
-        if !may_be_so_long(bytes.len()) {
+        if bytes.len() as u64 > longest_file() {
             return Err(io::Error::from(ErrorKind::FileTooLarge));
         }
         let permissions = self.permissions(rt)?;
@@ -309,7 +298,7 @@ impl Replacement {
     pub(crate) fn put<R: Files<File = File>>(&mut self, rt: &R, bytes: &[u8]) -> io::Result<()> {
         match &mut self.new {
             Some(new) => new.put(rt, bytes),
-            None => fs::write(rt, self.name.as_str(), bytes),
+            None => create(rt, self.name.as_str())?.write_all(bytes),
         }
     }
 

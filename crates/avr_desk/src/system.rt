@@ -19,6 +19,7 @@ use crate::journal::{Call, Journal};
 use crate::replacing::replace_named;
 use crate::stream::Stream;
 use ghosts::Outlet;
+use ghosts::retry::{flush, read_some, write_some};
 use std::io::{ErrorKind, Read, Write};
 use std::marker::Model;
 use std::{fmt, io};
@@ -77,22 +78,6 @@ impl<'a, R: FileSystem + Input, O: Write + Drop, E: Write + Drop> Model
     ghost invariant = { λ desk. Stands desk.held desk.journal.kept.current };
 }
 
-/// Reads once, and again where a signal came in between.
-fn read_some<I: Read>(from: &mut I, buf: &mut [u8]) -> io::Result<usize>
-    ensures bound { IfOk result (λ n. n ≤ length buf.new) }
-    ensures ok { IfOk result (λ n. Consumes (I.remaining from.old) (I.remaining from.new) (take n buf.new)) }
-    ensures end { IfOk result (λ n. n ≡ 0 → 0 < length buf.new → IsAtEnd (I.remaining from.new)) }
-    ensures err { OnErr result (Keeps (I.remaining from.old) (I.remaining from.new)) }
-{
-    for _ in 0..u64::MAX {
-        match from.read(buf) {
-            Err(error) if error.kind() == ErrorKind::Interrupted => {}
-            result => return result,
-        }
-    }
-    Err(io::Error::from(ErrorKind::Interrupted))
-}
-
 /// Reads what is open.
 fn read_held<F: Read, I: Read>(held: &mut Held<F, I>, buf: &mut [u8]) -> io::Result<usize>
     ensures bound { IfOk result (λ n. n ≤ length buf.new) }
@@ -104,37 +89,6 @@ fn read_held<F: Read, I: Read>(held: &mut Held<F, I>, buf: &mut [u8]) -> io::Res
         Held::ToRead(file) => read_some(file, buf),
         _ => Err(io::Error::from(ErrorKind::NotFound)),
     }
-}
-
-/// Writes once, and again where a signal came in between. To take none of some bytes is an error.
-fn write_some<W: Write>(to: &mut W, bytes: &[u8]) -> io::Result<usize>
-    ensures bound { IfOk result (λ n. n ≤ length bytes.now) }
-    ensures some { IfOk result (λ n. n ≡ 0 → bytes.now ≡ []) }
-    ensures ok { IfOk result (λ n. Appends (W.contents to.old) (W.contents to.new) (take n bytes.now)) }
-    ensures err { OnErr result (Keeps (W.contents to.old) (W.contents to.new)) }
-{
-    for _ in 0..u64::MAX {
-        match to.write(bytes) {
-            Err(error) if error.kind() == ErrorKind::Interrupted => {}
-            Ok(0) if !bytes.is_empty() => return Err(io::Error::from(ErrorKind::WriteZero)),
-            result => return result,
-        }
-    }
-    Err(io::Error::from(ErrorKind::Interrupted))
-}
-
-/// Flushes once, and again where a signal came in between.
-fn flush<W: Outlet>(to: &mut W) -> io::Result<()>
-    ensures bytes { Keeps (W.contents to.old) (W.contents to.new) }
-    ensures out { OnOk result (W.is_out to.new) }
-{
-    for _ in 0..u64::MAX {
-        match to.flush_out() {
-            Err(error) if error.kind() == ErrorKind::Interrupted => {}
-            result => return result,
-        }
-    }
-    Err(io::Error::from(ErrorKind::Interrupted))
 }
 
 /// Writes once, and sees that it went out. A flush may fail after bytes that were taken: these are recorded too.

@@ -37,7 +37,7 @@ pub trait Pieces {
     /// let text = ListWriter::new(Base::Hex, &[18, 255]).to_vec(alloc)?;
     /// assert_eq!(rt; text.as_slice(), b"0x12,0xff\n".as_slice());
     /// ```
-    #[tactic(auto, using(crate::proofs::Texts::Pieces::goes_on, crate::proofs::Texts::Pieces::is_whole, crate::proofs::Texts::Pieces::none_left))]
+    #[tactic(auto, using(crate::proofs::Texts::Pieces::joins))]
     final fn to_vec(&mut self, alloc: Global) -> Result<Vec<u8>, AllocError>
         ensures text { IfOk result (λ text. text.items ≡ rest self.old) }
         ensures over { OnOk result (rest self.new ≡ []) }
@@ -58,7 +58,7 @@ pub trait Pieces {
     /// ListWriter::new(Base::Dec, &[18, 255]).write_to(&mut out)?;
     /// assert_eq!(rt; out.as_slice(), b"18,255\n".as_slice());
     /// ```
-    #[tactic(auto, using(crate::proofs::Texts::Pieces::piece_written, crate::proofs::Texts::Pieces::all_written, crate::proofs::Texts::Pieces::none_left))]
+    #[tactic(auto, using(crate::proofs::Texts::Pieces::writes))]
     final fn write_to<W: Write>(&mut self, out: &mut W) -> io::Result<()>
         ensures written { OnOk result (Appends (W.contents out.old) (W.contents out.new) (rest self.old)) }
         ensures over { OnOk result (rest self.new ≡ []) }

@@ -8,4 +8,3 @@ pub mod Powers
 pub mod Twice
 pub mod ChipFiles
 pub mod LineCounts
-pub mod Rows

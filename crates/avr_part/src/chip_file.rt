@@ -9,11 +9,17 @@ use crate::memory::Memory;
 use crate::part::{Mem, Part};
 use std::alloc::{AllocError, Global};
 
-/// The length of a chip file of this part.
-fn file_size(part: &Part) -> usize
-    ensures { result ≡ chip_file_size part.now }
-{
-    part.size_of(Mem::Flash) as usize + part.size_of(Mem::Eeprom) as usize + 4
+impl Part {
+    /// Returns how many bytes a chip file of this part has: its flash and EEPROM, three fuses and the lock.
+    ///
+    /// ```text
+    /// assert_eq!(rt; Parts::none().find("m328p")?.chip_file_size(), 33_796);
+    /// ```
+    pub fn chip_file_size(&self) -> u32
+        ensures { result ≡ chip_file_size self.now }
+    {
+        self.size_of(Mem::Flash) + self.size_of(Mem::Eeprom) + 4
+    }
 }
 
 /// The chip of a file that has the part's length.
@@ -39,7 +45,7 @@ fn read_chip(alloc: Global, part: Part, bytes: &[u8]) -> Result<Chip, AllocError
 fn write_chip(alloc: Global, chip: &Chip) -> Result<Vec<u8>, AllocError>
     ensures { IfOk result (λ v. v.items ≡ chip_file chip.now) }
 {
-    let mut bytes = Vec::with_capacity(alloc, file_size(&chip.part))?;
+    let mut bytes = Vec::with_capacity(alloc, chip.part.chip_file_size() as usize)?;
     bytes.extend_from_slice(chip.flash.as_slice())?;
     bytes.extend_from_slice(chip.eeprom.as_slice())?;
     bytes.extend_from_slice(&[chip.lfuse, chip.hfuse, chip.efuse, chip.lock])?;
@@ -59,7 +65,7 @@ impl Chip {
     pub fn from_bytes(alloc: Global, part: Part, bytes: &[u8]) -> Result<Chip, PartFault>
         ensures { GivesOrMemory (chip_in part bytes.now) result }
     {
-        if bytes.len() != file_size(&part) {
+        if bytes.len() != part.chip_file_size() as usize {
             return Err(PartFault::BadChipFile(bytes.len()));
         }
         read_chip(alloc, part, bytes).map_err(|_| PartFault::Memory)

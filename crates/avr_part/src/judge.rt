@@ -51,7 +51,7 @@ pub(crate) fn id_of(key: &str) -> Option<ArrayString<31>>
 }
 
 /// The value at a key.
-pub fn at_key<'a>(table: &'a Table, key: &str) -> Option<&'a Value>
+pub(crate) fn at_key<'a>(table: &'a Table, key: &str) -> Option<&'a Value>
     ensures { option_map (λ v. view v.now) result ≡ get_member key.now (table_view table.now) }
 {
     table.get(key)
@@ -164,7 +164,7 @@ fn judge_part(key: &str, value: &Value) -> Result<Part, PartFault>
 }
 
 /// A member of the table of parts, or its fault with the part's id.
-pub fn judge_member(key: &str, value: &Value) -> Result<Part, FileFault>
+pub(crate) fn judge_member(key: &str, value: &Value) -> Result<Part, FileFault>
     ensures value { result ≡ in_part key.now (part_of key.now (view value.now)) }
     ensures toml { IfErr result (λ fault. fault.fault ≢ PartFault.NotToml) }
 {

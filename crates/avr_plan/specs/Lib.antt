@@ -5,6 +5,7 @@ pub mod ImageFile
 pub mod ImageReading
 pub mod Plan
 pub mod Planning
+pub mod PlanFaults
 pub mod Taking
 pub mod OnlyReading
 pub mod FilesRead

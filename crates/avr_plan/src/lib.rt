@@ -23,6 +23,7 @@ mod update_image;
 mod planned;
 // the plan, and why there is none
 mod messages;
+mod plan_fault;
 mod planning;
 // laws
 mod laws;
@@ -34,5 +35,6 @@ pub use laws::{
 };
 pub use messages::read_only_message;
 pub use part_choice::{chosen_part, given_parts};
+pub use plan_fault::{PartsFault, PlanFault, TaskFault};
 pub use planned::{Plan, Task};
-pub use planning::plan;
+pub use planning::{plan, plan_or_fault};

@@ -1,10 +1,12 @@
 //! The part: the part file is read and judged, and the part looked up.
 ghost use Rattle.std.specs.Prelude.{◌≡◌, false, [], Some, None, Ok, IfErr};
+ghost use Rattle.avr_plan.specs.PlanFaults.{LastTold, TellsPartsFault, part_file_fault_line, with_status};
 ghost use Rattle.avr_plan.specs.Planning.{LacksPart, parts_stage, part_stage};
 ghost use Rattle.avr_desk.specs.Playing.{AtStart, Goes};
 ghost use Rattle.ghosts.specs.Stays.{Stays};
 
 use crate::messages::{no_part_message, part_file_message};
+use crate::plan_fault::PartsFault;
 use avr_cli::Text;
 use avr_desk::{Desk, FileFault, file_message, read_file, refuse, too_long_message};
 use avr_part::{Part, PartFault, Parts, parse_parts};
@@ -13,29 +15,48 @@ use std::alloc::Global;
 /// The most bytes of a part file.
 const LARGEST_PART_FILE: usize = 65_536;
 
-fn file_parts<D: Desk>(alloc: Global, desk: &mut D, file: &str) -> Result<Parts, u8>
-    ensures goes { Goes (AtStart false) (parts_stage (Some file.now)) (D.view desk.old) (D.view desk.new) result }
+fn file_parts<D: Desk>(alloc: Global, desk: &mut D, file: &str) -> Result<Parts, PartsFault>
+    ensures goes { Goes (AtStart false) (parts_stage (Some file.now)) (D.view desk.old) (D.view desk.new)
+        (with_status result) }
+    ensures told { IfErr result (λ fault. LastTold (part_file_fault_line file.now fault)
+        (D.view desk.old) (D.view desk.new)) }
     ensures stays { Stays D.comes_of desk.old desk.new }
 {
     let contents = match read_file(alloc, desk, file, LARGEST_PART_FILE) {
         Ok(contents) => contents,
-        Err(fault) => return Err(refuse(desk, &file_message(file, fault))),
+        Err(fault) => {
+            refuse(desk, &file_message(file, fault));
+            return Err(PartsFault::File(fault));
+        }
     };
     if !contents.ended {
-        return Err(refuse(desk, &too_long_message(file, LARGEST_PART_FILE as u32)));
+        refuse(desk, &too_long_message(file, LARGEST_PART_FILE as u32));
+        return Err(PartsFault::TooLong);
     }
     match parse_parts(alloc, contents.bytes.as_slice()) {
         Ok(parts) => Ok(parts),
-        Err(refused) => Err(refuse(desk, &part_file_message(file, refused.fault()))),
+        Err(refused) => {
+            let fault = refused.fault();
+            refuse(desk, &part_file_message(file, fault));
+            Err(PartsFault::Parts(fault))
+        }
     }
 }
 
-/// The parts of the part file, or none where no file is given.
+/// Returns the parts of the part file, or none if no file is given.
 ///
-/// The file has at most 65,536 bytes. Where it can't be read, is longer or is no part file, and where memory is
-/// refused, the line that tells why was printed, as far as the desk takes it, and the answer is the status, 1.
-pub fn given_parts<D: Desk>(alloc: Global, desk: &mut D, file: &Option<Text>) -> Result<Parts, u8>
-    ensures goes { Goes (AtStart false) (parts_stage file.now) (D.view desk.old) (D.view desk.new) result }
+/// # Errors
+///
+/// The file has at most 65,536 bytes. A fault is returned if it can't be read, is longer or isn't a part file, or if
+/// memory is refused. Its line was printed, as far as the desk takes it.
+pub fn given_parts<D: Desk>(
+    alloc: Global,
+    desk: &mut D,
+    file: &Option<Text>,
+) -> Result<Parts, PartsFault>
+    ensures goes { Goes (AtStart false) (parts_stage file.now) (D.view desk.old) (D.view desk.new)
+        (with_status result) }
+    ensures told { IfErr result (λ fault. TellsPartsFault file.now (D.view desk.old) (D.view desk.new) fault) }
     ensures none { file.now ≡ None → (result ≡ Ok []) × (D.view desk.new ≡ D.view desk.old) }
     ensures stays { Stays D.comes_of desk.old desk.new }
 {

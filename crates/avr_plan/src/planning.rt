@@ -3,6 +3,7 @@ ghost use Rattle.std.specs.Prelude.{◌≡◌, ◌<◌, [], None, All, IfOk, IfE
 ghost use Rattle.avr_cli.specs.declared.settings.Switches.{Switches as AnySwitches};
 ghost use Rattle.avr_part.specs.Part.{Part as PartData};
 ghost use Rattle.avr_plan.specs.Plan.{IsFitted};
+ghost use Rattle.avr_plan.specs.PlanFaults.{TellsPlanFault, TellsTaskFault, TellsTasksFault, with_status};
 ghost use Rattle.avr_plan.specs.Planning.{LacksPart, task_stage, op_stage, write_stage, tasks_stage, planned};
 ghost use Rattle.avr_plan.specs.Taking.{AtUpdate, AtTask, op_takes_memory};
 ghost use Rattle.avr_desk.specs.Playing.{AtStart, Goes};
@@ -10,6 +11,7 @@ ghost use Rattle.ghosts.specs.Stays.{Stays};
 
 use crate::messages::read_only_message;
 use crate::part_choice::{chosen_part, given_parts};
+use crate::plan_fault::{PlanFault, TaskFault};
 use crate::planned::{Plan, Task, Tasks};
 use crate::update_image::update_image;
 use avr_cli::{Op, Settings, Switches, Text, Update};
@@ -24,20 +26,23 @@ fn write_task<D: Desk>(
     switches: Switches,
     part: &Part,
     update: &Update,
-) -> Result<Task, u8>
+) -> Result<Task, TaskFault>
     ensures goes { Goes (AtStart (op_takes_memory update.now Op.Write))
-        (write_stage switches part.now update.now) (D.view desk.old) (D.view desk.new) result }
+        (write_stage switches part.now update.now) (D.view desk.old) (D.view desk.new)
+        (with_status result) }
+    ensures told { IfErr result (TellsTaskFault update.now (D.view desk.old) (D.view desk.new)) }
     ensures fitted { IfOk result (IsFitted part.now) }
     ensures same { tasks.new.items ≡ tasks.old.items }
     ensures room { OnOk result (vec_len tasks.new < vec_capacity tasks.new) }
     ensures stays { Stays D.comes_of desk.old desk.new }
 {
     if !update.memory.writable() {
-        return Err(refuse(desk, &read_only_message(update.memory)));
+        refuse(desk, &read_only_message(update.memory));
+        return Err(TaskFault::ReadOnly);
     }
     match update_image(alloc, desk, tasks, switches, part, update) {
         Ok(image) => Ok(Task::Write(update.memory, image)),
-        Err(status) => Err(status),
+        Err(fault) => Err(fault),
     }
 }
 
@@ -48,9 +53,11 @@ fn verify_task<D: Desk>(
     switches: Switches,
     part: &Part,
     update: &Update,
-) -> Result<Task, u8>
+) -> Result<Task, TaskFault>
     ensures goes { Goes (AtStart (op_takes_memory update.now Op.Verify))
-        (op_stage switches part.now update.now Op.Verify) (D.view desk.old) (D.view desk.new) result }
+        (op_stage switches part.now update.now Op.Verify) (D.view desk.old) (D.view desk.new)
+        (with_status result) }
+    ensures told { IfErr result (TellsTaskFault update.now (D.view desk.old) (D.view desk.new)) }
     ensures fitted { IfOk result (IsFitted part.now) }
     ensures same { tasks.new.items ≡ tasks.old.items }
     ensures room { OnOk result (vec_len tasks.new < vec_capacity tasks.new) }
@@ -58,7 +65,7 @@ fn verify_task<D: Desk>(
 {
     match update_image(alloc, desk, tasks, switches, part, update) {
         Ok(image) => Ok(Task::Verify(update.memory, image)),
-        Err(status) => Err(status),
+        Err(fault) => Err(fault),
     }
 }
 
@@ -67,16 +74,19 @@ fn read_task<D: Desk>(
     desk: &mut D,
     tasks: &mut Vec<Task>,
     update: &Update,
-) -> Result<Task, u8>
+) -> Result<Task, TaskFault>
     ensures goes { (switches : AnySwitches) (part : PartData) → Goes (AtStart (op_takes_memory update.now Op.Read))
-        (op_stage switches part update.now Op.Read) (D.view desk.old) (D.view desk.new) result }
+        (op_stage switches part update.now Op.Read) (D.view desk.old) (D.view desk.new)
+        (with_status result) }
+    ensures told { IfErr result (TellsTaskFault update.now (D.view desk.old) (D.view desk.new)) }
     ensures fitted { IfOk result (λ task. (part : PartData) → IsFitted part task) }
     ensures same { tasks.new.items ≡ tasks.old.items }
     ensures room { OnOk result (vec_len tasks.new < vec_capacity tasks.new) }
     ensures stays { Stays D.comes_of desk.old desk.new }
 {
     if tasks.reserve(1).is_err() {
-        return Err(refuse(desk, &memory_message()));
+        refuse(desk, &memory_message());
+        return Err(TaskFault::Memory);
     }
     match Text::new(alloc, update.file.as_str()) {
         Ok(file) => Ok(Task::Read {
@@ -84,7 +94,10 @@ fn read_task<D: Desk>(
             format: update.format,
             file,
         }),
-        Err(_) => Err(refuse(desk, &memory_message())),
+        Err(_) => {
+            refuse(desk, &memory_message());
+            Err(TaskFault::Memory)
+        }
     }
 }
 
@@ -96,9 +109,11 @@ fn update_task<D: Desk>(
     switches: Switches,
     part: &Part,
     update: &Update,
-) -> Result<Task, u8>
+) -> Result<Task, TaskFault>
     ensures goes { Goes (AtStart (op_takes_memory update.now update.now.op))
-        (task_stage switches part.now update.now) (D.view desk.old) (D.view desk.new) result }
+        (task_stage switches part.now update.now) (D.view desk.old) (D.view desk.new)
+        (with_status result) }
+    ensures told { IfErr result (TellsTaskFault update.now (D.view desk.old) (D.view desk.new)) }
     ensures fitted { IfOk result (IsFitted part.now) }
     ensures same { tasks.new.items ≡ tasks.old.items }
     ensures room { OnOk result (vec_len tasks.new < vec_capacity tasks.new) }
@@ -118,9 +133,10 @@ fn update_tasks<D: Desk>(
     switches: Switches,
     part: &Part,
     updates: &[Update],
-) -> Result<Tasks, u8>
+) -> Result<Tasks, PlanFault>
     ensures goes { Goes (AtTask switches part.now [] updates.now)
-        (tasks_stage switches part.now [] updates.now) (D.view desk.old) (D.view desk.new) result }
+        (tasks_stage switches part.now [] updates.now) (D.view desk.old) (D.view desk.new) (with_status result) }
+    ensures told { IfErr result (TellsTasksFault updates.now (D.view desk.old) (D.view desk.new)) }
     ensures fitted { IfOk result (All (IsFitted part.now)) }
     // Without updates no memory is taken.
     ensures none { updates.now ≡ [] → IsOk result }
@@ -128,10 +144,51 @@ fn update_tasks<D: Desk>(
 {
     let mut tasks = Vec::new(alloc);
     for update in updates {
-        let task = update_task(alloc, desk, &mut tasks, switches, part, update)?;
+        let task = match update_task(alloc, desk, &mut tasks, switches, part, update) {
+            Ok(task) => task,
+            Err(fault) => return Err(PlanFault::Update(tasks.as_slice().len(), fault)),
+        };
         tasks.push_reserved(task);
     }
     Ok(Tasks::of(tasks))
+}
+
+/// Makes the plan of a run as [`plan`] does, and returns why there is none in place of a status.
+///
+/// ```text
+/// match plan_or_fault(alloc, &settings, &mut desk) {
+///     Ok(plan) => show(&plan),
+///     Err(PlanFault::Update(index, TaskFault::File(fault))) => mark(index, fault),
+///     Err(_) => {}
+/// }
+/// ```
+pub fn plan_or_fault<D: Desk>(
+    alloc: Global,
+    settings: &Settings,
+    desk: &mut D,
+) -> Result<Plan, PlanFault>
+    ensures goes { Goes (AtUpdate settings.now) (planned settings.now) (D.view desk.old)
+        (D.view desk.new) (with_status result) }
+    ensures told { IfErr result (TellsPlanFault settings.now (D.view desk.old) (D.view desk.new)) }
+    // Without a part file and updates nothing is read: only the part can be wanting.
+    ensures bare { settings.now.parts ≡ None → settings.now.updates ≡ []
+        → IfErr result (λ fault. LacksPart settings.now.part [] (D.view desk.old) (D.view desk.new)) }
+    ensures stays { Stays D.comes_of desk.old desk.new }
+{
+    let parts = match given_parts(alloc, desk, &settings.parts) {
+        Ok(parts) => parts,
+        Err(fault) => return Err(PlanFault::PartFile(fault)),
+    };
+    let part = match chosen_part(desk, &parts, settings.part.as_str()) {
+        Ok(part) => part,
+        Err(_) => return Err(PlanFault::NoPart),
+    };
+    let switches = settings.switches;
+    let tasks = match update_tasks(alloc, desk, switches, &part, settings.updates.as_slice()) {
+        Ok(tasks) => tasks,
+        Err(fault) => return Err(fault),
+    };
+    Ok(Plan::new(part, tasks, switches))
 }
 
 /// Makes the plan of a run: reads and judges the part file, looks the part up, and then reads and judges the file of
@@ -139,8 +196,10 @@ fn update_tasks<D: Desk>(
 ///
 /// Every file is opened anew and read to its end, or past its limit, before it is judged. No file is created.
 ///
-/// The first refusal prints its line, and the answer is the status, 1. It is also 1 where the desk fails or memory is
-/// refused; then nothing more is opened, and the line of that was printed as far as the desk takes it. Memory is taken
+/// # Errors
+///
+/// The first refusal prints its line, and the status 1 is returned. It is also 1 if the desk fails or memory is
+/// refused. Then nothing more is opened, and the line of that was printed as far as the desk takes it. Memory is taken
 /// while a file is read, and before anything is done of an update of values or of a read.
 pub fn plan<D: Desk>(alloc: Global, settings: &Settings, desk: &mut D) -> Result<Plan, u8>
     ensures goes { Goes (AtUpdate settings.now) (planned settings.now) (D.view desk.old)
@@ -150,9 +209,8 @@ pub fn plan<D: Desk>(alloc: Global, settings: &Settings, desk: &mut D) -> Result
         → IfErr result (λ status. LacksPart settings.now.part [] (D.view desk.old) (D.view desk.new)) }
     ensures stays { Stays D.comes_of desk.old desk.new }
 {
-    let parts = given_parts(alloc, desk, &settings.parts)?;
-    let part = chosen_part(desk, &parts, settings.part.as_str())?;
-    let switches = settings.switches;
-    let tasks = update_tasks(alloc, desk, switches, &part, settings.updates.as_slice())?;
-    Ok(Plan::new(part, tasks, switches))
+    match plan_or_fault(alloc, settings, desk) {
+        Ok(plan) => Ok(plan),
+        Err(_) => Err(1),
+    }
 }

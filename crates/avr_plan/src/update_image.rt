@@ -1,15 +1,18 @@
 //! The image of an update, in a file or in the words of the command.
-ghost use Rattle.std.specs.Prelude.{◌≡◌, ◌<◌, true, false, length, IfOk, OnOk, vec_len, vec_capacity};
+ghost use Rattle.std.specs.Prelude.{◌≡◌, ◌<◌, true, false, length, IfErr, IfOk, OnOk, vec_len, vec_capacity};
 ghost use Rattle.avr_cli.specs.declared.settings.Switches.{Switches as AnySwitches};
 ghost use Rattle.avr_part.specs.Part.{size_of};
+ghost use Rattle.avr_cli.specs.declared.update.Update.{Update as AnyUpdate};
+ghost use Rattle.avr_plan.specs.PlanFaults.{TellsTaskFault, with_status};
 ghost use Rattle.avr_plan.specs.Planning.{is_warned, warning_says, file_image_stage, image_stage, update_image as update_image_stage};
 ghost use Rattle.avr_plan.specs.Taking.{has_values};
 ghost use Rattle.avr_desk.specs.Playing.{AtStart, Goes};
 ghost use Rattle.avr_desk.specs.Stage.{saying_stage};
 ghost use Rattle.ghosts.specs.Stays.{Stays};
 
-use crate::image_file::{ReadFault, read_image};
+use crate::image_file::read_image;
 use crate::messages::{image_message, values_message};
+use crate::plan_fault::TaskFault;
 use crate::planned::Task;
 use avr_cli::{Format, Switches, Update};
 use avr_desk::{Desk, Piece, memory_message, print_warning, refuse};
@@ -34,9 +37,10 @@ fn warn_of_ending<D: Desk>(
     switches: Switches,
     file: &str,
     ending: Ending,
-) -> Result<(), u8>
+) -> Result<(), TaskFault>
     ensures goes { Goes (AtStart false) (saying_stage (warning_says switches file.now ending))
-        (D.view desk.old) (D.view desk.new) result }
+        (D.view desk.old) (D.view desk.new) (with_status result) }
+    ensures told { (update : AnyUpdate) → IfErr result (TellsTaskFault update (D.view desk.old) (D.view desk.new)) }
     ensures stays { Stays D.comes_of desk.old desk.new }
 {
     let warns = is_warned(switches, ending);
@@ -45,7 +49,7 @@ fn warn_of_ending<D: Desk>(
     }
     match print_warning(desk, &[Piece::Text(file), Piece::Text(": no end record")]) {
         Ok(()) => Ok(()),
-        Err(_) => Err(1),
+        Err(_) => Err(TaskFault::Unwarned),
     }
 }
 
@@ -58,9 +62,11 @@ fn file_image<D: Desk>(
     file: &str,
     format: Format,
     size: u32,
-) -> Result<Image, u8>
+) -> Result<Image, TaskFault>
     ensures goes { Goes (AtStart false) (file_image_stage switches file.now format size)
-        (D.view desk.old) (D.view desk.new) result }
+        (D.view desk.old) (D.view desk.new) (with_status result) }
+    ensures told { (update : AnyUpdate) → update.file ≡ file.now
+        → IfErr result (TellsTaskFault update (D.view desk.old) (D.view desk.new)) }
     ensures sized { IfOk result (λ image. length image ≡ size) }
     ensures same { tasks.new.items ≡ tasks.old.items }
     ensures room { OnOk result (vec_len tasks.new < vec_capacity tasks.new) }
@@ -69,14 +75,18 @@ fn file_image<D: Desk>(
     match read_image(alloc, desk, file, format, size) {
         Ok((image, ending)) => {
             if tasks.reserve(1).is_err() {
-                return Err(refuse(desk, &memory_message()));
+                refuse(desk, &memory_message());
+                return Err(TaskFault::Memory);
             }
             match warn_of_ending(desk, switches, file, ending) {
                 Ok(()) => Ok(image),
-                Err(status) => Err(status),
+                Err(fault) => Err(fault),
             }
         }
-        Err(fault) => Err(refuse(desk, &image_message(file, fault))),
+        Err(fault) => {
+            refuse(desk, &image_message(file, fault));
+            Err(TaskFault::File(fault))
+        }
     }
 }
 
@@ -88,20 +98,27 @@ fn values_image<D: Desk>(
     memory: Mem,
     text: &str,
     size: u32,
-) -> Result<Image, u8>
+) -> Result<Image, TaskFault>
     ensures goes { (switches : AnySwitches) → Goes (AtStart true)
-        (image_stage switches memory size text.now Format.Immediate) (D.view desk.old) (D.view desk.new) result }
+        (image_stage switches memory size text.now Format.Immediate) (D.view desk.old) (D.view desk.new)
+        (with_status result) }
+    ensures told { (update : AnyUpdate) → update.memory ≡ memory
+        → IfErr result (TellsTaskFault update (D.view desk.old) (D.view desk.new)) }
     ensures sized { IfOk result (λ image. length image ≡ size) }
     ensures same { tasks.new.items ≡ tasks.old.items }
     ensures room { OnOk result (vec_len tasks.new < vec_capacity tasks.new) }
     ensures stays { Stays D.comes_of desk.old desk.new }
 {
     if tasks.reserve(1).is_err() {
-        return Err(refuse(desk, &memory_message()));
+        refuse(desk, &memory_message());
+        return Err(TaskFault::Memory);
     }
     match parse_immediate(alloc, text, size) {
         Ok(image) => Ok(image),
-        Err(fault) => Err(refuse(desk, &values_message(memory, fault))),
+        Err(fault) => {
+            refuse(desk, &values_message(memory, fault));
+            Err(TaskFault::Values(fault))
+        }
     }
 }
 
@@ -114,9 +131,10 @@ pub(crate) fn update_image<D: Desk>(
     switches: Switches,
     part: &Part,
     update: &Update,
-) -> Result<Image, u8>
+) -> Result<Image, TaskFault>
     ensures goes { Goes (AtStart (has_values update.now.format))
-        (update_image_stage switches part.now update.now) (D.view desk.old) (D.view desk.new) result }
+        (update_image_stage switches part.now update.now) (D.view desk.old) (D.view desk.new) (with_status result) }
+    ensures told { IfErr result (TellsTaskFault update.now (D.view desk.old) (D.view desk.new)) }
     ensures sized { IfOk result (λ image. length image ≡ size_of update.now.memory part.now) }
     ensures same { tasks.new.items ≡ tasks.old.items }
     ensures room { OnOk result (vec_len tasks.new < vec_capacity tasks.new) }

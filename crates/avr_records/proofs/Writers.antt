@@ -6,3 +6,4 @@ pub mod Srec
 pub mod Ihex
 pub mod Sparse
 pub mod SparseWalk
+pub mod RunWalk

@@ -1,15 +1,21 @@
--- Bytes laid over an image.
-use Rattle.std.specs.Prelude.{ℕ, ◌≡◌, ◌<◌, ◌⊎◌, List, length, Option, Some, None, Result, MatchResult}
-use Rattle.avr_image.specs.Image.{laid_over}
+-- Where the bytes of a record lie.
+use Rattle.std.specs.Prelude.{ℕ, ◌≡◌, ◌<◌, ◌⊎◌, List, ◌++◌, Some, None, Result, MatchResult}
+use Rattle.std.specs.List.{enumerate_from}
+use Rattle.avr_records.specs.Needed.{end_past}
 use Rattle.avr_records.specs.Reading.{beyond}
 use Rattle.avr_records.specs.declared.kind.Base.{Base}
 use Rattle.avr_records.specs.declared.kind.Base.TheVariants.{Linear, Segment}
+use Rattle.avr_records.specs.declared.spans.Spans.{Spans}
 
--- bytes were laid at these places, all inside the image; or the first address outside it is reported
-abbrev pub Lays : List (Option ℕ) → List (ℕ × ℕ) → List (Option ℕ) → Result Unit ℕ → Type 0
-Lays old places new result =
-    MatchResult result (λ _. (beyond (length old) places ≡ None) × (new ≡ laid_over old places))
-    (λ addr. beyond (length old) places ≡ Some addr)
+-- the bytes at their addresses
+abbrev pub spans_places : Spans → List (ℕ × ℕ)
+spans_places s = enumerate_from s.addr s.bytes.now ++ enumerate_from s.start s.wrapped.now
+
+-- the end past bytes that all lie below a limit; or the first address that doesn't is reported
+abbrev pub Extends : ℕ → ℕ → List (ℕ × ℕ) → Result ℕ ℕ → Type 0
+Extends limit end places result =
+    MatchResult result (λ new. (beyond limit places ≡ None) × (new ≡ end_past end places))
+    (λ addr. beyond limit places ≡ Some addr)
 
 -- the first byte of a record at this offset has an address below 2 ^ 32
 abbrev pub Near : Base → ℕ → Type 0

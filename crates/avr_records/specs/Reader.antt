@@ -1,30 +1,31 @@
 -- What a reader of record files holds, and the texts that it may have been fed.
-use Rattle.std.specs.Prelude.{ℕ, Bool, false, ◌≡◌, List, [], ◌∷◌, ◌++◌, length, map, Option, Some, None, nat_lt, MatchBool, if◌then◌else◌}
+use Rattle.std.specs.Prelude.{ℕ, Bool, false, ◌≡◌, ◌+◌, List, [], ◌∷◌, ◌++◌, length, map, take}
 use Rattle.avr_records.specs.Lines.{lines}
-use Rattle.avr_records.specs.Progress.{Progress, Held, HoldsToEnd, image_size}
+use Rattle.avr_records.specs.Progress.{Holds, image_size}
 use Rattle.avr_records.specs.Reading.{said_by_line}
 use Rattle.avr_records.specs.Record.{longest}
 use Rattle.avr_records.specs.declared.kind.Kind.{Kind}
+use Rattle.avr_records.specs.declared.progress.Progress.{Progress}
 
--- what is kept of a line that has not ended: nothing, if it is too long
-abbrev pub kept_of_line : List ℕ → Option (List ℕ)
-kept_of_line line = if nat_lt longest (length line) then None else Some line
+-- what is kept of a line that has not ended: no more than shows that it is too long
+abbrev pub kept : List ℕ → List ℕ
+kept = take (longest + 1)
 
 -- This is what the lines of the text that have ended leave, none of them at fault, and what is kept of the last one.
 -- After an end record nothing needs to be kept.
-pub record ReadsLines (kind : Kind) (progress : Progress) (part : Option (List ℕ)) (text : List ℕ) : Type 0 where
+pub record ReadsLines (kind : Kind) (progress : Progress) (part text : List ℕ) : Type 0 where
   pub prefix : List (List ℕ)
   pub last : List ℕ
   pub cut : lines text ≡ prefix ++ last ∷ []
-  pub follows : MatchBool progress.ended (HoldsToEnd progress (map (said_by_line kind) prefix))
-      (Held progress (map (said_by_line kind) prefix) × (part ≡ kept_of_line last))
+  pub holds : Holds progress (map (said_by_line kind) prefix)
+  pub keeps : progress.extent.ended ≡ false → part ≡ kept last
 
 -- What a reader holds: the kind of file, what the lines so far leave, what is kept of the last one, how many bytes
 -- came, and whether it met a fault.
 pub record ReaderState : Type 0 where
   pub kind : Kind
   pub progress : Progress
-  pub part : Option (List ℕ)
+  pub part : List ℕ
   pub fed : ℕ
   pub failed : Bool
 

@@ -1,15 +1,48 @@
--- The record files of an image with gaps: only the bytes that are there.
-use Rattle.std.specs.Prelude.{◌≡◌, ℕ, ◌+◌, ◌^◌, ◌≤◌, List, [], ◌∷◌, length, flat_map, Option, Some, None, Ok}
-use Rattle.avr_image.specs.Image.{HoldsBytes}
+-- The record files of memories with gaps: only the bytes that are there.
+use Rattle.std.specs.Prelude.{◌≡◌, ℕ, ◌+◌, ◌/◌, ◌%◌, ◌-◌, ◌^◌, ◌≤◌, ◌==◌, List, [], ◌∷◌, ◌++◌, length, flat_map, map, replicate, Option, Some, None, Ok, if◌then◌else◌}
+use Rattle.avr_image.specs.Image.{HoldsBytes, empty}
 use Rattle.avr_image.specs.Runs.{runs}
 use Rattle.avr_records.specs.Reading.{image_in_text}
-use Rattle.avr_records.specs.Text.{rows, ihex_rows, ihex_row_size, srec_rows, address_size}
+use Rattle.avr_records.specs.Text.{rows, ihex_record, ihex_rows, ihex_row_size, low_bytes, srec_record, srec_rows, address_size, bytes_of}
+use Rattle.avr_records.specs.declared.address_size.AddressSize.{AddressSize}
 use Rattle.avr_records.specs.declared.kind.Kind.{Kind}
+use Rattle.avr_records.specs.declared.kind.Kind.TheVariants.{Ihex, Srec}
 use Rattle.avr_records.specs.declared.kind.Ending.TheVariants.{Ended}
+
+-- bytes at addresses below 2 to the power 32
+pub record IsMemory (image : List (Option ℕ)) : Type 0 where
+  pub short : length image ≤ 2 ^ 32
+  pub bytes : HoldsBytes image
+
+-- the memory that holds these bytes from `base` on, and ends with the last of them
+abbrev pub run_at : ℕ → List ℕ → List (Option ℕ)
+run_at base [] = []
+run_at base (b ∷ bs) = replicate base None ++ map (λ byte. Some byte) (b ∷ bs)
 
 -- the rows of each run, one run after the other
 abbrev pub rows_of : (ℕ → ℕ) → List (ℕ × List ℕ) → List (ℕ × List ℕ)
 rows_of size = flat_map (λ run. rows size run.0 run.1)
+
+-- how many bytes a row at an address has at most
+abbrev pub row_size : Kind → ℕ → ℕ
+row_size Ihex addr = ihex_row_size addr
+row_size Srec addr = 32
+
+-- the upper half of an address, if a record of Intel HEX has to set it, where another is in force
+abbrev pub new_upper : Kind → ℕ → ℕ → Option ℕ
+new_upper Ihex in_force addr = if addr / 65536 == in_force then None else Some (addr / 65536)
+new_upper Srec in_force addr = None
+
+-- the record of a row
+abbrev pub row_text : Kind → AddressSize → ℕ → List ℕ → List ℕ
+row_text Ihex size addr bytes = ihex_record 0 (addr % 65536) bytes
+row_text Srec size addr bytes = srec_record (bytes_of size - 1) (low_bytes (bytes_of size) addr ++ bytes)
+
+-- the data records and the end record, where this upper half is in force (of Intel HEX), with addresses of this size
+-- (of S-records)
+abbrev pub file_rows : Kind → ℕ → AddressSize → List (ℕ × List ℕ) → List ℕ
+file_rows Ihex upper size rows = ihex_rows upper rows
+file_rows Srec upper size rows = srec_rows size rows
 
 -- the last address that holds a byte, where the image's part begins at `addr`; if none does, this `last`
 abbrev pub last_held : ℕ → ℕ → List (Option ℕ) → ℕ
@@ -17,17 +50,13 @@ last_held last addr [] = last
 last_held last addr (None ∷ image) = last_held last (addr + 1) image
 last_held last addr (Some b ∷ image) = last_held addr (addr + 1) image
 
--- the Intel HEX file of an image
-abbrev pub ihex_image_text : List (Option ℕ) → List ℕ
-ihex_image_text image = ihex_rows 0 (rows_of ihex_row_size (runs 0 image))
+-- the record file of an image
+abbrev pub image_text : Kind → List (Option ℕ) → List ℕ
+image_text kind image =
+    file_rows kind 0 (address_size (last_held 0 0 image)) (rows_of (row_size kind) (runs 0 image))
 
--- the S-record file of an image
-abbrev pub srec_image_text : List (Option ℕ) → List ℕ
-srec_image_text image = srec_rows (address_size (last_held 0 0 image)) (rows_of (λ _. 32) (runs 0 image))
-
--- A file of this kind that was written of an image, read for a memory of its size, gives the image, gaps and all, with
--- the end record.
-abbrev pub ImageReadsBack : Kind → (List (Option ℕ) → List ℕ) → Type 0
-ImageReadsBack kind text =
-    (image : List (Option ℕ)) → length image ≤ 2 ^ 32 → HoldsBytes image
-    → image_in_text kind (text image) (length image) ≡ Ok (image, Ended)
+-- The file of a memory, read for one that is as large or larger, gives the memory, gaps and all, with the end record.
+abbrev pub ReadsBack : Kind → Type 0
+ReadsBack kind =
+    (image : List (Option ℕ)) (more : ℕ) → length image ≤ 2 ^ 32 → HoldsBytes image
+    → image_in_text kind (image_text kind image) (length image + more) ≡ Ok (image ++ empty more, Ended)

@@ -1,5 +1,5 @@
 //! The bytes of a record: from hexadecimal digits, their sum, and the numbers that they are.
-ghost use Rattle.std.specs.Prelude.{◌≡◌, ◌≤◌, ◌*◌, ◌%◌, length, Ok, Err, MatchResult, sum};
+ghost use Rattle.std.specs.Prelude.{◌≡◌, ◌≤◌, ◌*◌, ◌%◌, length, take, Ok, Err, MatchResult, sum};
 ghost use Rattle.std.specs.List.{list_all};
 ghost use Rattle.hex.specs.Hex.{is_hex_digit};
 ghost use Rattle.avr_records.specs.Record.{bytes_of_digits, number};
@@ -10,11 +10,18 @@ use crate::fault::LineFault;
 /// How many bytes the digits of a line can write.
 pub(crate) const ROOM: usize = 300;
 
+/// The first bytes of a text, at most so many.
+pub(crate) fn first(count: usize, text: &[u8]) -> &[u8]
+    ensures { result.now ≡ take count text.now }
+{
+    &text[..count.min(text.len())]
+}
+
 /// Whether a byte is a hexadecimal digit.
 pub(crate) fn is_digit(c: u8) -> bool
     ensures { result ≡ is_hex_digit c }
 {
-    (65 <= c && c <= 70) || (97 <= c && c <= 102) || (48 <= c && c <= 57)
+    c.is_ascii_hexdigit()
 }
 
 /// Whether all bytes are hexadecimal digits.
@@ -89,9 +96,9 @@ pub(crate) fn number_of(bytes: &[u8]) -> u32
     ensures { result ≡ number bytes.now }
 {
     match bytes {
-        [a, b] => *a as u32 * 256 + *b as u32,
-        [a, b, c] => (*a as u32 * 256 + *b as u32) * 256 + *c as u32,
-        [a, b, c, d] => ((*a as u32 * 256 + *b as u32) * 256 + *c as u32) * 256 + *d as u32,
+        [a, b] => u32::from_be_bytes([0, 0, *a, *b]),
+        [a, b, c] => u32::from_be_bytes([0, *a, *b, *c]),
+        [a, b, c, d] => u32::from_be_bytes([*a, *b, *c, *d]),
         _ => 0,
     }
 }

@@ -5,7 +5,7 @@ ghost use Rattle.std.specs.Str.{bytes_eq};
 ghost use Rattle.avr_records.specs.Lines.{is_blank, lines};
 ghost use Rattle.avr_records.specs.Detect.{kind_of_file, kind_of_line, begins_ihex, begins_srec, has_digits as spec_has_digits, elf_mark};
 
-use crate::bytes::are_digits;
+use crate::bytes::{are_digits, first};
 use crate::kind::Found;
 use crate::line::{is_blank_byte, split_line};
 
@@ -74,17 +74,6 @@ fn first_shown(prefix: &[u8]) -> Found
     shown_unless_blank(rest).unwrap_or(Found::Raw)
 }
 
-/// The bytes that are looked at.
-fn looked_at(prefix: &[u8]) -> &[u8]
-    ensures { result.now ≡ take 1024 prefix.now }
-{
-    if prefix.len() > FIRST_BYTES {
-        &prefix[..FIRST_BYTES]
-    } else {
-        prefix
-    }
-}
-
 /// Tells the format of a file from its first bytes, of which 1,024 are looked at: an ELF file by its magic
 /// number, a record file by the first line that isn't blank; anything else is raw bytes.
 ///
@@ -99,5 +88,5 @@ pub fn detect(prefix: &[u8]) -> Found
     if is_elf(prefix) {
         return Found::Elf;
     }
-    first_shown(looked_at(prefix))
+    first_shown(first(FIRST_BYTES, prefix))
 }

@@ -66,7 +66,7 @@ pub(crate) fn ihex_fields(bytes: &[u8]) -> Result<LineRecord<'_>, LineFault>
         [size, high, low, record_type, more @ ..] => {
             ihex_checked(
                 *size,
-                *high as u32 * 256 + *low as u32,
+                u32::from_be_bytes([0, 0, *high, *low]),
                 *record_type,
                 low_sum_of(bytes),
                 more,

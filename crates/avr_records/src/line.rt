@@ -180,7 +180,7 @@ fn linear_base(bytes: &[u8]) -> Line<'_>
     ensures fits { FitsKind Kind.Ihex result }
 {
     match bytes {
-        [high, low] => Line::Rebase(Base::Linear(*high as u16 * 256 + *low as u16)),
+        [high, low] => Line::Rebase(Base::Linear(u16::from_be_bytes([*high, *low]))),
         _ => Line::Nothing,
     }
 }
@@ -191,7 +191,7 @@ fn segment_base(bytes: &[u8]) -> Line<'_>
     ensures fits { FitsKind Kind.Ihex result }
 {
     match bytes {
-        [high, low] => Line::Rebase(Base::Segment(*high as u16 * 256 + *low as u16)),
+        [high, low] => Line::Rebase(Base::Segment(u16::from_be_bytes([*high, *low]))),
         _ => Line::Nothing,
     }
 }

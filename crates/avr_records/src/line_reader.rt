@@ -1,82 +1,30 @@
 //! The lines of a text that comes in pieces, and what is kept of one that has not ended.
-ghost use Rattle.std.specs.Prelude.{◌≡◌, ◌<◌, [], Some, None, MatchBool, MatchOption, ◌+◌, ◌≤◌, ◌^◌, ◌++◌, ℕ, List, false, Ok, Err, ◌∷◌, length, MatchResult, OnOk, IfErr, IfOk};
-ghost use Rattle.avr_records.specs.Steps.{grown, least_length, progress_of, next_progress, kept_says, line_step, ending_of, Begins, InRange, IsLineFault};
+ghost use Rattle.std.specs.Prelude.{◌≡◌, ◌<◌, [], Some, MatchOption, ◌+◌, ◌≤◌, ◌^◌, ◌++◌, ℕ, List, false, Ok, Err, ◌∷◌, length, MatchResult, OnOk, IfErr, IfOk};
+ghost use Rattle.avr_records.specs.Steps.{next_progress, ending_of, Begins, InRange, IsLineFault};
 ghost use Rattle.avr_records.specs.Closed.{closed_fault};
 ghost use Rattle.avr_records.specs.Lines.{lines};
 ghost use Rattle.avr_records.specs.Progress.{image_size};
-ghost use Rattle.avr_records.specs.Reader.{ReadsLines};
-ghost use Rattle.avr_records.specs.Reading.{image_in_text};
+ghost use Rattle.avr_records.specs.Reader.{kept, ReadsLines};
+ghost use Rattle.avr_records.specs.Reading.{image_in_text, said_by_line};
 
-use crate::bytes::ROOM;
-use crate::fault::{LineFault, RecordFault};
+use crate::bytes::{ROOM, first};
+use crate::fault::RecordFault;
 use crate::kind::{Ending, Kind};
 use crate::line::{LONGEST, split_line};
 use crate::progress::Progress;
 use arrayvec::ArrayVec;
 use avr_image::{Image, ImageFault};
 use std::alloc::Global;
-use std::marker::Model;
 
-/// The bytes of a line that has not ended, or a mark that it is too long. Contracts see it as its bytes, if it isn't.
-#[derive(Drop)]
-pub struct PartLine {
-    bytes: ArrayVec<u8, LONGEST>,
-    too_long: bool,
-}
+/// How many bytes are kept of a line that has not ended: with one more than the longest line has, it is too long.
+const KEPT: usize = LONGEST + 1;
 
-impl Model for PartLine {
-    ghost use Rattle.std.specs.Prelude.{ℕ, List, Option, Some, None, if◌then◌else◌};
-
-    ghost Value = { Option (List ℕ) };
-
-    ghost view = { λ p. if p.too_long then None else Some p.bytes.items };
-}
-
-impl PartLine {
-    /// Nothing of a line.
-    pub(crate) fn new() -> PartLine
-        ensures { result ≡ Some [] }
-    {
-        PartLine {
-            bytes: ArrayVec::new(),
-            too_long: false,
-        }
-    }
-
-    /// Whether nothing came of the line.
-    pub(crate) fn is_empty(&self) -> bool
-        ensures { MatchBool result (self.now ≡ Some []) (0 < least_length self.now) }
-    {
-        !self.too_long && self.bytes.is_empty()
-    }
-
-    /// The line, unless it is too long.
-    pub(crate) fn line(&self) -> Option<&[u8]>
-        ensures { MatchOption result (self.now ≡ None) (λ line. self.now ≡ Some line.now) }
-    {
-        if self.too_long {
-            None
-        } else {
-            Some(self.bytes.as_slice())
-        }
-    }
-
-    /// More of the line.
-    pub(crate) fn extend(&mut self, more: &[u8])
-        ensures { self.new ≡ grown self.old more.now }
-    {
-        if !self.too_long && self.bytes.try_extend_from_slice(more).is_err() {
-            self.too_long = true;
-        }
-    }
-
-    /// The next line begins.
-    pub(crate) fn clear(&mut self)
-        ensures { self.new ≡ Some [] }
-    {
-        self.bytes.clear();
-        self.too_long = false;
-    }
+/// Keeps more of a line.
+fn extend(part: &mut ArrayVec<u8, KEPT>, more: &[u8])
+    ensures kept { part.new.items ≡ kept (part.old.items ++ more.now) }
+    ensures count { length part.new.items ≤ length part.old.items + length more.now }
+{
+    let _ = part.try_extend_from_slice(first(part.remaining_capacity(), more));
 }
 
 /// What the lines leave that have ended, and what is kept of the one that has not.
@@ -84,7 +32,7 @@ impl PartLine {
 pub struct LineReader {
     pub(crate) kind: Kind,
     pub(crate) progress: Progress,
-    pub(crate) part: PartLine,
+    pub(crate) part: ArrayVec<u8, KEPT>,
     /// Where the bytes of a line are put. It is made once, since a line has only to write what it reads.
     pub(crate) room: [u8; ROOM],
 }
@@ -93,13 +41,13 @@ impl LineReader {
     /// Before any line, for a memory of this size.
     pub(crate) fn new(alloc: Global, kind: Kind, size: u32) -> Result<LineReader, ImageFault>
         ensures { MatchResult result (λ reader. (reader.kind ≡ kind)
-            × Begins kind size (progress_of reader.progress) reader.part) (λ fault. fault ≡ ImageFault.Memory) }
+            × Begins kind size reader.progress reader.part.items) (λ fault. fault ≡ ImageFault.Memory) }
     {
         match Progress::new(alloc, size) {
             Ok(progress) => Ok(LineReader {
                 kind,
                 progress,
-                part: PartLine::new(),
+                part: ArrayVec::new(),
                 room: [0; ROOM],
             }),
             Err(fault) => Err(fault),
@@ -109,23 +57,22 @@ impl LineReader {
     /// Takes in the line that is kept, and begins the next. Few lines lie over two pieces: it stays a call.
     #[inline(never)]
     fn take_part(&mut self) -> Result<(), RecordFault>
-        requires range { InRange self.old.kind (progress_of self.old.progress) }
-        requires few { self.old.progress.lines + 1 < 2 ^ 32 }
+        requires range { InRange self.old.kind self.old.progress.extent }
+        requires few { self.old.progress.extent.lines + 1 < 2 ^ 32 }
         ensures step { MatchResult result
-            (λ _. next_progress (progress_of self.old.progress) (kept_says self.old.kind self.old.part)
-            ≡ Ok (progress_of self.new.progress)) (λ fault. next_progress (progress_of self.old.progress)
-            (kept_says self.old.kind self.old.part) ≡ Err fault) }
-        ensures part { OnOk result (self.new.part ≡ Some []) }
+            (λ _. next_progress self.old.progress (said_by_line self.old.kind self.old.part.items)
+            ≡ Ok self.new.progress) (λ fault. next_progress self.old.progress
+            (said_by_line self.old.kind self.old.part.items) ≡ Err fault) }
+        ensures part { OnOk result (self.new.part.items ≡ []) }
         ensures kind { self.new.kind ≡ self.old.kind }
         ensures size { length self.new.progress.image ≡ length self.old.progress.image }
-        ensures range { OnOk result (InRange self.old.kind (progress_of self.new.progress)) }
-        ensures lines { OnOk result (self.new.progress.lines ≡ self.old.progress.lines + 1) }
+        ensures range { OnOk result (InRange self.old.kind self.new.progress.extent) }
+        ensures lines { OnOk result (self.new.progress.extent.lines ≤ self.old.progress.extent.lines + 1) }
         ensures line { IfErr result IsLineFault }
     {
-        let taken = match self.part.line() {
-            Some(line) => self.progress.take_line(self.kind, line, &mut self.room),
-            None => Err(self.progress.next_fault(LineFault::TooLong)),
-        };
+        let taken = self
+            .progress
+            .take_line(self.kind, &self.part, &mut self.room);
         self.part.clear();
         taken
     }
@@ -133,50 +80,48 @@ impl LineReader {
     /// Takes the last bytes of a line, once its end came. A line of which nothing is kept is judged where it lies.
     #[inline(always)]
     fn end_line(&mut self, rest: &[u8]) -> Result<(), RecordFault>
-        requires range { InRange self.old.kind (progress_of self.old.progress) }
-        requires few { self.old.progress.lines + 1 < 2 ^ 32 }
+        requires range { InRange self.old.kind self.old.progress.extent }
+        requires few { self.old.progress.extent.lines + 1 < 2 ^ 32 }
         ensures step { MatchResult result
-            (λ _. line_step self.old.kind (progress_of self.old.progress) self.old.part rest.now
-            ≡ Ok (progress_of self.new.progress)) (λ fault. line_step self.old.kind
-            (progress_of self.old.progress) self.old.part rest.now ≡ Err fault) }
-        ensures part { OnOk result (self.old.progress.ended ≡ false → self.new.part ≡ Some []) }
+            (λ _. next_progress self.old.progress (said_by_line self.old.kind (self.old.part.items ++ rest.now))
+            ≡ Ok self.new.progress) (λ fault. next_progress self.old.progress
+            (said_by_line self.old.kind (self.old.part.items ++ rest.now)) ≡ Err fault) }
+        ensures part { OnOk result (self.new.part.items ≡ []) }
         ensures kind { self.new.kind ≡ self.old.kind }
         ensures size { length self.new.progress.image ≡ length self.old.progress.image }
-        ensures range { OnOk result (InRange self.old.kind (progress_of self.new.progress)) }
-        ensures lines { OnOk result (self.new.progress.lines ≤ self.old.progress.lines + 1) }
-        ensures count { OnOk result (self.new.progress.lines + least_length self.new.part
-            ≤ self.old.progress.lines + least_length self.old.part + 1) }
+        ensures range { OnOk result (InRange self.old.kind self.new.progress.extent) }
+        ensures lines { OnOk result (self.new.progress.extent.lines ≤ self.old.progress.extent.lines + 1) }
+        ensures count { OnOk result (self.new.progress.extent.lines + length self.new.part.items
+            ≤ self.old.progress.extent.lines + length self.old.part.items + 1) }
         ensures line { IfErr result IsLineFault }
     {
-        if self.progress.ended {
-            return Ok(());
-        }
         if self.part.is_empty() {
             return self.progress.take_line(self.kind, rest, &mut self.room);
         }
-        self.part.extend(rest);
+        extend(&mut self.part, rest);
         self.take_part()
     }
 
     /// Keeps bytes of a line that has not ended, if they count.
     fn keep(&mut self, piece: &[u8])
-        ensures kept { self.old.progress.ended ≡ false → self.new.part ≡ grown self.old.part piece.now }
-        ensures progress { progress_of self.new.progress ≡ progress_of self.old.progress }
+        ensures kept { self.old.progress.extent.ended ≡ false
+            → self.new.part.items ≡ kept (self.old.part.items ++ piece.now) }
+        ensures progress { self.new.progress ≡ self.old.progress }
         ensures kind { self.new.kind ≡ self.old.kind }
-        ensures count { least_length self.new.part ≤ least_length self.old.part + length piece.now }
+        ensures count { length self.new.part.items ≤ length self.old.part.items + length piece.now }
     {
-        if !self.progress.ended {
-            self.part.extend(piece);
+        if !self.progress.extent.ended {
+            extend(&mut self.part, piece);
         }
     }
 
     /// The next line that has ended in what is left of a piece, and what follows it. After an end record, where
     /// nothing counts, none is looked for.
     fn next_line<'a>(&self, rest: &'a [u8]) -> Option<(&'a [u8], &'a [u8])>
-        ensures { MatchOption result (self.now.progress.ended ≡ false → lines rest.now ≡ rest.now ∷ [])
+        ensures { MatchOption result (self.now.progress.extent.ended ≡ false → lines rest.now ≡ rest.now ∷ [])
             (λ parts. (lines parts.0.now ≡ parts.0.now ∷ []) × (rest.now ≡ parts.0.now ++ 10 ∷ parts.1.now)) }
     {
-        if !self.progress.ended {
+        if !self.progress.extent.ended {
             split_line(rest)
         } else {
             None
@@ -185,19 +130,19 @@ impl LineReader {
 
     /// Takes the next piece of the text, with the lines that end in it.
     pub(crate) fn feed(&mut self, piece: &[u8]) -> Result<(), RecordFault>
-        requires range { InRange self.old.kind (progress_of self.old.progress) }
-        requires few { self.old.progress.lines + length piece.now < 2 ^ 32 }
+        requires range { InRange self.old.kind self.old.progress.extent }
+        requires few { self.old.progress.extent.lines + length piece.now < 2 ^ 32 }
         ensures reads { OnOk result ((text : List ℕ)
-            → ReadsLines self.old.kind (progress_of self.old.progress) self.old.part text
-            → ReadsLines self.old.kind (progress_of self.new.progress) self.new.part (text ++ piece.now)) }
+            → ReadsLines self.old.kind self.old.progress self.old.part.items text
+            → ReadsLines self.old.kind self.new.progress self.new.part.items (text ++ piece.now)) }
         ensures fault { IfErr result (λ fault. (text : List ℕ) → ReadsLines self.old.kind
-            (progress_of self.old.progress) self.old.part text → closed_fault self.old.kind (text ++ piece.now)
-            (image_size (progress_of self.old.progress)) ≡ Some fault) }
+            self.old.progress self.old.part.items text → closed_fault self.old.kind (text ++ piece.now)
+            (image_size self.old.progress) ≡ Some fault) }
         ensures kind { self.new.kind ≡ self.old.kind }
         ensures size { length self.new.progress.image ≡ length self.old.progress.image }
-        ensures range { OnOk result (InRange self.old.kind (progress_of self.new.progress)) }
-        ensures count { OnOk result (self.new.progress.lines + least_length self.new.part
-            ≤ self.old.progress.lines + least_length self.old.part + length piece.now) }
+        ensures range { OnOk result (InRange self.old.kind self.new.progress.extent) }
+        ensures count { OnOk result (self.new.progress.extent.lines + length self.new.part.items
+            ≤ self.old.progress.extent.lines + length self.old.part.items + length piece.now) }
         ensures line { IfErr result IsLineFault }
     {
         let mut rest = piece;
@@ -211,14 +156,14 @@ impl LineReader {
 
     /// Takes the last line.
     fn end_text(&mut self) -> Result<(), RecordFault>
-        requires range { InRange self.old.kind (progress_of self.old.progress) }
-        requires few { self.old.progress.lines + least_length self.old.part < 2 ^ 32 }
+        requires range { InRange self.old.kind self.old.progress.extent }
+        requires few { self.old.progress.extent.lines + length self.old.part.items < 2 ^ 32 }
         ensures whole { MatchResult result (λ _. (text : List ℕ)
-            → ReadsLines self.old.kind (progress_of self.old.progress) self.old.part text
-            → image_in_text self.old.kind text (image_size (progress_of self.old.progress))
-            ≡ Ok (self.new.progress.image, ending_of (progress_of self.new.progress)))
-            (λ fault. (text : List ℕ) → ReadsLines self.old.kind (progress_of self.old.progress) self.old.part text
-            → image_in_text self.old.kind text (image_size (progress_of self.old.progress)) ≡ Err fault) }
+            → ReadsLines self.old.kind self.old.progress self.old.part.items text
+            → image_in_text self.old.kind text (image_size self.old.progress)
+            ≡ Ok (self.new.progress.image, ending_of self.new.progress.extent))
+            (λ fault. (text : List ℕ) → ReadsLines self.old.kind self.old.progress self.old.part.items text
+            → image_in_text self.old.kind text (image_size self.old.progress) ≡ Err fault) }
         ensures size { length self.new.progress.image ≡ length self.old.progress.image }
         ensures line { IfErr result IsLineFault }
     {
@@ -230,16 +175,16 @@ impl LineReader {
 
     /// Takes the last line, and gives what the whole text says.
     pub(crate) fn finish(mut self) -> Result<(Image, Ending), RecordFault>
-        requires range { InRange self.kind (progress_of self.progress) }
-        requires few { self.progress.lines + least_length self.part < 2 ^ 32 }
-        ensures whole { (text : List ℕ) → ReadsLines self.kind (progress_of self.progress) self.part text
-            → result ≡ image_in_text self.kind text (image_size (progress_of self.progress)) }
+        requires range { InRange self.kind self.progress.extent }
+        requires few { self.progress.extent.lines + length self.part.items < 2 ^ 32 }
+        ensures whole { (text : List ℕ) → ReadsLines self.kind self.progress self.part.items text
+            → result ≡ image_in_text self.kind text (image_size self.progress) }
         ensures size { IfOk result (λ read. length read.0 ≡ length self.progress.image) }
         ensures line { IfErr result IsLineFault }
     {
         match self.end_text() {
             Ok(()) => {
-                let ending = self.progress.ending();
+                let ending = self.progress.extent.ending();
                 Ok((self.progress.image, ending))
             }
             Err(fault) => Err(fault),

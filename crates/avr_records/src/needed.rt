@@ -2,11 +2,12 @@
 ghost use Rattle.std.specs.Prelude.{◌≡◌, ◌<◌, ◌≤◌, ◌^◌, ℕ, List, length, Option, Ok, Err};
 ghost use Rattle.avr_records.specs.Needed.{largest, needed_in_text};
 ghost use Rattle.avr_records.specs.Reading.{image_in_text};
+ghost use Rattle.avr_records.specs.declared.kind.Ending.{Ending};
 
 use crate::bytes::ROOM;
 use crate::extent::Extent;
 use crate::fault::RecordFault;
-use crate::kind::{Ending, Kind};
+use crate::kind::Kind;
 use crate::line::split_line;
 
 /// How many bytes the smallest memory has into which a record file can be read: one more than the highest byte address
@@ -32,15 +33,16 @@ pub fn needed_size(kind: Kind, text: &[u8]) -> Result<u32, RecordFault>
     let mut extent = Extent::new();
     let mut rest = text;
     while let Some((line, more)) = split_line(rest) {
-        match extent.take_line(kind, line, &mut room)? {
-            Ending::Ended => return Ok(extent.end),
-            Ending::NoEnd => rest = more,
+        extent.take_line(u32::MAX, kind, line, &mut room)?;
+        if extent.ended {
+            return Ok(extent.end);
         }
+        rest = more;
     }
     if rest.is_empty() {
         return Ok(extent.end);
     }
-    extent.take_line(kind, rest, &mut room)?;
+    extent.take_line(u32::MAX, kind, rest, &mut room)?;
     Ok(extent.end)
 }
 

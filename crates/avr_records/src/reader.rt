@@ -14,7 +14,7 @@ use std::marker::Model;
 
 /// Reads a record file of one kind into an image, from pieces of any length.
 ///
-/// A reader keeps no text: one line of at most 600 bytes, and the image. The contracts speak of the texts that it may
+/// A reader keeps no text: at most 601 bytes of a line, and the image. The contracts speak of the texts that it may
 /// have been fed (`StandsFor`): whatever the pieces, the answers are those of the whole text. Start addresses and
 /// headers (S0) are judged as records, and dropped.
 ///
@@ -34,23 +34,23 @@ pub struct RecordReader {
 }
 
 impl Model for RecordReader {
-    ghost use Rattle.std.specs.Prelude.{◌≡◌, ◌+◌, ◌≤◌, false};
+    ghost use Rattle.std.specs.Prelude.{◌≡◌, ◌+◌, ◌≤◌, length, false};
     ghost use Rattle.avr_records.specs.Reader.{ReaderState};
 
     ghost Value = { ReaderState };
 
-    ghost use Rattle.avr_records.specs.Steps.{progress_of, least_length, InRange};
+    ghost use Rattle.avr_records.specs.Steps.{InRange};
 
     ghost view = { λ r. record {
       kind = r.lines.kind;
-      progress = progress_of r.lines.progress;
-      part = r.lines.part;
+      progress = r.lines.progress;
+      part = r.lines.part.items;
       fed = r.fed;
       failed = r.failed;
     } };
 
-    ghost invariant = { λ r. r.failed ≡ false → InRange r.lines.kind (progress_of r.lines.progress)
-        × (r.lines.progress.lines + least_length r.lines.part ≤ r.fed) };
+    ghost invariant = { λ r. r.failed ≡ false → InRange r.lines.kind r.lines.progress.extent
+        × (r.lines.progress.extent.lines + length r.lines.part.items ≤ r.fed) };
 }
 
 impl RecordReader {

@@ -1,13 +1,14 @@
 //! A memory of which some bytes are there, as writers of record files walk over it.
 
-ghost use Rattle.std.specs.Prelude.{◌≡◌, ◌+◌, ◌^◌, ◌<◌, ℕ, List, Option, length, take, drop, min};
+ghost use Rattle.std.specs.Prelude.{◌≡◌, ◌+◌, ◌≤◌, ℕ, List, Option, length, take, drop, min};
 ghost use Rattle.avr_image.specs.Image.{first_from};
 ghost use Rattle.avr_image.specs.Runs.{lead};
+ghost use Rattle.avr_records.specs.Sparse.{IsMemory};
 
 use avr_image::Image;
 
-/// A memory of which some bytes are there: an `Image`, or one that somebody else keeps. A cursor (`IhexCursor`,
-/// `SrecCursor`) makes the lines of its record file.
+/// A memory of which some bytes are there: an `Image`, a `Run`, or one that somebody else keeps. A `Writer` or a
+/// `Cursor` makes the lines of its record file.
 ///
 /// ```text
 /// let mut image = Image::new(alloc, 64)?;
@@ -19,32 +20,40 @@ pub trait Sparse {
     // The image of the bytes that are there.
     ghost held: { Self → List (Option ℕ) };
 
-    /// The least byte address from `addr` on that holds a byte.
-    fn next_held(&self, addr: u32) -> Option<u32>
-        ensures { result ≡ first_from (held self.now) addr };
+    /// Returns the least byte address from `addr` on that holds a byte.
+    fn next_held(&self, addr: u64) -> Option<u32>
+        ensures next { result ≡ first_from (held self.now) addr }
 
-    /// The bytes from the byte address `addr` on, up to a gap, and at most so many. The address after them is one too.
-    fn row_at(&self, addr: u32, most: u32) -> &[u8]
+        // The list alone doesn't say that a memory holds bytes, and how many at most.
+        ensures memory { IsMemory (held self.now) };
+
+    /// Returns the bytes from the byte address `addr` on, up to a gap, and at most so many.
+    fn row_at(&self, addr: u32, most: usize) -> &[u8]
         ensures row { result.now ≡ take most (lead (drop addr (held self.now))) }
-        ensures below { addr + length result.now < 2 ^ 32 };
+        ensures few { length result.now ≤ most };
 }
 
-/// The end of a row of at most so many bytes that begins at an address.
-fn row_end(image: &Image, place: u32, most: u32) -> u32
+/// Returns the end of a row of at most so many bytes that begins at an address.
+fn row_end(image: &Image, place: u32, most: usize) -> u32
     ensures { result ≡ place + min most (length (lead (drop place image.now))) }
 {
-    let room = most.min(image.size().saturating_sub(place));
+    let room = most.min(image.size().saturating_sub(place) as usize) as u32;
     image.run_from(place, place + room)
 }
 
 impl Sparse for Image {
     ghost held = { λ image. image };
 
-    fn next_held(&self, addr: u32) -> Option<u32> {
-        self.first_from(addr)
+    fn next_held(&self, addr: u64) -> Option<u32> {
+        // That an image holds bytes is said where they are lent.
+        let _ = self.as_slice();
+        match u32::try_from(addr) {
+            Ok(addr) => self.first_from(addr),
+            Err(_) => None,
+        }
     }
 
-    fn row_at(&self, addr: u32, most: u32) -> &[u8] {
+    fn row_at(&self, addr: u32, most: usize) -> &[u8] {
         if addr >= self.size() {
             return &[];
         }

@@ -9,10 +9,13 @@ ghost use Rattle.hex.specs.Hex.{encode_upper};
 
 use arrayvec::ArrayVec;
 
+/// How many bytes of data a row has, but for the last one before a gap or a border.
+pub(crate) const ROW_SIZE: usize = 32;
+
 /// The bytes of a record: at most a count, four address bytes, 32 bytes of data and a checksum.
 pub(crate) type Fields = ArrayVec<u8, 38>;
 
-/// Puts bytes after those that stand there; there is room for them.
+/// Puts bytes after those of `out`, which has room for them.
 pub(crate) fn append<const N: usize>(out: &mut ArrayVec<u8, N>, bytes: &[u8])
     requires { length out.old.items + length bytes.now ≤ N }
     ensures { out.new.items ≡ out.old.items ++ bytes.now }
@@ -21,7 +24,7 @@ pub(crate) fn append<const N: usize>(out: &mut ArrayVec<u8, N>, bytes: &[u8])
 }
 
 /// Makes letters upper case, since `hex` writes lower-case digits where it takes no memory.
-fn raise(digits: &mut [u8])
+fn uppercase(digits: &mut [u8])
     ensures { digits.new ≡ map to_ascii_uppercase digits.old }
 {
     for digit in digits.iter_mut() {
@@ -36,7 +39,7 @@ fn put_digits(bytes: &[u8], digits: &mut [u8])
     ensures { digits.new ≡ encode_upper bytes.now }
 {
     let _ = hex::encode_to_slice(bytes, digits);
-    raise(digits);
+    uppercase(digits);
 }
 
 /// Makes `out` the line of some marks and the upper-case digits of some bytes.

@@ -1,47 +1,74 @@
 -- The numbers of a cursor say again where its lines stood, and pieces joined are the file.
-use Rattle.std.proofs.Common.{◌≡◌, ◌∙◌, ap, ap₂, sym, refl, arith, ℕ, ◌≤◌, List, [], ◌∷◌, ◌++◌, length, take, drop, Bool, true, false, Option, Some, inl, inr}
+use Rattle.std.proofs.Common.{◌≡◌, ◌∙◌, ap, ap₂, sym, refl, arith, ℕ, ◌^◌, ◌<◌, min, List, [], ◌∷◌, ◌++◌, length, take, drop, Bool, true, false, Option, Some, inl, inr}
 use Rattle.std.specs.Prelude.{if◌then◌else◌}
 use Rattle.std.specs.List.{concat}
 use Rattle.std.specs.Option.{option_map, option_and_then}
 use Rattle.std.proofs.lemmas.Bool.{cases_lt}
-use Rattle.std.proofs.lemmas.List.{length-take-le, take_all, take-append-le, take-append-drop}
+use Rattle.std.proofs.lemmas.List.{drop_all, length-take-le, take_all, take-append-le, take-append-drop}
+use Rattle.avr_image.specs.Runs.{runs}
+use Rattle.avr_records.specs.Sparse.{file_rows, image_text, row_size, rows_of}
+use Rattle.avr_records.specs.Text.{bytes_of}
+use Rattle.avr_records.specs.Writing.{left, text_from, unless_ended}
+use Rattle.avr_records.specs.declared.address_size.AddressSize.{AddressSize}
+use Rattle.avr_records.specs.declared.address_size.AddressSize.TheVariants.{Two, Three, Four}
+use Rattle.avr_records.specs.declared.cursor.Cursor.{Cursor as Lines}
 use Rattle.avr_records.specs.declared.kind.Kind.{Kind}
-use Rattle.avr_records.specs.declared.kind.Kind.TheVariants.{Ihex as KindIhex, Srec as KindSrec}
-use Rattle.avr_records_c.specs.Cursor.{ended_of, size_in_force, ihex_lines, srec_lines, lines_left, kind_of_lines, cursor_of, HasSoundSize}
-use Rattle.avr_records_c.specs.Writing.{PieceCall, Wrote, file_left, image_text, file_start}
+use Rattle.avr_records.specs.declared.kind.Kind.TheVariants.{Ihex, Srec}
+use Rattle.avr_records_c.specs.Cursor.{ended_of, size_in_force, lines_with, cursor_of}
+use Rattle.avr_records_c.specs.Writing.{PieceCall, Wrote, file_left, file_start}
 use Rattle.avr_records_c.specs.declared.cursor.Cursor.{Cursor}
-use Rattle.avr_records_c.specs.declared.cursor.Lines.{Lines}
-use Rattle.avr_records_c.specs.declared.cursor.Lines.TheVariants.{Ihex, Srec}
 
 ended-back : (ended : Bool) → ended_of (if ended then 1 else 0) ≡ Some ended
 ended-back true = refl
 ended-back false = refl
 
-size-back : (size : ℕ) (image : List (Option ℕ)) → 2 ≤ size → size ≤ 4 → size_in_force size image ≡ Some size
-size-back size image least most = elim (cases_lt size 3) [
-  | inl two ↦ let is : size ≡ 2 = omega arith in rw is refl
-  | inr more ↦ elim (cases_lt size 4) [
-    | inl three ↦ let is : size ≡ 3 = omega arith in rw is refl
-    | inr four ↦ let is : size ≡ 4 = omega arith in rw is refl
-  ]
+size-back : (size : AddressSize) (image : List (Option ℕ)) → size_in_force Srec (bytes_of size) image ≡ Some size
+size-back Two image = refl
+size-back Three image = refl
+size-back Four image = refl
+
+-- past the memory all addresses are the same
+capped : (kind : Kind) (upper : ℕ) (size : AddressSize) (addr : ℕ) (image : List (Option ℕ)) → length image < 2 ^ 32
+    → text_from kind upper size (min addr 4294967295) image ≡ text_from kind upper size addr image
+capped kind upper size addr image few = elim (cases_lt addr 4294967296) [
+  | inl low ↦ ap (λ (n : ℕ). text_from kind upper size n image) (omega arith)
+  | inr high ↦
+      let cap : ℕ = min addr 4294967295 in
+      let here : drop cap image ≡ [] = drop_all cap image (omega (arith, few, high)) in
+      let there : drop addr image ≡ [] = drop_all addr image (omega (arith, few, high)) in
+      let rows : ℕ → List (Option ℕ) → List ℕ =
+      λ n rest. file_rows kind upper size (rows_of (row_size kind) (runs n rest)) in
+      ap (rows cap) here ∙ ap (rows addr) (sym there)
 ]
 
-pub left-kept : (kind : Kind) (lines : Lines) (gone : ℕ) (image : List (Option ℕ)) → kind_of_lines lines ≡ kind
-    → HasSoundSize lines → file_left kind image (cursor_of lines gone) ≡ Some (drop gone (lines_left lines image))
-left-kept KindIhex (Ihex lines) gone image is sound =
-    ap (λ (ended : Option Bool). option_map (λ (lines : Lines). drop gone (lines_left lines image))
-    (option_map (ihex_lines (cursor_of (Ihex lines) gone)) ended)) (ended-back lines.ended)
-left-kept KindIhex (Srec lines) gone image is sound = absurd (cc is)
-left-kept KindSrec (Ihex lines) gone image is sound = absurd (cc is)
-left-kept KindSrec (Srec lines) gone image is sound =
-    ap₂ (λ (ended : Option Bool) (size : Option ℕ). option_map (λ (lines : Lines). drop gone (lines_left lines image))
-    (option_and_then (λ (e : Bool). option_map (srec_lines (cursor_of (Srec lines) gone) e) size) ended))
-    (ended-back lines.ended) (size-back lines.address_size image sound.least sound.most)
+left-with : (kind : Kind) (addr upper gone : ℕ) (size : AddressSize) (ended : Bool) (image : List (Option ℕ))
+    → length image < 2 ^ 32 → file_left kind image
+    (cursor_of (record { kind = kind; addr = addr; upper = upper; address_size = size; ended = ended }) gone)
+    ≡ Some (drop gone (unless_ended ended (text_from kind upper size addr image)))
+left-with Ihex addr upper gone size ended image few =
+    let cursor : Cursor = cursor_of
+    (record { kind = Ihex; addr = addr; upper = upper; address_size = size; ended = ended }) gone in
+    ap (λ (e : Option Bool). option_map (λ (lines : Lines). drop gone (left lines image))
+    (option_and_then (λ (b : Bool). option_map (lines_with Ihex cursor b) (Some Two)) e)) (ended-back ended)
+    ∙ ap (λ (text : List ℕ). Some (drop gone (unless_ended ended text))) (capped Ihex upper size addr image few)
+left-with Srec addr upper gone size ended image few =
+    let cursor : Cursor = cursor_of
+    (record { kind = Srec; addr = addr; upper = upper; address_size = size; ended = ended }) gone in
+    ap₂ (λ (e : Option Bool) (s : Option AddressSize). option_map (λ (lines : Lines). drop gone (left lines image))
+    (option_and_then (λ (b : Bool). option_map (lines_with Srec cursor b) s) e)) (ended-back ended)
+    (size-back size image)
+    ∙ ap (λ (text : List ℕ). Some (drop gone (unless_ended ended text))) (capped Srec upper size addr image few)
+
+pub left_kept : (kind : Kind) (lines : Lines) (gone : ℕ) (image : List (Option ℕ)) → lines.kind ≡ kind
+    → length image < 2 ^ 32 → file_left kind image (cursor_of lines gone) ≡ Some (drop gone (left lines image))
+left_kept kind lines gone image is few =
+    rw (← is)
+    (left-with lines.kind lines.addr lines.upper gone lines.address_size lines.ended image few)
 
 -- at the beginning all of the file is left
 pub starts : (kind : Kind) (image : List (Option ℕ)) → file_left kind image file_start ≡ Some (image_text kind image)
-starts KindIhex image = refl
-starts KindSrec image = refl
+starts Ihex image = refl
+starts Srec image = refl
 
 -- what a call put is the prefix of what was left
 call-prefix : (kind : Kind) (image : List (Option ℕ)) (cursor next : Cursor) (piece : List ℕ)

@@ -1,17 +1,17 @@
 -- How long a file may be: it has at most two lines for each byte, and an end record.
-use Rattle.std.proofs.Common.{◌≡◌, ◌∙◌, ap, refl, arith, ℕ, zero, suc, ◌+◌, ◌-◌, ◌*◌, ◌/◌, ◌%◌, ◌^◌, ◌<◌, ◌≤◌, ◌==◌, nat_lt, List, [], ◌∷◌, ◌++◌, length, sum, true, false, Option, Some, None, inl, inr}
-use Rattle.std.specs.Prelude.{flat_map}
+use Rattle.std.proofs.Common.{◌≡◌, ◌∙◌, ap, refl, arith, ℕ, zero, suc, ◌+◌, ◌-◌, ◌*◌, ◌/◌, ◌%◌, ◌^◌, ◌<◌, ◌≤◌, ◌==◌, List, [], ◌∷◌, ◌++◌, length, sum, true, false, Option, Some, None, inl, inr}
 use Rattle.std.proofs.lemmas.Bool.{cases_Bool, cases_eq}
 use Rattle.std.proofs.lemmas.Bool.Decides.{nat_tests}
 use Rattle.std.proofs.lemmas.List.{length-append, length-take}
 use Rattle.hex.proofs.HexLemmas.{length-encode_with}
 use Rattle.hex.specs.Hex.{upper_digits, encode_upper}
 use Rattle.avr_image.specs.Runs.{onto_runs, runs}
-use Rattle.avr_records.specs.Sparse.{rows_of, last_held}
-use Rattle.avr_records.specs.Text.{rows_behind, rows, two, with_sum_checksum, with_count_and_checksum, ihex_record, ihex_row_size, upper_record, ihex_rows, low_bytes, srec_record, srec_rows, address_size}
+use Rattle.avr_records.specs.Sparse.{image_text, last_held, row_size, rows_of}
+use Rattle.avr_records.specs.Text.{rows_behind, rows, two, with_sum_checksum, with_count_and_checksum, ihex_record, upper_record, ihex_rows, bytes_of, low_bytes, srec_record, srec_rows, address_size}
+use Rattle.avr_records.specs.declared.address_size.AddressSize.{AddressSize}
 use Rattle.avr_records.specs.declared.kind.Kind.{Kind}
 use Rattle.avr_records.specs.declared.kind.Kind.TheVariants.{Ihex, Srec}
-use Rattle.avr_records_c.specs.Writing.{image_text}
+use Rattle.avr_records.proofs.Writers.Pieces.{few_bytes, length_low_bytes}
 
 -- ---- one line
 
@@ -32,11 +32,6 @@ upper-line old new = elim (cases_Bool (new == old)) [
   | inr other ↦ rw other (omega (arith, ihex-line 4 0 (two new)))
 ]
 
-low-length : (size n : ℕ) → length (low_bytes size n) ≡ size
-low-length zero n = refl
-low-length (suc size) n =
-    omega (arith, length-append (low_bytes size (n / 256)) ((n % 256) ∷ []), low-length size (n / 256))
-
 srec-line : (type size addr : ℕ) (bytes : List ℕ)
     → length (srec_record type (low_bytes size addr ++ bytes)) ≡ 2 * length bytes + 2 * size + 7
 srec-line type size addr bytes =
@@ -48,7 +43,7 @@ srec-line type size addr bytes =
       length-encode_with upper_digits (with_count_and_checksum body),
       length-append body (check ∷ []),
       length-append (low_bytes size addr) bytes,
-      low-length size addr,
+      length_low_bytes size addr,
     )
 
 -- ---- the lines of rows
@@ -74,19 +69,6 @@ ihex-lines upper ((addr, bytes) ∷ more) =
       ihex-lines (addr / 65536) more,
     )
 
-srec-data : (size : ℕ) (cut : List (ℕ × List ℕ)) → size ≤ 4
-    → length (flat_map (λ row. srec_record (size - 1) (low_bytes size row.0 ++ row.1)) cut) ≤ 28 * weight cut
-srec-data size [] few = omega arith
-srec-data size (row ∷ more) few =
-    let line : List ℕ = srec_record (size - 1) (low_bytes size row.0 ++ row.1) in
-    omega (
-      arith,
-      length-append line (flat_map (λ row. srec_record (size - 1) (low_bytes size row.0 ++ row.1)) more),
-      srec-line (size - 1) size row.0 row.1,
-      srec-data size more few,
-      few,
-    )
-
 srec-end : (size : ℕ) → size ≤ 4 → length (srec_record (11 - size) (low_bytes size 0)) ≤ 15
 srec-end size few =
     let body : List ℕ = low_bytes size 0 in
@@ -96,28 +78,21 @@ srec-end size few =
       length-append (encode_upper (with_count_and_checksum body)) (10 ∷ []),
       length-encode_with upper_digits (with_count_and_checksum body),
       length-append body (check ∷ []),
-      low-length size 0,
+      length_low_bytes size 0,
       few,
     )
 
-srec-lines : (size : ℕ) (cut : List (ℕ × List ℕ)) → size ≤ 4 → length (srec_rows size cut) ≤ 28 * weight cut + 15
-srec-lines size cut few =
+srec-lines : (size : AddressSize) (cut : List (ℕ × List ℕ)) → length (srec_rows size cut) ≤ 28 * weight cut + 15
+srec-lines size [] = srec-end (bytes_of size) (few_bytes size).1
+srec-lines size ((addr, bytes) ∷ more) =
+    let n : ℕ = bytes_of size in
     omega (
       arith,
-      length-append (flat_map (λ row. srec_record (size - 1) (low_bytes size row.0 ++ row.1)) cut)
-          (srec_record (11 - size) (low_bytes size 0)),
-      srec-data size cut few,
-      srec-end size few,
+      length-append (srec_record (n - 1) (low_bytes n addr ++ bytes)) (srec_rows size more),
+      srec-line (n - 1) n addr bytes,
+      srec-lines size more,
+      (few_bytes size).1,
     )
-
-size-few : (last : ℕ) → address_size last ≤ 4
-size-few last = elim (cases_Bool (nat_lt last 65536)) [
-  | inl low ↦ rw low (omega arith)
-  | inr more ↦ elim (cases_Bool (nat_lt last 16777216)) [
-    | inl middle ↦ rw (more, middle) (omega arith)
-    | inr high ↦ rw (more, high) (omega arith)
-  ]
-]
 
 -- ---- the rows of an image
 
@@ -168,12 +143,11 @@ image-weight size image =
 pub countable : (kind : Kind) (image : List (Option ℕ)) → length image < 2 ^ 32
     → length (image_text kind image) < 2 ^ 64
 countable Ihex image few =
-    omega (arith, ihex-lines 0 (rows_of ihex_row_size (runs 0 image)), image-weight ihex_row_size image, few)
+    omega (arith, ihex-lines 0 (rows_of (row_size Ihex) (runs 0 image)), image-weight (row_size Ihex) image, few)
 countable Srec image few =
-    let size : ℕ = address_size (last_held 0 0 image) in
     omega (
       arith,
-      srec-lines size (rows_of (λ (addr : ℕ). 32) (runs 0 image)) (size-few (last_held 0 0 image)),
-      image-weight (λ (addr : ℕ). 32) image,
+      srec-lines (address_size (last_held 0 0 image)) (rows_of (row_size Srec) (runs 0 image)),
+      image-weight (row_size Srec) image,
       few,
     )

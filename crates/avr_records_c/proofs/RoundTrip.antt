@@ -1,16 +1,14 @@
 -- What is written of a memory reads back.
-use Rattle.std.proofs.Common.{◌≡◌, ◌∙◌, ap, sym, arith, ℕ, zero, suc, ◌<◌, ◌≤◌, ◌^◌, List, [], ◌∷◌, length, Bool, true, false, cond, Some, None, Ok}
+use Rattle.std.proofs.Common.{◌≡◌, ◌∙◌, ap, sym, arith, ℕ, zero, suc, ◌<◌, ◌≤◌, ◌^◌, List, [], ◌∷◌, length, Bool, true, false, cond, Some, None}
 use Rattle.avr_image.specs.Image.{HoldsBytes}
 use Rattle.avr_records.specs.Reading.{image_in_text}
-use Rattle.avr_records.specs.declared.kind.Ending.TheVariants.{Ended}
 use Rattle.avr_records.specs.declared.kind.Kind.{Kind}
-use Rattle.avr_records.specs.declared.kind.Kind.TheVariants.{Ihex, Srec}
-use Rattle.avr_records.proofs.Writers.Sparse.{ihex-image-reads-back, srec-image-reads-back}
+use Rattle.avr_records.specs.Sparse.{IsMemory, image_text}
+use Rattle.avr_records.proofs.Writers.Sparse.{reads-back-same}
 use Rattle.avr_records_c.proofs.Walks.{length-image}
 use Rattle.avr_records_c.specs.Bitmap.{is_there, image_from, image_of}
 use Rattle.avr_records_c.specs.Reading.{left_in}
 use Rattle.avr_records_c.specs.RoundTrip.{EachIsByte, written_and_read}
-use Rattle.avr_records_c.specs.Writing.{image_text}
 
 byte_below : (there : Bool) (b byte : ℕ) → b < 256 → cond there (Some b) None ≡ Some byte → byte < 256
 byte_below true b byte small is = let same : b ≡ byte = cc is in omega (arith, same)
@@ -22,20 +20,16 @@ holds at present (b ∷ bytes) small zero byte is = byte_below (is_there present
 holds at present (b ∷ bytes) small (suc addr) byte is =
     holds (suc at) present bytes (λ i l. small (suc i) (omega (arith, l))) addr byte is
 
-reads : (kind : Kind) (present bytes : List ℕ) → length bytes ≤ 2 ^ 32 → EachIsByte bytes
-    → image_in_text kind (image_text kind (image_of present bytes)) (length (image_of present bytes))
-    ≡ Ok (image_of present bytes, Ended)
-reads Ihex present bytes few small =
-    ihex-image-reads-back (image_of present bytes) (omega (arith, length-image 0 present bytes, few))
-    (holds 0 present bytes small)
-reads Srec present bytes few small =
-    srec-image-reads-back (image_of present bytes) (omega (arith, length-image 0 present bytes, few))
-    (holds 0 present bytes small)
+pub is-memory : (present bytes : List ℕ) → length bytes ≤ 2 ^ 32 → EachIsByte bytes
+    → IsMemory (image_of present bytes)
+is-memory present bytes few small =
+    record { short = omega (arith, length-image 0 present bytes, few); bytes = holds 0 present bytes small }
 
 pub reads_back : (kind : Kind) (present bytes : List ℕ) → length bytes ≤ 2 ^ 32 → EachIsByte bytes
     → left_in bytes present (image_in_text kind (image_text kind (image_of present bytes)) (length bytes))
     ≡ written_and_read present bytes
 reads_back kind present bytes few small =
+    let is = is-memory present bytes few small in
     ap (left_in bytes present)
     (ap (image_in_text kind (image_text kind (image_of present bytes))) (sym (length-image 0 present bytes))
-    ∙ reads kind present bytes few small)
+    ∙ reads-back-same kind (image_of present bytes) is.short is.bytes)

@@ -1,19 +1,14 @@
 -- What C has of a record file that is written.
 use Rattle.std.specs.Prelude.{◌≡◌, ℕ, ◌==◌, ◌&&◌, ◌^◌, nat_lt, min, List, [], ◌∷◌, ◌++◌, length, take, drop, Option, Some, None, MatchOption, if◌then◌else◌}
 use Rattle.std.specs.Option.{option_map}
-use Rattle.avr_records.specs.Sparse.{ihex_image_text, srec_image_text}
+use Rattle.avr_records.specs.Sparse.{image_text}
+use Rattle.avr_records.specs.Writing.{left as text_left}
 use Rattle.avr_records.specs.declared.kind.Kind.{Kind}
-use Rattle.avr_records.specs.declared.kind.Kind.TheVariants.{Ihex, Srec}
 use Rattle.avr_records_c.specs.declared.cursor.Cursor.{Cursor}
 use Rattle.avr_records_c.specs.declared.piece.Piece.{Piece}
-use Rattle.avr_records_c.specs.Cursor.{lines_of, lines_left}
+use Rattle.avr_records_c.specs.Cursor.{lines_of}
 use Rattle.avr_records_c.specs.Numbers.{kind_numbered}
 use Rattle.avr_records_c.specs.Bitmap.{octets_of, image_of}
-
--- the record file of an image
-abbrev pub image_text : Kind → List (Option ℕ) → List ℕ
-image_text Ihex image = ihex_image_text image
-image_text Srec image = srec_image_text image
 
 -- what a call leaves: how much it put, where the file stands, and the room that it was lent
 pub record Put : Type 0 where
@@ -38,7 +33,7 @@ pub record PutsOn (text rest room : List ℕ) (n : ℕ) (after : List ℕ) : Typ
 -- none where no call leaves such a cursor
 abbrev pub file_left : Kind → List (Option ℕ) → Cursor → Option (List ℕ)
 file_left kind image cursor =
-    option_map (λ lines. drop cursor.gone (lines_left lines image)) (lines_of kind cursor image)
+    option_map (λ lines. drop cursor.gone (text_left lines image)) (lines_of kind cursor image)
 
 -- the cursor at a file's beginning
 abbrev pub file_start : Cursor

@@ -5,7 +5,7 @@ ghost use Rattle.avr_records_c.specs.Bitmap.{bit, bitmap, is_there as spec_is_th
 use avr_image::Image;
 
 /// Whether a bitmap of so many octets is that of a memory of so many bytes, fewer than 2 to the power 32.
-pub fn is_bitmap_of(octets: usize, size: usize) -> bool
+pub(crate) fn is_bitmap_of(octets: usize, size: usize) -> bool
     ensures { result ≡ (nat_lt size (2 ^ 32) && octets == octets_of size) }
 {
     size <= u32::MAX as usize && octets == size.div_ceil(8)
@@ -87,7 +87,7 @@ fn put_octets(image: &Image, from: usize, present: &mut [u8]) -> usize
 }
 
 /// Makes `present` the bitmap of an image.
-pub fn put_bitmap(image: &Image, present: &mut [u8])
+pub(crate) fn put_bitmap(image: &Image, present: &mut [u8])
     requires { length present.old * 8 ≤ 2 ^ 32 }
     ensures { present.new ≡ bitmap image.now (length present.old) }
 {
@@ -99,7 +99,7 @@ pub fn put_bitmap(image: &Image, present: &mut [u8])
 }
 
 /// Whether an address's bit is 1.
-pub fn is_there(present: &[u8], addr: usize) -> bool
+pub(crate) fn is_there(present: &[u8], addr: usize) -> bool
     requires { addr < length present.now * 8 }
     ensures { result ≡ spec_is_there present.now addr }
 {

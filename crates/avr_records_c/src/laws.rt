@@ -3,11 +3,12 @@ ghost use Rattle.std.specs.Prelude.{◌≡◌, ◌*◌, ◌<◌, ◌≤◌, ◌^
 ghost use Rattle.std.specs.List.{concat};
 ghost use Rattle.avr_image.specs.Image.{byte_at};
 ghost use Rattle.avr_records.specs.Reading.{image_in_text};
+ghost use Rattle.avr_records.specs.Sparse.{image_text};
 ghost use Rattle.avr_records.specs.declared.kind.Kind.{Kind};
 ghost use Rattle.avr_records_c.specs.Bitmap.{bitmap, image_of, is_there};
 ghost use Rattle.avr_records_c.specs.Reading.{left_in};
 ghost use Rattle.avr_records_c.specs.RoundTrip.{EachIsByte, written_and_read};
-ghost use Rattle.avr_records_c.specs.Writing.{Wrote, image_text, file_start};
+ghost use Rattle.avr_records_c.specs.Writing.{Wrote, file_start};
 
 /// A bit of an image's bitmap is 1 where, and only where, its address holds a byte.
 #[tactic(auto, using(crate::proofs::Bits::there_where_held))]

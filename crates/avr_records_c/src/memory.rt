@@ -1,7 +1,8 @@
 //! A memory as C has it, as the writers of record files walk over it.
-ghost use Rattle.std.specs.Prelude.{◌≡◌, ◌⊎◌, ◌+◌, ◌*◌, ◌^◌, ◌<◌, ◌≤◌, ℕ, false, length, take, drop, min};
+ghost use Rattle.std.specs.Prelude.{◌≡◌, ◌+◌, ◌*◌, ◌^◌, ◌<◌, ◌≤◌, ℕ, false, length, take, drop, min};
 ghost use Rattle.avr_image.specs.Image.{first_from};
 ghost use Rattle.avr_image.specs.Runs.{lead};
+ghost use Rattle.avr_records.specs.Sparse.{IsMemory};
 ghost use Rattle.avr_records_c.specs.Bitmap.{image_of, is_there as spec_is_there, octets_of};
 
 use crate::bitmap::is_there;
@@ -31,7 +32,8 @@ impl<'a> Memory<'a> {
     pub(crate) fn new(present: &'a [u8], bytes: &'a [u8]) -> Memory<'a>
         requires below { length bytes.now < 2 ^ 32 }
         requires octets { length present.now ≡ octets_of (length bytes.now) }
-        ensures { result ≡ image_of present.now bytes.now }
+        ensures image { result ≡ image_of present.now bytes.now }
+        ensures short { length result < 2 ^ 32 }
     {
         Memory { present, bytes }
     }
@@ -54,8 +56,10 @@ fn gap_at(present: &[u8], addr: usize) -> usize
 
 /// The least address from one on whose byte is there.
 fn next_there(present: &[u8], bytes: &[u8], addr: usize) -> Option<usize>
-    requires { length present.now ≡ octets_of (length bytes.now) }
-    ensures { result ≡ first_from (image_of present.now bytes.now) addr }
+    requires octets { length present.now ≡ octets_of (length bytes.now) }
+    requires below { length bytes.now < 2 ^ 32 }
+    ensures next { result ≡ first_from (image_of present.now bytes.now) addr }
+    ensures memory { IsMemory (image_of present.now bytes.now) }
 {
     let mut at = addr;
     'gap: while at < bytes.len() {
@@ -85,7 +89,7 @@ fn row_end(present: &[u8], bytes: &[u8], addr: usize, most: usize) -> usize
 fn row_there<'a>(present: &[u8], bytes: &'a [u8], addr: usize, most: usize) -> &'a [u8]
     requires { length present.now ≡ octets_of (length bytes.now) }
     ensures row { result.now ≡ take most (lead (drop addr (image_of present.now bytes.now))) }
-    ensures inside { length result.now ≡ 0 ⊎ addr + length result.now ≤ length bytes.now }
+    ensures few { length result.now ≤ most }
 {
     if addr >= bytes.len() {
         return &[];
@@ -97,14 +101,14 @@ fn row_there<'a>(present: &[u8], bytes: &'a [u8], addr: usize, most: usize) -> &
 impl Sparse for Memory<'_> {
     ghost held = { λ memory. memory };
 
-    fn next_held(&self, addr: u32) -> Option<u32> {
+    fn next_held(&self, addr: u64) -> Option<u32> {
         match next_there(self.present, self.bytes, addr as usize) {
             Some(place) => Some(place as u32),
             None => None,
         }
     }
 
-    fn row_at(&self, addr: u32, most: u32) -> &[u8] {
-        row_there(self.present, self.bytes, addr as usize, most as usize)
+    fn row_at(&self, addr: u32, most: usize) -> &[u8] {
+        row_there(self.present, self.bytes, addr as usize, most)
     }
 }

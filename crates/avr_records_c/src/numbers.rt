@@ -10,7 +10,7 @@ use crate::outcome::Outcome;
 use avr_records::{Found, Kind};
 
 /// The number of a format.
-pub fn found_number(found: Found) -> u8
+pub(crate) fn found_number(found: Found) -> u8
     ensures { result ≡ spec_found_number found }
 {
     match found {
@@ -22,7 +22,7 @@ pub fn found_number(found: Found) -> u8
 }
 
 /// The kind of record file that a number names.
-pub fn kind_numbered(number: u8) -> Option<Kind>
+pub(crate) fn kind_numbered(number: u8) -> Option<Kind>
     ensures { result ≡ spec_kind_numbered number }
 {
     match number {
@@ -33,7 +33,7 @@ pub fn kind_numbered(number: u8) -> Option<Kind>
 }
 
 /// The kind of record file that a number names; else the outcome of a read of that format.
-pub fn kind_to_read(number: u8) -> Result<Kind, Outcome>
+pub(crate) fn kind_to_read(number: u8) -> Result<Kind, Outcome>
     ensures { result ≡ spec_kind_to_read number }
 {
     match number {

@@ -1,16 +1,16 @@
 //! A record file written from the caller's memory.
 ghost use Rattle.std.specs.Prelude.{◌≡◌, ◌+◌, ◌-◌, ◌<◌, ◌≤◌, ◌^◌, ◌++◌, length, take, drop, min};
-ghost use Rattle.avr_records_c.specs.Cursor.{kind_of_lines, lines_left, HasSoundSize};
+ghost use Rattle.avr_records.specs.Writing.{left};
 ghost use Rattle.avr_records_c.specs.Writing.{asked_write as spec_asked_write, Measures, PutsOn, Writes};
 
 use crate::bitmap::is_bitmap_of;
-use crate::cursor::{Cursor, Lines, cursor_of, first_lines, lines_of, next_line};
+use crate::cursor::{Cursor, cursor_of, lines_of};
 use crate::memory::Memory;
 use crate::numbers::kind_numbered;
 use crate::outcome::MISFIT;
 use crate::piece::Piece;
 use arrayvec::ArrayVec;
-use avr_records::Kind;
+use avr_records::{Cursor as Lines, Kind};
 
 /// The kind of file, where the arguments fit one another.
 fn asked_write(kind: u8, size: usize, present: usize) -> Option<Kind>
@@ -37,17 +37,15 @@ fn put_part(line: &[u8], gone: usize, room: &mut [u8], put: usize) -> usize
 
 /// Puts what is left of a file into a room, as much as it takes; how much that is.
 fn put_left(lines: &mut Lines, gone: &mut u32, memory: &Memory<'_>, room: &mut [u8]) -> usize
-    requires { HasSoundSize lines.old }
-    ensures put { PutsOn (drop gone.old (lines_left lines.old memory.now)) (drop gone.new
-        (lines_left lines.new memory.now)) room.old result room.new }
-    ensures sound { HasSoundSize lines.new }
-    ensures kind { kind_of_lines lines.new ≡ kind_of_lines lines.old }
+    ensures put { PutsOn (drop gone.old (left lines.old memory.now)) (drop gone.new (left lines.new memory.now))
+        room.old result room.new }
+    ensures kind { lines.new.kind ≡ lines.old.kind }
 {
     let mut line = ArrayVec::new();
     let mut put = 0;
     'lines: while put < room.len() {
         let mut next = *lines;
-        if !next_line(&mut next, memory, &mut line) {
+        if !next.next_line(memory, &mut line) {
             return put;
         }
         let count = put_part(line.as_slice(), *gone as usize, room, put);
@@ -65,14 +63,13 @@ fn put_left(lines: &mut Lines, gone: &mut u32, memory: &Memory<'_>, room: &mut [
 
 /// Counts the bytes that lines have still to say of a memory.
 fn count_left(lines: Lines, memory: &Memory<'_>) -> usize
-    requires sound { HasSoundSize lines }
-    requires countable { length (lines_left lines memory.now) < 2 ^ 64 }
-    ensures { result ≡ length (lines_left lines memory.now) }
+    requires { length (left lines memory.now) < 2 ^ 64 }
+    ensures { result ≡ length (left lines memory.now) }
 {
     let mut left = lines;
     let mut line = ArrayVec::new();
     let mut count = 0;
-    'lines: while next_line(&mut left, memory, &mut line) {
+    'lines: while left.next_line(memory, &mut line) {
         count += line.len();
     }
     count
@@ -89,7 +86,7 @@ pub extern "C" fn avr_records_length(kind: u8, bytes: &[u8], present: &[u8]) -> 
     };
     let memory = Memory::new(present, bytes);
     Piece {
-        length: count_left(first_lines(kind, &memory), &memory),
+        length: count_left(Lines::new(kind, &memory), &memory),
         fault: 0,
     }
 }
@@ -103,6 +100,7 @@ pub extern "C" fn avr_records_length(kind: u8, bytes: &[u8], present: &[u8]) -> 
 /// the memory belong to the file. The fault is 11, where the arguments do not fit one another, or no call leaves such a
 /// cursor; then room and cursor are as they were. Of a cursor that was changed otherwise, or that stands in another
 /// memory or kind, comes what its numbers say.
+#[tactic(auto, using(crate::proofs::Cursors::left_kept))]
 #[unsafe(no_mangle)]
 pub extern "C" fn avr_records_write(
     kind: u8,

@@ -1,35 +1,38 @@
--- How a session stands after an operation of the host. (For contracts inside this crate.)
+-- How a session goes on after an operation of the host. (For contracts inside this crate.)
 use Rattle.std.specs.Prelude.{◌≡◌, Option, None, Result, Ok, Err, ⊤}
 use Rattle.avr_desk.specs.declared.desk.DeskFault.{DeskFault}
 use Rattle.stk_host.specs.declared.fault.HostFault.{HostFault}
-use Rattle.stk_host.specs.declared.fault.HostFault.TheVariants.{SendFailed, RecvFailed, Memory}
-use Rattle.avr_session.specs.declared.standing.Standing.{Standing}
-use Rattle.avr_session.specs.declared.standing.Standing.TheVariants.{Fine, Faulty}
-use Rattle.avr_session.specs.declared.standing.Stopped.{Stopped}
-use Rattle.avr_session.specs.Session.{standing}
+use Rattle.stk_host.specs.declared.fault.HostFault.TheVariants.{LinkEnded, SendFailed, RecvFailed, Memory}
+use Rattle.avr_session.specs.declared.ending.End.{End}
+use Rattle.avr_session.specs.declared.ending.End.TheVariants as ends
+use Rattle.avr_session.specs.Standing.{Standing, Fine, Faulty, Over}
 
--- a failed link and memory that is refused stop the run; nothing else does
-abbrev pub after_outcome : {A : Type 0} → Result A HostFault → Result Standing Stopped
-after_outcome (Err SendFailed) = Err (record {})
-after_outcome (Err RecvFailed) = Err (record {})
-after_outcome (Err Memory) = Err (record {})
-after_outcome outcome = Ok (standing outcome)
+-- a failed link and memory that is refused stop the run; no other fault does
+abbrev pub ended_by : HostFault → End
+ended_by LinkEnded = ends.Over LinkEnded
+ended_by SendFailed = ends.Stopped
+ended_by RecvFailed = ends.Stopped
+ended_by Memory = ends.Stopped
+ended_by fault = ends.Faulty fault
 
-abbrev pub conclusion : {A : Type 0} → Result A HostFault → Result ⊤ Stopped → Result Standing Stopped
+abbrev pub after_outcome : {A : Type 0} → Result A HostFault → Result ⊤ End
+after_outcome (Ok a) = Ok tt
+after_outcome (Err fault) = Err (ended_by fault)
+
+-- a desk that fails as it reports the outcome stops it too
+abbrev pub conclusion : {A : Type 0} → Result A HostFault → Result ⊤ DeskFault → Result ⊤ End
 conclusion outcome (Ok done) = after_outcome outcome
-conclusion outcome (Err stopped) = Err stopped
+conclusion outcome (Err _) = Err ends.Stopped
 
-abbrev pub fine_if_said : Result ⊤ Stopped → Result Standing Stopped
-fine_if_said (Ok done) = Ok Fine
-fine_if_said (Err stopped) = Err stopped
-
--- a desk that fails stops the run
-abbrev pub stopped_of : Result ⊤ DeskFault → Result ⊤ Stopped
-stopped_of (Ok done) = Ok tt
-stopped_of (Err fault) = Err (record {})
+-- how a session stands that came to this, unless it stopped
+abbrev pub stands : Result ⊤ End → Result Standing ⊤
+stands (Ok done) = Ok Fine
+stands (Err (ends.Faulty fault)) = Ok Faulty
+stands (Err (ends.Over fault)) = Ok Over
+stands (Err ends.Stopped) = Err tt
 
 -- after any phase that leaves the line, the host serves
-abbrev pub HostServes : Result Standing Stopped → Option HostFault → Type 0
+abbrev pub HostServes : Result Standing ⊤ → Option HostFault → Type 0
 HostServes (Ok Fine) broken = broken ≡ None
 HostServes (Ok Faulty) broken = broken ≡ None
 HostServes result broken = ⊤

@@ -5,12 +5,13 @@ use Rattle.avr_cli.specs.declared.update.Format.{Format}
 use Rattle.avr_cli.specs.declared.update.Format.TheVariants.{Ihex, Srec, Decimal, Hexadecimal, Octal, Binary}
 use Rattle.avr_image.specs.Lists.{list_text}
 use Rattle.avr_image.specs.declared.list.Base.TheVariants.{Dec, Hex, Oct, Bin}
-use Rattle.avr_records.specs.Text.{ihex_text, srec_text}
+use Rattle.avr_records.specs.Sparse.{image_text, run_at}
+use Rattle.avr_records.specs.declared.kind.Kind.TheVariants as kind
 
 -- the text of a file in a format; any other than these is raw: the bytes themselves
 unfoldable pub file_text : Format → Bytes → Bytes
-file_text Ihex bytes = ihex_text 0 bytes
-file_text Srec bytes = srec_text 0 bytes
+file_text Ihex bytes = image_text kind.Ihex (run_at 0 bytes)
+file_text Srec bytes = image_text kind.Srec (run_at 0 bytes)
 file_text Decimal bytes = list_text Dec bytes
 file_text Hexadecimal bytes = list_text Hex bytes
 file_text Octal bytes = list_text Oct bytes

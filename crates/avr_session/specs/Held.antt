@@ -1,11 +1,11 @@
 -- What a session holds, before a call of it and after. (For contracts inside this crate.)
-use Rattle.std.specs.Prelude.{◌≡◌, List, Result}
+use Rattle.std.specs.Prelude.{◌≡◌, List, Result, ⊤}
 use Rattle.avr_desk.specs.Record.{DeskView}
 use Rattle.avr_session.specs.declared.phases.Session.{Session}
-use Rattle.avr_session.specs.declared.standing.Standing.{Standing}
-use Rattle.avr_session.specs.declared.standing.Stopped.{Stopped}
+use Rattle.avr_session.specs.declared.ending.End.{End}
 use Rattle.avr_session.specs.Actions.{Action}
-use Rattle.avr_session.specs.Outcomes.{IsLastAt}
+use Rattle.avr_session.specs.Concluding.{stands}
+use Rattle.avr_session.specs.Outcomes.{EndsTold}
 use Rattle.avr_session.specs.Phases.{Does}
 use Rattle.avr_session.specs.Runs.{Devices, devices}
 use Rattle.ghosts.specs.Stays.{Stays}
@@ -17,9 +17,10 @@ shown link desk session = devices (link session.link.now) (desk session.desk.now
 
 -- these actions of its plan were done in their order, up to the first fault
 abbrev pub SessionDoes : {D L : Type 0} → (L → LinkView) → (D → DeskView) → List Action → Session D L → Session D L
-    → Result Standing Stopped → Type 0
+    → Result ⊤ End → Type 0
 SessionDoes link desk actions old new result =
-    Does old.plan.now actions old.host new.host (shown link desk old) (shown link desk new) result
+    Does old.plan.now actions old.host new.host (shown link desk old) (shown link desk new)
+    (stands result)
 
 -- It has the same plan and devices, which come of what they came of.
 pub record Keeps {LinkStart DeskStart D L : Type 0} (LinkComes : LinkStart → L → Type 0)
@@ -30,7 +31,6 @@ pub record Keeps {LinkStart DeskStart D L : Type 0} (LinkComes : LinkStart → L
   pub comes : Stays LinkComes old.link.now new.link.now
   pub stays : Stays DeskComes old.desk.now new.desk.now
 
--- where it stands so after a fault, its line is the last one reported
-abbrev pub TellsLast : {D L : Type 0} → (D → DeskView) → Session D L → Standing → Type 0
-TellsLast desk session standing =
-    IsLastAt session.plan.now.part session.told (desk session.desk.now) standing
+-- if a fault ends it, the line of this fault is the last one reported
+abbrev pub TellsLast : {D L : Type 0} → (D → DeskView) → Session D L → Result ⊤ End → Type 0
+TellsLast desk session result = EndsTold session.plan.now.part (desk session.desk.now) result

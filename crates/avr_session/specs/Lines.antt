@@ -39,11 +39,18 @@ differs_pieces mem address want found =
     name_of mem ∷ codes ": address " ∷ digits (big_bytes 4 address) ∷ codes ": " ∷ digits (want ∷ [])
     ∷ codes " expected, " ∷ digits (found ∷ []) ∷ codes " found" ∷ []
 
+-- the link failed as it sent, and as it listened
+abbrev pub unsent_pieces : List Bytes
+unsent_pieces = codes "link cannot be written" ∷ []
+
+abbrev pub unheard_pieces : List Bytes
+unheard_pieces = codes "link cannot be read" ∷ []
+
 -- a host's fault in the work on a part
 abbrev pub fault_pieces : Part → HostFault → List Bytes
 fault_pieces part NoAnswer = codes "no answer" ∷ []
 fault_pieces part LinkEnded = codes "link ended" ∷ []
-fault_pieces part SendFailed = codes "link cannot be written" ∷ []
+fault_pieces part SendFailed = unsent_pieces
 fault_pieces part Babble = codes "no answer in 4096 bytes" ∷ []
 fault_pieces part (Refused command status) = refused_pieces command status
 fault_pieces part (BadAnswer command) = bad_answer_pieces command
@@ -51,7 +58,7 @@ fault_pieces part (WrongSignature found) = other_signature part found
 fault_pieces part (Differs mem address want found) = differs_pieces mem address want found
 fault_pieces part (ReadOnly mem) = read_only_pieces mem
 fault_pieces part Memory = memory_pieces
-fault_pieces part RecvFailed = codes "link cannot be read" ∷ []
+fault_pieces part RecvFailed = unheard_pieces
 
 unfoldable pub fault_line : Part → HostFault → Bytes
 fault_line part fault = error (fault_pieces part fault)

@@ -1,11 +1,10 @@
 -- What came of a session, and the fault whose line was reported.
-use Rattle.std.specs.Prelude.{ℕ, ◌≡◌, ◌++◌, Option, Some, None, Result, Ok, Err, ⊤}
+use Rattle.std.specs.Prelude.{ℕ, ◌≡◌, ◌++◌, Result, Ok, Err, ⊤}
 use Rattle.avr_desk.specs.Record.{Bytes, DeskView}
 use Rattle.avr_part.specs.Part.{Part}
 use Rattle.avr_plan.specs.Plan.{Plan}
-use Rattle.stk_host.specs.declared.fault.HostFault.{HostFault}
-use Rattle.avr_session.specs.declared.standing.Standing.{Standing}
-use Rattle.avr_session.specs.declared.standing.Standing.TheVariants.{Fine, Faulty, Over}
+use Rattle.avr_session.specs.declared.ending.End.{End}
+use Rattle.avr_session.specs.declared.ending.End.TheVariants as ends
 use Rattle.avr_session.specs.declared.outcome.Outcome.{Outcome}
 use Rattle.avr_session.specs.declared.outcome.Outcome.TheVariants as outcome
 use Rattle.avr_session.specs.Lines.{fault_line}
@@ -32,29 +31,17 @@ ComesTo plan old new (outcome.Faulty fault) =
     IsPlayed (session plan) old new 1 × EndWith (fault_line plan.part fault) new.desk.kept.messages
 ComesTo plan old new outcome.Stopped = StopsSession plan old new
 
--- ---- inside: the fault that was reported last
+-- ---- inside: how a session ended
 
-abbrev pub fault_of : {A : Type 0} → Result A HostFault → Option HostFault
-fault_of (Ok a) = None
-fault_of (Err fault) = Some fault
+-- if a fault ended it, the line of this fault is the last one reported
+abbrev pub EndsTold : Part → DeskView → Result ⊤ End → Type 0
+EndsTold part view (Ok done) = ⊤
+EndsTold part view (Err (ends.Faulty fault)) = EndWith (fault_line part fault) view.kept.messages
+EndsTold part view (Err (ends.Over fault)) = EndWith (fault_line part fault) view.kept.messages
+EndsTold part view (Err ends.Stopped) = ⊤
 
--- there is such a fault, and its line is the last one reported
-abbrev pub IsLast : Part → Option HostFault → DeskView → Type 0
-IsLast part (Some fault) view = EndWith (fault_line part fault) view.kept.messages
-IsLast part None view = ⊥
-
--- so it is where a session stands so after a fault
-abbrev pub IsLastAt : Part → Option HostFault → DeskView → Standing → Type 0
-IsLastAt part told view Fine = ⊤
-IsLastAt part told view Faulty = IsLast part told view
-IsLastAt part told view Over = IsLast part told view
-
--- what came of a session that was played to its end, by the fault that was reported last
-abbrev pub behind_fault : Option HostFault → Outcome
-behind_fault (Some fault) = outcome.Faulty fault
-behind_fault None = outcome.Stopped
-
-abbrev pub outcome_of : Standing → Option HostFault → Outcome
-outcome_of Fine told = outcome.Done
-outcome_of Faulty told = behind_fault told
-outcome_of Over told = behind_fault told
+abbrev pub outcome_of : Result ⊤ End → Outcome
+outcome_of (Ok done) = outcome.Done
+outcome_of (Err (ends.Faulty fault)) = outcome.Faulty fault
+outcome_of (Err (ends.Over fault)) = outcome.Faulty fault
+outcome_of (Err ends.Stopped) = outcome.Stopped

@@ -1,18 +1,20 @@
 -- How a phase of a session ends. (For contracts inside this crate.)
-use Rattle.std.specs.Prelude.{Bool, true, false, ◌≡◌, ◌≤◌, List, Result, ⊤}
+use Rattle.std.specs.Prelude.{Bool, true, false, ◌≡◌, ◌≤◌, List, Result, Ok, Err, ⊤}
 use Rattle.std.specs.List.{list_any}
 use Rattle.avr_desk.specs.Fault.{Follows}
 use Rattle.avr_desk.specs.Record.{DeskView}
+use Rattle.avr_desk.specs.declared.desk.DeskFault.{DeskFault}
 use Rattle.avr_plan.specs.Plan.{Plan}
 use Rattle.stk_host.specs.Dialog.{Dialog}
+use Rattle.stk_host.specs.Play.{Position}
 use Rattle.stk_host.specs.State.{HostState}
 use Rattle.avr_desk.specs.Said.{Saying}
-use Rattle.avr_session.specs.declared.standing.Standing.{Standing}
-use Rattle.avr_session.specs.declared.standing.Standing.TheVariants.{Fine}
-use Rattle.avr_session.specs.declared.standing.Stopped.{Stopped}
+use Rattle.avr_session.specs.declared.ending.End.{End}
+use Rattle.avr_session.specs.Standing.{Standing, Fine}
 use Rattle.avr_session.specs.Actions.{Action, action_takes_memory}
-use Rattle.avr_session.specs.Concluding.{HostServes, fine_if_said}
-use Rattle.avr_session.specs.Runs.{Devices, Lacking, Terms, untold, PrintStops, Reports, Runs}
+use Rattle.avr_session.specs.Concluding.{HostServes, conclusion}
+use Rattle.avr_session.specs.Runs.{Devices, Lacking, Terms, untold, Ran, BrokeOff}
+use Rattle.avr_session.specs.Reporting.{PrintStops, Reports}
 use Rattle.avr_session.specs.Session.{phases}
 use Rattle.avr_session.specs.Taking.{AtOnce, AtTaking}
 
@@ -21,9 +23,15 @@ abbrev pub is_told : Standing → Bool
 is_told Fine = false
 is_told standing = true
 
+-- the one or the other, as a call answers
+abbrev pub Runs : {R : Type 0} → Dialog Saying R → Position → Devices → Devices → Terms → Lacking → Result R ⊤
+    → Position → Type 0
+Runs dialog before old new terms Lacks (Ok result) after = Ran dialog before old new result after
+Runs dialog before old new terms Lacks (Err stopped) after = BrokeOff dialog before old new terms Lacks
+
 -- A phase was played on these terms by a host, over devices that showed this before and after it.
 pub record PerformsBehind (terms : Terms) (Lacks : Lacking) (dialog : Dialog Saying Standing)
-    (host_old host_new : HostState) (old new : Devices) (result : Result Standing Stopped) : Type 0 where
+    (host_old host_new : HostState) (old new : Devices) (result : Result Standing ⊤) : Type 0 where
   pub runs : Runs dialog host_old.progress old new terms Lacks result host_new.progress
   pub serves : HostServes result host_new.broken
   pub part : host_new.part ≡ host_old.part
@@ -32,18 +40,18 @@ pub record PerformsBehind (terms : Terms) (Lacks : Lacking) (dialog : Dialog Say
 
 -- the same where no fault was reported before it, and memory is taken at once if at all
 abbrev pub Performs : Bool → Dialog Saying Standing → HostState → HostState → Devices → Devices
-    → Result Standing Stopped → Type 0
+    → Result Standing ⊤ → Type 0
 Performs takes dialog host_old host_new old new result =
     PerformsBehind (untold takes) (AtOnce takes) dialog host_old host_new old new result
 
 -- these actions of a plan were done in their order, up to the first fault, and memory is taken only where one does
-abbrev pub Does : Plan → List Action → HostState → HostState → Devices → Devices → Result Standing Stopped → Type 0
+abbrev pub Does : Plan → List Action → HostState → HostState → Devices → Devices → Result Standing ⊤ → Type 0
 Does plan actions host_old host_new old new result =
     PerformsBehind (untold (list_any action_takes_memory actions)) (AtTaking plan.part plan.switches actions)
     (phases plan.part plan.switches actions) host_old host_new old new result
 
 -- something was said in place of an action
-pub record LeavesOut (sayings : List Saying) (old new : DeskView) (result : Result Standing Stopped) : Type 0 where
-  pub told : Result ⊤ Stopped
+pub record LeavesOut (sayings : List Saying) (old new : DeskView) (result : Result ⊤ End) : Type 0 where
+  pub told : Result ⊤ DeskFault
   pub reports : Reports PrintStops old new sayings told
-  pub result_is : result ≡ fine_if_said told
+  pub result_is : result ≡ conclusion {A = ⊤} (Ok tt) told

@@ -1,5 +1,5 @@
 -- What a call over a link and a desk comes to: its dialog played whole, or broken off.
-use Rattle.std.specs.Prelude.{ℕ, Bool, true, false, ◌||◌, List, [], ◌∷◌, ◌++◌, map, ◌≡◌, ◌<◌, ◌≤◌, ◌⊎◌, length, nat_eq, Option, None, Result, Ok, Err, codes, ⊤}
+use Rattle.std.specs.Prelude.{ℕ, Bool, true, false, ◌||◌, List, [], ◌∷◌, ◌++◌, ◌≡◌, ◌<◌, ◌≤◌, ◌⊎◌, length, nat_eq, Option, None, codes}
 use Rattle.std.specs.List.{list_any, starts_with}
 use Rattle.avr_desk.specs.Record.{DeskView, Passes, after_err, Bytes}
 use Rattle.avr_desk.specs.Fault as desk
@@ -11,8 +11,8 @@ use Rattle.stk_host.specs.Talk.{Talk, LinkView, heard, Grows}
 use Rattle.stk_host.specs.Dialog.{Dialog, Event, Frame, Said, played, sayings}
 use Rattle.stk_host.specs.Play.{Position, Plays, Breaks}
 use Rattle.avr_desk.specs.Lines.{error, memory_line, not_created_pieces, not_written_pieces}
-use Rattle.avr_desk.specs.Said.{Saying, Line, Creates, Writes, Outs, SaidPart, IsPrefixOf, TellsLine, TellsFailure, after_all}
-use Rattle.avr_session.specs.declared.standing.Stopped.{Stopped}
+use Rattle.avr_session.specs.Lines.{unsent_pieces, unheard_pieces}
+use Rattle.avr_desk.specs.Said.{Saying, Line, Creates, Writes, Outs, SaidPart, IsPrefixOf, TellsLine, after_all}
 
 -- what a link and a desk show
 pub record Devices : Type 0 where
@@ -44,15 +44,12 @@ pub data Cause : Type 0 where
   OfPrinting : Cause
   OfMemory : Cause
 
-abbrev pub trouble_pieces : Bytes → FileTrouble → List Bytes
-trouble_pieces file NotCreated = not_created_pieces file
-trouble_pieces file NotWritten = not_written_pieces file
-
 -- the line that tells it, if one can be printed
 unfoldable pub cause_line : Cause → Bytes
-cause_line OfSending = error (codes "link cannot be written" ∷ [])
-cause_line OfListening = error (codes "link cannot be read" ∷ [])
-cause_line (OfFile file trouble) = error (trouble_pieces file trouble)
+cause_line OfSending = error unsent_pieces
+cause_line OfListening = error unheard_pieces
+cause_line (OfFile file NotCreated) = error (not_created_pieces file)
+cause_line (OfFile file NotWritten) = error (not_written_pieces file)
 cause_line OfPrinting = []
 cause_line OfMemory = memory_line
 
@@ -74,13 +71,13 @@ pub record AtFrame (begun later : List (Event Saying)) : Type 0 where
   pub part : begun ≡ Frame done ∷ []
   pub not_whole : 0 < length unsent
 
--- a prefix of a line was printed, and the line was due
-pub record AtLine (begun later : List (Event Saying)) : Type 0 where
+-- a prefix of these bytes was printed or written, and they were due
+pub record AtPart (event : Bytes → Saying) (begun later : List (Event Saying)) : Type 0 where
   pub bytes : Bytes
   pub done : Bytes
   pub more : List (Event Saying)
-  pub due : later ≡ Said (Line bytes) ∷ more
-  pub part : begun ≡ Said (Line done) ∷ []
+  pub due : later ≡ Said (event bytes) ∷ more
+  pub part : begun ≡ Said (event done) ∷ []
   pub prefix : IsPrefixOf done bytes
 
 -- nothing was done, and a file of this name was due to be created
@@ -89,47 +86,26 @@ pub record AtCreation (file : Bytes) (begun later : List (Event Saying)) : Type 
   pub due : later ≡ Said (Creates file) ∷ more
   pub none : begun ≡ []
 
--- a prefix of some bytes was written, and they were due, to a file of this name that was created just before
-pub record AtFile (file : Bytes) (whole begun later : List (Event Saying)) : Type 0 where
-  pub bytes : Bytes
-  pub done : Bytes
-  pub before : List (Event Saying)
-  pub more : List (Event Saying)
-  pub created : whole ≡ before ++ Said (Creates file) ∷ []
-  pub due : later ≡ Said (Writes bytes) ∷ more
-  pub part : begun ≡ Said (Writes done) ∷ []
-  pub prefix : IsPrefixOf done bytes
-
--- a prefix of some bytes was written, and they were due, to standard output, which is named `-`
-pub record AtOutput (file : Bytes) (begun later : List (Event Saying)) : Type 0 where
-  pub bytes : Bytes
-  pub done : Bytes
-  pub more : List (Event Saying)
-  pub named : file ≡ codes "-"
-  pub due : later ≡ Said (Outs bytes) ∷ more
-  pub part : begun ≡ Said (Outs done) ∷ []
-  pub prefix : IsPrefixOf done bytes
+-- a file of this name was created last
+abbrev pub CreatesLast : Bytes → List (Event Saying) → Type 0
+CreatesLast file whole = (before : List (Event Saying)) × (whole ≡ before ++ Said (Creates file) ∷ [])
 
 -- Where a cause stops a run: after the events that happened whole, in the first of those that were due, of which a
--- part may have happened.
+-- part may have happened. Bytes are due to a file that was created just before, or to standard output, which is named
+-- `-`.
 abbrev pub StopsAt : Cause → List (Event Saying) → List (Event Saying) → List (Event Saying) → Type 0
 StopsAt OfSending whole begun later = AtFrame begun later
 StopsAt OfListening whole begun later = (begun ≡ []) × (later ≡ [])
 StopsAt (OfFile file NotCreated) whole begun later = AtCreation file begun later
-StopsAt (OfFile file NotWritten) whole begun later = AtFile file whole begun later ⊎ AtOutput file begun later
-StopsAt OfPrinting whole begun later = AtLine begun later
+StopsAt (OfFile file NotWritten) whole begun later =
+    (CreatesLast file whole × AtPart Writes begun later) ⊎ ((file ≡ codes "-") × AtPart Outs begun later)
+StopsAt OfPrinting whole begun later = AtPart Line begun later
 StopsAt OfMemory whole begun later = begun ≡ []
 
 -- where listening failed, all that was due has happened, and the play waits
 abbrev pub Listens : {A : Type 0} → Cause → Option A → Type 0
 Listens OfListening outcome = outcome ≡ None
 Listens cause outcome = Unit {0}
-
--- only the desk stops what is said
-abbrev pub IsOfDesk : Cause → Type 0
-IsOfDesk (OfFile file trouble) = Unit {0}
-IsOfDesk OfPrinting = Unit {0}
-IsOfDesk cause = ⊥
 
 -- The cause has come, and it is the first: that device has failed at that, by the counts of their failures before and
 -- then, and nothing else has. No count shows that memory was refused; that comes only where memory is taken (`takes`).
@@ -202,65 +178,8 @@ pub record BrokeOff {R : Type 0} (dialog : Dialog Saying R) (before : Position) 
   pub lacks : cause ≡ OfMemory → Lacks before during shown
   pub kept : Passes (λ r. after_err told (after_all (sayings shown) r)) old.desk new.desk
 
--- the one or the other, as a call answers
-abbrev pub Runs : {R : Type 0} → Dialog Saying R → Position → Devices → Devices → Terms → Lacking → Result R Stopped
-    → Position → Type 0
-Runs dialog before old new terms Lacks (Ok result) after = Ran dialog before old new result after
-Runs dialog before old new terms Lacks (Err stopped) after = BrokeOff dialog before old new terms Lacks
-
 -- A whole run: it was played to its status, or it broke off, and then the status is 1.
 abbrev pub RunsTo : Dialog Saying ℕ → Devices → Devices → Bool → Lacking → ℕ → Type 0
 RunsTo dialog old new takes Lacks status =
     ((after : Position) × Ran dialog start old new status after)
     ⊎ (BrokeOff dialog start old new (untold takes) Lacks × (status ≡ 1))
-
--- A prefix of the sayings was done: some of them, and perhaps a part of the next, where this cause stops them.
-pub record SaysPrefix (cause : Cause) (old new : DeskView) (sayings : List Saying) : Type 0 where
-  pub whole : List Saying
-  pub begun : List Saying
-  pub later : List Saying
-  pub sayings_are : sayings ≡ whole ++ later
-  pub place : StopsAt cause (map Said whole) (map Said begun) (map Said later)
-  pub by_desk : IsOfDesk cause
-  pub kept : Passes (after_all (whole ++ begun)) old new
-
--- A prefix of the sayings was done, and after it stands what was reported of the cause; such a cause may stop them.
-pub record SaidSome (By : DeskView → DeskView → Cause → Bytes → Type 0) (old new : DeskView)
-    (sayings : List Saying) : Type 0 where
-  pub between : DeskView
-  pub cause : Cause
-  pub prefix : SaysPrefix cause old between sayings
-  pub told : Bytes
-  pub stops : By old new cause told
-  pub kept : Passes (after_err told) between new
-
--- the sayings were done, and no call failed; or a prefix of them was
-abbrev pub SaysOrStops : (DeskView → DeskView → Cause → Bytes → Type 0) → DeskView → DeskView → List Saying
-    → Result ⊤ Stopped → Type 0
-SaysOrStops By old new sayings (Ok done) = Passes (after_all sayings) old new × HasSameCounts old new
-SaysOrStops By old new sayings (Err stopped) = SaidSome By old new sayings
-
--- the same, and the desk follows
-pub record Reports (By : DeskView → DeskView → Cause → Bytes → Type 0) (old new : DeskView) (sayings : List Saying)
-    (result : Result ⊤ Stopped) : Type 0 where
-  pub says : SaysOrStops By old new sayings result
-  pub follows : Follows old new
-
--- a write to the messages failed, and nothing is reported of that
-abbrev pub PrintStops : DeskView → DeskView → Cause → Bytes → Type 0
-PrintStops old new OfPrinting told = desk.HasFailedToSay old new × (told ≡ [])
-PrintStops old new cause told = ⊥
-
--- the desk failed at a file, and from then on that was reported
-abbrev pub FileStops : DeskView → DeskView → Bytes → FileTrouble → Bytes → Type 0
-FileStops old new file trouble told = TellsFailure (cause_line (OfFile file trouble)) told old new
-
--- the desk failed, at a file or as it printed
-abbrev pub DeskStops : DeskView → DeskView → Cause → Bytes → Type 0
-DeskStops old new (OfFile file trouble) told = FileStops old new file trouble told
-DeskStops old new cause told = PrintStops old new cause told
-
--- at a file only where there is something to save
-abbrev pub ReadStops : {A Fault : Type 0} → Result A Fault → DeskView → DeskView → Cause → Bytes → Type 0
-ReadStops (Ok read) = DeskStops
-ReadStops (Err fault) = PrintStops

@@ -5,8 +5,9 @@ use Rattle.avr_desk.specs.Record.{DeskView, Passes, after_err, Bytes}
 use Rattle.avr_desk.specs.Stream.{SendsPart, after_sent}
 use Rattle.avr_desk.specs.declared.stream.Stream.{Stream}
 use Rattle.avr_desk.specs.declared.stream.Stream.TheVariants.{Messages}
-use Rattle.avr_session.specs.Runs.{Cause, OfFile, NotCreated, NotWritten, FileStops}
-use Rattle.avr_session.specs.declared.standing.Stopped.{Stopped}
+use Rattle.avr_session.specs.Runs.{Cause, OfFile, NotCreated, NotWritten}
+use Rattle.avr_session.specs.Reporting.{FileStops}
+use Rattle.avr_desk.specs.declared.desk.DeskFault.{DeskFault}
 
 -- a file and standard output are written to, and not the messages
 abbrev pub IsForData : Stream → Type 0
@@ -33,6 +34,6 @@ pub record WritesSome (stream : Stream) (file : Bytes) (old new : DeskView) (byt
   pub kept : Passes (after_err told) between new
 
 -- the bytes went there, and no call failed; or a prefix of them did
-abbrev pub WritesAll : Stream → Bytes → DeskView → DeskView → Bytes → Result ⊤ Stopped → Type 0
+abbrev pub WritesAll : Stream → Bytes → DeskView → DeskView → Bytes → Result ⊤ DeskFault → Type 0
 WritesAll stream file old new bytes (Ok done) = Passes (after_sent stream bytes) old new × HasSameCounts old new
-WritesAll stream file old new bytes (Err stopped) = WritesSome stream file old new bytes
+WritesAll stream file old new bytes (Err _) = WritesSome stream file old new bytes

@@ -16,8 +16,9 @@ use Rattle.stk_host.specs.declared.fault.HostFault.{HostFault}
 use Rattle.stk_host.specs.declared.fault.HostFault.TheVariants.{LinkEnded, WrongSignature}
 use Rattle.stk_host.specs.Dialog.{Dialog, Done, Say, ◌>>=◌, lifted}
 use Rattle.stk_host.specs.Operations.{opening, erasing, writing, reading, verifying, closing}
-use Rattle.avr_session.specs.declared.standing.Standing.{Standing}
-use Rattle.avr_session.specs.declared.standing.Standing.TheVariants.{Fine, Faulty, Over}
+use Rattle.avr_session.specs.declared.reports.Done as reports
+use Rattle.avr_session.specs.declared.reports.Done.TheVariants.{Written, NotWritten, Verified, Read}
+use Rattle.avr_session.specs.Standing.{Standing, Fine, Faulty, Over}
 use Rattle.avr_session.specs.Actions.{LeftOut, TheErase, TheWrite, Action, OpenSession, EraseChip, WriteImage, CompareImage, SaveMemory, LeaveOut, actions}
 use Rattle.avr_session.specs.FileText.{file_text, trimmed}
 use Rattle.avr_session.specs.Lines.{informs, warns, other_signature, fault_line}
@@ -66,7 +67,13 @@ opening_says quiet part (Err (WrongSignature found)) =
     signature_says quiet found ++ Line (fault_line part (WrongSignature found)) ∷ []
 opening_says quiet part (Err fault) = Line (fault_line part fault) ∷ []
 
--- of a memory: so many bytes were written, not written, verified or read
+abbrev pub done_text : reports.Done → Bytes
+done_text Written = codes " bytes written"
+done_text NotWritten = codes " bytes not written"
+done_text Verified = codes " bytes verified"
+done_text Read = codes " bytes read"
+
+-- of so many bytes of a memory this was done
 abbrev pub bytes_say : ℕ → Mem → ℕ → Bytes → List Saying
 bytes_say quiet mem count done = informs quiet (name_of mem ∷ codes ": " ∷ decimal count ∷ done ∷ [])
 
@@ -83,11 +90,11 @@ abbrev pub erased_says : ℕ → Part → Result ⊤ HostFault → List Saying
 erased_says quiet part = fault_or part (λ _. informs quiet (codes "chip erased" ∷ []))
 
 abbrev pub written_says : ℕ → Part → Mem → List (Option ℕ) → Result ⊤ HostFault → List Saying
-written_says quiet part mem image = fault_or part (λ _. bytes_say quiet mem (byte_count image) (codes " bytes written"))
+written_says quiet part mem image = fault_or part (λ _. bytes_say quiet mem (byte_count image) (done_text Written))
 
 abbrev pub verified_says : ℕ → Part → Mem → List (Option ℕ) → Result ⊤ HostFault → List Saying
 verified_says quiet part mem image = fault_or part
-    (λ _. bytes_say quiet mem (byte_count image) (codes " bytes verified"))
+    (λ _. bytes_say quiet mem (byte_count image) (done_text Verified))
 
 abbrev pub closed_says : ℕ → Part → Result ⊤ HostFault → List Saying
 closed_says quiet part = fault_or part (λ _. informs quiet (codes "done" ∷ []))
@@ -95,12 +102,12 @@ closed_says quiet part = fault_or part (λ _. informs quiet (codes "done" ∷ []
 abbrev pub read_says : Switches → Mem → Format → Bytes → Bytes → List Saying
 read_says s mem format file bytes =
     let kept = kept_of mem s.all bytes in
-    saving_says file (file_text format kept) ++ bytes_say s.quiet mem (length kept) (codes " bytes read")
+    saving_says file (file_text format kept) ++ bytes_say s.quiet mem (length kept) (done_text Read)
 
 -- what is said in place of an erase, and of a write
 abbrev pub left_out_says : ℕ → LeftOut → List Saying
 left_out_says quiet TheErase = warns quiet (codes "chip not erased because of -n" ∷ [])
-left_out_says quiet (TheWrite mem image) = bytes_say quiet mem (byte_count image) (codes " bytes not written")
+left_out_says quiet (TheWrite mem image) = bytes_say quiet mem (byte_count image) (done_text NotWritten)
 
 -- ---- the phases of a session
 

@@ -7,7 +7,7 @@ use Rattle.stk_host.specs.Dialog.{Event}
 use Rattle.stk_host.specs.Play.{Position, played_over}
 use Rattle.stk_host.specs.Talk.{Talk}
 use Rattle.stk_host.specs.Tape.{Tape}
-use Rattle.avr_session.specs.declared.standing.Standing.TheVariants.{Fine}
+use Rattle.avr_session.specs.Standing.{Fine}
 use Rattle.avr_session.specs.Actions.{Action, action_takes_memory}
 use Rattle.avr_session.specs.Session.{phases}
 

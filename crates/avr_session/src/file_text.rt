@@ -11,7 +11,7 @@ use arrayvec::ArrayVec;
 use avr_cli::Format;
 use avr_desk::{Desk, DeskFault, Stream, write_all};
 use avr_image::{Base, ListWriter, Pieces};
-use avr_records::{IhexWriter, SrecWriter};
+use avr_records::{Kind, Run, Writer};
 
 /// Makes room for so many bytes after those that wait: where they don't fit, what waits is written.
 fn make_room<D: Desk>(
@@ -77,9 +77,10 @@ pub(crate) fn write_text<D: Desk>(
     ensures fault { IfErr result (λ e. e ≡ DeskFault.Failed) }
     ensures stays { Stays D.comes_of desk.old desk.new }
 {
+    let run = Run::new(0, bytes);
     match format {
-        Format::Ihex => write_pieces(desk, stream, IhexWriter::new(0, bytes)),
-        Format::Srec => write_pieces(desk, stream, SrecWriter::new(0, bytes)),
+        Format::Ihex => write_pieces(desk, stream, Writer::new(Kind::Ihex, &run)),
+        Format::Srec => write_pieces(desk, stream, Writer::new(Kind::Srec, &run)),
         Format::Decimal => write_pieces(desk, stream, ListWriter::new(Base::Dec, bytes)),
         Format::Hexadecimal => write_pieces(desk, stream, ListWriter::new(Base::Hex, bytes)),
         Format::Octal => write_pieces(desk, stream, ListWriter::new(Base::Oct, bytes)),

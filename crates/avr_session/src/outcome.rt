@@ -1,8 +1,8 @@
 //! What came of a session.
 ghost use Rattle.std.specs.Prelude.{◌≡◌};
-ghost use Rattle.avr_session.specs.Outcomes.{outcome_status, fault_of, behind_fault, outcome_of};
+ghost use Rattle.avr_session.specs.Outcomes.{outcome_status, outcome_of};
 
-use crate::standing::Standing;
+use crate::ending::End;
 use stk_host::HostFault;
 
 /// What came of a session.
@@ -32,31 +32,13 @@ impl Outcome {
     }
 }
 
-pub(crate) fn fault_of<T>(outcome: &Result<T, HostFault>) -> Option<HostFault>
-    ensures { result ≡ fault_of outcome.now }
+/// Returns what came of a session that was done, or ended so.
+pub(crate) fn outcome_of(session: Result<(), End>) -> Outcome
+    ensures { result ≡ outcome_of session }
 {
-    match outcome {
-        Ok(_) => None,
-        Err(fault) => Some(*fault),
-    }
-}
-
-/// What came of a session in which this fault was reported last. (One in which none was reported has another end.)
-fn behind_fault(told: Option<HostFault>) -> Outcome
-    ensures { result ≡ behind_fault told }
-{
-    match told {
-        Some(fault) => Outcome::Faulty(fault),
-        None => Outcome::Stopped,
-    }
-}
-
-/// What came of a session that stands so at its end, by the fault that was reported last.
-pub(crate) fn outcome_of(standing: Standing, told: Option<HostFault>) -> Outcome
-    ensures { result ≡ outcome_of standing told }
-{
-    match standing {
-        Standing::Fine => Outcome::Done,
-        Standing::Faulty | Standing::Over => behind_fault(told),
+    match session {
+        Ok(()) => Outcome::Done,
+        Err(End::Faulty(fault) | End::Over(fault)) => Outcome::Faulty(fault),
+        Err(End::Stopped) => Outcome::Stopped,
     }
 }

@@ -1,6 +1,6 @@
-//! A session of a plan, and its phases: each is an operation of the host and its report. One that ends in a fault
-//! leaves it in `told`, and its line is the last one that was reported.
-ghost use Rattle.std.specs.Prelude.{◌≡◌, ◌∷◌, ◌≤◌, [], None, length, All, IfOk};
+//! A session of a plan, and its phases: each is an operation of the host and its report. If one ends in a fault, its
+//! line is the last one that was reported.
+ghost use Rattle.std.specs.Prelude.{◌≡◌, ◌∷◌, ◌≤◌, [], None, length, All};
 ghost use Rattle.std.specs.List.{list_any};
 ghost use Rattle.avr_part.specs.Part.{size_of};
 ghost use Rattle.avr_plan.specs.Plan.{IsFitted};
@@ -11,25 +11,24 @@ ghost use Rattle.avr_session.specs.Runs.{start};
 ghost use Rattle.avr_session.specs.Session.{left_out_says};
 ghost use Rattle.ghosts.specs.Stays.{Stays};
 
-use crate::outcome::fault_of;
-use crate::reports::{report_bytes, report_done, report_erased, report_opening, warn};
+use crate::ending::{End, conclude};
+use crate::reports::{Done, report_bytes, report_erased, report_image, report_opening, warn};
 use crate::saving::{Target, report_read};
-use crate::standing::{Standing, Stopped, conclude, fine_if_said};
 use avr_cli::Switches;
 use avr_desk::{Desk, Piece};
 use avr_image::Image;
 use avr_part::Mem;
 use avr_plan::{Plan, Task};
 use std::alloc::Global;
-use stk_host::{Host, HostFault, Link};
+use stk_host::{Host, Link};
 
 /// Leaves out an erase that was asked for, with a warning.
-fn leave_out_erase<D: Desk>(desk: &mut D, quiet: u8) -> Result<Standing, Stopped>
+fn leave_out_erase<D: Desk>(desk: &mut D, quiet: u8) -> Result<(), End>
     ensures leaves_out { LeavesOut (left_out_says quiet TheErase) (D.view desk.old) (D.view desk.new) result }
     ensures stays { Stays D.comes_of desk.old desk.new }
 {
     let warned = warn(desk, quiet, &[Piece::Text("chip not erased because of -n")]);
-    fine_if_said(warned)
+    conclude(&Ok(()), warned)
 }
 
 fn writes_flash(task: &Task) -> bool
@@ -45,31 +44,21 @@ fn any_writes_flash(tasks: &[Task]) -> bool
 }
 
 /// Whether an erase is asked for, or due because flash is written.
-fn is_erase_due(switches: Switches, tasks: &[Task]) -> bool
+pub(crate) fn is_erase_due(switches: Switches, tasks: &[Task]) -> bool
     ensures { result ≡ is_erase_due switches tasks.now }
 {
     switches.erase || (any_writes_flash(tasks) && !switches.keep_flash)
 }
 
 /// Leaves out a write, and says so.
-fn leave_out_write<D: Desk>(
-    desk: &mut D,
-    plan: &Plan,
-    mem: Mem,
-    image: &Image,
-) -> Result<Standing, Stopped>
+fn leave_out_write<D: Desk>(desk: &mut D, plan: &Plan, mem: Mem, image: &Image) -> Result<(), End>
     ensures leaves_out { LeavesOut (left_out_says plan.now.switches.quiet (TheWrite mem image.now))
         (D.view desk.old) (D.view desk.new) result }
     ensures stays { Stays D.comes_of desk.old desk.new }
 {
-    let said = report_bytes(
-        desk,
-        plan.switches().quiet,
-        mem,
-        image.len(),
-        " bytes not written",
-    );
-    fine_if_said(said)
+    let quiet = plan.switches().quiet;
+    let said = report_bytes(desk, quiet, mem, image.len(), Done::NotWritten);
+    conclude(&Ok(()), said)
 }
 
 /// A session of a plan over a link, reported at a desk.
@@ -80,8 +69,6 @@ pub(crate) struct Session<'a, D, L> {
     pub(crate) host: Host,
     pub(crate) desk: &'a mut D,
     pub(crate) link: &'a mut L,
-    /// The fault whose line was reported last.
-    pub(crate) told: Option<HostFault>,
 }
 
 impl<'a, D: Desk, L: Link> Session<'a, D, L> {
@@ -102,150 +89,120 @@ impl<'a, D: Desk, L: Link> Session<'a, D, L> {
             host: Host::new(plan.part()),
             desk,
             link,
-            told: None,
         }
     }
 
-    pub(crate) fn open(&mut self) -> Result<Standing, Stopped>
+    pub(crate) fn open(&mut self) -> Result<(), End>
         requires sound { self.old.host.broken ≡ None }
         requires part { self.old.host.part ≡ self.old.plan.now.part }
         ensures performs { SessionDoes L.view D.view (OpenSession ∷ []) self.old self.new result }
         ensures keeps { Keeps L.comes_of D.comes_of self.old self.new }
-        ensures told { IfOk result (TellsLast D.view self.new) }
+        ensures told { TellsLast D.view self.new result }
     {
         let switches = self.plan.switches();
         let opened = self.host.open(self.link, switches.force);
-        let reported = report_opening(self.desk, switches.quiet, self.plan.part(), &opened);
-        self.told = fault_of(&opened);
+        let reported = report_opening(self.desk, self.plan, &opened);
         conclude(&opened, reported)
     }
 
-    fn erase(&mut self) -> Result<Standing, Stopped>
+    fn erase(&mut self) -> Result<(), End>
         requires sound { self.old.host.broken ≡ None }
         ensures performs { SessionDoes L.view D.view (EraseChip ∷ []) self.old self.new result }
         ensures keeps { Keeps L.comes_of D.comes_of self.old self.new }
-        ensures told { IfOk result (TellsLast D.view self.new) }
+        ensures told { TellsLast D.view self.new result }
     {
         let erased = self.host.erase(self.link);
-        let reported = report_erased(
-            self.desk,
-            self.plan.switches().quiet,
-            self.plan.part(),
-            &erased,
-        );
-        self.told = fault_of(&erased);
+        let reported = report_erased(self.desk, self.plan, &erased);
         conclude(&erased, reported)
     }
 
     /// Erases the chip where that is due; in a dry run that is left out.
-    pub(crate) fn erase_if_due(&mut self) -> Result<Standing, Stopped>
+    pub(crate) fn erase_if_due(&mut self) -> Result<(), End>
         requires sound { self.old.host.broken ≡ None }
         ensures performs { SessionDoes L.view D.view
             (erase_actions self.old.plan.now.switches self.old.plan.now.tasks) self.old self.new result }
         ensures keeps { Keeps L.comes_of D.comes_of self.old self.new }
-        ensures told { IfOk result (TellsLast D.view self.new) }
+        ensures told { TellsLast D.view self.new result }
     {
         let switches = self.plan.switches();
         if switches.dry {
             if switches.erase {
                 return leave_out_erase(self.desk, switches.quiet);
             }
-            return Ok(Standing::Fine);
+            return Ok(());
         }
         if is_erase_due(switches, self.plan.tasks()) {
             return self.erase();
         }
-        Ok(Standing::Fine)
+        Ok(())
     }
 
-    fn verify(&mut self, mem: Mem, image: &Image) -> Result<Standing, Stopped>
+    fn verify(&mut self, mem: Mem, image: &Image) -> Result<(), End>
         requires sound { self.old.host.broken ≡ None }
         requires part { self.old.host.part ≡ self.old.plan.now.part }
         requires fits { length image.now ≤ size_of mem self.old.plan.now.part }
         ensures performs { SessionDoes L.view D.view (CompareImage mem image.now ∷ []) self.old self.new result }
         ensures keeps { Keeps L.comes_of D.comes_of self.old self.new }
-        ensures told { IfOk result (TellsLast D.view self.new) }
+        ensures told { TellsLast D.view self.new result }
     {
         let verified = self.host.verify(self.alloc, self.link, mem, image);
-        let count = image.len();
-        let reported = report_done(
-            self.desk,
-            self.plan.switches().quiet,
-            self.plan.part(),
-            mem,
-            count,
-            " bytes verified",
-            &verified,
-        );
-        self.told = fault_of(&verified);
+        let reported = report_image(self.desk, self.plan, Done::Verified, mem, image, &verified);
         conclude(&verified, reported)
     }
 
-    fn write(&mut self, mem: Mem, image: &Image) -> Result<Standing, Stopped>
+    fn write(&mut self, mem: Mem, image: &Image) -> Result<(), End>
         requires sound { self.old.host.broken ≡ None }
         requires part { self.old.host.part ≡ self.old.plan.now.part }
         requires fits { length image.now ≤ size_of mem self.old.plan.now.part }
         ensures performs { SessionDoes L.view D.view (WriteImage mem image.now ∷ []) self.old self.new result }
         ensures keeps { Keeps L.comes_of D.comes_of self.old self.new }
-        ensures told { IfOk result (TellsLast D.view self.new) }
+        ensures told { TellsLast D.view self.new result }
     {
         let written = self.host.write(self.link, mem, image);
-        let count = image.len();
-        let reported = report_done(
-            self.desk,
-            self.plan.switches().quiet,
-            self.plan.part(),
-            mem,
-            count,
-            " bytes written",
-            &written,
-        );
-        self.told = fault_of(&written);
+        let reported = report_image(self.desk, self.plan, Done::Written, mem, image, &written);
         conclude(&written, reported)
     }
 
     /// Reads back what was written, unless that isn't wanted.
-    fn read_back(&mut self, mem: Mem, image: &Image) -> Result<Standing, Stopped>
+    fn read_back(&mut self, mem: Mem, image: &Image) -> Result<(), End>
         requires sound { self.old.host.broken ≡ None }
         requires part { self.old.host.part ≡ self.old.plan.now.part }
         requires fits { length image.now ≤ size_of mem self.old.plan.now.part }
         ensures performs { SessionDoes L.view D.view
             (read_back_actions self.old.plan.now.switches mem image.now) self.old self.new result }
         ensures keeps { Keeps L.comes_of D.comes_of self.old self.new }
-        ensures told { IfOk result (TellsLast D.view self.new) }
+        ensures told { TellsLast D.view self.new result }
     {
         if self.plan.switches().no_verify {
-            return Ok(Standing::Fine);
+            return Ok(());
         }
         self.verify(mem, image)
     }
 
     /// Writes an image and reads it back; in a dry run that is left out.
-    fn write_and_verify(&mut self, mem: Mem, image: &Image) -> Result<Standing, Stopped>
+    fn write_and_verify(&mut self, mem: Mem, image: &Image) -> Result<(), End>
         requires sound { self.old.host.broken ≡ None }
         requires part { self.old.host.part ≡ self.old.plan.now.part }
         requires fits { length image.now ≤ size_of mem self.old.plan.now.part }
         ensures performs { SessionDoes L.view D.view
             (write_actions self.old.plan.now.switches mem image.now) self.old self.new result }
         ensures keeps { Keeps L.comes_of D.comes_of self.old self.new }
-        ensures told { IfOk result (TellsLast D.view self.new) }
+        ensures told { TellsLast D.view self.new result }
     {
         if self.plan.switches().dry {
             return leave_out_write(self.desk, self.plan, mem, image);
         }
-        match self.write(mem, image)? {
-            Standing::Fine => self.read_back(mem, image),
-            fault => Ok(fault),
-        }
+        self.write(mem, image)?;
+        self.read_back(mem, image)
     }
 
-    fn read(&mut self, mem: Mem, target: Target<'_>) -> Result<Standing, Stopped>
+    fn read(&mut self, mem: Mem, target: Target<'_>) -> Result<(), End>
         requires sound { self.old.host.broken ≡ None }
         requires part { self.old.host.part ≡ self.old.plan.now.part }
         ensures performs { SessionDoes L.view D.view
             (SaveMemory mem target.entry.format target.entry.file.now ∷ []) self.old self.new result }
         ensures keeps { Keeps L.comes_of D.comes_of self.old self.new }
-        ensures told { IfOk result (TellsLast D.view self.new) }
+        ensures told { TellsLast D.view self.new result }
     {
         let mut bytes = Vec::new(self.alloc);
         let outcome = self.host.read(self.link, mem, &mut bytes);
@@ -257,18 +214,17 @@ impl<'a, D: Desk, L: Link> Session<'a, D, L> {
             bytes.as_slice(),
             &outcome,
         );
-        self.told = fault_of(&outcome);
         conclude(&outcome, reported)
     }
 
-    fn perform(&mut self, task: &Task) -> Result<Standing, Stopped>
+    fn perform(&mut self, task: &Task) -> Result<(), End>
         requires sound { self.old.host.broken ≡ None }
         requires part { self.old.host.part ≡ self.old.plan.now.part }
         requires fits { IsFitted self.old.plan.now.part task.now }
         ensures performs { SessionDoes L.view D.view
             (task_actions self.old.plan.now.switches task.now) self.old self.new result }
         ensures keeps { Keeps L.comes_of D.comes_of self.old self.new }
-        ensures told { IfOk result (TellsLast D.view self.new) }
+        ensures told { TellsLast D.view self.new result }
     {
         match task {
             Task::Write(mem, image) => self.write_and_verify(*mem, image),
@@ -288,21 +244,21 @@ impl<'a, D: Desk, L: Link> Session<'a, D, L> {
     }
 
     /// Does what the updates ask for, in their order and up to the first fault.
-    pub(crate) fn perform_all(&mut self, tasks: &[Task]) -> Result<Standing, Stopped>
+    pub(crate) fn perform_all(&mut self, tasks: &[Task]) -> Result<(), End>
         requires sound { self.old.host.broken ≡ None }
         requires part { self.old.host.part ≡ self.old.plan.now.part }
         requires fits { All (IsFitted self.old.plan.now.part) tasks.now }
         ensures performs { SessionDoes L.view D.view
             (tasks_actions self.old.plan.now.switches tasks.now) self.old self.new result }
         ensures keeps { Keeps L.comes_of D.comes_of self.old self.new }
-        ensures told { IfOk result (TellsLast D.view self.new) }
+        ensures told { TellsLast D.view self.new result }
     {
         match tasks {
-            [] => Ok(Standing::Fine),
-            [task, more @ ..] => match self.perform(task)? {
-                Standing::Fine => self.perform_all(more),
-                fault => Ok(fault),
-            },
+            [] => Ok(()),
+            [task, more @ ..] => {
+                self.perform(task)?;
+                self.perform_all(more)
+            }
         }
     }
 }

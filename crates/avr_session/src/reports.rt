@@ -1,31 +1,48 @@
 //! What a session reports.
-ghost use Rattle.std.specs.Prelude.{◌≡◌, ◌∷◌, ◌≤◌, [], map, codes, Ok, Err};
+ghost use Rattle.std.specs.Prelude.{◌≡◌, ◌∷◌, [], map, Ok, Err};
 ghost use Rattle.avr_desk.specs.Lines.{text_of, error};
 ghost use Rattle.avr_desk.specs.Said.{Line};
+ghost use Rattle.avr_image.specs.Image.{byte_count};
 ghost use Rattle.avr_session.specs.Lines.{informs, warns, fault_line};
-ghost use Rattle.avr_session.specs.Concluding.{stopped_of};
-ghost use Rattle.avr_session.specs.Runs.{Reports, PrintStops};
-ghost use Rattle.avr_session.specs.Session.{fault_or, bytes_say, signature_says, warns_of_signature, opening_says};
+ghost use Rattle.avr_session.specs.Reporting.{Reports, PrintStops};
+ghost use Rattle.avr_session.specs.Session.{done_text, fault_or, bytes_say, signature_says, warns_of_signature, opening_says, erased_says, closed_says};
 ghost use Rattle.ghosts.specs.Stays.{Stays};
 
 use crate::messages::{fault_message, other_signature_message};
-use crate::standing::Stopped;
 use avr_desk::{Desk, DeskFault, Message, Piece, print_error, print_information, print_warning};
+use avr_image::Image;
 use avr_part::{Mem, Part};
+use avr_plan::Plan;
 use stk_host::HostFault;
 
-/// Where the desk failed the run stops.
-fn stopped_if_failed(printed: Result<(), DeskFault>) -> Result<(), Stopped>
-    ensures { result ≡ stopped_of printed }
-{
-    match printed {
-        Ok(()) => Ok(()),
-        Err(_) => Err(Stopped),
+/// What was done with the bytes of a memory.
+#[derive(Clone, Copy)]
+pub(crate) enum Done {
+    Written,
+    NotWritten,
+    Verified,
+    Read,
+}
+
+impl Done {
+    fn text(self) -> &'static str
+        ensures { result.now ≡ done_text self }
+    {
+        match self {
+            Done::Written => " bytes written",
+            Done::NotWritten => " bytes not written",
+            Done::Verified => " bytes verified",
+            Done::Read => " bytes read",
+        }
     }
 }
 
 /// Prints a line of information, unless the run is quiet.
-pub(crate) fn inform<D: Desk>(desk: &mut D, quiet: u8, pieces: &[Piece<'_>]) -> Result<(), Stopped>
+pub(crate) fn inform<D: Desk>(
+    desk: &mut D,
+    quiet: u8,
+    pieces: &[Piece<'_>],
+) -> Result<(), DeskFault>
     ensures reports { Reports PrintStops (D.view desk.old) (D.view desk.new)
         (informs quiet (map text_of pieces.now)) result }
     ensures stays { Stays D.comes_of desk.old desk.new }
@@ -33,11 +50,11 @@ pub(crate) fn inform<D: Desk>(desk: &mut D, quiet: u8, pieces: &[Piece<'_>]) -> 
     if quiet > 0 {
         return Ok(());
     }
-    stopped_if_failed(print_information(desk, pieces))
+    print_information(desk, pieces)
 }
 
 /// Prints a warning, unless the run is quiet twice.
-pub(crate) fn warn<D: Desk>(desk: &mut D, quiet: u8, pieces: &[Piece<'_>]) -> Result<(), Stopped>
+pub(crate) fn warn<D: Desk>(desk: &mut D, quiet: u8, pieces: &[Piece<'_>]) -> Result<(), DeskFault>
     ensures reports { Reports PrintStops (D.view desk.old) (D.view desk.new)
         (warns quiet (map text_of pieces.now)) result }
     ensures stays { Stays D.comes_of desk.old desk.new }
@@ -45,34 +62,34 @@ pub(crate) fn warn<D: Desk>(desk: &mut D, quiet: u8, pieces: &[Piece<'_>]) -> Re
     if quiet > 1 {
         return Ok(());
     }
-    stopped_if_failed(print_warning(desk, pieces))
+    print_warning(desk, pieces)
 }
 
 /// Prints an error.
-pub(crate) fn tell<D: Desk>(desk: &mut D, message: &Message<'_>) -> Result<(), Stopped>
+pub(crate) fn tell<D: Desk>(desk: &mut D, message: &Message<'_>) -> Result<(), DeskFault>
     ensures reports { Reports PrintStops (D.view desk.old) (D.view desk.new) (Line (error message.now) ∷ []) result }
     ensures stays { Stays D.comes_of desk.old desk.new }
 {
-    stopped_if_failed(print_error(desk, message.pieces()))
+    print_error(desk, message.pieces())
 }
 
-/// Prints how many bytes of a memory were written, read or compared.
+/// Prints for how many bytes of a memory this was done.
 pub(crate) fn report_bytes<D: Desk>(
     desk: &mut D,
     quiet: u8,
     mem: Mem,
     count: u32,
-    done: &str,
-) -> Result<(), Stopped>
+    done: Done,
+) -> Result<(), DeskFault>
     ensures reports { Reports PrintStops (D.view desk.old) (D.view desk.new)
-        (bytes_say quiet mem count done.now) result }
+        (bytes_say quiet mem count (done_text done)) result }
     ensures stays { Stays D.comes_of desk.old desk.new }
 {
     let pieces = [
         Piece::Text(mem.name()),
         Piece::Text(": "),
         Piece::Number(count),
-        Piece::Text(done),
+        Piece::Text(done.text()),
     ];
     inform(desk, quiet, &pieces)
 }
@@ -83,7 +100,7 @@ pub(crate) fn tell_fault<D: Desk>(
     desk: &mut D,
     part: &Part,
     fault: HostFault,
-) -> Result<(), Stopped>
+) -> Result<(), DeskFault>
     ensures reports { Reports PrintStops (D.view desk.old) (D.view desk.new)
         (Line (fault_line part.now fault) ∷ []) result }
     ensures stays { Stays D.comes_of desk.old desk.new }
@@ -91,7 +108,7 @@ pub(crate) fn tell_fault<D: Desk>(
     tell(desk, &fault_message(part, fault))
 }
 
-fn report_found<D: Desk>(desk: &mut D, quiet: u8, found: [u8; 3]) -> Result<(), Stopped>
+fn report_found<D: Desk>(desk: &mut D, quiet: u8, found: [u8; 3]) -> Result<(), DeskFault>
     ensures reports { Reports PrintStops (D.view desk.old) (D.view desk.new) (signature_says quiet found) result }
     ensures stays { Stays D.comes_of desk.old desk.new }
 {
@@ -105,7 +122,7 @@ fn warn_of_signature<D: Desk>(
     quiet: u8,
     part: &Part,
     found: [u8; 3],
-) -> Result<(), Stopped>
+) -> Result<(), DeskFault>
     ensures reports { Reports PrintStops (D.view desk.old) (D.view desk.new)
         (warns_of_signature quiet part.now found) result }
     ensures stays { Stays D.comes_of desk.old desk.new }
@@ -124,7 +141,7 @@ fn report_taken<D: Desk>(
     quiet: u8,
     part: &Part,
     found: [u8; 3],
-) -> Result<(), Stopped>
+) -> Result<(), DeskFault>
     ensures reports { Reports PrintStops (D.view desk.old) (D.view desk.new)
         (opening_says quiet part.now (Ok found)) result }
     ensures stays { Stays D.comes_of desk.old desk.new }
@@ -139,7 +156,7 @@ fn report_refused<D: Desk>(
     quiet: u8,
     part: &Part,
     found: [u8; 3],
-) -> Result<(), Stopped>
+) -> Result<(), DeskFault>
     ensures reports { Reports PrintStops (D.view desk.old) (D.view desk.new)
         (opening_says quiet part.now (Err (HostFault.WrongSignature found))) result }
     ensures stays { Stays D.comes_of desk.old desk.new }
@@ -150,70 +167,68 @@ fn report_refused<D: Desk>(
 
 pub(crate) fn report_opening<D: Desk>(
     desk: &mut D,
-    quiet: u8,
-    part: &Part,
+    plan: &Plan,
     opened: &Result<[u8; 3], HostFault>,
-) -> Result<(), Stopped>
+) -> Result<(), DeskFault>
     ensures reports { Reports PrintStops (D.view desk.old) (D.view desk.new)
-        (opening_says quiet part.now opened.now) result }
+        (opening_says plan.now.switches.quiet plan.now.part opened.now) result }
     ensures stays { Stays D.comes_of desk.old desk.new }
 {
+    let quiet = plan.switches().quiet;
     match opened {
-        Ok(found) => report_taken(desk, quiet, part, *found),
-        Err(HostFault::WrongSignature(found)) => report_refused(desk, quiet, part, *found),
-        Err(fault) => tell_fault(desk, part, *fault),
+        Ok(found) => report_taken(desk, quiet, plan.part(), *found),
+        Err(HostFault::WrongSignature(found)) => report_refused(desk, quiet, plan.part(), *found),
+        Err(fault) => tell_fault(desk, plan.part(), *fault),
     }
 }
 
 pub(crate) fn report_erased<D: Desk>(
     desk: &mut D,
-    quiet: u8,
-    part: &Part,
+    plan: &Plan,
     erased: &Result<(), HostFault>,
-) -> Result<(), Stopped>
+) -> Result<(), DeskFault>
     ensures reports { Reports PrintStops (D.view desk.old) (D.view desk.new)
-        (fault_or part.now (λ _. informs quiet (codes "chip erased" ∷ [])) erased.now) result }
+        (erased_says plan.now.switches.quiet plan.now.part erased.now) result }
     ensures stays { Stays D.comes_of desk.old desk.new }
 {
     match erased {
-        Ok(()) => inform(desk, quiet, &[Piece::Text("chip erased")]),
-        Err(fault) => tell_fault(desk, part, *fault),
+        Ok(()) => inform(desk, plan.switches().quiet, &[Piece::Text("chip erased")]),
+        Err(fault) => tell_fault(desk, plan.part(), *fault),
     }
 }
 
-/// Reports that so many bytes of a memory were written or compared, or the fault.
-pub(crate) fn report_done<D: Desk>(
+/// Reports that this was done with the bytes of an image, or the fault.
+pub(crate) fn report_image<D: Desk>(
     desk: &mut D,
-    quiet: u8,
-    part: &Part,
+    plan: &Plan,
+    done: Done,
     mem: Mem,
-    count: u32,
-    done: &str,
+    image: &Image,
     outcome: &Result<(), HostFault>,
-) -> Result<(), Stopped>
+) -> Result<(), DeskFault>
     ensures reports { Reports PrintStops (D.view desk.old) (D.view desk.new)
-        (fault_or part.now (λ _. bytes_say quiet mem count done.now) outcome.now) result }
+        (fault_or plan.now.part (λ _. bytes_say plan.now.switches.quiet mem (byte_count image.now) (done_text done))
+        outcome.now) result }
     ensures stays { Stays D.comes_of desk.old desk.new }
 {
     match outcome {
-        Ok(()) => report_bytes(desk, quiet, mem, count, done),
-        Err(fault) => tell_fault(desk, part, *fault),
+        Ok(()) => report_bytes(desk, plan.switches().quiet, mem, image.len(), done),
+        Err(fault) => tell_fault(desk, plan.part(), *fault),
     }
 }
 
 /// Reports what closing a session came to in which no fault was reported.
 pub(crate) fn report_closing<D: Desk>(
     desk: &mut D,
-    quiet: u8,
-    part: &Part,
+    plan: &Plan,
     closed: &Result<(), HostFault>,
-) -> Result<(), Stopped>
+) -> Result<(), DeskFault>
     ensures reports { Reports PrintStops (D.view desk.old) (D.view desk.new)
-        (fault_or part.now (λ _. informs quiet (codes "done" ∷ [])) closed.now) result }
+        (closed_says plan.now.switches.quiet plan.now.part closed.now) result }
     ensures stays { Stays D.comes_of desk.old desk.new }
 {
     match closed {
-        Ok(()) => inform(desk, quiet, &[Piece::Text("done")]),
-        Err(fault) => tell_fault(desk, part, *fault),
+        Ok(()) => inform(desk, plan.switches().quiet, &[Piece::Text("done")]),
+        Err(fault) => tell_fault(desk, plan.part(), *fault),
     }
 }

@@ -3,17 +3,16 @@ ghost use Rattle.std.specs.Prelude.{◌≡◌, ◌∷◌, ◌≤◌, ◌<◌, �
 ghost use Rattle.avr_desk.specs.Fault.{Follows};
 ghost use Rattle.avr_desk.specs.Said.{Creates, Writes};
 ghost use Rattle.avr_session.specs.FileText.{file_text};
-ghost use Rattle.avr_session.specs.Runs.{Reports, DeskStops, ReadStops};
+ghost use Rattle.avr_session.specs.Reporting.{Reports, DeskStops, ReadStops};
 ghost use Rattle.avr_session.specs.Saving.{IsForData, SaveStops, WritesAll};
 ghost use Rattle.avr_session.specs.Session.{saving_says, kept_of, read_says, fault_or};
 ghost use Rattle.stk_host.specs.Calls.{given_or_fault};
 ghost use Rattle.ghosts.specs.Stays.{Stays};
 
 use crate::file_text::{trimmed, write_text};
-use crate::reports::{report_bytes, tell_fault};
-use crate::standing::Stopped;
+use crate::reports::{Done, report_bytes, tell_fault};
 use avr_cli::{Format, Switches};
-use avr_desk::{Desk, Stream, not_created_message, not_written_message, refuse};
+use avr_desk::{Desk, DeskFault, Stream, not_created_message, not_written_message, refuse};
 use avr_part::Mem;
 use avr_plan::Plan;
 use stk_host::HostFault;
@@ -31,7 +30,7 @@ fn write_file<D: Desk>(
     stream: Stream,
     target: Target<'_>,
     bytes: &[u8],
-) -> Result<(), Stopped>
+) -> Result<(), DeskFault>
     requires short { length bytes.now ≤ 2 ^ 32 }
     requires written { IsForData stream }
     ensures writes { WritesAll stream target.entry.file.now (D.view desk.old) (D.view desk.new)
@@ -41,15 +40,15 @@ fn write_file<D: Desk>(
 {
     match write_text(desk, stream, target.format, bytes) {
         Ok(()) => Ok(()),
-        Err(_) => {
+        Err(fault) => {
             refuse(desk, &not_written_message(target.file));
-            Err(Stopped)
+            Err(fault)
         }
     }
 }
 
 /// Creates the file of this name and writes it.
-fn create_file<D: Desk>(desk: &mut D, target: Target<'_>, bytes: &[u8]) -> Result<(), Stopped>
+fn create_file<D: Desk>(desk: &mut D, target: Target<'_>, bytes: &[u8]) -> Result<(), DeskFault>
     requires { length bytes.now ≤ 2 ^ 32 }
     ensures reports { Reports (SaveStops target.entry.file.now) (D.view desk.old) (D.view desk.new)
         (Creates target.entry.file.now ∷ Writes (file_text target.entry.format bytes.now) ∷ []) result }
@@ -57,15 +56,15 @@ fn create_file<D: Desk>(desk: &mut D, target: Target<'_>, bytes: &[u8]) -> Resul
 {
     match desk.create(target.file) {
         Ok(()) => write_file(desk, Stream::File, target, bytes),
-        Err(_) => {
+        Err(fault) => {
             refuse(desk, &not_created_message(target.file));
-            Err(Stopped)
+            Err(fault)
         }
     }
 }
 
 /// Saves bytes in a format: in the file of the target's name, or on standard output.
-pub(crate) fn save<D: Desk>(desk: &mut D, target: Target<'_>, bytes: &[u8]) -> Result<(), Stopped>
+pub(crate) fn save<D: Desk>(desk: &mut D, target: Target<'_>, bytes: &[u8]) -> Result<(), DeskFault>
     requires { length bytes.now ≤ 2 ^ 32 }
     ensures reports { Reports (SaveStops target.entry.file.now) (D.view desk.old) (D.view desk.new)
         (saving_says target.entry.file.now (file_text target.entry.format bytes.now)) result }
@@ -95,7 +94,7 @@ fn report_bytes_read<D: Desk>(
     mem: Mem,
     target: Target<'_>,
     bytes: &[u8],
-) -> Result<(), Stopped>
+) -> Result<(), DeskFault>
     requires { length bytes.now < 2 ^ 32 }
     ensures reports { Reports DeskStops (D.view desk.old) (D.view desk.new)
         (read_says switches mem target.entry.format target.entry.file.now bytes.now) result }
@@ -103,7 +102,7 @@ fn report_bytes_read<D: Desk>(
 {
     let kept = kept_of(mem, switches.all, bytes);
     save(desk, target, kept)?;
-    report_bytes(desk, switches.quiet, mem, kept.len() as u32, " bytes read")
+    report_bytes(desk, switches.quiet, mem, kept.len() as u32, Done::Read)
 }
 
 pub(crate) fn report_read<D: Desk>(
@@ -113,7 +112,7 @@ pub(crate) fn report_read<D: Desk>(
     target: Target<'_>,
     bytes: &[u8],
     outcome: &Result<(), HostFault>,
-) -> Result<(), Stopped>
+) -> Result<(), DeskFault>
     requires { length bytes.now < 2 ^ 32 }
     ensures reports { Reports (ReadStops outcome.now) (D.view desk.old) (D.view desk.new)
         (fault_or plan.now.part (read_says plan.now.switches mem target.entry.format target.entry.file.now)

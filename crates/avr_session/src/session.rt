@@ -1,111 +1,94 @@
 //! The session of a plan, which asks a programmer and reports at the desk; and a run, from settings to status.
-ghost use Rattle.std.specs.Prelude.{◌≡◌, None, Ok, true, false, IfOk};
+ghost use Rattle.std.specs.Prelude.{◌≡◌, None, Err, true, false};
 ghost use Rattle.avr_desk.specs.Fault.{Follows};
-ghost use Rattle.avr_session.specs.declared.standing.Standing.TheVariants.{Fine, Faulty};
+ghost use Rattle.avr_session.specs.Standing.{Fine, Faulty};
 ghost use Rattle.avr_session.specs.Actions.{actions, takes_memory};
-ghost use Rattle.avr_session.specs.Concluding.{HostServes};
+ghost use Rattle.avr_session.specs.Concluding.{stands};
 ghost use Rattle.avr_session.specs.Held.{Keeps, SessionDoes, TellsLast, shown};
 ghost use Rattle.avr_session.specs.Outcomes.{ComesTo};
-ghost use Rattle.avr_session.specs.Phases.{is_told, Performs, PerformsBehind};
+ghost use Rattle.avr_session.specs.Phases.{Performs, PerformsBehind};
 ghost use Rattle.avr_session.specs.Runs.{devices, start, untold};
 ghost use Rattle.avr_session.specs.Session.{ending, playing};
 ghost use Rattle.ghosts.specs.Stays.{Stays};
 ghost use Rattle.avr_session.specs.Run.{RunsBetween, RunsSession};
 ghost use Rattle.avr_session.specs.Taking.{AtOnce, AtTaking};
 
-use crate::outcome::{Outcome, fault_of, outcome_of};
+use crate::ending::{End, conclude};
+use crate::outcome::{Outcome, outcome_of};
 use crate::phases::Session;
 use crate::reports::report_closing;
-use crate::standing::{Standing, Stopped, conclude};
 use avr_cli::Settings;
 use avr_desk::Desk;
 use avr_plan::{Plan, plan};
 use std::alloc::Global;
-use stk_host::Link;
+use stk_host::{HostFault, Link};
 
 impl<'a, D: Desk, L: Link> Session<'a, D, L> {
     /// Does all that the plan asks for: opens a session, erases the chip where that is due, and performs the tasks.
-    fn work(&mut self) -> Result<Standing, Stopped>
+    fn work(&mut self) -> Result<(), End>
         requires sound { self.old.host.broken ≡ None }
         requires part { self.old.host.part ≡ self.old.plan.now.part }
         ensures performs { SessionDoes L.view D.view (actions self.old.plan.now) self.old self.new result }
         ensures keeps { Keeps L.comes_of D.comes_of self.old self.new }
-        ensures told { IfOk result (TellsLast D.view self.new) }
+        ensures told { TellsLast D.view self.new result }
     {
-        match self.open()? {
-            Standing::Fine => match self.erase_if_due()? {
-                Standing::Fine => self.perform_all(self.plan.tasks()),
-                fault => Ok(fault),
-            },
-            fault => Ok(fault),
-        }
+        self.open()?;
+        self.erase_if_due()?;
+        self.perform_all(self.plan.tasks())
     }
 
     /// Ends a session in which no fault came.
-    fn close(&mut self) -> Result<Standing, Stopped>
+    fn close(&mut self) -> Result<(), End>
         requires { self.old.host.broken ≡ None }
         ensures performs { Performs false (ending self.old.plan.now.part self.old.plan.now.switches Fine)
-            self.old.host self.new.host (shown L.view D.view self.old) (shown L.view D.view self.new) result }
+            self.old.host self.new.host (shown L.view D.view self.old) (shown L.view D.view self.new)
+            (stands result) }
         ensures keeps { Keeps L.comes_of D.comes_of self.old self.new }
-        ensures told { IfOk result (TellsLast D.view self.new) }
+        ensures told { TellsLast D.view self.new result }
     {
         let closed = self.host.close(self.link);
-        let reported = report_closing(
-            self.desk,
-            self.plan.switches().quiet,
-            self.plan.part(),
-            &closed,
-        );
-        self.told = fault_of(&closed);
+        let reported = report_closing(self.desk, self.plan, &closed);
         conclude(&closed, reported)
     }
 
-    /// Ends a session in which a fault was reported; a second one is not reported.
-    fn close_after_fault(&mut self) -> Result<Standing, Stopped>
-        requires { self.old.host.broken ≡ None }
+    /// Leaves programming mode after this fault was reported; a second one is not reported.
+    fn leave(&mut self, fault: HostFault) -> End
+        requires serves { self.old.host.broken ≡ None }
+        requires told { TellsLast D.view self.old (Err (End.Faulty fault)) }
         ensures performs { PerformsBehind (record { takes = false; was_told = true }) (AtOnce false)
             (ending self.old.plan.now.part self.old.plan.now.switches Faulty) self.old.host self.new.host
-            (shown L.view D.view self.old) (shown L.view D.view self.new) result }
+            (shown L.view D.view self.old) (shown L.view D.view self.new) (stands (Err result)) }
         ensures keeps { Keeps L.comes_of D.comes_of self.old self.new }
-        ensures quiet { D.view self.new.desk.now ≡ D.view self.old.desk.now }
-        ensures told { self.new.told ≡ self.old.told }
+        ensures told { TellsLast D.view self.new (Err result) }
     {
         let closed = self.host.close(self.link);
-        conclude(&closed, Ok(()))?;
-        Ok(Standing::Over)
-    }
-
-    fn end(&mut self, standing: Standing) -> Result<Standing, Stopped>
-        requires serves { HostServes (Ok standing) self.old.host.broken }
-        requires told { TellsLast D.view self.old standing }
-        ensures performs { PerformsBehind (record { takes = false; was_told = is_told standing }) (AtOnce false)
-            (ending self.old.plan.now.part self.old.plan.now.switches standing) self.old.host self.new.host
-            (shown L.view D.view self.old) (shown L.view D.view self.new) result }
-        ensures keeps { Keeps L.comes_of D.comes_of self.old self.new }
-        ensures told { IfOk result (TellsLast D.view self.new) }
-    {
-        match standing {
-            Standing::Fine => self.close(),
-            Standing::Faulty => self.close_after_fault(),
-            Standing::Over => Ok(Standing::Over),
+        match conclude(&closed, Ok(())) {
+            Ok(()) => End::Over(fault),
+            Err(End::Faulty(_)) => End::Over(fault),
+            Err(End::Over(_)) => End::Over(fault),
+            Err(End::Stopped) => End::Stopped,
         }
     }
 
-    fn play(&mut self) -> Result<Standing, Stopped>
+    fn play(&mut self) -> Result<(), End>
         requires sound { self.old.host.broken ≡ None }
         requires part { self.old.host.part ≡ self.old.plan.now.part }
         ensures performs { PerformsBehind (untold (takes_memory self.old.plan.now))
             (AtTaking self.old.plan.now.part self.old.plan.now.switches (actions self.old.plan.now))
             (playing self.old.plan.now) self.old.host self.new.host
-            (shown L.view D.view self.old) (shown L.view D.view self.new) result }
+            (shown L.view D.view self.old) (shown L.view D.view self.new) (stands result) }
         ensures keeps { Keeps L.comes_of D.comes_of self.old self.new }
-        ensures told { IfOk result (TellsLast D.view self.new) }
+        ensures told { TellsLast D.view self.new result }
     {
-        let standing = self.work()?;
-        self.end(standing)
+        match self.work() {
+            Ok(()) => self.close(),
+            Err(End::Faulty(fault)) => Err(self.leave(fault)),
+            Err(End::Over(fault)) => Err(End::Over(fault)),
+            Err(End::Stopped) => Err(End::Stopped),
+        }
     }
 
-    /// Plays the session, and answers what came of it.
+    /// Plays the session, and returns what came of it.
     fn drive(&mut self) -> Outcome
         requires sound { self.old.host.broken ≡ None }
         requires part { self.old.host.part ≡ self.old.plan.now.part }
@@ -115,10 +98,8 @@ impl<'a, D: Desk, L: Link> Session<'a, D, L> {
         ensures follows { Follows (D.view self.old.desk.now) (D.view self.new.desk.now) }
         ensures keeps { Keeps L.comes_of D.comes_of self.old self.new }
     {
-        match self.play() {
-            Ok(standing) => outcome_of(standing, self.told),
-            Err(_) => Outcome::Stopped,
-        }
+        let played = self.play();
+        outcome_of(played)
     }
 }
 
@@ -132,7 +113,7 @@ impl<'a, D: Desk, L: Link> Session<'a, D, L> {
 ///
 /// ```text
 /// match drive_outcome(alloc, &plan, &mut desk, &mut link) {
-///     Outcome::Faulty(HostFault::Differs(mem, address, want, found)) => show(mem, address, want, found),
+///     Outcome::Faulty(HostFault::Differs { mem, addr, want, found }) => show(mem, addr, want, found),
 ///     outcome => finish(outcome.status()),
 /// }
 /// ```

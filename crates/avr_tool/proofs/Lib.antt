@@ -4,4 +4,3 @@ pub mod Runs
 pub mod KnownFiles
 pub mod Lines
 pub mod ChipFile
-pub mod TwoProcesses

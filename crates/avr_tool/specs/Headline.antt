@@ -1,7 +1,10 @@
--- THE HEADLINE. What a run does, from settings to status, and what it leaves in a chip behind a line that loses, delays
--- and spoils, as long as it makes no frame. Read it from top to bottom: each word is defined here, or one step below in
--- the file that its `use` names. Two sections stand below, as the contracts of calls below: 4 is avr_course's
--- specs/AnyLine, and 6 avr_emulated's specs/Emulated.
+-- THE HEADLINE. What the program does is `RunsProgram` (specs/Program): from the words of a command line to a status.
+-- It rests on this page: what a run does, from settings to status, and what it leaves in a chip behind a line that
+-- loses, delays and spoils, as long as it makes no frame. Read it from top to bottom: each word is defined here, or one
+-- step below in the file that its `use` names. What a run is, what a call does of it and how it stops (1 to 3) is what
+-- `ActsAtPort` says of `stdio:`. What the session of a plan leaves (4) is avr_course's specs/AnyLine, and 5 the same
+-- from settings on. A run over a chip file (6), which `ActsAtPort` says of `emu:`, is avr_emulator's specs/Emulated. Of
+-- `net:` and of a server it has specs/OverNet and ServedNet. From bytes to bytes (7) is specs/InMemory.
 --
 -- What it does not say. Every desk and every link keeps a record, the real ones for proofs alone: what passed there is
 -- what their calls answered, and what a reader gave and a writer took (stk_host's Links, avr_desk's Shown), and
@@ -12,7 +15,7 @@
 -- said: noise can make one, and a pause inside an answer, out of the bytes that it carries. That bytes are reported as
 -- written says that their commands were obeyed: what a locked chip made of them the memories tell. Nothing is said of
 -- time, nor of a chip that loses its power in the middle of a write.
-use Rattle.std.specs.Prelude.{ℕ, ◌*◌, ◌≡◌, ◌≤◌, ◌⊎◌, true, false, List, [], ◌∷◌, ◌++◌, map, length, Some, None}
+use Rattle.std.specs.Prelude.{ℕ, ◌≡◌, ◌≤◌, ◌⊎◌, List, [], ◌∷◌, ◌++◌, map, length, Some, None}
 use Rattle.avr_cli.specs.declared.settings.Settings.{Settings}
 use Rattle.avr_desk.specs.Fault.{Follows}
 use Rattle.avr_desk.specs.Record.{DeskView, Passes}
@@ -26,27 +29,16 @@ use Rattle.avr_desk.specs.Playing.{Went}
 use Rattle.avr_desk.specs.Stage as stage
 use Rattle.avr_desk.specs.Stage.{StageAnswer, Made, Refused, Unread}
 use Rattle.avr_session.specs.Run.{StopsSession}
-use Rattle.avr_session.specs.Runs.{Devices, devices, NoneFailed}
+use Rattle.avr_session.specs.Runs.{Devices, devices, start, NoneFailed}
 use Rattle.avr_session.specs.Session.{session}
-use Rattle.avr_course.specs.Again.{AgreesAnyway}
-use Rattle.avr_course.specs.AnyLine.{Weight, weighed, bodies_in, Stopped, OverAnyLine}
-use Rattle.avr_course.specs.Bound.{run_steps}
-use Rattle.avr_course.specs.Course.{course}
-use Rattle.avr_course.specs.Foretold.{IsForetold, EndsAsForetold}
-use Rattle.avr_course.specs.Items.{items, asked_items, has_erase}
-use Rattle.avr_course.specs.Outcome.{IsDone, MakesStrokes}
-use Rattle.avr_course.specs.Written.{IsWritten}
-use Rattle.stk_emu.specs.Effect.{memories_of}
-use Rattle.avr_course.specs.Few.{AreFew}
+use Rattle.avr_course.specs.AnyLine.{Stopped, OverAnyLine}
 use Rattle.stk_emu.specs.Lawful.{none_late}
-use Rattle.stk_emu.specs.Programmer.{Programmer, fresh_programmer}
+use Rattle.stk_emu.specs.Programmer.{fresh_programmer}
 use Rattle.stk_emu.specs.Wire.{AreLawful}
 use Rattle.stk_emu.specs.Wired.{WiredState, wired_view}
-use Rattle.stk_emu.specs.Turn.{Turn}
-use Rattle.stk_frame.specs.Cut.{body_of, frames}
 use Rattle.stk_host.specs.Dialog.{Event, Said, Played, played, behind, bytes_sent, sayings}
-use Rattle.stk_host.specs.Play.{IsPrefixOfEvents}
-use Rattle.stk_host.specs.Talk.{Talk, Sent, Got, sent, heard, Grows}
+use Rattle.stk_host.specs.Play.{InTurn, IsPrefixOfEvents}
+use Rattle.stk_host.specs.Talk.{Talk, sent, heard, Grows}
 use Rattle.stk_host.specs.Tape.{Tape, on_tape}
 
 -- ---- 1. The run, as one function of the settings, of what the openings of files give, and of what comes over the line
@@ -66,16 +58,11 @@ run settings openings tape = after_planning (planned settings openings) tape
 
 -- ---- 2. What a call does is the run
 
--- it waits for more of the tape, and its frames so far are these bytes
-pub record Waits (p : Played Saying ℕ) (bytes : List ℕ) : Type 0 where
-  pub waits : p.outcome ≡ None
-  pub all_sent : bytes_sent p.events ≡ bytes
-
--- at each piece heard it was waiting, with all its frames sent
-abbrev pub IsInTurn : (Tape → Played Saying ℕ) → Tape → List ℕ → Talk → Type 0
-IsInTurn plays tape bytes [] = Unit {0}
-IsInTurn plays tape bytes (Sent more ∷ talk) = IsInTurn plays tape (bytes ++ more) talk
-IsInTurn plays tape bytes (Got items ∷ talk) = Waits (plays tape) bytes × IsInTurn plays (tape ++ items) bytes talk
+-- at each piece heard the session of the plan was waiting, with all its frames sent; without a plan nothing was heard
+abbrev pub IsInTurn : StageAnswer Plan → Talk → Type 0
+IsInTurn (Made plan) talk = InTurn (session plan) start talk
+IsInTurn (Refused line) talk = heard talk ≡ []
+IsInTurn Unread talk = heard talk ≡ []
 
 -- For these openings and what was heard, whatever follows on either, the run is these events and this status. What was
 -- sent are its frames, what the desk was given to do are its sayings, in their order, and at most one piece heard is
@@ -88,7 +75,7 @@ pub record IsRun (settings : Settings) (before now : Devices) (status : ℕ) : T
   pub left : List ℕ
   pub is : (later : List Opening) (more : Tape) → run settings (openings ++ later) (heard during ++ more)
       ≡ record { events = events; outcome = Some (status, next, on_tape left ++ more) }
-  pub in_turn : (later : List Opening) → IsInTurn (run settings (openings ++ later)) [] [] during
+  pub in_turn : (later : List Opening) → IsInTurn (planned settings (openings ++ later)).answer during
   pub all_sent : bytes_sent events ≡ sent during
   pub grows : Grows before.link.talk during now.link.talk
   pub kept : Passes (after_all (sayings events)) before.desk now.desk
@@ -128,18 +115,17 @@ pub record IsPrefixOfRun (settings : Settings) (before now : Devices) : Type 0 w
   pub shown : List (Event Saying)
   pub prefix : (later : List Opening) → IsPrefixOfEvents SaidPart shown
       (run settings (openings ++ later) (heard during)).events
-  pub in_turn : (later : List Opening) → IsInTurn (run settings (openings ++ later)) [] [] during
+  pub in_turn : (later : List Opening) → IsInTurn (planned settings (openings ++ later)).answer during
   pub all_sent : bytes_sent shown ≡ sent during
   pub grows : Grows before.link.talk during now.link.talk
 
--- ---- 4. Over the emulated programmer, whatever the line loses, delays and spoils: avr_course's specs/AnyLine
+-- ---- 4. Over any line to the emulated programmer, as long as it makes no frame: avr_course's specs/AnyLine
 --
--- `OverAnyLine` tells what the session of a plan did from one state of a wire to another. With status 0 it said what it
--- says over a perfect line and left the same memories (`success`), all was written and all comparisons agreed (`done`),
--- and a verified chip holds its images (`images`). With any status the first strokes of the plan were made (`strokes`),
--- and none where nothing was sent (`untouched`); few frames went out (`four`), what was reported was true then
--- (`believable`), and is what the course says, up to a step that failed (`foretold`). Where few frames go wrong it does
--- as over a perfect line, unless it stopped (`few_bad`), and a plan that agrees on each chip succeeds (`again`).
+-- `OverTurns`: however the session of a plan ends, the first strokes of the plan were made, few frames went out, what
+-- is reported was true then, and is what the course says, up to a step that failed. `ComesOverTurns`: if it came to
+-- status 0, it said what it says over a perfect line, all was written, all comparisons agreed, and a verified chip
+-- holds its images; and if few frames go wrong, it does as over a perfect line. `OverAnyLine` is both over a wire, by
+-- the fates of its frames, unless a device failed or memory was refused.
 
 -- ---- 5. From settings to the bytes of the chip, over a wire that is new
 
@@ -159,7 +145,7 @@ wire_and_desk w desk = devices (wired_view w) desk
 
 -- A plan was made of these openings; its session was run, or stopped; and if the chip is of the plan's part, that is
 -- what became of it. A failure of the desk that stopped it is one since before the run.
-pub record RunsOverWire (settings : Settings) (before after : WiredState) (desk_before desk_now : DeskView)
+pub record PlaysOverWire (settings : Settings) (before after : WiredState) (desk_before desk_now : DeskView)
     (status : ℕ) : Type 0 where
   pub plan : Plan
   pub between : DeskView
@@ -171,7 +157,7 @@ pub record RunsOverWire (settings : Settings) (before after : WiredState) (desk_
   pub line : before.wire.programmer.chip.part ≡ plan.part → OverAnyLine plan before after between desk_now status
 
 -- There is no plan: that was reported, or planning stopped, and the wire is untouched.
-pub record RunsNowhere (settings : Settings) (before after : WiredState) (desk_before desk_now : DeskView)
+pub record HasNoPlan (settings : Settings) (before after : WiredState) (desk_before desk_now : DeskView)
     (status : ℕ) : Type 0 where
   pub runs : IsRun settings (wire_and_desk before desk_before) (wire_and_desk after desk_now) status
       ⊎ StoppedPlanning settings (wire_and_desk before desk_before) (wire_and_desk after desk_now) status
@@ -180,49 +166,16 @@ pub record RunsNowhere (settings : Settings) (before after : WiredState) (desk_b
 
 abbrev pub RunsWired : Settings → WiredState → WiredState → DeskView → DeskView → ℕ → Type 0
 RunsWired settings before after desk_before desk_now status =
-    RunsOverWire settings before after desk_before desk_now status
-    ⊎ RunsNowhere settings before after desk_before desk_now status
+    PlaysOverWire settings before after desk_before desk_now status
+    ⊎ HasNoPlan settings before after desk_before desk_now status
 
--- ---- 6. Over the emulator, whose chip has a file: avr_emulated's specs/Emulated
+-- ---- 6. Over the emulator, whose chip has a file: avr_emulator's specs/Emulated
 --
 -- `RunsEmulator`: a plan is made, the file is held and a chip loaded from it, the session is run as section 4 has it
 -- over a new wire on which no frame goes wrong, and if anything was sent the file is replaced by the chip, whole, or is
 -- as it was.
 
--- ---- 7. Over any link, as long as no frame is made
-
--- It was its course, as over a perfect line: what was said, the status, and the memories.
-pub record IsItsCourse (plan : Plan) (p q : Programmer) (events : List (Event Saying)) (status : ℕ) : Type 0 where
-  pub said : sayings events ≡ (course plan (memories_of p.chip)).says
-  pub status_is : status ≡ (course plan (memories_of p.chip)).status
-  pub memories : memories_of q.chip ≡ (course plan (memories_of p.chip)).memories
-
--- These events are a whole session of a plan over a link that was sent these bytes, each frame of which had its turn,
--- and the programmer ended as this one. What was said, and the status, are the course's; or as much of it as actions
--- came to their ends, after it the line of the step that failed, and status 1. Where of any seven turns in a row at
--- most three are wrong it was its course, and a plan that agrees on each chip succeeded.
-pub record OverAnyLink (plan : Plan) (p q : Programmer) (turns : List Turn) (bytes : List ℕ)
-    (events : List (Event Saying)) (status : ℕ) : Type 0 where
-  pub said : EndsAsForetold plan (memories_of p.chip) (sayings events) status
-  pub done : status ≡ 0 → IsDone plan (memories_of p.chip) (memories_of q.chip)
-  pub images : status ≡ 0 → plan.switches.no_verify ≡ false
-      → IsWritten plan.part (asked_items plan) (memories_of p.chip) (memories_of q.chip)
-  pub strokes : MakesStrokes plan p turns (length (frames bytes)) (memories_of p.chip) (memories_of q.chip)
-  pub four : (weight : Weight) → weighed weight (map body_of (frames bytes))
-      ≤ 4 * weighed weight (bodies_in (run_steps plan))
-  pub few_bad : AreFew turns → IsItsCourse plan p q events status
-  pub again : AreFew turns → has_erase (items plan) ≡ true → AgreesAnyway plan → status ≡ 0
-
--- However a session ends, also where it is broken off or waits for ever: these bytes of it were sent, this is what it
--- says over what was heard, and the programmer ended as this one.
-pub record OverAnyEnd (plan : Plan) (p q : Programmer) (turns : List Turn) (bytes : List ℕ)
-    (says : List Saying) : Type 0 where
-  pub said : IsForetold plan (memories_of p.chip) says
-  pub strokes : MakesStrokes plan p turns (length (frames bytes)) (memories_of p.chip) (memories_of q.chip)
-  pub four : (weight : Weight) → weighed weight (map body_of (frames bytes))
-      ≤ 4 * weighed weight (bodies_in (run_steps plan))
-
--- ---- 8. From bytes to bytes: specs/InMemory
+-- ---- 7. From bytes to bytes: specs/InMemory
 --
 -- `Leaves`: over files, a standard input and a tape that are known, the status, the bytes sent, the messages, the
 -- output and the files made are a function of the settings and these; no device is in it.

@@ -1,8 +1,8 @@
 -- what callers of the front door cite
-pub use Rattle.avr_chip.specs.Saving
+pub use Rattle.avr_emulator.specs.Saving
 pub use Rattle.avr_course.specs.Again
 pub use Rattle.avr_course.specs.AnyLine
-pub use Rattle.avr_course.specs.Bound
+pub use Rattle.avr_session.specs.PlanSteps
 pub use Rattle.avr_course.specs.Course
 pub use Rattle.avr_course.specs.Items
 pub use Rattle.avr_course.specs.Outcome
@@ -14,17 +14,14 @@ pub use Rattle.avr_desk.specs.Record
 pub use Rattle.avr_desk.specs.Said
 pub use Rattle.avr_desk.specs.Shown
 pub use Rattle.avr_desk.specs.Truth
-pub use Rattle.avr_emulated.specs.Emulated
-pub use Rattle.avr_net.specs.OverNet
-pub use Rattle.avr_net.specs.ServedNet
-pub use Rattle.avr_net.specs.Sockets
+pub use Rattle.avr_emulator.specs.Emulated
 pub use Rattle.avr_part.specs.ChipFile
 pub use Rattle.avr_part.specs.Part
 pub use Rattle.avr_part.specs.Sound
 pub use Rattle.avr_part.specs.State
 pub use Rattle.avr_plan.specs.Plan
-pub use Rattle.avr_serve.specs.ServedRun
-pub use Rattle.avr_serve.specs.Serving
+pub use Rattle.avr_emulator.specs.ServedRun
+pub use Rattle.avr_emulator.specs.Serving
 pub use Rattle.avr_session.specs.Run
 pub use Rattle.avr_session.specs.Runs
 pub use Rattle.avr_session.specs.Session
@@ -49,8 +46,10 @@ pub use Rattle.avr_course.specs.AnyTape
 pub use Rattle.avr_course.specs.Few
 pub use Rattle.avr_course.specs.NoFrame
 -- its own
-pub mod Ports
-pub mod ServedOn
+pub mod Lines
+pub mod Sockets
+pub mod OverNet
+pub mod ServedNet
 pub mod Headline
 pub mod InMemory
 pub mod ChipFound
@@ -58,4 +57,3 @@ pub mod Worked
 pub mod Asked
 pub mod Texts
 pub mod Program
-pub mod TwoProcesses

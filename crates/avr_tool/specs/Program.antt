@@ -5,48 +5,47 @@ use Rattle.clap.specs.declared.error.Error.{Error}
 use Rattle.clap.specs.declared.error.kind.ErrorKind.{ErrorKind}
 use Rattle.clap.specs.declared.error.kind.ErrorKind.TheVariants.{OutOfMemory, DisplayHelp, DisplayVersion}
 use Rattle.avr_cli.specs.Command.{avrstk, asked_by}
+use Rattle.avr_cli.specs.Port.{port_number}
 use Rattle.avr_cli.specs.declared.settings.Port.{Port}
 use Rattle.avr_cli.specs.declared.settings.Port.TheVariants.{Stdio, Emulated, Network, Served}
 use Rattle.avr_cli.specs.declared.settings.Settings.{Settings}
 use Rattle.avr_cli.specs.declared.settings.SettingsFault.TheVariants.{Memory}
 use Rattle.avr_desk.specs.Record.{DeskView, Bytes}
 use Rattle.avr_desk.specs.Said.{Tells}
-use Rattle.avr_emulated.specs.Emulated.{RunsEmulator}
-use Rattle.avr_net.specs.OverNet.{RunsOverNet}
-use Rattle.avr_net.specs.ServedNet.{ServesNet}
-use Rattle.avr_net.specs.Sockets.{Peers}
+use Rattle.avr_emulator.specs.Emulated.{RunsEmulator}
 use Rattle.avr_session.specs.Refusal.{refusal_line}
-use Rattle.avr_session.specs.Runs.{devices}
+use Rattle.avr_session.specs.Runs.{Devices, devices}
 use Rattle.avr_desk.specs.declared.stream.Stream.{Stream}
 use Rattle.avr_desk.specs.declared.stream.Stream.TheVariants.{Output, Messages}
 use Rattle.avr_tool.specs.Asked.{IsRefused}
 use Rattle.avr_tool.specs.Headline.{IsRun, IsStopped}
+use Rattle.avr_tool.specs.OverNet.{RunsOverNet}
+use Rattle.avr_tool.specs.ServedNet.{ServesNet}
+use Rattle.avr_tool.specs.Sockets.{Peers}
 use Rattle.avr_tool.specs.Texts.{PrintsText, ReportsText}
 use Rattle.stk_host.specs.Talk.{LinkView}
 
--- The port of the settings decides: standard input and output, between `before` and `after`; the emulator over a chip
--- file; a connection to the address; or a service at the port, which looks at the chip file, port and part alone.
-abbrev pub RunsPort : Peers → Port → Settings → LinkView → LinkView → DeskView → DeskView → ℕ → Type 0
-RunsPort peers Stdio settings before after old new status =
-    IsRun settings (devices before old) (devices after new) status
-    ⊎ IsStopped settings (devices before old) (devices after new) status
-RunsPort peers (Emulated file) settings before after old new status =
-    RunsEmulator settings file old new status × (after ≡ before)
-RunsPort peers (Network address) settings before after old new status =
-    RunsOverNet (peers.at_address address) settings address old new status × (after ≡ before)
-RunsPort peers (Served port chip) settings before after old new status =
-    ServesNet peers.at_port settings port chip old new status × (after ≡ before)
+-- The port of the settings decides: standard input and output, which is the link; the emulator over a chip file; a
+-- connection to the address; or a service at the port, which looks at the chip file, port and part alone.
+abbrev pub ActsAtPort : Peers → Port → Settings → Devices → Devices → ℕ → Type 0
+ActsAtPort peers Stdio settings old new status = IsRun settings old new status ⊎ IsStopped settings old new status
+ActsAtPort peers (Emulated file) settings old new status =
+    RunsEmulator settings file old.desk new.desk status × (new.link ≡ old.link)
+ActsAtPort peers (Network address) settings old new status =
+    RunsOverNet (peers.at_address address) settings address old.desk new.desk status × (new.link ≡ old.link)
+ActsAtPort peers (Served port chip) settings old new status =
+    ServesNet (peers.at_port (port_number port)) settings port chip old.desk new.desk status × (new.link ≡ old.link)
 
 -- The command takes the words, which ask for these settings, and that is what was run.
-pub record RunsAsked (peers : Peers) (words : List Bytes) (before after : LinkView) (old new : DeskView) (status : ℕ)
+pub record TakesWords (peers : Peers) (words : List Bytes) (before after : LinkView) (old new : DeskView) (status : ℕ)
     : Type 0 where
   pub settings : Settings
   pub asked : Ok settings ≡ asked_by words
   pub taken : fault_of avrstk words ≡ []
-  pub runs : RunsPort peers settings.port settings before after old new status
+  pub runs : ActsAtPort peers settings.port settings (devices before old) (devices after new) status
 
 -- What they ask for has a fault, or memory was refused: that was reported, and nothing else was done.
-pub record RunsNothing (words : List Bytes) (before after : LinkView) (old new : DeskView) (status : ℕ) : Type 0 where
+pub record RefusesWords (words : List Bytes) (before after : LinkView) (old new : DeskView) (status : ℕ) : Type 0 where
   pub why : IsRefused words old new status ⊎ Tells old new (refusal_line Memory)
   pub untouched : after ≡ before
   pub status_is : status ≡ 1
@@ -61,10 +60,10 @@ pub record LeavesError (words : List Bytes) (before after : LinkView) (old new :
   pub untold : new ≡ old
   pub untouched : after ≡ before
 
-abbrev pub RunsWords : Peers → List Bytes → LinkView → LinkView → DeskView → DeskView → Result ℕ Error → Type 0
-RunsWords peers words before after old new (Ok status) =
-    RunsAsked peers words before after old new status ⊎ RunsNothing words before after old new status
-RunsWords peers words before after old new (Err error) = LeavesError words before after old new error
+abbrev pub ActsOnWords : Peers → List Bytes → LinkView → LinkView → DeskView → DeskView → Result ℕ Error → Type 0
+ActsOnWords peers words before after old new (Ok status) =
+    TakesWords peers words before after old new status ⊎ RefusesWords words before after old new status
+ActsOnWords peers words before after old new (Err error) = LeavesError words before after old new error
 
 -- an error of `clap`: that memory was refused is reported, any other is left
 abbrev pub LeavesWords : Error → DeskView → DeskView → Result ℕ Error → Type 0
@@ -96,11 +95,11 @@ pub record TellsUsage (words : List Bytes) (before after : LinkView) (old new : 
 -- From words to a status.
 abbrev pub RunsProgram : Peers → List Bytes → LinkView → LinkView → DeskView → DeskView → ℕ → Type 0
 RunsProgram peers words before after old new status =
-    RunsWords peers words before after old new (Ok status) ⊎ TellsUsage words before after old new status
+    ActsOnWords peers words before after old new (Ok status) ⊎ TellsUsage words before after old new status
 
 -- From the start of a process: its words, which no clause knows, were read and run, or could not be read, and then
 -- that was reported, and the status is 1.
-abbrev pub RunsArguments : Peers → LinkView → LinkView → DeskView → DeskView → ℕ → Type 0
-RunsArguments peers before after old new status =
+abbrev pub StartsProgram : Peers → LinkView → LinkView → DeskView → DeskView → ℕ → Type 0
+StartsProgram peers before after old new status =
     ((words : List Bytes) × RunsProgram peers words before after old new status)
     ⊎ ((status ≡ 1) × ReportsText old new × (after ≡ before))

@@ -1,18 +1,21 @@
 //! The program: from the words of a command line to a status.
 ghost use Rattle.std.specs.Prelude.{◌≡◌, map, string_bytes};
 ghost use Rattle.clap.specs.Words.{kind_of};
-ghost use Rattle.avr_tool.specs.Program.{LeavesWords, RunsPort, RunsProgram, RunsWords, usage_status, usage_stream};
-ghost use Rattle.avr_net.specs.Sockets.{peers_of};
+ghost use Rattle.avr_tool.specs.Program.{LeavesWords, ActsAtPort, RunsProgram, ActsOnWords, usage_status, usage_stream};
+ghost use Rattle.avr_session.specs.Runs.{devices};
+ghost use Rattle.avr_tool.specs.Sockets.{peers_of};
 ghost use Rattle.stk_host.specs.Links.{IsTrueSince, stream_view};
 ghost use Rattle.ghosts.specs.Stays.{Stays};
 
 use crate::asking::{NotAsked, asked};
-use crate::of_port::{run_emu, run_net, serve_net};
+use crate::network::Network;
+use crate::over_net::run_net;
 use crate::running::run_streams;
+use crate::serving::serve_net;
 use crate::texts::print_text;
 use avr_cli::{Port, Settings, SettingsFault};
 use avr_desk::{Desk, Stream};
-use avr_net::Network;
+use avr_emulator::run_emu;
 use avr_session::refuse;
 use clap::Error;
 use clap::error::ErrorKind;
@@ -29,16 +32,19 @@ fn run_port<N: Network + Drop, D: Desk, R: Read + Drop, W: Write + Drop>(
     desk: &mut D,
     link: &mut StreamLink<R, W>,
 ) -> u8
-    ensures runs { RunsPort (peers_of N.Network N.Listener.Callers N.Stream.Read N.Stream.Write) settings.now.port
-        settings.now (stream_view link.old) (stream_view link.new) (D.view desk.old) (D.view desk.new) result }
+    ensures runs { ActsAtPort (peers_of N.Network N.Listener.Callers N.Stream.Read N.Stream.Write) settings.now.port
+        settings.now (devices (stream_view link.old) (D.view desk.old))
+        (devices (stream_view link.new) (D.view desk.new)) result }
     ensures tells { IsTrueSince R.remaining W.contents link.old link.new }
     ensures stays { Stays D.comes_of desk.old desk.new }
 {
     match &settings.port {
         Port::Stdio => run_streams(alloc, settings, desk, link),
-        Port::Emulated(_) => run_emu(alloc, settings, desk),
-        Port::Network(_) => run_net(network, alloc, settings, desk),
-        Port::Served { .. } => serve_net(network, alloc, settings, desk),
+        Port::Emulated(file) => run_emu(alloc, settings, file.as_str(), desk),
+        Port::Network(address) => run_net(network, alloc, settings, address.as_str(), desk),
+        Port::Served { port, chip } => {
+            serve_net(network, alloc, settings, port.as_str(), chip.as_str(), desk)
+        }
     }
 }
 
@@ -78,7 +84,7 @@ pub fn run_words<N: Network + Drop, D: Desk, R: Read + Drop, W: Write + Drop>(
     desk: &mut D,
     link: &mut StreamLink<R, W>,
 ) -> Result<u8, Error>
-    ensures runs { RunsWords (peers_of N.Network N.Listener.Callers N.Stream.Read N.Stream.Write)
+    ensures runs { ActsOnWords (peers_of N.Network N.Listener.Callers N.Stream.Read N.Stream.Write)
         (map string_bytes words.now) (stream_view link.old) (stream_view link.new) (D.view desk.old)
         (D.view desk.new) result }
     ensures tells { IsTrueSince R.remaining W.contents link.old link.new }

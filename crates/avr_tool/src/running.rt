@@ -12,7 +12,7 @@ ghost use Rattle.ghosts.specs.Stays.{Stays};
 
 use avr_cli::Settings;
 use avr_desk::{Desk, MemDesk};
-use avr_emulated::drive_wired;
+use avr_emulator::drive_wired;
 use avr_plan::plan;
 use avr_session::run as run_over;
 use std::alloc::Global;

@@ -3,21 +3,23 @@
 
 ghost use Rattle.std.specs.Prelude.{◌≡◌};
 ghost use Rattle.avr_tool.specs.Links.{stream_view};
-ghost use Rattle.avr_tool.specs.Program.{RunsArguments};
+ghost use Rattle.avr_tool.specs.Program.{StartsProgram};
 ghost use Rattle.avr_tool.specs.Sockets.{peers_of};
 
-use avr_tool::{Desk, Network, StreamLink, SystemDesk, refuse_text, run_program};
+use avr_tool::{Bounded, Desk, Network, StreamLink, SystemDesk, refuse_text, run_program};
 use std::alloc::Global;
 use std::env::Env;
-use std::fs::File;
+use std::fs::{File, OpenOptions};
 use std::io::{Read, Write};
 use std::process::ExitCode;
 use std::{env, fs, io};
 
 fn main(rt: HostRuntime) -> ExitCode {
     let _taken = take_closed_streams(&rt);
-    let mut desk = SystemDesk::new(&rt, rt.stdout(), rt.stderr());
-    let mut link = StreamLink::new(rt.stdin(), rt.stdout());
+    let output = || Bounded::new(rt.stdout(), file_of(&rt, "/dev/stdout"));
+    let messages = Bounded::new(rt.stderr(), file_of(&rt, "/dev/stderr"));
+    let mut desk = SystemDesk::new(&rt, output(), messages);
+    let mut link = StreamLink::new(rt.stdin(), output());
     ExitCode::from(run(&rt, &rt, &mut desk, &mut link))
 }
 
@@ -27,6 +29,18 @@ fn take_closed_streams(rt: &HostRuntime) -> [io::Result<File>; 3] {
     [fs::open(rt, "/"), fs::open(rt, "/"), fs::open(rt, "/")]
 }
 
+/// Opens the file that the standard stream of this name goes to, if it is a regular one. Nothing is written to it here.
+fn file_of(rt: &HostRuntime, name: &str) -> Option<File> {
+    match fs::metadata(rt, name) {
+        Ok(there) if there.is_file() => OpenOptions::new()
+            .append(true)
+            .open(rt, name)
+            .or_else(|_| fs::open(rt, name))
+            .ok(),
+        _ => None,
+    }
+}
+
 /// Runs what the words of the command line ask for.
 fn run<E: Env + Alloc<A = Global>, N: Network + Drop, D: Desk, R: Read + Drop, W: Write + Drop>(
     rt: &E,
@@ -34,7 +48,7 @@ fn run<E: Env + Alloc<A = Global>, N: Network + Drop, D: Desk, R: Read + Drop, W
     desk: &mut D,
     link: &mut StreamLink<R, W>,
 ) -> u8
-    ensures { RunsArguments (peers_of N.Network N.Listener.Callers N.Stream.Read N.Stream.Write) (stream_view link.old)
+    ensures { StartsProgram (peers_of N.Network N.Listener.Callers N.Stream.Read N.Stream.Write) (stream_view link.old)
         (stream_view link.new) (D.view desk.old) (D.view desk.new) result }
 {
     match read_arguments(rt) {

@@ -1,5 +1,5 @@
 -- Counts of failures, one after another.
-use Rattle.std.proofs.Common.{◌≡◌, ◌≤◌, ◌<◌, ◌+◌, ◌-◌, ◌^◌, ℕ, arith}
+use Rattle.std.proofs.Common.{◌≤◌, ℕ, arith}
 use Rattle.ghosts.specs.Failures.{HasRisen, HasStood}
 
 -- a count that stood has not risen in between

@@ -8,6 +8,7 @@
 
 mod inlet;
 mod outlet;
+pub mod retry;
 
 pub use inlet::Inlet;
 pub use outlet::Outlet;

@@ -4,15 +4,17 @@
 //! tests/vendor.py takes into a repository of its own.
 #![tactic(auto)]
 
-ghost use Rattle.std.specs.Prelude.{◌≡◌, length, IfOk, OnOk, OnErr};
+ghost use Rattle.std.specs.Prelude.{◌≡◌, length, Ok, IfOk, OnOk, OnErr};
 ghost use Rattle.avr_part.specs.Part.{size_of};
 ghost use Rattle.avr_part.specs.declared.part.Mem.TheVariants.{Flash};
+ghost use Rattle.avr_records.specs.Reading.{image_in_text};
+ghost use Rattle.avr_records.specs.declared.kind.Ending.TheVariants.{Ended};
 ghost use Rattle.serial_patch.specs.Patch.{IsPatched, IsPatchedFile, patch_fault_number};
 
 use avr_image::{Image, ImageFault, Pieces, a_span_is_by_address, bytes_fit_below_the_size};
 use avr_part::{Mem, Part};
-use avr_records::{IhexImageWriter, RecordFault, detect, read_records};
-use std::alloc::Global;
+use avr_records::{Kind, RecordFault, Writer, detect, read_records};
+use std::alloc::{AllocError, Global};
 use thiserror::Error;
 
 /// Why a record file was not patched.
@@ -60,6 +62,13 @@ pub fn put_serial_number(image: &mut Image, at: u32, serial: &[u8]) -> Result<()
     Ok(())
 }
 
+/// Returns the record file of an image, as Intel HEX with only the bytes that are there.
+fn ihex_of(alloc: Global, image: &Image) -> Result<Vec<u8>, AllocError>
+    ensures { IfOk result (λ out. image_in_text Kind.Ihex out.items (length image.now) ≡ Ok (image.now, Ended)) }
+{
+    Writer::new(Kind::Ihex, image).to_vec(alloc)
+}
+
 /// The record file of a part's flash memory with a serial number in it, from this address on, as Intel HEX with only
 /// the bytes that are there. The first fault is reported.
 pub fn patch_serial_number(
@@ -75,6 +84,8 @@ pub fn patch_serial_number(
     let size = part.size_of(Mem::Flash);
     let (mut image, _) = read_records(alloc, kind, size, text).map_err(PatchFault::Records)?;
     put_serial_number(&mut image, at, serial).map_err(PatchFault::Outside)?;
-    let patched = IhexImageWriter::new(&image).to_vec(alloc);
-    patched.map_err(|_| PatchFault::Memory)
+    match ihex_of(alloc, &image) {
+        Ok(patched) => Ok(patched),
+        Err(_) => Err(PatchFault::Memory),
+    }
 }

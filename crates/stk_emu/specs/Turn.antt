@@ -62,6 +62,4 @@ other_turns (turn ∷ turns) = turns
 -- which it obeyed then, or the refusal. Nothing is asked of any other reading.
 abbrev pub IsHonest : {P : Type 0} → Device P → List ℕ → P → Became → Reading → Type 0
 IsHonest m bytes p became (Answered body) = ((became ≡ Obeyed) × (body ≡ m.answer bytes p)) ⊎ (body ≡ refusal)
-IsHonest m bytes p became Silent = Unit {0}
-IsHonest m bytes p became Ended = Unit {0}
-IsHonest m bytes p became Babbled = Unit {0}
+IsHonest m bytes p became _ = Unit {0}

@@ -5,20 +5,14 @@ use Rattle.stk_frame.specs.Cut.{seq_of}
 use Rattle.stk_host.specs.declared.link.Item.TheVariants.{Silence}
 use Rattle.stk_host.specs.Tape.{Tape, on_tape}
 use Rattle.stk_emu.specs.declared.fate.Fate.{Fate}
-use Rattle.stk_emu.specs.declared.fate.Fate.TheVariants.{Good, LostCommand, LostAnswer, LateAnswer, HeldAnswer, Reset, CommandRefused, AnswerSpoiled}
+use Rattle.stk_emu.specs.declared.fate.Fate.TheVariants.{Good, LostCommand, LateAnswer, HeldAnswer, Reset, CommandRefused, AnswerSpoiled}
 use Rattle.stk_emu.specs.Lawful.{IsLawful, Late, none_late, behind_late, waiting}
 use Rattle.stk_emu.specs.Turn.{Turn, Became, became_in, Kept, Obeyed, Anew, Refusal, Nothing, Right, Wrong, after_turn}
 use Rattle.stk_emu.specs.Device.{Device, refusal, answer_frame, after_frame}
 
 abbrev pub IsLawfulFate : Fate → Type 0
 IsLawfulFate (AnswerSpoiled noise) = IsLawful noise.items
-IsLawfulFate Good = Unit {0}
-IsLawfulFate LostCommand = Unit {0}
-IsLawfulFate LostAnswer = Unit {0}
-IsLawfulFate LateAnswer = Unit {0}
-IsLawfulFate HeldAnswer = Unit {0}
-IsLawfulFate Reset = Unit {0}
-IsLawfulFate CommandRefused = Unit {0}
+IsLawfulFate _ = Unit {0}
 
 abbrev pub AreLawful : List Fate → Type 0
 AreLawful = All IsLawfulFate
@@ -36,12 +30,9 @@ other_fates (fate ∷ fates) = fates
 abbrev pub turn_of : Fate → Turn
 turn_of Good = Right
 turn_of LostCommand = Wrong Kept Nothing
-turn_of LostAnswer = Wrong Obeyed Nothing
-turn_of LateAnswer = Wrong Obeyed Nothing
-turn_of HeldAnswer = Wrong Obeyed Nothing
 turn_of Reset = Wrong (Anew Kept) Nothing
 turn_of CommandRefused = Wrong Kept Refusal
-turn_of (AnswerSpoiled noise) = Wrong Obeyed Nothing
+turn_of _ = Wrong Obeyed Nothing
 
 abbrev pub turns_of : List Fate → List Turn
 turns_of [] = []
@@ -55,24 +46,14 @@ becames_of (suc k) fates = became_in (turn_of (first_fate fates)) ∷ becames_of
 -- what comes back, by the frames of its answer and of the refusal
 abbrev pub back : Fate → List ℕ → List ℕ → Tape
 back Good answered refused = on_tape answered
-back LostCommand answered refused = Silence ∷ []
-back LostAnswer answered refused = Silence ∷ []
-back LateAnswer answered refused = Silence ∷ []
-back HeldAnswer answered refused = Silence ∷ []
-back Reset answered refused = Silence ∷ []
 back CommandRefused answered refused = on_tape refused
 back (AnswerSpoiled noise) answered refused = on_tape noise.items ++ Silence ∷ []
+back _ answered refused = Silence ∷ []
 
 -- those that wait go on waiting
 abbrev pub is_held : Fate → Bool
-is_held Good = false
-is_held LostCommand = false
-is_held LostAnswer = false
-is_held LateAnswer = false
 is_held HeldAnswer = true
-is_held Reset = false
-is_held CommandRefused = false
-is_held (AnswerSpoiled noise) = false
+is_held _ = false
 
 -- what comes in front, of those that wait
 abbrev pub let_go : Fate → Late → List ℕ
@@ -80,14 +61,9 @@ let_go fate late = if is_held fate then [] else waiting late
 
 -- and what comes later
 abbrev pub late_of : Fate → List ℕ → Late → Late
-late_of Good answered late = none_late
-late_of LostCommand answered late = none_late
-late_of LostAnswer answered late = none_late
 late_of LateAnswer answered late = behind_late none_late answered
 late_of HeldAnswer answered late = behind_late late answered
-late_of Reset answered late = none_late
-late_of CommandRefused answered late = none_late
-late_of (AnswerSpoiled noise) answered late = none_late
+late_of _ answered late = none_late
 
 -- the programmer, the fates to come, and the late answers that wait
 pub record Wire (P : Type 0) : Type 0 where

@@ -70,7 +70,7 @@ fn answer_event(reader: &FrameReader, event: Event, programmer: &mut Programmer,
 }
 
 /// Appends bytes, for which there is room.
-fn push_all(answers: &mut Vec<u8>, bytes: &[u8])
+fn append(answers: &mut Vec<u8>, bytes: &[u8])
     requires { vec_len answers.old + length bytes.now ≤ vec_capacity answers.old }
     ensures { answers.new.items ≡ answers.old.items ++ bytes.now }
 {
@@ -189,7 +189,7 @@ impl Emulator {
         answers.reserve(LARGEST_FRAME)?;
         let mut answer = Frame::new();
         let used = self.feed(bytes, &mut answer);
-        push_all(answers, answer.as_slice());
+        append(answers, answer.as_slice());
         Ok(used)
     }
 

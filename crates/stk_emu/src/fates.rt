@@ -26,7 +26,7 @@ pub enum FatesFault {
 }
 
 impl FatesFault {
-    /// The fault's number, which no later version changes.
+    /// Returns the fault's number, from 1 on, which no later version changes.
     ///
     /// ```text
     /// assert_eq!(rt; FatesFault::UnlawfulNoise.number(), 1);
@@ -74,13 +74,7 @@ fn is_lawful(fate: &Fate) -> bool
 {
     match fate {
         Fate::AnswerSpoiled(noise) => noise_is_lawful(noise.as_slice()),
-        Fate::Good
-        | Fate::LostCommand
-        | Fate::LostAnswer
-        | Fate::LateAnswer
-        | Fate::HeldAnswer
-        | Fate::Reset
-        | Fate::CommandRefused => true,
+        _ => true,
     }
 }
 

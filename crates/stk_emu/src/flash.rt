@@ -85,8 +85,8 @@ pub(crate) fn read(
     }
 }
 
-/// Puts bytes after those of `out`.
-fn put_behind(out: &mut Body, bytes: &[u8])
+/// Appends bytes, for which there is room.
+fn append(out: &mut Body, bytes: &[u8])
     requires { length out.old.items + length bytes.now ≤ LARGEST_BODY }
     ensures { out.new.items ≡ out.old.items ++ bytes.now }
 {
@@ -120,7 +120,7 @@ fn read_at_once(
     let Some(bytes) = chip.flash_block((address % 65_536) as u16, count) else {
         return false;
     };
-    put_behind(out, bytes);
+    append(out, bytes);
     true
 }
 

@@ -47,7 +47,7 @@ impl Model for EmulatedPort {
 }
 
 /// Appends bytes, for which there is room.
-fn push_all(waits: &mut VecDeque<u8>, bytes: &[u8])
+fn append(waits: &mut VecDeque<u8>, bytes: &[u8])
     requires { deque_len waits.old + length bytes.now ≤ deque_capacity waits.old }
     ensures { waits.new.items ≡ waits.old.items ++ bytes.now }
 {
@@ -141,7 +141,7 @@ impl Write for EmulatedPort {
         self.waits.reserve(LARGEST_FRAME)?;
         let mut answer = Frame::new();
         let used = self.emulator.feed(buf, &mut answer);
-        push_all(&mut self.waits, answer.as_slice());
+        append(&mut self.waits, answer.as_slice());
         Ok(used)
     }
 

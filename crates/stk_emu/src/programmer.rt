@@ -2,10 +2,9 @@
 
 ghost use Rattle.std.specs.Prelude.{◌≡◌, ◌<◌, ◌≤◌, ◌∷◌, [], ◌+◌, ◌%◌, ℕ, length, slice_index, if◌then◌else◌, false, true};
 ghost use Rattle.avr_part.specs.State.{spi_of};
-ghost use Rattle.stk_frame.specs.declared.protocol.TheConstants.{LARGEST_BODY};
+ghost use Rattle.stk_frame.specs.declared.protocol.TheConstants.{LARGEST_BODY, STATUS_CMD_FAILED, STATUS_CMD_UNKNOWN};
 ghost use Rattle.stk_emu.specs.Programmer.{fresh_programmer, restarted_programmer, sign_on, set_parameter, get_parameter, load_address, enter_response, enter_progmode, leave_progmode, chip_erase, program_byte, read_byte, program_flash, flash_fits, program_eeprom, eeprom_fits, is_paged, is_written, writes_page, is_polled, read_flash, read_eeprom, spi_multi, obey_command, is_known, not_read, obey, bit_31};
 
-use crate::spi::BIT_31;
 use crate::{eeprom, flash};
 use arrayvec::ArrayVec;
 use avr_part::Chip;
@@ -15,7 +14,8 @@ use stk_frame::protocol::{
     CMD_LOAD_ADDRESS, CMD_PROGRAM_EEPROM_ISP, CMD_PROGRAM_FLASH_ISP, CMD_PROGRAM_FUSE_ISP,
     CMD_PROGRAM_LOCK_ISP, CMD_READ_EEPROM_ISP, CMD_READ_FLASH_ISP, CMD_READ_FUSE_ISP,
     CMD_READ_LOCK_ISP, CMD_READ_OSCCAL_ISP, CMD_READ_SIGNATURE_ISP, CMD_SET_PARAMETER, CMD_SIGN_ON,
-    CMD_SPI_MULTI, LARGEST_BODY, STATUS_CMD_FAILED, STATUS_CMD_OK, STATUS_CMD_UNKNOWN,
+    CMD_SPI_MULTI, EXTENDED_ADDRESS, LARGEST_BODY, STATUS_CMD_FAILED, STATUS_CMD_OK,
+    STATUS_CMD_UNKNOWN,
 };
 use stk_frame::{Command, EnterProgmode, ProgramBlock, ReadBlock, ReadByte};
 
@@ -27,6 +27,11 @@ const LARGEST_READ: u16 = (LARGEST_BODY - 3) as u16;
 
 /// The instruction that empties the part's page buffers.
 const PROGRAMMING_ENABLE: [u8; 4] = [0xAC, 0x53, 0x00, 0x00];
+
+/// The bits of a block's mode that ask for page mode, and for the page to be written.
+const MODE_PAGE: u8 = 0x01;
+
+const MODE_WRITE: u8 = 0x80;
 
 /// A programmer with its part.
 #[derive(Drop)]
@@ -65,7 +70,7 @@ fn answer_with(out: &mut Body, bytes: &[u8])
 }
 
 fn fail(out: &mut Body, code: u8)
-    ensures { out.new.items ≡ code ∷ 192 ∷ [] }
+    ensures { out.new.items ≡ code ∷ STATUS_CMD_FAILED ∷ [] }
 {
     answer_with(out, &[code, STATUS_CMD_FAILED]);
 }
@@ -89,7 +94,7 @@ fn code_of(body: &[u8]) -> u8
 
 /// The status of a body that is no command's.
 fn status_of(code: u8) -> u8
-    ensures { result ≡ (if is_known code then 0xC0 else 0xC9) }
+    ensures { result ≡ (if is_known code then STATUS_CMD_FAILED else STATUS_CMD_UNKNOWN) }
 {
     if is_known(code) {
         STATUS_CMD_FAILED
@@ -100,7 +105,8 @@ fn status_of(code: u8) -> u8
 
 /// The answer to a body that is no command's.
 fn not_read(body: &[u8], out: &mut Body)
-    ensures { out.new.items ≡ slice_index body.now 0 ∷ (if is_known (slice_index body.now 0) then 0xC0 else 0xC9) ∷ [] }
+    ensures { out.new.items ≡ slice_index body.now 0
+        ∷ (if is_known (slice_index body.now 0) then STATUS_CMD_FAILED else STATUS_CMD_UNKNOWN) ∷ [] }
 {
     let code = code_of(body);
     answer_with(out, &[code, status_of(code)]);
@@ -117,13 +123,13 @@ fn is_polled(fields: &EnterProgmode, bytes: [u8; 4]) -> bool
 fn is_paged(fields: &ProgramBlock<'_>) -> bool
     ensures { result ≡ is_paged fields.now }
 {
-    fields.mode % 2 == 1
+    fields.mode & MODE_PAGE != 0
 }
 
 fn is_written(fields: &ProgramBlock<'_>) -> bool
     ensures { result ≡ is_written fields.now }
 {
-    fields.mode >> 7 == 1
+    fields.mode & MODE_WRITE != 0
 }
 
 fn writes_page(fields: &ProgramBlock<'_>) -> bool
@@ -210,8 +216,8 @@ impl Programmer {
     fn load_address(&mut self, address: u32, out: &mut Body)
         ensures { (out.new.items, self.new) ≡ load_address address self.old }
     {
-        self.address = address % BIT_31;
-        self.wide = BIT_31 <= address;
+        self.address = address % EXTENDED_ADDRESS;
+        self.wide = EXTENDED_ADDRESS <= address;
         answer_with(out, &[CMD_LOAD_ADDRESS, STATUS_CMD_OK]);
     }
 
@@ -284,7 +290,7 @@ impl Programmer {
     fn move_on(&mut self, count: u16)
         ensures { self.new ≡ record self.old { address = (self.old.address + count) % bit_31 } }
     {
-        self.address = (self.address + u32::from(count)) % BIT_31;
+        self.address = (self.address + u32::from(count)) % EXTENDED_ADDRESS;
     }
 
     fn program_flash(&mut self, fields: &ProgramBlock<'_>, out: &mut Body)
@@ -378,22 +384,7 @@ impl Programmer {
         ensures { (out.new.items, self.new) ≡ obey_command command.now self.old }
     {
         match command {
-            Command::SignOn => answer_with(
-                out,
-                &[
-                    CMD_SIGN_ON,
-                    STATUS_CMD_OK,
-                    8,
-                    b'S',
-                    b'T',
-                    b'K',
-                    b'5',
-                    b'0',
-                    b'0',
-                    b'_',
-                    b'2',
-                ],
-            ),
+            Command::SignOn => answer_with(out, b"\x01\x00\x08STK500_2"),
             Command::SetParameter { number, value } => self.set_parameter(*number, *value, out),
             Command::GetParameter { number } => self.get_parameter(*number, out),
             Command::LoadAddress { address } => self.load_address(*address, out),

@@ -4,9 +4,7 @@ ghost use Rattle.std.specs.Prelude.{◌≡◌, ◌<◌, ◌≤◌};
 ghost use Rattle.stk_emu.specs.Programmer.{bit_31, at_address, word_at, byte_address, for_half, extension, sent_to};
 
 use avr_part::Chip;
-
-/// Addresses are below this, and a LOAD_ADDRESS from it on asks for the extended address.
-pub(crate) const BIT_31: u32 = 0x8000_0000;
+use stk_frame::protocol::EXTENDED_ADDRESS;
 
 /// An instruction at an address, with the bits 15 to 0 of it.
 pub(crate) fn at_address(command: u8, address: u32, byte: u8) -> [u8; 4]
@@ -30,7 +28,7 @@ pub(crate) fn word_at(address: u32, place: u16) -> u32
     ensures value { result ≡ word_at address place }
     ensures small { result < bit_31 }
 {
-    (address + u32::from(place / 2)) % BIT_31
+    (address + u32::from(place / 2)) % EXTENDED_ADDRESS
 }
 
 /// The address of the byte of this place.
@@ -39,7 +37,7 @@ pub(crate) fn byte_at(address: u32, place: u16) -> u32
     ensures value { result ≡ byte_address address place }
     ensures small { result < bit_31 }
 {
-    (address + u32::from(place)) % BIT_31
+    (address + u32::from(place)) % EXTENDED_ADDRESS
 }
 
 /// Sends the bits 23 to 16 of an address, where the extended address is sent.

@@ -49,16 +49,7 @@ impl Model for Wire {
 fn is_held(fate: &Fate) -> bool
     ensures { result ≡ is_held fate.now }
 {
-    match fate {
-        Fate::HeldAnswer => true,
-        Fate::Good
-        | Fate::LostCommand
-        | Fate::LostAnswer
-        | Fate::LateAnswer
-        | Fate::Reset
-        | Fate::CommandRefused
-        | Fate::AnswerSpoiled(_) => false,
-    }
+    matches!(fate, Fate::HeldAnswer)
 }
 
 /// Brings the answers that wait, unless they go on waiting: `out`, which is empty, becomes these.

@@ -6,7 +6,7 @@ use Rattle.byteorder.specs.Endian.{big_bytes, big_number}
 use Rattle.byteorder.specs.Numbers.{big_number-reads_back}
 use Rattle.stk_frame.specs.declared.command.Command.{Command}
 use Rattle.stk_frame.specs.declared.command.Command.TheVariants.{SignOn, SetParameter, GetParameter, LoadAddress, EnterProgmode, LeaveProgmode, ChipErase, ProgramFlash, ReadFlash, ProgramEeprom, ReadEeprom, ProgramFuse, ReadFuse, ProgramLock, ReadLock, ReadSignature, ReadOsccal, SpiMulti}
-use Rattle.stk_frame.specs.Commands.{body}
+use Rattle.stk_frame.specs.Commands.{body, program_block_fields, read_block_fields, read_byte_fields}
 use Rattle.stk_frame.specs.Decoding.{FieldsFit, command_of, with_fields, sign_on_of, set_parameter_of, get_parameter_of, load_address_of, enter_progmode_of, leave_progmode_of, chip_erase_of, program_block_of, read_block_of, instruction, read_byte_of, spi_multi_of}
 
 -- a list of four
@@ -18,53 +18,56 @@ of_four P four (a ∷ b ∷ c ∷ []) e = absurd (omega arith)
 of_four P four (a ∷ b ∷ c ∷ d ∷ []) e = four a b c d
 of_four P four (a ∷ b ∷ c ∷ d ∷ f ∷ xs) e = absurd (omega arith)
 
-pub read_back : (c : Command) → FieldsFit c → command_of (body c) ≡ Some c
+abbrev IsReadBack : Command → Type 0
+IsReadBack c = command_of (body c) ≡ Some c
+
+pub read_back : (c : Command) → FieldsFit c → IsReadBack c
 read_back SignOn fits = refl
 read_back (SetParameter number value) fits = refl
 read_back (GetParameter number) fits = refl
 read_back (LoadAddress address) fits = ap (λ n. Some (LoadAddress n)) (big_number-reads_back 4 address [] fits)
 read_back (EnterProgmode f) fits =
-    of_four (λ xs. command_of (body (EnterProgmode (record f { instruction = xs })))
-    ≡ Some (EnterProgmode (record f { instruction = xs }))) (λ a b c d. refl) f.instruction fits
+    of_four (λ xs. IsReadBack (EnterProgmode (record f { instruction = xs }))) (λ a b c d. refl) f.instruction fits
 read_back (LeaveProgmode pre_delay post_delay) fits = refl
 read_back (ChipErase erase_delay poll_method xs) fits =
-    of_four (λ xs. command_of (body (ChipErase erase_delay poll_method xs))
-    ≡ Some (ChipErase erase_delay poll_method xs)) (λ a b c d. refl) xs fits
-read_back (ProgramFlash f) fits = ap (λ n. Some (ProgramFlash (record f { count = n })))
-    (big_number-reads_back 2 f.count [] fits)
-read_back (ReadFlash f) fits = ap (λ n. Some (ReadFlash (record f { count = n })))
-    (big_number-reads_back 2 f.count [] fits)
-read_back (ProgramEeprom f) fits = ap (λ n. Some (ProgramEeprom (record f { count = n })))
-    (big_number-reads_back 2 f.count [] fits)
-read_back (ReadEeprom f) fits = ap (λ n. Some (ReadEeprom (record f { count = n })))
-    (big_number-reads_back 2 f.count [] fits)
-read_back (ProgramFuse xs) fits = of_four (λ xs. command_of (body (ProgramFuse xs)) ≡ Some (ProgramFuse xs))
-    (λ a b c d. refl) xs fits
+    of_four (λ xs. IsReadBack (ChipErase erase_delay poll_method xs)) (λ a b c d. refl) xs fits
+read_back (ProgramFlash f) fits =
+    ap (λ n. Some (ProgramFlash (record f { count = n }))) (big_number-reads_back 2 f.count [] fits)
+read_back (ReadFlash f) fits =
+    ap (λ n. Some (ReadFlash (record f { count = n }))) (big_number-reads_back 2 f.count [] fits)
+read_back (ProgramEeprom f) fits =
+    ap (λ n. Some (ProgramEeprom (record f { count = n }))) (big_number-reads_back 2 f.count [] fits)
+read_back (ReadEeprom f) fits =
+    ap (λ n. Some (ReadEeprom (record f { count = n }))) (big_number-reads_back 2 f.count [] fits)
+read_back (ProgramFuse xs) fits = of_four (λ xs. IsReadBack (ProgramFuse xs)) (λ a b c d. refl) xs fits
 read_back (ReadFuse f) fits =
-    of_four (λ xs. command_of (body (ReadFuse (record f { instruction = xs })))
-    ≡ Some (ReadFuse (record f { instruction = xs }))) (λ a b c d. refl) f.instruction fits
-read_back (ProgramLock xs) fits = of_four (λ xs. command_of (body (ProgramLock xs)) ≡ Some (ProgramLock xs))
-    (λ a b c d. refl) xs fits
+    of_four (λ xs. IsReadBack (ReadFuse (record f { instruction = xs }))) (λ a b c d. refl) f.instruction fits
+read_back (ProgramLock xs) fits = of_four (λ xs. IsReadBack (ProgramLock xs)) (λ a b c d. refl) xs fits
 read_back (ReadLock f) fits =
-    of_four (λ xs. command_of (body (ReadLock (record f { instruction = xs })))
-    ≡ Some (ReadLock (record f { instruction = xs }))) (λ a b c d. refl) f.instruction fits
+    of_four (λ xs. IsReadBack (ReadLock (record f { instruction = xs }))) (λ a b c d. refl) f.instruction fits
 read_back (ReadSignature f) fits =
-    of_four (λ xs. command_of (body (ReadSignature (record f { instruction = xs })))
-    ≡ Some (ReadSignature (record f { instruction = xs }))) (λ a b c d. refl) f.instruction fits
+    of_four (λ xs. IsReadBack (ReadSignature (record f { instruction = xs }))) (λ a b c d. refl) f.instruction fits
 read_back (ReadOsccal f) fits =
-    of_four (λ xs. command_of (body (ReadOsccal (record f { instruction = xs })))
-    ≡ Some (ReadOsccal (record f { instruction = xs }))) (λ a b c d. refl) f.instruction fits
+    of_four (λ xs. IsReadBack (ReadOsccal (record f { instruction = xs }))) (λ a b c d. refl) f.instruction fits
 read_back (SpiMulti send_count receive_count receive_start bytes) fits = refl
 
 -- What was read is a command of exactly this body.
 pub record Sound (code : ℕ) (fields : List ℕ) (read : Option Command) : Type 0 where
   pub says : MatchOption read (Unit {0}) (λ c. (body c ≡ code ∷ fields) × FieldsFit c)
 
+-- What was read has exactly these fields.
+record Back {F : Type 0} (encoded : F → List ℕ) (Fit : F → Type 0) (fields : List ℕ) (read : Option F) : Type 0 where
+  says : MatchOption read (Unit {0}) (λ f. (encoded f ≡ fields) × Fit f)
+
+made : {F : Type 0} {encoded : F → List ℕ} {Fit : F → Type 0} (code : ℕ) (fields : List ℕ) (make : F → Command)
+    (read : Option F) → ((f : F) → Fit f → (body (make f) ≡ code ∷ encoded f) × FieldsFit (make f))
+    → Back encoded Fit fields read → Sound code fields (option_map make read)
+made code fields make None each back = record { says = tt }
+made code fields make (Some f) each back =
+    record { says = ((each f back.says.1).0 ∙ ap (λ bytes. code ∷ bytes) back.says.0, (each f back.says.1).1) }
+
 abbrev pub Below : List ℕ → Type 0
 Below bytes = (i : ℕ) → slice_index bytes i < 256
-
-none_sound : (code : ℕ) (fields : List ℕ) → Sound code fields None
-none_sound code fields = record { says = tt }
 
 pair_back : (a b : ℕ) → a < 256 → b < 256 → big_bytes 2 (big_number 2 (a ∷ b ∷ [])) ≡ a ∷ b ∷ []
 pair_back a b e f =
@@ -89,7 +92,7 @@ four_fits a b c d e f g h = omega arith
 
 sign_on_sound : (fields : List ℕ) → Sound 0x01 fields (sign_on_of fields)
 sign_on_sound [] = record { says = (refl, tt) }
-sign_on_sound (a ∷ more) = none_sound 0x01 (a ∷ more)
+sign_on_sound _ = record { says = tt }
 
 set_parameter_sound : (fields : List ℕ) → Sound 0x02 fields (set_parameter_of fields)
 set_parameter_sound (a ∷ b ∷ []) = record { says = (refl, tt) }
@@ -109,7 +112,7 @@ load_address_sound (a ∷ b ∷ c ∷ d ∷ []) below =
     }
 load_address_sound _ below = record { says = tt }
 
-enter_progmode_sound : (fields : List ℕ) → Sound 0x10 fields (option_map EnterProgmode (enter_progmode_of fields))
+enter_progmode_sound : (fields : List ℕ) → Sound 0x10 fields (enter_progmode_of fields)
 enter_progmode_sound (t ∷ s ∷ m ∷ l ∷ y ∷ v ∷ i ∷ a ∷ b ∷ c ∷ d ∷ []) = record { says = (refl, refl) }
 enter_progmode_sound _ = record { says = tt }
 
@@ -121,73 +124,32 @@ chip_erase_sound : (fields : List ℕ) → Sound 0x12 fields (chip_erase_of fiel
 chip_erase_sound (e ∷ p ∷ a ∷ b ∷ c ∷ d ∷ []) = record { says = (refl, refl) }
 chip_erase_sound _ = record { says = tt }
 
-program_flash_sound : (fields : List ℕ) → Below fields
-    → Sound 0x13 fields (option_map ProgramFlash (program_block_of fields))
-program_flash_sound (h ∷ l ∷ m ∷ d ∷ x ∷ y ∷ z ∷ p ∷ q ∷ bytes) below =
+program_block_back : (fields : List ℕ) → Below fields
+    → Back program_block_fields (λ f. f.count < 65536) fields (program_block_of fields)
+program_block_back (h ∷ l ∷ m ∷ d ∷ x ∷ y ∷ z ∷ p ∷ q ∷ bytes) below =
     record {
       says = (
-        ap (λ count. 0x13 ∷ (count ++ m ∷ d ∷ x ∷ y ∷ z ∷ p ∷ q ∷ bytes))
-            (pair_back h l (below 0) (below 1)),
+        ap (λ count. count ++ m ∷ d ∷ x ∷ y ∷ z ∷ p ∷ q ∷ bytes) (pair_back h l (below 0) (below 1)),
         pair_fits h l (below 0) (below 1),
       );
     }
-program_flash_sound _ below = record { says = tt }
+program_block_back _ below = record { says = tt }
 
-read_flash_sound : (fields : List ℕ) → Below fields → Sound 0x14 fields (option_map ReadFlash (read_block_of fields))
-read_flash_sound (h ∷ l ∷ x ∷ []) below =
+read_block_back : (fields : List ℕ) → Below fields
+    → Back read_block_fields (λ f. f.count < 65536) fields (read_block_of fields)
+read_block_back (h ∷ l ∷ x ∷ []) below =
     record {
-      says = (
-        ap (λ count. 0x14 ∷ (count ++ x ∷ [])) (pair_back h l (below 0) (below 1)),
-        pair_fits h l (below 0) (below 1),
-      );
+      says = (ap (λ count. count ++ x ∷ []) (pair_back h l (below 0) (below 1)), pair_fits h l (below 0) (below 1));
     }
-read_flash_sound _ below = record { says = tt }
+read_block_back _ below = record { says = tt }
 
-program_eeprom_sound : (fields : List ℕ) → Below fields
-    → Sound 0x15 fields (option_map ProgramEeprom (program_block_of fields))
-program_eeprom_sound (h ∷ l ∷ m ∷ d ∷ x ∷ y ∷ z ∷ p ∷ q ∷ bytes) below =
-    record {
-      says = (
-        ap (λ count. 0x15 ∷ (count ++ m ∷ d ∷ x ∷ y ∷ z ∷ p ∷ q ∷ bytes))
-            (pair_back h l (below 0) (below 1)),
-        pair_fits h l (below 0) (below 1),
-      );
-    }
-program_eeprom_sound _ below = record { says = tt }
+instruction_back : (fields : List ℕ) → Back (λ bytes. bytes) (λ bytes. length bytes ≡ 4) fields (instruction fields)
+instruction_back (a ∷ b ∷ c ∷ d ∷ []) = record { says = (refl, refl) }
+instruction_back _ = record { says = tt }
 
-read_eeprom_sound : (fields : List ℕ) → Below fields → Sound 0x16 fields (option_map ReadEeprom (read_block_of fields))
-read_eeprom_sound (h ∷ l ∷ x ∷ []) below =
-    record {
-      says = (
-        ap (λ count. 0x16 ∷ (count ++ x ∷ [])) (pair_back h l (below 0) (below 1)),
-        pair_fits h l (below 0) (below 1),
-      );
-    }
-read_eeprom_sound _ below = record { says = tt }
-
-program_fuse_sound : (fields : List ℕ) → Sound 0x17 fields (option_map ProgramFuse (instruction fields))
-program_fuse_sound (a ∷ b ∷ c ∷ d ∷ []) = record { says = (refl, refl) }
-program_fuse_sound _ = record { says = tt }
-
-read_fuse_sound : (fields : List ℕ) → Sound 0x18 fields (option_map ReadFuse (read_byte_of fields))
-read_fuse_sound (r ∷ a ∷ b ∷ c ∷ d ∷ []) = record { says = (refl, refl) }
-read_fuse_sound _ = record { says = tt }
-
-program_lock_sound : (fields : List ℕ) → Sound 0x19 fields (option_map ProgramLock (instruction fields))
-program_lock_sound (a ∷ b ∷ c ∷ d ∷ []) = record { says = (refl, refl) }
-program_lock_sound _ = record { says = tt }
-
-read_lock_sound : (fields : List ℕ) → Sound 0x1A fields (option_map ReadLock (read_byte_of fields))
-read_lock_sound (r ∷ a ∷ b ∷ c ∷ d ∷ []) = record { says = (refl, refl) }
-read_lock_sound _ = record { says = tt }
-
-read_signature_sound : (fields : List ℕ) → Sound 0x1B fields (option_map ReadSignature (read_byte_of fields))
-read_signature_sound (r ∷ a ∷ b ∷ c ∷ d ∷ []) = record { says = (refl, refl) }
-read_signature_sound _ = record { says = tt }
-
-read_osccal_sound : (fields : List ℕ) → Sound 0x1C fields (option_map ReadOsccal (read_byte_of fields))
-read_osccal_sound (r ∷ a ∷ b ∷ c ∷ d ∷ []) = record { says = (refl, refl) }
-read_osccal_sound _ = record { says = tt }
+read_byte_back : (fields : List ℕ) → Back read_byte_fields (λ f. length f.instruction ≡ 4) fields (read_byte_of fields)
+read_byte_back (r ∷ a ∷ b ∷ c ∷ d ∷ []) = record { says = (refl, refl) }
+read_byte_back _ = record { says = tt }
 
 spi_multi_sound : (fields : List ℕ) → Sound 0x1D fields (spi_multi_of fields)
 spi_multi_sound (a ∷ b ∷ c ∷ bytes) = record { says = (refl, tt) }
@@ -211,17 +173,17 @@ with_fields_sound code fields below =
     (row 0x10 code fields _ _ (enter_progmode_sound fields)
     (row 0x11 code fields _ _ (leave_progmode_sound fields)
     (row 0x12 code fields _ _ (chip_erase_sound fields)
-    (row 0x13 code fields _ _ (program_flash_sound fields below)
-    (row 0x14 code fields _ _ (read_flash_sound fields below)
-    (row 0x15 code fields _ _ (program_eeprom_sound fields below)
-    (row 0x16 code fields _ _ (read_eeprom_sound fields below)
-    (row 0x17 code fields _ _ (program_fuse_sound fields)
-    (row 0x18 code fields _ _ (read_fuse_sound fields)
-    (row 0x19 code fields _ _ (program_lock_sound fields)
-    (row 0x1A code fields _ _ (read_lock_sound fields)
-    (row 0x1B code fields _ _ (read_signature_sound fields)
-    (row 0x1C code fields _ _ (read_osccal_sound fields)
-    (row 0x1D code fields _ _ (spi_multi_sound fields) (none_sound code fields))))))))))))))))))
+    (row 0x13 code fields _ _ (made 0x13 fields ProgramFlash _ (λ f k. (refl, k)) (program_block_back fields below))
+    (row 0x14 code fields _ _ (made 0x14 fields ReadFlash _ (λ f k. (refl, k)) (read_block_back fields below))
+    (row 0x15 code fields _ _ (made 0x15 fields ProgramEeprom _ (λ f k. (refl, k)) (program_block_back fields below))
+    (row 0x16 code fields _ _ (made 0x16 fields ReadEeprom _ (λ f k. (refl, k)) (read_block_back fields below))
+    (row 0x17 code fields _ _ (made 0x17 fields ProgramFuse _ (λ f k. (refl, k)) (instruction_back fields))
+    (row 0x18 code fields _ _ (made 0x18 fields ReadFuse _ (λ f k. (refl, k)) (read_byte_back fields))
+    (row 0x19 code fields _ _ (made 0x19 fields ProgramLock _ (λ f k. (refl, k)) (instruction_back fields))
+    (row 0x1A code fields _ _ (made 0x1A fields ReadLock _ (λ f k. (refl, k)) (read_byte_back fields))
+    (row 0x1B code fields _ _ (made 0x1B fields ReadSignature _ (λ f k. (refl, k)) (read_byte_back fields))
+    (row 0x1C code fields _ _ (made 0x1C fields ReadOsccal _ (λ f k. (refl, k)) (read_byte_back fields))
+    (row 0x1D code fields _ _ (spi_multi_sound fields) (record { says = tt }))))))))))))))))))
 
 pub only_body : (bytes : List ℕ) → Below bytes
     → MatchOption (command_of bytes) (Unit {0}) (λ c. (body c ≡ bytes) × FieldsFit c)

@@ -1,4 +1,4 @@
--- in the order in which to read: worked frames; the cutting, a reader that is fed, and bodies that are read back
+-- in the order in which to read: limits and refusals; the cutting, a reader that is fed, and bodies that are read back
 pub mod Rows
 pub mod Cuts
 pub mod FedReaders

@@ -77,15 +77,8 @@ body command = code command ∷ fields command
 -- what follows the first status of an answer: a length and a name, so many bytes, or so many bytes and a last status
 abbrev pub shape : Command → Shape
 shape SignOn = Name
-shape (SetParameter number value) = Bytes 0
 shape (GetParameter number) = Bytes 1
-shape (LoadAddress address) = Bytes 0
-shape (EnterProgmode f) = Bytes 0
-shape (LeaveProgmode pre_delay post_delay) = Bytes 0
-shape (ChipErase erase_delay poll_method instruction) = Bytes 0
-shape (ProgramFlash f) = Bytes 0
 shape (ReadFlash f) = Closed f.count
-shape (ProgramEeprom f) = Bytes 0
 shape (ReadEeprom f) = Closed f.count
 shape (ProgramFuse instruction) = Closed 0
 shape (ReadFuse f) = Closed 1
@@ -94,6 +87,7 @@ shape (ReadLock f) = Closed 1
 shape (ReadSignature f) = Closed 1
 shape (ReadOsccal f) = Closed 1
 shape (SpiMulti send_count receive_count receive_start bytes) = Closed receive_count
+shape _ = Bytes 0
 
 -- the data of an answer, from what follows its first status
 abbrev pub data_of : Shape → List ℕ → Result (List ℕ) FrameFault

@@ -3,7 +3,6 @@ use Rattle.std.specs.Prelude.{ℕ, List, [], ◌∷◌, ◌^◌, ◌<◌, ◌≡
 use Rattle.byteorder.specs.Endian.{big_number}
 use Rattle.stk_frame.specs.declared.command.Command.{Command}
 use Rattle.stk_frame.specs.declared.command.Command.TheVariants.{SignOn, SetParameter, GetParameter, LoadAddress, EnterProgmode, LeaveProgmode, ChipErase, ProgramFlash, ReadFlash, ProgramEeprom, ReadEeprom, ProgramFuse, ReadFuse, ProgramLock, ReadLock, ReadSignature, ReadOsccal, SpiMulti}
-use Rattle.stk_frame.specs.declared.command.EnterProgmode.{EnterProgmode as EnterFields}
 use Rattle.stk_frame.specs.declared.command.ProgramBlock.{ProgramBlock}
 use Rattle.stk_frame.specs.declared.command.ReadBlock.{ReadBlock}
 use Rattle.stk_frame.specs.declared.command.ReadByte.{ReadByte}
@@ -26,10 +25,10 @@ abbrev pub load_address_of : List ℕ → Option Command
 load_address_of (a ∷ b ∷ c ∷ d ∷ []) = Some (LoadAddress (big_number 4 (a ∷ b ∷ c ∷ d ∷ [])))
 load_address_of _ = None
 
-abbrev pub enter_progmode_of : List ℕ → Option EnterFields
+abbrev pub enter_progmode_of : List ℕ → Option Command
 enter_progmode_of (timeout ∷ stab_delay ∷ command_delay ∷ synch_loops ∷ byte_delay ∷ poll_value ∷ poll_index ∷ a ∷ b ∷ c
     ∷ d ∷ []) =
-    Some (record {
+    Some (EnterProgmode (record {
       timeout = timeout;
       stab_delay = stab_delay;
       command_delay = command_delay;
@@ -38,7 +37,7 @@ enter_progmode_of (timeout ∷ stab_delay ∷ command_delay ∷ synch_loops ∷ 
       poll_value = poll_value;
       poll_index = poll_index;
       instruction = a ∷ b ∷ c ∷ d ∷ [];
-    })
+    }))
 enter_progmode_of _ = None
 
 abbrev pub leave_progmode_of : List ℕ → Option Command
@@ -90,7 +89,7 @@ with_fields code bytes =
     else if code == CMD_SET_PARAMETER then set_parameter_of bytes
     else if code == CMD_GET_PARAMETER then get_parameter_of bytes
     else if code == CMD_LOAD_ADDRESS then load_address_of bytes
-    else if code == CMD_ENTER_PROGMODE_ISP then option_map EnterProgmode (enter_progmode_of bytes)
+    else if code == CMD_ENTER_PROGMODE_ISP then enter_progmode_of bytes
     else if code == CMD_LEAVE_PROGMODE_ISP then leave_progmode_of bytes
     else if code == CMD_CHIP_ERASE_ISP then chip_erase_of bytes
     else if code == CMD_PROGRAM_FLASH_ISP then option_map ProgramFlash (program_block_of bytes)
@@ -113,12 +112,8 @@ command_of (code ∷ bytes) = with_fields code bytes
 
 -- The numbers of a command fit their bytes, and an instruction has four.
 abbrev pub FieldsFit : Command → Type 0
-FieldsFit SignOn = Unit {0}
-FieldsFit (SetParameter number value) = Unit {0}
-FieldsFit (GetParameter number) = Unit {0}
 FieldsFit (LoadAddress address) = address < 2 ^ 32
 FieldsFit (EnterProgmode f) = length f.instruction ≡ 4
-FieldsFit (LeaveProgmode pre_delay post_delay) = Unit {0}
 FieldsFit (ChipErase erase_delay poll_method bytes) = length bytes ≡ 4
 FieldsFit (ProgramFlash f) = f.count < 2 ^ 16
 FieldsFit (ReadFlash f) = f.count < 2 ^ 16
@@ -130,4 +125,4 @@ FieldsFit (ProgramLock bytes) = length bytes ≡ 4
 FieldsFit (ReadLock f) = length f.instruction ≡ 4
 FieldsFit (ReadSignature f) = length f.instruction ≡ 4
 FieldsFit (ReadOsccal f) = length f.instruction ≡ 4
-FieldsFit (SpiMulti send_count receive_count receive_start bytes) = Unit {0}
+FieldsFit _ = Unit {0}

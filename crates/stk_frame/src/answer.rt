@@ -34,7 +34,7 @@ pub enum FrameFault {
 }
 
 impl FrameFault {
-    /// The fault's number.
+    /// Returns the fault's number, from 1 on, which no later version changes.
     ///
     /// ```text
     /// assert_eq!(rt; FrameFault::CheckSum.number(), 3);

@@ -1,4 +1,5 @@
-//! Commands, from their bodies.
+//! Commands, from their bodies. Fields that only one command has are read as this command, fields that several share as
+//! fields.
 ghost use Rattle.std.specs.Prelude.{◌≡◌, ◌↔◌, Some, IfSome};
 ghost use Rattle.stk_frame.specs.Commands.{body};
 ghost use Rattle.stk_frame.specs.Decoding.{FieldsFit, command_of, with_fields, sign_on_of, set_parameter_of, get_parameter_of, load_address_of, enter_progmode_of, leave_progmode_of, chip_erase_of, program_block_of, read_block_of, instruction, read_byte_of, spi_multi_of};
@@ -54,7 +55,7 @@ fn load_address(fields: &[u8]) -> Option<Command<'_>>
     }
 }
 
-fn enter_progmode(fields: &[u8]) -> Option<EnterProgmode>
+fn enter_progmode(fields: &[u8]) -> Option<Command<'_>>
     ensures { result ≡ enter_progmode_of fields.now }
 {
     match fields {
@@ -70,7 +71,7 @@ fn enter_progmode(fields: &[u8]) -> Option<EnterProgmode>
             b,
             c,
             d,
-        ] => Some(EnterProgmode {
+        ] => Some(Command::EnterProgmode(EnterProgmode {
             timeout: *timeout,
             stab_delay: *stab_delay,
             command_delay: *command_delay,
@@ -79,7 +80,7 @@ fn enter_progmode(fields: &[u8]) -> Option<EnterProgmode>
             poll_value: *poll_value,
             poll_index: *poll_index,
             instruction: [*a, *b, *c, *d],
-        }),
+        })),
         _ => None,
     }
 }
@@ -199,7 +200,7 @@ fn with_fields(code: u8, fields: &[u8]) -> Option<Command<'_>>
         CMD_SET_PARAMETER => set_parameter(fields),
         CMD_GET_PARAMETER => get_parameter(fields),
         CMD_LOAD_ADDRESS => load_address(fields),
-        CMD_ENTER_PROGMODE_ISP => Some(Command::EnterProgmode(enter_progmode(fields)?)),
+        CMD_ENTER_PROGMODE_ISP => enter_progmode(fields),
         CMD_LEAVE_PROGMODE_ISP => leave_progmode(fields),
         CMD_CHIP_ERASE_ISP => chip_erase(fields),
         CMD_PROGRAM_FLASH_ISP => Some(Command::ProgramFlash(program_block(fields)?)),

@@ -5,7 +5,7 @@ ghost use Rattle.stk_frame.specs.Frame.{frame};
 ghost use Rattle.stk_frame.specs.Commands.{body, fields, enter_progmode_fields, program_block_fields, read_block_fields, read_byte_fields};
 
 use crate::command::{Command, EnterProgmode, ProgramBlock, ReadBlock, ReadByte};
-use crate::frame::{begin, seal};
+use crate::frame::{begin, end};
 use crate::protocol::{LARGEST_BODY, LARGEST_FRAME};
 use arrayvec::ArrayVec;
 use byteorder::{BigEndian, ByteOrder};
@@ -80,9 +80,10 @@ fn put_enter_progmode<const CAP: usize>(out: &mut ArrayVec<u8, CAP>, enter: &Ent
             enter.command_delay,
             enter.synch_loops,
             enter.byte_delay,
+            enter.poll_value,
+            enter.poll_index,
         ],
     );
-    put(out, &[enter.poll_value, enter.poll_index]);
     put(out, &enter.instruction);
 }
 
@@ -105,33 +106,6 @@ fn put_read_byte<const CAP: usize>(out: &mut ArrayVec<u8, CAP>, read: &ReadByte)
 }
 
 impl Command<'_> {
-    /// How many bytes the command's body has.
-    fn body_len(&self) -> usize
-        requires { length (body self.now) ≤ LARGEST_BODY }
-        ensures { result ≡ length (body self.now) }
-    {
-        match self {
-            Command::SignOn => 1,
-            Command::GetParameter { .. } => 2,
-            Command::SetParameter { .. } | Command::LeaveProgmode { .. } => 3,
-            Command::ReadFlash(_) | Command::ReadEeprom(_) => 4,
-            Command::LoadAddress { .. } => 5,
-            Command::ProgramFuse { instruction } | Command::ProgramLock { instruction } => {
-                1 + instruction.as_slice().len()
-            }
-            Command::ReadFuse(read)
-            | Command::ReadLock(read)
-            | Command::ReadSignature(read)
-            | Command::ReadOsccal(read) => 2 + read.instruction.as_slice().len(),
-            Command::ChipErase { instruction, .. } => 3 + instruction.as_slice().len(),
-            Command::EnterProgmode(enter) => 8 + enter.instruction.as_slice().len(),
-            Command::ProgramFlash(block) | Command::ProgramEeprom(block) => {
-                10 + block.bytes.bytes().len()
-            }
-            Command::SpiMulti { bytes, .. } => 4 + bytes.bytes().len(),
-        }
-    }
-
     /// Makes `out` the frame that carries the command under the sequence number `seq`. The bytes that the command lends
     /// are copied into the frame and nowhere else.
     ///
@@ -144,9 +118,9 @@ impl Command<'_> {
         requires { length (body self.now) ≤ LARGEST_BODY }
         ensures { out.new.items ≡ frame seq (body self.now) }
     {
-        begin(seq, self.body_len() as u16, out);
+        begin(out);
         self.put_body(out);
-        seal(out);
+        end(seq, out);
     }
 
     /// Makes `out` the command's body: its byte, and its fields in their order. Counts and addresses

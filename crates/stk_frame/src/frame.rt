@@ -1,8 +1,8 @@
 //! Frames, as they are sent.
-ghost use Rattle.std.specs.Prelude.{◌≡◌, ◌<◌, ◌≤◌, length};
-ghost use Rattle.stk_frame.specs.Frame.{frame, xor_all, header, with_xor_checksum};
+ghost use Rattle.std.specs.Prelude.{◌≡◌, ◌<◌, ◌≤◌, ◌∷◌, ◌++◌, [], drop, length};
+ghost use Rattle.stk_frame.specs.Frame.{frame, xor_all, header};
 
-use crate::protocol::{LARGEST_BODY, LARGEST_FRAME, MESSAGE_START, TOKEN};
+use crate::protocol::{HEADER_SIZE, LARGEST_BODY, LARGEST_FRAME, MESSAGE_START, TOKEN};
 use arrayvec::ArrayVec;
 use byteorder::{BigEndian, ByteOrder};
 
@@ -12,29 +12,34 @@ pub(crate) fn xor_of(bytes: &[u8]) -> u8
     bytes.iter().fold(0, |xor, byte| xor ^ *byte)
 }
 
-/// The five bytes in front of a body of this size.
-fn header_of(seq: u8, size: u16) -> [u8; 5]
-    ensures { result ≡ header seq size }
+/// Writes the header of a frame into its first five bytes; the body follows these.
+fn write_header(seq: u8, bytes: &mut [u8])
+    requires header { HEADER_SIZE ≤ length bytes.old }
+    requires fits { length bytes.old < LARGEST_FRAME }
+    ensures { bytes.new ≡ header seq (length (drop HEADER_SIZE bytes.old)) ++ drop HEADER_SIZE bytes.old }
 {
-    let mut header = [MESSAGE_START, seq, 0, 0, TOKEN];
-    BigEndian::write_u16(&mut header[2..4], size);
-    header
+    let size = (bytes.len() - HEADER_SIZE) as u16;
+    bytes[0] = MESSAGE_START;
+    bytes[1] = seq;
+    BigEndian::write_u16(&mut bytes[2..4], size);
+    bytes[4] = TOKEN;
 }
 
-/// Makes `out` what stands in front of a body of this size.
-pub(crate) fn begin(seq: u8, size: u16, out: &mut ArrayVec<u8, LARGEST_FRAME>)
-    ensures { out.new.items ≡ header seq size }
+/// Empties `out` and puts five zeros there, in the place of the header.
+pub(crate) fn begin(out: &mut ArrayVec<u8, LARGEST_FRAME>)
+    ensures { out.new.items ≡ 0 ∷ 0 ∷ 0 ∷ 0 ∷ 0 ∷ [] }
 {
     out.clear();
-    let header = header_of(seq, size);
-    let _ = out.try_extend_from_slice(&header);
+    let _ = out.try_extend_from_slice(&[0; HEADER_SIZE]);
 }
 
-/// Puts the byte after those of `out` that makes the XOR of all 0.
-pub(crate) fn seal(out: &mut ArrayVec<u8, LARGEST_FRAME>)
-    requires { length out.old.items < LARGEST_FRAME }
-    ensures { out.new.items ≡ with_xor_checksum out.old.items }
+/// Ends a frame that was begun and has its body: writes its header, and puts the checksum after the body.
+pub(crate) fn end(seq: u8, out: &mut ArrayVec<u8, LARGEST_FRAME>)
+    requires header { HEADER_SIZE ≤ length out.old.items }
+    requires room { length out.old.items < LARGEST_FRAME }
+    ensures { out.new.items ≡ frame seq (drop HEADER_SIZE out.old.items) }
 {
+    write_header(seq, out.as_mut_slice());
     let xor = xor_of(out.as_slice());
     out.push(xor);
 }
@@ -54,7 +59,7 @@ pub fn put_frame(seq: u8, body: &[u8], out: &mut ArrayVec<u8, LARGEST_FRAME>)
     requires fits { length body.now ≤ LARGEST_BODY }
     ensures { out.new.items ≡ frame seq body.now }
 {
-    begin(seq, body.len() as u16, out);
+    begin(out);
     let _ = out.try_extend_from_slice(body);
-    seal(out);
+    end(seq, out);
 }

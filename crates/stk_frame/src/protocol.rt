@@ -13,8 +13,11 @@ pub const TOKEN: u8 = 0x0E;
 /// The most bytes that a body has.
 pub const LARGEST_BODY: usize = 275;
 
-/// The most bytes that a frame has: a header of five, a body, and the byte that makes the XOR of all 0.
-pub const LARGEST_FRAME: usize = LARGEST_BODY + 6;
+/// The bytes of a frame in front of its body.
+pub(crate) const HEADER_SIZE: usize = 5;
+
+/// The most bytes that a frame has: a header, a body, and the byte that makes the XOR of all 0.
+pub const LARGEST_FRAME: usize = HEADER_SIZE + LARGEST_BODY + 1;
 
 /// The most bytes of a block that is programmed: ten others stand before them in the body.
 pub const LARGEST_BLOCK: usize = LARGEST_BODY - 10;

@@ -4,7 +4,7 @@ ghost use Rattle.stk_frame.specs.Cut.{piece_size, is_header, body_size, seq_of, 
 ghost use Rattle.stk_frame.specs.Reader.{Fed, HoldsFrame, IsHeld, FeedsLike, frames_of_event, TellsEvent};
 
 use crate::frame::xor_of;
-use crate::protocol::{LARGEST_BODY, LARGEST_FRAME, MESSAGE_START, TOKEN};
+use crate::protocol::{HEADER_SIZE, LARGEST_BODY, LARGEST_FRAME, MESSAGE_START, TOKEN};
 use arrayvec::ArrayVec;
 use byteorder::{BigEndian, ByteOrder};
 use memchr::memchr;
@@ -79,10 +79,10 @@ fn size_of_piece(bytes: &[u8]) -> usize
 {
     match bytes {
         [MESSAGE_START, _, high, low, token, ..] => match size_in(*high, *low, *token) {
-            Some(size) => size + 6,
-            None => 5,
+            Some(size) => HEADER_SIZE + size + 1,
+            None => HEADER_SIZE,
         },
-        [MESSAGE_START, ..] => 5,
+        [MESSAGE_START, ..] => HEADER_SIZE,
         _ => 1,
     }
 }
@@ -133,7 +133,7 @@ fn end_piece(held: &mut ArrayVec<u8, LARGEST_FRAME>) -> Event
     if held.len() < size_of_piece(held.as_slice()) {
         return Event::More;
     }
-    if held.len() <= 5 {
+    if held.len() <= HEADER_SIZE {
         held.clear();
         return Event::More;
     }
@@ -199,10 +199,10 @@ impl FrameReader {
         ensures fits { length result.now ≤ LARGEST_BODY }
     {
         let bytes = self.held.as_slice();
-        if bytes.len() < 6 {
+        if bytes.len() <= HEADER_SIZE {
             return &[];
         }
-        &bytes[5..bytes.len() - 1]
+        &bytes[HEADER_SIZE..bytes.len() - 1]
     }
 
     /// Takes bytes up to the end of one piece at most: noise in front of a start byte, or what the

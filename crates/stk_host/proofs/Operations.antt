@@ -2,3 +2,4 @@
 pub mod Attempts
 pub mod StepEnds
 pub mod Steps
+pub mod Reads

@@ -1,4 +1,3 @@
--- Worked sessions, operations and ends, and outcomes that are refused.
-pub mod Sessions
+-- Worked operations, and outcomes that are refused.
 pub mod Operations
 pub mod Ends

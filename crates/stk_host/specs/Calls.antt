@@ -1,5 +1,5 @@
 -- Words for the contracts of calls.
-use Rattle.std.specs.Prelude.{ℕ, Bool, List, [], ◌∷◌, ◌≡◌, ◌<◌, ◌≤◌, length, Option, None, Some, Result, Ok, Err, IfOk, IfErr, IsOkAnd, OnErr, All}
+use Rattle.std.specs.Prelude.{ℕ, Bool, List, [], ◌∷◌, ◌++◌, ◌≡◌, ◌<◌, ◌≤◌, length, Option, None, Some, Result, Ok, Err, IfOk, IfErr, IfSome, IsOkAnd, OnErr}
 use Rattle.avr_part.specs.declared.part.Mem.{Mem}
 use Rattle.stk_frame.specs.declared.protocol.TheConstants.{LARGEST_BODY, LARGEST_FRAME}
 use Rattle.stk_frame.specs.declared.command.Command.{Command}
@@ -95,9 +95,12 @@ EndsSteps dialog bytes before old new (Err stop) after = StopsSteps dialog befor
 abbrev pub Playing : Type 0
 Playing = List (List Command) → Dialog ⊥ steps.StepOutcome
 
--- these commands are the first of the steps
+-- these are the first of the steps
+abbrev pub with_steps : List (List Command) → List ℕ → Playing
+with_steps these before steps = play (these ++ steps) before
+
 abbrev pub with_step : List Command → List ℕ → Playing
-with_step commands before steps = play (commands ∷ steps) before
+with_step commands before = with_steps (commands ∷ []) before
 
 -- they are all the steps
 abbrev pub without_step : List ℕ → Playing
@@ -201,12 +204,15 @@ pub record BringsNoData (command : Command) : Type 0 where
   pub fits : FitsFrame command
   pub quiet : shape command ≡ Bytes 0
 
--- the commands of a step: only the answer to the last one brings data, and so many bytes
-pub record StepBrings (count : ℕ) (first : List Command) (last : Command) : Type 0 where
-  pub quiet : All BringsNoData first
+-- how many bytes a step brings whose last command is this
+abbrev pub step_brings : Command → ℕ
+step_brings last = data_count (shape last)
+
+-- the commands of a step: the first one brings no data, and the last one as many bytes as its shape says
+pub record IsSizedStep (first : Option Command) (last : Command) : Type 0 where
+  pub quiet : IfSome first BringsNoData
   pub fits : FitsFrame last
   pub counted : IsSizedShape (shape last)
-  pub size : data_count (shape last) ≡ count
 
 -- A call of a host that says and hears what ends so.
 pub record CallsBy {A : Type 0} (Ends : Position → LinkView → LinkView → Result A HostFault → Position → Type 0)

@@ -60,7 +60,7 @@ pub record StreamState (R W : Type 0) : Type 0 where
   pub reader : R
   pub writer : W
   pub failures : ℕ
-  pub error : Option ErrorKind
+  pub last_error : Option ErrorKind
   pub talk : Talk
 
 abbrev pub stream_view : {R W : Type 0} → StreamState R W → LinkView

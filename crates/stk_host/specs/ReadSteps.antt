@@ -1,49 +1,53 @@
 -- The steps that read a whole memory.
-use Rattle.std.specs.Prelude.{ℕ, ◌+◌, ◌-◌, ◌*◌, ◌/◌, min, List, [], ◌∷◌}
+use Rattle.std.specs.Prelude.{ℕ, ◌-◌, ◌*◌, min, List, [], ◌∷◌, Option, Some, None}
+use Rattle.std.specs.Int.{div_ceil}
 use Rattle.avr_part.specs.declared.part.Mem.{Mem}
 use Rattle.avr_part.specs.declared.part.Mem.TheVariants.{Flash, Eeprom, Lfuse, Hfuse, Efuse, Lock, Signature, Calibration}
 use Rattle.avr_part.specs.Part.{Part, size_of}
 use Rattle.stk_frame.specs.declared.command.Command.{Command}
 use Rattle.stk_frame.specs.declared.host_command.Fuse.TheVariants.{Low, High, Extended}
 use Rattle.stk_frame.specs.HostCommands.{read_flash_block, read_eeprom_block, read_fuse, read_lock, read_signature, read_calibration}
+use Rattle.stk_host.specs.Steps.{commands_by}
 use Rattle.stk_host.specs.Places.{each_from, load_flash, load_eeprom}
 
--- a memory is read in blocks of 256 bytes, the last of which may be shorter
-abbrev pub block_count : ℕ → ℕ
-block_count size = (size + 255) / 256
+-- how many bytes a step reads: flash and EEPROM are read in blocks, the last of which may be shorter
+abbrev pub read_unit : Mem → ℕ
+read_unit Flash = 256
+read_unit Eeprom = 256
+read_unit mem = 1
 
+-- how many steps read a memory
+abbrev pub read_count : Part → Mem → ℕ
+read_count part mem = div_ceil (size_of mem part) (read_unit mem)
+
+-- the size of the block that begins here
 abbrev pub block_size : ℕ → ℕ → ℕ
 block_size size start = min 256 (size - start)
 
--- flash is read by commands of its own
-abbrev pub load_block_address : Part → Mem → ℕ → Command
-load_block_address part Flash start = load_flash part start
-load_block_address part mem start = load_eeprom start
+-- the command that loads the address of the block with this number
+abbrev pub load_at : Part → Mem → ℕ → Option Command
+load_at part Flash number = Some (load_flash part (number * 256))
+load_at part Eeprom number = Some (load_eeprom (number * 256))
+load_at part mem number = None
 
-abbrev pub read_block : Mem → ℕ → Command
-read_block Flash count = read_flash_block count
-read_block mem count = read_eeprom_block count
+-- the command that brings the bytes of the step with this number
+abbrev pub read_at : Part → Mem → ℕ → Command
+read_at part Flash number = read_flash_block (block_size part.flash_size (number * 256))
+read_at part Eeprom number = read_eeprom_block (block_size part.eeprom_size (number * 256))
+read_at part Lfuse number = read_fuse Low
+read_at part Hfuse number = read_fuse High
+read_at part Efuse number = read_fuse Extended
+read_at part Lock number = read_lock
+read_at part Signature number = read_signature number
+read_at part Calibration number = read_calibration
 
--- the step that reads the block with this number
-abbrev pub block_steps : Part → Mem → ℕ → List (List Command)
-block_steps part mem number =
-    (load_block_address part mem (number * 256) ∷ read_block mem (block_size (size_of mem part) (number * 256)) ∷ [])
-    ∷ []
+-- the step with this number
+abbrev pub read_step : Part → Mem → ℕ → List (List Command)
+read_step part mem number = commands_by (load_at part mem number) (read_at part mem number) ∷ []
 
--- the step that reads the signature's byte of this place
-abbrev pub signature_step : ℕ → List (List Command)
-signature_step place = (read_signature place ∷ []) ∷ []
+abbrev pub read_steps : Part → Mem → List (List Command)
+read_steps part mem = each_from (read_step part mem) 0 (read_count part mem)
 
 -- the signature is read a byte a step
 abbrev pub signature_steps : List (List Command)
-signature_steps = each_from signature_step 0 3
-
-abbrev pub read_steps : Part → Mem → List (List Command)
-read_steps part Flash = each_from (block_steps part Flash) 0 (block_count part.flash_size)
-read_steps part Eeprom = each_from (block_steps part Eeprom) 0 (block_count part.eeprom_size)
-read_steps part Lfuse = (read_fuse Low ∷ []) ∷ []
-read_steps part Hfuse = (read_fuse High ∷ []) ∷ []
-read_steps part Efuse = (read_fuse Extended ∷ []) ∷ []
-read_steps part Lock = (read_lock ∷ []) ∷ []
-read_steps part Signature = signature_steps
-read_steps part Calibration = (read_calibration ∷ []) ∷ []
+signature_steps = (read_signature 0 ∷ []) ∷ (read_signature 1 ∷ []) ∷ (read_signature 2 ∷ []) ∷ []

@@ -1,5 +1,5 @@
 -- Steps of commands, with their attempts.
-use Rattle.std.specs.Prelude.{ℕ, zero, suc, List, [], ◌∷◌, ◌++◌, Result, Ok, Err}
+use Rattle.std.specs.Prelude.{ℕ, zero, suc, List, [], ◌∷◌, ◌++◌, Option, Some, None, Result, Ok, Err}
 use Rattle.stk_frame.specs.declared.protocol.TheConstants.{STATUS_CKSUM_ERROR}
 use Rattle.stk_frame.specs.declared.command.Command.{Command}
 use Rattle.stk_frame.specs.declared.answer.FrameFault.{FrameFault}
@@ -61,6 +61,11 @@ end_or_again again (Stop fault) = Done (Err fault)
 unfoldable pub tries : ℕ → List Command → StepFault → Dialog ⊥ StepOutcome
 tries zero commands fault = Done (Err fault)
 tries (suc more) commands fault = attempt commands [] >>= end_or_again (tries more commands)
+
+-- the commands of a step: a last one, and perhaps one before it
+abbrev pub commands_by : Option Command → Command → List Command
+commands_by None last = last ∷ []
+commands_by (Some first) last = first ∷ last ∷ []
 
 -- a step has at most four attempts
 abbrev pub step : List Command → Dialog ⊥ StepOutcome

@@ -45,6 +45,15 @@ run_step part image addr =
 abbrev pub run_steps_at : Part → List (Option ℕ) → ℕ → List (List Command)
 run_steps_at part image addr = if begins_run part.eeprom_page image addr then run_step part image addr ∷ [] else []
 
+-- the places of flash are its pages, and those of EEPROM its bytes
+abbrev pub place_count : Part → Mem → ℕ
+place_count part Flash = part.flash_size / part.flash_page
+place_count part mem = part.eeprom_size
+
+abbrev pub place_steps : Part → Mem → List (Option ℕ) → ℕ → List (List Command)
+place_steps part Flash image number = page_steps part image number
+place_steps part mem image addr = run_steps_at part image addr
+
 -- the step of a memory of one byte, if the image holds it
 abbrev pub byte_steps : (ℕ → Command) → Option ℕ → List (List Command)
 byte_steps program None = []

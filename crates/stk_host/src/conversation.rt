@@ -1,12 +1,12 @@
 //! Commands and their answers, attempts, and steps, alone and among those of an operation.
-ghost use Rattle.std.specs.Prelude.{◌≡◌, ◌<◌, ◌≤◌, ◌++◌, ◌∷◌, [], length, IsOkAnd, OnOk, All, ◌+◌, vec_capacity};
+ghost use Rattle.std.specs.Prelude.{◌≡◌, ◌<◌, ◌≤◌, ◌++◌, ◌∷◌, [], length, IsOkAnd, OnOk, IfSome, ◌+◌, vec_capacity};
 ghost use Rattle.stk_frame.specs.Frame.{frame};
 ghost use Rattle.stk_frame.specs.Commands.{body, judge, shape, SizedBy};
 ghost use Rattle.ghosts.specs.Stays.{Stays};
 ghost use Rattle.stk_host.specs.Reach.{SendsAll};
-ghost use Rattle.stk_host.specs.Steps.{exchange, attempt, step, answer_reply, reading_reply};
+ghost use Rattle.stk_host.specs.Steps.{exchange, attempt, step, commands_by, answer_reply, reading_reply};
 ghost use Rattle.stk_host.specs.State.{data_in, data_held};
-ghost use Rattle.stk_host.specs.Calls.{reading_of, reply_of, EndsSteps, AsksLink, GetsReply, FitsFrame, BringsNoData, with_step, without_step, EndsInnerStep, StepBrings, data_count};
+ghost use Rattle.stk_host.specs.Calls.{reading_of, reply_of, EndsSteps, AsksLink, GetsReply, FitsFrame, BringsNoData, with_step, without_step, EndsInnerStep, IsSizedStep, step_brings};
 
 use crate::fault::{Broken, StepFault, Stop};
 use crate::link::{Link, LinkFault, send_all};
@@ -70,11 +70,14 @@ fn judge_body(command: &Command<'_>, body: &[u8]) -> Reply
 {
     match Answer::read(command, body) {
         Ok(_) => Reply::Data,
-        Err(FrameFault::CheckSum) => Reply::Again(StepFault::Refused(
-            command.code(),
-            STATUS_CKSUM_ERROR,
-        )),
-        Err(FrameFault::Status(status)) => Reply::Stop(StepFault::Refused(command.code(), status)),
+        Err(FrameFault::CheckSum) => Reply::Again(StepFault::Refused {
+            command: command.code(),
+            status: STATUS_CKSUM_ERROR,
+        }),
+        Err(FrameFault::Status(status)) => Reply::Stop(StepFault::Refused {
+            command: command.code(),
+            status,
+        }),
         Err(FrameFault::WrongCommand | FrameFault::WrongLength) => {
             Reply::Stop(StepFault::BadAnswer(command.code()))
         }
@@ -142,24 +145,22 @@ impl Conversation {
     fn attempt<L: Link>(
         &mut self,
         link: &mut L,
-        first: &[Command<'_>],
+        first: &Option<Command<'_>>,
         last: &Command<'_>,
     ) -> Result<Reply, Broken>
-        requires quiet { All BringsNoData first.now }
+        requires quiet { IfSome first.now BringsNoData }
         requires fits { FitsFrame last.now }
-        ensures replies { GetsReply (attempt (first.now ++ last.now ∷ []) []) last.now self.old.progress
+        ensures replies { GetsReply (attempt (commands_by first.now last.now) []) last.now self.old.progress
             (L.view link.old) (L.view link.new) result self.new }
         ensures comes { Stays L.comes_of link.old link.new }
     {
-        for command in first {
-            match self.exchange(link, command)? {
-                Reply::Data => {}
-                Reply::Again(fault) => return Ok(Reply::Again(fault)),
-                Reply::Stop(fault) => return Ok(Reply::Stop(fault)),
-            }
+        match first {
+            None => self.exchange(link, last),
+            Some(command) => match self.exchange(link, command)? {
+                Reply::Data => self.exchange(link, last),
+                short => Ok(short),
+            },
         }
-        let reply = self.exchange(link, last)?;
-        Ok(reply)
     }
 
     /// Plays a step: at most four attempts at the commands. Only the last one's answer brings data, which
@@ -167,19 +168,20 @@ impl Conversation {
     pub(crate) fn step<L: Link>(
         &mut self,
         link: &mut L,
-        first: &[Command<'_>],
+        first: &Option<Command<'_>>,
         last: &Command<'_>,
     ) -> Result<(), Stop>
-        requires quiet { All BringsNoData first.now }
+        requires quiet { IfSome first.now BringsNoData }
         requires fits { FitsFrame last.now }
         ensures asks { AsksLink
-            (EndsSteps (step (first.now ++ last.now ∷ [])) (λ done. data_held last.now self.new.held))
+            (EndsSteps (step (commands_by first.now last.now)) (λ done. data_held last.now self.new.held))
             self.old.progress (L.view link.old) (L.view link.new) result self.new.progress }
         ensures sized { OnOk result (SizedBy (shape last.now) (data_held last.now self.new.held)) }
         ensures comes { Stays L.comes_of link.old link.new }
     {
+        // It is returned only after an attempt has replaced it.
         let mut fault = StepFault::NoAnswer;
-        for tried in 0..ATTEMPTS {
+        for _tried in 0..ATTEMPTS {
             match self.attempt(link, first, last) {
                 Ok(Reply::Data) => return Ok(()),
                 Ok(Reply::Stop(stop)) => return Err(Stop::Fault(stop)),
@@ -204,11 +206,12 @@ fn append(out: &mut Vec<u8>, bytes: &[u8])
 pub(crate) fn play_step<L: Link>(
     conversation: &mut Conversation,
     link: &mut L,
-    first: &[Command<'_>],
+    first: &Option<Command<'_>>,
     last: &Command<'_>,
 ) -> Result<(), Stop>
-    requires brings { StepBrings 0 first.now last.now }
-    ensures asks { AsksLink (EndsInnerStep (with_step (first.now ++ last.now ∷ []) []) (without_step []))
+    requires sized { IsSizedStep first.now last.now }
+    requires none { step_brings last.now ≡ 0 }
+    ensures asks { AsksLink (EndsInnerStep (with_step (commands_by first.now last.now) []) (without_step []))
         conversation.old.progress (L.view link.old) (L.view link.new) result conversation.new.progress }
     ensures comes { Stays L.comes_of link.old link.new }
 {
@@ -219,17 +222,17 @@ pub(crate) fn play_step<L: Link>(
 pub(crate) fn read_step<L: Link>(
     conversation: &mut Conversation,
     link: &mut L,
-    first: &[Command<'_>],
+    first: &Option<Command<'_>>,
     last: &Command<'_>,
     out: &mut Vec<u8>,
 ) -> Result<(), Stop>
-    requires brings { StepBrings (data_count (shape last.now)) first.now last.now }
-    requires room { length out.old.items + data_count (shape last.now) ≤ vec_capacity out.old }
+    requires sized { IsSizedStep first.now last.now }
+    requires room { length out.old.items + step_brings last.now ≤ vec_capacity out.old }
     ensures asks { AsksLink
-        (EndsInnerStep (with_step (first.now ++ last.now ∷ []) out.old.items) (without_step out.new.items))
+        (EndsInnerStep (with_step (commands_by first.now last.now) out.old.items) (without_step out.new.items))
         conversation.old.progress (L.view link.old) (L.view link.new) result conversation.new.progress }
     ensures comes { Stays L.comes_of link.old link.new }
-    ensures size { OnOk result (length out.new.items ≡ length out.old.items + data_count (shape last.now)) }
+    ensures size { OnOk result (length out.new.items ≡ length out.old.items + step_brings last.now) }
     ensures room { vec_capacity out.old ≤ vec_capacity out.new }
 {
     conversation.step(link, first, last)?;

@@ -7,8 +7,8 @@ use avr_part::Mem;
 use std::fmt;
 use thiserror::Error;
 
-/// Why a step came to no data. No call answers it: a [`crate::Host`] tells it as its [`HostFault`]. It is public as a
-/// word of the definitions of steps, which contracts of other crates cite.
+/// Why a step failed. [`crate::Host`] reports it as the [`HostFault`] of the same name. It is public for the
+/// definitions of steps, which contracts of other crates cite.
 #[derive(Clone, Copy, Debug, Drop, PartialEq, Eq)]
 pub enum StepFault {
     /// No answer came to the last attempt.
@@ -18,7 +18,7 @@ pub enum StepFault {
     /// 4,096 bytes came to the last attempt, and no answer was among them.
     Babble,
     /// The command with this byte was answered with this status.
-    Refused(u8, u8),
+    Refused { command: u8, status: u8 },
     /// The command with this byte was answered by what is no answer to it.
     BadAnswer(u8),
 }
@@ -36,7 +36,7 @@ impl StepFault {
             StepFault::NoAnswer => 1,
             StepFault::LinkEnded => 2,
             StepFault::Babble => 4,
-            StepFault::Refused(_, _) => 5,
+            StepFault::Refused { .. } => 5,
             StepFault::BadAnswer(_) => 6,
         }
     }
@@ -61,7 +61,7 @@ pub(crate) enum Stop {
 /// Why a host could not do what was asked.
 ///
 /// ```text
-/// let fault = HostFault::Differs(Mem::Eeprom, 0x10, 0x55, 0xFF);
+/// let fault = HostFault::Differs { mem: Mem::Eeprom, addr: 0x10, want: 0x55, found: 0xFF };
 /// assert_eq!(rt; (fault.number(), fault.command_name()), (8, None));
 /// // a line on which nobody answers
 /// let part = Parts::none().find("m328p")?;
@@ -83,18 +83,25 @@ pub enum HostFault {
     #[error("no answer in 4096 bytes")]
     Babble,
     /// The programmer answered the command with this byte with this status (AVR068, "Status constants").
-    #[error("command {0:02X} refused with status {1:02X}")]
-    Refused(u8, u8),
+    #[error("command {command:02X} refused with status {status:02X}")]
+    Refused {
+        command: u8,
+        status: u8,
+    },
     /// The command with this byte was answered by what is no answer to it.
     #[error("command {0:02X}: bad answer")]
     BadAnswer(u8),
     /// The part has this signature, and not that of the part asked for.
     #[error("signature is {:02X} {:02X} {:02X}", .0[0], .0[1], .0[2])]
     WrongSignature([u8; 3]),
-    /// The memory has at this address another byte than the image: the memory, the address in bytes, the image's byte,
-    /// the memory's byte. No lower address differs.
-    #[error("{}: address {:08X}: {:02X} expected, {:02X} found", .0.name(), .1, .2, .3)]
-    Differs(Mem, u32, u8, u8),
+    /// At `addr` the image has the byte `want` and the memory the byte `found`. No lower address differs.
+    #[error("{}: address {addr:08X}: {want:02X} expected, {found:02X} found", .mem.name())]
+    Differs {
+        mem: Mem,
+        addr: u32,
+        want: u8,
+        found: u8,
+    },
     /// The memory can't be written: the signature or the calibration.
     #[error("{} is read-only", .0.name())]
     ReadOnly(Mem),
@@ -120,27 +127,29 @@ impl HostFault {
             HostFault::LinkEnded => 2,
             HostFault::SendFailed => 3,
             HostFault::Babble => 4,
-            HostFault::Refused(_, _) => 5,
+            HostFault::Refused { .. } => 5,
             HostFault::BadAnswer(_) => 6,
             HostFault::WrongSignature(_) => 7,
-            HostFault::Differs(_, _, _, _) => 8,
+            HostFault::Differs { .. } => 8,
             HostFault::ReadOnly(_) => 9,
             HostFault::Memory => 10,
             HostFault::RecvFailed => 11,
         }
     }
+
     /// AVR068's name of the command that was refused or had a bad answer; None for every other fault, and where the
     /// name of the byte isn't known.
     ///
     /// ```text
-    /// assert_eq!(rt; HostFault::Refused(0x12, 0xC0).command_name(), Some("CMD_CHIP_ERASE_ISP"));
+    /// let refused = HostFault::Refused { command: 0x12, status: 0xC0 };
+    /// assert_eq!(rt; refused.command_name(), Some("CMD_CHIP_ERASE_ISP"));
     /// assert_eq!(rt; HostFault::NoAnswer.command_name(), None);
     /// ```
     pub fn command_name(&self) -> Option<&'static str>
         ensures { option_map (λ name. name.now) result ≡ command_named self.now }
     {
         match self {
-            HostFault::Refused(command, _) | HostFault::BadAnswer(command) => {
+            HostFault::Refused { command, .. } | HostFault::BadAnswer(command) => {
                 stk_frame::command_name(*command)
             }
             _ => None,
@@ -151,14 +160,15 @@ impl HostFault {
     /// and where the name of the byte isn't known.
     ///
     /// ```text
-    /// assert_eq!(rt; HostFault::Refused(0x12, 0xC0).status_name(), Some("STATUS_CMD_FAILED"));
+    /// let refused = HostFault::Refused { command: 0x12, status: 0xC0 };
+    /// assert_eq!(rt; refused.status_name(), Some("STATUS_CMD_FAILED"));
     /// assert_eq!(rt; HostFault::BadAnswer(0x12).status_name(), None);
     /// ```
     pub fn status_name(&self) -> Option<&'static str>
         ensures { option_map (λ name. name.now) result ≡ status_named self.now }
     {
         match self {
-            HostFault::Refused(_, status) => stk_frame::status_name(*status),
+            HostFault::Refused { status, .. } => stk_frame::status_name(*status),
             _ => None,
         }
     }

@@ -1,5 +1,5 @@
 //! The host: operations over a link, and the fault after which it says nothing more.
-ghost use Rattle.std.specs.Prelude.{◌≡◌, ◌<◌, ◌≤◌, ◌^◌, [], length, Some, None, OnOk, OnErr};
+ghost use Rattle.std.specs.Prelude.{◌≡◌, ◌<◌, ◌≤◌, ◌^◌, [], length, Some, None, Ok, Err, OnOk, OnErr, MatchOption};
 ghost use Rattle.avr_part.specs.Part.{size_of};
 ghost use Rattle.stk_host.specs.declared.fault.HostFault.{HostFault};
 ghost use Rattle.ghosts.specs.Stays.{Stays};
@@ -73,7 +73,9 @@ fn fault_of(stop: Stop) -> HostFault
         Stop::Fault(StepFault::NoAnswer) => HostFault::NoAnswer,
         Stop::Fault(StepFault::LinkEnded) => HostFault::LinkEnded,
         Stop::Fault(StepFault::Babble) => HostFault::Babble,
-        Stop::Fault(StepFault::Refused(command, status)) => HostFault::Refused(command, status),
+        Stop::Fault(StepFault::Refused { command, status }) => {
+            HostFault::Refused { command, status }
+        }
         Stop::Fault(StepFault::BadAnswer(command)) => HostFault::BadAnswer(command),
         Stop::Link(Broken::Send) => HostFault::SendFailed,
         Stop::Link(Broken::Recv) => HostFault::RecvFailed,
@@ -102,8 +104,8 @@ fn judge_end(ended: Result<(), Stop>) -> Result<(), HostFault>
     ended.map_err(fault_of)
 }
 
-/// Keeps what was read, or nothing after a fault.
-fn keep(outcome: &Result<(), HostFault>, out: &mut Vec<u8>)
+/// Empties the vector after a fault.
+fn clear_on_fault(outcome: &Result<(), HostFault>, out: &mut Vec<u8>)
     ensures { out.new.items ≡ vector_after outcome.now out.old.items }
 {
     if outcome.is_err() {
@@ -138,6 +140,16 @@ fn lasting<T>(outcome: &Result<T, HostFault>) -> Option<HostFault>
 }
 
 impl Host {
+    /// Returns the fault that lasts, if there was one.
+    fn check(&self) -> Result<(), HostFault>
+        ensures { MatchOption self.now.broken (result ≡ Ok tt) (λ fault. result ≡ Err fault) }
+    {
+        match self.broken {
+            Some(fault) => Err(fault),
+            None => Ok(()),
+        }
+    }
+
     /// A host that has said nothing, for work on this part.
     ///
     /// ```text
@@ -173,9 +185,7 @@ impl Host {
         ensures stays { (fault : HostFault) → self.old.broken ≡ Some fault → link.new ≡ link.old }
         ensures comes { Stays L.comes_of link.old link.new }
     {
-        if let Some(fault) = self.broken {
-            return Err(fault);
-        }
+        self.check()?;
         let begun = begin(&mut self.conversation, link);
         let outcome = judge_signature(self.part.signature(), force, begun);
         self.broken = lasting(&outcome);
@@ -195,9 +205,7 @@ impl Host {
         ensures stays { (fault : HostFault) → self.old.broken ≡ Some fault → link.new ≡ link.old }
         ensures comes { Stays L.comes_of link.old link.new }
     {
-        if let Some(fault) = self.broken {
-            return Err(fault);
-        }
+        self.check()?;
         let erased = erase_chip(&mut self.conversation, link);
         let outcome = judge_end(erased);
         self.broken = lasting(&outcome);
@@ -224,9 +232,7 @@ impl Host {
         ensures stays { (fault : HostFault) → self.old.broken ≡ Some fault → link.new ≡ link.old }
         ensures comes { Stays L.comes_of link.old link.new }
     {
-        if let Some(fault) = self.broken {
-            return Err(fault);
-        }
+        self.check()?;
         if !mem.writable() {
             return Err(HostFault::ReadOnly(mem));
         }
@@ -264,15 +270,13 @@ impl Host {
         ensures comes { Stays L.comes_of link.old link.new }
     {
         out.clear();
-        if let Some(fault) = self.broken {
-            return Err(fault);
-        }
+        self.check()?;
         if out.reserve(self.part.size_of(mem) as usize).is_err() {
             return Err(HostFault::Memory);
         }
         let taken = read_memory(&mut self.conversation, link, &self.part, mem, out);
         let outcome = judge_end(taken);
-        keep(&outcome, out);
+        clear_on_fault(&outcome, out);
         self.broken = lasting(&outcome);
         outcome
     }
@@ -288,7 +292,8 @@ impl Host {
     /// let answers = b"\x1B\x01\x00\x04\x0E\x18\x00\x62\x00\x6A";
     /// let mut link = StreamLink::new(answers.as_slice(), Vec::new(alloc));
     /// let verified = Host::new(&part).verify(alloc, &mut link, Mem::Lfuse, &image);
-    /// assert!(rt; verified == Err(HostFault::Differs(Mem::Lfuse, 0, 0xE2, 0x62)));
+    /// let differs = HostFault::Differs { mem: Mem::Lfuse, addr: 0, want: 0xE2, found: 0x62 };
+    /// assert!(rt; verified == Err(differs));
     /// ```
     pub fn verify<L: Link>(
         &mut self,
@@ -304,9 +309,7 @@ impl Host {
         ensures stays { (fault : HostFault) → self.old.broken ≡ Some fault → link.new ≡ link.old }
         ensures comes { Stays L.comes_of link.old link.new }
     {
-        if let Some(fault) = self.broken {
-            return Err(fault);
-        }
+        self.check()?;
         let mut found = Vec::new(alloc);
         if found.reserve(self.part.size_of(mem) as usize).is_err() {
             return Err(HostFault::Memory);
@@ -330,9 +333,7 @@ impl Host {
         ensures stays { (fault : HostFault) → self.old.broken ≡ Some fault → link.new ≡ link.old }
         ensures comes { Stays L.comes_of link.old link.new }
     {
-        if let Some(fault) = self.broken {
-            return Err(fault);
-        }
+        self.check()?;
         let ended = end(&mut self.conversation, link);
         let outcome = judge_end(ended);
         self.broken = lasting(&outcome);

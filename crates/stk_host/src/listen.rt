@@ -12,7 +12,7 @@ use stk_frame::{Event, FrameReader, LARGEST_FRAME};
 
 /// The rest of a piece that was heard.
 #[derive(Drop)]
-pub struct Unread {
+pub(crate) struct Unread {
     piece: [u8; LARGEST_FRAME],
     start: usize,
     end: usize,
@@ -31,7 +31,7 @@ impl Model for Unread {
 
 impl Unread {
     /// Nothing.
-    pub fn new() -> Self
+    pub(crate) fn new() -> Self
         ensures { result ≡ [] }
     {
         Unread {
@@ -42,21 +42,21 @@ impl Unread {
     }
 
     /// Whether everything was read.
-    pub fn is_empty(&self) -> bool
+    pub(crate) fn is_empty(&self) -> bool
         ensures { IsTrue result ↔ (length self.now ≡ 0) }
     {
         self.start == self.end
     }
 
     /// How many they are.
-    pub fn len(&self) -> usize
+    pub(crate) fn len(&self) -> usize
         ensures { result ≡ length self.now }
     {
         self.end - self.start
     }
 
     /// The first bytes, at most so many.
-    pub fn prefix(&self, most: usize) -> &[u8]
+    pub(crate) fn prefix(&self, most: usize) -> &[u8]
         ensures { result.now ≡ take most self.now }
     {
         let size = most.min(self.end - self.start);
@@ -64,7 +64,7 @@ impl Unread {
     }
 
     /// So many bytes were read.
-    pub fn consume(&mut self, count: usize)
+    pub(crate) fn consume(&mut self, count: usize)
         requires { count ≤ length self.old }
         ensures left { self.new ≡ drop count self.old }
         ensures fits { length self.new ≤ LARGEST_FRAME }
@@ -73,7 +73,7 @@ impl Unread {
     }
 
     /// Listens for the next piece, of at most so many bytes.
-    pub fn hear<L: Link>(&mut self, link: &mut L, most: usize) -> Result<Heard, LinkFault>
+    pub(crate) fn hear<L: Link>(&mut self, link: &mut L, most: usize) -> Result<Heard, LinkFault>
         requires empty { length self.old ≡ 0 }
         requires room { 0 < most }
         ensures hears { HearsNext most (L.view link.old) (L.view link.new) self.new result }
@@ -90,12 +90,12 @@ impl Unread {
     }
 }
 
-/// How many bytes are read for one answer.
-const LIMIT: usize = 4096;
+/// How many bytes are read for one answer. [`crate::HostFault::Babble`] names the number in its message.
+const MOST_BYTES_PER_ANSWER: usize = 4096;
 
 /// How listening ended.
 #[derive(Clone, Copy)]
-pub enum Reading {
+pub(crate) enum Reading {
     /// The reader holds the answer.
     Answered,
     Silent,
@@ -145,15 +145,15 @@ pub(crate) fn listen<L: Link>(
 {
     reader.reset();
     let mut count = 0;
-    while count < LIMIT {
+    while count < MOST_BYTES_PER_ANSWER {
         if unread.is_empty() {
-            match unread.hear(link, LIMIT - count)? {
+            match unread.hear(link, MOST_BYTES_PER_ANSWER - count)? {
                 Heard::Bytes(_) => {}
                 Heard::Silence => return Ok(Reading::Silent),
                 Heard::End => return Ok(Reading::Ended),
             }
         }
-        let (used, event) = read_on(reader, unread, LIMIT - count);
+        let (used, event) = read_on(reader, unread, MOST_BYTES_PER_ANSWER - count);
         count += used;
         if is_answer(reader, event, seq) {
             return Ok(Reading::Answered);

@@ -21,7 +21,7 @@ fn signature_byte<L: Link>(
     ensures comes { Stays L.comes_of link.old link.new }
 {
     let command = Command::read_signature(place);
-    conversation.step(link, &[], &command)?;
+    conversation.step(link, &None, &command)?;
     Ok(conversation.data_read(&command)[0])
 }
 
@@ -31,8 +31,8 @@ pub(crate) fn begin<L: Link>(conversation: &mut Conversation, link: &mut L) -> R
         (L.view link.old) (L.view link.new) result conversation.new.progress }
     ensures comes { Stays L.comes_of link.old link.new }
 {
-    conversation.step(link, &[], &Command::SignOn)?;
-    conversation.step(link, &[], &Command::enter())?;
+    conversation.step(link, &None, &Command::SignOn)?;
+    conversation.step(link, &None, &Command::enter())?;
     let first = signature_byte(conversation, link, 0)?;
     let second = signature_byte(conversation, link, 1)?;
     let third = signature_byte(conversation, link, 2)?;
@@ -45,5 +45,5 @@ pub(crate) fn end<L: Link>(conversation: &mut Conversation, link: &mut L) -> Res
         (L.view link.old) (L.view link.new) result conversation.new.progress }
     ensures comes { Stays L.comes_of link.old link.new }
 {
-    conversation.step(link, &[], &Command::leave())
+    conversation.step(link, &None, &Command::leave())
 }

@@ -10,6 +10,7 @@ ghost use Rattle.stk_host.specs.Links.{StreamState, IsTrueSince, stream_view, He
 
 use crate::history::History;
 use crate::link::{Heard, Link, LinkFault};
+use ghosts::retry::{flush, read_some, write_some};
 use ghosts::{Inlet, Outlet};
 use std::io::{ErrorKind, Read, Write};
 use std::marker::Model;
@@ -34,7 +35,7 @@ pub struct StreamLink<R, W> {
     reader: R,
     writer: W,
     failures: u64,
-    error: Option<ErrorKind>,
+    last_error: Option<ErrorKind>,
     history: History,
 }
 
@@ -47,46 +48,9 @@ impl<R, W> Model for StreamLink<R, W> {
       reader = link.reader;
       writer = link.writer;
       failures = link.failures;
-      error = link.error;
+      last_error = link.last_error;
       talk = link.history.items;
     } };
-}
-
-/// Reads, and again where that was interrupted.
-fn read_bytes<R: Inlet>(reader: &mut R, buffer: &mut [u8]) -> io::Result<usize>
-    ensures bound { ReadsAtMost result buffer.new }
-    ensures ok { IfOk result (λ n. Consumes (R.remaining reader.old) (R.remaining reader.new) (take n buffer.new)) }
-    ensures end { IfOk result (λ n. n ≡ 0 → 0 < length buffer.old → IsAtEnd (R.remaining reader.new)) }
-    ensures err { OnErr result (Keeps (R.remaining reader.old) (R.remaining reader.new)) }
-    ensures again { IfErr result (λ error. error_kind error ≢ ErrorKind.Interrupted) }
-    ensures blocked { IfErr result (λ error. error_kind error ≡ ErrorKind.WouldBlock → R.is_silent reader.new) }
-    ensures timed { IfErr result (λ error. error_kind error ≡ ErrorKind.TimedOut → R.is_silent reader.new) }
-{
-    for _ in 0..u64::MAX {
-        match reader.read_in(buffer) {
-            Ok(count) => return Ok(count),
-            Err(error) if error.kind() == ErrorKind::Interrupted => {}
-            Err(error) => return Err(error),
-        }
-    }
-    Err(io::Error::other("interrupted too often"))
-}
-
-/// Writes, and again where that was interrupted.
-fn write_bytes<W: Write>(writer: &mut W, bytes: &[u8]) -> io::Result<usize>
-    ensures bound { WritesAtMost result bytes.now }
-    ensures ok { IfOk result (λ n. Appends (W.contents writer.old) (W.contents writer.new) (take n bytes.now)) }
-    ensures err { OnErr result (Keeps (W.contents writer.old) (W.contents writer.new)) }
-    ensures again { IfErr result (λ error. error_kind error ≢ ErrorKind.Interrupted) }
-{
-    for _ in 0..u64::MAX {
-        match writer.write(bytes) {
-            Ok(count) => return Ok(count),
-            Err(error) if error.kind() == ErrorKind::Interrupted => {}
-            Err(error) => return Err(error),
-        }
-    }
-    Err(io::Error::other("interrupted too often"))
 }
 
 /// Writes a prefix of the bytes, at least one where there is one, and flushes.
@@ -97,11 +61,8 @@ fn put_bytes<W: Outlet>(writer: &mut W, bytes: &[u8]) -> io::Result<usize>
     ensures err { OnErr result (AppendsPrefix (W.contents writer.old) (W.contents writer.new) bytes.now) }
     ensures out { OnOk result (W.is_out writer.new) }
 {
-    let count = write_bytes(writer, bytes)?;
-    if count == 0 && !bytes.is_empty() {
-        return Err(io::Error::from(ErrorKind::WriteZero));
-    }
-    writer.flush_out()?;
+    let count = write_some(writer, bytes)?;
+    flush(writer)?;
     Ok(count)
 }
 
@@ -114,7 +75,7 @@ fn hear_bytes<R: Inlet>(reader: &mut R, buffer: &mut [u8]) -> io::Result<Heard>
     ensures silent { IfOk result (λ heard. heard ≡ Silence → R.is_silent reader.new) }
     ensures fault { IfErr result (λ error. IsOfListening (Some (error_kind error))) }
 {
-    match read_bytes(reader, buffer) {
+    match read_some(reader, buffer) {
         Ok(0) => Ok(Heard::End),
         Ok(count) => Ok(Heard::Bytes(count)),
         Err(error) => match error.kind() {
@@ -134,13 +95,13 @@ impl<R, W> StreamLink<R, W> {
     /// assert!(rt; link.recv(&mut buffer)? == Heard::End);
     /// ```
     pub fn new(reader: R, writer: W) -> Self
-        ensures { result ≡ record { reader = reader; writer = writer; failures = 0; error = None; talk = [] } }
+        ensures { result ≡ record { reader = reader; writer = writer; failures = 0; last_error = None; talk = [] } }
     {
         StreamLink {
             reader,
             writer,
             failures: 0,
-            error: None,
+            last_error: None,
             history: History::new(),
         }
     }
@@ -170,9 +131,9 @@ impl<R, W> StreamLink<R, W> {
     /// assert_eq!(rt; link.last_error(), Some(std::io::ErrorKind::WriteZero));
     /// ```
     pub fn last_error(&self) -> Option<ErrorKind>
-        ensures { result ≡ self.now.error }
+        ensures { result ≡ self.now.last_error }
     {
-        self.error
+        self.last_error
     }
 
     /// The reader and the writer, as the calls so far have left them.
@@ -212,8 +173,8 @@ impl<R: Inlet + Drop, W: Outlet + Drop> Link for StreamLink<R, W> {
         ensures reader { self.new.reader ≡ self.old.reader }
         ensures sound { OnOk result (self.new.failures ≡ self.old.failures) }
         // A failure has an error, and a success leaves the last one.
-        ensures fault { OnErr result (IsSome self.new.error) }
-        ensures leaves { OnOk result (self.new.error ≡ self.old.error) }
+        ensures fault { OnErr result (IsSome self.new.last_error) }
+        ensures leaves { OnOk result (self.new.last_error ≡ self.old.last_error) }
     {
         match put_bytes(&mut self.writer, bytes) {
             Ok(count) => {
@@ -222,7 +183,7 @@ impl<R: Inlet + Drop, W: Outlet + Drop> Link for StreamLink<R, W> {
             }
             Err(error) => {
                 self.failures = self.failures.saturating_add(1);
-                self.error = Some(error.kind());
+                self.last_error = Some(error.kind());
                 Err(LinkFault::Failed)
             }
         }
@@ -240,8 +201,8 @@ impl<R: Inlet + Drop, W: Outlet + Drop> Link for StreamLink<R, W> {
         ensures kept { OnErr result (Keeps (R.remaining self.old.reader) (R.remaining self.new.reader)) }
         ensures writer { self.new.writer ≡ self.old.writer }
         // A failure has an error, which is no silence, and a success leaves the last one.
-        ensures fault { OnErr result (IsOfListening self.new.error) }
-        ensures leaves { OnOk result (self.new.error ≡ self.old.error) }
+        ensures fault { OnErr result (IsOfListening self.new.last_error) }
+        ensures leaves { OnOk result (self.new.last_error ≡ self.old.last_error) }
     {
         match hear_bytes(&mut self.reader, buffer) {
             Ok(heard) => {
@@ -250,7 +211,7 @@ impl<R: Inlet + Drop, W: Outlet + Drop> Link for StreamLink<R, W> {
             }
             Err(error) => {
                 self.failures = self.failures.saturating_add(1);
-                self.error = Some(error.kind());
+                self.last_error = Some(error.kind());
                 Err(LinkFault::Failed)
             }
         }
@@ -262,7 +223,7 @@ impl<R, W> fmt::Debug for StreamLink<R, W> {
     fn fmt<F: fmt::Write>(&self, f: &mut fmt::Formatter<F>) -> fmt::Result {
         f.debug_struct("StreamLink")
             .field("failures", &self.failures)
-            .field("last_error", &self.error)
+            .field("last_error", &self.last_error)
             .finish_non_exhaustive()
     }
 }

@@ -151,10 +151,9 @@ impl TapeLink {
             self.failures = self.failures.saturating_add(1);
             return Err(LinkFault::Failed);
         };
-        self.at = self
-            .items
-            .len()
-            .min(self.at.saturating_add(item_count(heard)));
+        // Behind the last item an end is heard that is none of the tape's.
+        let next = self.at.saturating_add(item_count(heard));
+        self.at = next.min(self.items.len());
         Ok(heard)
     }
 }

@@ -1,4 +1,4 @@
-//! A link that is watched: who stands by is told of each call of it, as a window that draws a bar.
+//! A link that reports each call to a watcher, such as a window that draws a progress bar.
 ghost use Rattle.std.specs.Prelude.{◌<◌, length};
 ghost use Rattle.ghosts.specs.Stays.{Stays};
 ghost use Rattle.stk_host.specs.Talk.{Sends, Receives};
@@ -6,30 +6,29 @@ ghost use Rattle.stk_host.specs.Watching.{ToldOfLink, Sent, Listened, link_told}
 
 use crate::link::{Heard, Link, LinkFault};
 
-/// A call of a link that is over: what it was given, and what it answered.
+/// A call of a link that has returned: its argument and its result.
 #[derive(Clone, Copy, Debug)]
 pub enum LinkCall<'a> {
-    /// So many of these bytes were sent.
+    /// [`Link::send`] was called with these bytes and returned this.
     Sent(&'a [u8], Result<usize, LinkFault>),
-    /// This was heard; bytes stand at the start of this buffer.
+    /// [`Link::recv`] returned this; the buffer begins with the bytes that were heard.
     Listened(&'a [u8], Result<Heard, LinkFault>),
 }
 
-/// Who is told of the calls of a link. A watcher can't touch the link or what a call answers.
+/// A watcher of the calls of a link. It can't change the link or what a call returns.
 ///
-/// Proofs that want to know what a watcher makes of what it is told say so by `after`. For all others it is
-/// `λ call old new. Unit {0}`.
+/// Proofs about what a watcher does with a call say it by `after`. All other watchers give `λ call old new. Unit {0}`.
 pub trait WatchLink {
-    /// The watcher has become this by being told of this call.
+    /// What this call makes of the watcher.
     ghost after: { ToldOfLink → Self → Self → Type 0 };
 
-    /// A call is over.
+    /// Called once for each call of the link, after it has returned.
     fn told(&mut self, call: &LinkCall<'_>)
         ensures { after (link_told call.now) self.old self.new };
 }
 
-/// A link and its watcher, which is told once of each call, when the link has answered it. It is a link as that within
-/// is: it shows the same, answers the same, and comes of the same.
+/// A link and its watcher, which hears of each call once, after the call has returned. As a link it does what the link
+/// within does.
 ///
 /// ```text
 /// #[derive(Drop)]
@@ -51,7 +50,7 @@ pub trait WatchLink {
 pub struct WatchedLink<L, W> {
     /// The link within.
     pub link: L,
-    /// Who watches it.
+    /// Its watcher.
     pub watcher: W,
 }
 

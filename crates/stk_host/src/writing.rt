@@ -1,13 +1,13 @@
 //! The steps that erase the chip, and that write an image to a memory.
-ghost use Rattle.std.specs.Prelude.{◌≡◌, ◌≤◌, ◌∷◌, [], length, ◌<◌, ◌-◌, ◌^◌};
+ghost use Rattle.std.specs.Prelude.{◌≡◌, ◌≤◌, ◌∷◌, [], length, ◌<◌, ◌+◌, ◌-◌, ◌^◌};
 ghost use Rattle.stk_frame.specs.HostCommands.{erase};
 ghost use Rattle.stk_host.specs.Steps.{play};
-ghost use Rattle.stk_host.specs.Calls.{EndsSteps, AsksLink, with_step, without_step, EndsInnerStep, MayAsk};
+ghost use Rattle.stk_host.specs.Calls.{EndsSteps, AsksLink, with_step, with_steps, without_step, EndsInnerStep, MayAsk};
 ghost use Rattle.ghosts.specs.Stays.{Stays};
 ghost use Rattle.avr_image.specs.Image.{byte_at, filled_bytes};
-ghost use Rattle.avr_part.specs.Part.{size_of};
-ghost use Rattle.stk_host.specs.WriteSteps.{page_step, byte_steps, write_steps};
+ghost use Rattle.stk_host.specs.WriteSteps.{page_step, page_steps, is_used, begins_run, run_steps_at, byte_steps, place_steps, place_count, write_steps};
 ghost use Rattle.stk_frame.specs.HostCommands as host;
+ghost use Rattle.stk_host.specs.Places.{each_from};
 ghost use Rattle.stk_host.specs.Places as places;
 
 use crate::conversation::{Conversation, play_step};
@@ -23,7 +23,17 @@ pub(crate) fn erase_chip<L: Link>(conversation: &mut Conversation, link: &mut L)
         (L.view link.old) (L.view link.new) result conversation.new.progress }
     ensures comes { Stays L.comes_of link.old link.new }
 {
-    play_step(conversation, link, &[], &Command::erase())
+    play_step(conversation, link, &None, &Command::erase())
+}
+
+/// Returns how many places are written in turn: the pages of flash, or the bytes of EEPROM.
+fn place_count(part: &Part, mem: Mem) -> u32
+    ensures { result ≡ place_count part.now mem }
+{
+    match mem {
+        Mem::Flash => part.size_of(Mem::Flash) / page_size(part, Mem::Flash),
+        _ => part.size_of(Mem::Eeprom),
+    }
 }
 
 /// The most bytes that a page has.
@@ -47,29 +57,7 @@ fn program_page<L: Link>(
     image.fill(start, &mut page[..size]);
     let load = load_flash(part, start);
     let program = Command::program_page(&page[..size]);
-    play_step(conversation, link, &[load], &program)
-}
-
-/// Programs each page of flash that has a byte of the image.
-fn write_flash<L: Link>(
-    conversation: &mut Conversation,
-    link: &mut L,
-    part: &Part,
-    image: &Image,
-) -> Result<(), Stop>
-    requires { length image.now ≤ size_of Mem.Flash part.now }
-    ensures asks { MayAsk (EndsSteps (play (write_steps part.now Mem.Flash image.now) []) (λ done. []))
-        conversation.old.progress (L.view link.old) (L.view link.new) result conversation.new.progress }
-    ensures comes { Stays L.comes_of link.old link.new }
-{
-    let size = page_size(part, Mem::Flash);
-    let mut next = 0;
-    while let Some(addr) = image.first_from(next * size) {
-        let page = addr / size;
-        program_page(conversation, link, part, image, page * size)?;
-        next = page + 1;
-    }
-    Ok(())
+    play_step(conversation, link, &Some(load), &program)
 }
 
 /// Programs the image's bytes from `start` to `end`, which lie in one page of EEPROM.
@@ -94,27 +82,107 @@ fn program_run<L: Link>(
     image.fill(start, &mut run[..size]);
     let load = load_eeprom(start);
     let program = Command::program_eeprom(&run[..size]);
-    play_step(conversation, link, &[load], &program)
+    play_step(conversation, link, &Some(load), &program)
 }
 
-/// Programs each longest run of the image's bytes inside one page of EEPROM.
-fn write_eeprom<L: Link>(
+/// Returns whether the image holds a byte in the page that begins at `start`.
+fn is_used(page: u32, image: &Image, start: u32) -> bool
+    requires { start + page < 2 ^ 32 }
+    ensures { result ≡ is_used page image.now start }
+{
+    for addr in start..start + page {
+        if image.get(addr).is_some() {
+            return true;
+        }
+    }
+    false
+}
+
+/// Returns whether a run of the image's bytes begins at this address of EEPROM.
+fn begins_run(page: u32, image: &Image, addr: u32) -> bool
+    requires { 0 < page }
+    ensures { result ≡ begins_run page image.now addr }
+{
+    image.get(addr).is_some() && (addr % page == 0 || image.get(addr - 1).is_none())
+}
+
+/// Programs the page of flash with this number, if the image has a byte in it.
+fn write_page<L: Link>(
     conversation: &mut Conversation,
     link: &mut L,
     part: &Part,
     image: &Image,
+    number: u32,
 ) -> Result<(), Stop>
-    requires { length image.now ≤ size_of Mem.Eeprom part.now }
-    ensures asks { MayAsk (EndsSteps (play (write_steps part.now Mem.Eeprom image.now) []) (λ done. []))
+    requires { number < place_count part.now Mem.Flash }
+    ensures asks { MayAsk (EndsInnerStep (with_steps (page_steps part.now image.now number) []) (without_step []))
+        conversation.old.progress (L.view link.old) (L.view link.new) result conversation.new.progress }
+    ensures comes { Stays L.comes_of link.old link.new }
+{
+    let size = page_size(part, Mem::Flash);
+    let start = number * size;
+    if !is_used(size, image, start) {
+        return Ok(());
+    }
+    program_page(conversation, link, part, image, start)
+}
+
+/// Programs the run of EEPROM that begins at this address, if one does.
+fn write_run<L: Link>(
+    conversation: &mut Conversation,
+    link: &mut L,
+    part: &Part,
+    image: &Image,
+    addr: u32,
+) -> Result<(), Stop>
+    requires { addr < place_count part.now Mem.Eeprom }
+    ensures asks { MayAsk (EndsInnerStep (with_steps (run_steps_at part.now image.now addr) []) (without_step []))
         conversation.old.progress (L.view link.old) (L.view link.new) result conversation.new.progress }
     ensures comes { Stays L.comes_of link.old link.new }
 {
     let size = page_size(part, Mem::Eeprom);
-    let mut next = 0;
-    while let Some(start) = image.first_from(next) {
-        let end = image.run_from(start, start - start % size + size);
-        program_run(conversation, link, image, start, end)?;
-        next = end;
+    if !begins_run(size, image, addr) {
+        return Ok(());
+    }
+    let end = image.run_from(addr, addr - addr % size + size);
+    program_run(conversation, link, image, addr, end)
+}
+
+/// Programs what the image has at this place of flash or EEPROM.
+fn write_place<L: Link>(
+    conversation: &mut Conversation,
+    link: &mut L,
+    part: &Part,
+    mem: Mem,
+    image: &Image,
+    place: u32,
+) -> Result<(), Stop>
+    requires { place < place_count part.now mem }
+    ensures asks { MayAsk (EndsInnerStep (with_steps (place_steps part.now mem image.now place) []) (without_step []))
+        conversation.old.progress (L.view link.old) (L.view link.new) result conversation.new.progress }
+    ensures comes { Stays L.comes_of link.old link.new }
+{
+    match mem {
+        Mem::Flash => write_page(conversation, link, part, image, place),
+        _ => write_run(conversation, link, part, image, place),
+    }
+}
+
+/// Programs each page of flash that has a byte of the image, or each longest run of its bytes in a page of EEPROM.
+fn write_places<L: Link>(
+    conversation: &mut Conversation,
+    link: &mut L,
+    part: &Part,
+    mem: Mem,
+    image: &Image,
+) -> Result<(), Stop>
+    ensures asks { MayAsk (EndsSteps (play (each_from (place_steps part.now mem image.now) 0 (place_count part.now mem))
+        []) (λ done. []))
+        conversation.old.progress (L.view link.old) (L.view link.new) result conversation.new.progress }
+    ensures comes { Stays L.comes_of link.old link.new }
+{
+    for place in 0..place_count(part, mem) {
+        write_place(conversation, link, part, mem, image, place)?;
     }
     Ok(())
 }
@@ -131,7 +199,12 @@ fn write_fuse<L: Link>(
     ensures comes { Stays L.comes_of link.old link.new }
 {
     match byte {
-        Some(value) => play_step(conversation, link, &[], &Command::program_fuse(fuse, value)),
+        Some(value) => play_step(
+            conversation,
+            link,
+            &None,
+            &Command::program_fuse(fuse, value),
+        ),
         None => Ok(()),
     }
 }
@@ -147,7 +220,7 @@ fn write_lock<L: Link>(
     ensures comes { Stays L.comes_of link.old link.new }
 {
     match byte {
-        Some(value) => play_step(conversation, link, &[], &Command::program_lock(value)),
+        Some(value) => play_step(conversation, link, &None, &Command::program_lock(value)),
         None => Ok(()),
     }
 }
@@ -160,14 +233,13 @@ pub(crate) fn write_memory<L: Link>(
     mem: Mem,
     image: &Image,
 ) -> Result<(), Stop>
-    requires { length image.now ≤ size_of mem part.now }
     ensures asks { MayAsk (EndsSteps (play (write_steps part.now mem image.now) []) (λ done. []))
         conversation.old.progress (L.view link.old) (L.view link.new) result conversation.new.progress }
     ensures comes { Stays L.comes_of link.old link.new }
 {
     match mem {
-        Mem::Flash => write_flash(conversation, link, part, image),
-        Mem::Eeprom => write_eeprom(conversation, link, part, image),
+        Mem::Flash => write_places(conversation, link, part, mem, image),
+        Mem::Eeprom => write_places(conversation, link, part, mem, image),
         Mem::Lfuse => write_fuse(conversation, link, Fuse::Low, image.get(0)),
         Mem::Hfuse => write_fuse(conversation, link, Fuse::High, image.get(0)),
         Mem::Efuse => write_fuse(conversation, link, Fuse::Extended, image.get(0)),

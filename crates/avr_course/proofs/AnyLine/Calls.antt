@@ -12,8 +12,7 @@ use Rattle.stk_emu.specs.Along.{along}
 use Rattle.avr_course.proofs.Hosts.Attempts.{along_bind, onward}
 use Rattle.avr_course.proofs.Hosts.AnyTurn.{asks≢done, done_is}
 use Rattle.avr_course.proofs.Hosts.Operations.{along_lifted, along_told}
-use Rattle.avr_session.specs.declared.standing.Standing.{Standing}
-use Rattle.avr_session.specs.declared.standing.Standing.TheVariants.{Fine}
+use Rattle.avr_session.specs.Standing.{Standing, Fine}
 use Rattle.avr_session.specs.Session.{says, standing, reported}
 use Rattle.avr_course.proofs.Plans.Standings.{after_fault, faulty_fine, over_fine}
 

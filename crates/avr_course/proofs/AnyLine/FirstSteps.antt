@@ -5,12 +5,12 @@ use Rattle.avr_part.specs.declared.part.Mem.TheVariants.{Flash, Eeprom, Lfuse, H
 use Rattle.avr_part.specs.Part.{Part, IsPart}
 use Rattle.stk_frame.specs.declared.command.Command.{Command}
 use Rattle.stk_host.specs.Places.{each_from}
-use Rattle.stk_host.specs.ReadSteps.{block_count, block_steps, signature_step, read_steps}
+use Rattle.stk_host.specs.ReadSteps.{read_count, read_step, read_steps}
 use Rattle.stk_emu.specs.Programmer.{Programmer}
 use Rattle.stk_emu.specs.Effect.{Memories, Item, effect, effects}
 use Rattle.stk_emu.specs.Settled.{Idle, FitsPart}
 use Rattle.stk_emu.specs.Strokes.{struck, struck_by, stroke_of, steps_of, all_steps, AllFitItems}
-use Rattle.avr_course.specs.Leads.{Reached}
+use Rattle.avr_course.proofs.Leads.{Reached}
 use Rattle.stk_emu.proofs.Answers.Commands.{settled_idle}
 use Rattle.avr_course.proofs.Strokes.Items.{items_do, struck_all, effect_sizes}
 
@@ -130,11 +130,11 @@ each_quiet steps_at place (suc count) each =
 
 -- to read writes nothing
 pub read_quiet : (part : Part) (mem : Mem) → AreQuiet (read_steps part mem)
-read_quiet part Flash = each_quiet (block_steps part Flash) 0 (block_count part.flash_size) (λ i. (refl, tt))
-read_quiet part Eeprom = each_quiet (block_steps part Eeprom) 0 (block_count part.eeprom_size) (λ i. (refl, tt))
+read_quiet part Flash = each_quiet (read_step part Flash) 0 (read_count part Flash) (λ i. (refl, tt))
+read_quiet part Eeprom = each_quiet (read_step part Eeprom) 0 (read_count part Eeprom) (λ i. (refl, tt))
 read_quiet part Lfuse = (refl, tt)
 read_quiet part Hfuse = (refl, tt)
 read_quiet part Efuse = (refl, tt)
 read_quiet part Lock = (refl, tt)
-read_quiet part Signature = each_quiet signature_step 0 3 (λ i. (refl, tt))
+read_quiet part Signature = each_quiet (read_step part Signature) 0 3 (λ i. (refl, tt))
 read_quiet part Calibration = (refl, tt)

@@ -19,7 +19,7 @@ use Rattle.avr_course.proofs.Strokes.Items.{write_are_steps, read_are_steps, ite
 use Rattle.avr_session.specs.Actions.{Action, OpenSession, EraseChip, WriteImage, CompareImage, SaveMemory, LeaveOut}
 use Rattle.avr_session.specs.Session.{session}
 use Rattle.avr_course.specs.AnyLine.{Weight, weighed, bodies_in}
-use Rattle.avr_course.specs.Bound.{action_steps, actions_steps, run_steps}
+use Rattle.avr_session.specs.PlanSteps.{action_steps, actions_steps, run_steps}
 use Rattle.avr_course.proofs.Plans.Fits.{FitsAction, AllFitActions, work, work_fits}
 use Rattle.avr_course.proofs.Bounds.Weights.{WeighsAtMost, weighed_append, session_weighs}
 

@@ -20,7 +20,7 @@ use Rattle.stk_emu.specs.Effect.{Memories, Image, Item, Erase, Write, effects, m
 use Rattle.stk_emu.specs.Settled.{Idle, Settled, FitsPart}
 use Rattle.stk_emu.specs.Strokes.{struck_by, steps_of, all_steps, AreSteps, AllFitItems}
 use Rattle.stk_emu.specs.Given.{all_given}
-use Rattle.avr_course.specs.Leads.{Leads, Reached, AfterBeginning}
+use Rattle.avr_course.proofs.Leads.{Leads, Reached, AfterBeginning}
 use Rattle.stk_emu.specs.Turn.{Turn}
 use Rattle.avr_course.proofs.Hosts.AnyTurn.{any_turn, Keeps, leads}
 use Rattle.stk_host.proofs.Dialogs.Logic.{Upholds, done, say, bind, told, wider, call}
@@ -32,8 +32,7 @@ use Rattle.avr_course.proofs.Strokes.Items.{write_are_steps, read_are_steps, ite
 use Rattle.avr_course.proofs.Given.WholeMemories.{read_gives}
 use Rattle.avr_course.proofs.Given.Comparisons.{no_difference}
 use Rattle.avr_course.proofs.Hosts.Operations.{AfterCall, operation_goes, beginning_goes}
-use Rattle.avr_session.specs.declared.standing.Standing.{Standing}
-use Rattle.avr_session.specs.declared.standing.Standing.TheVariants.{Fine, Faulty, Over}
+use Rattle.avr_session.specs.Standing.{Standing, Fine, Faulty, Over}
 use Rattle.avr_session.specs.Actions.{Action, OpenSession, EraseChip, WriteImage, CompareImage, SaveMemory, LeaveOut}
 use Rattle.avr_session.specs.Session.{says, standing, reported, unless_fault, fault_or, opening_says, erased_says, written_says, verified_says, read_says, left_out_says, phase, phases}
 use Rattle.avr_course.specs.Items.{action_items, actions_items}

@@ -19,8 +19,7 @@ use Rattle.avr_course.proofs.Hosts.AnyTurn.{any_turn}
 use Rattle.avr_course.proofs.Strokes.Steps.{leave_fits}
 use Rattle.avr_course.specs.Told.{TellsTrue}
 use Rattle.stk_emu.specs.Device.{Device}
-use Rattle.avr_session.specs.declared.standing.Standing.{Standing}
-use Rattle.avr_session.specs.declared.standing.Standing.TheVariants.{Fine, Faulty, Over}
+use Rattle.avr_session.specs.Standing.{Standing, Fine, Faulty, Over}
 use Rattle.avr_session.specs.Actions.{OpenSession}
 use Rattle.avr_cli.specs.declared.settings.Switches.{Switches}
 use Rattle.avr_session.specs.Session.{opening_says, closed_says, phase, phases, ending, status_of, session}

@@ -19,14 +19,13 @@ use Rattle.stk_emu.specs.Along.{along}
 use Rattle.stk_emu.specs.Effect.{Memories, Image, Item, Erase, Write, effects, memories_of}
 use Rattle.stk_emu.specs.Settled.{Idle, Settled, FitsPart}
 use Rattle.stk_emu.specs.Strokes.{struck_by, all_steps, AreSteps}
-use Rattle.avr_course.specs.Leads.{Leads}
-use Rattle.avr_course.specs.Tallies.{Count, with_next, then_count, Tallies, GoesOn}
+use Rattle.avr_course.proofs.Leads.{Leads, GoesOn}
+use Rattle.avr_course.specs.Tallies.{Count, with_next, then_count, Tallies}
 use Rattle.avr_course.proofs.Strokes.StepCounts.{items_counted}
 use Rattle.avr_course.proofs.Strokes.Items.{write_are_steps, item_are_steps}
 use Rattle.avr_course.proofs.Hosts.AnyTurn.{leads}
 use Rattle.avr_course.proofs.Strokes.Counts.{tallies_wider, tallies_told, tallies_bind}
-use Rattle.avr_session.specs.declared.standing.Standing.{Standing}
-use Rattle.avr_session.specs.declared.standing.Standing.TheVariants.{Fine}
+use Rattle.avr_session.specs.Standing.{Standing, Fine}
 use Rattle.avr_session.specs.Actions.{Action, OpenSession, EraseChip, WriteImage, actions}
 use Rattle.avr_session.specs.Session.{reported, opening_says, erased_says, written_says, closed_says, phase, phases, ending, playing, status_of, session}
 use Rattle.avr_course.specs.Items.{action_items, actions_items, items}

@@ -13,21 +13,19 @@ use Rattle.stk_emu.specs.Turn.{Turn}
 use Rattle.stk_emu.specs.Programmer.{Programmer}
 use Rattle.stk_emu.specs.Device.{device}
 use Rattle.stk_emu.specs.Along.{along}
-use Rattle.avr_course.specs.Climbs.{step_count, steps_done}
+use Rattle.avr_course.proofs.Leads.{Leads, GoesOn}
 use Rattle.stk_emu.specs.Effect.{Memories, Item, effects}
 use Rattle.stk_emu.specs.Settled.{Idle, Settled, FitsPart}
 use Rattle.stk_emu.specs.Strokes.{struck, struck_by, all_steps, AreSteps, AllFitItems}
-use Rattle.avr_course.specs.Leads.{Leads}
-use Rattle.avr_course.specs.Tallies.{Count, with_next, then_count, Tallies, GoesOn}
+use Rattle.avr_course.specs.Tallies.{Count, with_next, then_count, Tallies}
 use Rattle.avr_course.proofs.Hosts.Attempts.{along_bind, onward}
 use Rattle.avr_course.proofs.Hosts.AnyTurn.{asks≢done, done_is}
 use Rattle.avr_course.proofs.Strokes.Conditions.{along_before}
 use Rattle.stk_emu.proofs.Answers.Commands.{settled_idle}
 use Rattle.avr_course.proofs.Strokes.Counts.{tallies_wider, tallies_bind, steps_all, tallies_play, none_left}
-use Rattle.avr_session.specs.declared.standing.Standing.{Standing}
-use Rattle.avr_session.specs.declared.standing.Standing.TheVariants.{Fine, Faulty, Over}
+use Rattle.avr_session.specs.Standing.{Standing, Fine, Faulty, Over}
 use Rattle.avr_session.specs.Session.{reported, unless_fault}
-use Rattle.avr_course.specs.Made.{none_made, made_unless_fault}
+use Rattle.avr_course.specs.Made.{none_made, made_unless_fault, step_count, steps_done}
 use Rattle.avr_course.proofs.Plans.Standings.{faulty_fine, over_fine}
 use Rattle.avr_course.proofs.AnyLine.FirstSteps.{Rests, prefix, behind, struck_prefix, struck_behind, all_on, all_struck}
 use Rattle.avr_course.proofs.AnyLine.Phases.{Comes}

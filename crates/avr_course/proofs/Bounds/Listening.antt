@@ -19,7 +19,8 @@ use Rattle.stk_host.proofs.Dialogs.Questions.{sends_most}
 use Rattle.stk_emu.specs.Along.{AsksBodies}
 use Rattle.avr_course.proofs.Lines.InTurn.{sends_whole, frames_sent, due_at}
 use Rattle.avr_course.proofs.Given.LaterAnswers.{used_within}
-use Rattle.avr_course.specs.Bound.{run_steps, silences, bytes_on, ListensAtMost}
+use Rattle.avr_session.specs.PlanSteps.{run_steps}
+use Rattle.avr_course.specs.Bound.{silences, bytes_on, ListensAtMost}
 use Rattle.avr_course.proofs.AnyLine.FrameSizes.{session_asks}
 use Rattle.avr_course.proofs.Bounds.Questions.{session_most}
 
@@ -78,10 +79,6 @@ drops (suc n) (Byte b ∷ tape) le = let d = drops n tape (omega (arith, le)) in
     record { silent = d.silent; bytes = omega (arith, bytes) }
 drops (suc n) (Silence ∷ tape) le = absurd (omega (arith, le))
 drops (suc n) (End ∷ tape) le = absurd (omega (arith, le))
-
-abbrev used_of : Option (List ℕ × ℕ) → ℕ
-used_of None = 0
-used_of (Some (body, used)) = used
 
 abbrev left_of : Option (Reading × Tape) → Tape
 left_of None = []

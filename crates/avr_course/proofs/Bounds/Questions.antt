@@ -9,7 +9,7 @@ use Rattle.stk_host.specs.Bound.{AsksAtMost, SendsAtMost, commands_in}
 use Rattle.stk_host.specs.Dialog.{Dialog, Done, Say, Ask}
 use Rattle.stk_host.proofs.Dialogs.Questions.{sends_asked}
 use Rattle.avr_course.specs.AnyLine.{Weight, weighed, bodies_in}
-use Rattle.avr_course.specs.Bound.{run_steps}
+use Rattle.avr_session.specs.PlanSteps.{run_steps}
 use Rattle.avr_course.proofs.Bounds.Weights.{WeighsAtMost, weighed_append, session_weighs}
 
 abbrev one : Weight

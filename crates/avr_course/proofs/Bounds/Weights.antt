@@ -23,11 +23,10 @@ use Rattle.stk_host.specs.WriteSteps.{write_steps}
 use Rattle.stk_host.specs.ReadSteps.{signature_steps, read_steps}
 use Rattle.stk_host.specs.Operations.{handshake, signature_judged, opening, without_bytes, closing, judged_by, operation, no_result, erasing, writing, reading, comparison, verifying}
 use Rattle.stk_host.specs.Bound.{opening_steps, erasing_steps, closing_steps}
-use Rattle.avr_session.specs.declared.standing.Standing.{Standing}
-use Rattle.avr_session.specs.declared.standing.Standing.TheVariants.{Fine, Faulty, Over}
+use Rattle.avr_session.specs.Standing.{Standing, Fine, Faulty, Over}
 use Rattle.avr_session.specs.Actions.{Action, OpenSession, EraseChip, WriteImage, CompareImage, SaveMemory, LeaveOut, actions}
 use Rattle.avr_session.specs.Session.{says, standing, reported, unless_fault, fault_or, opening_says, erased_says, written_says, verified_says, closed_says, read_says, left_out_says, phase, phases, ending, status_of, session}
-use Rattle.avr_course.specs.Bound.{action_steps, actions_steps, run_steps}
+use Rattle.avr_session.specs.PlanSteps.{action_steps, actions_steps, run_steps}
 use Rattle.avr_course.specs.AnyLine.{Weight, weighed, bodies_in}
 
 -- whatever is read: what is left of a budget after each question

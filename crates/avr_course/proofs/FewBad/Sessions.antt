@@ -14,7 +14,7 @@ use Rattle.stk_emu.specs.Settled.{Idle, FitsPart}
 use Rattle.avr_course.specs.Few.{AreFew}
 use Rattle.avr_course.proofs.Given.FewBadTurns.{others_few, done_within}
 use Rattle.avr_session.specs.Session.{session}
-use Rattle.avr_course.specs.Bound.{run_steps}
+use Rattle.avr_session.specs.PlanSteps.{run_steps}
 use Rattle.avr_course.specs.Course.{course}
 use Rattle.avr_course.proofs.FewBad.DialogEnds.{Came}
 use Rattle.avr_course.proofs.FewBad.Calls.{few_calls}

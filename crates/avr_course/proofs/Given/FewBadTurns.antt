@@ -16,13 +16,12 @@ use Rattle.stk_emu.specs.Programmer.{Programmer}
 use Rattle.stk_emu.specs.Device.{Device, device}
 use Rattle.stk_emu.specs.Along.{LineState, along}
 use Rattle.stk_emu.specs.Effect.{Memories}
-use Rattle.avr_course.specs.Few.{bad, bad_became, bad_instead, bad_in, FewOf, AreFew, lost, each_second}
-use Rattle.avr_course.specs.Climbs.{Climbs}
+use Rattle.avr_course.specs.Few.{bad, bad_became, bad_instead, bad_in, FewOf, AreFew, lost, each_second, AreGood}
+use Rattle.avr_course.proofs.Leads.{Climbs}
 use Rattle.stk_emu.specs.Fits.{Fits}
 use Rattle.stk_emu.specs.Settled.{Ready, FitsPart}
 use Rattle.stk_emu.specs.Strokes.{struck, struck_by, IsStep, Erases, ProgramsPage, ProgramsRun, ProgramsFuse, ProgramsLock, ReadsFlash, ReadsEeprom, ReadsFuse, ReadsLock, ReadsSignature, ReadsCalibration, AreSteps}
 use Rattle.stk_emu.specs.Given.{on_data, reply_to, joined_reply, given_by, all_given}
-use Rattle.avr_course.specs.Leads.{AreGood}
 use Rattle.avr_course.proofs.Hosts.Attempts.{along_bind, onward, step_stands, Stepped}
 use Rattle.avr_course.proofs.Hosts.AnyTurn.{asks≢done, done_is, try_stands}
 use Rattle.avr_course.proofs.Given.FirstSteps.{are_some}

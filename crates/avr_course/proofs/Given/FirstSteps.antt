@@ -11,7 +11,7 @@ use Rattle.stk_emu.specs.Device.{device}
 use Rattle.stk_emu.specs.Along.{along}
 use Rattle.stk_emu.specs.Effect.{Memories, memories_of}
 use Rattle.stk_emu.specs.Settled.{Idle, Settled, FitsPart}
-use Rattle.avr_course.specs.Climbs.{AreSome, Climbs}
+use Rattle.avr_course.proofs.Leads.{AreSome, Climbs}
 use Rattle.stk_emu.specs.Strokes.{struck_by, IsStep, Erases, ProgramsPage, ProgramsRun, ProgramsFuse, ProgramsLock, ReadsFlash, ReadsEeprom, ReadsFuse, ReadsLock, ReadsSignature, ReadsCalibration, AreSteps}
 use Rattle.avr_course.proofs.Strokes.Conditions.{play_climbs}
 use Rattle.avr_course.proofs.Strokes.OutsideMode.{all_fit}

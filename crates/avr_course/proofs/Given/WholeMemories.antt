@@ -6,7 +6,7 @@ use Rattle.avr_part.specs.declared.part.Mem.{Mem}
 use Rattle.avr_part.specs.declared.part.Mem.TheVariants.{Flash, Eeprom, Lfuse, Hfuse, Efuse, Lock, Signature, Calibration}
 use Rattle.avr_part.specs.Part.{Part, IsPart}
 use Rattle.stk_host.specs.Places.{each_from}
-use Rattle.stk_host.specs.ReadSteps.{block_count, block_size, block_steps, read_steps}
+use Rattle.stk_host.specs.ReadSteps.{read_count, block_size, read_step, read_steps}
 use Rattle.stk_emu.specs.Effect.{Memories, memory_in}
 use Rattle.stk_emu.specs.Settled.{FitsPart}
 use Rattle.stk_emu.specs.Given.{all_given}
@@ -32,8 +32,8 @@ one_by_one (a ∷ b ∷ c ∷ []) e = refl
 one_by_one (a ∷ b ∷ c ∷ d ∷ xs) e = absurd (omega arith)
 
 module _ (part : Part) (sound : IsPart part) (m : Memories) (f : FitsPart part m) where
-  flash_blocks : (n k : ℕ) → n + k ≡ block_count part.flash_size
-      → all_given part (each_from (block_steps part Flash) n k) m ≡ drop (n * 256) m.flash
+  flash_blocks : (n k : ℕ) → n + k ≡ read_count part Flash
+      → all_given part (each_from (read_step part Flash) n k) m ≡ drop (n * 256) m.flash
   flash_blocks n zero e = let long = f.flash in sym (drop_all (n * 256) m.flash (omega (arith, e, long)))
   flash_blocks n (suc k) e =
       let most = sound.flash_most in
@@ -41,15 +41,15 @@ module _ (part : Part) (sound : IsPart part) (m : Memories) (f : FitsPart part m
       let even : n * 256 % 2 ≡ 0 = omega arith in
       let next : (n + 1) * 256 ≡ n * 256 + 256 = omega arith in
       ap (λ a. take (block_size part.flash_size (n * 256)) (drop a m.flash)
-      ++ all_given part (each_from (block_steps part Flash) (n + 1) k) m)
+      ++ all_given part (each_from (read_step part Flash) (n + 1) k) m)
       (flash_address_back part (n * 256) few even)
       ∙ (ap (λ ys. take (block_size part.flash_size (n * 256)) (drop (n * 256) m.flash) ++ ys)
       (flash_blocks (n + 1) k (let g : n + 1 + k ≡ n + suc k = omega arith in g ∙ e)
       ∙ ap (λ j. drop j m.flash) next)
       ∙ block_join m.flash (n * 256) part.flash_size f.flash)
 
-  eeprom_blocks : (n k : ℕ) → n + k ≡ block_count part.eeprom_size
-      → all_given part (each_from (block_steps part Eeprom) n k) m ≡ drop (n * 256) m.eeprom
+  eeprom_blocks : (n k : ℕ) → n + k ≡ read_count part Eeprom
+      → all_given part (each_from (read_step part Eeprom) n k) m ≡ drop (n * 256) m.eeprom
   eeprom_blocks n zero e = let long = f.eeprom in sym (drop_all (n * 256) m.eeprom (omega (arith, e, long)))
   eeprom_blocks n (suc k) e =
       let next : (n + 1) * 256 ≡ n * 256 + 256 = omega arith in
@@ -60,8 +60,8 @@ module _ (part : Part) (sound : IsPart part) (m : Memories) (f : FitsPart part m
 
   -- all blocks of a memory are the memory
   pub read_gives : (mem : Mem) → all_given part (read_steps part mem) m ≡ memory_in part mem m
-  read_gives Flash = flash_blocks 0 (block_count part.flash_size) (omega arith)
-  read_gives Eeprom = eeprom_blocks 0 (block_count part.eeprom_size) (omega arith)
+  read_gives Flash = flash_blocks 0 (read_count part Flash) (omega arith)
+  read_gives Eeprom = eeprom_blocks 0 (read_count part Eeprom) (omega arith)
   read_gives Lfuse = refl
   read_gives Hfuse = refl
   read_gives Efuse = refl

@@ -15,7 +15,7 @@ use Rattle.stk_emu.specs.Device.{Device}
 use Rattle.stk_emu.specs.Along.{along}
 use Rattle.stk_emu.specs.Fits.{after_commands, Fits}
 use Rattle.stk_emu.specs.Given.{on_data, joined_reply, reply_to, Gives}
-use Rattle.avr_course.specs.Leads.{Leads}
+use Rattle.avr_course.proofs.Leads.{Leads}
 
 -- no list of turns and no count of questions: what holds at each move holds along all lines
 abbrev pub any_turn : {P : Type 0} → Device P → World P Turn

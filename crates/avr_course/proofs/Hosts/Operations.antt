@@ -22,7 +22,7 @@ use Rattle.stk_emu.specs.Fits.{Fits}
 use Rattle.stk_emu.specs.Given.{given_by, all_given, Gives}
 use Rattle.stk_emu.specs.Settled.{Idle, Settled, FitsPart}
 use Rattle.stk_emu.specs.Strokes.{struck, struck_by, AreSteps, ReadsSignature}
-use Rattle.avr_course.specs.Leads.{Reached, AfterSteps, AfterBeginning}
+use Rattle.avr_course.proofs.Leads.{Reached, AfterSteps, AfterBeginning}
 use Rattle.avr_course.proofs.Hosts.Attempts.{along_bind, onward}
 use Rattle.avr_course.proofs.Strokes.Steps.{sign_on_fits, enter_fits}
 use Rattle.stk_emu.proofs.Answers.Commands.{settled_idle}

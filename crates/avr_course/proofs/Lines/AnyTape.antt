@@ -66,15 +66,9 @@ honest_turn m bytes p Kept (Answered body) (inl own) = absurd (never_own Kept ow
 honest_turn m bytes p Kept (Answered body) (inr e) = (ap (λ x. Answered x) (sym e), refl)
 honest_turn m bytes p (Anew became) (Answered body) (inl own) = absurd (not_anew became own.0)
 honest_turn m bytes p (Anew became) (Answered body) (inr e) = (ap (λ x. Answered x) (sym e), refl)
-honest_turn m bytes p Kept Silent h = (refl, refl)
-honest_turn m bytes p Obeyed Silent h = (refl, refl)
-honest_turn m bytes p (Anew became) Silent h = (refl, refl)
-honest_turn m bytes p Kept Ended h = (refl, refl)
-honest_turn m bytes p Obeyed Ended h = (refl, refl)
-honest_turn m bytes p (Anew became) Ended h = (refl, refl)
-honest_turn m bytes p Kept Babbled h = (refl, refl)
-honest_turn m bytes p Obeyed Babbled h = (refl, refl)
-honest_turn m bytes p (Anew became) Babbled h = (refl, refl)
+honest_turn m bytes p became Silent h = (refl, refl)
+honest_turn m bytes p became Ended h = (refl, refl)
+honest_turn m bytes p became Babbled h = (refl, refl)
 
 -- where no question is asked any more, nothing becomes of the programmer
 none_asked : {E R P : Type 0} (m : Device P) (d : Dialog E R) (p : P) (turns : List Turn)

@@ -10,7 +10,7 @@ use Rattle.stk_frame.proofs.Laws.{cut_first, frame_is_piece, frame_is_good}
 use Rattle.stk_host.specs.Tape.{Tape, Reading, answer, on_tape}
 use Rattle.stk_host.specs.Talk.{Talk, Sent, Got, sent, heard}
 use Rattle.stk_host.specs.Dialog.{Dialog, Done, Say, Ask, Event, Frame, Said, Played, played, by_answer, next, bytes_sent, sayings, frames_in}
-use Rattle.stk_host.specs.Play.{Position, position, IsDue, TurnsFrom, InTurn, Plays, Breaks, IsPrefixOfEvents, IsBegun, IsPrefixOf}
+use Rattle.stk_host.specs.Play.{Position, position, IsDue, TurnsFrom, InTurn, Plays, IsPrefixOfEvents, IsBegun, IsPrefixOf}
 use Rattle.stk_host.proofs.Talks.InDialogs.{bytes_append}
 use Rattle.stk_emu.specs.declared.fate.Fate.{Fate}
 use Rattle.stk_emu.specs.Programmer.{Programmer}
@@ -19,7 +19,6 @@ use Rattle.stk_emu.specs.Wire.{AreLawful, turns_of, becames_of, fresh_wire}
 use Rattle.stk_emu.specs.Wired.{WiredState, Keeps, NeverIdle, brought}
 use Rattle.stk_emu.specs.Lawful.{IsBody}
 use Rattle.stk_emu.specs.Along.{along, said_along, AsksBodies}
-use Rattle.avr_course.specs.Leads.{GoesAlong}
 use Rattle.stk_emu.proofs.Wires.Segments.{none_clear}
 use Rattle.stk_emu.proofs.Answers.BodySizes.{answers_bodies}
 use Rattle.avr_course.proofs.Given.LaterAnswers.{answer_extends}
@@ -235,46 +234,21 @@ module _ {E R : Type 0} (d : Dialog E R) (n : ℕ) (p : Programmer) (fates : Lis
       honest_prefix device d n (heard w.talk) w.waits p (becames_of all fates)
       (subst (λ t. AreHonest device d n t p (becames_of all fates)) brings ((goes_along prefix).honest all enough))
 
-  -- where the talk broke off the programmer stands along the line
-  pub broken_along : (SaidPart : E → E → Type 0) (shown : List (Event E))
-      → Breaks SaidPart d (position n []) w.talk shown
-      → w.wire.programmer ≡ (along device count d p (turns_of fates)).programmer
-  broken_along SaidPart shown breaks =
-      let prefix = shown_prefix SaidPart shown (played d n (heard w.talk)).events breaks.prefix in
-      ap (λ x. x.programmer) keeps.stands ∙ (goes_along
-      (prefix.0, ap (λ bs. bs ++ prefix.0) (sym breaks.all_sent) ∙ prefix.1)).programmer
+  -- the programmer stands along the line
+  pub stands_along : SendsFirst → w.wire.programmer ≡ (along device count d p (turns_of fates)).programmer
+  stands_along prefix = ap (λ x. x.programmer) keeps.stands ∙ (goes_along prefix).programmer
 
-  -- where it was whole the dialog has said the same and come to the same result there, and nothing is left
+  -- where the talk was whole the dialog has said the same and come to the same result there
   module _ (events : List (Event E)) (r : R) (after : Position)
-      (plays : Plays d (position n []) w.talk events r after) where
-    whole_goes : GoesOver device d n (fresh_wire p fates) (frames (sent w.talk)) p (turns_of fates)
-    whole_goes = goes_along (
-      [],
-      append-nil (sent w.talk) ∙ (sym plays.all_sent
-          ∙ sym (ap (λ t. bytes_sent (played d n t).events) (sym (append-nil (heard w.talk)))
-          ∙ ap (λ x. bytes_sent x.events) (plays.plays []))),
-    )
-
+      (plays : Plays d (position n []) w.talk events r after) (prefix : SendsFirst) where
     -- the play along the line
     over : played_along device count d n p (turns_of fates) []
         ≡ record { events = events; outcome = Some (r, after.next, on_tape after.unread ++ w.waits) }
-    over = sym whole_goes.play ∙ (ap (played d n) brings ∙ plays.plays w.waits)
+    over = sym (goes_along prefix).play ∙ (ap (played d n) brings ∙ plays.plays w.waits)
 
     pub whole_said : sayings events ≡ said_along device count d p (turns_of fates)
     whole_said = sym (ap (λ x. sayings x.events) over) ∙ said_played device count d n p (turns_of fates) []
 
-    pub whole_along : GoesAlong d p (turns_of fates) w r after.unread
-    whole_along =
-        let o = done_played device count d n p (turns_of fates) [] r after.next (on_tape after.unread ++ w.waits)
-        (ap (λ x. x.outcome) over) in
-        let none = none_before (on_tape after.unread) w.waits o.1 in
-        record {
-          programmer = ap (λ x. x.programmer) keeps.stands ∙ whole_goes.programmer;
-          result = o.0;
-          none_left = no_bytes after.unread none.0;
-          none_waits = none.1;
-        }
-      where
-        no_bytes : (left : List ℕ) → on_tape left ≡ [] → left ≡ []
-        no_bytes [] e = refl
-        no_bytes (b ∷ left) e = cc
+    pub whole_done : (along device count d p (turns_of fates)).dialog ≡ Done r
+    whole_done = (done_played device count d n p (turns_of fates) [] r after.next (on_tape after.unread ++ w.waits)
+        (ap (λ x. x.outcome) over)).0

@@ -2,18 +2,15 @@
 use Rattle.std.proofs.Common.{◌≡◌, ℕ, zero, suc, ◌+◌, ◌%◌, ◌≤◌, List, [], ◌∷◌, ◌++◌, length, take, drop, refl, sym, ap, ◌∙◌, arith, inl, inr, ◌⊎◌, Bool, true, false, Option, Some, None}
 use Rattle.std.proofs.lemmas.Bool.{cases_Bool, and_parts, eqb-true, false≢true, cond-true, cond-false}
 use Rattle.std.specs.Prelude.{◌==◌, nat_le, filter, replicate}
-use Rattle.stk_frame.specs.Frame.{frame}
 use Rattle.stk_frame.specs.Cut.{cut, frames, is_good, seq_of, body_of}
-use Rattle.stk_frame.proofs.Laws.{frame_is_good, body_of_frame}
+use Rattle.stk_frame.proofs.Laws.{body_of_frame}
 use Rattle.stk_host.specs.declared.link.Item.TheVariants.{Byte, Silence, End}
 use Rattle.stk_host.specs.Tape.{Tape, Reading, Answered, Silent, Ended, Babbled, answer, read_to, silence_or_end, first_answer, is_answer, further, bytes_in, limit}
-use Rattle.stk_host.specs.Dialog.{Dialog, Done, Say, Ask, Played, played, by_answer, next, frames_in, bytes_sent}
+use Rattle.stk_host.specs.Dialog.{Dialog, Done, Say, Ask, next}
 use Rattle.stk_emu.specs.Device.{Device, refusal}
 use Rattle.stk_emu.specs.Turn.{Became, Kept, Obeyed, Anew, after_became, IsHonest}
 use Rattle.avr_course.specs.AnyTape.{first_became, other_becames, on_answer, AreHonest, let_through, CameThrough}
-use Rattle.stk_emu.specs.Along.{AsksBodies}
 use Rattle.avr_course.proofs.Lines.Plays.{tail_is}
-use Rattle.avr_course.proofs.Lines.InTurn.{sends_whole, frames_prefix}
 use Rattle.avr_course.specs.NoFrame.{given, IsAmong, WasSent, WereSent, MakesNoFrame}
 use Rattle.avr_course.proofs.Lines.AnyTape.{HonestOn}
 
@@ -214,28 +211,3 @@ prefix_came got sent others is good = record {
   good = all_good (frames got) others (ap (filter is_good) (sym is) ∙ (good ∙ is))
       ∙ (sym (all_through (frames got) others) ∙ ap (let_through (replicate (length (frames got)) true)) (sym is));
 }
-
--- a play sends good frames
-good_by : {E R : Type 0} (go_on : Reading → Tape → Played E R) (o : Option (Reading × Tape))
-    → ((reading : Reading) (left : Tape) → filter is_good (frames_in (go_on reading left).events)
-    ≡ frames_in (go_on reading left).events)
-    → filter is_good (frames_in (by_answer go_on o).events) ≡ frames_in (by_answer go_on o).events
-good_by go_on None each = refl
-good_by go_on (Some (reading, left)) each = each reading left
-
-sends_good : {E R : Type 0} (d : Dialog E R) (n : ℕ) (t : Tape) → AsksBodies d
-    → filter is_good (frames_in (played d n t).events) ≡ frames_in (played d n t).events
-sends_good (Done r) n t asks = refl
-sends_good (Say e d) n t asks = sends_good d n t asks
-sends_good (Ask bytes go_on) n t asks =
-    cond-true (is_good (frame n bytes)) _ _ (frame_is_good n bytes asks.0.some)
-    ∙ ap (λ fs. frame n bytes ∷ fs) (good_by (λ reading. played (go_on reading) (next n)) (answer n t)
-    (λ reading left. sends_good (go_on reading) (next n) left (asks.1 reading)))
-
--- whoever got a prefix of the bytes that a play sends got the first of its frames
-pub prefix_of_play : {E R : Type 0} (d : Dialog E R) (n : ℕ) (t : Tape) (got later : List ℕ) → AsksBodies d
-    → got ++ later ≡ bytes_sent (played d n t).events
-    → CameThrough got (frames_in (played d n t).events) (replicate (length (frames got)) true)
-prefix_of_play d n t got later asks e =
-    let f = frames_prefix (played d n t).events got later (sends_whole d n t asks) e in
-    prefix_came got (frames_in (played d n t).events) f.0 f.1 (sends_good d n t asks)

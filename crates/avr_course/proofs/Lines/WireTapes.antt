@@ -10,12 +10,12 @@ use Rattle.stk_emu.specs.Device.{Device}
 use Rattle.stk_emu.specs.Wire.{first_fate, other_fates, turn_of, turns_of, becames_of, IsLawfulFate, AreLawful, Wire, wire_behind, wire_after, tape_of}
 use Rattle.stk_emu.specs.Lawful.{IsClear}
 use Rattle.stk_emu.specs.Turn.{Turn, Right, Wrong, became_in, after_became, after_turn, turn_reading}
-use Rattle.stk_emu.specs.Along.{along, AsksBodies, Fused}
+use Rattle.stk_emu.specs.Along.{along, AsksBodies}
 use Rattle.stk_emu.proofs.Answers.BodySizes.{AnswersBodies}
 use Rattle.stk_emu.proofs.Wires.Segments.{segment_read, segment_leaves, segment_late}
 use Rattle.avr_course.specs.AnyTape.{on_answer, AreHonest}
 use Rattle.avr_course.proofs.Lines.AnyTape.{turn_honest}
-use Rattle.avr_course.proofs.Lines.Plays.{played_along, done_played, head_is, tail_is, cons_none}
+use Rattle.avr_course.proofs.Lines.Plays.{played_along, head_is, tail_is, cons_none}
 
 pub turn_leaves : {P : Type 0} (turn : Turn) (obeyed kept : P) (reset : P → P)
     → after_turn turn obeyed kept reset ≡ after_became (became_in turn) obeyed kept reset
@@ -117,14 +117,3 @@ module _ {P : Type 0} (m : Device P) (answers : AnswersBodies m) where
       (answered bytes go_on n w sent (turns_of (other_fates w.fates)) read
       (subst (λ q. GoesOver m (go_on reading) (next n) w' sent q (turns_of (other_fates w.fates)))
       (segment_leaves m n bytes w asks.0) goes)))
-
-  pub fused : {E R : Type 0} (d : Dialog E R) (n : ℕ) (w : Wire P) (sent more : List (List ℕ)) → AsksBodies d
-      → IsClear n w.late → AreLawful w.fates
-      → frames_in (played d n (tape_of m sent w)).events ≡ sent ++ more → Fused m d n w sent
-  fused d n w sent more asks clear lawful e =
-      let goes = over_wire d n w sent more asks clear lawful e in
-      record {
-        programmer = goes.programmer;
-        outcome = λ r seq left o. done_played m (length sent) d n w.programmer (turns_of w.fates) [] r seq left
-            (sym (ap (λ x. x.outcome) goes.play) ∙ o);
-      }

@@ -5,8 +5,7 @@ use Rattle.avr_cli.specs.declared.settings.Switches.{Switches}
 use Rattle.avr_part.specs.Part.{Part}
 use Rattle.avr_part.specs.declared.part.Mem.{Mem}
 use Rattle.avr_plan.specs.Plan.{Plan}
-use Rattle.avr_session.specs.declared.standing.Standing.{Standing}
-use Rattle.avr_session.specs.declared.standing.Standing.TheVariants.{Fine, Faulty, Over}
+use Rattle.avr_session.specs.Standing.{Standing, Fine, Faulty, Over}
 use Rattle.avr_session.specs.Actions.{Action, OpenSession, EraseChip, WriteImage, CompareImage, SaveMemory, LeaveOut, actions}
 use Rattle.avr_session.specs.Session.{standing, status_of}
 use Rattle.stk_host.specs.Operations.{Difference, difference_from, differs}

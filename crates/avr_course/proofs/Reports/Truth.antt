@@ -24,7 +24,7 @@ use Rattle.stk_host.specs.declared.fault.StepFault.TheVariants as of_step
 use Rattle.stk_emu.specs.Turn.{Turn}
 use Rattle.stk_emu.specs.Device.{device}
 use Rattle.stk_emu.specs.Effect.{Memories, Image, Item, Erase, Write, effect, effects, memories_of, memory_in}
-use Rattle.avr_course.specs.Leads.{Leads}
+use Rattle.avr_course.proofs.Leads.{Leads}
 use Rattle.stk_emu.specs.Programmer.{Programmer}
 use Rattle.stk_emu.specs.Settled.{Idle, Settled, FitsPart}
 use Rattle.avr_course.proofs.Given.Comparisons.{no_difference}

@@ -6,7 +6,8 @@ use Rattle.stk_host.specs.Steps.{StepOutcome, exchange, attempt, tries, step, if
 use Rattle.stk_emu.specs.Turn.{Turn}
 use Rattle.stk_emu.specs.Device.{Device}
 use Rattle.stk_emu.specs.Along.{LineState, along}
-use Rattle.avr_course.specs.Climbs.{AllFit, AreSome, step_count, steps_done, Climbs}
+use Rattle.avr_course.proofs.Leads.{AllFit, AreSome, Climbs}
+use Rattle.avr_course.specs.Made.{step_count, steps_done}
 use Rattle.avr_course.proofs.Hosts.Attempts.{along_bind, onward, step_stands, Stepped, err≢ok}
 use Rattle.avr_course.proofs.Hosts.AnyTurn.{asks≢done, done_is}
 

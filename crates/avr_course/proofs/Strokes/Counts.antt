@@ -2,7 +2,7 @@
 use Rattle.std.proofs.Common.{◌≡◌, ℕ, zero, suc, ◌+◌, ◌-◌, ◌≤◌, List, [], ◌∷◌, ◌++◌, length, refl, sym, ap, ◌∙◌, subst, arith, ◌⊎◌, inl, inr, Ok, Err}
 use Rattle.avr_part.specs.Part.{Part, IsPart}
 use Rattle.stk_frame.specs.declared.command.Command.{Command}
-use Rattle.stk_host.specs.Dialog.{Dialog, Done, Say, Ask, ◌>>=◌, lifted}
+use Rattle.stk_host.specs.Dialog.{Dialog, Done, Say, Ask, ◌>>=◌}
 use Rattle.stk_host.specs.Steps.{StepOutcome, step, if_done, play}
 use Rattle.stk_emu.specs.Turn.{Turn}
 use Rattle.stk_emu.specs.Programmer.{Programmer}
@@ -10,15 +10,15 @@ use Rattle.stk_emu.specs.Device.{Device, device}
 use Rattle.stk_emu.specs.Along.{LineState, along}
 use Rattle.stk_emu.specs.Effect.{Memories}
 use Rattle.stk_emu.specs.Settled.{Settled}
-use Rattle.avr_course.specs.Climbs.{step_count, steps_done, Climbs}
+use Rattle.avr_course.specs.Made.{step_count, steps_done}
+use Rattle.avr_course.proofs.Leads.{Climbs, Leads, GoesOn}
 use Rattle.stk_emu.specs.Strokes.{struck_by, AreSteps}
-use Rattle.avr_course.specs.Leads.{Leads}
-use Rattle.avr_course.specs.Tallies.{Count, with_next, then_count, Tallies, GoesOn}
+use Rattle.avr_course.specs.Tallies.{Count, with_next, then_count, Tallies}
 use Rattle.avr_course.proofs.Hosts.Attempts.{along_bind, onward, err≢ok}
 use Rattle.avr_course.proofs.Hosts.AnyTurn.{asks≢done}
 use Rattle.avr_course.proofs.Strokes.Conditions.{along_before}
 use Rattle.avr_course.proofs.Given.FirstSteps.{steps_climb}
-use Rattle.avr_course.proofs.Hosts.Operations.{along_lifted, along_told}
+use Rattle.avr_course.proofs.Hosts.Operations.{along_told}
 
 pub none_left : {E R P : Type 0} (m : Device P) (d : Dialog E R) (p : P) (turns : List Turn)
     → (along m 0 d p turns).left ≡ 0
@@ -51,22 +51,6 @@ module _ {P : Type 0} (m : Device P) where
         stands =
             λ k. f _ _ (t.stands k);
       }
-
-  pub tallies_say : {E R : Type 0} (s : E) (d : Dialog E R) (done : Count P) (At : ℕ → P → Type 0) (p : P)
-      (turns : List Turn) → Tallies m d done At p turns → Tallies m (Say s d) done At p turns
-  tallies_say s d done At p turns t = record
-      { count = t.count; none = t.none; at_least = t.at_least; at_most = t.at_most; stands = λ k. t.stands k }
-
-  pub tallies_lifted : {R : Type 0} (E : Type 0) (d : Dialog ⊥ R) (done : Count P) (At : ℕ → P → Type 0) (p : P)
-      (turns : List Turn) → Tallies m d done At p turns → Tallies {E = E} m (lifted d) done At p turns
-  tallies_lifted E d done At p turns t = record {
-    count = t.count;
-    none = t.none;
-    at_least = t.at_least;
-    at_most = t.at_most;
-    stands = λ k. subst (λ q. At (t.count k) q) (sym (ap (λ s. s.programmer) (along_lifted {E = E} m k d p turns)))
-        (t.stands k);
-  }
 
   pub tallies_told : {E A B : Type 0} (d : Dialog E A) (tell : A → B) (done : Count P) (At : ℕ → P → Type 0) (p : P)
       (turns : List Turn) → Tallies m d done At p turns → Tallies m (d >>= (λ a. Done (tell a))) done At p turns

@@ -4,6 +4,7 @@ use Rattle.std.proofs.lemmas.Bool.{cases_lt, false≢true, and_parts}
 use Rattle.std.proofs.lemmas.List.{length-replicate, get_or-replicate}
 use Rattle.std.proofs.lemmas.Nat.{div-add-mod'}
 use Rattle.std.proofs.lemmas.List.Elements.{All-get_or, All-from_get_or}
+use Rattle.std.specs.Int.{div_ceil}
 use Rattle.avr_part.specs.Memory.{AreBytes, blank}
 use Rattle.stk_emu.proofs.Memories.Pages.{page_even}
 use Rattle.std.proofs.Math.Nat.{suc-mul, mul-le-mul_right}
@@ -18,7 +19,7 @@ use Rattle.stk_frame.specs.declared.host_command.Fuse.TheVariants.{Low, High, Ex
 use Rattle.stk_frame.specs.HostCommands.{program_fuse, program_lock}
 use Rattle.stk_host.specs.Places.{each_from}
 use Rattle.stk_host.specs.WriteSteps.{is_used, page_step, page_steps, page_end, begins_run, run_step, run_steps_at, byte_steps, write_steps}
-use Rattle.stk_host.specs.ReadSteps.{block_count, block_size, block_steps, signature_step, read_steps}
+use Rattle.stk_host.specs.ReadSteps.{read_count, block_size, read_step, read_steps}
 use Rattle.stk_emu.specs.Effect.{Memories, Image, Item, Erase, Write, effect, effects, with_image, and_in, and_with, are_locked, erase_keeps_eeprom}
 use Rattle.stk_emu.specs.Settled.{FitsPart}
 use Rattle.stk_emu.specs.Strokes.{struck, struck_by, stroke_of, strokes_of, IsStep, Erases, ProgramsPage, ProgramsRun, ProgramsFuse, ProgramsLock, ReadsFlash, ReadsEeprom, ReadsFuse, ReadsLock, ReadsSignature, ReadsCalibration, AreSteps, IsBlock, AreWords, steps_of, all_steps, FitsItem, AllFitItems}
@@ -247,18 +248,18 @@ module _ (part : Part) (sound : IsPart part) where
   block_words : (number size : ℕ) → size % 2 ≡ 0 → AreWords (number * 256) (min 256 (size - number * 256))
   block_words number size even = record { start_even = omega arith; count_even = omega (arith, even) }
 
-  block_is : (mem : Mem) (number : ℕ) → number < block_count (size_of mem part)
+  block_is : (mem : Mem) (number : ℕ) → number < div_ceil (size_of mem part) 256
       → IsBlock part mem (number * 256) (block_size (size_of mem part) (number * 256))
   block_is mem number l = record { some = omega (arith, l); few = omega arith; inside = omega (arith, l) }
 
   pub read_are_steps : (mem : Mem) → AreSteps part (read_steps part mem)
-  read_are_steps Flash = each_step part (block_steps part Flash) 0 (block_count part.flash_size)
+  read_are_steps Flash = each_step part (read_step part Flash) 0 (read_count part Flash)
       (λ i a l. (
         ReadsFlash (i * 256) (block_size part.flash_size (i * 256)) (block_is Flash i (omega (arith, l)))
             (block_words i part.flash_size flash_even) refl,
         tt,
       ))
-  read_are_steps Eeprom = each_step part (block_steps part Eeprom) 0 (block_count part.eeprom_size)
+  read_are_steps Eeprom = each_step part (read_step part Eeprom) 0 (read_count part Eeprom)
       (λ i a l. (
         ReadsEeprom (i * 256) (block_size part.eeprom_size (i * 256)) (block_is Eeprom i (omega (arith, l)))
             refl,
@@ -268,5 +269,6 @@ module _ (part : Part) (sound : IsPart part) where
   read_are_steps Hfuse = (ReadsFuse High refl, tt)
   read_are_steps Efuse = (ReadsFuse Extended refl, tt)
   read_are_steps Lock = (ReadsLock refl, tt)
-  read_are_steps Signature = each_step part signature_step 0 3 (λ i a l. (ReadsSignature i (omega (arith, l)) refl, tt))
+  read_are_steps Signature = each_step part (read_step part Signature) 0 3
+      (λ i a l. (ReadsSignature i (omega (arith, l)) refl, tt))
   read_are_steps Calibration = (ReadsCalibration refl, tt)

@@ -20,7 +20,7 @@ use Rattle.stk_emu.specs.Device.{device}
 use Rattle.stk_emu.specs.Effect.{Memories}
 use Rattle.stk_emu.specs.Settled.{Settled, Ready}
 use Rattle.stk_emu.specs.Fits.{after_commands, Fits}
-use Rattle.avr_course.specs.Climbs.{AllFit}
+use Rattle.avr_course.proofs.Leads.{AllFit}
 use Rattle.stk_emu.specs.Given.{on_data, reply_to, joined_reply}
 use Rattle.stk_emu.specs.Strokes.{struck, struck_by, IsStep, Erases, ProgramsPage, ProgramsRun, ProgramsFuse, ProgramsLock, ReadsFlash, ReadsEeprom, ReadsFuse, ReadsLock, ReadsSignature, ReadsCalibration, AreSteps}
 use Rattle.stk_emu.proofs.Answers.Commands.{obeys, obeyed_none, steady, ready_settled, settled_ready, anew_settled}

@@ -20,7 +20,7 @@ use Rattle.stk_emu.specs.Device.{device}
 use Rattle.stk_emu.specs.Effect.{Memories, Item, Erase, Write, effect, write_effect, with_image, and_in, are_locked, erase_keeps_eeprom}
 use Rattle.stk_emu.specs.Settled.{Idle, Settled, Ready}
 use Rattle.stk_emu.specs.Fits.{Fits}
-use Rattle.avr_course.specs.Climbs.{AllFit}
+use Rattle.avr_course.proofs.Leads.{AllFit}
 use Rattle.stk_emu.specs.Strokes.{struck, struck_by, IsStep, Erases, ProgramsPage, ProgramsRun, ProgramsFuse, ProgramsLock, ReadsFlash, ReadsEeprom, ReadsFuse, ReadsLock, ReadsSignature, ReadsCalibration, AreSteps, IsPage, FitsEepromPage, IsBlock, AreWords}
 use Rattle.stk_emu.proofs.Memories.LaidImages.{laid_twice, and_in_twice, and_byte, laid_byte}
 use Rattle.stk_emu.proofs.Answers.Commands.{one_fits, steady, one_steady, two_steady, settled_idle, ready_settled, ready_idle, anew_idle, anew_settled, sign_on_keeps, enter_does, leave_keeps, load_keeps, fuse_does, lock_does, erase_does, fuse_read_after, lock_read_after, signature_read_after, calibration_read_after}

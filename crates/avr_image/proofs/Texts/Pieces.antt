@@ -40,3 +40,8 @@ pub all_written : (old now : Option (List ℕ)) (left whole : List ℕ) → Writ
     → Appends old now whole
 all_written old now left whole written none =
     subst (Appends old now) (is_whole written.prefix left whole written.split none) written.appended
+
+-- what the loops need that join pieces, or write them
+pub ruleset joins = (goes_on, is_whole, none_left)
+
+pub ruleset writes = (piece_written, all_written, none_left)

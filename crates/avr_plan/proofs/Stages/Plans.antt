@@ -102,8 +102,8 @@ went_whole_plan s old first mid new parts part tasks went found made =
     (went_into (tasks_stage s.switches part [] s.updates) (plan_of s part) mid new tasks made))
 
 -- no part has the id, whatever it is called here
-pub lacks_part : (id own : Bytes) (parts : List Part) (old mid new : DeskView) → id ≡ own
-    → ◌≡◌ {A = Result (List Part) ℕ} (Ok parts) (Ok []) → mid ≡ old → LacksPart id parts mid new
+pub lacks_part : {E : Type 0} (id own : Bytes) (parts : List Part) (old mid new : DeskView) → id ≡ own
+    → ◌≡◌ {A = Result (List Part) E} (Ok parts) (Ok []) → mid ≡ old → LacksPart id parts mid new
     → LacksPart own [] old new
 lacks_part id own parts old mid new same given view lacks =
     let none : parts ≡ [] = cc in

@@ -1,15 +1,13 @@
 -- What the first bytes of a file show.
-use Rattle.std.proofs.Common.{◌≡◌, ◌∙◌, ap, refl, arith, ℕ, zero, suc, ◌+◌, ◌≤◌, ◌<◌, List, [], ◌∷◌, ◌++◌, length, take, Bool, true, false, nat_le, not, find, Some, inl, inr}
+use Rattle.std.proofs.Common.{◌≡◌, ◌∙◌, refl, arith, ℕ, zero, suc, ◌+◌, ◌≤◌, ◌<◌, List, [], ◌∷◌, ◌++◌, length, take, Bool, true, false, nat_le, not, find, Some, inl, inr}
 use Rattle.std.proofs.lemmas.Bool.{cases_Bool}
 use Rattle.std.proofs.lemmas.Bool.Decides.{nat_tests}
-use Rattle.std.proofs.lemmas.List.{length-append}
 use Rattle.std.proofs.lemmas.List.Sums.{prefix_len-le-length}
 use Rattle.std.specs.List.{list_all, prefix_len}
 use Rattle.avr_records.proofs.Readers.Fed.{line-first}
 use Rattle.avr_records.specs.Detect.{kind_of_line}
 use Rattle.avr_records.specs.Lines.{lines, is_blank}
 use Rattle.avr_records.specs.declared.kind.Found.{Found}
-use Rattle.avr_records.specs.declared.kind.Found.TheVariants.{Raw}
 
 le-both : (n a : ℕ) → nat_le n a ≡ nat_le (suc n) (1 + a)
 le-both n a = grind (arith, nat_tests)

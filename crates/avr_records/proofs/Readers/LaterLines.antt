@@ -28,24 +28,33 @@ first_fault-append size (p ∷ ps) qs none =
     let parts = or_later-none (length p.0 + 1) (fault_in size p) (first_fault size ps) none in
     rw parts.0 (first_fault-append size ps qs parts.1)
 
-pub up_to_end-open : (xs ys : List Said) → list_any is_end xs ≡ false → up_to_end (xs ++ ys) ≡ xs ++ up_to_end ys
+pub up_to_end-open : (xs ys : List Said) → list_any is_end (up_to_end xs) ≡ false
+    → up_to_end (xs ++ ys) ≡ up_to_end xs ++ up_to_end ys
 up_to_end-open [] ys none = refl
 up_to_end-open (x ∷ xs) ys none =
     elim (cases_Bool (is_end x)) [
       | inl t ↦ absurd (grind (arith, t, none))
       | inr f ↦
-          let more : list_any is_end xs ≡ false = rw f at none in
+          let more : list_any is_end (up_to_end xs) ≡ false = rw (f, f) at none in
           rw f (ap (λ (zs : List Said). x ∷ zs) (up_to_end-open xs ys more))
     ]
 
-pub up_to_end-done : (xs ys : List Said) → list_any is_end xs ≡ true → up_to_end (xs ++ ys) ≡ up_to_end xs
+pub up_to_end-done : (xs ys : List Said) → list_any is_end (up_to_end xs) ≡ true → up_to_end (xs ++ ys) ≡ up_to_end xs
 up_to_end-done [] ys some = absurd (grind (arith, some))
 up_to_end-done (x ∷ xs) ys some =
     elim (cases_Bool (is_end x)) [
       | inl t ↦ rw t refl
       | inr f ↦
-          let more : list_any is_end xs ≡ true = rw f at some in
+          let more : list_any is_end (up_to_end xs) ≡ true = rw (f, f) at some in
           rw f (ap (λ (zs : List Said). x ∷ zs) (up_to_end-done xs ys more))
+    ]
+
+pub up_to_end-any : (xs : List Said) → list_any is_end (up_to_end xs) ≡ list_any is_end xs
+up_to_end-any [] = refl
+up_to_end-any (x ∷ xs) =
+    elim (cases_Bool (is_end x)) [
+      | inl t ↦ rw (t, t) refl
+      | inr f ↦ rw (f, f) (up_to_end-any xs)
     ]
 
 pub parts-some : (p : ℕ → Bool) (xs : List ℕ)

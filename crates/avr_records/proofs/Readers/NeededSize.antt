@@ -1,33 +1,37 @@
 -- The size that a file needs is the least into which it reads.
-use Rattle.std.proofs.Common.{◌≡◌, ◌∙◌, sym, ap, refl, arith, ℕ, ◌+◌, ◌<◌, ◌≤◌, List, [], ◌∷◌, ◌++◌, length, map, flat_map, Option, Some, None, option_map, Result, Ok, Err, nat_lt, false, true, inl, inr}
+use Rattle.std.proofs.Common.{◌≡◌, ◌∙◌, ap, refl, arith, ℕ, ◌+◌, ◌<◌, ◌≤◌, List, [], ◌∷◌, length, map, max, flat_map, count_by, Option, Some, None, option_map, Ok, Err, nat_lt, true, inl, inr}
 use Rattle.std.proofs.lemmas.Bool.{cases_Bool}
 use Rattle.std.proofs.lemmas.Bool.Decides.{nat_tests}
 use Rattle.avr_records.specs.Lines.{lines}
 use Rattle.avr_records.specs.Meaning.{Nothing, Data, Rebase, Counted, End}
-use Rattle.avr_records.specs.Needed.{largest, end_of, size_or_fault, needed_in_text}
-use Rattle.avr_records.specs.Reading.{Said, up_to_end, in_place, first_fault, fault_in, placed_bytes, beyond, said_by_line, file_ending, image_or_fault, image_in_text}
+use Rattle.avr_records.specs.Needed.{largest, end_past, end_of, size_or_fault, needed_in_text}
+use Rattle.avr_records.specs.Reading.{Said, is_data, up_to_end, in_place, all_placed, first_fault, fault_in, fault_under, base_after, placed_bytes, placed_under, beyond, said_by_line, file_ending, image_or_fault, image_in_text}
 use Rattle.avr_image.specs.Image.{image_of_pairs}
 use Rattle.avr_records.specs.declared.kind.Kind.{Kind}
 use Rattle.avr_records.specs.declared.kind.Ending.{Ending}
 use Rattle.avr_records.specs.declared.fault.LineFault.{LineFault}
+use Rattle.avr_records.specs.declared.fault.LineFault.TheVariants.{Range}
+use Rattle.avr_records.specs.declared.kind.Base.{Base}
 use Rattle.avr_records.specs.declared.fault.RecordFault.{RecordFault}
-use Rattle.avr_records.proofs.Readers.Extents.{end-of-append}
 use Rattle.avr_records.proofs.Readers.LaterLines.{or_later-none}
+use Rattle.avr_records.proofs.Texts.Places.{beyond-append, beyond-parts}
 
-inside : (size : ℕ) (places : List (ℕ × ℕ)) → end_of places ≤ size → beyond size places ≡ None
-inside size [] l = refl
-inside size (p ∷ ps) l =
-    let here : nat_lt p.0 size ≡ true = let below : p.0 < size = omega (arith, l) in grind (arith, nat_tests, below) in
-    rw here (inside size ps (omega (arith, l)))
+inside : (size end : ℕ) (places : List (ℕ × ℕ)) → end_past end places ≤ size
+    → (end ≤ size) × (beyond size places ≡ None)
+inside size end [] l = (l, refl)
+inside size end (p ∷ ps) l =
+    let rest = inside size (max end (p.0 + 1)) ps l in
+    let below : p.0 < size = omega (arith, rest.0) in
+    let here : nat_lt p.0 size ≡ true = grind (arith, nat_tests, below) in
+    (omega (arith, rest.0), rw here rest.1)
 
-reaches : (size : ℕ) (places : List (ℕ × ℕ)) → beyond size places ≡ None → end_of places ≤ size
-reaches size [] none = omega arith
-reaches size (p ∷ ps) none =
+reaches : (size end : ℕ) (places : List (ℕ × ℕ)) → end ≤ size → beyond size places ≡ None → end_past end places ≤ size
+reaches size end [] l none = l
+reaches size end (p ∷ ps) l none =
     elim (cases_Bool (nat_lt p.0 size)) [
       | inl t ↦
-          let rest = reaches size ps (rw t at none) in
           let below : p.0 < size = grind (arith, nat_tests, t) in
-          omega (arith, below, rest)
+          reaches size (max end (p.0 + 1)) ps (omega (arith, below, l)) (rw t at none)
       | inr f ↦ cc (rw f at none)
     ]
 
@@ -35,58 +39,42 @@ none-mapped : (f : ℕ → LineFault) (found : Option ℕ) → option_map f foun
 none-mapped f None is = refl
 none-mapped f (Some n) is = cc is
 
--- a line that is good for the largest memory is good for each that its bytes fit in
-good-inside : (size : ℕ) (before : List Said) (line : Said) → fault_in largest (before, line) ≡ None
-    → end_of (placed_bytes (before, line)) ≤ size
-    → fault_in size (before, line) ≡ None
-good-inside size before (Err fault) none l = none
-good-inside size before (Ok Nothing) none l = refl
-good-inside size before (Ok (Data offset bytes)) none l =
-    rw (inside size (placed_bytes (before, Ok (Data offset bytes))) l) refl
-good-inside size before (Ok (Rebase base)) none l = refl
-good-inside size before (Ok (Counted n)) none l = none
-good-inside size before (Ok End) none l = refl
+-- a line that is good for one memory is good for each that its bytes lie in
+good : (size other : ℕ) (base : Base) (count : ℕ) (line : Said) → fault_under size base count line ≡ None
+    → beyond other (placed_under base line) ≡ None → fault_under other base count line ≡ None
+good size other base count (Err fault) none lies' = none
+good size other base count (Ok Nothing) none lies' = refl
+good size other base count (Ok (Data offset bytes)) none lies' = ap (option_map Range) lies'
+good size other base count (Ok (Rebase new)) none lies' = refl
+good size other base count (Ok (Counted n)) none lies' = none
+good size other base count (Ok End) none lies' = refl
 
--- and its bytes fit into each memory that it is good for
-fits-inside : (size : ℕ) (before : List Said) (line : Said) → fault_in size (before, line) ≡ None
-    → end_of (placed_bytes (before, line)) ≤ size
-fits-inside size before (Err fault) none = cc none
-fits-inside size before (Ok Nothing) none = omega arith
-fits-inside size before (Ok (Data offset bytes)) none = reaches size _ (none-mapped _ _ none)
-fits-inside size before (Ok (Rebase base)) none = omega arith
-fits-inside size before (Ok (Counted n)) none = omega arith
-fits-inside size before (Ok End) none = omega arith
+-- and its bytes lie in that one
+lies : (size : ℕ) (base : Base) (count : ℕ) (line : Said) → fault_under size base count line ≡ None
+    → beyond size (placed_under base line) ≡ None
+lies size base count (Err fault) none = refl
+lies size base count (Ok Nothing) none = refl
+lies size base count (Ok (Data offset bytes)) none = none-mapped _ _ none
+lies size base count (Ok (Rebase new)) none = refl
+lies size base count (Ok (Counted n)) none = refl
+lies size base count (Ok End) none = refl
 
--- a line that is good for a memory is good for a larger one
-good-above : (size larger : ℕ) (before : List Said) (line : Said) → size ≤ larger → fault_in size (before, line) ≡ None
-    → fault_in larger (before, line) ≡ None
-good-above size larger before (Err fault) l none = none
-good-above size larger before (Ok Nothing) l none = refl
-good-above size larger before (Ok (Data offset bytes)) l none =
-    let reach = fits-inside size before (Ok (Data offset bytes)) none in
-    rw (inside larger (placed_bytes (before, Ok (Data offset bytes))) (omega (arith, l, reach))) refl
-good-above size larger before (Ok (Rebase base)) l none = refl
-good-above size larger before (Ok (Counted n)) l none = none
-good-above size larger before (Ok End) l none = refl
-
-all-inside : (size : ℕ) (taken : List (List Said × Said)) → first_fault largest taken ≡ None
-    → end_of (flat_map placed_bytes taken) ≤ size → first_fault size taken ≡ None
-all-inside size [] none l = refl
-all-inside size (p ∷ ps) none l =
-    let parts = or_later-none (length p.0 + 1) (fault_in largest p) (first_fault largest ps) none in
-    let reach = end-of-append (placed_bytes p) (flat_map placed_bytes ps) in
-    rw (good-inside size p.0 p.1 parts.0 (omega (arith, l, reach)))
-    (all-inside size ps parts.1 (omega (arith, l, reach)))
-
-all-above : (size : ℕ) (taken : List (List Said × Said)) → size ≤ largest → first_fault size taken ≡ None
-    → (first_fault largest taken ≡ None) × (end_of (flat_map placed_bytes taken) ≤ size)
-all-above size [] l none = (refl, omega arith)
-all-above size (p ∷ ps) l none =
+all-good : (size other : ℕ) (taken : List (List Said × Said)) → first_fault size taken ≡ None
+    → beyond other (flat_map placed_bytes taken) ≡ None → first_fault other taken ≡ None
+all-good size other [] none lies' = refl
+all-good size other (p ∷ ps) none lies' =
     let parts = or_later-none (length p.0 + 1) (fault_in size p) (first_fault size ps) none in
-    let rest = all-above size ps l parts.1 in
-    let reach = end-of-append (placed_bytes p) (flat_map placed_bytes ps) in
-    let here = fits-inside size p.0 p.1 parts.0 in
-    (rw (good-above size largest p.0 p.1 l parts.0) rest.0, omega (arith, here, reach, rest.1))
+    let both = beyond-parts other (placed_bytes p) (flat_map placed_bytes ps) lies' in
+    rw (good size other (base_after p.0) (count_by is_data p.0) p.1 parts.0 both.0)
+    (all-good size other ps parts.1 both.1)
+
+all-lie : (size : ℕ) (taken : List (List Said × Said)) → first_fault size taken ≡ None
+    → beyond size (flat_map placed_bytes taken) ≡ None
+all-lie size [] none = refl
+all-lie size (p ∷ ps) none =
+    let parts = or_later-none (length p.0 + 1) (fault_in size p) (first_fault size ps) none in
+    beyond-append size (placed_bytes p) (flat_map placed_bytes ps)
+    (lies size (base_after p.0) (count_by is_data p.0) p.1 parts.0) ∙ all-lie size ps parts.1
 
 sized : (fault : Option RecordFault) (size needed : ℕ) → size_or_fault fault size ≡ Ok needed
     → (fault ≡ None) × (size ≡ needed)
@@ -98,26 +86,24 @@ read-well : (fault : Option RecordFault) (good read : List (Option ℕ) × Endin
 read-well (Some fault) good read is = cc is
 read-well None good read is = refl
 
-abbrev taken_of : Kind → List ℕ → List (List Said × Said)
-taken_of kind text = in_place [] (up_to_end (map (said_by_line kind) (lines text)))
+abbrev taken_of : Kind → List ℕ → List Said
+taken_of kind text = up_to_end (map (said_by_line kind) (lines text))
 
 pub enough : (kind : Kind) (text : List ℕ) (needed size : ℕ) → needed_in_text kind text ≡ Ok needed → needed ≤ size
     → (read : List (Option ℕ) × Ending) × (image_in_text kind text size ≡ Ok read)
 enough kind text needed size is l =
-    let parts = sized (first_fault largest (taken_of kind text)) (end_of (flat_map placed_bytes (taken_of kind text)))
-    needed is in
-    let same = parts.1 in
-    let none = all-inside size (taken_of kind text) parts.0 (omega (arith, same, l)) in (
-      (
-        image_of_pairs size (flat_map placed_bytes (taken_of kind text)),
-        file_ending (map (said_by_line kind) (lines text)),
-      ),
-      rw none refl,
-    )
+    let taken : List Said = taken_of kind text in
+    let parts = sized (first_fault largest (in_place [] taken)) (end_of (all_placed taken)) needed is in
+    let inside' = (inside size 0 (all_placed taken) (rw parts.1 l)).1 in
+    let none = all-good largest size (in_place [] taken) parts.0 inside' in
+    ((image_of_pairs size (all_placed taken), file_ending (map (said_by_line kind) (lines text))), rw none refl)
 
 pub least : (kind : Kind) (text : List ℕ) (size : ℕ) (read : List (Option ℕ) × Ending) → size ≤ largest
     → image_in_text kind text size ≡ Ok read
     → (needed : ℕ) × (needed_in_text kind text ≡ Ok needed) × (needed ≤ size)
 least kind text size read l is =
-    let parts = all-above size (taken_of kind text) l (read-well (first_fault size (taken_of kind text)) _ read is) in
-    (end_of (flat_map placed_bytes (taken_of kind text)), rw parts.0 refl, parts.1)
+    let taken : List Said = taken_of kind text in
+    let none = read-well (first_fault size (in_place [] taken)) _ read is in
+    let reach = reaches size 0 (all_placed taken) (omega arith) (all-lie size (in_place [] taken) none) in
+    let inside' = (inside largest 0 (all_placed taken) (omega (arith, l, reach))).1 in
+    (end_of (all_placed taken), rw (all-good size largest (in_place [] taken) none inside') refl, reach)

@@ -2,7 +2,7 @@
 use Rattle.std.proofs.Common.{◌≡◌, ◌∙◌, sym, ap, refl, ℕ, ◌+◌, List, [], ◌∷◌, ◌++◌, length, map, Option, Some, None, Err, inl, inr}
 use Rattle.std.specs.List.{list_any}
 use Rattle.std.proofs.lemmas.Bool.{cases_Bool}
-use Rattle.std.proofs.lemmas.List.{append-nil, map-append}
+use Rattle.std.proofs.lemmas.List.{map-append}
 use Rattle.avr_records.specs.Lines.{lines, is_line_end}
 use Rattle.avr_records.specs.Reading.{Said, is_end, up_to_end, in_place, first_fault, fault_in, or_later, said_by_line, image_in_text}
 use Rattle.avr_records.specs.Closed.{all_but_last, fault_among, closed_fault, ok_unless}
@@ -28,16 +28,12 @@ first_fault-stands size (p ∷ ps) qs told is =
 -- lines after a fault change nothing
 pub among-stands : (size : ℕ) (said more : List Said) (told : RecordFault) → fault_among size said ≡ Some told
     → fault_among size (said ++ more) ≡ Some told
-among-stands size said more told is = elim (cases_Bool (list_any is_end said)) [
+among-stands size said more told is = elim (cases_Bool (list_any is_end (up_to_end said))) [
   | inl done ↦ ap (λ (zs : List Said). first_fault size (in_place [] zs)) (up_to_end-done said more done) ∙ is
   | inr on ↦
-      let alone : up_to_end said ≡ said = ap up_to_end (sym (append-nil said)) ∙ up_to_end-open said [] on
-      ∙ append-nil said in
-      let prefix : first_fault size (in_place [] said) ≡ Some told =
-      ap (λ (zs : List Said). first_fault size (in_place [] zs)) (sym alone) ∙ is in
       ap (λ (zs : List Said). first_fault size (in_place [] zs)) (up_to_end-open said more on)
-      ∙ ap (first_fault size) (in_place-append [] said (up_to_end more))
-      ∙ first_fault-stands size (in_place [] said) (in_place said (up_to_end more)) told prefix
+      ∙ ap (first_fault size) (in_place-append [] (up_to_end said) (up_to_end more))
+      ∙ first_fault-stands size (in_place [] (up_to_end said)) (in_place (up_to_end said) (up_to_end more)) told is
 ]
 
 pub closed-told : (kind : Kind) (size : ℕ) (text : List ℕ) (told : RecordFault)

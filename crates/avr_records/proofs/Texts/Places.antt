@@ -1,17 +1,18 @@
 -- The places of a data record's bytes.
-use Rattle.std.proofs.Common.{◌≡◌, ◌∙◌, ap, ap₂, inl, inr, refl, sym, arith, ℕ, ◌+◌, ◌*◌, ◌%◌, ◌<◌, ◌≤◌, List, [], ◌∷◌, ◌++◌, length, map, take, drop, Bool, Option, Some, None, Result, Ok, Err, nat_lt, max, false, true, subst}
+use Rattle.std.proofs.Common.{◌≡◌, ◌∙◌, ap, ap₂, inl, inr, refl, sym, arith, ℕ, ◌+◌, ◌*◌, ◌%◌, ◌<◌, ◌≤◌, List, [], ◌∷◌, ◌++◌, length, map, take, drop, Option, Some, None, Result, Ok, Err, nat_lt, max, false, true}
 use Rattle.std.proofs.lemmas.Bool.Decides.{nat_tests}
 use Rattle.std.proofs.lemmas.Bool.{cases_Bool}
 use Rattle.std.proofs.lemmas.List.{length-take-le, length-drop, take-append-drop}
 use Rattle.std.proofs.lemmas.List.Sums.{fold-append}
 use Rattle.std.specs.List.{enumerate_from}
-use Rattle.std.specs.Prelude.{if◌then◌else◌}
-use Rattle.avr_image.specs.Image.{fits, laid_over, with_byte}
+use Rattle.std.specs.Prelude.{OnOk, if◌then◌else◌}
+use Rattle.avr_image.specs.Image.{fits, laid_over}
 use Rattle.avr_image.specs.declared.fault.ImageFault.{ImageFault}
 use Rattle.avr_image.specs.declared.fault.ImageFault.TheVariants.{OutOfRange}
 use Rattle.avr_records.specs.Reading.{address, places, beyond}
 use Rattle.avr_records.specs.Judging.{FitsKind}
-use Rattle.avr_records.specs.Laying.{Lays, Near}
+use Rattle.avr_records.specs.Laying.{Extends, Near}
+use Rattle.avr_records.specs.Needed.{end_past}
 use Rattle.avr_records.specs.Steps.{HasBase}
 use Rattle.avr_records.specs.declared.kind.Base.{Base}
 use Rattle.avr_records.specs.declared.kind.Base.TheVariants.{Linear, Segment}
@@ -102,8 +103,17 @@ beyond-first size (x ∷ xs) ys addr found =
       | inr f ↦ rw f (rw f at found)
     ]
 
+pub beyond-parts : (size : ℕ) (xs ys : List (ℕ × ℕ)) → beyond size (xs ++ ys) ≡ None
+    → (beyond size xs ≡ None) × (beyond size ys ≡ None)
+beyond-parts size [] ys none = (refl, none)
+beyond-parts size (x ∷ xs) ys none =
+    elim (cases_Bool (nat_lt x.0 size)) [
+      | inl t ↦ let more : beyond size (xs ++ ys) ≡ None = rw t at none in rw t (beyond-parts size xs ys more)
+      | inr f ↦ cc (rw f at none)
+    ]
+
 -- a span lies inside
-pub beyond-span : (size addr : ℕ) (bytes : List ℕ) → fits addr bytes size ≡ true
+beyond-span : (size addr : ℕ) (bytes : List ℕ) → fits addr bytes size ≡ true
     → beyond size (enumerate_from addr bytes) ≡ None
 beyond-span size addr [] inside = refl
 beyond-span size addr (b ∷ []) inside =
@@ -114,7 +124,7 @@ beyond-span size addr (b ∷ c ∷ bs) inside =
     rw here (beyond-span size (addr + 1) (c ∷ bs) rest)
 
 -- or leaves the memory, at its first address or at the size
-pub beyond-span-end : (size addr : ℕ) (bytes : List ℕ) → fits addr bytes size ≡ false
+beyond-span-end : (size addr : ℕ) (bytes : List ℕ) → fits addr bytes size ≡ false
     → beyond size (enumerate_from addr bytes) ≡ Some (max addr size)
 beyond-span-end size addr [] outside = cc outside
 beyond-span-end size addr (b ∷ []) outside =
@@ -132,56 +142,48 @@ beyond-span-end size addr (b ∷ c ∷ bs) outside =
           rw f (ap (λ (n : ℕ). Some n) (omega (arith, first)))
     ]
 
--- ---- laid
+end-past-span : (end addr : ℕ) (bytes : List ℕ) → 0 < length bytes
+    → max end (addr + length bytes) ≡ end_past end (enumerate_from addr bytes)
+end-past-span end addr [] some = absurd (omega (arith, some))
+end-past-span end addr (b ∷ []) some = refl
+end-past-span end addr (b ∷ c ∷ bs) some =
+    let rest = end-past-span (max end (addr + 1)) (addr + 1) (c ∷ bs) (omega arith) in
+    rw (← rest) (omega arith)
 
-abbrev Judged : ℕ → List ℕ → ℕ → Bool → Result ℕ ImageFault
-Judged addr bytes size inside = if inside then Ok (addr + length bytes) else Err (OutOfRange (max addr size))
+-- ---- how far spans reach
 
-judged-ok : (addr : ℕ) (bytes : List ℕ) (size end : ℕ) (inside : Bool) → Ok end ≡ Judged addr bytes size inside
-    → inside ≡ true
-judged-ok addr bytes size end true is = refl
-judged-ok addr bytes size end false is = cc is
+pub extends-inside : (limit end addr : ℕ) (bytes : List ℕ) → 0 < length bytes → addr + length bytes ≤ limit
+    → Extends limit end (enumerate_from addr bytes) (Ok (max end (addr + length bytes)))
+extends-inside limit end addr [] some l = absurd (omega (arith, some))
+extends-inside limit end addr (b ∷ bs) some l =
+    (beyond-span limit addr (b ∷ bs) (grind (arith, nat_tests, l)), end-past-span end addr (b ∷ bs) some)
 
-judged-err : (addr : ℕ) (bytes : List ℕ) (size : ℕ) (fault : ImageFault) (inside : Bool)
-    → Err fault ≡ Judged addr bytes size inside → inside ≡ false
-judged-err addr bytes size fault true is = cc is
-judged-err addr bytes size fault false is = refl
-
-pub lays-span : (old new : List (Option ℕ)) (addr : ℕ) (bytes : List ℕ) (end : ℕ)
-    → Ok end ≡ Judged addr bytes (length old) (fits addr bytes (length old))
-    → new ≡ laid_over old (enumerate_from addr bytes) → Lays old (enumerate_from addr bytes) new (Ok tt)
-lays-span old new addr bytes end judged laid =
-    (beyond-span (length old) addr bytes (judged-ok addr bytes (length old) end _ judged), laid)
-
-pub leaves-span : (old : List (Option ℕ)) (addr : ℕ) (bytes : List ℕ) (fault : ImageFault) (first : ℕ)
-    → Err fault ≡ Judged addr bytes (length old) (fits addr bytes (length old))
-    → first ≡ max addr (length old) → beyond (length old) (enumerate_from addr bytes) ≡ Some first
-leaves-span old addr bytes fault first judged is =
-    beyond-span-end (length old) addr bytes (judged-err addr bytes (length old) fault _ judged)
-    ∙ ap (λ (n : ℕ). Some n) (sym is)
+pub extends-outside : (limit end addr : ℕ) (bytes : List ℕ) → 0 < length bytes → limit < addr + length bytes
+    → Extends limit end (enumerate_from addr bytes) (Err (max addr limit))
+extends-outside limit end addr [] some l = absurd (omega (arith, some))
+extends-outside limit end addr (b ∷ bs) some l = beyond-span-end limit addr (b ∷ bs) (grind (arith, nat_tests, l))
 
 -- one span and then another
-pub lays-both : (old mid new : List (Option ℕ)) (xs ys : List (ℕ × ℕ)) (result : Result Unit ℕ)
-    → Lays old xs mid (Ok tt) → length mid ≡ length old
-    → Lays mid ys new result → Lays old (xs ++ ys) new result
-lays-both old mid new xs ys (Ok done) first same second = (
-  beyond-append (length old) xs ys first.0 ∙ rw (← same) second.0,
-  second.1 ∙ ap (λ (image : List (Option ℕ)). laid_over image ys) first.1
-      ∙ sym (fold-append (λ image place. with_byte image place.0 place.1) old xs ys),
+pub extends-both : (limit end mid : ℕ) (xs ys : List (ℕ × ℕ)) (result : Result ℕ ℕ) → Extends limit end xs (Ok mid)
+    → Extends limit mid ys result → Extends limit end (xs ++ ys) result
+extends-both limit end mid xs ys (Ok new) first second = (
+  beyond-append limit xs ys first.0 ∙ second.0,
+  second.1 ∙ ap (λ (n : ℕ). end_past n ys) first.1 ∙ sym (fold-append _ end xs ys),
 )
-lays-both old mid new xs ys (Err addr) first same second = beyond-append (length old) xs ys first.0 ∙ rw (← same) second
+extends-both limit end mid xs ys (Err addr) first second = beyond-append limit xs ys first.0 ∙ second
 
-pub leaves-first : (old : List (Option ℕ)) (xs ys : List (ℕ × ℕ)) (addr : ℕ) → beyond (length old) xs ≡ Some addr
-    → beyond (length old) (xs ++ ys) ≡ Some addr
-leaves-first old xs ys addr found = beyond-first (length old) xs ys addr found
+-- ---- laid
 
-pub lays-at : (old new : List (Option ℕ)) (xs ys : List (ℕ × ℕ)) (result : Result Unit ℕ) → xs ≡ ys
-    → Lays old ys new result → Lays old xs new result
-lays-at old new xs ys result same laid = subst (λ (ps : List (ℕ × ℕ)). Lays old ps new result) (sym same) laid
-
-pub lays-linear : (base : Base) (upper offset : ℕ) (bytes : List ℕ) → base ≡ Linear upper
-    → places base offset bytes ≡ enumerate_from (upper * 65536 + offset) bytes
-lays-linear base upper offset bytes is = ap (λ (b : Base). places b offset bytes) is ∙ places-linear upper offset bytes
+-- what is judged to lie inside is laid
+pub lays-span : (old new : List (Option ℕ)) (addr : ℕ) (bytes : List ℕ) (result : Result ℕ ImageFault)
+    → beyond (length old) (enumerate_from addr bytes) ≡ None
+    → result ≡ (if fits addr bytes (length old) then Ok (addr + length bytes)
+    else Err (OutOfRange (max addr (length old))))
+    → OnOk result (new ≡ laid_over old (enumerate_from addr bytes)) → new ≡ laid_over old (enumerate_from addr bytes)
+lays-span old new addr bytes result none is laid = elim (cases_Bool (fits addr bytes (length old))) [
+  | inl t ↦ rw (is, t) at laid
+  | inr f ↦ absurd (cc (sym none ∙ beyond-span-end (length old) addr bytes f))
+]
 
 -- ---- addresses in range
 

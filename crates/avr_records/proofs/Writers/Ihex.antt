@@ -12,16 +12,15 @@ use Rattle.avr_records.specs.Lines.{lines}
 use Rattle.avr_records.specs.Meaning.{Data, Rebase, End, Nothing}
 use Rattle.avr_records.specs.Record.{◌and_then◌}
 use Rattle.avr_records.specs.Ihex.{ihex_from_fields, checked_ihex, typed_ihex}
-use Rattle.avr_records.specs.Reading.{Said, said_by_line, record_meaning, together}
-use Rattle.avr_records.specs.Text.{two, with_sum_checksum, ihex_record, ihex_row_size, upper_record, ihex_rows, ihex_text, rows}
-use Rattle.avr_records.specs.RoundTrip.{ReadsBack}
+use Rattle.avr_records.specs.Reading.{Said, said_by_line, record_meaning}
+use Rattle.avr_records.specs.Text.{two, with_sum_checksum, ihex_record, ihex_row_size, upper_record, ihex_rows}
 use Rattle.avr_records.specs.declared.kind.Kind.TheVariants.{Ihex}
 use Rattle.avr_records.specs.declared.kind.Base.TheVariants.{Linear}
 use Rattle.avr_records.specs.declared.fault.LineFault.{LineFault}
 use Rattle.avr_records.specs.declared.fault.LineFault.TheVariants.{Length, Sum}
-use Rattle.avr_records.proofs.Rows.Cuts.{IsBytes-nil, IsBytes-cons, IsBytes-append, IsRow, Every, rows_behind-are, rows-hold}
+use Rattle.avr_records.proofs.Rows.Cuts.{IsBytes-nil, IsBytes-cons, IsBytes-append, IsRow, Every}
 use Rattle.avr_records.proofs.Writers.Lines.{is_plain, plain-digits, encode-digits, bytes_of-encode, says-plain, lines-plain, lines-written, sum-push}
-use Rattle.avr_records.proofs.Writers.Reread.{AllGoOn, then_end, threaded, together-standing, places-linear}
+use Rattle.avr_records.proofs.Writers.Reread.{AllGoOn, then_end, threaded, places-linear}
 
 -- what stands between the colon and the checksum
 abbrev unsummed : ℕ → ℕ → List ℕ → List ℕ
@@ -176,11 +175,3 @@ rows-threaded upper (row ∷ rows) =
     ∙ ap (λ (prefix : List (ℕ × ℕ)). prefix ++ threaded (Linear high) (then_end (rows_said high rows)))
     (places-linear high (row.0 % 65536) row.0 row.1 place)
     ∙ ap (λ (more : List (ℕ × ℕ)). places_of row ++ more) (rows-threaded high rows)
-
-pub ihex-reads-back : ReadsBack Ihex ihex_text
-ihex-reads-back base size bytes below held all =
-    let cut : List (ℕ × List ℕ) = rows ihex_row_size base bytes in
-    let are = rows_behind-are 0 ihex_row_size base (base + length bytes) bytes (λ a. omega arith) refl all in
-    ap (together size) (lines-said 0 (base + length bytes) cut below are)
-    ∙ together-standing base size bytes (rows_said 0 cut) (Ok Nothing ∷ []) (rows-go_on 0 cut)
-    (rows-threaded 0 cut ∙ rows-hold ihex_row_size base bytes (λ a. omega arith)) held

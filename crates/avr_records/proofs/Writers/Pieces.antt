@@ -1,15 +1,18 @@
 -- How the text of a record file begins.
-use Rattle.std.proofs.Common.{◌≡◌, ◌∙◌, sym, ap, refl, arith, ℕ, zero, suc, ◌+◌, ◌-◌, ◌/◌, ◌%◌, ◌<◌, ◌≤◌, List, [], ◌∷◌, ◌++◌, length, take, drop, min, map, false, add-zero, set, get_or, inl, inr, Option, Some, None, true, ◌==◌}
+use Rattle.std.proofs.Common.{◌≡◌, ◌∙◌, sym, ap, refl, arith, ℕ, zero, suc, ◌+◌, ◌-◌, ◌/◌, ◌%◌, ◌<◌, ◌≤◌, List, [], ◌∷◌, ◌++◌, length, take, drop, min, map, false, add-zero, set, get_or, inl, inr, Some, None, true, ◌==◌}
 use Rattle.std.proofs.lemmas.Bool.{cases_eq, cases_lt}
 use Rattle.std.proofs.lemmas.Bool.Decides.{nat_tests}
 use Rattle.std.proofs.lemmas.List.{append_assoc, get_or-map, get_or_past, take_min, drop_all, drop_more, map_more, set_at, get_or_at, length-map, length-take-le, length-append}
 use Rattle.std.specs.Char.{to_ascii_uppercase}
-use Rattle.std.specs.Prelude.{slice_index, if◌then◌else◌}
-use Rattle.std.specs.List.{flat_map}
+use Rattle.std.specs.Prelude.{slice_index}
 use Rattle.std.specs.Int.{to_be_bytes, w32}
 use Rattle.hex.specs.Hex.{encode_with, encode_lower, encode_upper, lower_digits, upper_digits}
-use Rattle.avr_records.specs.Text.{rows, rows_behind, low_bytes, two, ihex_record, ihex_row_size, upper_record, ihex_rows, srec_record, srec_rows}
-use Rattle.avr_records.specs.Writing.{ihex_rest, srec_rest}
+use Rattle.avr_records.specs.Text.{rows, rows_behind, bytes_of, low_bytes, two, ihex_record, ihex_rows}
+use Rattle.avr_records.specs.Sparse.{file_rows, new_upper, row_size, row_text}
+use Rattle.avr_records.specs.declared.address_size.AddressSize.{AddressSize}
+use Rattle.avr_records.specs.declared.address_size.AddressSize.TheVariants.{Two, Three, Four}
+use Rattle.avr_records.specs.declared.kind.Kind.{Kind}
+use Rattle.avr_records.specs.declared.kind.Kind.TheVariants.{Ihex, Srec}
 
 -- a lower-case digit, raised
 raised-digit : (d : ℕ) → to_ascii_uppercase (slice_index lower_digits d) ≡ slice_index upper_digits d
@@ -83,23 +86,14 @@ rows-next size addr n (b ∷ bs) some wide is =
     ap (λ (r : List ℕ). (addr, r) ∷ rows_behind (size addr - 1) size (addr + 1) bs) row
     ∙ ap (λ (rs : List (ℕ × List ℕ)). (addr, take n (b ∷ bs)) ∷ rs) behind
 
-pub low_bytes_is : (size n : ℕ) → 2 ≤ size → size ≤ 4 → drop (4 - size) (to_be_bytes w32 n) ≡ low_bytes size n
-low_bytes_is size n least most =
-    elim (cases_lt size 3) [
-      | inl two ↦ let is : size ≡ 2 = omega arith in rw is refl
-      | inr more ↦
-          elim (cases_lt size 4) [
-            | inl three ↦
-                let is : size ≡ 3 = omega arith in
-                let top : n / 65536 ≡ n / 256 / 256 = omega arith in
-                rw (is, top) refl
-            | inr four ↦
-                let is : size ≡ 4 = omega arith in
-                let top : n / 16777216 ≡ n / 256 / 256 / 256 = omega arith in
-                let next : n / 65536 ≡ n / 256 / 256 = omega arith in
-                rw (is, top, next) refl
-          ]
-    ]
+pub low_bytes_is : (size : AddressSize) (n : ℕ)
+    → drop (4 - bytes_of size) (to_be_bytes w32 n) ≡ low_bytes (bytes_of size) n
+low_bytes_is Two n = refl
+low_bytes_is Three n = let top : n / 65536 ≡ n / 256 / 256 = omega arith in rw top refl
+low_bytes_is Four n =
+    let top : n / 16777216 ≡ n / 256 / 256 / 256 = omega arith in
+    let next : n / 65536 ≡ n / 256 / 256 = omega arith in
+    rw (top, next) refl
 
 pub length_low_bytes : (size n : ℕ) → length (low_bytes size n) ≡ size
 length_low_bytes zero n = refl
@@ -107,76 +101,51 @@ length_low_bytes (suc size) n =
     length-append (low_bytes size (n / 256)) ((n % 256) ∷ []) ∙ ap (λ (k : ℕ). k + 1) (length_low_bytes size (n / 256))
     ∙ omega arith
 
-pub wide_row : (addr : ℕ) → 0 < ihex_row_size addr
-wide_row addr = omega arith
+pub few_bytes : (size : AddressSize) → (2 ≤ bytes_of size) × (bytes_of size ≤ 4)
+few_bytes Two = (omega arith, omega arith)
+few_bytes Three = (omega arith, omega arith)
+few_bytes Four = (omega arith, omega arith)
 
-pub same_upper : (upper addr : ℕ) → addr / 65536 ≡ upper → upper_record upper (addr / 65536) ≡ []
-same_upper upper addr is = grind (arith, nat_tests, is)
+pub wide_row : (kind : Kind) (addr : ℕ) → 0 < row_size kind addr
+wide_row Ihex addr = omega arith
+wide_row Srec addr = omega arith
 
-pub other_upper : (upper addr : ℕ) → (addr / 65536 ≡ upper → ⊥)
-    → upper_record upper (addr / 65536) ≡ ihex_record 4 0 (two (addr / 65536))
-other_upper upper addr other = grind (arith, nat_tests, other)
+-- ---- what the text of rows begins with
 
--- an upper half that is new, and one that isn't
-pub upper-new : (upper addr new : ℕ) (found : Option ℕ)
-    → found ≡ (if addr / 65536 == upper then None else Some (addr / 65536)) → found ≡ Some new
-    → (addr / 65536 ≡ new) × (addr / 65536 ≡ upper → ⊥)
-upper-new upper addr new found told is =
-    elim (cases_eq (addr / 65536) upper) [
-      | inl same ↦
-          let test : (addr / 65536 == upper) ≡ true = grind (arith, nat_tests) in
-          let none : None ≡ Some new = sym (rw test at told) ∙ is in
-          absurd (cc none)
-      | inr other ↦
-          let test : (addr / 65536 == upper) ≡ false = grind (arith, nat_tests) in
-          let some : Some (addr / 65536) ≡ Some new = sym (rw test at told) ∙ is in
-          (cc some, other)
-    ]
+-- a record that sets the upper half of the address
+pub rows-upper : (kind : Kind) (upper new addr : ℕ) (size : AddressSize) (row : List ℕ) (more : List (ℕ × List ℕ))
+    → new_upper kind upper addr ≡ Some new
+    → file_rows kind upper size ((addr, row) ∷ more)
+    ≡ ihex_record 4 0 (two new) ++ file_rows kind new size ((addr, row) ∷ more)
+rows-upper Srec upper new addr size row more is = absurd (cc is)
+rows-upper Ihex upper new addr size row more is = elim (cases_eq (addr / 65536) upper) [
+  | inl same ↦
+      let test : (addr / 65536 == upper) ≡ true = grind (arith, nat_tests, same) in
+      let none : None ≡ Some new = rw test at is in
+      absurd (cc none)
+  | inr other ↦
+      let test : (addr / 65536 == upper) ≡ false = grind (arith, nat_tests, other) in
+      let some : Some (addr / 65536) ≡ Some new = rw test at is in
+      let high : addr / 65536 ≡ new = cc some in
+      let set : (addr / 65536 == new) ≡ true = grind (arith, nat_tests, high) in
+      let line : List ℕ = ihex_record 4 0 (two (addr / 65536)) in
+      let data_line : List ℕ = ihex_record 0 (addr % 65536) row in
+      let rest : List ℕ = ihex_rows (addr / 65536) more in
+      rw (test, set) (append_assoc line data_line rest
+      ∙ ap (λ (n : ℕ). ihex_record 4 0 (two n) ++ (data_line ++ rest)) high)
+]
 
-pub upper-same : (upper addr : ℕ) (found : Option ℕ)
-    → found ≡ (if addr / 65536 == upper then None else Some (addr / 65536)) → found ≡ None
-    → addr / 65536 ≡ upper
-upper-same upper addr found told is =
-    elim (cases_eq (addr / 65536) upper) [
-      | inl same ↦ same
-      | inr other ↦
-          let test : (addr / 65536 == upper) ≡ false = grind (arith, nat_tests) in
-          let some : Some (addr / 65536) ≡ None = sym (rw test at told) ∙ is in
-          absurd (cc some)
-    ]
-
--- the text begins with a row of data
-pub ihex_rest-row : (upper addr n : ℕ) (bytes : List ℕ) → 0 < length bytes → addr / 65536 ≡ upper
-    → n ≡ min (ihex_row_size addr) (length bytes)
-    → ihex_rest false upper addr bytes ≡ ihex_record 0 (addr % 65536) (take n bytes)
-    ++ ihex_rest false upper (addr + n) (drop n bytes)
-ihex_rest-row upper addr n bytes some in_force is =
-    let row : List ℕ = ihex_record 0 (addr % 65536) (take n bytes) in
-    let more : List (ℕ × List ℕ) = rows ihex_row_size (addr + n) (drop n bytes) in
-    ap (ihex_rows upper) (rows-next ihex_row_size addr n bytes some (wide_row addr) is)
-    ∙ ap (λ (prefix : List ℕ). prefix ++ row ++ ihex_rows (addr / 65536) more) (same_upper upper addr in_force)
-    ∙ ap (λ (high : ℕ). row ++ ihex_rows high more) in_force
-
--- the text begins with a new upper half of the address
-pub ihex_rest-upper : (upper addr : ℕ) (bytes : List ℕ) → 0 < length bytes → (addr / 65536 ≡ upper → ⊥)
-    → ihex_rest false upper addr bytes ≡ ihex_record 4 0 (two (addr / 65536))
-    ++ ihex_rest false (addr / 65536) addr bytes
-ihex_rest-upper upper addr [] some other = absurd (omega arith)
-ihex_rest-upper upper addr (b ∷ bs) some other =
-    let high : List ℕ = ihex_record 4 0 (two (addr / 65536)) in
-    let row : List ℕ = ihex_record 0 (addr % 65536) (take (ihex_row_size addr) (b ∷ bs)) in
-    let more : List ℕ = ihex_rows (addr / 65536) (rows_behind (ihex_row_size addr - 1) ihex_row_size (addr + 1) bs) in
-    ap (λ (prefix : List ℕ). prefix ++ row ++ more) (other_upper upper addr other)
-    ∙ append_assoc high row more
-    ∙ ap (λ (prefix : List ℕ). high ++ (prefix ++ row ++ more)) (sym (same_upper (addr / 65536) addr refl))
-
--- the text begins with a row of data
-pub srec_rest-row : (size addr n : ℕ) (bytes : List ℕ) → 0 < length bytes → n ≡ min 32 (length bytes)
-    → srec_rest false size addr bytes ≡ srec_record (size - 1) (low_bytes size addr ++ take n bytes)
-    ++ srec_rest false size (addr + n) (drop n bytes)
-srec_rest-row size addr n bytes some is =
-    ap (srec_rows size) (rows-next (λ _. 32) addr n bytes some (omega arith) is)
-    ∙ append_assoc (srec_record (size - 1) (low_bytes size addr ++ take n bytes))
-    (flat_map (λ row. srec_record (size - 1) (low_bytes size row.0 ++ row.1))
-    (rows (λ _. 32) (addr + n) (drop n bytes)))
-    (srec_record (11 - size) (low_bytes size 0))
+-- the record of a row
+pub rows-row : (kind : Kind) (upper addr : ℕ) (size : AddressSize) (row : List ℕ) (more : List (ℕ × List ℕ))
+    → new_upper kind upper addr ≡ None
+    → file_rows kind upper size ((addr, row) ∷ more) ≡ row_text kind size addr row ++ file_rows kind upper size more
+rows-row Srec upper addr size row more is = refl
+rows-row Ihex upper addr size row more is = elim (cases_eq (addr / 65536) upper) [
+  | inl same ↦
+      let test : (addr / 65536 == upper) ≡ true = grind (arith, nat_tests, same) in
+      rw test (ap (λ (n : ℕ). ihex_record 0 (addr % 65536) row ++ ihex_rows n more) same)
+  | inr other ↦
+      let test : (addr / 65536 == upper) ≡ false = grind (arith, nat_tests, other) in
+      let some : Some (addr / 65536) ≡ None = rw test at is in
+      absurd (cc some)
+]

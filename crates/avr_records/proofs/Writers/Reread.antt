@@ -1,15 +1,12 @@
 -- Lines of data records that follow on each other, and the image that they make.
-use Rattle.std.proofs.Common.{◌≡◌, ◌∙◌, sym, ap, refl, arith, ℕ, ◌+◌, ◌-◌, ◌*◌, ◌≤◌, nat_lt, Bool, true, List, [], ◌∷◌, ◌++◌, length, map, drop, replicate, fold, Option, Some, None, Ok, Err, inl, inr, add-zero}
+use Rattle.std.proofs.Common.{◌≡◌, ◌∙◌, ap, refl, arith, ℕ, ◌+◌, ◌*◌, nat_lt, Bool, true, List, [], ◌∷◌, ◌++◌, length, map, Option, Some, None, Ok, Err, inl, inr, add-zero}
 use Rattle.std.specs.Prelude.{option_map, if◌then◌else◌}
 use Rattle.std.specs.List.{enumerate_from, flat_map, list_any}
 use Rattle.std.proofs.lemmas.Bool.{cases_Bool}
-use Rattle.std.proofs.lemmas.Bool.Decides.{nat_tests}
-use Rattle.std.proofs.lemmas.List.{append_assoc, set_at, length-append, replicate-append-replicate, drop-replicate, length-replicate}
 use Rattle.std.proofs.lemmas.List.Sums.{fold-append}
-use Rattle.avr_image.specs.Image.{empty, image_of_pairs, with_byte}
+use Rattle.avr_image.specs.Image.{image_of_pairs}
 use Rattle.avr_records.specs.Meaning.{Nothing, Data, Rebase, Counted, End}
 use Rattle.avr_records.specs.Reading.{Said, is_end, up_to_end, in_place, next_base, base_after, address, places, placed_bytes, beyond, fault_in, or_later, first_fault, file_ending, image_or_fault, together}
-use Rattle.avr_records.specs.RoundTrip.{image_at_base, HasAddresses}
 use Rattle.avr_records.specs.declared.kind.Base.{Base}
 use Rattle.avr_records.specs.declared.kind.Base.TheVariants.{Linear}
 use Rattle.avr_records.specs.declared.kind.Ending.{Ending}
@@ -17,56 +14,6 @@ use Rattle.avr_records.specs.declared.kind.Ending.TheVariants.{Ended, NoEnd}
 use Rattle.avr_records.specs.declared.fault.LineFault.{LineFault}
 use Rattle.avr_records.specs.declared.fault.LineFault.TheVariants as line
 use Rattle.avr_records.specs.declared.fault.RecordFault.{RecordFault}
-
--- ---- an image of bytes at addresses that follow on each other
-
-abbrev put : List (Option ℕ) → ℕ × ℕ → List (Option ℕ)
-put image place = with_byte image place.0 place.1
-
-laid-behind : (prefix rest : List (Option ℕ)) (addr : ℕ) (bytes : List ℕ) → length prefix ≡ addr
-    → length bytes ≤ length rest
-    → fold put (prefix ++ rest) (enumerate_from addr bytes)
-    ≡ prefix ++ (map (λ byte. Some byte) bytes ++ drop (length bytes) rest)
-laid-behind prefix rest addr [] at room = refl
-laid-behind prefix [] addr (b ∷ bs) at room = absurd (omega arith)
-laid-behind prefix (r ∷ rest) addr (b ∷ bs) at room =
-    let next : length (prefix ++ Some b ∷ []) ≡ addr + 1 = length-append prefix (Some b ∷ []) ∙ omega arith in
-    ap (λ (image : List (Option ℕ)). fold put image (enumerate_from (addr + 1) bs))
-    (set_at prefix r rest (Some b) addr at ∙ sym (append_assoc prefix (Some b ∷ []) rest))
-    ∙ laid-behind (prefix ++ Some b ∷ []) rest (addr + 1) bs next (omega arith)
-    ∙ append_assoc prefix (Some b ∷ []) (map (λ byte. Some byte) bs ++ drop (length bs) rest)
-
-pub laid-standing : (base size : ℕ) (bytes : List ℕ) → HasAddresses size base bytes
-    → image_of_pairs size (enumerate_from base bytes) ≡ image_at_base base bytes size
-laid-standing base size [] held = refl
-laid-standing base size (b ∷ bs) held =
-    let bytes : List ℕ = b ∷ bs in
-    let room : base + length bytes ≤ size = held (omega arith) in
-    let prefix : List (Option ℕ) = replicate base None in
-    let rest : List (Option ℕ) = replicate (size - base) None in
-    let whole : base + (size - base) ≡ size = omega arith in
-    let split : empty size ≡ prefix ++ rest =
-    ap (λ (n : ℕ). replicate n None) (sym whole) ∙ sym (replicate-append-replicate base (size - base) None) in
-    let width : length rest ≡ size - base = length-replicate (size - base) None in
-    let left : size - base - length bytes ≡ size - (base + length bytes) = omega arith in
-    ap (λ (image : List (Option ℕ)). fold put image (enumerate_from base bytes)) split
-    ∙ laid-behind prefix rest base bytes (length-replicate base None) (omega arith)
-    ∙ ap (λ (tail : List (Option ℕ)). prefix ++ (map (λ byte. Some byte) bytes ++ tail))
-    (drop-replicate (length bytes) (size - base) None)
-    ∙ ap (λ (n : ℕ). prefix ++ (map (λ byte. Some byte) bytes ++ replicate n None)) left
-    ∙ sym (append_assoc prefix (map (λ byte. Some byte) bytes) (replicate (size - (base + length bytes)) None))
-
-pub beyond-none : (size addr : ℕ) (bytes : List ℕ) → addr + length bytes ≤ size
-    → beyond size (enumerate_from addr bytes) ≡ None
-beyond-none size addr [] room = refl
-beyond-none size addr (b ∷ bs) room =
-    let test : nat_lt addr size ≡ true = grind (arith, nat_tests) in
-    rw test (beyond-none size (addr + 1) bs (omega arith))
-
-beyond-held : (size base : ℕ) (bytes : List ℕ) → HasAddresses size base bytes
-    → beyond size (enumerate_from base bytes) ≡ None
-beyond-held size base [] held = refl
-beyond-held size base (b ∷ bs) held = beyond-none size base (b ∷ bs) (held (omega arith))
 
 beyond-parts : (size : ℕ) (xs ys : List (ℕ × ℕ)) → beyond size (xs ++ ys) ≡ None
     → (beyond size xs ≡ None) × (beyond size ys ≡ None)
@@ -181,15 +128,6 @@ together-laid size image places prefix more on follow inside_is laid_is =
     ∙ ap (λ (places : List (ℕ × ℕ)). Ok (image_of_pairs size places, file_ending (prefix ++ Ok End ∷ more))) bytes_are
     ∙ ap (λ (end : Ending). Ok (image_of_pairs size places, end)) (ended prefix more)
     ∙ ap (λ (image : List (Option ℕ)). Ok (image, Ended)) laid_is
-
--- Lines of bytes that follow on each other, the end record and whatever stands after it: they read as the image of
--- these bytes.
-pub together-standing : (base size : ℕ) (bytes : List ℕ) (prefix more : List Said) → AllGoOn prefix
-    → threaded (Linear 0) (then_end prefix) ≡ enumerate_from base bytes → HasAddresses size base bytes
-    → together size (prefix ++ Ok End ∷ more) ≡ Ok (image_at_base base bytes size, Ended)
-together-standing base size bytes prefix more on follow held =
-    together-laid size (image_at_base base bytes size) (enumerate_from base bytes) prefix more on follow
-    (beyond-held size base bytes held) (laid-standing base size bytes held)
 
 -- the places of a data record where a linear base is in force
 pub places-linear : (upper offset addr : ℕ) (bytes : List ℕ) → upper * 65536 + offset ≡ addr

@@ -1,19 +1,23 @@
 -- What is written of an image with gaps reads back as it was.
-use Rattle.std.proofs.Common.{◌≡◌, ◌∙◌, ap, refl, arith, ℕ, suc, ◌+◌, ◌^◌, ◌<◌, ◌≤◌, ◌==◌, nat_lt, All, true, false, List, [], ◌∷◌, ◌++◌, length, map, Option, Some, None, Ok, inl, inr}
+use Rattle.std.proofs.Common.{◌≡◌, ◌∙◌, sym, ap, ap₂, refl, arith, ℕ, zero, suc, add-zero, ◌+◌, ◌^◌, ◌<◌, ◌≤◌, ◌==◌, nat_lt, All, true, false, List, [], ◌∷◌, ◌++◌, length, map, Option, Some, None, Ok, inl, inr}
 use Rattle.std.specs.List.{flat_map, enumerate_from}
 use Rattle.std.proofs.lemmas.Bool.{cases_eq}
 use Rattle.std.proofs.lemmas.Bool.Decides.{nat_tests}
 use Rattle.std.proofs.lemmas.Grind.{flat_map-append}
+use Rattle.std.proofs.lemmas.List.{append-nil, length-append, length-replicate}
 use Rattle.avr_image.specs.Runs.{onto_runs, runs, places_of}
 use Rattle.avr_image.proofs.Lemmas.{runs_are_whole, runs_inside}
 use Rattle.hex.specs.Hex.{IsBytes}
-use Rattle.avr_image.specs.Image.{HoldsBytes}
+use Rattle.avr_image.specs.Image.{HoldsBytes, empty, image_of_pairs}
 use Rattle.avr_records.specs.Meaning.{Nothing}
-use Rattle.avr_records.specs.Reading.{beyond, together}
-use Rattle.avr_records.specs.Text.{rows, ihex_row_size, address_size}
-use Rattle.avr_records.specs.Sparse.{rows_of, last_held, ihex_image_text, srec_image_text, ImageReadsBack}
+use Rattle.avr_records.specs.Reading.{beyond, image_in_text, together}
+use Rattle.avr_records.specs.Text.{rows, address_size}
+use Rattle.avr_records.specs.Sparse.{row_size, rows_of, last_held, image_text, ReadsBack}
+use Rattle.avr_records.specs.declared.kind.Ending.TheVariants.{Ended}
+use Rattle.avr_records.specs.declared.kind.Kind.{Kind}
 use Rattle.avr_records.specs.declared.kind.Kind.TheVariants.{Ihex, Srec}
 use Rattle.avr_records.proofs.Rows.Cuts.{IsBytes-nil, IsBytes-cons, IsRow, Every, rows_behind-are, rows-hold}
+use Rattle.avr_records.proofs.Writers.Pieces.{wide_row}
 use Rattle.avr_records.proofs.Writers.Reread.{together-laid}
 use Rattle.avr_records.proofs.Writers.Ihex as hex
 use Rattle.avr_records.proofs.Writers.Srec as srec
@@ -34,8 +38,10 @@ beyond-cut size (run ∷ cut) inside =
     beyond-run size run.0 run.1 (flat_map places_of cut) (inside 0 run (omega arith))
     (beyond-cut size cut (λ k d l. inside (suc k) d (omega (arith, l))))
 
-beyond-image : (image : List (Option ℕ)) → beyond (length image) (flat_map places_of (runs 0 image)) ≡ None
-beyond-image image = beyond-cut (length image) (runs 0 image) (runs_inside image)
+beyond-image : (image : List (Option ℕ)) (more : ℕ)
+    → beyond (length image + more) (flat_map places_of (runs 0 image)) ≡ None
+beyond-image image more =
+    beyond-cut (length image + more) (runs 0 image) (λ k d l. omega (arith, runs_inside image k d l))
 
 -- cutting into rows keeps them
 pub rows_of-hold : (size : ℕ → ℕ) (cut : List (ℕ × List ℕ)) → ((a : ℕ) → 0 < size a)
@@ -120,35 +126,60 @@ rows_of-are size end (run ∷ cut) wide all =
     (rows-up size (run.0 + length run.1) end (rows size run.0 run.1) all.0.below own)
     (rows_of-are size end cut wide all.1)
 
+-- ---- a memory with gaps after it
+
+runs-padded : (addr more : ℕ) (image : List (Option ℕ)) → runs addr (image ++ empty more) ≡ runs addr image
+runs-padded addr zero [] = refl
+runs-padded addr (suc more) [] = runs-padded (addr + 1) more []
+runs-padded addr more (None ∷ image) = runs-padded (addr + 1) more image
+runs-padded addr more (Some b ∷ image) = ap (onto_runs addr b) (runs-padded (addr + 1) more image)
+
+laid-padded : (image : List (Option ℕ)) (more : ℕ)
+    → image_of_pairs (length image + more) (flat_map places_of (runs 0 image)) ≡ image ++ empty more
+laid-padded image more =
+    let whole : List (Option ℕ) = image ++ empty more in
+    let size : length whole ≡ length image + more =
+    length-append image (empty more) ∙ ap (λ (n : ℕ). length image + n) (length-replicate more None) in
+    ap₂ (λ (n : ℕ) (cut : List (ℕ × List ℕ)). image_of_pairs n (flat_map places_of cut)) (sym size)
+    (sym (runs-padded 0 more image))
+    ∙ runs_are_whole whole
+
 -- ---- the two formats
 
 -- the last address of an image that isn't empty, or 0 of one that is
 last-below : (image : List (Option ℕ)) → length image ≤ 2 ^ 32 → last_held 0 0 image < 2 ^ 32
 last-below image fits = last-most 0 0 (2 ^ 32) image (omega arith) (omega (arith, fits))
 
-pub ihex-image-reads-back : ImageReadsBack Ihex ihex_image_text
-ihex-image-reads-back image fits bytes =
-    let size : ℕ = length image in
-    let cut : List (ℕ × List ℕ) = rows_of ihex_row_size (runs 0 image) in
-    let last : ℕ = last_held 0 0 image in
-    let are : Every (IsRow ihex_row_size (last + 1)) cut =
-    rows_of-are ihex_row_size (last + 1) (runs 0 image) (λ a. omega arith) (runs-in 0 0 image bytes) in
-    ap (together size) (hex.lines-said 0 (last + 1) cut (omega (arith, last-below image fits)) are)
-    ∙ together-laid size image (flat_map places_of (runs 0 image)) (hex.rows_said 0 cut) (Ok Nothing ∷ [])
-    (hex.rows-go_on 0 cut)
-    (hex.rows-threaded 0 cut ∙ rows_of-hold ihex_row_size (runs 0 image) (λ a. omega arith))
-    (beyond-image image) (runs_are_whole image)
+rows-are : (kind : Kind) (image : List (Option ℕ)) → HoldsBytes image
+    → Every (IsRow (row_size kind) (last_held 0 0 image + 1)) (rows_of (row_size kind) (runs 0 image))
+rows-are kind image bytes =
+    rows_of-are (row_size kind) (last_held 0 0 image + 1) (runs 0 image) (wide_row kind) (runs-in 0 0 image bytes)
 
-pub srec-image-reads-back : ImageReadsBack Srec srec_image_text
-srec-image-reads-back image fits bytes =
-    let size : ℕ = length image in
-    let cut : List (ℕ × List ℕ) = rows_of (λ _. 32) (runs 0 image) in
+pub reads-back : (kind : Kind) → ReadsBack kind
+reads-back Ihex image more fits bytes =
+    let size : ℕ = length image + more in
+    let cut : List (ℕ × List ℕ) = rows_of (row_size Ihex) (runs 0 image) in
+    ap (together size)
+    (hex.lines-said 0 (last_held 0 0 image + 1) cut (omega (arith, last-below image fits)) (rows-are Ihex image bytes))
+    ∙ together-laid size (image ++ empty more) (flat_map places_of (runs 0 image)) (hex.rows_said 0 cut)
+    (Ok Nothing ∷ []) (hex.rows-go_on 0 cut)
+    (hex.rows-threaded 0 cut ∙ rows_of-hold (row_size Ihex) (runs 0 image) (wide_row Ihex))
+    (beyond-image image more) (laid-padded image more)
+reads-back Srec image more fits bytes =
+    let size : ℕ = length image + more in
+    let cut : List (ℕ × List ℕ) = rows_of (row_size Srec) (runs 0 image) in
     let last : ℕ = last_held 0 0 image in
-    let wide = srec.wide_enough last (last-below image fits) in
-    let are : Every (IsRow (λ _. 32) (last + 1)) cut =
-    rows_of-are (λ _. 32) (last + 1) (runs 0 image) (λ a. omega arith) (runs-in 0 0 image bytes) in
-    ap (together size) (srec.lines-said (address_size last) (last + 1) cut wide.least wide.most
-    (omega (arith, wide.fits)) are)
-    ∙ together-laid size image (flat_map places_of (runs 0 image)) (map srec.said_of cut) (Ok Nothing ∷ [])
-    (srec.rows-go_on cut) (srec.rows-threaded cut ∙ rows_of-hold (λ _. 32) (runs 0 image) (λ a. omega arith))
-    (beyond-image image) (runs_are_whole image)
+    ap (together size) (srec.lines-said (address_size last) (last + 1) cut
+    (omega (arith, srec.wide_enough last (last-below image fits))) (rows-are Srec image bytes))
+    ∙ together-laid size (image ++ empty more) (flat_map places_of (runs 0 image)) (map srec.said_of cut)
+    (Ok Nothing ∷ []) (srec.rows-go_on cut)
+    (srec.rows-threaded cut ∙ rows_of-hold (row_size Srec) (runs 0 image) (wide_row Srec))
+    (beyond-image image more) (laid-padded image more)
+
+-- for a memory of the same size
+pub reads-back-same : (kind : Kind) (image : List (Option ℕ)) → length image ≤ 2 ^ 32 → HoldsBytes image
+    → image_in_text kind (image_text kind image) (length image) ≡ Ok (image, Ended)
+reads-back-same kind image fits bytes =
+    ap (image_in_text kind (image_text kind image)) (sym (add-zero (length image)))
+    ∙ reads-back kind image 0 fits bytes
+    ∙ ap (λ (held : List (Option ℕ)). Ok (held, Ended)) (append-nil image)

@@ -1,14 +1,16 @@
--- How the text of an image with gaps begins, as a walk over the image finds it.
-use Rattle.std.proofs.Common.{◌≡◌, ◌∙◌, sym, ap, ap₂, refl, arith, ℕ, zero, suc, ◌+◌, ◌-◌, ◌/◌, ◌%◌, ◌<◌, ◌≤◌, false, List, [], ◌∷◌, ◌++◌, length, take, drop, min, Option, Some, None, is_some, add-zero}
-use Rattle.std.specs.List.{position_from, flat_map, slice_range}
-use Rattle.std.proofs.lemmas.List.{append_assoc, drop-drop, length-drop, length-take, take_min}
+-- How the text of a memory with gaps begins, as a walk over it finds it.
+use Rattle.std.proofs.Common.{◌≡◌, ◌∙◌, sym, ap, ap₂, refl, arith, ℕ, zero, suc, ◌+◌, ◌-◌, ◌<◌, ◌≤◌, List, [], ◌∷◌, ◌++◌, length, take, drop, min, Option, Some, None, is_some, add-zero}
+use Rattle.std.specs.List.{position_from, slice_range}
+use Rattle.std.proofs.lemmas.List.{drop-drop, length-append, length-drop, length-take, take_min}
 use Rattle.avr_image.specs.Image.{first_from, run_end, filled_bytes}
-use Rattle.avr_records.specs.Text.{rows, srec_rows, srec_record, low_bytes, ihex_rows, ihex_row_size, ihex_record, two}
+use Rattle.avr_records.specs.Text.{rows, ihex_record, two}
 use Rattle.avr_image.specs.Runs.{runs, lead}
 use Rattle.avr_image.proofs.Lemmas.{next_held, filled_is, filled_part, runs_none, runs_next, runs_first, lead_some, lead_is_run, lead_is_filled, lead_within}
-use Rattle.avr_records.specs.Sparse.{rows_of, last_held}
-use Rattle.avr_records.specs.Writing.{ihex_image_rest, srec_image_rest}
-use Rattle.avr_records.proofs.Writers.Pieces.{rows-next, wide_row, same_upper, other_upper}
+use Rattle.avr_records.specs.Sparse.{file_rows, last_held, new_upper, row_size, row_text, rows_of}
+use Rattle.avr_records.specs.Writing.{text_from}
+use Rattle.avr_records.specs.declared.address_size.AddressSize.{AddressSize}
+use Rattle.avr_records.specs.declared.kind.Kind.{Kind}
+use Rattle.avr_records.proofs.Writers.Pieces.{rows-next, rows-row, rows-upper, wide_row}
 
 -- ---- the first run, and what stands after it
 
@@ -87,109 +89,57 @@ row-part place most end bytes image inside is whole =
           ∙ ap (λ (n : ℕ). take n run) size ∙ take_min most run;
     }
 
+row-long : (size place : ℕ) (row : List ℕ) (image : List (Option ℕ)) → row ≡ take size (lead (drop place image))
+    → length row ≡ min size (length (lead (drop place image)))
+row-long size place row image is = ap length is ∙ length-take size (lead (drop place image))
+
 -- the next row: the bytes from the next address that holds one
-pub rows-walk : (size : ℕ → ℕ) (addr place n : ℕ) (image : List (Option ℕ)) → first_from image addr ≡ Some place
-    → 0 < size place
-    → n ≡ min (size place) (length (lead (drop place image)))
+rows-walk : (size : ℕ → ℕ) (addr place : ℕ) (row : List ℕ) (image : List (Option ℕ))
+    → first_from image addr ≡ Some place → 0 < size place → row ≡ take (size place) (lead (drop place image))
     → rows_of size (runs addr (drop addr image))
-    ≡ (place, filled_bytes image place n) ∷ rows_of size (runs (place + n) (drop (place + n) image))
-rows-walk size addr place n image found wide is =
-    let some = lead_some image addr place found in
-    let few : n ≤ length (lead (drop place image)) = omega (arith, is) in
+    ≡ (place, row) ∷ rows_of size (runs (place + length row) (drop (place + length row) image))
+rows-walk size addr place row image found wide is =
+    let run : List ℕ = lead (drop place image) in
+    let n : ℕ = length row in
+    let long = row-long (size place) place row image is in
+    let same : take n run ≡ row = ap (λ (k : ℕ). take k run) long ∙ take_min (size place) run ∙ sym is in
     ap (rows_of size) (runs_next image addr place found)
-    ∙ rows-step size place n (drop place image) some wide is
-    ∙ ap (λ (bytes : List ℕ). (place, bytes) ∷ rows_of size (runs (place + n) (drop n (drop place image))))
-    (sym (lead_is_filled image place n few))
-    ∙ ap (λ (xs : List (Option ℕ)). (place, filled_bytes image place n) ∷ rows_of size (runs (place + n) xs))
+    ∙ rows-step size place n (drop place image) (lead_some image addr place found) wide long
+    ∙ ap₂ (λ (bytes : List ℕ) (xs : List (Option ℕ)). (place, bytes) ∷ rows_of size (runs (place + n) xs)) same
     (drop-drop n place image)
 
--- ---- the text of Intel HEX still to come
+-- ---- the text still to come
 
-pub ihex_image-end : (upper addr : ℕ) (image : List (Option ℕ)) → first_from image addr ≡ None
-    → ihex_image_rest false upper addr image ≡ ihex_record 1 0 []
-ihex_image-end upper addr image none = ap (λ (cut : List (ℕ × List ℕ)). ihex_rows upper (rows_of ihex_row_size cut))
+pub text-end : (kind : Kind) (upper : ℕ) (size : AddressSize) (addr : ℕ) (image : List (Option ℕ))
+    → first_from image addr ≡ None → text_from kind upper size addr image ≡ file_rows kind upper size []
+text-end kind upper size addr image none =
+    ap (λ (cut : List (ℕ × List ℕ)). file_rows kind upper size (rows_of (row_size kind) cut))
     (runs_none image addr none)
 
-pub ihex_image-row : (upper addr place n : ℕ) (image : List (Option ℕ)) → first_from image addr ≡ Some place
-    → place / 65536 ≡ upper
-    → n ≡ min (ihex_row_size place) (length (lead (drop place image)))
-    → ihex_image_rest false upper addr image
-    ≡ ihex_record 0 (place % 65536) (filled_bytes image place n) ++ ihex_image_rest false upper (place + n) image
-ihex_image-row upper addr place n image found in_force is =
-    let row : List ℕ = ihex_record 0 (place % 65536) (filled_bytes image place n) in
-    let more : List (ℕ × List ℕ) = rows_of ihex_row_size (runs (place + n) (drop (place + n) image)) in
-    ap (ihex_rows upper) (rows-walk ihex_row_size addr place n image found (wide_row place) is)
-    ∙ ap (λ (prefix : List ℕ). prefix ++ row ++ ihex_rows (place / 65536) more) (same_upper upper place in_force)
-    ∙ ap (λ (high : ℕ). row ++ ihex_rows high more) in_force
+pub text-upper : (kind : Kind) (upper new : ℕ) (size : AddressSize) (addr place : ℕ) (image : List (Option ℕ))
+    → first_from image addr ≡ Some place → new_upper kind upper place ≡ Some new
+    → text_from kind upper size addr image ≡ ihex_record 4 0 (two new) ++ text_from kind new size addr image
+text-upper kind upper new size addr place image found is =
+    let row : List ℕ = take (row_size kind place) (lead (drop place image)) in
+    let more : List (ℕ × List ℕ) =
+    rows_of (row_size kind) (runs (place + length row) (drop (place + length row) image)) in
+    let cut = rows-walk (row_size kind) addr place row image found (wide_row kind place) refl in
+    ap (file_rows kind upper size) cut
+    ∙ rows-upper kind upper new place size row more is
+    ∙ ap (λ (rows : List (ℕ × List ℕ)). ihex_record 4 0 (two new) ++ file_rows kind new size rows) (sym cut)
 
-pub ihex_image-upper : (upper addr place : ℕ) (image : List (Option ℕ)) → first_from image addr ≡ Some place
-    → (place / 65536 ≡ upper → ⊥)
-    → ihex_image_rest false upper addr image
-    ≡ ihex_record 4 0 (two (place / 65536)) ++ ihex_image_rest false (place / 65536) addr image
-ihex_image-upper upper addr place image found other =
-    let n : ℕ = min (ihex_row_size place) (length (lead (drop place image))) in
-    let high : List ℕ = ihex_record 4 0 (two (place / 65536)) in
-    let row : List ℕ = ihex_record 0 (place % 65536) (filled_bytes image place n) in
-    let more : List ℕ = ihex_rows (place / 65536) (rows_of ihex_row_size (runs (place + n) (drop (place + n) image))) in
-    let cut = rows-walk ihex_row_size addr place n image found (wide_row place) refl in
-    ap (ihex_rows upper) cut
-    ∙ ap (λ (prefix : List ℕ). prefix ++ row ++ more) (other_upper upper place other)
-    ∙ append_assoc high row more
-    ∙ ap (λ (prefix : List ℕ). high ++ (prefix ++ row ++ more)) (sym (same_upper (place / 65536) place refl))
-    ∙ ap (λ (rows : List (ℕ × List ℕ)). high ++ ihex_rows (place / 65536) rows) (sym cut)
+pub text-row : (kind : Kind) (upper : ℕ) (size : AddressSize) (addr place : ℕ) (row : List ℕ)
+    (image : List (Option ℕ)) → first_from image addr ≡ Some place → new_upper kind upper place ≡ None
+    → row ≡ take (row_size kind place) (lead (drop place image))
+    → text_from kind upper size addr image
+    ≡ row_text kind size place row ++ text_from kind upper size (place + length row) image
+text-row kind upper size addr place row image found same is =
+    ap (file_rows kind upper size) (rows-walk (row_size kind) addr place row image found (wide_row kind place) is)
+    ∙ rows-row kind upper place size row
+    (rows_of (row_size kind) (runs (place + length row) (drop (place + length row) image))) same
 
--- a row that is lent, as long as it may be
-row-lent : (size place : ℕ) (row : List ℕ) (image : List (Option ℕ)) → row ≡ take size (lead (drop place image))
-    → (length row ≡ min size (length (lead (drop place image)))) × (filled_bytes image place (length row) ≡ row)
-row-lent size place row image is =
-    let long : length row ≡ min size (length (lead (drop place image))) =
-    ap length is ∙ length-take size (lead (drop place image)) in (
-      long,
-      lead_is_filled image place (length row) (omega (arith, long))
-          ∙ ap (λ (n : ℕ). take n (lead (drop place image))) long
-          ∙ take_min size (lead (drop place image)) ∙ sym is,
-    )
-
-pub ihex_image-next : (upper addr place : ℕ) (row : List ℕ) (image : List (Option ℕ))
-    → first_from image addr ≡ Some place
-    → place / 65536 ≡ upper
-    → row ≡ take (ihex_row_size place) (lead (drop place image))
-    → ihex_image_rest false upper addr image
-    ≡ ihex_record 0 (place % 65536) row ++ ihex_image_rest false upper (place + length row) image
-ihex_image-next upper addr place row image found in_force is =
-    let lent = row-lent (ihex_row_size place) place row image is in
-    ihex_image-row upper addr place (length row) image found in_force lent.0
-    ∙ ap (λ (bytes : List ℕ). ihex_record 0 (place % 65536) bytes
-    ++ ihex_image_rest false upper (place + length row) image) lent.1
-
--- ---- the text of S-records still to come
-
-pub srec_image-end : (size addr : ℕ) (image : List (Option ℕ)) → first_from image addr ≡ None
-    → srec_image_rest false size addr image ≡ srec_record (11 - size) (low_bytes size 0)
-srec_image-end size addr image none = ap (λ (cut : List (ℕ × List ℕ)). srec_rows size (rows_of (λ _. 32) cut))
-    (runs_none image addr none)
-
-pub srec_image-row : (size addr place n : ℕ) (image : List (Option ℕ)) → first_from image addr ≡ Some place
-    → n ≡ min 32 (length (lead (drop place image)))
-    → srec_image_rest false size addr image ≡ srec_record (size - 1)
-    (low_bytes size place ++ filled_bytes image place n) ++ srec_image_rest false size (place + n) image
-srec_image-row size addr place n image found is =
-    let more : List (ℕ × List ℕ) = rows_of (λ _. 32) (runs (place + n) (drop (place + n) image)) in
-    ap (srec_rows size) (rows-walk (λ _. 32) addr place n image found (omega arith) is)
-    ∙ append_assoc (srec_record (size - 1) (low_bytes size place ++ filled_bytes image place n))
-    (flat_map (λ row. srec_record (size - 1) (low_bytes size row.0 ++ row.1)) more)
-    (srec_record (11 - size) (low_bytes size 0))
-
-pub srec_image-next : (size addr place : ℕ) (row : List ℕ) (image : List (Option ℕ))
-    → first_from image addr ≡ Some place
-    → row ≡ take 32 (lead (drop place image))
-    → srec_image_rest false size addr image
-    ≡ srec_record (size - 1) (low_bytes size place ++ row) ++ srec_image_rest false size (place + length row) image
-srec_image-next size addr place row image found is =
-    let lent = row-lent 32 place row image is in
-    srec_image-row size addr place (length row) image found lent.0
-    ∙ ap (λ (bytes : List ℕ). srec_record (size - 1) (low_bytes size place ++ bytes)
-    ++ srec_image_rest false size (place + length row) image) lent.1
+pub longer : (text piece more : List ℕ) → text ≡ piece ++ more → 0 < length piece → 0 < length text
+longer text piece more is some = omega (arith, ap length is, length-append piece more, some)
 
 -- ---- the last address that holds a byte
 
@@ -247,7 +197,7 @@ last-walk last addr place end row image found is ends =
     let some = lead_some image addr place found in
     let short = lead_within (drop place image) in
     let left = length-drop place image in
-    let long = (row-lent 32 place row image is).0 in
+    let long = row-long 32 place row image is in
     let n : ℕ = length row - 1 in
     let within : n < length (lead (drop place image)) = omega (arith, long, some) in
     let last_is : place + n ≡ end - 1 = omega (arith, long, some, ends) in

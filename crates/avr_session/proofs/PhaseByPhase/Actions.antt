@@ -5,21 +5,18 @@ use Rattle.avr_desk.specs.Said.{Saying}
 use Rattle.avr_part.specs.Part.{Part}
 use Rattle.stk_host.specs.Dialog.{Dialog, Done, ◌>>=◌}
 use Rattle.stk_host.proofs.Dialogs.Bound.{bind_same, bind_done, bind_assoc}
-use Rattle.avr_session.specs.declared.standing.Standing.{Standing}
-use Rattle.avr_session.specs.declared.standing.Standing.TheVariants.{Fine, Faulty, Over}
+use Rattle.avr_session.specs.Standing.{Standing, Fine}
 use Rattle.avr_session.specs.Actions.{Action}
 use Rattle.avr_session.specs.Session.{unless_fault, phase, phases}
 
 unless_done : (standing : Standing) → unless_fault (Done Fine) standing ≡ Done standing
 unless_done Fine = refl
-unless_done Faulty = refl
-unless_done Over = refl
+unless_done standing = refl
 
 unless_both : (first more : Dialog Saying Standing) (standing : Standing)
     → unless_fault (first >>= unless_fault more) standing ≡ unless_fault first standing >>= unless_fault more
 unless_both first more Fine = refl
-unless_both first more Faulty = refl
-unless_both first more Over = refl
+unless_both first more standing = refl
 
 -- of one action its phase is all
 pub phases-one : (part : Part) (s : Switches) (action : Action) → phases part s (action ∷ []) ≡ phase part s action

@@ -8,11 +8,12 @@ use Rattle.avr_desk.specs.Record.{DeskView, Bytes}
 use Rattle.avr_cli.specs.declared.settings.Switches.{Switches}
 use Rattle.avr_cli.specs.declared.update.Format.{Format}
 use Rattle.avr_image.specs.Image.{byte_count}
+use Rattle.avr_part.specs.Mem.{name_of}
 use Rattle.avr_part.specs.Part.{Part}
 use Rattle.avr_part.specs.declared.part.Mem.{Mem}
-use Rattle.avr_part.specs.declared.part.Mem.TheVariants.{Flash, Eeprom, Lfuse, Hfuse, Efuse, Lock, Signature, Calibration}
+use Rattle.avr_part.specs.declared.part.Mem.TheVariants.{Flash}
 use Rattle.stk_host.specs.declared.fault.HostFault.{HostFault}
-use Rattle.stk_host.specs.declared.fault.HostFault.TheVariants.{NoAnswer, LinkEnded, SendFailed, Babble, Refused, BadAnswer, WrongSignature, Differs, ReadOnly, Memory, RecvFailed}
+use Rattle.stk_host.specs.declared.fault.HostFault.TheVariants.{NoAnswer, WrongSignature}
 use Rattle.stk_host.specs.Tape.{Tape, Reading, on_tape, answer}
 use Rattle.stk_host.specs.Play.{Position}
 use Rattle.stk_host.specs.Talk.{heard}
@@ -20,13 +21,13 @@ use Rattle.stk_host.specs.Dialog.{Dialog, Done, Say, Ask, ◌>>=◌, lifted, Eve
 use Rattle.stk_host.specs.Operations.{opening, erasing, writing, reading, verifying}
 use Rattle.avr_desk.specs.Lines.{information, warning, error}
 use Rattle.avr_desk.specs.Said.{Saying, Line, Creates, Writes, Outs, IsPrefixOf}
-use Rattle.avr_session.specs.declared.standing.Standing.{Standing}
-use Rattle.avr_session.specs.declared.standing.Standing.TheVariants.{Fine, Faulty, Over}
+use Rattle.avr_session.specs.Standing.{Standing, Fine}
 use Rattle.avr_session.specs.Actions.{LeftOut, TheErase, TheWrite, Action, OpenSession, EraseChip, WriteImage, CompareImage, SaveMemory, LeaveOut}
 use Rattle.avr_session.specs.FileText.{file_text}
 use Rattle.avr_session.specs.Lines.{informs, warns, other_signature, fault_line}
 use Rattle.avr_session.specs.Phases.{is_told}
-use Rattle.avr_session.specs.Runs.{Devices, Cause, OfSending, OfListening, OfFile, OfPrinting, OfMemory, NotCreated, NotWritten, is_error, tells_fault, Ran, AtFrame, StopsAt, SaysPrefix}
+use Rattle.avr_session.specs.Runs.{Devices, Cause, OfSending, OfListening, OfFile, OfPrinting, OfMemory, NotCreated, NotWritten, is_error, tells_fault, Ran, AtFrame, StopsAt}
+use Rattle.avr_session.specs.Reporting.{SaysPrefix}
 use Rattle.avr_session.specs.Session.{says, standing, reported, unless_fault, fault_or, opening_says, warns_of_signature, signature_says, bytes_say, saving_says, kept_of, erased_says, written_says, verified_says, read_says, left_out_says, phase, phases}
 use Rattle.avr_session.proofs.Runs.Stops.{sayings_by}
 
@@ -110,8 +111,7 @@ foretells_then first more f g = along_bind Foretold Foretold first (unless_fault
         → Along (λ behind after. tells_fault (said ++ behind) ≡ is_told after) (unless_fault more s)
     next_of said Fine is = along_more Foretold (λ behind after. tells_fault (said ++ behind) ≡ is_told after) more
         (λ behind after same. list_any-append is_error said behind ∙ (ap (λ x. x || tells_fault behind) is ∙ same)) g
-    next_of said Faulty is = ap tells_fault (append-nil said) ∙ is
-    next_of said Over is = ap tells_fault (append-nil said) ∙ is
+    next_of said s is = ap tells_fault (append-nil said) ∙ is
 
 -- an operation and its report
 foretells_reported : {A : Type 0} (operation : Dialog ⊥ (Result A HostFault))
@@ -133,16 +133,7 @@ foretells_says sayings f = along_says Foretold sayings (Done Fine) (ap tells_fau
 
 fault_is_told : (A : Type 0) (fault : HostFault) → is_told (standing {A = A} (Err fault)) ≡ true
 fault_is_told A NoAnswer = refl
-fault_is_told A LinkEnded = refl
-fault_is_told A SendFailed = refl
-fault_is_told A Babble = refl
-fault_is_told A (Refused command status) = refl
-fault_is_told A (BadAnswer command) = refl
-fault_is_told A (WrongSignature found) = refl
-fault_is_told A (Differs mem address want found) = refl
-fault_is_told A (ReadOnly mem) = refl
-fault_is_told A Memory = refl
-fault_is_told A RecvFailed = refl
+fault_is_told A fault = refl
 
 fault_tells : (part : Part) (fault : HostFault) → tells_fault (Line (fault_line part fault) ∷ []) ≡ true
 unfolding fault_line
@@ -161,21 +152,9 @@ warns_none quiet pieces = unless_quiet (nat_lt 1 quiet) (warning pieces) refl
 
 bytes_none : (quiet : ℕ) (mem : Mem) (count : ℕ) (done : Bytes) → tells_fault (bytes_say quiet mem count done) ≡ false
 bytes_none quiet Flash count done = unless_quiet (nat_lt 0 quiet)
-    (information (codes "flash" ∷ codes ": " ∷ decimal count ∷ done ∷ [])) refl
-bytes_none quiet Eeprom count done = unless_quiet (nat_lt 0 quiet)
-    (information (codes "eeprom" ∷ codes ": " ∷ decimal count ∷ done ∷ [])) refl
-bytes_none quiet Lfuse count done = unless_quiet (nat_lt 0 quiet)
-    (information (codes "lfuse" ∷ codes ": " ∷ decimal count ∷ done ∷ [])) refl
-bytes_none quiet Hfuse count done = unless_quiet (nat_lt 0 quiet)
-    (information (codes "hfuse" ∷ codes ": " ∷ decimal count ∷ done ∷ [])) refl
-bytes_none quiet Efuse count done = unless_quiet (nat_lt 0 quiet)
-    (information (codes "efuse" ∷ codes ": " ∷ decimal count ∷ done ∷ [])) refl
-bytes_none quiet Lock count done = unless_quiet (nat_lt 0 quiet)
-    (information (codes "lock" ∷ codes ": " ∷ decimal count ∷ done ∷ [])) refl
-bytes_none quiet Signature count done = unless_quiet (nat_lt 0 quiet)
-    (information (codes "signature" ∷ codes ": " ∷ decimal count ∷ done ∷ [])) refl
-bytes_none quiet Calibration count done =
-    unless_quiet (nat_lt 0 quiet) (information (codes "calibration" ∷ codes ": " ∷ decimal count ∷ done ∷ [])) refl
+    (information (name_of Flash ∷ codes ": " ∷ decimal count ∷ done ∷ [])) refl
+bytes_none quiet mem count done = unless_quiet (nat_lt 0 quiet)
+    (information (name_of mem ∷ codes ": " ∷ decimal count ∷ done ∷ [])) refl
 
 signature_none : (quiet : ℕ) (found : Bytes) → tells_fault (signature_says quiet found) ≡ false
 signature_none quiet found = unless_quiet (nat_lt 0 quiet) (information (codes "device signature = " ∷ _ ∷ [])) refl
@@ -215,16 +194,7 @@ opening_tells quiet part (Err (WrongSignature found)) =
     list_any-append is_error (signature_says quiet found) (Line (fault_line part (WrongSignature found)) ∷ [])
     ∙ (ap (λ b. b || tells_fault (Line (fault_line part (WrongSignature found)) ∷ [])) (signature_none quiet found)
     ∙ fault_tells part (WrongSignature found))
-opening_tells quiet part (Err NoAnswer) = fault_tells part NoAnswer
-opening_tells quiet part (Err LinkEnded) = fault_tells part LinkEnded
-opening_tells quiet part (Err SendFailed) = fault_tells part SendFailed
-opening_tells quiet part (Err Babble) = fault_tells part Babble
-opening_tells quiet part (Err (Refused command status)) = fault_tells part (Refused command status)
-opening_tells quiet part (Err (BadAnswer command)) = fault_tells part (BadAnswer command)
-opening_tells quiet part (Err (Differs mem address want found)) = fault_tells part (Differs mem address want found)
-opening_tells quiet part (Err (ReadOnly mem)) = fault_tells part (ReadOnly mem)
-opening_tells quiet part (Err Memory) = fault_tells part Memory
-opening_tells quiet part (Err RecvFailed) = fault_tells part RecvFailed
+opening_tells quiet part (Err fault) = fault_tells part fault
 
 left_out_none : (quiet : ℕ) (what : LeftOut) → tells_fault (left_out_says quiet what) ≡ false
 left_out_none quiet TheErase = warns_none quiet (codes "chip not erased because of -n" ∷ [])
@@ -289,9 +259,9 @@ begun_none OfSending whole begun later x none = of_frame begun later x
 begun_none OfListening whole begun later x none = quiet_by begun [] x.0 refl
 begun_none (OfFile file NotCreated) whole begun later x none = quiet_by begun [] x.none refl
 begun_none (OfFile file NotWritten) whole begun later (inl x) none =
-    quiet_by begun (Said (Writes x.done) ∷ []) x.part refl
+    quiet_by begun (Said (Writes x.1.done) ∷ []) x.1.part refl
 begun_none (OfFile file NotWritten) whole begun later (inr x) none =
-    quiet_by begun (Said (Outs x.done) ∷ []) x.part refl
+    quiet_by begun (Said (Outs x.1.done) ∷ []) x.1.part refl
 begun_none OfPrinting whole begun later x none =
     let due = sym (ap tells_fault (sayings_by later (Said (Line x.bytes) ∷ x.more) x.due)) ∙ none in
     let one = line_none x.done x.bytes x.prefix

@@ -1,9 +1,10 @@
 -- An operation of the host and its report, as a phase of a session.
 use Rattle.std.proofs.Common.{◌≡◌, ℕ, ◌≤◌, Bool, true, false, List, [], ◌++◌, length, refl, sym, ap, ◌∙◌, ◌∷◌, subst, bytes_eq, if◌then◌else◌, Option, Some, None, Result, Ok, Err, inl, inr, ◌⊎◌}
 use Rattle.avr_desk.specs.Record.{DeskView}
+use Rattle.avr_desk.specs.declared.desk.DeskFault.{DeskFault}
 use Rattle.avr_part.specs.Part.{Part}
 use Rattle.stk_host.specs.declared.fault.HostFault.{HostFault}
-use Rattle.stk_host.specs.declared.fault.HostFault.TheVariants.{NoAnswer, LinkEnded, SendFailed, Babble, Refused, BadAnswer, WrongSignature, Differs, ReadOnly, Memory, RecvFailed}
+use Rattle.stk_host.specs.declared.fault.HostFault.TheVariants.{NoAnswer, LinkEnded, SendFailed, WrongSignature, ReadOnly, Memory, RecvFailed}
 use Rattle.stk_host.specs.Talk as link
 use Rattle.stk_host.specs.declared.fault.StepFault.TheVariants as of_step
 use Rattle.stk_host.specs.declared.fault.StepFault.{StepFault}
@@ -16,154 +17,75 @@ use Rattle.stk_host.specs.Steps.{StepOutcome, step, play}
 use Rattle.stk_host.specs.WriteSteps.{write_steps}
 use Rattle.stk_host.specs.Operations.{host_fault, signature_judged, without_bytes, handshake, opening, closing, operation, judged_by, no_result, erasing, writing}
 use Rattle.stk_host.specs.Talk.{LinkView, heard}
-use Rattle.stk_host.specs.Dialog.{Dialog, Done, ◌>>=◌, Played, played}
+use Rattle.stk_host.specs.Dialog.{Dialog, Done, ◌>>=◌, lifted, Played, played}
 use Rattle.stk_host.specs.declared.fault.Broken.{Broken}
 use Rattle.stk_host.specs.declared.fault.Broken.TheVariants.{Send, Recv}
 use Rattle.stk_host.specs.Play.{Position, PlaysOver, FailsOver}
+use Rattle.stk_host.specs.State.{lasting_fault}
 use Rattle.stk_host.specs.Calls.{EndsCall, EndsOrLacks, IsBroken, UnlessBroken}
 use Rattle.stk_host.proofs.Dialogs.Lifted.{sayings_raised}
 use Rattle.stk_host.proofs.Talks.InDialogs.{continued, played_bind}
-use Rattle.avr_desk.specs.Said.{Saying, Tells}
-use Rattle.avr_session.specs.declared.standing.Stopped.{Stopped}
-use Rattle.avr_session.specs.Concluding.{after_outcome, conclusion}
+use Rattle.avr_desk.specs.Said.{Saying, Line, Tells}
+use Rattle.avr_session.specs.Concluding.{HostServes, after_outcome, conclusion, stands}
 use Rattle.avr_session.specs.Lines.{fault_line}
-use Rattle.avr_session.specs.Session.{says, standing, reported, fault_or}
+use Rattle.avr_session.specs.Session.{says, standing, reported, opening_says}
 use Rattle.avr_session.specs.Taking.{AtOnce}
-use Rattle.avr_session.specs.Runs.{Cause, OfSending, OfListening, OfMemory, devices, Terms, cause_line, HasCome, PrintStops, SaysOrStops, Reports, Runs}
+use Rattle.avr_session.specs.Runs.{Cause, OfMemory, Devices, devices, BrokeOff, Terms, cause_line, HasCome}
+use Rattle.avr_session.specs.Phases.{Runs}
+use Rattle.avr_session.specs.Reporting.{PrintStops, SaysOrStops, Reports}
 use Rattle.avr_desk.proofs.Lines.Told.{same_here}
 use Rattle.avr_session.proofs.PhaseByPhase.Reports.{told_some}
 use Rattle.avr_session.proofs.Runs.Calls.{came_lifted, came_said, came_on, ran_from, broke_quietly, broke_saying, broke_operation, broke_lacking, broken_cause, StopsReport, ToldBy}
 
--- the outcome stops the run
-abbrev pub IsStop : {A : Type 0} → Result A HostFault → Type 0
-IsStop (Err SendFailed) = Unit {0}
-IsStop (Err RecvFailed) = Unit {0}
-IsStop (Err Memory) = Unit {0}
-IsStop outcome = ⊥
+-- Why an operation stops a run: the link failed at it, or memory was refused.
+pub data Stop : Type 0 where
+  Broke : Broken → Stop
+  Lacks : Stop
 
-abbrev pub cause_of : {A : Type 0} → Result A HostFault → Cause
-cause_of (Err SendFailed) = OfSending
-cause_of (Err RecvFailed) = OfListening
-cause_of outcome = OfMemory
+abbrev pub fault_at : Stop → HostFault
+fault_at (Broke Send) = SendFailed
+fault_at (Broke Recv) = RecvFailed
+fault_at Lacks = Memory
 
--- memory was refused
-abbrev pub IsMemory : {A : Type 0} → Result A HostFault → Type 0
-IsMemory (Err Memory) = Unit {0}
-IsMemory outcome = ⊥
+abbrev pub cause_at : Stop → Cause
+cause_at (Broke by) = broken_cause by
+cause_at Lacks = OfMemory
 
-memory_is : {A : Type 0} (outcome : Result A HostFault) → IsMemory outcome → outcome ≡ Err Memory
-memory_is (Ok a) is = absurd is
-memory_is (Err NoAnswer) is = absurd is
-memory_is (Err LinkEnded) is = absurd is
-memory_is (Err SendFailed) is = absurd is
-memory_is (Err Babble) is = absurd is
-memory_is (Err (Refused command status)) is = absurd is
-memory_is (Err (BadAnswer command)) is = absurd is
-memory_is (Err (WrongSignature found)) is = absurd is
-memory_is (Err (Differs mem address want found)) is = absurd is
-memory_is (Err (ReadOnly mem)) is = absurd is
-memory_is (Err Memory) is = refl
-memory_is (Err RecvFailed) is = absurd is
+abbrev pub StopsAs : {A : Type 0} → Result A HostFault → Stop → Type 0
+StopsAs outcome stop = outcome ≡ Err (fault_at stop)
 
--- an outcome that stops the run is one or the other
-stop_kind : {A : Type 0} (outcome : Result A HostFault) → IsStop outcome → IsBroken outcome ⊎ IsMemory outcome
-stop_kind (Ok a) stop = absurd stop
-stop_kind (Err NoAnswer) stop = absurd stop
-stop_kind (Err LinkEnded) stop = absurd stop
-stop_kind (Err SendFailed) stop = inl tt
-stop_kind (Err Babble) stop = absurd stop
-stop_kind (Err (Refused command status)) stop = absurd stop
-stop_kind (Err (BadAnswer command)) stop = absurd stop
-stop_kind (Err (WrongSignature found)) stop = absurd stop
-stop_kind (Err (Differs mem address want found)) stop = absurd stop
-stop_kind (Err (ReadOnly mem)) stop = absurd stop
-stop_kind (Err Memory) stop = inr tt
-stop_kind (Err RecvFailed) stop = inl tt
+-- the link broke the dialog off, or memory, where it is taken, was refused before anything was sent or heard
+abbrev pub StopsOver : {R : Type 0} → Bool → Dialog ⊥ R → Position → LinkView → LinkView → Stop → Type 0
+StopsOver takes dialog m o p (Broke by) = FailsOver by dialog m o p
+StopsOver takes dialog m o p Lacks = (takes ≡ true) × (p ≡ o)
 
-memory_stops : {A : Type 0} (outcome : Result A HostFault) → IsMemory outcome → IsStop outcome
-memory_stops outcome is = subst IsStop (sym (memory_is outcome is)) tt
-
--- the link failed at this
-abbrev fault_of : Broken → HostFault
-fault_of Send = SendFailed
-fault_of Recv = RecvFailed
-
-link_stops : {A : Type 0} (by : Broken) (outcome : Result A HostFault) → outcome ≡ Err (fault_of by) → IsStop outcome
-link_stops Send outcome is = subst IsStop (sym is) tt
-link_stops Recv outcome is = subst IsStop (sym is) tt
-
-link_cause : {A : Type 0} (by : Broken) (outcome : Result A HostFault) → outcome ≡ Err (fault_of by)
-    → cause_of outcome ≡ broken_cause by
-link_cause Send outcome is = ap cause_of is
-link_cause Recv outcome is = ap cause_of is
-
-link_not : {A : Type 0} (by : Broken) (outcome : Result A HostFault) → outcome ≡ Err (fault_of by)
-    → outcome ≡ Err Memory → ⊥
-link_not Send outcome is other = cc
-link_not Recv outcome is other = cc
-
--- How a call ended: it was played whole to an outcome that does not stop the run; or the link broke it off; or memory
--- was
--- refused before anything was sent or heard, where memory is taken.
+-- How a call ended: it was played whole to an outcome that stops nothing, or it stopped.
 abbrev pub Ended : {A : Type 0} → Bool → Dialog ⊥ (Result A HostFault) → Position → LinkView → LinkView
     → Result A HostFault → Position → Type 0
 Ended takes dialog m o p outcome n =
-    (PlaysOver dialog m o p outcome n × (after_outcome outcome ≡ Ok (standing outcome)))
-    ⊎ (((by : Broken) × (outcome ≡ Err (fault_of by)) × FailsOver by dialog m o p)
-    ⊎ ((takes ≡ true) × IsMemory outcome × (p ≡ o)))
+    (PlaysOver dialog m o p outcome n × (stands (after_outcome outcome) ≡ Ok (standing outcome)))
+    ⊎ ((stop : Stop) × StopsAs outcome stop × StopsOver takes dialog m o p stop)
 
--- memory is refused only where it is taken
-pub lacks_where : {A : Type 0} (takes : Bool) (dialog : Dialog ⊥ (Result A HostFault)) (m : Position) (o p : LinkView)
-    (outcome : Result A HostFault) (n : Position) → Ended takes dialog m o p outcome n → IsMemory outcome → takes ≡ true
-lacks_where takes dialog m o p outcome n (inl played) is =
-    let e = subst (λ x. after_outcome x ≡ Ok (standing x)) (memory_is outcome is) played.1 in
-    cc
-lacks_where takes dialog m o p outcome n (inr (inl broke)) is =
-    absurd (link_not broke.0 outcome broke.1 (memory_is outcome is))
-lacks_where takes dialog m o p outcome n (inr (inr lacks)) is = lacks.0
+module _ {A : Type 0} (dialog : Dialog ⊥ (Result A HostFault)) (m : Position) (o p : LinkView) where
+  pub call_ended : (outcome : Result A HostFault) (n : Position) → (PlaysOver dialog m o p (Err Memory) n → ⊥)
+      → EndsCall dialog m o p outcome n → Ended false dialog m o p outcome n
+  call_ended (Err SendFailed) n never ends = inr (Broke Send, refl, ends)
+  call_ended (Err RecvFailed) n never ends = inr (Broke Recv, refl, ends)
+  call_ended (Err Memory) n never ends = absurd (never ends)
+  call_ended outcome n never ends = inl (ends, refl)
 
--- where none is taken, only the link breaks off a call
-pub only_broken : {A : Type 0} (dialog : Dialog ⊥ (Result A HostFault)) (m : Position) (o p : LinkView)
-    (outcome : Result A HostFault) (n : Position) → Ended false dialog m o p outcome n → IsStop outcome
-    → IsBroken outcome
-only_broken dialog m o p outcome n ended stop = elim (stop_kind outcome stop) [
-  | inl broken ↦ broken
-  | inr lacks ↦ let e = lacks_where false dialog m o p outcome n ended lacks in absurd (cc)
-]
-
-pub call_ended : {A : Type 0} (dialog : Dialog ⊥ (Result A HostFault)) (m : Position) (o p : LinkView)
-    (outcome : Result A HostFault) (n : Position) → (PlaysOver dialog m o p (Err Memory) n → ⊥)
-    → EndsCall dialog m o p outcome n → Ended false dialog m o p outcome n
-call_ended dialog m o p (Ok a) n never ends = inl (ends, refl)
-call_ended dialog m o p (Err NoAnswer) n never ends = inl (ends, refl)
-call_ended dialog m o p (Err LinkEnded) n never ends = inl (ends, refl)
-call_ended dialog m o p (Err SendFailed) n never ends = inr (inl (Send, refl, ends))
-call_ended dialog m o p (Err Babble) n never ends = inl (ends, refl)
-call_ended dialog m o p (Err (Refused command status)) n never ends = inl (ends, refl)
-call_ended dialog m o p (Err (BadAnswer command)) n never ends = inl (ends, refl)
-call_ended dialog m o p (Err (WrongSignature found)) n never ends = inl (ends, refl)
-call_ended dialog m o p (Err (Differs mem address want found)) n never ends = inl (ends, refl)
-call_ended dialog m o p (Err (ReadOnly mem)) n never ends = inl (ends, refl)
-call_ended dialog m o p (Err Memory) n never ends = absurd (never ends)
-call_ended dialog m o p (Err RecvFailed) n never ends = inr (inl (Recv, refl, ends))
-
-pub lack_ended : {A : Type 0} (dialog : Dialog ⊥ (Result A HostFault)) (m : Position) (o p : LinkView)
-    (outcome : Result A HostFault) (n : Position) → EndsOrLacks dialog m o p outcome n
-    → Ended true dialog m o p outcome n
-lack_ended dialog m o p (Ok a) n ends = inl (ends, refl)
-lack_ended dialog m o p (Err NoAnswer) n ends = inl (ends, refl)
-lack_ended dialog m o p (Err LinkEnded) n ends = inl (ends, refl)
-lack_ended dialog m o p (Err SendFailed) n ends = inr (inl (Send, refl, ends))
-lack_ended dialog m o p (Err Babble) n ends = inl (ends, refl)
-lack_ended dialog m o p (Err (Refused command status)) n ends = inl (ends, refl)
-lack_ended dialog m o p (Err (BadAnswer command)) n ends = inl (ends, refl)
-lack_ended dialog m o p (Err (WrongSignature found)) n ends = inl (ends, refl)
-lack_ended dialog m o p (Err (Differs mem address want found)) n ends = inl (ends, refl)
-lack_ended dialog m o p (Err (ReadOnly mem)) n ends = inl (ends, refl)
-lack_ended dialog m o p (Err Memory) n ends = inr (inr (refl, tt, ends.0))
-lack_ended dialog m o p (Err RecvFailed) n ends = inr (inl (Recv, refl, ends))
+  pub lack_ended : (outcome : Result A HostFault) (n : Position) → EndsOrLacks dialog m o p outcome n
+      → Ended true dialog m o p outcome n
+  lack_ended (Err SendFailed) n ends = inr (Broke Send, refl, ends)
+  lack_ended (Err RecvFailed) n ends = inr (Broke Recv, refl, ends)
+  lack_ended (Err Memory) n ends = inr (Lacks, refl, (refl, ends.0))
+  lack_ended outcome n ends = inl (ends, refl)
 
 -- no step answers that memory was refused: what is judged of its outcome doesn't either
+
+abbrev IsMemory : {A : Type 0} → Result A HostFault → Type 0
+IsMemory (Err Memory) = Unit {0}
+IsMemory outcome = ⊥
 
 abbrev IsLacking : {A : Type 0} → Option (Result A HostFault × ℕ × Tape) → Type 0
 IsLacking None = ⊥
@@ -186,10 +108,7 @@ judged_lacks_none {A = A} {m = m} first judge not f =
 
 host_fault_not : (A : Type 0) (fault : StepFault) → IsMemory {A = A} (Err (host_fault fault)) → ⊥
 host_fault_not A of_step.NoAnswer is = is
-host_fault_not A of_step.LinkEnded is = is
-host_fault_not A of_step.Babble is = is
-host_fault_not A (of_step.Refused command status) is = is
-host_fault_not A (of_step.BadAnswer command) is = is
+host_fault_not A fault is = is
 
 ended_not : (outcome : StepOutcome) → IsMemory (without_bytes outcome) → ⊥
 ended_not (Ok bytes) is = is
@@ -238,79 +157,61 @@ writing_lacks_none {m = m} {n = n} {o = o} {p = p} part mem image f = by_test (i
     by_test false f = subst (λ (p : Played ⊥ (Result (Unit {0}) HostFault)). IsLacking p.outcome)
         (sym (f.plays.plays [])) tt
 
-stop_goes : {A : Type 0} (outcome : Result A HostFault) (told : Result (Unit {0}) Stopped) → IsStop outcome
-    → conclusion outcome told ≡ Err (record {})
-stop_goes (Ok a) told stop = absurd stop
-stop_goes (Err NoAnswer) told stop = absurd stop
-stop_goes (Err LinkEnded) told stop = absurd stop
-stop_goes (Err SendFailed) (Ok ok) stop = refl
-stop_goes (Err SendFailed) (Err stopped) stop = refl
-stop_goes (Err Babble) told stop = absurd stop
-stop_goes (Err (Refused command status)) told stop = absurd stop
-stop_goes (Err (BadAnswer command)) told stop = absurd stop
-stop_goes (Err (WrongSignature found)) told stop = absurd stop
-stop_goes (Err (Differs mem address want found)) told stop = absurd stop
-stop_goes (Err (ReadOnly mem)) told stop = absurd stop
-stop_goes (Err Memory) (Ok ok) stop = refl
-stop_goes (Err Memory) (Err stopped) stop = refl
-stop_goes (Err RecvFailed) (Ok ok) stop = refl
-stop_goes (Err RecvFailed) (Err stopped) stop = refl
+-- what stops a run ends it so, however the report went
+stop_goes : {A : Type 0} {outcome : Result A HostFault} (stop : Stop) (said : Result (Unit {0}) DeskFault)
+    → StopsAs outcome stop → stands (conclusion outcome said) ≡ Err tt
+stop_goes stop (Err _) is = refl
+stop_goes (Broke Send) (Ok ok) is = ap (λ x. stands (after_outcome x)) is
+stop_goes (Broke Recv) (Ok ok) is = ap (λ x. stands (after_outcome x)) is
+stop_goes Lacks (Ok ok) is = ap (λ x. stands (after_outcome x)) is
 
--- the line of a fault that stops the run tells why it does
-pub told_of : {A : Type 0} (old new : DeskView) (part : Part) (good : A → List Saying) (outcome : Result A HostFault)
-    (told : Result (Unit {0}) Stopped) → Reports PrintStops old new (fault_or part good outcome) told
-    → IsStop outcome → Tells old new (cause_line (cause_of outcome))
-unfolding cause_line fault_line
-told_of old new part good (Ok x) told reports stop = absurd stop
-told_of old new part good (Err NoAnswer) told reports stop = absurd stop
-told_of old new part good (Err LinkEnded) told reports stop = absurd stop
-told_of old new part good (Err SendFailed) told reports stop =
-    told_some old new (fault_line part SendFailed) told reports
-told_of old new part good (Err Babble) told reports stop = absurd stop
-told_of old new part good (Err (Refused command status)) told reports stop = absurd stop
-told_of old new part good (Err (BadAnswer command)) told reports stop = absurd stop
-told_of old new part good (Err (WrongSignature found)) told reports stop = absurd stop
-told_of old new part good (Err (Differs mem address want found)) told reports stop = absurd stop
-told_of old new part good (Err (ReadOnly mem)) told reports stop = absurd stop
-told_of old new part good (Err Memory) told reports stop = told_some old new (fault_line part Memory) told reports
-told_of old new part good (Err RecvFailed) told reports stop =
-    told_some old new (fault_line part RecvFailed) told reports
+-- the host serves after any outcome that leaves the line
+pub serves_after : {A : Type 0} (outcome : Result A HostFault) (said : Result (Unit {0}) DeskFault)
+    (broken : Option HostFault) → broken ≡ lasting_fault outcome → HostServes (stands (conclusion outcome said)) broken
+serves_after outcome (Err _) broken is = tt
+serves_after (Err LinkEnded) (Ok done) broken is = tt
+serves_after (Err SendFailed) (Ok done) broken is = tt
+serves_after (Err RecvFailed) (Ok done) broken is = tt
+serves_after (Err Memory) (Ok done) broken is = tt
+serves_after outcome (Ok done) broken is = is
 
 -- the link fails only where the outcome says so
-unbroken : {A P : Type 0} (outcome : Result A HostFault) → after_outcome outcome ≡ Ok (standing outcome)
+unbroken : {A P : Type 0} (outcome : Result A HostFault) → stands (after_outcome outcome) ≡ Ok (standing outcome)
     → UnlessBroken outcome P → P
-unbroken (Ok x) goes p = p
-unbroken (Err NoAnswer) goes p = p
-unbroken (Err LinkEnded) goes p = p
 unbroken (Err SendFailed) goes p = absurd (cc)
-unbroken (Err Babble) goes p = p
-unbroken (Err (Refused command status)) goes p = p
-unbroken (Err (BadAnswer command)) goes p = p
-unbroken (Err (WrongSignature found)) goes p = p
-unbroken (Err (Differs mem address want found)) goes p = p
-unbroken (Err (ReadOnly mem)) goes p = p
-unbroken (Err Memory) goes p = p
 unbroken (Err RecvFailed) goes p = absurd (cc)
+unbroken outcome goes p = p
 
-pub sound_lack : {A P : Type 0} (outcome : Result A HostFault) → IsMemory outcome → UnlessBroken outcome P → P
-sound_lack {P = P} outcome is p = subst (λ x. UnlessBroken x P) (memory_is outcome is) p
+-- its line is that of its cause
+line_at : (part : Part) (stop : Stop) → fault_line part (fault_at stop) ≡ cause_line (cause_at stop)
+unfolding cause_line fault_line
+line_at part (Broke Send) = refl
+line_at part (Broke Recv) = refl
+line_at part Lacks = refl
+
+-- and it is reported, where the line of such a fault is all that is said of it
+pub told_of : {A : Type 0} (part : Part) (tells : Result A HostFault → List Saying)
+    → ((stop : Stop) → tells (Err (fault_at stop)) ≡ Line (fault_line part (fault_at stop)) ∷ []) → {d e : DeskView}
+    {outcome : Result A HostFault} {said : Result (Unit {0}) DeskFault} → Reports PrintStops d e (tells outcome) said
+    → (stop : Stop) → StopsAs outcome stop → Tells d e (cause_line (cause_at stop))
+told_of part tells line {d = d} {e = e} {said = said} reports stop is =
+    subst (Tells d e) (line_at part stop) (told_some d e (fault_line part (fault_at stop)) said
+    (subst (λ sayings. Reports PrintStops d e sayings said) (ap tells is ∙ line stop) reports))
+
+pub opening_line : (quiet : ℕ) (part : Part) (stop : Stop)
+    → opening_says quiet part (Err (fault_at stop)) ≡ Line (fault_line part (fault_at stop)) ∷ []
+opening_line quiet part (Broke Send) = refl
+opening_line quiet part (Broke Recv) = refl
+opening_line quiet part Lacks = refl
 
 -- what stops a run is counted, or is want of memory
-pub stop_is : {A : Type 0} (outcome : Result A HostFault) (takes : Bool) (o p : LinkView) (d : DeskView)
-    → (IsBroken outcome → link.HasFailed o p) → (IsMemory outcome → (takes ≡ true) × (p.failures ≡ o.failures))
-    → IsStop outcome → HasCome takes (devices o d) (devices p d) (cause_of outcome)
-stop_is (Ok x) takes o p d failed lacks stop = absurd stop
-stop_is (Err NoAnswer) takes o p d failed lacks stop = absurd stop
-stop_is (Err LinkEnded) takes o p d failed lacks stop = absurd stop
-stop_is (Err SendFailed) takes o p d failed lacks stop = (failed tt, same_here d)
-stop_is (Err Babble) takes o p d failed lacks stop = absurd stop
-stop_is (Err (Refused command status)) takes o p d failed lacks stop = absurd stop
-stop_is (Err (BadAnswer command)) takes o p d failed lacks stop = absurd stop
-stop_is (Err (WrongSignature found)) takes o p d failed lacks stop = absurd stop
-stop_is (Err (Differs mem address want found)) takes o p d failed lacks stop = absurd stop
-stop_is (Err (ReadOnly mem)) takes o p d failed lacks stop = absurd stop
-stop_is (Err Memory) takes o p d failed lacks stop = let lack = lacks tt in (lack.0, (lack.1, same_here d))
-stop_is (Err RecvFailed) takes o p d failed lacks stop = (failed tt, same_here d)
+pub stop_come : {A R : Type 0} (takes : Bool) (dialog : Dialog ⊥ R) (m : Position) (o p : LinkView)
+    {outcome : Result A HostFault} (d : DeskView) (stop : Stop) → (IsBroken outcome → link.HasFailed o p)
+    → StopsAs outcome stop
+    → StopsOver takes dialog m o p stop → HasCome takes (devices o d) (devices p d) (cause_at stop)
+stop_come takes dialog m o p d (Broke Send) failed is over = (failed (subst IsBroken (sym is) tt), same_here d)
+stop_come takes dialog m o p d (Broke Recv) failed is over = (failed (subst IsBroken (sym is) tt), same_here d)
+stop_come takes dialog m o p d Lacks failed is over = (over.0, (ap (λ (v : LinkView). v.failures) over.1, same_here d))
 
 -- how far a conversation is at one moment, and what the devices show then
 pub record Moment : Type 0 where
@@ -321,41 +222,38 @@ pub record Moment : Type 0 where
 abbrev pub moment : Position → LinkView → DeskView → Moment
 moment position link desk = record { position = position; link = link; desk = desk }
 
+stopped_runs : {A R : Type 0} (go_on : A → Dialog Saying R) (dialog : Dialog ⊥ A) {m : Position} {o p : Devices}
+    {terms : Terms} (stop : Stop) → StopsOver terms.takes dialog m o.link p.link stop → ToldBy terms (cause_at stop) o p
+    → BrokeOff (lifted dialog >>= go_on) m o p terms (AtOnce terms.takes)
+stopped_runs go_on dialog (Broke by) over told = broke_operation go_on by over told
+stopped_runs go_on dialog {m = m} Lacks over told =
+    broke_lacking (lifted dialog >>= go_on) m over.1 told (over.0, refl)
+
 -- An operation and its report are a phase of a session.
 pub operation_runs : {A : Type 0} (operation : Dialog ⊥ (Result A HostFault))
     (outcome_says : Result A HostFault → List Saying) (x y : Moment) (outcome : Result A HostFault)
-    (said : Result (Unit {0}) Stopped) (terms : Terms) (By : DeskView → DeskView → Cause → List ℕ → Type 0)
+    (said : Result (Unit {0}) DeskFault) (terms : Terms) (By : DeskView → DeskView → Cause → List ℕ → Type 0)
     → StopsReport terms y.link x.desk y.desk (outcome_says outcome) By
     → Ended terms.takes operation x.position x.link y.link outcome y.position → length y.position.unread ≤ 281
     → UnlessBroken outcome (y.link.failures ≡ x.link.failures)
     → SaysOrStops By x.desk y.desk (outcome_says outcome) said
-    → (IsStop outcome → ToldBy terms (cause_of outcome) (devices x.link x.desk) (devices y.link y.desk))
+    → ((stop : Stop) → StopsAs outcome stop → StopsOver terms.takes operation x.position x.link y.link stop
+    → ToldBy terms (cause_at stop) (devices x.link x.desk) (devices y.link y.desk))
     → Runs (reported operation outcome_says) x.position (devices x.link x.desk) (devices y.link y.desk) terms
-    (AtOnce terms.takes) (conclusion outcome said) y.position
+    (AtOnce terms.takes) (stands (conclusion outcome said)) y.position
 unfolding came_lifted
-operation_runs operation outcome_says x y outcome (Ok done) terms By why (inl played) few link reports some =
+operation_runs operation outcome_says x y outcome (Ok done) terms By why (inl played) few link reports told =
     subst (λ r. Runs (reported operation outcome_says) x.position (devices x.link x.desk) (devices y.link y.desk) terms
     (AtOnce terms.takes) r y.position) (sym played.1)
     (ran_from (came_on (came_lifted (λ outcome. says (outcome_says outcome) (Done (standing outcome))) x.desk played.0
     few (unbroken outcome played.1 link))
     (came_said (outcome_says outcome) (Done (standing outcome)) y.position y.link reports)))
-operation_runs operation outcome_says x y outcome (Err stopped) terms By why (inl played) few link reports some =
+operation_runs operation outcome_says x y outcome (Err _) terms By why (inl played) few link reports told =
     broke_quietly (came_lifted (λ outcome. says (outcome_says outcome) (Done (standing outcome))) x.desk played.0 few
     (unbroken outcome played.1 link)) (sayings_raised played.0.events)
     (broke_saying (outcome_says outcome) (Done (standing outcome)) y.position y.link why reports)
-operation_runs operation outcome_says x y outcome said terms By why (inr (inl broke)) few link reports some =
-    let stop = link_stops broke.0 outcome broke.1 in
-    let why_not : ToldBy terms (broken_cause broke.0) (devices x.link x.desk) (devices y.link y.desk) =
-    subst (λ cause. ToldBy terms cause (devices x.link x.desk) (devices y.link y.desk))
-    (link_cause broke.0 outcome broke.1) (some stop) in
+operation_runs operation outcome_says x y outcome said terms By why (inr stops) few link reports told =
     subst (λ r. Runs (reported operation outcome_says) x.position (devices x.link x.desk) (devices y.link y.desk) terms
-    (AtOnce terms.takes) r y.position) (sym (stop_goes outcome said stop))
-    (broke_operation (λ outcome. says (outcome_says outcome) (Done (standing outcome))) broke.0 broke.2 why_not)
-operation_runs operation outcome_says x y outcome said terms By why (inr (inr lacks)) few link reports some =
-    let stop = memory_stops outcome lacks.1 in
-    let why_not : ToldBy terms OfMemory (devices x.link x.desk) (devices y.link y.desk) =
-    subst (λ cause. ToldBy terms cause (devices x.link x.desk) (devices y.link y.desk))
-    (ap cause_of (memory_is outcome lacks.1)) (some stop) in
-    subst (λ r. Runs (reported operation outcome_says) x.position (devices x.link x.desk) (devices y.link y.desk) terms
-    (AtOnce terms.takes) r y.position) (sym (stop_goes outcome said stop))
-    (broke_lacking (reported operation outcome_says) x.position lacks.2 why_not (lacks.0, refl))
+    (AtOnce terms.takes) r y.position) (sym (stop_goes stops.0 said stops.1))
+    (stopped_runs (λ outcome. says (outcome_says outcome) (Done (standing outcome))) operation stops.0 stops.2
+    (told stops.0 stops.1 stops.2))

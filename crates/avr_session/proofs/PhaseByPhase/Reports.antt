@@ -10,27 +10,20 @@ use Rattle.stk_host.specs.Dialog.{sayings}
 use Rattle.avr_desk.specs.Said.{Saying, Line, IsPrefixOf, IsPrinted, Tells, after_all}
 use Rattle.avr_desk.proofs.Stages.Sayings.{kept_append}
 use Rattle.avr_desk.proofs.Lines.Told.{failure_since, failure_told, follows_on, same_on, unsaid_since}
-use Rattle.avr_session.specs.Runs.{cause_line, Cause, OfSending, OfListening, OfFile, OfPrinting, OfMemory, FileTrouble, SaysPrefix, SaidSome, SaysOrStops, Reports, PrintStops, FileStops, DeskStops}
-use Rattle.avr_session.specs.declared.standing.Stopped.{Stopped}
-use Rattle.avr_session.specs.Concluding.{stopped_of}
+use Rattle.avr_session.specs.Runs.{cause_line, Cause, OfFile, OfPrinting, FileTrouble}
+use Rattle.avr_session.specs.Reporting.{SaysPrefix, SaidSome, SaysOrStops, Reports, PrintStops, FileStops, DeskStops}
 use Rattle.avr_session.specs.Saving.{SaveStops}
 use Rattle.avr_session.proofs.Runs.Stops.{sayings_by, line_part, prefix_behind, prefix_of}
 
 pub print_stops_later : (a b c : DeskView) → HasSameCounts a b → (cause : Cause) (told : List ℕ)
     → PrintStops b c cause told → PrintStops a c cause told
-print_stops_later a b c same OfSending told stops = absurd stops
-print_stops_later a b c same OfListening told stops = absurd stops
-print_stops_later a b c same (OfFile file trouble) told stops = absurd stops
 print_stops_later a b c same OfPrinting told stops = (unsaid_since a b c same stops.0, stops.1)
-print_stops_later a b c same OfMemory told stops = absurd stops
+print_stops_later a b c same cause told stops = absurd stops
 
 pub print_is_desk : (a b : DeskView) (cause : Cause) (told : List ℕ) → PrintStops a b cause told
     → DeskStops a b cause told
-print_is_desk a b OfSending told stops = stops
-print_is_desk a b OfListening told stops = stops
 print_is_desk a b (OfFile file trouble) told stops = absurd stops
-print_is_desk a b OfPrinting told stops = stops
-print_is_desk a b OfMemory told stops = stops
+print_is_desk a b cause told stops = stops
 
 pub file_stops_in : (a b c : DeskView) (file : List ℕ) (trouble : FileTrouble) (told : List ℕ) → HasSameCounts a b
     → FileStops b c file trouble told → FileStops a c file trouble told
@@ -56,33 +49,29 @@ said_until old new sayings prefix failed = record {
 }
 
 line_said : (old new : DeskView) (bytes : List ℕ) (printed : Result (Unit {0}) DeskFault)
-    (result : Result (Unit {0}) Stopped)
     → IsPrinted old new bytes printed → Counts Messages old new printed → IfErr printed (λ e. e ≡ Failed)
-    → result ≡ stopped_of printed → SaysOrStops PrintStops old new (Line bytes ∷ []) result
-line_said old new bytes (Ok done) (Ok ok) is counts only same = (is, counts.1)
-line_said old new bytes (Ok done) (Err stopped) is counts only same = cc
-line_said old new bytes (Err fault) (Ok ok) is counts only same = cc
-line_said old new bytes (Err NotFound) (Err stopped) is counts only same = cc
-line_said old new bytes (Err Failed) (Err stopped) is counts only same =
+    → SaysOrStops PrintStops old new (Line bytes ∷ []) printed
+line_said old new bytes (Ok done) is counts only = (is, counts.1)
+line_said old new bytes (Err NotFound) is counts only = absurd (cc)
+line_said old new bytes (Err Failed) is counts only =
     said_until old new (Line bytes ∷ []) (line_part old new bytes is) counts.1
 
 -- a line that was printed, or not
 pub reports_line : (old new : DeskView) (bytes : List ℕ) (printed : Result (Unit {0}) DeskFault)
-    (result : Result (Unit {0}) Stopped)
     → IsPrinted old new bytes printed → Counts Messages old new printed → IfErr printed (λ e. e ≡ Failed)
-    → result ≡ stopped_of printed → Reports PrintStops old new (Line bytes ∷ []) result
-reports_line old new bytes printed result is counts only same =
-    record { says = line_said old new bytes printed result is counts only same; follows = counts.0 }
+    → Reports PrintStops old new (Line bytes ∷ []) printed
+reports_line old new bytes printed is counts only =
+    record { says = line_said old new bytes printed is counts only; follows = counts.0 }
 
 -- a report and then a line, where a cause that stops the line stops both
 said_then : (By : DeskView → DeskView → Cause → List ℕ → Type 0) (old mid new : DeskView) (first more : List Saying)
-    (result : Result (Unit {0}) Stopped)
+    (result : Result (Unit {0}) DeskFault)
     → ((cause : Cause) (told : List ℕ) → PrintStops mid new cause told → By old new cause told)
     → Passes (after_all first) old mid × HasSameCounts old mid → SaysOrStops PrintStops mid new more result
     → SaysOrStops By old new (first ++ more) result
 said_then By old mid new first more (Ok done) why was then =
     (kept_append first more old.kept mid.kept new.kept was.0 then.0, same_on old mid new was.1 then.1)
-said_then By old mid new first more (Err stopped) why was then = record {
+said_then By old mid new first more (Err _) why was then = record {
   between = then.between;
   cause = then.cause;
   prefix = prefix_behind first more was.0 then.prefix;
@@ -93,7 +82,7 @@ said_then By old mid new first more (Err stopped) why was then = record {
 
 -- one report and then another
 pub reports_then : (old mid new : DeskView) (first more : List Saying) {done : Unit {0}}
-    (result : Result (Unit {0}) Stopped) → Reports PrintStops old mid first (Ok done)
+    (result : Result (Unit {0}) DeskFault) → Reports PrintStops old mid first (Ok done)
     → Reports PrintStops mid new more result → Reports PrintStops old new (first ++ more) result
 reports_then old mid new first more result was then = record {
   says = said_then PrintStops old mid new first more result (print_stops_later old mid new was.says.1) was.says
@@ -103,7 +92,7 @@ reports_then old mid new first more result was then = record {
 
 -- something is saved, and then a line is printed
 pub saves_then : (old mid new : DeskView) (file : List ℕ) (first more : List Saying) {done : Unit {0}}
-    (result : Result (Unit {0}) Stopped) → Reports (SaveStops file) old mid first (Ok done)
+    (result : Result (Unit {0}) DeskFault) → Reports (SaveStops file) old mid first (Ok done)
     → Reports PrintStops mid new more result → Reports DeskStops old new (first ++ more) result
 saves_then old mid new file first more result was then = record {
   says = said_then DeskStops old mid new first more result
@@ -114,10 +103,10 @@ saves_then old mid new file first more result was then = record {
 
 -- the first report was the last
 pub reports_until : (By Then : DeskView → DeskView → Cause → List ℕ → Type 0) {old new : DeskView}
-    (first more : List Saying) (stopped : Stopped)
+    (first more : List Saying) (fault : DeskFault)
     → ((cause : Cause) (told : List ℕ) → By old new cause told → Then old new cause told)
-    → Reports By old new first (Err stopped) → Reports Then old new (first ++ more) (Err stopped)
-reports_until By Then first more stopped why was =
+    → Reports By old new first (Err fault) → Reports Then old new (first ++ more) (Err fault)
+reports_until By Then first more fault why was =
     let some = was.says in
     record {
       says = record {
@@ -159,20 +148,17 @@ told_line OfPrinting told l old new between follows prefix stops kept =
     ∙ (ap (λ told. after_err told between.kept) stops.1 ∙ sym (kept_nothing between.kept)) in
     let some = one_line l prefix in
     record { told = some.0; tells = inr (some.1, stops.0); kept = same ∙ some.2; follows = follows }
-told_line OfSending told l old new between follows prefix stops kept = absurd stops
-told_line OfListening told l old new between follows prefix stops kept = absurd stops
-told_line (OfFile file trouble) told l old new between follows prefix stops kept = absurd stops
-told_line OfMemory told l old new between follows prefix stops kept = absurd stops
+told_line cause told l old new between follows prefix stops kept = absurd stops
 
-some_told : (old new : DeskView) (l : List ℕ) (result : Result (Unit {0}) Stopped) → Follows old new
+some_told : (old new : DeskView) (l : List ℕ) (result : Result (Unit {0}) DeskFault) → Follows old new
     → SaysOrStops PrintStops old new (Line l ∷ []) result → Tells old new l
 some_told old new l (Ok done) follows said =
     record { told = l; tells = inl (refl, said.1); kept = said.0; follows = follows }
-some_told old new l (Err stopped) follows some =
+some_told old new l (Err _) follows some =
     told_line some.cause some.told l old new some.between follows some.prefix some.stops some.kept
 
 -- what was printed of a line that was reported
-pub told_some : (old new : DeskView) (l : List ℕ) (result : Result (Unit {0}) Stopped)
+pub told_some : (old new : DeskView) (l : List ℕ) (result : Result (Unit {0}) DeskFault)
     → Reports PrintStops old new (Line l ∷ []) result → Tells old new l
 told_some old new l result reports = some_told old new l result reports.follows reports.says
 

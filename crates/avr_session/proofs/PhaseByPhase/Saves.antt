@@ -11,10 +11,10 @@ use Rattle.stk_host.specs.Dialog.{Said}
 use Rattle.avr_desk.specs.Said.{Saying, Creates, Writes, Outs, Tells, after_all}
 use Rattle.avr_desk.proofs.Stages.Sayings.{kept_append, kept_none}
 use Rattle.avr_desk.proofs.Lines.Told.{failure_told, follows_on, same_on}
-use Rattle.avr_session.specs.Runs.{Cause, OfSending, OfListening, OfFile, OfPrinting, OfMemory, NotCreated, NotWritten, SaysPrefix, SaysOrStops, Reports, DeskStops, cause_line}
+use Rattle.avr_session.specs.Runs.{Cause, OfFile, NotCreated, NotWritten, cause_line}
+use Rattle.avr_session.specs.Reporting.{SaysPrefix, SaysOrStops, Reports, DeskStops}
 use Rattle.avr_session.specs.Session.{saving_says}
 use Rattle.avr_session.specs.Saving.{IsForData, SaveStops, WritesSome, WritesAll}
-use Rattle.avr_session.specs.declared.standing.Stopped.{Stopped}
 use Rattle.avr_session.proofs.Runs.Stops.{file_part, output_part}
 use Rattle.avr_session.proofs.PhaseByPhase.Reports.{file_stops_in}
 
@@ -35,22 +35,19 @@ not_created old new file (Err other) fault more is kept = record {
 -- where a file can't be saved the desk has failed
 pub save_is_desk : (file : List ℕ) (before now : DeskView) (cause : Cause) (told : List ℕ)
     → SaveStops file before now cause told → DeskStops before now cause told
-save_is_desk file before now OfSending told stops = absurd stops
-save_is_desk file before now OfListening told stops = absurd stops
 save_is_desk file before now (OfFile named NotCreated) told stops = stops.1
 save_is_desk file before now (OfFile named NotWritten) told stops = stops.1
-save_is_desk file before now OfPrinting told stops = absurd stops
-save_is_desk file before now OfMemory told stops = absurd stops
+save_is_desk file before now cause told stops = absurd stops
 
 -- a file was created, and its bytes were written, or a prefix of them
-text_then : (old mid new : DeskView) (file text : List ℕ) (result : Result (Unit {0}) Stopped)
+text_then : (old mid new : DeskView) (file text : List ℕ) (result : Result (Unit {0}) DeskFault)
     → Passes (after_all (Creates file ∷ [])) old mid → HasSameCounts old mid → WritesAll File file mid new text result
     → SaysOrStops (SaveStops file) old new (Creates file ∷ Writes text ∷ []) result
 text_then old mid new file text (Ok done) kept same writes = (
   kept_append (Creates file ∷ []) (Writes text ∷ []) old.kept mid.kept new.kept kept writes.0,
   same_on old mid new same writes.1,
 )
-text_then old mid new file text (Err stopped) kept same writes = record {
+text_then old mid new file text (Err _) kept same writes = record {
   between = writes.between;
   cause = OfFile file NotWritten;
   prefix = file_part old mid writes.between file text kept writes.part;
@@ -60,7 +57,7 @@ text_then old mid new file text (Err stopped) kept same writes = record {
 }
 
 pub created_then : (old mid new : DeskView) (file text : List ℕ) (created : Result (Unit {0}) DeskFault)
-    (result : Result (Unit {0}) Stopped) {done : Unit {0}} → created ≡ Ok done
+    (result : Result (Unit {0}) DeskFault) {done : Unit {0}} → created ≡ Ok done
     → Passes (after_create file created) old mid → Counts File old mid created → Follows mid new
     → WritesAll File file mid new text result
     → Reports (SaveStops file) old new (Creates file ∷ Writes text ∷ []) result
@@ -73,10 +70,10 @@ created_then old mid new file text (Ok ok) result is kept first last writes =
     }
 
 -- bytes were written to standard output, or a prefix of them
-put_out : (old new : DeskView) (file text : List ℕ) (result : Result (Unit {0}) Stopped) → file ≡ codes "-"
+put_out : (old new : DeskView) (file text : List ℕ) (result : Result (Unit {0}) DeskFault) → file ≡ codes "-"
     → WritesAll Output file old new text result → SaysOrStops (SaveStops file) old new (Outs text ∷ []) result
 put_out old new file text (Ok done) named writes = writes
-put_out old new file text (Err stopped) named writes = record {
+put_out old new file text (Err _) named writes = record {
   between = writes.between;
   cause = OfFile file NotWritten;
   prefix = output_part old writes.between file text named writes.part;
@@ -85,7 +82,7 @@ put_out old new file text (Err stopped) named writes = record {
   kept = writes.kept;
 }
 
-pub saved_out : (old new : DeskView) (file text : List ℕ) (result : Result (Unit {0}) Stopped)
+pub saved_out : (old new : DeskView) (file text : List ℕ) (result : Result (Unit {0}) DeskFault)
     → bytes_eq file (codes "-") ≡ true → WritesAll Output file old new text result → Follows old new
     → Reports (SaveStops file) old new (saving_says file text) result
 saved_out old new file text result same writes follows =

@@ -1,45 +1,47 @@
 -- Phases of a session, one after another.
-use Rattle.std.proofs.Common.{◌≡◌, ℕ, Bool, true, false, ◌||◌, ◌++◌, ◌≤◌, arith, List, [], ◌∷◌, length, refl, sym, ap, ◌∙◌, subst, subst₂, append_assoc, Option, Some, None, Result, Ok, Err, inl, get_or, take, drop, ◌<◌, ◌-◌}
+use Rattle.std.proofs.Common.{◌≡◌, ℕ, Bool, true, false, ◌||◌, ◌++◌, ◌≤◌, arith, List, [], ◌∷◌, length, refl, sym, ap, ◌∙◌, subst, subst₂, append_assoc, Some, None, Result, Ok, Err, inl, get_or, take, drop, ◌<◌, ◌-◌}
 use Rattle.std.specs.List.{list_any}
 use Rattle.std.proofs.lemmas.Grind.{common_steps}
 use Rattle.std.proofs.lemmas.List.Folds.{list_any-append}
 use Rattle.avr_desk.specs.Fault.{Follows}
 use Rattle.avr_desk.specs.Record.{DeskView}
+use Rattle.avr_desk.specs.declared.desk.DeskFault.{DeskFault}
 use Rattle.avr_cli.specs.declared.settings.Switches.{Switches}
 use Rattle.avr_part.specs.Part.{Part}
 use Rattle.stk_host.specs.declared.fault.HostFault.{HostFault}
-use Rattle.stk_host.specs.declared.fault.HostFault.TheVariants.{NoAnswer, LinkEnded, SendFailed, Babble, Refused, BadAnswer, WrongSignature, Differs, ReadOnly, Memory, RecvFailed}
-use Rattle.stk_host.specs.State.{HostState, lasting_fault}
+use Rattle.stk_host.specs.declared.fault.Broken.TheVariants.{Send, Recv}
+use Rattle.stk_host.specs.Operations.{closing}
+use Rattle.stk_host.specs.State.{HostState}
 use Rattle.stk_host.specs.Talk as link
 use Rattle.stk_host.specs.Play.{Position}
 use Rattle.stk_host.specs.Talk.{LinkView, heard}
 use Rattle.stk_host.specs.Tape.{Tape, on_tape}
 use Rattle.stk_host.proofs.Talks.InDialogs.{followed, played_bind}
 use Rattle.stk_host.proofs.Talks.Laws.{heard_append}
-use Rattle.stk_host.specs.Calls.{IsBroken, EndsCall, Calls, CallsBy, given_or_fault}
+use Rattle.stk_host.specs.Calls.{IsBroken, Calls, CallsBy, given_or_fault}
 use Rattle.stk_host.specs.Dialog.{Dialog, Done, ◌>>=◌, Event, Played, played, behind, sayings}
 use Rattle.avr_desk.specs.Said.{Saying, Tells}
 use Rattle.avr_plan.specs.Plan.{Plan}
 use Rattle.avr_plan.specs.declared.planned.Task.{Task}
-use Rattle.avr_session.specs.declared.standing.Standing.{Standing}
-use Rattle.avr_session.specs.declared.standing.Standing.TheVariants.{Fine, Faulty, Over}
-use Rattle.avr_session.specs.declared.standing.Stopped.{Stopped}
+use Rattle.avr_session.specs.Standing.{Standing, Fine, Over}
+use Rattle.avr_session.specs.declared.ending.End.{End}
+use Rattle.avr_session.specs.declared.ending.End.TheVariants as ends
 use Rattle.avr_session.specs.Actions.{Action, action_takes_memory, actions, takes_memory}
-use Rattle.avr_session.specs.Concluding.{HostServes, after_outcome, conclusion, fine_if_said}
-use Rattle.avr_session.specs.Lines.{fault_line}
-use Rattle.avr_session.specs.Session.{says, standing, reported, unless_fault, fault_or, opening_says, phase, phases, playing, session, status_of}
-use Rattle.avr_session.specs.Runs.{Cause, OfSending, OfListening, OfFile, OfPrinting, OfMemory, cause_line, tells_fault, Devices, devices, start, Terms, untold, TellsCause, StopsBehind, DeskStops, PrintStops, ReadStops, Reports, Lacking, BrokeOff, Ran, Runs}
+use Rattle.avr_session.specs.Concluding.{HostServes, conclusion, stands}
+use Rattle.avr_session.specs.Session.{says, standing, reported, unless_fault, fault_or, phase, phases, ending, playing, session, status_of}
+use Rattle.avr_session.specs.Runs.{Cause, OfFile, OfPrinting, cause_line, tells_fault, Devices, devices, start, Terms, untold, TellsCause, StopsBehind, Lacking, BrokeOff, Ran}
+use Rattle.avr_session.specs.Reporting.{DeskStops, PrintStops, ReadStops, Reports}
 use Rattle.avr_session.specs.Run.{StopsSession}
 use Rattle.avr_session.specs.Stopping.{IsPlayed}
 use Rattle.avr_session.specs.Taking.{AtOnce, AtTaking}
-use Rattle.avr_session.specs.Phases.{is_told, PerformsBehind, Performs, Does, LeavesOut}
-use Rattle.avr_session.proofs.PhaseByPhase.Reports.{told_some, kept_nothing}
+use Rattle.avr_session.specs.Phases.{is_told, PerformsBehind, Performs, Does, LeavesOut, Runs}
+use Rattle.avr_session.proofs.PhaseByPhase.Reports.{kept_nothing}
 use Rattle.avr_desk.proofs.Stages.Sayings.{kept_none}
 use Rattle.avr_desk.proofs.Lines.Told.{follows_here, follows_on, same_here}
 use Rattle.avr_session.proofs.Runs.Calls.{none_failed_here, came_here, came_said, came_part, ran_from, ran_on, stops_in, stops_since, broke_on, broke_part, broke_saying, LacksLater, StopsReport, ToldBy}
 use Rattle.avr_session.proofs.PhaseByPhase.FaultsTold.{Foretells, foretold, prefix_tells_none, phases_foretells}
 use Rattle.avr_session.proofs.PhaseByPhase.Actions.{phases-one, phases-append}
-use Rattle.avr_session.proofs.PhaseByPhase.Operations.{IsStop, IsMemory, cause_of, Ended, lacks_where, only_broken, sound_lack, moment, operation_runs, stop_is, told_of}
+use Rattle.avr_session.proofs.PhaseByPhase.Operations.{call_ended, closing_lacks_none, Stop, Broke, Lacks, cause_at, StopsAs, StopsOver, Ended, moment, operation_runs, serves_after, stop_come, told_of}
 
 -- a desk that failed as it printed stops the run, whatever was reported
 printing_tells : (flag : Bool) (told : List ℕ) (d : DeskView) → told ≡ [] → TellsCause flag OfPrinting told d d
@@ -50,9 +52,6 @@ printing_tells true told d none = none
 pub print_stops_run : (terms : Terms) (o : LinkView) (d e : DeskView) → Follows d e
     → (said : List Saying) (cause : Cause) (told : List ℕ) → PrintStops d e cause told
     → StopsBehind terms (devices o d) (devices o e) said cause told
-print_stops_run terms o d e le said OfSending told stops = absurd stops
-print_stops_run terms o d e le said OfListening told stops = absurd stops
-print_stops_run terms o d e le said (OfFile file trouble) told stops = absurd stops
 print_stops_run terms o d e le said OfPrinting told stops =
     record {
       between = e;
@@ -62,14 +61,12 @@ print_stops_run terms o d e le said OfPrinting told stops =
       since = le;
       until = follows_here e;
     }
-print_stops_run terms o d e le said OfMemory told stops = absurd stops
+print_stops_run terms o d e le said cause told stops = absurd stops
 
 -- at a file too, where no fault was reported
 desk_stops_run : (takes : Bool) (o : LinkView) (d e : DeskView) → Follows d e → (said : List Saying)
     → tells_fault said ≡ false → (cause : Cause) (told : List ℕ) → DeskStops d e cause told
     → StopsBehind (untold takes) (devices o d) (devices o e) said cause told
-desk_stops_run takes o d e le said none OfSending told stops = absurd stops
-desk_stops_run takes o d e le said none OfListening told stops = absurd stops
 desk_stops_run takes o d e le said none (OfFile file trouble) told stops = record {
   between = stops.between;
   has_come = (stops.failed, refl);
@@ -79,12 +76,12 @@ desk_stops_run takes o d e le said none (OfFile file trouble) told stops = recor
 }
 desk_stops_run takes o d e le said none OfPrinting told stops =
     print_stops_run (untold takes) o d e le said OfPrinting told stops
-desk_stops_run takes o d e le said none OfMemory told stops = absurd stops
+desk_stops_run takes o d e le said none cause told stops = absurd stops
 
 -- what a report stops by, after a prefix of what it says
 
 pub print_stops_report : (takes : Bool) (o : LinkView) {d e : DeskView} {sayings : List Saying}
-    {told : Result (Unit {0}) Stopped} → Reports PrintStops d e sayings told
+    {told : Result (Unit {0}) DeskFault} → Reports PrintStops d e sayings told
     → StopsReport (untold takes) o d e sayings PrintStops
 print_stops_report takes o {d = d} {e = e} reports mid cause prefix told stops =
     print_stops_run (untold takes) o d e reports.follows (prefix.whole ++ prefix.begun) cause told stops
@@ -94,53 +91,16 @@ desk_stops_report : (takes : Bool) (o : LinkView) (d e : DeskView) (sayings : Li
 desk_stops_report takes o d e sayings le none mid cause prefix told stops =
     desk_stops_run takes o d e le (prefix.whole ++ prefix.begun) (prefix_tells_none prefix none) cause told stops
 
--- the line of another fault than a signature's stands alone
-pub opening_told : (old new : DeskView) (quiet : ℕ) (part : Part) (outcome : Result (List ℕ) HostFault)
-    (told : Result (Unit {0}) Stopped) → Reports PrintStops old new (opening_says quiet part outcome) told
-    → IsStop outcome → Tells old new (cause_line (cause_of outcome))
-unfolding cause_line fault_line
-opening_told old new quiet part (Ok x) told reports stop = absurd stop
-opening_told old new quiet part (Err NoAnswer) told reports stop = absurd stop
-opening_told old new quiet part (Err LinkEnded) told reports stop = absurd stop
-opening_told old new quiet part (Err SendFailed) told reports stop =
-    told_some old new (fault_line part SendFailed) told reports
-opening_told old new quiet part (Err Babble) told reports stop = absurd stop
-opening_told old new quiet part (Err (Refused command status)) told reports stop = absurd stop
-opening_told old new quiet part (Err (BadAnswer command)) told reports stop = absurd stop
-opening_told old new quiet part (Err (WrongSignature found)) told reports stop = absurd stop
-opening_told old new quiet part (Err (Differs mem address want found)) told reports stop = absurd stop
-opening_told old new quiet part (Err (ReadOnly mem)) told reports stop = absurd stop
-opening_told old new quiet part (Err Memory) told reports stop = told_some old new (fault_line part Memory) told reports
-opening_told old new quiet part (Err RecvFailed) told reports stop =
-    told_some old new (fault_line part RecvFailed) told reports
-
--- the host serves after any outcome that leaves the line
-serves_after : {A : Type 0} (outcome : Result A HostFault) (told : Result (Unit {0}) Stopped)
-    (broken : Option HostFault) → broken ≡ lasting_fault outcome → HostServes (conclusion outcome told) broken
-serves_after (Ok a) (Ok ok) broken is = is
-serves_after (Err NoAnswer) (Ok ok) broken is = is
-serves_after (Err LinkEnded) (Ok ok) broken is = tt
-serves_after (Err SendFailed) (Ok ok) broken is = tt
-serves_after (Err Babble) (Ok ok) broken is = is
-serves_after (Err (Refused command status)) (Ok ok) broken is = is
-serves_after (Err (BadAnswer command)) (Ok ok) broken is = is
-serves_after (Err (WrongSignature found)) (Ok ok) broken is = is
-serves_after (Err (Differs mem address want found)) (Ok ok) broken is = is
-serves_after (Err (ReadOnly mem)) (Ok ok) broken is = is
-serves_after (Err Memory) (Ok ok) broken is = tt
-serves_after (Err RecvFailed) (Ok ok) broken is = tt
-serves_after outcome (Err stopped) broken is = tt
-
 -- a cause that was reported
-told_by : {A : Type 0} (takes : Bool) (outcome : Result A HostFault) (o p : LinkView) (d e : DeskView)
-    → (IsBroken outcome → link.HasFailed o p) → (IsMemory outcome → (takes ≡ true) × (p.failures ≡ o.failures))
-    → IsStop outcome → Tells d e (cause_line (cause_of outcome))
-    → ToldBy (untold takes) (cause_of outcome) (devices o d) (devices p e)
-told_by takes outcome o p d e failed lacks stop some = (
+told_by : {A R : Type 0} (takes : Bool) (dialog : Dialog ⊥ R) (m : Position) (o p : LinkView)
+    {outcome : Result A HostFault} {d e : DeskView} (stop : Stop) → (IsBroken outcome → link.HasFailed o p)
+    → StopsAs outcome stop → StopsOver takes dialog m o p stop → Tells d e (cause_line (cause_at stop))
+    → ToldBy (untold takes) (cause_at stop) (devices o d) (devices p e)
+told_by takes dialog m o p {d = d} stop failed is over some = (
   some.told,
   record {
     between = d;
-    has_come = stop_is outcome takes o p d failed lacks stop;
+    has_come = stop_come takes dialog m o p d stop failed is over;
     tells = some.tells;
     since = follows_here d;
     until = some.follows;
@@ -148,32 +108,30 @@ told_by takes outcome o p d e failed lacks stop some = (
   some.kept,
 )
 
--- an operation of the host, what is said of it, what it came to, and how its report ended
+-- an operation of the host, and what is said of its outcome
 module _ {A : Type 0} (takes : Bool) (operation : Dialog ⊥ (Result A HostFault))
-    (outcome_says : Result A HostFault → List Saying) (outcome : Result A HostFault)
-    (told : Result (Unit {0}) Stopped) where
+    (outcome_says : Result A HostFault → List Saying) where
   pub operation_performs : {Ends : Position → LinkView → LinkView → Result A HostFault → Position → Type 0}
-      {old new : HostState} {o p : LinkView} {d e : DeskView} (result : Result Standing Stopped)
-      (By : DeskView → DeskView → Cause → List ℕ → Type 0)
+      {old new : HostState} {o p : LinkView} {d e : DeskView} {outcome : Result A HostFault}
+      {told : Result (Unit {0}) DeskFault} {result : Result (Unit {0}) End}
+      {By : DeskView → DeskView → Cause → List ℕ → Type 0} → Reports By d e (outcome_says outcome) told
       → StopsReport (untold takes) p d e (outcome_says outcome) By
+      → ((stop : Stop) → StopsAs outcome stop → Tells d e (cause_line (cause_at stop)))
       → old.broken ≡ None → CallsBy Ends old new o p outcome
       → (Ends old.progress o p outcome new.progress → Ended takes operation old.progress o p outcome new.progress)
-      → Reports By d e (outcome_says outcome) told → (IsStop outcome → Tells d e (cause_line (cause_of outcome)))
       → result ≡ conclusion outcome told
-      → Performs takes (reported operation outcome_says) old new (devices o d) (devices p e) result
-  operation_performs {old = old} {new = new} {o = o} {p = p} {d = d} {e = e} result By why sound calls ends reports some
-      is =
+      → Performs takes (reported operation outcome_says) old new (devices o d) (devices p e) (stands result)
+  operation_performs {old = old} {new = new} {o = o} {p = p} {d = d} {e = e} {outcome = outcome} {told = told} {By = By}
+      reports why some sound calls ends is =
       let ended = ends (calls.played sound) in
-      let takes_where = lacks_where takes operation old.progress o p outcome new.progress ended in
-      let lacks : IsMemory outcome → (takes ≡ true) × (p.failures ≡ o.failures) =
-      λ is. (takes_where is, sound_lack outcome is (calls.sound sound)) in
       record {
         runs = subst (λ r. Runs (reported operation outcome_says) old.progress (devices o d) (devices p e)
-            (untold takes) (AtOnce takes) r new.progress) (sym is)
+            (untold takes) (AtOnce takes) (stands r) new.progress) (sym is)
             (operation_runs operation outcome_says (moment old.progress o d) (moment new.progress p e) outcome told
             (untold takes) By why ended (calls.bound sound) (calls.sound sound) reports.says
-            (λ stop. told_by takes outcome o p d e (calls.failed sound) lacks stop (some stop)));
-        serves = subst (λ r. HostServes r new.broken) (sym is)
+            (λ stop at over. told_by takes operation old.progress o p stop (calls.failed sound) at over
+            (some stop at)));
+        serves = subst (λ r. HostServes (stands r) new.broken) (sym is)
             (serves_after outcome told new.broken (calls.lasts sound));
         part = calls.part;
         link = calls.counted;
@@ -181,37 +139,34 @@ module _ {A : Type 0} (takes : Bool) (operation : Dialog ⊥ (Result A HostFault
       }
 
 left_out_runs : (takes : Bool) (sayings : List Saying) (m : Position) (o : LinkView) (d e : DeskView)
-    (told : Result (Unit {0}) Stopped) → Reports PrintStops d e sayings told
-    → Runs (says sayings (Done Fine)) m (devices o d) (devices o e) (untold takes) (AtOnce takes) (fine_if_said told) m
+    (told : Result (Unit {0}) DeskFault) → Reports PrintStops d e sayings told
+    → Runs (says sayings (Done Fine)) m (devices o d) (devices o e) (untold takes) (AtOnce takes)
+    (stands (conclusion {A = Unit {0}} (Ok tt) told)) m
 left_out_runs takes sayings m o d e (Ok done) reports = ran_from (came_said sayings (Done Fine) m o reports.says)
-left_out_runs takes sayings m o d e (Err stopped) reports =
+left_out_runs takes sayings m o d e (Err _) reports =
     broke_saying sayings (Done Fine) m o (print_stops_report takes o reports) reports.says
-
-left_out_serves : (told : Result (Unit {0}) Stopped) (broken : Option HostFault) → broken ≡ None
-    → HostServes (fine_if_said told) broken
-left_out_serves (Ok done) broken sound = sound
-left_out_serves (Err stopped) broken sound = tt
 
 -- something said in its place
 pub left_out_performs : (takes : Bool) (sayings : List Saying) {host : HostState} {o : LinkView} {d e : DeskView}
-    (result : Result Standing Stopped) → host.broken ≡ None → LeavesOut sayings d e result
-    → Performs takes (says sayings (Done Fine)) host host (devices o d) (devices o e) result
+    (result : Result (Unit {0}) End) → host.broken ≡ None → LeavesOut sayings d e result
+    → Performs takes (says sayings (Done Fine)) host host (devices o d) (devices o e) (stands result)
 left_out_performs takes sayings {host = host} {o = o} {d = d} {e = e} result sound leaves = record {
   runs = subst (λ r. Runs (says sayings (Done Fine)) host.progress (devices o d) (devices o e) (untold takes)
-      (AtOnce takes) r host.progress) (sym leaves.result_is)
+      (AtOnce takes) (stands r) host.progress) (sym leaves.result_is)
       (left_out_runs takes sayings host.progress o d e leaves.told leaves.reports);
-  serves = subst (λ r. HostServes r host.broken) (sym leaves.result_is) (left_out_serves leaves.told host.broken sound);
+  serves = subst (λ r. HostServes (stands r) host.broken) (sym leaves.result_is)
+      (serves_after {A = Unit {0}} (Ok tt) leaves.told host.broken sound);
   part = refl;
   link = omega arith;
   desk = leaves.reports.follows;
 }
 
 -- nothing
-nothing_performs : {L : Lacking} (takes : Bool) (host : HostState) (o : Devices) → host.broken ≡ None
-    → PerformsBehind (untold takes) L (Done Fine) host host o o (Ok Fine)
-nothing_performs takes host o sound = record {
-  runs = ran_from (came_here (Done Fine) host.progress o);
-  serves = sound;
+pub nothing_performs : {terms : Terms} {L : Lacking} (standing : Standing) (host : HostState) (o : Devices)
+    → HostServes (Ok standing) host.broken → PerformsBehind terms L (Done standing) host host o o (Ok standing)
+nothing_performs standing host o serves = record {
+  runs = ran_from (came_here (Done standing) host.progress o);
+  serves = serves;
   part = refl;
   link = omega arith;
   desk = follows_here o.desk;
@@ -221,7 +176,7 @@ nothing_performs takes host o sound = record {
 module _ {first : Dialog Saying Standing} {K : Lacking} {x y : HostState} {o p : Devices} (takes : Bool)
     (standing : Standing) (done : PerformsBehind (untold takes) K first x y o p (Ok standing)) where
   pub performs_on : {L M : Lacking} (more_takes : Bool) (go_on : Standing → Dialog Saying Standing) {z : HostState}
-      {q : Devices} (result : Result Standing Stopped) → (more_takes ≡ true → takes ≡ true) → Foretells first
+      {q : Devices} (result : Result Standing (Unit {0})) → (more_takes ≡ true → takes ≡ true) → Foretells first
       → LacksLater L x.progress done.runs.during done.runs.events M y.progress
       → PerformsBehind (record { takes = more_takes; was_told = is_told standing }) M (go_on standing) y z p q result
       → PerformsBehind (untold takes) L (first >>= go_on) x z o q result
@@ -253,36 +208,29 @@ or_then : (b c : Bool) → c ≡ true → (b || c) ≡ true
 or_then true c is = refl
 or_then false c is = is
 
-module _ (takes more_takes : Bool) where
-  performs_with : {dialog : Dialog Saying Standing} {L : Lacking} {x y : HostState} {o p : Devices}
-      (standing : Standing) → PerformsBehind (untold takes) L dialog x y o p (Ok standing)
-      → PerformsBehind (untold (takes || more_takes)) L dialog x y o p (Ok standing)
-  performs_with standing done =
-      record { runs = done.runs; serves = done.serves; part = done.part; link = done.link; desk = done.desk }
+-- what was played to its end was so on any terms
+performs_same : {terms all : Terms} {dialog : Dialog Saying Standing} {L M : Lacking} {x y : HostState} {o p : Devices}
+    {standing : Standing} → PerformsBehind terms L dialog x y o p (Ok standing)
+    → PerformsBehind all M dialog x y o p (Ok standing)
+performs_same done =
+    record { runs = done.runs; serves = done.serves; part = done.part; link = done.link; desk = done.desk }
 
-  -- a phase that is the last
+module _ (takes more_takes : Bool) where
+  -- a phase at which a session ends
   performs_last : {first : Dialog Saying Standing} {L M : Lacking} (more : Dialog Saying Standing) {x y : HostState}
-      {o p : Devices} (result : Result Standing Stopped) → (result ≡ Ok Fine → ⊥)
-      → LacksLater L x.progress [] [] M x.progress → PerformsBehind (untold takes) M first x y o p result
-      → PerformsBehind (untold (takes || more_takes)) L (first >>= unless_fault more) x y o p result
-  performs_last more (Ok Fine) not lack done = absurd (not refl)
-  performs_last more (Ok Faulty) not lack done = record {
-    runs = ran_from (came_part (unless_fault more) done.runs);
-    serves = done.serves;
-    part = done.part;
-    link = done.link;
-    desk = done.desk;
-  }
-  performs_last more (Ok Over) not lack done = record {
-    runs = ran_from (came_part (unless_fault more) done.runs);
-    serves = done.serves;
-    part = done.part;
-    link = done.link;
-    desk = done.desk;
-  }
-  performs_last more {o = o} {p = p} (Err stopped) not lack done = record {
+      {o p : Devices} (end : End) → LacksLater L x.progress [] [] M x.progress
+      → PerformsBehind (untold takes) M first x y o p (stands (Err end))
+      → PerformsBehind (untold (takes || more_takes)) L (first >>= unless_fault more) x y o p (stands (Err end))
+  performs_last more {o = o} {p = p} ends.Stopped lack done = record {
     runs = broke_part (unless_fault more) (stops_since takes (takes || more_takes) false o o p
         (or_first takes more_takes) (none_failed_here o)) lack done.runs;
+    serves = done.serves;
+    part = done.part;
+    link = done.link;
+    desk = done.desk;
+  }
+  performs_last more end lack done = record {
+    runs = ran_from (came_part (unless_fault more) done.runs);
     serves = done.serves;
     part = done.part;
     link = done.link;
@@ -353,39 +301,25 @@ or_false false = refl
 -- none
 pub does_nothing : (plan : Plan) (host : HostState) (o : Devices) → host.broken ≡ None
     → Does plan [] host host o o (Ok Fine)
-does_nothing plan host o sound = nothing_performs false host o sound
+does_nothing plan host o sound = nothing_performs Fine host o sound
 
 -- the same phase, by where else memory may be taken
 performs_lacking : {terms : Terms} {L M : Lacking} {dialog : Dialog Saying Standing} {x y : HostState} {o p : Devices}
-    → LacksLater L x.progress [] [] M x.progress → (result : Result Standing Stopped)
+    → LacksLater L x.progress [] [] M x.progress → (result : Result Standing (Unit {0}))
     → PerformsBehind terms M dialog x y o p result
     → PerformsBehind terms L dialog x y o p result
-performs_lacking lack (Ok standing) done =
-    record { runs = done.runs; serves = done.serves; part = done.part; link = done.link; desk = done.desk }
-performs_lacking lack (Err stopped) done =
-    let f = done.runs in
-    record {
-      runs = record {
-        during = f.during;
-        shown = f.shown;
-        cause = f.cause;
-        told = f.told;
-        grows = f.grows;
-        breaks = f.breaks;
-        place = f.place;
-        listens = f.listens;
-        stops = f.stops;
-        kept = f.kept;
-        lacks = λ is. lack f.during f.shown (f.lacks is);
-      };
-      serves = done.serves;
-      part = done.part;
-      link = done.link;
-      desk = done.desk;
-    }
+unfolding came_here
+performs_lacking lack (Ok standing) done = performs_same done
+performs_lacking {dialog = dialog} {x = x} {o = o} lack (Err stopped) done = record {
+  runs = broke_on (came_here dialog x.progress o) (λ said cause told stops. stops) lack done.runs;
+  serves = done.serves;
+  part = done.part;
+  link = done.link;
+  desk = done.desk;
+}
 
 -- one
-pub does_one : (plan : Plan) (action : Action) {x y : HostState} {o p : Devices} {result : Result Standing Stopped}
+pub does_one : (plan : Plan) (action : Action) {x y : HostState} {o p : Devices} {result : Result Standing (Unit {0})}
     → Performs (action_takes_memory action) (phase plan.part plan.switches action) x y o p result
     → Does plan (action ∷ []) x y o p result
 does_one plan action {x = x} {y = y} {o = o} {p = p} {result = result} done =
@@ -395,14 +329,15 @@ does_one plan action {x = x} {y = y} {o = o} {p = p} {result = result} done =
     (performs_lacking (taking_one plan.part plan.switches action x.progress) result done)
 
 -- the same actions, as they are written elsewhere
-pub does_same : (plan : Plan) (xs ys : List Action) {x y : HostState} {o p : Devices} {result : Result Standing Stopped}
+pub does_same : (plan : Plan) (xs ys : List Action) {x y : HostState} {o p : Devices}
+    {result : Result Standing (Unit {0})}
     → xs ≡ ys → Does plan xs x y o p result → Does plan ys x y o p result
 does_same plan xs ys {x = x} {y = y} {o = o} {p = p} {result = result} same done =
     subst (λ (every : List Action). Does plan every x y o p result) same done
 
 -- these, and others after them
 module _ (plan : Plan) (xs ys : List Action) where
-  does_both : {x y : HostState} {o p : Devices} {result : Result Standing Stopped}
+  does_both : {x y : HostState} {o p : Devices} {result : Result Standing (Unit {0})}
       → PerformsBehind (untold (list_any action_takes_memory xs || list_any action_takes_memory ys))
       (AtTaking plan.part plan.switches (xs ++ ys))
       (phases plan.part plan.switches xs >>= unless_fault (phases plan.part plan.switches ys)) x y o p result
@@ -413,57 +348,44 @@ module _ (plan : Plan) (xs ys : List Action) where
       (sym (list_any-append action_takes_memory xs ys)) (sym (phases-append plan.part plan.switches xs ys)) done
 
   -- both
-  pub does_then : {x y z : HostState} {o p q : Devices} (result : Result Standing Stopped)
+  pub does_then : {x y z : HostState} {o p q : Devices} (result : Result Standing (Unit {0}))
       → Does plan xs x y o p (Ok Fine) → Does plan ys y z p q result → Does plan (xs ++ ys) x z o q result
-  unfolding performs_with
+  unfolding performs_same
   does_then result done rest =
-      does_both (performs_on (list_any action_takes_memory xs || list_any action_takes_memory ys) Fine
-      (performs_with (list_any action_takes_memory xs) (list_any action_takes_memory ys) Fine done)
+      does_both (performs_on {K = AtTaking plan.part plan.switches xs}
+      (list_any action_takes_memory xs || list_any action_takes_memory ys) Fine
+      (performs_same done)
       (list_any action_takes_memory ys) (unless_fault (phases plan.part plan.switches ys)) result
       (or_then (list_any action_takes_memory xs) (list_any action_takes_memory ys))
       (phases_foretells plan.part plan.switches xs) (taking_then plan.part plan.switches xs ys done.runs) rest)
 
   -- the others are left out
-  pub does_last : {x y : HostState} {o p : Devices} (result : Result Standing Stopped) → (result ≡ Ok Fine → ⊥)
-      → Does plan xs x y o p result → Does plan (xs ++ ys) x y o p result
-  does_last {x = x} result not done =
+  pub does_last : {x y : HostState} {o p : Devices} (end : End) → Does plan xs x y o p (stands (Err end))
+      → Does plan (xs ++ ys) x y o p (stands (Err end))
+  does_last {x = x} end done =
       does_both (performs_last (list_any action_takes_memory xs) (list_any action_takes_memory ys)
-      (phases plan.part plan.switches ys) result not (taking_prefix plan.part plan.switches xs ys x.progress) done)
+      (phases plan.part plan.switches ys) end (taking_prefix plan.part plan.switches xs ys x.progress) done)
 
 -- a read, whose data stand in a vector
 
-given_goes : {A : Type 0} (a : A) (outcome : Result (Unit {0}) HostFault)
-    → after_outcome (given_or_fault a outcome) ≡ after_outcome outcome
-given_goes a (Ok ok) = refl
-given_goes a (Err NoAnswer) = refl
-given_goes a (Err LinkEnded) = refl
-given_goes a (Err SendFailed) = refl
-given_goes a (Err Babble) = refl
-given_goes a (Err (Refused command status)) = refl
-given_goes a (Err (BadAnswer command)) = refl
-given_goes a (Err (WrongSignature found)) = refl
-given_goes a (Err (Differs mem address want found)) = refl
-given_goes a (Err (ReadOnly mem)) = refl
-given_goes a (Err Memory) = refl
-given_goes a (Err RecvFailed) = refl
-
-pub given_concluded : {A : Type 0} (a : A) (outcome : Result (Unit {0}) HostFault) (told : Result (Unit {0}) Stopped)
-    → conclusion (given_or_fault a outcome) told ≡ conclusion outcome told
-given_concluded a outcome (Ok ok) = given_goes a outcome
-given_concluded a outcome (Err stopped) = refl
+pub given_concluded : {A : Type 0} (a : A) (outcome : Result (Unit {0}) HostFault)
+    (told : Result (Unit {0}) DeskFault) → conclusion (given_or_fault a outcome) told ≡ conclusion outcome told
+given_concluded a (Ok ok) (Ok done) = refl
+given_concluded a (Err fault) (Ok done) = refl
+given_concluded a outcome (Err _) = refl
 
 -- a fault alone tells why a run stops
-pub given_told : {A : Type 0} (a : A) (good : A → List Saying) (old new : DeskView) (part : Part)
-    (outcome : Result (Unit {0}) HostFault) (told : Result (Unit {0}) Stopped)
-    → Reports (ReadStops outcome) old new (fault_or part good (given_or_fault a outcome)) told
-    → IsStop (given_or_fault a outcome) → Tells old new (cause_line (cause_of (given_or_fault a outcome)))
-given_told a good old new part (Ok ok) told reports stop = absurd stop
-given_told a good old new part (Err fault) told reports stop = told_of old new part good (Err fault) told reports stop
+pub given_told : {A : Type 0} (a : A) (good : A → List Saying) {d e : DeskView} (part : Part)
+    (outcome : Result (Unit {0}) HostFault) {told : Result (Unit {0}) DeskFault}
+    → Reports (ReadStops outcome) d e (fault_or part good (given_or_fault a outcome)) told
+    → (stop : Stop) → StopsAs (given_or_fault a outcome) stop → Tells d e (cause_line (cause_at stop))
+given_told a good part (Ok ok) reports stop is = absurd (cc)
+given_told a good part (Err fault) reports stop is = told_of part (fault_or part good) (λ stop. refl) reports stop is
 
 -- only where bytes were read there is something to save, and no fault is reported of them
 pub read_stops_report : (part : Part) (good : List ℕ → List Saying) (items : List ℕ) → tells_fault (good items) ≡ false
     → (outcome : Result (Unit {0}) HostFault) (takes : Bool) (o : LinkView) {d e : DeskView}
-    {told : Result (Unit {0}) Stopped}
+    {told : Result (Unit {0}) DeskFault}
     → Reports (ReadStops outcome) d e (fault_or part good (given_or_fault items outcome)) told
     → StopsReport (untold takes) o d e (fault_or part good (given_or_fault items outcome)) (ReadStops outcome)
 read_stops_report part good items none (Ok done) takes o {d = d} {e = e} reports =
@@ -486,7 +408,7 @@ tasks_behind tasks = grind (arith, common_steps)
 -- the end of a session
 
 pub performs_until : {terms : Terms} {L : Lacking} {first : Dialog Saying Standing}
-    (go_on : Standing → Dialog Saying Standing) {x y : HostState} {o p : Devices} (stopped : Stopped)
+    (go_on : Standing → Dialog Saying Standing) {x y : HostState} {o p : Devices} (stopped : Unit {0})
     → PerformsBehind terms L first x y o p (Err stopped)
     → PerformsBehind terms L (first >>= go_on) x y o p (Err stopped)
 performs_until go_on stopped done = record {
@@ -498,101 +420,79 @@ performs_until go_on stopped done = record {
   desk = done.desk;
 }
 
-pub over_performs : {L : Lacking} (terms : Terms) (host : HostState) (o : Devices)
-    → PerformsBehind terms L (Done Over) host host o o (Ok Over)
-over_performs terms host o = record {
-  runs = ran_from (came_here (Done Over) host.progress o);
-  serves = tt;
-  part = refl;
-  link = omega arith;
-  desk = follows_here o.desk;
-}
-
 -- after a fault that was reported
 abbrev told_before : Terms
 told_before = record { takes = false; was_told = true }
 
--- nothing is reported there of a link that failed
-told_nothing : {A : Type 0} (outcome : Result A HostFault) {o p : LinkView} (d : DeskView)
-    → (IsBroken outcome → link.HasFailed o p) → IsBroken outcome
-    → ToldBy told_before (cause_of outcome) (devices o d) (devices p d)
-told_nothing (Ok x) d failed broken = absurd broken
-told_nothing (Err NoAnswer) d failed broken = absurd broken
-told_nothing (Err LinkEnded) d failed broken = absurd broken
-told_nothing (Err SendFailed) d failed broken = (
+-- nothing is reported there of a link that failed, and memory is taken nowhere
+silent_at : {R : Type 0} (dialog : Dialog ⊥ R) (m : Position) (o p : LinkView) (d : DeskView) (stop : Stop)
+    → StopsOver false dialog m o p stop → TellsCause true (cause_at stop) [] d d
+silent_at dialog m o p d (Broke Send) over = refl
+silent_at dialog m o p d (Broke Recv) over = refl
+silent_at dialog m o p d Lacks over = let e = over.0 in absurd (cc)
+
+told_nothing : {A R : Type 0} (dialog : Dialog ⊥ R) (m : Position) (o p : LinkView) {outcome : Result A HostFault}
+    (d : DeskView) → (IsBroken outcome → link.HasFailed o p) → (stop : Stop) → StopsAs outcome stop
+    → StopsOver false dialog m o p stop → ToldBy told_before (cause_at stop) (devices o d) (devices p d)
+told_nothing dialog m o p d failed stop is over = (
   [],
   record {
     between = d;
-    has_come = (failed tt, same_here d);
-    tells = refl;
+    has_come = stop_come false dialog m o p d stop failed is over;
+    tells = silent_at dialog m o p d stop over;
     since = follows_here d;
-    until =
-        follows_here d;
-  },
-  kept_nothing d.kept,
-)
-told_nothing (Err Babble) d failed broken = absurd broken
-told_nothing (Err (Refused command status)) d failed broken = absurd broken
-told_nothing (Err (BadAnswer command)) d failed broken = absurd broken
-told_nothing (Err (WrongSignature found)) d failed broken = absurd broken
-told_nothing (Err (Differs mem address want found)) d failed broken = absurd broken
-told_nothing (Err (ReadOnly mem)) d failed broken = absurd broken
-told_nothing (Err Memory) d failed broken = absurd broken
-told_nothing (Err RecvFailed) d failed broken = (
-  [],
-  record {
-    between = d;
-    has_come = (failed tt, same_here d);
-    tells = refl;
-    since = follows_here d;
-    until =
-        follows_here d;
+    until = follows_here d;
   },
   kept_nothing d.kept,
 )
 
--- an operation of which nothing is reported
-pub quietly_performs : (operation : Dialog ⊥ (Result (Unit {0}) HostFault)) {old new : HostState} {o p : LinkView}
-    (d : DeskView) (outcome : Result (Unit {0}) HostFault) (result : Result Standing Stopped)
-    → old.broken ≡ None → Calls operation old new o p outcome
-    → (EndsCall operation old.progress o p outcome new.progress
-    → Ended false operation old.progress o p outcome new.progress) → result ≡ conclusion outcome (Ok tt)
-    → PerformsBehind told_before (AtOnce false) (reported operation (λ _. [])) old new (devices o d) (devices p d)
-    result
-quietly_performs operation {old = old} {new = new} {o = o} {p = p} d outcome result sound calls ends is =
-    let ended = ends (calls.played sound) in
-    let only = only_broken operation old.progress o p outcome new.progress ended in
+-- programming mode is left, and nothing is reported of it
+pub quietly_performs : {old new : HostState} {o p : LinkView} (d : DeskView) {outcome : Result (Unit {0}) HostFault}
+    {result : Result (Unit {0}) End} → old.broken ≡ None → Calls closing old new o p outcome
+    → result ≡ conclusion outcome (Ok tt)
+    → PerformsBehind told_before (AtOnce false) (reported closing (λ _. [])) old new (devices o d) (devices p d)
+    (stands result)
+quietly_performs {old = old} {new = new} {o = o} {p = p} d {outcome = outcome} sound calls is =
+    let ended = call_ended closing old.progress o p outcome new.progress closing_lacks_none (calls.played sound) in
     record {
-      runs = subst (λ r. Runs (reported operation (λ _. [])) old.progress (devices o d) (devices p d) told_before
-          (AtOnce false) r new.progress) (sym is)
-          (operation_runs operation (λ _. []) (moment old.progress o d) (moment new.progress p d) outcome (Ok tt)
+      runs = subst (λ r. Runs (reported closing (λ _. [])) old.progress (devices o d) (devices p d) told_before
+          (AtOnce false) (stands r) new.progress) (sym is)
+          (operation_runs closing (λ _. []) (moment old.progress o d) (moment new.progress p d) outcome (Ok tt)
           told_before PrintStops
           (λ mid cause prefix told stops. print_stops_run told_before p d d (follows_here d)
-          (prefix.whole ++ prefix.begun)
-          cause told stops) ended (calls.bound sound) (calls.sound sound) (kept_none d.kept, same_here d)
-          (λ stop. told_nothing outcome d (calls.failed sound) (only stop)));
-      serves = subst (λ r. HostServes r new.broken) (sym is)
+          (prefix.whole ++ prefix.begun) cause told stops) ended (calls.bound sound) (calls.sound sound)
+          (kept_none d.kept, same_here d) (told_nothing closing old.progress o p d (calls.failed sound)));
+      serves = subst (λ r. HostServes (stands r) new.broken) (sym is)
           (serves_after outcome (Ok tt) new.broken (calls.lasts sound));
       part = calls.part;
       link = calls.counted;
       desk = follows_here d;
     }
 
--- what follows a quiet operation is done
-pub quietly_on : {first : Dialog Saying Standing} {L : Lacking} (go_on : Standing → Dialog Saying Standing)
-    {x y : HostState} {o p : Devices} (standing then : Standing) → go_on standing ≡ Done then
-    → HostServes (Ok then) y.broken
+-- after it nothing more goes over the line
+pub quietly_over : {first : Dialog Saying Standing} {L : Lacking} {x y : HostState} {o p : Devices}
+    (standing : Standing)
     → PerformsBehind told_before L first x y o p (Ok standing)
-    → PerformsBehind told_before L (first >>= go_on) x y o p (Ok then)
-quietly_on go_on {y = y} {p = p} standing then is serves done = record {
-  runs = ran_on (came_part go_on done.runs)
-      (subst (λ dialog. Ran dialog y.progress p p then y.progress) (sym is)
-      (ran_from (came_here (Done then) y.progress p)));
-  serves = serves;
+    → PerformsBehind told_before L (first >>= λ _. Done Over) x y o p (Ok Over)
+quietly_over {y = y} {p = p} standing done = record {
+  runs = ran_on (came_part (λ _. Done Over) done.runs) (ran_from (came_here (Done Over) y.progress p));
+  serves = tt;
   part = done.part;
   link = done.link;
   desk = done.desk;
 }
+
+-- a session that stood so after its actions ends so
+pub ends_so : (plan : Plan) (standing : Standing) {x y z : HostState} {o p q : Devices}
+    (result : Result Standing (Unit {0})) → Does plan (actions plan) x y o p (Ok standing)
+    → PerformsBehind (record { takes = false; was_told = is_told standing }) (AtOnce false)
+    (ending plan.part plan.switches standing) y z p q result
+    → PerformsBehind (untold (takes_memory plan)) (AtTaking plan.part plan.switches (actions plan)) (playing plan) x z o
+    q result
+ends_so plan standing result done rest =
+    performs_on (takes_memory plan) standing done false (ending plan.part plan.switches) result (λ e. absurd (cc))
+    (phases_foretells plan.part plan.switches (actions plan)) (λ during shown never. let e = never.0 in absurd (cc))
+    rest
 
 -- a whole session, played to its status, or stopped where it stood
 pub session_played : (plan : Plan) {x y : HostState} {o p : Devices} (standing : Standing) → x.progress ≡ start
@@ -608,7 +508,7 @@ session_played plan {x = x} {y = y} {o = o} {p = p} standing first done =
           first ran,
     )
 
-pub session_stopped : (plan : Plan) {x y : HostState} {o p : Devices} (stopped : Stopped) → x.progress ≡ start
+pub session_stopped : (plan : Plan) {x y : HostState} {o p : Devices} (stopped : Unit {0}) → x.progress ≡ start
     → PerformsBehind (untold (takes_memory plan)) (AtTaking plan.part plan.switches (actions plan)) (playing plan) x y o
     p (Err stopped)
     → StopsSession plan o p

@@ -20,7 +20,8 @@ use Rattle.avr_desk.specs.Said.{Saying, SaidPart, after_all}
 use Rattle.avr_desk.proofs.Stages.Sayings.{kept_on, kept_none, after_append}
 use Rattle.avr_desk.proofs.Lines.Told.{failed_since, follows_on, follows_same, same_here, same_on, unsaid_since}
 use Rattle.avr_session.specs.Session.{says}
-use Rattle.avr_session.specs.Runs.{Devices, devices, NoneFailed, Cause, OfSending, OfListening, OfFile, OfPrinting, OfMemory, is_error, tells_fault, HasCome, TellsCause, Listens, IsOfDesk, Lacking, Terms, StopsBehind, SaysPrefix, Ran, BrokeOff, SaidSome}
+use Rattle.avr_session.specs.Runs.{Devices, devices, NoneFailed, Cause, OfSending, OfListening, OfFile, OfPrinting, OfMemory, is_error, tells_fault, HasCome, TellsCause, Listens, Lacking, Terms, StopsBehind, Ran, BrokeOff}
+use Rattle.avr_session.specs.Reporting.{IsOfDesk, SaysPrefix, SaidSome}
 use Rattle.avr_session.proofs.Runs.Stops.{place_more, place_behind, place_part, desk_says, desk_listens, sayings_said, map_append}
 
 -- where a call stands: what is left of its dialog, how far its conversation is, and what the devices show
@@ -62,7 +63,7 @@ after_both x y r = ap (λ ss. after_all ss r) (sayings_append x y) ∙ after_app
 
 -- how far a call has come
 
-pub came_here : {R : Type 0} (dialog : Dialog Saying R) (m : Position) (o : Devices)
+unfoldable pub came_here : {R : Type 0} (dialog : Dialog Saying R) (m : Position) (o : Devices)
     → Came (point dialog m o) (point dialog m o)
 came_here dialog m o = record {
   during = [];
@@ -136,15 +137,13 @@ LacksLater L m talk events M n = (during : Talk) (shown : List (Event Saying)) �
 -- a cause that comes in a part comes in the whole
 has_come_in : (some all : Bool) (o p then : Devices) → (some ≡ true → all ≡ true) → NoneFailed o p → (cause : Cause)
     → HasCome some p then cause → HasCome all o then cause
-has_come_in some all o p then takes same OfSending come =
-    (subst (λ n. HasRisen n then.link.failures) same.0 come.0, same_on o.desk p.desk then.desk same.1 come.1)
-has_come_in some all o p then takes same OfListening come =
-    (subst (λ n. HasRisen n then.link.failures) same.0 come.0, same_on o.desk p.desk then.desk same.1 come.1)
 has_come_in some all o p then takes same (OfFile file trouble) come =
     (failed_since o.desk p.desk then.desk same.1 come.0, come.1 ∙ same.0)
 has_come_in some all o p then takes same OfPrinting come =
     (unsaid_since o.desk p.desk then.desk same.1 come.0, come.1 ∙ same.0)
 has_come_in some all o p then takes same OfMemory come = (takes come.0, none_failed_on o p then same come.1)
+has_come_in some all o p then takes same cause come =
+    (subst (λ n. HasRisen n then.link.failures) same.0 come.0, same_on o.desk p.desk then.desk same.1 come.1)
 
 -- after other sayings, where they tell what is taken to be reported
 pub stops_in : (some all : Terms) (before : List Saying) (o p q : Devices) → (some.takes ≡ true → all.takes ≡ true)
@@ -241,11 +240,8 @@ none_behind cause outcome go_on listens is =
 
 listens_behind : {A R : Type 0} (cause : Cause) (outcome : Option (A × ℕ × Tape))
     (go_on : A → ℕ → Tape → Played Saying R) → Listens cause outcome → Listens cause (continued outcome go_on).outcome
-listens_behind OfSending outcome go_on listens = tt
 listens_behind OfListening outcome go_on listens = ap (λ o. (continued o go_on).outcome) listens
-listens_behind (OfFile file trouble) outcome go_on listens = tt
-listens_behind OfPrinting outcome go_on listens = tt
-listens_behind OfMemory outcome go_on listens = tt
+listens_behind cause outcome go_on listens = tt
 
 -- in an operation of the host; what was reported of it stands after it
 

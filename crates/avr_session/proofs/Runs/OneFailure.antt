@@ -7,7 +7,7 @@ use Rattle.avr_plan.specs.Plan.{Plan}
 use Rattle.stk_host.specs.Dialog.{sayings}
 use Rattle.avr_session.specs.Actions.{takes_memory}
 use Rattle.avr_session.specs.Run.{RunsSession}
-use Rattle.avr_session.specs.Runs.{Cause, OfSending, OfListening, OfFile, OfPrinting, OfMemory, NotCreated, NotWritten, Devices, StopsBehind, untold}
+use Rattle.avr_session.specs.Runs.{Cause, OfSending, OfListening, OfMemory, Devices, StopsBehind, untold}
 
 -- what stops it is a failure of the link, or the link has not failed
 by_cause : (takes : Bool) (old new : Devices) (said : List Saying) (cause : Cause) (told : Bytes)
@@ -15,10 +15,8 @@ by_cause : (takes : Bool) (old new : Devices) (said : List Saying) (cause : Caus
     → (new.link.failures ≡ old.link.failures) ⊎ HasRisen old.link.failures new.link.failures
 by_cause takes old new said OfSending told stops = inr stops.has_come.0
 by_cause takes old new said OfListening told stops = inr stops.has_come.0
-by_cause takes old new said (OfFile file NotCreated) told stops = inl stops.has_come.1
-by_cause takes old new said (OfFile file NotWritten) told stops = inl stops.has_come.1
-by_cause takes old new said OfPrinting told stops = inl stops.has_come.1
 by_cause takes old new said OfMemory told stops = inl stops.has_come.1.0
+by_cause takes old new said cause told stops = inl stops.has_come.1
 
 pub fails_once : (plan : Plan) (old new : Devices) (status : ℕ) → RunsSession plan old new status
     → (new.link.failures ≡ old.link.failures) ⊎ HasRisen old.link.failures new.link.failures

@@ -1,5 +1,5 @@
 -- Where a run stops: what stands before it and what follows it changes nothing.
-use Rattle.std.proofs.Common.{◌≡◌, ◌∙◌, List, [], ◌∷◌, ◌++◌, map, refl, sym, ap, subst, append_assoc, take, drop, Option, inl, inr, codes}
+use Rattle.std.proofs.Common.{ℕ, ◌≡◌, ◌∙◌, List, [], ◌∷◌, ◌++◌, map, refl, sym, ap, subst, append_assoc, take, drop, Option, inl, inr, codes}
 use Rattle.std.proofs.lemmas.List.{take-append-drop}
 use Rattle.avr_desk.specs.Record.{DeskView, Passes, Bytes}
 use Rattle.avr_desk.specs.Stream.{SendsPart}
@@ -8,7 +8,8 @@ use Rattle.stk_host.specs.Dialog.{Event, Said, sayings}
 use Rattle.stk_host.specs.Play as play
 use Rattle.avr_desk.specs.Said.{Saying, Line, Creates, Writes, Outs, SaidPart, after_all}
 use Rattle.avr_desk.proofs.Stages.Sayings.{kept_append}
-use Rattle.avr_session.specs.Runs.{Cause, OfSending, OfListening, OfFile, OfPrinting, OfMemory, NotCreated, NotWritten, AtFrame, StopsAt, Listens, IsOfDesk, SaysPrefix}
+use Rattle.avr_session.specs.Runs.{Cause, OfSending, OfListening, OfFile, OfPrinting, OfMemory, NotCreated, NotWritten, AtFrame, AtPart, StopsAt, Listens}
+use Rattle.avr_session.specs.Reporting.{IsOfDesk, SaysPrefix}
 
 -- ---- events
 
@@ -23,6 +24,17 @@ frame_more more x = record {
   not_whole = x.not_whole;
 }
 
+part_more : {event : Bytes → Saying} {begun later : List (Event Saying)} (more : List (Event Saying))
+    → AtPart event begun later → AtPart event begun (later ++ more)
+part_more more x = record {
+  bytes = x.bytes;
+  done = x.done;
+  more = x.more ++ more;
+  due = ap (λ es. es ++ more) x.due;
+  part = x.part;
+  prefix = x.prefix;
+}
+
 -- more that is due after it, unless it listens
 pub place_more : (cause : Cause) (whole begun later more : List (Event Saying)) → (cause ≡ OfListening → more ≡ [])
     → StopsAt cause whole begun later → StopsAt cause whole begun (later ++ more)
@@ -30,59 +42,19 @@ place_more OfSending whole begun later more none x = frame_more more x
 place_more OfListening whole begun later more none x = (x.0, ap (λ es. es ++ more) x.1 ∙ none refl)
 place_more (OfFile file NotCreated) whole begun later more none x =
     record { more = x.more ++ more; due = ap (λ es. es ++ more) x.due; none = x.none }
-place_more (OfFile file NotWritten) whole begun later more none (inl x) =
-    inl (record {
-      bytes = x.bytes;
-      done = x.done;
-      before = x.before;
-      more = x.more ++ more;
-      created = x.created;
-      due =
-          ap (λ es. es ++ more) x.due;
-      part = x.part;
-      prefix = x.prefix;
-    })
-place_more (OfFile file NotWritten) whole begun later more none (inr x) =
-    inr (record {
-      bytes = x.bytes;
-      done = x.done;
-      more = x.more ++ more;
-      named = x.named;
-      due =
-          ap (λ es. es ++ more) x.due;
-      part = x.part;
-      prefix = x.prefix;
-    })
-place_more OfPrinting whole begun later more none x =
-    record {
-      bytes = x.bytes;
-      done = x.done;
-      more = x.more ++ more;
-      due = ap (λ es. es ++ more) x.due;
-      part = x.part;
-      prefix = x.prefix;
-    }
+place_more (OfFile file NotWritten) whole begun later more none (inl x) = inl (x.0, part_more more x.1)
+place_more (OfFile file NotWritten) whole begun later more none (inr x) = inr (x.0, part_more more x.1)
+place_more OfPrinting whole begun later more none x = part_more more x
 place_more OfMemory whole begun later more none x = x
 
 -- more that happened before it
 pub place_behind : (cause : Cause) (before whole begun later : List (Event Saying)) → StopsAt cause whole begun later
     → StopsAt cause (before ++ whole) begun later
-place_behind OfSending before whole begun later x = x
-place_behind OfListening before whole begun later x = x
-place_behind (OfFile file NotCreated) before whole begun later x = x
-place_behind (OfFile file NotWritten) before whole begun later (inl x) = inl (record {
-  bytes = x.bytes;
-  done = x.done;
-  before = before ++ x.before;
-  more = x.more;
-  created = ap (λ es. before ++ es) x.created ∙ sym (append_assoc before x.before (Said (Creates file) ∷ []));
-  due = x.due;
-  part = x.part;
-  prefix = x.prefix;
-})
+place_behind (OfFile file NotWritten) before whole begun later (inl x) =
+    let again = ap (λ es. before ++ es) x.0.1 ∙ sym (append_assoc before x.0.0 (Said (Creates file) ∷ [])) in
+    inl ((before ++ x.0.0, again), x.1)
 place_behind (OfFile file NotWritten) before whole begun later (inr x) = inr x
-place_behind OfPrinting before whole begun later x = x
-place_behind OfMemory before whole begun later none = none
+place_behind cause before whole begun later x = x
 
 -- what was done in part is a part of what was due
 frame_part : (begun later : List (Event Saying)) → AtFrame begun later → play.IsBegun SaidPart begun later
@@ -93,26 +65,20 @@ pub place_part : (cause : Cause) (whole begun later : List (Event Saying)) → S
 place_part OfSending whole begun later x = frame_part begun later x
 place_part OfListening whole begun later x = rw (x.0) tt
 place_part (OfFile file NotCreated) whole begun later x = rw (x.none) tt
-place_part (OfFile file NotWritten) whole begun later (inl x) = rw (x.part, x.due) x.prefix
-place_part (OfFile file NotWritten) whole begun later (inr x) = rw (x.part, x.due) x.prefix
+place_part (OfFile file NotWritten) whole begun later (inl x) = rw (x.1.part, x.1.due) x.1.prefix
+place_part (OfFile file NotWritten) whole begun later (inr x) = rw (x.1.part, x.1.due) x.1.prefix
 place_part OfPrinting whole begun later x = rw (x.part, x.due) x.prefix
 place_part OfMemory whole begun later none = rw none tt
 
 -- a desk doesn't listen
 
 pub desk_says : (cause : Cause) → IsOfDesk cause → cause ≡ OfListening → ⊥
-desk_says OfSending desk is = desk
 desk_says OfListening desk is = desk
-desk_says (OfFile file trouble) desk is = cc
-desk_says OfPrinting desk is = cc
-desk_says OfMemory desk is = desk
+desk_says cause desk is = cc
 
 pub desk_listens : {A : Type 0} (cause : Cause) (outcome : Option A) → IsOfDesk cause → Listens cause outcome
-desk_listens OfSending outcome desk = tt
 desk_listens OfListening outcome desk = absurd desk
-desk_listens (OfFile file trouble) outcome desk = tt
-desk_listens OfPrinting outcome desk = tt
-desk_listens OfMemory outcome desk = tt
+desk_listens cause outcome desk = tt
 
 -- ---- sayings
 
@@ -160,6 +126,17 @@ prefix_of {cause = cause} some more x = record {
   kept = x.kept;
 }
 
+part_due : (event : Bytes → Saying) (n : ℕ) (bytes : Bytes)
+    → AtPart event (Said (event (take n bytes)) ∷ []) (Said (event bytes) ∷ [])
+part_due event n bytes = record {
+  bytes = bytes;
+  done = take n bytes;
+  more = [];
+  due = refl;
+  part = refl;
+  prefix = (drop n bytes, take-append-drop n bytes);
+}
+
 -- a line of which a prefix was printed
 pub line_part : (old new : DeskView) (bytes : Bytes) → SendsPart Messages old new bytes
     → SaysPrefix OfPrinting old new (Line bytes ∷ [])
@@ -168,15 +145,7 @@ line_part old new bytes part = record {
   begun = Line (take part.0 bytes) ∷ [];
   later = Line bytes ∷ [];
   sayings_are = refl;
-  place = record {
-    bytes = bytes;
-    done = take part.0 bytes;
-    more = [];
-    due = refl;
-    part = refl;
-    prefix =
-        (drop part.0 bytes, take-append-drop part.0 bytes);
-  };
+  place = part_due Line part.0 bytes;
   by_desk = tt;
   kept = part.2;
 }
@@ -190,16 +159,7 @@ file_part old mid new file bytes created part = record {
   begun = Writes (take part.0 bytes) ∷ [];
   later = Writes bytes ∷ [];
   sayings_are = refl;
-  place = inl (record {
-    bytes = bytes;
-    done = take part.0 bytes;
-    before = [];
-    more = [];
-    created = refl;
-    due = refl;
-    part = refl;
-    prefix = (drop part.0 bytes, take-append-drop part.0 bytes);
-  });
+  place = inl (([], refl), part_due Writes part.0 bytes);
   by_desk = tt;
   kept = kept_append (Creates file ∷ []) (Writes (take part.0 bytes) ∷ []) old.kept mid.kept new.kept created part.2;
 }
@@ -212,15 +172,7 @@ output_part old new file bytes named part = record {
   begun = Outs (take part.0 bytes) ∷ [];
   later = Outs bytes ∷ [];
   sayings_are = refl;
-  place = inr (record {
-    bytes = bytes;
-    done = take part.0 bytes;
-    more = [];
-    named = named;
-    due = refl;
-    part = refl;
-    prefix = (drop part.0 bytes, take-append-drop part.0 bytes);
-  });
+  place = inr (named, part_due Outs part.0 bytes);
   by_desk = tt;
   kept = part.2;
 }

@@ -1,7 +1,7 @@
 -- A run over a line on which few frames go wrong, and the same one once more, over the chip that a first one left.
 use Rattle.std.proofs.Common.{◌≡◌, ◌⊎◌, ℕ, List, All, ◌∙◌, inl, inr, true, false}
-use Rattle.avr_desk.specs.Record.{DeskView, Record}
-use Rattle.avr_desk.specs.Said.{Saying}
+use Rattle.avr_desk.specs.Record.{DeskView, Record, Passes}
+use Rattle.avr_desk.specs.Said.{Saying, after_all}
 use Rattle.avr_part.specs.Part.{IsPart}
 use Rattle.avr_plan.specs.Plan.{Plan, IsFitted}
 use Rattle.avr_session.specs.Runs.{start}
@@ -9,7 +9,7 @@ use Rattle.avr_session.specs.Actions.{takes_memory}
 use Rattle.avr_session.specs.Session.{session}
 use Rattle.avr_session.specs.Stopping.{IsSound, LacksMemory, keeping}
 use Rattle.avr_session.proofs.Runs.SoundDevices.{broke_lacks}
-use Rattle.stk_host.specs.Dialog.{Event}
+use Rattle.stk_host.specs.Dialog.{Event, sayings}
 use Rattle.stk_emu.specs.Wire.{turns_of}
 use Rattle.stk_emu.specs.Effect.{Memories, erase_keeps_eeprom, memories_of}
 use Rattle.avr_course.specs.Few.{AreFew}
@@ -18,13 +18,13 @@ use Rattle.stk_emu.specs.Settled.{FitsPart}
 use Rattle.stk_emu.specs.Turn.{Turn}
 use Rattle.stk_emu.specs.Wired.{WiredState, wired_view}
 use Rattle.avr_course.specs.Again.{AreKeeping, AgreesAnyway}
-use Rattle.avr_course.specs.AnyLine.{Stopped, OverAnyLine, memories}
+use Rattle.avr_course.specs.AnyLine.{Stopped, OverAnyLine, OverTurns, WholeOverTurns, memories, events_over}
 use Rattle.avr_course.specs.Items.{items, asked_items, has_erase}
 use Rattle.avr_course.specs.Outcome.{IsTouched, IsDone, IsCourse}
 use Rattle.avr_course.specs.Written.{IsWritten}
 use Rattle.avr_course.proofs.SecondRun.EveryChip.{agrees_anyway}
 use Rattle.avr_course.proofs.SecondRun.Status.{done_again}
-use Rattle.avr_tool.specs.Headline.{OverAnyLink, OverAnyEnd, wire_and_desk}
+use Rattle.avr_tool.specs.Headline.{wire_and_desk}
 
 module _ (plan : Plan) (w v : WiredState) (d e : Record) (a b : ℕ × ℕ) (status : ℕ)
     (few : AreFew (turns_of w.wire.fates)) (sound : IsSound (wire_and_desk w (keeping d a))
@@ -39,17 +39,21 @@ module _ (plan : Plan) (w v : WiredState) (d e : Record) (a b : ℕ × ℕ) (sta
   goes_on broke = has_memory (broke_lacks (session plan) start (wired_view w) (wired_view v) d e a b (takes_memory plan)
       sound broke)
 
-  pub sound_course : OverAnyLine plan w v old now status → IsCourse plan (memories w) (memories v) old now status
-  sound_course is_over = elim (is_over.few_bad few) [ inl is ↦ is | inr stopped ↦ absurd (goes_on stopped) ]
+  pub sound_course : OverAnyLine plan w v old now status
+      → IsCourse plan (memories w) (memories v) (sayings (events_over plan v)) status
+      × Passes (after_all (sayings (events_over plan v))) old now
+  sound_course is_over = elim is_over.end [
+    | inl came ↦ (came.0.few_bad few, came.1)
+    | inr broke ↦ absurd (goes_on broke.0)
+  ]
 
   pub sound_images : plan.switches.no_verify ≡ false → has_erase (items plan) ≡ true → AgreesAnyway plan
       → OverAnyLine plan w v old now status → (status ≡ 0)
       × IsWritten plan.part (asked_items plan) (memories w) (memories v)
-  sound_images verified erases both is_over =
-      elim (is_over.again few erases both) [
-        | inl zero ↦ (zero, is_over.images zero verified)
-        | inr stopped ↦ absurd (goes_on stopped)
-      ]
+  sound_images verified erases both is_over = elim is_over.end [
+    | inl came ↦ let zero = came.0.again few erases both in (zero, came.0.images zero verified)
+    | inr broke ↦ absurd (goes_on broke.0)
+  ]
 
 -- the same plan over what any first strokes of it left
 done_further : (plan : Plan) (before begun after : Memories) → IsPart plan.part → All (IsFitted plan.part) plan.tasks
@@ -69,28 +73,31 @@ pub further_heals : (plan : Plan) (w v x y : WiredState) (d e f g : DeskView) (s
     → memories x ≡ memories v → AreFew (turns_of x.wire.fates) → OverAnyLine plan x y f g further
     → ((further ≡ 0) × IsDone plan (memories w) (memories y)) ⊎ Stopped plan x y f g
 further_heals plan w v x y d e f g status further sound fitted fits erases both kept first same few second =
-    elim (second.again few erases both) [
-      | inl zero ↦ inl (
-        zero,
-        done_further plan (memories w) (memories x) (memories y) sound fitted fits erases both kept
-            (record { count = first.strokes.count; memories = same ∙ first.strokes.memories }) (second.done zero),
-      )
-      | inr stopped ↦ inr stopped
+    elim second.end [
+      | inl came ↦
+          let zero = came.0.again few erases both in
+          inl (
+            zero,
+            done_further plan (memories w) (memories x) (memories y) sound fitted fits erases both kept
+                (record { count = first.line.strokes.count; memories = same ∙ first.line.strokes.memories })
+                (came.0.done zero),
+          )
+      | inr broke ↦ inr broke.0
     ]
 
 -- the same over any link, also where nobody knows how the first run ended
 pub further_heals_link : (plan : Plan) (p q x y : Programmer) (turns more : List Turn) (bytes others : List ℕ)
-    (says : List Saying) (events : List (Event Saying)) (further : ℕ)
+    (begun events : List (Event Saying)) (further : ℕ)
     → IsPart plan.part → All (IsFitted plan.part) plan.tasks → FitsPart plan.part (memories_of p.chip)
     → has_erase (items plan) ≡ true → AgreesAnyway plan
     → (erase_keeps_eeprom plan.part (memories_of p.chip) ≡ true → AreKeeping plan.part (items plan))
-    → OverAnyEnd plan p q turns bytes says
-    → memories_of x.chip ≡ memories_of q.chip → AreFew more → OverAnyLink plan x y more others events further
+    → OverTurns plan p q turns bytes begun
+    → memories_of x.chip ≡ memories_of q.chip → AreFew more → WholeOverTurns plan x y more others events further
     → (further ≡ 0) × IsDone plan (memories_of p.chip) (memories_of y.chip)
-further_heals_link plan p q x y turns more bytes others says events further sound fitted fits erases both kept first
+further_heals_link plan p q x y turns more bytes others begun events further sound fitted fits erases both kept first
     same few second =
-    let zero = second.again few erases both in (
+    let zero = second.1.again few erases both in (
       zero,
       done_further plan (memories_of p.chip) (memories_of x.chip) (memories_of y.chip) sound fitted fits erases both
-          kept (record { count = first.strokes.count; memories = same ∙ first.strokes.memories }) (second.done zero),
+          kept (record { count = first.strokes.count; memories = same ∙ first.strokes.memories }) (second.1.done zero),
     )

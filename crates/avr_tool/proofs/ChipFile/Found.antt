@@ -2,7 +2,7 @@
 use Rattle.std.proofs.Common.{◌≡◌, ◌∙◌, ap, subst, sym, refl, arith, ℕ, ◌==◌, ◌||◌, Bool, true, false, not, nat_le, nat_lt, length, List, [], ◌∷◌, ◌++◌, append_assoc, append-nil, Some, Result, Ok, Err, if◌then◌else◌}
 use Rattle.std.proofs.lemmas.Bool.Decides.{nat_tests}
 use Rattle.std.proofs.lemmas.Grind.{common_steps}
-use Rattle.avr_chip.specs.Loading.{chip_given, chip_stage, judged_chip}
+use Rattle.avr_emulator.specs.Loading.{chip_given, chip_stage, judged_chip}
 use Rattle.avr_cli.specs.declared.settings.Settings.{Settings}
 use Rattle.avr_desk.proofs.Desks.InMemory.{all_true, true_behind}
 use Rattle.avr_desk.proofs.FileUses.Uses.{files_append, files_used}
@@ -18,7 +18,7 @@ use Rattle.avr_desk.specs.declared.record.FileUse.TheVariants.{Opened}
 use Rattle.avr_desk.specs.declared.record.Opening.{Opening}
 use Rattle.avr_desk.specs.declared.record.Opening.TheVariants.{Absent, Found}
 use Rattle.avr_desk.specs.declared.record.Writing.{Writing}
-use Rattle.avr_emulated.specs.Emulated.{RunsOverEmulator}
+use Rattle.avr_emulator.specs.Emulated.{RunsOverEmulator}
 use Rattle.avr_part.specs.ChipFile.{chip_file_size, state_in}
 use Rattle.avr_part.specs.Part.{Part}
 use Rattle.avr_part.specs.State.{ChipState as Chip, fresh_state}

@@ -14,7 +14,7 @@ use Rattle.avr_course.proofs.SecondRun.EveryChip.{agrees_anyway}
 use Rattle.avr_course.proofs.SecondRun.Status.{done_again}
 use Rattle.avr_course.specs.Again.{AgreesAnyway, AreKeeping}
 use Rattle.avr_course.specs.AnyLine.{OverAnyLine, Stopped, memories}
-use Rattle.avr_emulated.specs.Emulated.{IsSaved, RunsOverEmulator, new_wire}
+use Rattle.avr_emulator.specs.Emulated.{IsSaved, RunsOverEmulator, new_wire}
 use Rattle.avr_course.specs.Items.{items, has_erase}
 use Rattle.avr_course.specs.Outcome.{IsDone, IsTouched, strokes}
 use Rattle.avr_course.proofs.AnyLine.FirstSteps.{effects_sizes}
@@ -161,8 +161,8 @@ module _ (settings : Settings) (file : Bytes) (stock : Stock) (old mid new : Mem
   }
 
   left : FitsPart plan.part (memories one.after)
-  left = subst (FitsPart plan.part) (sym one.line.strokes.memories)
-      (effects_sizes plan.part is_part (take one.line.strokes.count (strokes plan)) before fits)
+  left = subst (FitsPart plan.part) (sym one.line.line.strokes.memories)
+      (effects_sizes plan.part is_part (take one.line.line.strokes.count (strokes plan)) before fits)
 
   -- the second run begins with what some first strokes of the first one left
   touched : IsTouched plan before (memories_of two.chip)
@@ -172,9 +172,9 @@ module _ (settings : Settings) (file : Bytes) (stock : Stock) (old mid new : Mem
             (let held : IsChipOf plan.part (Some (chip_file one.after.wire.programmer.chip)) two.chip =
             subst (λ h. IsChipOf plan.part h two.chip) is second_chip in
             record {
-              count = one.line.strokes.count;
+              count = one.line.line.strokes.count;
               memories = ap memories_of held.1 ∙ same_memories plan.part one.after.wire.programmer.chip left
-                  ∙ one.line.strokes.memories;
+                  ∙ one.line.line.strokes.memories;
             })
         | inr same ↦
             record {
@@ -192,14 +192,16 @@ module _ (settings : Settings) (file : Bytes) (stock : Stock) (old mid new : Mem
       → (erase_keeps_eeprom plan.part before ≡ true → AreKeeping plan.part (items plan))
       → ((two.ran ≡ 0) × IsDone plan before (memories two.after))
       ⊎ Stopped plan (new_wire two.chip []) two.after two.loaded_desk two.played_desk
-  heals_file erases both kept = elim (second.again tt erases both) [
-    | inl zero ↦ inl (
-      zero,
-      record {
-        memories = done_again plan before (memories_of two.chip) (memories two.after) is_part one.fitted fits
-            (λ _. kept) touched (second.done zero);
-        agrees = agrees_anyway plan before fits erases both;
-      },
-    )
-    | inr stopped ↦ inr stopped
+  heals_file erases both kept = elim second.end [
+    | inl came ↦
+        let zero = came.0.again tt erases both in
+        inl (
+          zero,
+          record {
+            memories = done_again plan before (memories_of two.chip) (memories two.after) is_part one.fitted fits
+                (λ _. kept) touched (came.0.done zero);
+            agrees = agrees_anyway plan before fits erases both;
+          },
+        )
+    | inr broke ↦ inr broke.0
   ]

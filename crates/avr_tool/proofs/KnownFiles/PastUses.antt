@@ -9,8 +9,8 @@ use Rattle.avr_desk.specs.declared.record.Opening.{Opening}
 use Rattle.avr_desk.specs.declared.record.Opening.TheVariants.{Absent, Found}
 use Rattle.avr_desk.specs.declared.record.Open.TheVariants.{ToRead}
 use Rattle.avr_desk.specs.declared.record.Reading.{Reading}
-use Rattle.avr_chip.specs.Saving.{Saves}
-use Rattle.avr_emulated.specs.Emulated.{IsSaved}
+use Rattle.avr_emulator.specs.Saving.{Saves}
+use Rattle.avr_emulator.specs.Emulated.{IsSaved}
 use Rattle.avr_plan.specs.OnlyReading.{OnlyReads}
 use Rattle.avr_session.specs.Runs.{RunsTo, Devices, Lacking}
 use Rattle.stk_host.specs.Dialog.{Dialog, sayings}

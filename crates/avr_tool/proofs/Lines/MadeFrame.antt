@@ -16,17 +16,17 @@ use Rattle.stk_emu.specs.Device.{device}
 use Rattle.avr_course.specs.NoFrame.{MakesNoFrame}
 use Rattle.stk_emu.specs.Programmer.{Programmer, fresh_programmer}
 use Rattle.stk_emu.specs.Turn.{Turn}
-use Rattle.avr_tool.specs.Headline.{OverAnyLink}
 use Rattle.avr_tool.specs.Worked.{fuse_plan, made_answers}
-use Rattle.avr_tool.proofs.Lines.AnyLink.{over_bytes}
+use Rattle.avr_course.specs.AnyLine.{WholeOverTurns}
+use Rattle.avr_course.proofs.AnyLink.{over_bytes}
 
 pub made_done : (played (session fuse_plan) 1 made_answers).outcome ≡ Some (0, 8, [])
 unfolding session opening handshake operation closing play tries attempt exchange answer
 made_done = refl
 
 pub promise_void : (p q : Programmer) (turns : List Turn) (bytes : List ℕ) (events : List (Event Saying))
-    → (p.chip.lfuse ≡ 0xE2 → ⊥) → OverAnyLink fuse_plan p q turns bytes events 0 → ⊥
-promise_void p q turns bytes events other over = other ((over.done refl).agrees.1.0 0 0xE2 refl (omega arith))
+    → (p.chip.lfuse ≡ 0xE2 → ⊥) → WholeOverTurns fuse_plan p q turns bytes events 0 → ⊥
+promise_void p q turns bytes events other over = other ((over.1.done refl).agrees.1.0 0 0xE2 refl (omega arith))
 
 -- so such a frame was made: of a chip whose fuse is another no line that makes none brings this tape
 pub frame_made : (s : chips.ChipState) (got : List ℕ) (through : List Bool) → IsSoundChip s → s.part ≡ fuse_plan.part

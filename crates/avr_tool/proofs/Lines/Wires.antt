@@ -20,7 +20,7 @@ use Rattle.stk_emu.specs.Wire as wire
 use Rattle.stk_emu.specs.Wire.{Wire, wire_after}
 use Rattle.stk_emu.specs.Wired.{WiredState, IsFresh}
 use Rattle.avr_course.specs.AnyLine.{Stopped, OverAnyLine}
-use Rattle.avr_tool.specs.Headline.{IsRun, StoppedPlanning, IsNew, wire_and_desk, RunsOverWire, RunsNowhere}
+use Rattle.avr_tool.specs.Headline.{IsRun, StoppedPlanning, IsNew, wire_and_desk, PlaysOverWire, HasNoPlan}
 use Rattle.avr_tool.proofs.Runs.Joined.{ran_whole, ran_openings, refused_whole}
 
 -- a new wire keeps what its frames have brought, as there are none
@@ -61,7 +61,7 @@ module _ (settings : Settings) (old now : DeskView) (status : ℕ) where
 
     pub runs_over_wire : RunsSession plan (wire_and_desk w between) (wire_and_desk v now) status
         → (w.wire.programmer.chip.part ≡ plan.part → OverAnyLine plan w v between now status)
-        → RunsOverWire settings w v old now status
+        → PlaysOverWire settings w v old now status
     runs_over_wire runs line = record {
       plan = plan;
       between = between;
@@ -74,7 +74,7 @@ module _ (settings : Settings) (old now : DeskView) (status : ℕ) where
   -- no plan
   pub runs_nowhere : (w : WiredState) → Goes {A = Plan} (AtUpdate settings) (planned settings) old now (Err status)
       → (settings.parts ≡ None → settings.updates ≡ [] → LacksPart settings.part [] old now)
-      → RunsNowhere settings w w old now status
+      → HasNoPlan settings w w old now status
   runs_nowhere w none bare = record { runs = either none.1; untouched = refl; status_is = none.0 }
     where
       either : WentRefused (planned settings) old now

@@ -2,18 +2,17 @@
 use Rattle.std.proofs.Common.{◌≡◌, ℕ, ◌⊎◌, inl, inr, List, [], ◌∷◌, ◌++◌, map, Some, refl, sym, ap, ◌∙◌, subst, arith, append_assoc}
 use Rattle.avr_cli.specs.declared.settings.Settings.{Settings}
 use Rattle.avr_desk.specs.Record.{DeskView}
-use Rattle.avr_desk.specs.declared.record.Opening.{Opening}
 use Rattle.avr_desk.specs.Said.{Saying, Line, SaidPart, after_all}
 use Rattle.avr_desk.proofs.Stages.Sayings.{kept_append}
 use Rattle.avr_desk.proofs.Lines.Told.{same_on}
 use Rattle.avr_plan.specs.Plan.{Plan}
 use Rattle.avr_plan.specs.Planning.{planned}
 use Rattle.avr_desk.specs.Playing.{Went, WentRefused}
-use Rattle.avr_desk.specs.Stage.{Made}
-use Rattle.stk_host.specs.Dialog.{Event, Said, played, behind, bytes_sent, sayings}
-use Rattle.stk_host.specs.Talk.{LinkView, Talk, Sent, Got, heard, Grows}
-use Rattle.stk_host.specs.Tape.{Tape, on_tape}
-use Rattle.stk_host.specs.Play.{TurnsFrom, IsPrefixOfEvents}
+use Rattle.avr_desk.specs.Stage.{Made, StageResult}
+use Rattle.stk_host.specs.Dialog.{Event, Said, behind, bytes_sent, sayings}
+use Rattle.stk_host.specs.Talk.{LinkView, heard, Grows}
+use Rattle.stk_host.specs.Tape.{on_tape}
+use Rattle.stk_host.specs.Play.{IsPrefixOfEvents}
 use Rattle.stk_host.proofs.Talks.Laws.{grows_none}
 use Rattle.avr_session.specs.Run.{RunsSettings}
 use Rattle.avr_session.specs.Runs.{Devices, devices}
@@ -31,24 +30,8 @@ pub said_bytes : (says : List Saying) (events : List (Event Saying))
 said_bytes [] events = refl
 said_bytes (saying ∷ says) events = said_bytes says events
 
--- turns of the session are turns of the run
-turns : (settings : Settings) (openings : List Opening) (says : List Saying) (left : List Opening) (plan : Plan)
-    → planned settings openings ≡ record { says = says; answer = Made plan; left = left }
-    → (tape : Tape) (bytes : List ℕ) (talk : Talk) → TurnsFrom (session plan) 1 tape bytes talk
-    → IsInTurn (run settings openings) tape bytes talk
-turns settings openings says left plan is tape bytes [] due = tt
-turns settings openings says left plan is tape bytes (Sent more ∷ talk) due =
-    turns settings openings says left plan is tape (bytes ++ more) talk due
-turns settings openings says left plan is tape bytes (Got items ∷ talk) due =
-    let e : run settings openings tape ≡ behind (map Said says) (played (session plan) 1 tape) =
-    ap (λ p. after_planning p tape) is in (
-      record {
-        waits = ap (λ p. p.outcome) e ∙ due.0.waits;
-        all_sent =
-            ap (λ p. bytes_sent p.events) e ∙ (said_bytes says (played (session plan) 1 tape).events ∙ due.0.all_sent);
-      },
-      turns settings openings says left plan is (tape ++ items) bytes talk due.1,
-    )
+answered : {p q : StageResult Plan} → p ≡ q → p.answer ≡ q.answer
+answered e = ap (λ (p : StageResult Plan). p.answer) e
 
 -- what a plan made, and its session whole
 pub ran_whole : (settings : Settings) (plan : Plan) (x y : Devices) (between : DeskView) (status : ℕ)
@@ -64,7 +47,7 @@ ran_whole settings plan x y between status went whole =
       left = whole.0.unread;
       is = λ later more. ap (λ q. after_planning q (heard ran.during ++ more)) (went.comes later)
           ∙ ap (behind (map Said went.says)) (ran.plays.plays more);
-      in_turn = λ later. turns settings (went.passed ++ later) went.says later plan (went.comes later) [] [] ran.during
+      in_turn = λ later. subst (λ answer. IsInTurn answer ran.during) (sym (answered (went.comes later)))
           ran.plays.in_turn;
       all_sent = said_bytes went.says ran.events ∙ ran.plays.all_sent;
       grows = ran.grows;
@@ -90,7 +73,7 @@ refused_whole settings x y same (line, went) = record {
   next = 1;
   left = [];
   is = λ later more. ap (λ q. after_planning q more) (went.comes later);
-  in_turn = λ later. tt;
+  in_turn = λ later. subst (λ answer. IsInTurn answer []) (sym (answered (went.comes later))) refl;
   all_sent = said_bytes went.says (Said (Line line) ∷ []);
   grows = subst (λ (l : LinkView). Grows x.link.talk [] l.talk) (sym same) (grows_none x.link.talk);
   kept = went.kept ∙ ap (λ says. after_all says x.desk.kept) (sym (said_sayings went.says (Said (Line line) ∷ [])));
@@ -137,8 +120,8 @@ stopped_prefix settings x y status stopped = record {
   prefix = λ later. subst (λ q. IsPrefixOfEvents SaidPart (map Said stopped.made.says ++ stopped.broke.shown) q.events)
       (sym (ap (λ q. after_planning q (heard stopped.broke.during)) (stopped.made.comes later)))
       (behind_prefix stopped.made.says stopped.broke.breaks.prefix);
-  in_turn = λ later. turns settings (stopped.made.passed ++ later) stopped.made.says later stopped.plan
-      (stopped.made.comes later) [] [] stopped.broke.during stopped.broke.breaks.in_turn;
+  in_turn = λ later. subst (λ answer. IsInTurn answer stopped.broke.during)
+      (sym (answered (stopped.made.comes later))) stopped.broke.breaks.in_turn;
   all_sent = said_bytes stopped.made.says stopped.broke.shown ∙ stopped.broke.breaks.all_sent;
   grows = stopped.broke.grows;
 }

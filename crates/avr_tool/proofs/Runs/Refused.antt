@@ -16,9 +16,10 @@ use Rattle.stk_host.specs.Tape.{answer, on_tape}
 use Rattle.stk_emu.specs.Effect.{effects}
 use Rattle.stk_emu.specs.Wired.{WiredState}
 use Rattle.avr_course.specs.AnyLine.{OverAnyLine, Weight, weighed, bodies_in, memories, frames_over}
-use Rattle.avr_course.specs.Bound.{run_steps}
+use Rattle.avr_session.specs.PlanSteps.{run_steps}
 use Rattle.avr_course.specs.Course.{course}
 use Rattle.avr_course.specs.Items.{items}
+use Rattle.avr_course.proofs.WirePlays.{came_to, untouched}
 use Rattle.avr_tool.specs.Headline.{run, IsRun}
 use Rattle.avr_tool.specs.Worked.{worked_settings, worked_answers, frames_due, lines_due}
 
@@ -28,19 +29,21 @@ some_is a b e = cc
 pub too_much : (plan : Plan) (w v : WiredState) (d e : DeskView) (status : ℕ) (weight : Weight)
     → 4 * weighed weight (bodies_in (run_steps plan)) < weighed weight (map body_of (frames_over v))
     → OverAnyLine plan w v d e status → ⊥
-too_much plan w v d e status weight more over = let most = over.four weight in absurd (omega (arith, more, most))
+too_much plan w v d e status weight more over = let most = over.line.four weight in absurd (omega (arith, more, most))
 
 pub not_all_written : (plan : Plan) (w v : WiredState) (d e : DeskView)
     → (memories v ≡ effects plan.part (items plan) (memories w) → ⊥) → OverAnyLine plan w v d e 0 → ⊥
-not_all_written plan w v d e other over = other (over.done refl).memories
+not_all_written plan w v d e other over = other ((came_to plan w v d e 0 over refl).0.done refl).memories
 
 pub said_otherwise : (plan : Plan) (w v : WiredState) (d e : DeskView)
     → (Passes (after_all (course plan (memories w)).says) d e → ⊥) → OverAnyLine plan w v d e 0 → ⊥
-said_otherwise plan w v d e other over = other (over.success refl).said
+said_otherwise plan w v d e other over =
+    let came = came_to plan w v d e 0 over refl in
+    other (came.1 ∙ ap (λ said. after_all said d.kept) (came.0.success refl).said)
 
 pub touched_in_silence : (plan : Plan) (w v : WiredState) (d e : DeskView) (status : ℕ) → frames_over v ≡ []
     → (memories v ≡ memories w → ⊥) → OverAnyLine plan w v d e status → ⊥
-touched_in_silence plan w v d e status none other over = other (over.untouched none)
+touched_in_silence plan w v d e status none other over = other (untouched plan w v d e status over none)
 
 -- ---- the worked run
 

@@ -125,8 +125,7 @@ module _ (part : Part) where
     memories = s.memories;
     part_is = s.part_is;
     mode = mode;
-    flash_buffer =
-        s.flash_buffer;
+    flash_buffer = s.flash_buffer;
     eeprom_buffer = s.eeprom_buffer;
     extended = s.extended;
   }
@@ -179,59 +178,39 @@ module _ (part : Part) where
     eeprom_buffer = s.eeprom_buffer;
   }
 
+  -- A programmer that is ready, and then has these memories, and all else as it was.
+  ready_with : (m n : Memories) (p q : Programmer) → Ready part m p → memories_of q.chip ≡ n
+      → q.chip.part ≡ p.chip.part → q.mode ≡ p.mode → q.chip.flash_buffer ≡ p.chip.flash_buffer
+      → q.chip.eeprom_buffer ≡ p.chip.eeprom_buffer → q.chip.extended ≡ p.chip.extended → Ready part n q
+  ready_with m n p q s memories part_is mode flash eeprom extended = record {
+    memories = memories;
+    part_is = part_is ∙ s.part_is;
+    mode = mode ∙ s.mode;
+    flash_buffer = flash ∙ s.flash_buffer;
+    eeprom_buffer = eeprom ∙ s.eeprom_buffer;
+    extended = λ narrow. extended ∙ s.extended narrow;
+  }
+
   pub load_keeps : (address : ℕ) (m : Memories) (p : Programmer) → address < 2 ^ 32 → Ready part m p
       → Ready part m (device.after (body (LoadAddress address)) p)
   load_keeps address m p fits s = subst (λ z. Ready part m z) (sym (ap (λ z. z.1) (obeys (LoadAddress address) p fits)))
-      (record {
-        memories = s.memories;
-        part_is = s.part_is;
-        mode = s.mode;
-        flash_buffer = s.flash_buffer;
-        eeprom_buffer = s.eeprom_buffer;
-        extended = s.extended;
-      })
+      (ready_with m m p _ s s.memories refl refl refl refl refl)
 
   -- the fuses
   pub fuse_does : (f : Fuse) (v : ℕ) (m : Memories) (p : Programmer) → Ready part m p
       → Ready part (struck part (program_fuse f v ∷ []) m) (device.after (body (program_fuse f v)) p)
   fuse_does Low v m p s = subst (Ready part (struck part (program_fuse Low v ∷ []) m)) (sym (in_mode_is p _ _ s.mode))
-      (record {
-        memories = ap (struck part (program_fuse Low v ∷ [])) s.memories;
-        part_is = s.part_is;
-        mode = s.mode;
-        flash_buffer = s.flash_buffer;
-        eeprom_buffer = s.eeprom_buffer;
-        extended = s.extended;
-      })
+      (ready_with m _ p _ s (ap (struck part (program_fuse Low v ∷ [])) s.memories) refl refl refl refl refl)
   fuse_does High v m p s = subst (Ready part (struck part (program_fuse High v ∷ []) m)) (sym (in_mode_is p _ _ s.mode))
-      (record {
-        memories = ap (struck part (program_fuse High v ∷ [])) s.memories;
-        part_is = s.part_is;
-        mode = s.mode;
-        flash_buffer = s.flash_buffer;
-        eeprom_buffer = s.eeprom_buffer;
-        extended = s.extended;
-      })
+      (ready_with m _ p _ s (ap (struck part (program_fuse High v ∷ [])) s.memories) refl refl refl refl refl)
   fuse_does Extended v m p s = subst (Ready part (struck part (program_fuse Extended v ∷ []) m))
-      (sym (in_mode_is p _ _ s.mode)) (record {
-        memories = ap (struck part (program_fuse Extended v ∷ [])) s.memories;
-        part_is = s.part_is;
-        mode = s.mode;
-        flash_buffer = s.flash_buffer;
-        eeprom_buffer = s.eeprom_buffer;
-        extended = s.extended;
-      })
+      (sym (in_mode_is p _ _ s.mode))
+      (ready_with m _ p _ s (ap (struck part (program_fuse Extended v ∷ [])) s.memories) refl refl refl refl refl)
 
   pub lock_does : (v : ℕ) (m : Memories) (p : Programmer) → Ready part m p
       → Ready part (struck part (program_lock v ∷ []) m) (device.after (body (program_lock v)) p)
-  lock_does v m p s = subst (Ready part (struck part (program_lock v ∷ []) m)) (sym (in_mode_is p _ _ s.mode)) (record {
-    memories = ap (struck part (program_lock v ∷ [])) s.memories;
-    part_is = s.part_is;
-    mode = s.mode;
-    flash_buffer = s.flash_buffer;
-    eeprom_buffer = s.eeprom_buffer;
-    extended = s.extended;
-  })
+  lock_does v m p s = subst (Ready part (struck part (program_lock v ∷ []) m)) (sym (in_mode_is p _ _ s.mode))
+      (ready_with m _ p _ s (ap (struck part (program_lock v ∷ [])) s.memories) refl refl refl refl refl)
 
   -- the EESAVE bit is the part's
   erase_memories : (s : chip.ChipState) → s.part ≡ part
@@ -240,14 +219,9 @@ module _ (part : Part) where
 
   pub erase_does : (m : Memories) (p : Programmer) → Ready part m p
       → Ready part (struck part (erase ∷ []) m) (device.after (body erase) p)
-  erase_does m p s = subst (Ready part (struck part (erase ∷ []) m)) (sym (in_mode_is p _ _ s.mode)) (record {
-    memories = erase_memories p.chip s.part_is ∙ ap (struck part (erase ∷ [])) s.memories;
-    part_is = s.part_is;
-    mode = s.mode;
-    flash_buffer = s.flash_buffer;
-    eeprom_buffer = s.eeprom_buffer;
-    extended = s.extended;
-  })
+  erase_does m p s = subst (Ready part (struck part (erase ∷ []) m)) (sym (in_mode_is p _ _ s.mode))
+      (ready_with m _ p _ s (erase_memories p.chip s.part_is ∙ ap (struck part (erase ∷ [])) s.memories)
+      refl refl refl refl refl)
 
 -- a byte that is read changes nothing
 pub fuse_read_after : (f : Fuse) (p : Programmer) → p.mode ≡ true → device.after (body (read_fuse f)) p ≡ p

@@ -54,25 +54,6 @@ frames_fed old used new fs text fed are stands =
     ∙ ap (λ t. frames text ++ t) (filter-append is_frame fed.skipped fs
     ∙ (ap (λ t. t ++ filter is_frame fs) fed.no_frames ∙ are)))
 
-pub is_fed : (old new : Machine) (used out : List ℕ) (p : Programmer) (text : List ℕ) → Answers old used new out
-    → IsFed p text old → IsFed p (text ++ used) new
-is_fed old new used out p text a f = record {
-  stands = a.fed.stands text f.stands;
-  obeyed =
-      a.obeyed
-      ∙ (ap (after_frames device a.found) f.obeyed
-      ∙ (sym (after_more device (frames text) a.found p)
-      ∙ ap (λ fs. after_frames device fs p) (sym
-      (frames_fed old.held used new.held a.found text a.fed a.are_frames f.stands))));
-}
-
-pub emulated : (old new : Machine) (used out : List ℕ) (p : Programmer) (text : List ℕ) → Answers old used new out
-    → IsFed p text old → emulate p (text ++ used) ≡ emulate p text ++ out
-emulated old new used out p text a f =
-    ap (λ fs. answers device fs p) (frames_fed old.held used new.held a.found text a.fed a.are_frames f.stands)
-    ∙ (answers_more device (frames text) a.found p
-    ∙ ap (λ t. emulate p text ++ t) (ap (answers device a.found) (sym f.obeyed) ∙ sym a.answered))
-
 -- where nothing is answered no frame ended
 pub none_found : (event : Event) (held : List ℕ) (p : Programmer) → answers device (frames_of_event event held) p ≡ []
     → event ≡ More
@@ -162,3 +143,15 @@ appends_all old new bytes a b p text given appends f all =
     ∙ (ap (λ q. emulate p text ++ answers device appends.found q) f.obeyed
     ∙ (sym (answers_more device (frames text) appends.found p)
     ∙ ap (λ fs. answers device fs p) (sym (appends.ends text f.stands))))))
+
+-- the same of one call
+pub is_fed : (old new : Machine) (used out : List ℕ) (p : Programmer) (text : List ℕ) → Answers old used new out
+    → IsFed p text old → IsFed p (text ++ used) new
+is_fed old new used out p text a f =
+    appends_fed old new used [] out p text (appends_one old new used out [] out a refl) f
+
+pub emulated : (old new : Machine) (used out : List ℕ) (p : Programmer) (text : List ℕ) → Answers old used new out
+    → IsFed p text old → emulate p (text ++ used) ≡ emulate p text ++ out
+emulated old new used out p text a f =
+    sym (appends_all old new used [] out p text (emulate p text) (appends_one old new used out [] out a refl) f
+    (append-nil (emulate p text)))

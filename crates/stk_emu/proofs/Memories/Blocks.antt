@@ -1,8 +1,8 @@
 -- Blocks, byte by byte.
-use Rattle.std.proofs.Common.{true, false, if◌then◌else◌, ◌/◌, subst, ◌≡◌, ℕ, suc, ◌+◌, ◌<◌, Bool, List, [], ◌∷◌, ◌++◌, length, get_or, drop, refl, ap, ap₂, sym, ◌∙◌, add-one, drop-cons, append_assoc}
+use Rattle.std.proofs.Common.{true, if◌then◌else◌, subst, ◌≡◌, ℕ, suc, ◌+◌, ◌<◌, Bool, List, [], ◌∷◌, ◌++◌, length, get_or, drop, refl, ap, ap₂, sym, ◌∙◌, add-one, drop-cons, append_assoc}
+use Rattle.std.proofs.lemmas.Bool.{cond-true}
 use Rattle.avr_part.specs.State.{ChipState, spi_of}
-use Rattle.stk_frame.specs.declared.command.ProgramBlock.{ProgramBlock}
-use Rattle.stk_emu.specs.Programmer.{Programmer, with_address_moved, with_instructions, flash_fits, eeprom_fits, program_flash, program_eeprom, flash_writes, eeprom_writes, is_written, writes_page, sent_to, flash_loads, eeprom_loads, flash_looks, eeprom_looks, extension, look, at_address, for_half, word_at, byte_address}
+use Rattle.stk_emu.specs.Programmer.{Programmer, in_mode, fail, with_address_moved, with_instructions, sent_to, flash_loads, flash_looks, eeprom_looks, extension, look, at_address, for_half, word_at, byte_address}
 
 pub sent-append : (xs ys : List (List ℕ)) (chip : ChipState) → sent_to (xs ++ ys) chip ≡ sent_to ys (sent_to xs chip)
 sent-append [] ys chip = refl
@@ -78,42 +78,18 @@ module _ (before : List ℕ) (whole : List ℕ × ChipState) (cmd address i : �
       rw add-one (looked_on before whole (at_address cmd (byte_address address i) 0) chip after out new
       (eeprom_looks cmd address (suc i) m) before_step p)
 
-pub chosen : {A : Type 0} (b : Bool) (x y : A) → b ≡ true → (if b then x else y) ≡ x
-chosen true x y e = refl
-chosen false x y e = absurd (cc)
-
--- a page was loaded, and written if that was asked for
-pub page_done : (f : ProgramBlock) (p new : Programmer) (loaded written : ChipState) (out : List ℕ) → p.mode ≡ true
-    → flash_fits f ≡ true
-    → loaded ≡ sent_to (flash_loads p.wide f.cmd1 p.address 0 f.bytes) p.chip
-    → written ≡ sent_to (flash_writes p.wide f.cmd2 p.address (is_written f)) loaded
-    → new ≡ with_address_moved (f.count / 2) (record p { chip = written }) → out ≡ 0x13 ∷ 0 ∷ []
-    → (out, new) ≡ program_flash f p
-page_done f p new loaded written out mode fits load write is answer =
-    let loads = flash_loads p.wide f.cmd1 p.address 0 f.bytes in
-    let writes = flash_writes p.wide f.cmd2 p.address (is_written f) in
+-- A block was loaded, and written if that was asked for.
+pub block_done : (code moved : ℕ) (fits : Bool) (p new : Programmer) (loads writes : List (List ℕ))
+    (loaded written : ChipState) (out : List ℕ) → p.mode ≡ true → fits ≡ true → loaded ≡ sent_to loads p.chip
+    → written ≡ sent_to writes loaded → new ≡ with_address_moved moved (record p { chip = written })
+    → out ≡ code ∷ 0 ∷ []
+    → (out, new) ≡ in_mode code p
+    (if fits then (code ∷ 0 ∷ [], with_address_moved moved (with_instructions (loads ++ writes) p)) else fail code p)
+block_done code moved fits p new loads writes loaded written out mode fit load write is answer =
     let chip_is : written ≡ sent_to (loads ++ writes) p.chip =
     write ∙ (ap (λ s. sent_to writes s) load ∙ sym (sent-append loads writes p.chip)) in
-    let new_is : new ≡ with_address_moved (f.count / 2) (with_instructions (loads ++ writes) p) =
-    is ∙ ap (λ s. with_address_moved (f.count / 2) (record p { chip = s })) chip_is in
-    let pair_is : (out, new) ≡ (0x13 ∷ 0 ∷ [], with_address_moved (f.count / 2) (with_instructions (loads ++ writes) p))
-    = rw (answer, new_is) refl in
-    pair_is ∙ sym (chosen p.mode _ _ mode ∙ chosen (flash_fits f) _ _ fits)
-
--- a block of EEPROM bytes was loaded, and written if that was asked for
-pub run_done : (f : ProgramBlock) (p new : Programmer) (loaded written : ChipState) (out : List ℕ) → p.mode ≡ true
-    → eeprom_fits f ≡ true
-    → loaded ≡ sent_to (eeprom_loads f.cmd1 p.address 0 f.bytes) p.chip
-    → written ≡ sent_to (eeprom_writes f.cmd2 p.address (writes_page f)) loaded
-    → new ≡ with_address_moved f.count (record p { chip = written }) → out ≡ 0x15 ∷ 0 ∷ []
-    → (out, new) ≡ program_eeprom f p
-run_done f p new loaded written out mode fits load write is answer =
-    let loads = eeprom_loads f.cmd1 p.address 0 f.bytes in
-    let writes = eeprom_writes f.cmd2 p.address (writes_page f) in
-    let chip_is : written ≡ sent_to (loads ++ writes) p.chip =
-    write ∙ (ap (λ s. sent_to writes s) load ∙ sym (sent-append loads writes p.chip)) in
-    let new_is : new ≡ with_address_moved f.count (with_instructions (loads ++ writes) p) =
-    is ∙ ap (λ s. with_address_moved f.count (record p { chip = s })) chip_is in
-    let pair_is : (out, new) ≡ (0x15 ∷ 0 ∷ [], with_address_moved f.count (with_instructions (loads ++ writes) p)) =
+    let new_is : new ≡ with_address_moved moved (with_instructions (loads ++ writes) p) =
+    is ∙ ap (λ s. with_address_moved moved (record p { chip = s })) chip_is in
+    let pair_is : (out, new) ≡ (code ∷ 0 ∷ [], with_address_moved moved (with_instructions (loads ++ writes) p)) =
     rw (answer, new_is) refl in
-    pair_is ∙ sym (chosen p.mode _ _ mode ∙ chosen (eeprom_fits f) _ _ fits)
+    pair_is ∙ sym (cond-true p.mode _ _ mode ∙ cond-true fits _ _ fit)

@@ -1,11 +1,11 @@
 -- Blocks that are read: the bytes, and the chip after them.
-use Rattle.std.proofs.Common.{◌≡◌, ℕ, zero, suc, ◌+◌, ◌*◌, ◌/◌, ◌%◌, ◌≤◌, ◌<◌, List, [], ◌∷◌, length, get_or, take, drop, refl, sym, ap, ◌∙◌, arith, inl, inr, Bool, true, false, cond, drop-cons}
+use Rattle.std.proofs.Common.{◌≡◌, ℕ, zero, suc, ◌+◌, ◌*◌, ◌/◌, ◌%◌, ◌≤◌, ◌<◌, List, [], ◌∷◌, length, get_or, take, drop, refl, sym, ap, ◌∙◌, arith, Bool, false, cond, drop-cons}
 use Rattle.std.proofs.Math.Nat.{mod-eq_of_lt}
-use Rattle.std.proofs.lemmas.Bool.{eqb-true, eqb-false, cases_Bool, cond-true, cond-false}
-use Rattle.std.specs.Prelude.{◌==◌, bit_or, slice_index}
+use Rattle.std.proofs.lemmas.Bool.{cond-false}
+use Rattle.std.specs.Prelude.{slice_index}
 use Rattle.avr_part.specs.State as chip
 use Rattle.stk_emu.specs.Programmer.{sent_to, extension, flash_looks, eeprom_looks, for_half, word_at, byte_address, at_address, high, low}
-use Rattle.stk_emu.proofs.Memories.Pages.{extended_is}
+use Rattle.stk_emu.proofs.Memories.Pages.{extended_is, by_half, word_whole}
 
 -- a memory from a place on, by its first byte
 one_more : (xs : List ℕ) (j n : ℕ) → j < length xs → get_or xs j 0 ∷ take n (drop (suc j) xs) ≡ take (suc n) (drop j xs)
@@ -18,46 +18,12 @@ pub look_byte : (i h lo : ℕ) (s : chip.ChipState) → chip.spi_of (for_half 0x
           ((s.extended * 65536 + (h * 256 + lo)) % (s.part.flash_size / 2) * 2 + i % 2) 0 ∷ [],
       s,
     )
-look_byte i h lo s = elim (cases_Bool (i % 2 == 0)) [
-  | inl e ↦
-      let even : 0 ≡ i % 2 = sym (eqb-true (i % 2) 0 e) in
-      let is : for_half 0x20 i ≡ 0x20 = cond-true (i % 2 == 0) 0x20 (bit_or 0x20 8) e in
-      ap (λ c. chip.spi_of (c ∷ h ∷ lo ∷ 0 ∷ []) s) is
-      ∙ (ap (λ c. (
-        0 ∷ c ∷ h ∷ get_or s.flash ((s.extended * 65536 + (h * 256 + lo)) % (s.part.flash_size / 2) * 2 + 0)
-            0 ∷ [],
-        s,
-      )) (sym is)
-      ∙ ap (λ n. (
-        0 ∷ for_half 0x20 i ∷ h ∷ get_or s.flash
-            ((s.extended * 65536 + (h * 256 + lo)) % (s.part.flash_size / 2) * 2 + n) 0 ∷ [],
-        s,
-      )) even)
-  | inr e ↦
-      let odd : 1 ≡ i % 2 = let ne = eqb-false (i % 2) 0 e in omega arith in
-      let is : for_half 0x20 i ≡ 0x28 = cond-false (i % 2 == 0) 0x20 (bit_or 0x20 8) e in
-      ap (λ c. chip.spi_of (c ∷ h ∷ lo ∷ 0 ∷ []) s) is
-      ∙ (ap (λ c. (
-        0 ∷ c ∷ h ∷ get_or s.flash ((s.extended * 65536 + (h * 256 + lo)) % (s.part.flash_size / 2) * 2 + 1)
-            0 ∷ [],
-        s,
-      )) (sym is)
-      ∙ ap (λ n. (
-        0 ∷ for_half 0x20 i ∷ h ∷ get_or s.flash
-            ((s.extended * 65536 + (h * 256 + lo)) % (s.part.flash_size / 2) * 2 + n) 0 ∷ [],
-        s,
-      )) odd)
-]
-
--- a word's address, from the extended address and the two bytes of an instruction
-word_whole : (wide : Bool) (s : chip.ChipState) (w : ℕ) → w < 16777216 → (wide ≡ false → (s.extended ≡ 0) × (w < 65536))
-    → cond wide (w / 65536 % 256) s.extended * 65536 + (high w * 256 + low w) ≡ w
-word_whole true s w few n = let e : w / 65536 % 256 * 65536 + (w / 256 % 256 * 256 + w % 256) ≡ w = omega arith in e
-word_whole false s w few n =
-    let zero_is = (n refl).0 in
-    let few' = (n refl).1 in
-    let e : s.extended * 65536 + (w / 256 % 256 * 256 + w % 256) ≡ w = omega arith in
-    e
+look_byte i h lo s =
+    by_half 0x20 i (λ c half. chip.spi_of (c ∷ h ∷ lo ∷ 0 ∷ []) s
+    ≡ (
+      0 ∷ c ∷ h ∷ get_or s.flash ((s.extended * 65536 + (h * 256 + lo)) % (s.part.flash_size / 2) * 2 + half) 0 ∷ [],
+      s,
+    )) refl refl
 
 -- the bytes of a block, and the chip with some extended address
 pub record Looked (wide : Bool) (j n : ℕ) (s : chip.ChipState) (looked : List ℕ × chip.ChipState) : Type 0 where

@@ -9,15 +9,13 @@ use Rattle.stk_emu.specs.Effect.{Image, with_image, and_in, and_with}
 use Rattle.stk_emu.specs.Strokes.{image_at}
 
 pub length-laid : (image : Image) (xs : List ℕ) → length (with_image image xs) ≡ length xs
-length-laid [] [] = refl
+length-laid image [] = refl
 length-laid [] (x ∷ xs) = refl
-length-laid (b ∷ image) [] = refl
 length-laid (b ∷ image) (x ∷ xs) = ap suc (length-laid image xs)
 
 pub length-and_in : (image : Image) (xs : List ℕ) → length (and_in image xs) ≡ length xs
-length-and_in [] [] = refl
+length-and_in image [] = refl
 length-and_in [] (x ∷ xs) = refl
-length-and_in (b ∷ image) [] = refl
 length-and_in (b ∷ image) (x ∷ xs) = ap suc (length-and_in image xs)
 
 pub get_laid : (image : Image) (xs : List ℕ) (i : ℕ) → i < length xs
@@ -40,9 +38,8 @@ laid_byte None x = refl
 laid_byte (Some y) x = refl
 
 pub laid_twice : (image : Image) (xs : List ℕ) → with_image image (with_image image xs) ≡ with_image image xs
-laid_twice [] [] = refl
+laid_twice image [] = refl
 laid_twice [] (x ∷ xs) = refl
-laid_twice (b ∷ image) [] = refl
 laid_twice (b ∷ image) (x ∷ xs) = ap₂ (λ y ys. y ∷ ys) (laid_byte b x) (laid_twice image xs)
 
 pub and_byte : (b : Option ℕ) (x : ℕ) → and_with b (and_with b x) ≡ and_with b x
@@ -50,22 +47,19 @@ and_byte None x = refl
 and_byte (Some y) x = and_assoc y x y ∙ ap (bit_and x) (and_self y)
 
 pub and_in_twice : (image : Image) (xs : List ℕ) → and_in image (and_in image xs) ≡ and_in image xs
-and_in_twice [] [] = refl
+and_in_twice image [] = refl
 and_in_twice [] (x ∷ xs) = refl
-and_in_twice (b ∷ image) [] = refl
 and_in_twice (b ∷ image) (x ∷ xs) = ap₂ (λ y ys. y ∷ ys) (and_byte b x) (and_in_twice image xs)
 
 -- no bytes at the end of an image don't matter
 nothing_laid : (k : ℕ) (xs : List ℕ) → with_image (replicate k None) xs ≡ xs
-nothing_laid zero [] = refl
+nothing_laid k [] = refl
 nothing_laid zero (x ∷ xs) = refl
-nothing_laid (suc k) [] = refl
 nothing_laid (suc k) (x ∷ xs) = ap (λ ys. x ∷ ys) (nothing_laid k xs)
 
 laid_nothing : (image : Image) (k : ℕ) (xs : List ℕ) → with_image (image ++ replicate k None) xs ≡ with_image image xs
-laid_nothing [] k [] = refl
+laid_nothing image k [] = refl
 laid_nothing [] k (x ∷ xs) = nothing_laid k (x ∷ xs)
-laid_nothing (b ∷ image) k [] = refl
 laid_nothing (b ∷ image) k (x ∷ xs) = ap (λ ys. unwrap_or b x ∷ ys) (laid_nothing image k xs)
 
 -- the bytes loaded for a page, laid over a memory

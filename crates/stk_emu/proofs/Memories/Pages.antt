@@ -88,29 +88,30 @@ pub extended_is : (wide : Bool) (a : ℕ) (s : chip.ChipState)
 extended_is true a s = refl
 extended_is false a s = refl
 
+-- what holds of both halves of a word holds of each byte's
+pub by_half : (cmd i : ℕ) (P : ℕ → ℕ → Type 0) → P cmd 0 → P (bit_or cmd 8) 1 → P (for_half cmd i) (i % 2)
+by_half cmd i P low_one high_one = elim (cases_Bool (i % 2 == 0)) [
+  | inl e ↦
+      let even : 0 ≡ i % 2 = sym (eqb-true (i % 2) 0 e) in
+      subst (P (for_half cmd i)) even (subst (λ c. P c 0) (sym (cond-true (i % 2 == 0) cmd (bit_or cmd 8) e)) low_one)
+  | inr e ↦
+      let odd : 1 ≡ i % 2 = let ne = eqb-false (i % 2) 0 e in omega arith in
+      subst (P (for_half cmd i)) odd (subst (λ c. P c 1) (sym (cond-false (i % 2 == 0) cmd (bit_or cmd 8) e)) high_one)
+]
+
 -- one byte is loaded
 pub load_byte : (i h lo d : ℕ) (s : chip.ChipState)
     → (chip.spi_of (for_half 0x40 i ∷ h ∷ lo ∷ d ∷ []) s).1
     ≡ record s { flash_buffer = set s.flash_buffer (lo % (s.part.flash_page / 2) * 2 + i % 2) d }
-load_byte i h lo d s = elim (cases_Bool (i % 2 == 0)) [
-  | inl e ↦
-      let even : 0 ≡ i % 2 = sym (eqb-true (i % 2) 0 e) in
-      ap (λ c. (chip.spi_of (c ∷ h ∷ lo ∷ d ∷ []) s).1) (cond-true (i % 2 == 0) 0x40 (bit_or 0x40 8) e)
-      ∙ ap (λ n. record s { flash_buffer = set s.flash_buffer (lo % (s.part.flash_page / 2) * 2 + n) d }) even
-  | inr e ↦
-      let odd : 1 ≡ i % 2 = let ne = eqb-false (i % 2) 0 e in omega arith in
-      ap (λ c. (chip.spi_of (c ∷ h ∷ lo ∷ d ∷ []) s).1) (cond-false (i % 2 == 0) 0x40 (bit_or 0x40 8) e)
-      ∙ ap (λ n. record s { flash_buffer = set s.flash_buffer (lo % (s.part.flash_page / 2) * 2 + n) d }) odd
-]
+load_byte i h lo d s =
+    by_half 0x40 i (λ c half. (chip.spi_of (c ∷ h ∷ lo ∷ d ∷ []) s).1
+    ≡ record s { flash_buffer = set s.flash_buffer (lo % (s.part.flash_page / 2) * 2 + half) d }) refl refl
 
 -- the buffer after the loads, and some extended address
 record Loaded (wide : Bool) (i : ℕ) (ds : List ℕ) (s t : chip.ChipState) : Type 0 where
   value : ℕ
   kept : wide ≡ false → value ≡ s.extended
   is : t ≡ record s { flash_buffer = put (λ d. d) i ds s.flash_buffer; extended = value }
-
-kept_narrow : (wide : Bool) (x y : ℕ) → wide ≡ false → cond wide x y ≡ y
-kept_narrow wide x y e = cond-false wide x y e
 
 flash_loaded : (wide : Bool) (a i half : ℕ) (ds : List ℕ) (s : chip.ChipState) → s.part.flash_page / 2 ≡ half
     → ((k : ℕ) → k < length ds → word_at a (i + k) % 256 % half * 2 + (i + k) % 2 ≡ i + k)
@@ -136,7 +137,7 @@ flash_loaded wide a i half (d ∷ ds) s e each =
     ∙ (each (suc k) (omega arith) ∙ omega arith)) in
     record {
       value = more.value;
-      kept = λ n. more.kept n ∙ kept_narrow wide (word_at a i / 65536 % 256) s.extended n;
+      kept = λ n. more.kept n ∙ cond-false wide (word_at a i / 65536 % 256) s.extended n;
       is = one ∙ more.is;
     }
 
@@ -152,6 +153,17 @@ word_place n half j whole within few =
     ∙ mod-mul-add n half (j / 2) small) in
     ap (λ x. x * 2 + j % 2) e ∙ omega arith
 
+-- a word's address, from the extended address and the two bytes of an instruction
+pub word_whole : (wide : Bool) (s : chip.ChipState) (w : ℕ) → w < 16777216
+    → (wide ≡ false → (s.extended ≡ 0) × (w < 65536))
+    → cond wide (w / 65536 % 256) s.extended * 65536 + (high w * 256 + low w) ≡ w
+word_whole true s w few n = let e : w / 65536 % 256 * 65536 + (w / 256 % 256 * 256 + w % 256) ≡ w = omega arith in e
+word_whole false s w few n =
+    let zero_is = (n refl).0 in
+    let few' = (n refl).1 in
+    let e : s.extended * 65536 + (w / 256 % 256 * 256 + w % 256) ≡ w = omega arith in
+    e
+
 -- the page is written at the address of its low word
 flash_written : (wide : Bool) (s : chip.ChipState) (a start size page : ℕ) → s.part.flash_page ≡ page
     → s.part.flash_size ≡ size → a < 16777216 → a < size / 2 → (wide ≡ false → (s.extended ≡ 0) × (a < 65536))
@@ -165,7 +177,7 @@ flash_written wide s a start size page pe se few inside narrow at =
     let x = cond wide (a / 65536 % 256) s.extended in
     let word : (x * 65536 + (high a * 256 + low a)) % (s.part.flash_size / 2) ≡ a =
     ap (λ z. (x * 65536 + (high a * 256 + low a)) % (z / 2)) se
-    ∙ (ap (λ z. z % (size / 2)) (whole wide narrow) ∙ mod-eq_of_lt inside) in
+    ∙ (ap (λ z. z % (size / 2)) (word_whole wide s a few narrow) ∙ mod-eq_of_lt inside) in
     let first : page_start s.part.flash_page ((x * 65536 + (high a * 256 + low a)) % (s.part.flash_size / 2) * 2)
     ≡ start =
     ap (λ z. page_start s.part.flash_page (z * 2)) word ∙ (ap (λ q. a * 2 / q * q) pe ∙ at) in
@@ -178,15 +190,6 @@ flash_written wide s a start size page pe se few inside narrow at =
       extended = x;
     })
     first)
-  where
-    whole : (wide : Bool) → (wide ≡ false → (s.extended ≡ 0) × (a < 65536))
-        → cond wide (a / 65536 % 256) s.extended * 65536 + (high a * 256 + low a) ≡ a
-    whole true n = let e : a / 65536 % 256 * 65536 + (a / 256 % 256 * 256 + a % 256) ≡ a = omega arith in e
-    whole false n =
-        let zero_is = (n refl).0 in
-        let few' = (n refl).1 in
-        let e : s.extended * 65536 + (a / 256 % 256 * 256 + a % 256) ≡ a = omega arith in
-        e
 
 pub flash_test : (n : ℕ) → 0 < n → n % 2 ≡ 0 → (not (n == 0) && (n % 2 == 0) && (n == n) && true) ≡ true
 flash_test n some even = and_from _ _ (and_from _ _

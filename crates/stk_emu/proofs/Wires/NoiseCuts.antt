@@ -1,5 +1,5 @@
 -- Noise, cut piece by piece.
-use Rattle.std.proofs.Common.{◌≡◌, ◌≢◌, ℕ, ◌+◌, ◌-◌, ◌≤◌, subst, arith, length-drop, List, [], ◌∷◌, ◌++◌, length, take, drop, refl, ap, sym, ◌∙◌, true, false, inl, inr}
+use Rattle.std.proofs.Common.{◌≡◌, ◌≢◌, ℕ, ◌+◌, ◌-◌, subst, arith, length-drop, List, [], ◌∷◌, ◌++◌, length, take, drop, refl, ap, sym, ◌∙◌, true, false, inl, inr}
 use Rattle.std.specs.Prelude.{filter}
 use Rattle.std.proofs.lemmas.Bool.{cases_Bool, cond-true, cond-false}
 use Rattle.std.proofs.lemmas.List.{take-append-drop, take_all}
@@ -31,40 +31,6 @@ good_fed old used new fs text fed stands none =
     ∙ (ap (λ t. t ++ filter is_good (fed.skipped ++ fs)) none
     ∙ (filter-append is_good fed.skipped fs ∙ ap (λ t. t ++ filter is_good fs) (no_good fed.skipped fed.no_frames))))
 
-pub take_on : (at used : ℕ) (xs : List ℕ) → at ≤ length xs → take at xs ++ take used (drop at xs) ≡ take (at + used) xs
-take_on at used xs le = sym (take-add at used xs)
-
--- no good frame was found
-noise_on : (old new noise : List ℕ) (at used : ℕ) (fs : List (List ℕ)) → at ≤ length noise
-    → Fed old (take used (drop at noise)) new fs → filter is_good fs ≡ [] → Stands old (take at noise)
-    → filter is_good (cut (take at noise)) ≡ []
-    → Stands new (take (at + used) noise) × (filter is_good (cut (take (at + used) noise)) ≡ [])
-noise_on old new noise at used fs le fed bad stands none =
-    rw (← take_on at used noise le) (
-      fed.stands (take at noise) stands,
-      good_fed old (take used (drop at noise)) new fs (take at noise) fed stands none ∙ bad,
-    )
-
--- a good one was found
-good_found : (old new noise : List ℕ) (at used : ℕ) (fs : List (List ℕ)) → at ≤ length noise
-    → Fed old (take used (drop at noise)) new fs → fs ≡ new ∷ [] → is_good new ≡ true → Stands old (take at noise)
-    → filter is_good (cut (take at noise)) ≡ []
-    → filter is_good (cut noise) ≢ []
-good_found old new noise at used fs le fed one good stands none e =
-    let prefix = take at noise ++ take used (drop at noise) in
-    let here : filter is_good (cut prefix) ≡ new ∷ [] =
-    good_fed old (take used (drop at noise)) new fs (take at noise) fed stands none
-    ∙ (ap (filter is_good) one ∙ cond-true (is_good new) (new ∷ []) [] good) in
-    let all : prefix ++ drop (at + used) noise ≡ noise =
-    ap (λ x. x ++ drop (at + used) noise) (take_on at used noise le) ∙ take-append-drop (at + used) noise in
-    let cuts : cut noise ≡ cut prefix ++ cut (rest prefix ++ drop (at + used) noise) =
-    ap cut (sym all) ∙ cut_append prefix (drop (at + used) noise) in
-    let kept : new ∷ filter is_good (cut (rest prefix ++ drop (at + used) noise)) ≡ [] =
-    ap (λ x. x ++ filter is_good (cut (rest prefix ++ drop (at + used) noise))) (sym here)
-    ∙ (sym (filter-append is_good (cut prefix) (cut (rest prefix ++ drop (at + used) noise)))
-    ∙ (ap (filter is_good) (sym cuts) ∙ e)) in
-    cc
-
 -- the rest of the noise, as the code cuts it
 fed_rest : (old new noise : List ℕ) (at used : ℕ) (fs : List (List ℕ))
     → Fed old (take used (take (length noise - at) (drop at noise))) new fs → Fed old (take used (drop at noise)) new fs
@@ -72,16 +38,34 @@ fed_rest old new noise at used fs fed =
     subst (λ rest. Fed old (take used rest) new fs)
     (take_all (length noise - at) (drop at noise) (omega (arith, length-drop at noise))) fed
 
-pub noise_next : (old new noise : List ℕ) (at used : ℕ) (fs : List (List ℕ)) → at ≤ length noise
+-- no good frame was found
+pub noise_next : (old new noise : List ℕ) (at used : ℕ) (fs : List (List ℕ))
     → Fed old (take used (take (length noise - at) (drop at noise))) new fs → filter is_good fs ≡ []
     → Stands old (take at noise) → filter is_good (cut (take at noise)) ≡ []
     → Stands new (take (at + used) noise) × (filter is_good (cut (take (at + used) noise)) ≡ [])
-noise_next old new noise at used fs le fed bad stands none =
-    noise_on old new noise at used fs le (fed_rest old new noise at used fs fed) bad stands none
+noise_next old new noise at used fs part bad stands none =
+    let fed = fed_rest old new noise at used fs part in
+    rw (take-add at used noise) (
+      fed.stands (take at noise) stands,
+      good_fed old (take used (drop at noise)) new fs (take at noise) fed stands none ∙ bad,
+    )
 
-pub good_next : (old new noise : List ℕ) (at used : ℕ) (fs : List (List ℕ)) → at ≤ length noise
+-- a good one was found
+pub good_next : (old new noise : List ℕ) (at used : ℕ) (fs : List (List ℕ))
     → Fed old (take used (take (length noise - at) (drop at noise))) new fs → (fs ≡ new ∷ []) × (is_good new ≡ true)
     → Stands old (take at noise) → filter is_good (cut (take at noise)) ≡ []
     → filter is_good (cut noise) ≢ []
-good_next old new noise at used fs le fed good stands none =
-    good_found old new noise at used fs le (fed_rest old new noise at used fs fed) good.0 good.1 stands none
+good_next old new noise at used fs part good stands none e =
+    let prefix = take at noise ++ take used (drop at noise) in
+    let here : filter is_good (cut prefix) ≡ new ∷ [] =
+    good_fed old (take used (drop at noise)) new fs (take at noise) (fed_rest old new noise at used fs part) stands none
+    ∙ (ap (filter is_good) good.0 ∙ cond-true (is_good new) (new ∷ []) [] good.1) in
+    let all : prefix ++ drop (at + used) noise ≡ noise =
+    ap (λ x. x ++ drop (at + used) noise) (sym (take-add at used noise)) ∙ take-append-drop (at + used) noise in
+    let cuts : cut noise ≡ cut prefix ++ cut (rest prefix ++ drop (at + used) noise) =
+    ap cut (sym all) ∙ cut_append prefix (drop (at + used) noise) in
+    let kept : new ∷ filter is_good (cut (rest prefix ++ drop (at + used) noise)) ≡ [] =
+    ap (λ x. x ++ filter is_good (cut (rest prefix ++ drop (at + used) noise))) (sym here)
+    ∙ (sym (filter-append is_good (cut prefix) (cut (rest prefix ++ drop (at + used) noise)))
+    ∙ (ap (filter is_good) (sym cuts) ∙ e)) in
+    cc

@@ -1,5 +1,5 @@
 -- What a frame brings over the wire, as it is read.
-use Rattle.std.proofs.Common.{◌≡◌, ℕ, suc, ◌+◌, ◌*◌, ◌≤◌, ◌<◌, ◌≢◌, List, [], ◌∷◌, ◌++◌, length, refl, sym, ap, ◌∙◌, subst, append_assoc, arith, true, false, inl, inr, Some, None, length-append}
+use Rattle.std.proofs.Common.{◌≡◌, ℕ, suc, ◌*◌, ◌≤◌, ◌<◌, ◌≢◌, List, [], ◌∷◌, ◌++◌, length, refl, sym, ap, ◌∙◌, subst, append_assoc, arith, true, false, inl, inr, Some, None, length-append}
 use Rattle.std.proofs.lemmas.Bool.{cases_Bool, and_left, ne_eqb, eq-eqb, and_from, and_right, cond-true, cond-false}
 use Rattle.std.specs.Prelude.{filter, ◌==◌}
 use Rattle.stk_frame.specs.declared.protocol.TheConstants.{LARGEST_FRAME}
@@ -12,7 +12,7 @@ use Rattle.stk_host.specs.Tape.{Tape, Answered, Silent, answer, on_tape, first_a
 use Rattle.stk_host.specs.Dialog.{next}
 use Rattle.stk_host.proofs.Tapes.Answers.{answer_found, answer_silent, on_tape_append, further_zero, further_further}
 use Rattle.stk_emu.specs.declared.fate.Fate.{Fate}
-use Rattle.stk_emu.specs.declared.fate.Fate.TheVariants.{Good, LostCommand, LostAnswer, LateAnswer, HeldAnswer, Reset, CommandRefused, AnswerSpoiled}
+use Rattle.stk_emu.specs.declared.fate.Fate.TheVariants.{Good, LateAnswer, HeldAnswer, CommandRefused, AnswerSpoiled}
 use Rattle.stk_emu.specs.Device.{Device, refusal, answer_body}
 use Rattle.stk_emu.specs.Wire.{IsLawfulFate, first_fate, turn_of, back, let_go, late_of, Wire, segment, wire_behind}
 use Rattle.stk_emu.specs.Lawful.{IsLawful, IsBody, Late, none_late, behind_late, waiting, later, IsPast, IsClear}
@@ -75,21 +75,13 @@ late_length : (k n : ℕ) (late : List ℕ) → IsPast k n late → length late 
 late_length k n late (inl e) = rw e (omega arith)
 late_length k n late (inr l) = rw (l.is, length_frame l.seq l.bytes) (let f = l.carried.few in omega arith)
 
-one_before : (n seq : ℕ) → later 1 seq ≡ n → seq ≢ n
-one_before n seq e = omega (arith, e)
-
-two_before : (n seq : ℕ) → later 2 seq ≡ n → seq ≢ n
-two_before n seq e = omega (arith, e)
-
-three_before : (n seq : ℕ) → later 3 seq ≡ n → seq ≢ n
-three_before n seq e = omega (arith, e)
-
 -- all that wait
 clear_skipped : (n : ℕ) (late : Late) → IsClear n late → Skipped n (waiting late)
 clear_skipped n late c =
-    both_skipped n late.first (late.second ++ late.third) (late_skipped 3 n late.first (three_before n) c.first)
-    (both_skipped n late.second late.third (late_skipped 2 n late.second (two_before n) c.second)
-    (late_skipped 1 n late.third (one_before n) c.third))
+    both_skipped n late.first (late.second ++ late.third)
+    (late_skipped 3 n late.first (λ seq e. omega (arith, e)) c.first)
+    (both_skipped n late.second late.third (late_skipped 2 n late.second (λ seq e. omega (arith, e)) c.second)
+    (late_skipped 1 n late.third (λ seq e. omega (arith, e)) c.third))
 
 clear_length : (n : ℕ) (late : Late) → IsClear n late → length (waiting late) ≤ 3 * LARGEST_FRAME
 clear_length n late c =
@@ -147,20 +139,14 @@ reads_back : (n : ℕ) (fate : Fate) (late : Late) (bytes : List ℕ) (more : Ta
     ≡ Some (turn_reading (turn_of fate) bytes, more)
 reads_back n Good late bytes more clear lawful b =
     reads_frame n (waiting late) bytes more (clear_skipped n late clear) (clear_length n late clear) b
-reads_back n LostCommand late bytes more clear lawful b =
-    reads_silence n (waiting late) [] more (clear_skipped n late clear) (clear_length n late clear) no_noise
-reads_back n LostAnswer late bytes more clear lawful b =
-    reads_silence n (waiting late) [] more (clear_skipped n late clear) (clear_length n late clear) no_noise
-reads_back n LateAnswer late bytes more clear lawful b =
-    reads_silence n (waiting late) [] more (clear_skipped n late clear) (clear_length n late clear) no_noise
 reads_back n HeldAnswer late bytes more clear lawful b =
     reads_silence n [] [] more (none_skipped n) (omega arith) no_noise
-reads_back n Reset late bytes more clear lawful b =
-    reads_silence n (waiting late) [] more (clear_skipped n late clear) (clear_length n late clear) no_noise
 reads_back n CommandRefused late bytes more clear lawful b =
     reads_frame n (waiting late) refusal more (clear_skipped n late clear) (clear_length n late clear) refusal_is_body
 reads_back n (AnswerSpoiled noise) late bytes more clear lawful b =
     reads_silence n (waiting late) noise.items more (clear_skipped n late clear) (clear_length n late clear) lawful
+reads_back n _ late bytes more clear lawful b =
+    reads_silence n (waiting late) [] more (clear_skipped n late clear) (clear_length n late clear) no_noise
 
 -- The segment: of a frame of sequence n it is read whole, and nothing else; the answer is the programmer's, the
 -- refusal, or a silence.
@@ -207,14 +193,9 @@ behind_clear n late bytes b c = record {
 -- what comes late has the sequence of its frame
 late_is : (n : ℕ) (fate : Fate) (bytes : List ℕ) (late : Late) → IsBody bytes → IsClear n late
     → IsClear (next n) (late_of fate (frame n bytes) late)
-late_is n Good bytes late b c = none_clear (next n)
-late_is n LostCommand bytes late b c = none_clear (next n)
-late_is n LostAnswer bytes late b c = none_clear (next n)
 late_is n LateAnswer bytes late b c = behind_clear n none_late bytes b (none_clear n)
 late_is n HeldAnswer bytes late b c = behind_clear n late bytes b c
-late_is n Reset bytes late b c = none_clear (next n)
-late_is n CommandRefused bytes late b c = none_clear (next n)
-late_is n (AnswerSpoiled noise) bytes late b c = none_clear (next n)
+late_is n _ bytes late b c = none_clear (next n)
 
 pub segment_late : {P : Type 0} (m : Device P) (n : ℕ) (bytes : List ℕ) (w : Wire P) → IsBody bytes
     → IsBody (m.answer bytes w.programmer) → IsClear n w.late → IsClear (next n) (wire_behind m (frame n bytes) w).late

@@ -1,21 +1,18 @@
--- Places without steps are passed over, and pages and runs are found by walking from byte to byte.
-use Rattle.std.proofs.Common.{◌≡◌, ◌∙◌, sym, ap, subst, refl, arith, ℕ, suc, zero, ◌+◌, ◌-◌, ◌*◌, ◌/◌, ◌%◌, ◌<◌, ◌≤◌, List, [], ◌∷◌, ◌++◌, length, get_or, take, drop, true, false, Option, Some, None, is_some, inl, inr, ◌⊎◌}
+-- Which places have steps: the pages that are used, and the bytes at which runs begin, up to the next of them.
+use Rattle.std.proofs.Common.{◌≡◌, ◌∙◌, sym, ap, subst, refl, arith, ℕ, suc, zero, ◌+◌, ◌-◌, ◌*◌, ◌/◌, ◌%◌, ◌<◌, ◌≤◌, List, [], ◌∷◌, ◌++◌, length, get_or, take, drop, true, false, Option, None, is_some, inl, inr, ◌⊎◌}
 use Rattle.std.specs.Prelude.{◌==◌}
 use Rattle.std.proofs.lemmas.Bool.{cases_Bool, cases_lt, eqb-true}
 use Rattle.std.proofs.lemmas.List.{length-drop, length-take, get_or-drop, get_or-take}
 use Rattle.std.proofs.lemmas.List.Folds.{list_any_at}
 use Rattle.std.proofs.Math.Nat.{mul-le-mul_right, mod-eq_of_lt, mul-mod_left, zero-mod}
 use Rattle.std.specs.List.{list_any}
-use Rattle.avr_image.specs.Image.{byte_at, filled_bytes, first_from, run_end}
+use Rattle.avr_image.specs.Image.{byte_at, run_end}
 use Rattle.avr_image.specs.Walk.{IsNextHeld, IsByteRun}
-use Rattle.avr_image.proofs.Lemmas.{held_within, next_held, none_held, run_is_longest}
-use Rattle.avr_part.specs.declared.part.Mem.{Mem}
-use Rattle.avr_part.specs.Part.{Part, IsPart, size_of}
+use Rattle.avr_image.proofs.Lemmas.{held_within, run_is_longest}
+use Rattle.avr_part.specs.Part.{Part}
 use Rattle.stk_frame.specs.declared.command.Command.{Command}
-use Rattle.stk_frame.specs.HostCommands.{program_eeprom_block, read_signature}
-use Rattle.stk_host.specs.Places.{each_from, load_eeprom}
-use Rattle.stk_host.specs.ReadSteps.{load_block_address, read_block, block_size, block_steps, signature_step}
-use Rattle.stk_host.specs.WriteSteps.{is_used, page_step, page_steps, page_end, begins_run, run_step, run_steps_at}
+use Rattle.stk_host.specs.Places.{each_from}
+use Rattle.stk_host.specs.WriteSteps.{is_used, page_steps, page_end, begins_run, run_step, run_steps_at}
 
 -- no place has steps
 pub no_steps : (steps_at : ℕ → List (List Command)) (place count : ℕ)
@@ -65,7 +62,7 @@ none_any : (bytes : List (Option ℕ)) → ((k : ℕ) → k < length bytes → g
 none_any [] none = refl
 none_any (b ∷ bytes) none = rw (none 0 (omega arith)) (none_any bytes (λ k l. none (suc k) (omega (arith, l))))
 
-unused : (page : ℕ) (image : List (Option ℕ)) (start : ℕ)
+pub unused : (page : ℕ) (image : List (Option ℕ)) (start : ℕ)
     → ((i : ℕ) → start ≤ i → i < start + page → byte_at image i ≡ None) → is_used page image start ≡ false
 unused page image start none =
     let short = length-take page (drop start image) in
@@ -74,7 +71,8 @@ unused page image start none =
     get_or-take page (drop start image) k None before ∙ get_or-drop start image k None
     ∙ none (start + k) (omega arith) (omega (arith, before)))
 
-used : (page : ℕ) (image : List (Option ℕ)) (start addr : ℕ) → start ≤ addr → addr < start + page → addr < length image
+pub used : (page : ℕ) (image : List (Option ℕ)) (start addr : ℕ) → start ≤ addr
+    → addr < start + page → addr < length image
     → is_some (byte_at image addr) ≡ true → is_used page image start ≡ true
 used page image start addr from before within held =
     let k = addr - start in
@@ -87,73 +85,11 @@ used page image start addr from before within held =
     (ap is_some (get_or-take page (drop start image) (addr - start) None inside
     ∙ get_or-drop start image (addr - start) None ∙ ap (byte_at image) there) ∙ held)
 
-pub unused_page : (part : Part) (image : List (Option ℕ)) (number : ℕ)
-    → ((i : ℕ) → number * part.flash_page ≤ i → i < number * part.flash_page + part.flash_page → byte_at image i ≡ None)
-    → page_steps part image number ≡ []
-unused_page part image number none = rw (unused part.flash_page image (number * part.flash_page) none)
-
-pub used_page : (part : Part) (image : List (Option ℕ)) (number addr : ℕ) → number * part.flash_page ≤ addr
-    → addr < number * part.flash_page + part.flash_page → addr < length image → is_some (byte_at image addr) ≡ true
-    → page_steps part image number ≡ page_step part image (number * part.flash_page) ∷ []
-used_page part image number addr from before within held =
-    rw (used part.flash_page image (number * part.flash_page) addr from before within held)
-
 is_below : (a b size top : ℕ) → a * size ≤ top → top < b * size → a < b
 is_below a b size top from before = elim (cases_lt a b) [
   | inl lt ↦ lt
   | inr ge ↦ absurd (omega (arith, mul-le-mul_right {m = b} {n = a} size ge, from, before))
 ]
-
--- the page of the next byte that is held
-pub record IsNextPage (part : Part) (image : List (Option ℕ)) (next page : ℕ) : Type 0 where
-  pub after : next ≤ page
-  pub within : page < part.flash_size / part.flash_page
-  pub start : page * part.flash_page < part.flash_size
-  pub steps : each_from (page_steps part image) next (part.flash_size / part.flash_page - next)
-      ≡ page_step part image (page * part.flash_page)
-      ∷ each_from (page_steps part image) (page + 1) (part.flash_size / part.flash_page - (page + 1))
-
-pub next_page : (part : Part) (image : List (Option ℕ)) (next addr : ℕ) → 0 < part.flash_page
-    → part.flash_size % part.flash_page ≡ 0 → length image ≤ part.flash_size
-    → IsNextHeld image (next * part.flash_page) addr → IsNextPage part image next (addr / part.flash_page)
-next_page part image next addr some whole fits held =
-    let here : part.flash_page * (addr / part.flash_page) + addr % part.flash_page ≡ addr = omega arith in
-    let short : addr % part.flash_page < part.flash_page = omega arith in
-    let all : part.flash_page * (part.flash_size / part.flash_page) + part.flash_size % part.flash_page
-    ≡ part.flash_size = omega arith in
-    let upto : next < addr / part.flash_page + 1 =
-    is_below next (addr / part.flash_page + 1) part.flash_page addr held.after (omega (arith, here, short)) in
-    let after : next ≤ addr / part.flash_page = omega (arith, upto) in
-    let within : addr / part.flash_page < part.flash_size / part.flash_page =
-    is_below (addr / part.flash_page) (part.flash_size / part.flash_page) part.flash_page addr (omega (arith, here))
-    (omega (arith, all, whole, held.within, fits)) in
-    record {
-      after = after;
-      within = within;
-      start = omega (arith, here, held.within, fits);
-      steps = next_steps (page_steps part image) next (part.flash_size / part.flash_page) (addr / part.flash_page) after
-          within
-          (λ i a l. unused_page part image i (λ k from before. held.gap k
-          (omega (arith, mul-le-mul_right part.flash_page a, from))
-          (omega (
-            arith,
-            mul-le-mul_right {m = i + 1} {n = addr / part.flash_page} part.flash_page (omega (arith, l)),
-            before,
-            here,
-          ))))
-          ∙ ap (λ (ss : List (List Command)). ss ++ each_from (page_steps part image) (addr / part.flash_page + 1)
-          (part.flash_size / part.flash_page - (addr / part.flash_page + 1)))
-          (used_page part image (addr / part.flash_page) addr (omega (arith, here)) (omega (arith, here, short))
-          held.within held.held);
-    }
-
-pub last_page : (part : Part) (image : List (Option ℕ)) (next count : ℕ)
-    → ((k : ℕ) → next * part.flash_page ≤ k → byte_at image k ≡ None)
-    → each_from (page_steps part image) next count ≡ []
-last_page part image next count none =
-    no_steps (page_steps part image) next count
-    (λ i a l. unused_page part image i (λ k from before. none k
-    (omega (arith, mul-le-mul_right part.flash_page a, from))))
 
 -- where runs begin
 
@@ -175,7 +111,13 @@ not_begun page image addr inside before = elim (cases_Bool (addr % page == 0)) [
   ]
 ]
 
-no_run : (part : Part) (image : List (Option ℕ)) (addr : ℕ) → begins_run part.eeprom_page image addr ≡ false
+-- whether a place has a step
+
+pub no_page : (part : Part) (image : List (Option ℕ)) (number : ℕ)
+    → is_used part.flash_page image (number * part.flash_page) ≡ false → page_steps part image number ≡ []
+no_page part image number is = rw is refl
+
+pub no_run : (part : Part) (image : List (Option ℕ)) (addr : ℕ) → begins_run part.eeprom_page image addr ≡ false
     → run_steps_at part image addr ≡ []
 no_run part image addr is = rw is refl
 
@@ -292,105 +234,14 @@ pub last_run : (part : Part) (image : List (Option ℕ)) (next count : ℕ) → 
 last_run part image next count none = no_steps (run_steps_at part image) next count
     (λ i a l. no_run part image i (rw (none i a) refl))
 
--- the block with a number below theirs
-pub next_block : (steps_at : ℕ → List (List Command)) (place end : ℕ) → place < end
-    → each_from steps_at place (end - place) ≡ steps_at place ++ each_from steps_at (place + 1) (end - (place + 1))
-next_block steps_at place end before = next_steps steps_at place end place (omega arith) before
-    (λ i a l. absurd (omega (arith, a, l)))
-
-pub next_block_is : (part : Part) (mem : Mem) (place end size count : ℕ) (load read : Command) → place < end
-    → load ≡ load_block_address part mem (place * 256) → read ≡ read_block mem count
-    → count ≡ block_size size (place * 256) → size ≡ size_of mem part
-    → each_from (block_steps part mem) place (end - place)
-    ≡ (load ∷ read ∷ []) ∷ each_from (block_steps part mem) (place + 1) (end - (place + 1))
-next_block_is part mem place end size count load read before load_is read_is count_is size_is =
-    rw (load_is, read_is, count_is, size_is) (next_block (block_steps part mem) place end before)
-
-pub next_signature : (place : ℕ) (command : Command) → place < 3 → command ≡ read_signature place
-    → each_from signature_step place (3 - place)
-    ≡ (command ∷ []) ∷ each_from signature_step (place + 1) (3 - (place + 1))
-next_signature place command before is = rw is (next_block signature_step place 3 before)
-
--- after the last place there is none
-pub no_more : (steps_at : ℕ → List (List Command)) (place end : ℕ) → end ≤ place
-    → each_from steps_at place (end - place) ≡ []
-no_more steps_at place end past = let nothing : end - place ≡ 0 = omega (arith, past) in
-    ap (each_from steps_at place) nothing
-
--- the same, as the code walks
-
--- the page of the next byte that is held, by its first address
-pub record WalksToPage (part : Part) (image : List (Option ℕ)) (next page start : ℕ) : Type 0 where
-  pub after : next ≤ page
-  pub within : page < part.flash_size / part.flash_page
-  pub small : start < 1048576
-  pub steps : each_from (page_steps part image) next (part.flash_size / part.flash_page - next)
-      ≡ page_step part image start ∷ each_from (page_steps part image) (page + 1)
-      (part.flash_size / part.flash_page - (page + 1))
-
-pub walks_to_page : (part : Part) (image : List (Option ℕ)) (next addr size : ℕ) → IsPart part → size ≡ part.flash_page
-    → length image ≤ part.flash_size → first_from image (next * size) ≡ Some addr
-    → WalksToPage part image next (addr / size) (addr / size * size)
-walks_to_page part image next addr size sound is fits first =
-    let there = subst (λ (s : ℕ). first_from image (next * s) ≡ Some addr) is first in
-    let found = next_page part image next addr (omega (arith, sound.flash_page)) sound.flash_pages fits
-    (next_held image (next * part.flash_page) addr there) in
-    subst (λ (s : ℕ). WalksToPage part image next (addr / s) (addr / s * s)) (sym is)
-    (record {
-      after = found.after;
-      within = found.within;
-      small = omega (arith, found.start, sound.flash_most);
-      steps =
-          found.steps;
-    })
-
-pub walked_pages : (part : Part) (image : List (Option ℕ)) (next size count : ℕ) → size ≡ part.flash_page
-    → first_from image (next * size) ≡ None → each_from (page_steps part image) next count ≡ []
-walked_pages part image next size count is none =
-    let there = subst (λ (s : ℕ). first_from image (next * s) ≡ None) is none in
-    last_page part image next count (none_held image (next * part.flash_page) there)
-
--- the run of the next byte that is held
-pub record WalksToRun (part : Part) (image : List (Option ℕ)) (next start end : ℕ) : Type 0 where
-  pub longer : next < end
-  pub within : end ≤ part.eeprom_size
-  pub order : start ≤ end
-  pub short : end - start ≤ 256
-  pub steps : each_from (run_steps_at part image) next (part.eeprom_size - next)
-      ≡ (load_eeprom start ∷ program_eeprom_block (filled_bytes image start (end - start)) ∷ [])
-      ∷ each_from (run_steps_at part image) end (part.eeprom_size - end)
-  pub border : (end % part.eeprom_page ≡ 0) ⊎ (byte_at image end ≡ None)
-
-pub walks_to_run : (part : Part) (image : List (Option ℕ)) (next start end size : ℕ) → IsPart part
-    → size ≡ part.eeprom_page → length image ≤ part.eeprom_size
-    → (next % part.eeprom_page ≡ 0) ⊎ (byte_at image next ≡ None)
-    → first_from image next ≡ Some start → end ≡ run_end image start (start - start % size + size)
-    → WalksToRun part image next start end
-walks_to_run part image next start end size sound size_is fits border first end_is =
-    let some : 0 < part.eeprom_page = sound.eeprom_page in
-    let most : part.eeprom_page ≤ 256 = page_most part.eeprom_page sound.eeprom_page sound.eeprom_fits in
-    let here : part.eeprom_page * (start / part.eeprom_page) + start % part.eeprom_page ≡ start = omega arith in
-    let rest : start % part.eeprom_page < part.eeprom_page = omega arith in
-    let is : end ≡ run_end image start (page_end part.eeprom_page start) =
-    end_is ∙ ap (λ (s : ℕ). run_end image start (start - start % s + s)) size_is in
-    let whole : start ≤ page_end part.eeprom_page start = omega (arith, here, rest) in
-    let run = subst (IsByteRun image start (page_end part.eeprom_page start)) (sym is)
-    (run_is_longest image start (page_end part.eeprom_page start) whole) in
-    let found = next_run part image next start end some fits border (next_held image next start first) run is in
-    record {
-      longer = found.longer;
-      within = found.within;
-      order = run.after;
-      short = omega (arith, run.bound, most, here);
-      steps = found.steps ∙ ap (λ (e : ℕ). (load_eeprom start
-          ∷ program_eeprom_block (filled_bytes image start (e - start)) ∷ [])
-          ∷ each_from (run_steps_at part image) end (part.eeprom_size - end)) (sym is);
-      border = found.border;
-    }
-
-pub walked_runs : (part : Part) (image : List (Option ℕ)) (next count : ℕ) → first_from image next ≡ None
-    → each_from (run_steps_at part image) next count ≡ []
-walked_runs part image next count none = last_run part image next count (none_held image next none)
-
 pub zero_border : (page : ℕ) → 0 % page ≡ 0
 zero_border page = zero-mod page
+
+-- a run ends in its page
+pub short_run : (image : List (Option ℕ)) (page addr : ℕ) → 0 < page → page ≤ 256
+    → run_end image addr (page_end page addr) - addr ≤ 256
+short_run image page addr some most =
+    let here : page * (addr / page) + addr % page ≡ addr = omega arith in
+    let rest : addr % page < page = omega arith in
+    let run = run_is_longest image addr (page_end page addr) (omega (arith, here, rest)) in
+    omega (arith, run.bound, most, here)

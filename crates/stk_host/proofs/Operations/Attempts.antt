@@ -1,5 +1,6 @@
 -- Commands, attempts and steps, as the code goes through them.
-use Rattle.std.proofs.Common.{◌≡◌, ℕ, zero, suc, List, [], ◌∷◌, ◌++◌, refl, ap, ◌∙◌, subst, Ok, Err}
+use Rattle.std.proofs.Common.{◌≡◌, ℕ, zero, suc, List, [], ◌∷◌, ◌++◌, refl, ap, ◌∙◌, subst, Ok, Err, Result, arith}
+use Rattle.ghosts.specs.Failures.{HasRisen}
 use Rattle.stk_frame.specs.declared.command.Command.{Command}
 use Rattle.stk_frame.specs.Frame.{frame}
 use Rattle.stk_frame.specs.Commands.{body}
@@ -13,11 +14,12 @@ use Rattle.stk_host.specs.Play.{Position, PlaysOver, FailsOver}
 use Rattle.stk_host.specs.Reach.{Reaches, Says, SaysPart, Hears, HearsNone}
 use Rattle.stk_host.specs.declared.conversation.Reply as said
 use Rattle.stk_host.specs.declared.conversation.Reply.TheVariants as replies
-use Rattle.stk_host.specs.Calls.{reply_of}
+use Rattle.stk_host.specs.State.{ConversationState}
+use Rattle.stk_host.specs.Calls.{GetsReply, reply_of}
 use Rattle.stk_host.specs.Steps.{exchange, attempt, tries, Reply, Data, Again, Stop, reading_reply, with_data, end_or_again, StepOutcome}
 use Rattle.stk_host.proofs.Talks.Laws.{grows_on}
 use Rattle.stk_host.proofs.Talks.InDialogs.{leads_ask, plays_from, breaks_asking, breaks_listening}
-use Rattle.stk_host.proofs.Talks.Reached.{reaches_on, played_from, broken_on, broken_bind, then_reaches}
+use Rattle.stk_host.proofs.Talks.Reached.{reaches_on, reaches_from, played_from, broken_on, broken_bind, then_reaches}
 
 -- one command
 
@@ -67,58 +69,73 @@ attempt_on : (command : Command) (commands : List Command) (before : List ℕ) {
 unfolding attempt
 attempt_on command commands before reply f = then_reaches (with_data (λ bytes. attempt commands (before ++ bytes))) f
 
-attempt_none : (before : List ℕ) → attempt [] before ≡ Done (Data before)
+-- or it broke off there
+pub attempt_off : {by : Broken} (command : Command) (commands : List Command) {seq : Position} {o q : LinkView}
+    → FailsOver by (exchange command) seq o q → FailsOver by (attempt (command ∷ commands) []) seq o q
 unfolding attempt
-attempt_none before = refl
+attempt_off command commands f = broken_bind (with_data (λ bytes. attempt commands ([] ++ bytes))) f
 
-attempt_off : {by : Broken} (command : Command) (commands : List Command) (before : List ℕ) {seq : Position}
-    {o q : LinkView} → FailsOver by (exchange command) seq o q
-    → FailsOver by (attempt (command ∷ commands) before) seq o q
+-- an attempt of one command
+pub gets_one : (last : Command) (m : Position) (o q : LinkView) (result : Result said.Reply Broken)
+    (after : ConversationState)
+    → GetsReply (exchange last) last m o q result after → GetsReply (attempt (last ∷ []) []) last m o q result after
 unfolding attempt
-attempt_off command commands before f = broken_bind (with_data (λ bytes. attempt commands (before ++ bytes))) f
+gets_one last m o q (Ok reply) after f =
+    record { ok = by_reply reply _ f.ok; err = tt; sized = f.sized; counts = f.counts; bound = f.bound }
+  where
+    by_reply : (reply : said.Reply) (bytes : List ℕ) {n : Position}
+        → PlaysOver (exchange last) m o q (reply_of reply bytes) n
+        → PlaysOver (attempt (last ∷ []) []) m o q (reply_of reply bytes) n
+    by_reply replies.Data bytes e = played_from (attempt_on last [] [] (Data bytes) e)
+    by_reply (replies.Again fault) bytes e = played_from (attempt_on last [] [] (Again fault) e)
+    by_reply (replies.Stop fault) bytes e = played_from (attempt_on last [] [] (Stop fault) e)
+gets_one last m o q (Err broken) after f =
+    record { ok = tt; err = attempt_off last [] f.err; sized = f.sized; counts = f.counts; bound = f.bound }
 
--- a turn of the loop over the commands, as the code takes it: it has come so far, and this command is next
-module _ {a : Dialog ⊥ Reply} {m seq : Position} {k o : LinkView} {commands rest : List Command} {command : Command}
-    (come : Reaches a m k (attempt commands []) seq o) (is : commands ≡ command ∷ rest) where
-  next_is : Reaches a m k (attempt (command ∷ rest) []) seq o
-  next_is = subst (λ cs. Reaches a m k (attempt cs []) seq o) is come
+-- one of two, whose first command was answered and brought nothing
+pub gets_last : (first last : Command) (m n : Position) (o p q : LinkView) (was : said.Reply) (none : List ℕ)
+    (result : Result said.Reply Broken) (after : ConversationState)
+    → PlaysOver (exchange first) m o p (reply_of was none) n → was ≡ replies.Data → none ≡ []
+    → p.failures ≡ o.failures → GetsReply (exchange last) last n p q result after
+    → GetsReply (attempt (first ∷ last ∷ []) []) last m o q result after
+gets_last first last m n o p q was none result after f is nothing same g =
+    by_result result (gets_one last n p q result after g)
+  where
+    begun : Reaches (attempt (first ∷ last ∷ []) []) m o (attempt (last ∷ []) []) n p
+    begun = attempt_on first (last ∷ []) [] (Data [])
+        (subst (λ bs. PlaysOver (exchange first) m o p (Data bs) n) nothing
+        (subst (λ r. PlaysOver (exchange first) m o p (reply_of r none) n) is f))
 
-  turn : {n : Position} {q : LinkView} (reply : Reply) → PlaysOver (exchange command) seq o q reply n
-      → Reaches a m k (with_data (λ bytes. attempt rest ([] ++ bytes)) reply) n q
-  turn reply f = reaches_on next_is (attempt_on command rest [] reply f)
+    by_result : (result : Result said.Reply Broken) → GetsReply (attempt (last ∷ []) []) last n p q result after
+        → GetsReply (attempt (first ∷ last ∷ []) []) last m o q result after
+    by_result (Ok reply) e = record {
+      ok = played_from (reaches_on begun (reaches_from e.ok));
+      err = tt;
+      sized = e.sized;
+      counts = record { counted = omega (arith, same, e.counts.counted); sound = e.counts.sound ∙ same; failed = tt };
+      bound = e.bound;
+    }
+    by_result (Err broken) e = record {
+      ok = tt;
+      err = broken_on begun e.err;
+      sized = e.sized;
+      counts = record {
+        counted = omega (arith, same, e.counts.counted);
+        sound = tt;
+        failed = subst (λ count. HasRisen count q.failures) same e.counts.failed;
+      };
+      bound = e.bound;
+    }
 
-  pub turn_data : {n : Position} {q : LinkView} {reply : said.Reply} {bytes : List ℕ}
-      → PlaysOver (exchange command) seq o q (reply_of reply bytes) n → reply ≡ replies.Data → bytes ≡ []
-      → Reaches a m k (attempt rest []) n q
-  turn_data {n = n} {q = q} {bytes = bytes} f is_data none =
-      turn (Data []) (subst (λ bs. PlaysOver (exchange command) seq o q (Data bs) n) none
-      (subst (λ r. PlaysOver (exchange command) seq o q (reply_of r bytes) n) is_data f))
-
-  pub turn_again : {n : Position} {q : LinkView} {reply : said.Reply} {fault : StepFault} (bytes : List ℕ)
-      → PlaysOver (exchange command) seq o q (reply_of reply bytes) n → reply ≡ replies.Again fault
-      → PlaysOver a m k q (Again fault) n
-  turn_again {n = n} {q = q} {fault = fault} bytes f again =
-      played_from (turn (Again fault)
-      (subst (λ r. PlaysOver (exchange command) seq o q (reply_of r bytes) n) again f))
-
-  pub turn_stop : {n : Position} {q : LinkView} {reply : said.Reply} {fault : StepFault} (bytes : List ℕ)
-      → PlaysOver (exchange command) seq o q (reply_of reply bytes) n → reply ≡ replies.Stop fault
-      → PlaysOver a m k q (Stop fault) n
-  turn_stop {n = n} {q = q} {fault = fault} bytes f stop =
-      played_from (turn (Stop fault)
-      (subst (λ r. PlaysOver (exchange command) seq o q (reply_of r bytes) n) stop f))
-
-  pub turn_breaks : {by : Broken} {q : LinkView} → FailsOver by (exchange command) seq o q → FailsOver by a m k q
-  turn_breaks f = broken_on next_is (attempt_off command rest [] f)
-
-  -- the last command, whatever its answer comes to
-  pub turn_last : {n : Position} {q : LinkView} (reply : said.Reply) (bytes : List ℕ) → rest ≡ []
-      → PlaysOver (exchange command) seq o q (reply_of reply bytes) n → PlaysOver a m k q (reply_of reply bytes) n
-  turn_last {n = n} {q = q} replies.Data bytes last f =
-      played_from (subst (λ d. Reaches a m k d n q) (ap (λ cs. attempt cs bytes) last ∙ attempt_none bytes)
-      (turn (Data bytes) f))
-  turn_last (replies.Again fault) bytes last f = played_from (turn (Again fault) f)
-  turn_last (replies.Stop fault) bytes last f = played_from (turn (Stop fault) f)
+-- and one whose first command brought no data
+pub gets_short : (first last : Command) (was : said.Reply) (none bytes : List ℕ) {m n : Position} {o p : LinkView}
+    → PlaysOver (exchange first) m o p (reply_of was none) n → (was ≡ replies.Data → ⊥)
+    → PlaysOver (attempt (first ∷ last ∷ []) []) m o p (reply_of was bytes) n
+gets_short first last replies.Data none bytes f short = absurd (short refl)
+gets_short first last (replies.Again fault) none bytes f short =
+    played_from (attempt_on first (last ∷ []) [] (Again fault) f)
+gets_short first last (replies.Stop fault) none bytes f short =
+    played_from (attempt_on first (last ∷ []) [] (Stop fault) f)
 
 -- a turn of the loop over the attempts
 

@@ -1,11 +1,12 @@
 -- One step after another, from what each call ensures.
-use Rattle.std.proofs.Common.{ℕ, Bool, true, false, if◌then◌else◌, List, [], ◌∷◌, ◌++◌, Ok, Err, Result}
+use Rattle.std.proofs.Common.{◌≡◌, refl, subst, ℕ, Bool, true, false, if◌then◌else◌, List, [], ◌∷◌, ◌++◌, Ok, Err, Result}
 use Rattle.std.specs.Str.{bytes_eq}
 use Rattle.stk_frame.specs.declared.command.Command.{Command}
 use Rattle.stk_frame.specs.HostCommands.{leave}
 use Rattle.stk_host.specs.declared.fault.Broken.TheVariants as broken
 use Rattle.stk_host.specs.declared.fault.Stop.{Stop}
 use Rattle.stk_host.specs.declared.fault.Stop.TheVariants.{Fault, Link}
+use Rattle.stk_host.specs.declared.fault.StepFault.{StepFault}
 use Rattle.stk_host.specs.declared.fault.StepFault.TheVariants as of_step
 use Rattle.stk_host.specs.declared.fault.HostFault.{HostFault}
 use Rattle.stk_host.specs.declared.fault.HostFault.TheVariants.{WrongSignature}
@@ -14,8 +15,8 @@ use Rattle.stk_host.specs.Dialog.{Dialog, Done, ◌>>=◌}
 use Rattle.stk_host.specs.Play.{Position, PlaysOver}
 use Rattle.stk_host.specs.Reach.{Reaches}
 use Rattle.stk_host.specs.Steps.{StepOutcome, if_done, step, play}
-use Rattle.stk_host.specs.Operations.{signature_judged, handshake, opening, without_bytes, closing}
-use Rattle.stk_host.specs.Calls.{StopsSteps, EndsSteps, EndsCall, opening_result, closing_result}
+use Rattle.stk_host.specs.Operations.{host_fault, signature_judged, handshake, opening, without_bytes, closing}
+use Rattle.stk_host.specs.Calls.{StopsSteps, EndsSteps, EndsCall, fault_of_stop, opening_result, closing_result}
 use Rattle.stk_host.proofs.Talks.Reached.{reaches_on, reaches_from, played_from, broken_on, broken_bind, then_reaches}
 
 -- a stop in a dialog that was reached
@@ -58,7 +59,28 @@ pub play_done : (bytes : List ℕ) {a : Dialog ⊥ StepOutcome} {m n : Position}
 unfolding play
 play_done bytes f = played_from f
 
--- what opening and closing a session come to
+-- what the outcome of steps is judged to be
+
+-- a fault of a step, as the host tells it, is no fault of the link
+told_ends : {A : Type 0} (dialog : Dialog ⊥ (Result A HostFault)) (fault : StepFault) (m n : Position) (o p : LinkView)
+    → PlaysOver dialog m o p (Err (host_fault fault)) n → EndsCall dialog m o p (Err (host_fault fault)) n
+told_ends dialog of_step.NoAnswer m n o p e = e
+told_ends dialog of_step.LinkEnded m n o p e = e
+told_ends dialog of_step.Babble m n o p e = e
+told_ends dialog (of_step.Refused command status) m n o p e = e
+told_ends dialog (of_step.BadAnswer command) m n o p e = e
+
+pub stop_ends : {A : Type 0} (first : Dialog ⊥ StepOutcome) (judge : StepOutcome → Result A HostFault)
+    → ((fault : StepFault) → judge (Err fault) ≡ Err (host_fault fault)) → (stop : Stop) (m n : Position)
+    (o p : LinkView)
+    → StopsSteps first m o p stop n
+    → EndsCall (first >>= λ outcome. Done (judge outcome)) m o p (Err (fault_of_stop stop)) n
+stop_ends first judge told (Fault fault) m n o p e =
+    told_ends (first >>= λ outcome. Done (judge outcome)) fault m n o p
+    (subst (λ r. PlaysOver (first >>= λ outcome. Done (judge outcome)) m o p r n) (told fault)
+    (played_from (then_reaches (λ outcome. Done (judge outcome)) e)))
+stop_ends first judge told (Link broken.Send) m n o p e = broken_bind (λ outcome. Done (judge outcome)) e
+stop_ends first judge told (Link broken.Recv) m n o p e = broken_bind (λ outcome. Done (judge outcome)) e
 
 -- a signature is judged good or wrong, and this is no fault of the link
 judged_ends : {dialog : Dialog ⊥ (Result (List ℕ) HostFault)} {m n : Position} {o p : LinkView} (wanted found : List ℕ)
@@ -76,34 +98,11 @@ unfolding opening
 opening_ends wanted force (Ok found) m n o p e =
     judged_ends wanted found force (bytes_eq found wanted)
     (played_from (then_reaches (λ outcome. Done (signature_judged wanted force outcome)) e))
-opening_ends wanted force (Err (Fault of_step.NoAnswer)) m n o p e =
-    played_from (then_reaches (λ outcome. Done (signature_judged wanted force outcome)) e)
-opening_ends wanted force (Err (Fault of_step.LinkEnded)) m n o p e =
-    played_from (then_reaches (λ outcome. Done (signature_judged wanted force outcome)) e)
-opening_ends wanted force (Err (Fault of_step.Babble)) m n o p e =
-    played_from (then_reaches (λ outcome. Done (signature_judged wanted force outcome)) e)
-opening_ends wanted force (Err (Fault (of_step.Refused command status))) m n o p e =
-    played_from (then_reaches (λ outcome. Done (signature_judged wanted force outcome)) e)
-opening_ends wanted force (Err (Fault (of_step.BadAnswer command))) m n o p e =
-    played_from (then_reaches (λ outcome. Done (signature_judged wanted force outcome)) e)
-opening_ends wanted force (Err (Link broken.Send)) m n o p e =
-    broken_bind (λ outcome. Done (signature_judged wanted force outcome)) e
-opening_ends wanted force (Err (Link broken.Recv)) m n o p e =
-    broken_bind (λ outcome. Done (signature_judged wanted force outcome)) e
+opening_ends wanted force (Err stop) m n o p e =
+    stop_ends handshake (signature_judged wanted force) (λ fault. refl) stop m n o p e
 
 pub closing_ends : (result : Result (Unit {0}) Stop) (m n : Position) (o p : LinkView)
     → EndsSteps (step (leave ∷ [])) (λ done. []) m o p result n → EndsCall closing m o p (closing_result result) n
 unfolding closing
 closing_ends (Ok done) m n o p e = played_from (then_reaches (λ outcome. Done (without_bytes outcome)) e)
-closing_ends (Err (Fault of_step.NoAnswer)) m n o p e =
-    played_from (then_reaches (λ outcome. Done (without_bytes outcome)) e)
-closing_ends (Err (Fault of_step.LinkEnded)) m n o p e =
-    played_from (then_reaches (λ outcome. Done (without_bytes outcome)) e)
-closing_ends (Err (Fault of_step.Babble)) m n o p e =
-    played_from (then_reaches (λ outcome. Done (without_bytes outcome)) e)
-closing_ends (Err (Fault (of_step.Refused command status))) m n o p e =
-    played_from (then_reaches (λ outcome. Done (without_bytes outcome)) e)
-closing_ends (Err (Fault (of_step.BadAnswer command))) m n o p e =
-    played_from (then_reaches (λ outcome. Done (without_bytes outcome)) e)
-closing_ends (Err (Link broken.Send)) m n o p e = broken_bind (λ outcome. Done (without_bytes outcome)) e
-closing_ends (Err (Link broken.Recv)) m n o p e = broken_bind (λ outcome. Done (without_bytes outcome)) e
+closing_ends (Err stop) m n o p e = stop_ends (step (leave ∷ [])) without_bytes (λ fault. refl) stop m n o p e

@@ -1,5 +1,5 @@
 -- The steps of an operation, one after another.
-use Rattle.std.proofs.Common.{◌≡◌, ℕ, ◌<◌, ◌^◌, lit≤, arith, List, [], ◌∷◌, ◌++◌, length, subst, sym, ◌-◌, Bool, true, false, None, Some, ◌∙◌, Option, Ok, Err, Result}
+use Rattle.std.proofs.Common.{◌≡◌, refl, ℕ, suc, ◌+◌, ◌<◌, ◌≤◌, ◌^◌, lit≤, arith, ap, List, [], ◌∷◌, ◌++◌, length, subst, sym, ◌-◌, Bool, true, false, None, Some, ◌∙◌, Option, Ok, Err, Result}
 use Rattle.std.proofs.lemmas.List.{nil_from_length}
 use Rattle.std.specs.Prelude.{OnOk, if◌then◌else◌}
 use Rattle.avr_part.specs.declared.part.Mem.{Mem}
@@ -24,9 +24,9 @@ use Rattle.stk_host.specs.Steps.{StepOutcome, step, play}
 use Rattle.stk_host.specs.Places.{each_from}
 use Rattle.stk_host.specs.WriteSteps.{write_steps}
 use Rattle.stk_host.specs.Operations.{judged_by, operation, writing, Difference, difference_from, differs, comparison}
-use Rattle.stk_host.specs.Calls.{StopsSteps, EndsSteps, EndsCall, EndsOrLacks, EndsInnerStep, with_step, without_step, IsSizedShape, data_count, fault_of_stop, closing_result, given_or_fault, vector_after, verifying_result}
-use Rattle.stk_host.proofs.Talks.Reached.{reaches_here, reaches_on, played_from, broken_bind, then_reaches}
-use Rattle.stk_host.proofs.Operations.StepEnds.{stops_on, play_on, play_stops, play_done}
+use Rattle.stk_host.specs.Calls.{StopsSteps, EndsSteps, EndsCall, EndsOrLacks, EndsInnerStep, with_step, with_steps, without_step, IsSizedShape, data_count, fault_of_stop, closing_result, given_or_fault, vector_after, verifying_result}
+use Rattle.stk_host.proofs.Talks.Reached.{reaches_here, reaches_on, played_from, then_reaches}
+use Rattle.stk_host.proofs.Operations.StepEnds.{stops_on, stop_ends, play_on, play_stops, play_done}
 
 -- data of this size
 pub counted_data : (of : Shape) (bytes : List ℕ) → IsSizedShape of → SizedBy of bytes → length bytes ≡ data_count of
@@ -64,41 +64,49 @@ pub alone : (commands : List Command) (before after : List ℕ) (result : Result
 alone commands before after (Ok done) m n o p e = play_done after (e [])
 alone commands before after (Err stop) m n o p e = e []
 
-pub alone_first : (commands : List Command) (before after : List ℕ) (result : Result (Unit {0}) Stop) (m n : Position)
-    (o p : LinkView)
-    → before ≡ [] → EndsInnerStep (with_step commands before) (without_step after) m o p result n
-    → EndsSteps (play (commands ∷ []) []) (λ done. after) m o p result n
-alone_first commands before after result m n o p is e =
-    subst (λ (b : List ℕ). EndsSteps (play (commands ∷ []) b) (λ done. after) m o p result n) is
-    (alone commands before after result m n o p e)
+-- the next of the places
+next_place : (steps_at : ℕ → List (List Command)) (place end : ℕ) → place < end
+    → each_from steps_at place (end - place) ≡ steps_at place ++ each_from steps_at (place + 1) (end - (place + 1))
+next_place steps_at place end before =
+    let left : end - place ≡ suc (end - (place + 1)) = omega (arith, before) in ap (each_from steps_at place) left
 
 -- no step at all
 pub none_played : (m : Position) (o : LinkView) → PlaysOver (play [] []) m o o (Ok []) m
 none_played m o = play_done [] (reaches_here (play [] []) m o)
 
--- a step among the steps that are left of a dialog
-module _ {a : Dialog ⊥ StepOutcome} {k m : Position} {r o : LinkView} {steps rest : List (List Command)}
-    {commands : List Command} (before : List ℕ)
-    (come : Reaches a k r (play steps before) m o) (is : steps ≡ commands ∷ rest) where
-  next_is : Reaches a k r (play (commands ∷ rest) before) m o
-  next_is = subst (λ ss. Reaches a k r (play ss before) m o) is come
+-- the steps of a place among those that are left of a dialog
+module _ {a : Dialog ⊥ StepOutcome} {k m : Position} {r o : LinkView} (steps_at : ℕ → List (List Command))
+    (place end : ℕ) (before : List ℕ)
+    (come : Reaches a k r (play (each_from steps_at place (end - place)) before) m o) (lt : place < end) where
+  abbrev rest : List (List Command)
+  rest = each_from steps_at (place + 1) (end - (place + 1))
+
+  next_is : Reaches a k r (play (steps_at place ++ rest) before) m o
+  next_is = subst (λ ss. Reaches a k r (play ss before) m o) (next_place steps_at place end lt) come
 
   pub reaches_next : {n : Position} {p : LinkView} (after : List ℕ)
-      → EndsInnerStep (with_step commands before) (without_step after) m o p (Ok tt) n
+      → EndsInnerStep (with_steps (steps_at place) before) (without_step after) m o p (Ok tt) n
       → Reaches a k r (play rest after) n p
   reaches_next after e = reaches_on next_is (e rest)
 
   pub stops_next : (n : Position) (p : LinkView) (stop : Stop)
-      → ((more : List (List Command)) → StopsSteps (with_step commands before more) m o p stop n)
+      → ((more : List (List Command)) → StopsSteps (with_steps (steps_at place) before more) m o p stop n)
       → StopsSteps a k r p stop n
   stops_next n p stop e = stops_on n p stop next_is (e rest)
 
--- the steps are at their end
-pub plays_all : {a : Dialog ⊥ StepOutcome} {k m : Position} {r o : LinkView} {steps : List (List Command)}
-    {before : List ℕ}
-    → Reaches a k r (play steps before) m o → steps ≡ [] → PlaysOver a k r o (Ok before) m
-plays_all {a = a} {k = k} {m = m} {r = r} {o = o} {before = before} come is =
-    play_done before (subst (λ ss. Reaches a k r (play ss before) m o) is come)
+-- a place without steps
+pub passes : {these : List (List Command)} (m : Position) (o : LinkView) → these ≡ []
+    → EndsInnerStep (with_steps these []) (without_step []) m o o (Ok tt) m
+passes m o none = λ steps. rw none (reaches_here (play steps []) m o)
+
+-- the places are at their end
+pub plays_all : {a : Dialog ⊥ StepOutcome} {k m : Position} {r o : LinkView} (steps_at : ℕ → List (List Command))
+    (place end : ℕ) {before : List ℕ}
+    → Reaches a k r (play (each_from steps_at place (end - place)) before) m o → end ≤ place
+    → PlaysOver a k r o (Ok before) m
+plays_all {a = a} {k = k} {m = m} {r = r} {o = o} steps_at place end {before = before} come past =
+    let none : end - place ≡ 0 = omega (arith, past) in
+    play_done before (subst (λ n. Reaches a k r (play (each_from steps_at place n) before) m o) none come)
 
 -- what an operation comes to, from what its steps come to
 
@@ -107,18 +115,7 @@ told_ends : {A : Type 0} (steps : List (List Command)) (judge : List ℕ → Res
     (m n : Position) (o p : LinkView)
     → StopsSteps (play steps []) m o p stop n → EndsCall (operation steps judge) m o p (Err (fault_of_stop stop)) n
 unfolding operation
-told_ends steps judge (Fault of_step.NoAnswer) m n o p e =
-    played_from (then_reaches (λ outcome. Done (judged_by judge outcome)) e)
-told_ends steps judge (Fault of_step.LinkEnded) m n o p e =
-    played_from (then_reaches (λ outcome. Done (judged_by judge outcome)) e)
-told_ends steps judge (Fault of_step.Babble) m n o p e =
-    played_from (then_reaches (λ outcome. Done (judged_by judge outcome)) e)
-told_ends steps judge (Fault (of_step.Refused command status)) m n o p e =
-    played_from (then_reaches (λ outcome. Done (judged_by judge outcome)) e)
-told_ends steps judge (Fault (of_step.BadAnswer command)) m n o p e =
-    played_from (then_reaches (λ outcome. Done (judged_by judge outcome)) e)
-told_ends steps judge (Link broken.Send) m n o p e = broken_bind (λ outcome. Done (judged_by judge outcome)) e
-told_ends steps judge (Link broken.Recv) m n o p e = broken_bind (λ outcome. Done (judged_by judge outcome)) e
+told_ends steps judge stop m n o p e = stop_ends (play steps []) (judged_by judge) (λ fault. refl) stop m n o p e
 
 judged_from : {A : Type 0} (steps : List (List Command)) (judge : List ℕ → Result A HostFault) (bytes : List ℕ)
     {m n : Position} {o p : LinkView}

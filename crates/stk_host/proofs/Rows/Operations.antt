@@ -1,30 +1,24 @@
--- Worked steps and operations, at the level of the definitions.
+-- Worked steps, at the level of the definitions. Tests have sessions and whole operations.
 use Rattle.std.proofs.Common.{◌≡◌, [], ◌∷◌, ◌++◌, refl, Some, None, Err}
 use Rattle.std.specs.Prelude.{replicate}
-use Rattle.avr_part.specs.declared.part.Mem.TheVariants.{Flash, Eeprom, Lfuse, Signature}
+use Rattle.avr_part.specs.declared.part.Mem.TheVariants.{Flash, Eeprom, Signature}
 use Rattle.avr_part.specs.BuiltIn.{m328p, m2560}
 use Rattle.stk_frame.specs.Frame.{frame}
 use Rattle.stk_frame.specs.Commands.{body}
 use Rattle.stk_frame.specs.HostCommands.{program_page, program_eeprom_block, read_eeprom_block}
 use Rattle.stk_host.specs.declared.places.TheConstants.{NARROW_FLASH}
-use Rattle.stk_host.specs.declared.fault.HostFault.TheVariants.{Differs, Refused, ReadOnly}
-use Rattle.stk_host.specs.Tape.{answer, on_tape}
-use Rattle.stk_host.specs.Dialog.{Done, Frame, played}
+use Rattle.stk_host.specs.declared.fault.HostFault.TheVariants.{ReadOnly}
+use Rattle.stk_host.specs.Dialog.{Done}
 use Rattle.stk_host.specs.Places.{load_flash, load_eeprom}
 use Rattle.stk_host.specs.WriteSteps.{write_steps}
 use Rattle.stk_host.specs.ReadSteps.{read_steps}
-use Rattle.stk_host.specs.Steps.{exchange, attempt, tries, play}
-use Rattle.stk_host.specs.Operations.{operation, writing, verifying}
+use Rattle.stk_host.specs.Operations.{writing}
 
 -- up to 128 KiB of flash sixteen bits number each word
 pub narrow_flash : NARROW_FLASH ≡ 131072
 narrow_flash = refl
 
 -- an address of flash counts words, and has bit 31 for a large part alone
-pub loads_first_word : frame 2 (body (load_flash m328p 0))
-    ≡ 0x1B ∷ 0x02 ∷ 0x00 ∷ 0x05 ∷ 0x0E ∷ 0x06 ∷ 0x00 ∷ 0x00 ∷ 0x00 ∷ 0x00 ∷ 0x14 ∷ []
-loads_first_word = refl
-
 pub loads_second_page : frame 9 (body (load_flash m328p 128))
     ≡ 0x1B ∷ 0x09 ∷ 0x00 ∷ 0x05 ∷ 0x0E ∷ 0x06 ∷ 0x00 ∷ 0x00 ∷ 0x00 ∷ 0x40 ∷ 0x5F ∷ []
 loads_second_page = refl
@@ -52,11 +46,6 @@ pub writes_runs : write_steps (record m328p { eeprom_size = 12 }) Eeprom
     ∷ (load_eeprom 4 ∷ program_eeprom_block (0x55 ∷ []) ∷ []) ∷ []
 writes_runs = refl
 
-pub writes_a_run : frame 7 (body (program_eeprom_block (0x11 ∷ [])))
-    ≡ 0x1B ∷ 0x07 ∷ 0x00 ∷ 0x0B ∷ 0x0E ∷ 0x15 ∷ 0x00 ∷ 0x01 ∷ 0xC1 ∷ 0x0A ∷ 0xC1 ∷ 0xC2 ∷ 0xA0 ∷ 0xFF ∷ 0xFF ∷ 0x11
-    ∷ 0x74 ∷ []
-writes_a_run = refl
-
 -- four blocks of EEPROM
 pub reads_blocks : read_steps m328p Eeprom
     ≡ (load_eeprom 0 ∷ read_eeprom_block 256 ∷ []) ∷ (load_eeprom 256 ∷ read_eeprom_block 256 ∷ [])
@@ -71,25 +60,3 @@ reads_the_rest = refl
 -- the signature can't be written
 pub writes_no_signature : writing m328p Signature (Some 0x1E ∷ []) ≡ Done (Err (ReadOnly Signature))
 writes_no_signature = refl
-
--- a fuse has another byte
-pub differs : played (verifying m328p Lfuse (Some 0xE2 ∷ [])) 1
-    (on_tape (0x1B ∷ 0x01 ∷ 0x00 ∷ 0x04 ∷ 0x0E ∷ 0x18 ∷ 0x00 ∷ 0x62 ∷ 0x00 ∷ 0x6A ∷ []))
-    ≡ record {
-      events = Frame (0x1B ∷ 0x01 ∷ 0x00 ∷ 0x06 ∷ 0x0E ∷ 0x18 ∷ 0x04 ∷ 0x50 ∷ 0x00 ∷ 0x00 ∷ 0x00 ∷ 0x5E ∷ [])
-          ∷ [];
-      outcome = Some (Err (Differs Lfuse 0 0xE2 0x62), 2, []);
-    }
-unfolding exchange attempt tries play answer operation
-differs = refl
-
--- the programmer was too slow
-pub refused : played (verifying m328p Lfuse (Some 0xE2 ∷ [])) 1
-    (on_tape (0x1B ∷ 0x01 ∷ 0x00 ∷ 0x04 ∷ 0x0E ∷ 0x18 ∷ 0x80 ∷ 0x00 ∷ 0x00 ∷ 0x88 ∷ []))
-    ≡ record {
-      events = Frame (0x1B ∷ 0x01 ∷ 0x00 ∷ 0x06 ∷ 0x0E ∷ 0x18 ∷ 0x04 ∷ 0x50 ∷ 0x00 ∷ 0x00 ∷ 0x00 ∷ 0x5E ∷ [])
-          ∷ [];
-      outcome = Some (Err (Refused 0x18 0x80), 2, []);
-    }
-unfolding exchange attempt tries play answer operation
-refused = refl

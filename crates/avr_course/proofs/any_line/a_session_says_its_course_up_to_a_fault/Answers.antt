@@ -1,4 +1,4 @@
-use Rattle.avr_course.proofs.Reports.UpToFault.{foretold_now, foretold_end, foretold_on_tape, first_prefix}
+use Rattle.avr_course.proofs.Reports.UpToFault.{foretold_now, foretold_end, first_prefix}
 use Rattle.avr_course.proofs.any_line.a_session_says_its_course_up_to_a_fault.Goals as goal
 
 pub returns-clause-moment : goal.returns-clause-moment
@@ -8,10 +8,6 @@ returns-clause-moment c = λ plan m k p turns sound fitted sizes idle. foretold_
 pub returns-clause-end : goal.returns-clause-end
 returns-clause-end c = λ plan m k status p turns sound fitted sizes idle e. foretold_end plan sound fitted m sizes k
     status p turns idle e
-
-pub returns-clause-tape : goal.returns-clause-tape
-returns-clause-tape c = λ plan m p tape becames sound fitted sizes idle honest. foretold_on_tape plan sound fitted m
-    sizes p tape becames idle honest
 
 pub returns-clause-prefix : goal.returns-clause-prefix
 returns-clause-prefix c = first_prefix

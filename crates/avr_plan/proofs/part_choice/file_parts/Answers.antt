@@ -1,4 +1,4 @@
-use Rattle.std.proofs.Common.{subst, false}
+use Rattle.std.proofs.Common.{subst, refl, false}
 use Rattle.avr_desk.specs.Playing.{AtStart}
 use Rattle.avr_desk.specs.Record.{Bytes}
 use Rattle.avr_part.specs.PartFile.{ReadsOrMemory, parts_of, unplaced}
@@ -14,7 +14,7 @@ returns-in-Err-clause-goes g c =
     goes_file_fault (AtStart false) c.args.file.now LARGEST_PART_FILE (judged_parts c.args.file.now) c.in-Err.fault _ _
     _ _
     (breaks_as _ _ _ c.in-Err.fault c.in-Err.ensures.kept)
-    c.in-Err.ensures.counts.0 (counted_as _ _ _ _ c.in-Err.fault c.in-Err.ensures.counts) c.refuse.ensures.status
+    c.in-Err.ensures.counts.0 (counted_as _ _ _ _ c.in-Err.fault c.in-Err.ensures.counts) refl
     (rw c.file_message.ensures at c.refuse.ensures.told)
 
 pub returns-then-not-contents-clause-goes : goal.returns-then-not-contents-clause-goes
@@ -22,7 +22,7 @@ returns-then-not-contents-clause-goes g c =
     goes_long_parts c.args.file.now c.in-Ok.contents.bytes c.in-Ok.contents.ended _ _ _ _ c.in-Ok.ensures.kept
     c.in-Ok.ensures.whole
     c.if-not-contents.true
-    c.in-Ok.ensures.counts.1 c.refuse-then-not-contents.ensures.status
+    c.in-Ok.ensures.counts.1 refl
     (rw c.too_long_message.ensures at c.refuse-then-not-contents.ensures.told)
 
 pub returns-in-Ok-parse_parts-clause-goes : goal.returns-in-Ok-parse_parts-clause-goes
@@ -42,5 +42,5 @@ returns-clause-goes g c =
     c.in-Err-parse_parts.refused.why c.in-Ok.ensures.kept
     c.in-Ok.ensures.whole
     c.if-not-contents.false c.in-Ok.ensures.counts.1 (rw c.in-Err-parse_parts.is at gives)
-    c.refuse-in-Err-parse_parts.ensures.status
-    (rw (c.part_file_message.ensures, c.fault.ensures) at c.refuse-in-Err-parse_parts.ensures.told)
+    refl
+    (rw (c.part_file_message.ensures, c.fault-fault.ensures) at c.refuse-in-Err-parse_parts.ensures.told)

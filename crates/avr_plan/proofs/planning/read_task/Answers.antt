@@ -16,9 +16,9 @@ returns-in-Ok-clause-goes g c = λ switches part.
 pub returns-in-Err-clause-goes : goal.returns-in-Err-clause-goes
 returns-in-Err-clause-goes g c = λ switches part.
     goes_without_memory (AtStart true) (op_stage switches part c.args.update.now op.Read) _ _ _ (refl, refl, refl)
-    c.refuse-in-Err.ensures.status (rw c.memory_message-in-Err.ensures at c.refuse-in-Err.ensures.told)
+    refl (rw c.memory_message-in-Err.ensures at c.refuse-in-Err.ensures.told)
 
 pub returns-then-is_err-clause-goes : goal.returns-then-is_err-clause-goes
 returns-then-is_err-clause-goes g c = λ switches part.
     goes_without_memory (AtStart true) (op_stage switches part c.args.update.now op.Read) _ _ _ (refl, refl, refl)
-    c.refuse.ensures.status (rw c.memory_message.ensures at c.refuse.ensures.told)
+    refl (rw c.memory_message.ensures at c.refuse.ensures.told)

@@ -1,7 +1,9 @@
-use Rattle.std.proofs.Common.{◌∙◌, sym, ap, subst, [], ◌∷◌, ◌++◌, ◌+◌, List, drop, Ok, Err, All}
+use Rattle.std.proofs.Common.{◌≡◌, ◌∙◌, sym, ap, subst, arith, [], ◌∷◌, ◌++◌, ◌+◌, List, drop, length, length-append, Some, Ok, Err, All, slice_get}
+use Rattle.avr_desk.proofs.Lines.Told.{same_on}
+use Rattle.avr_plan.proofs.Stages.Told.{fault_since}
 use Rattle.std.proofs.lemmas.List.{drop_more, drop_all}
 use Rattle.std.proofs.lemmas.List.Elements.{All-append}
-use Rattle.std.proofs.lemmas.Result.{err_from_is_err_and}
+use Rattle.std.proofs.lemmas.Option.{slice_get-get_or}
 use Rattle.avr_cli.specs.declared.update.Update.{Update}
 use Rattle.avr_desk.proofs.Stages.Played.{went_nowhere}
 use Rattle.avr_plan.proofs.Stages.Tasks.{goes_with_next, goes_without_next, all_one}
@@ -21,31 +23,52 @@ loop-update-preserved g c =
     let cut = drop_more us i u c.loop-update-test.true
     ∙ ap (λ (x : Update). x ∷ drop (i + 1) us) (sym c.update-item.is) in
     let same = c.push_reserved.ensures.items
-    ∙ ap (λ (ts : List Task). ts ++ c.in_ok-task.task ∷ []) c.in_ok-task.ensures.same in
+    ∙ ap (λ (ts : List Task). ts ++ c.in-Ok.task ∷ []) c.in-Ok.ensures.same in
     record {
       goes = λ new result goes. c.loop-update.invariant.goes new result
-          (goes_with_next c.args.switches part c.loop-update.tasks.items us i u _ _ new c.in_ok-task.task result cut
-          c.in_ok-task.ensures.goes
+          (goes_with_next c.args.switches part c.loop-update.tasks.items us i u _ _ new c.in-Ok.task result cut
+          c.in-Ok.ensures.goes
           (subst (λ (ts : List Task). Goes (AtTask c.args.switches part ts (drop (i + 1) us))
           (tasks_stage c.args.switches part ts (drop (i + 1) us)) (g.D.Desk.view c.update_task.new.desk) new result)
           same goes));
       fitted = subst (λ (ts : List Task). All (IsFitted part) ts) (sym same)
-          (All-append (IsFitted part) c.loop-update.tasks.items (c.in_ok-task.task ∷ []) c.loop-update.invariant.fitted
-          (all_one (IsFitted part) c.in_ok-task.task c.in_ok-task.ensures.fitted));
-      stays = λ start of. c.in_ok-task.ensures.stays start (c.loop-update.invariant.stays start of);
+          (All-append (IsFitted part) c.loop-update.tasks.items (c.in-Ok.task ∷ []) c.loop-update.invariant.fitted
+          (all_one (IsFitted part) c.in-Ok.task c.in-Ok.ensures.fitted));
+      counts = same_on (g.D.Desk.view c.args.desk.now) (g.D.Desk.view c.loop-update.desk)
+          (g.D.Desk.view c.update_task.new.desk) c.loop-update.invariant.counts c.in-Ok.ensures.goes.sound;
+      placed =
+          let one = ap length same in
+          let more = length-append c.loop-update.tasks.items (c.in-Ok.task ∷ []) in
+          grind (arith, one, more, c.loop-update.invariant.placed);
+      stays = λ start of. c.in-Ok.ensures.stays start (c.loop-update.invariant.stays start of);
     }
 
-pub returns-in_err-task-clause-goes : goal.returns-in_err-task-clause-goes
-returns-in_err-task-clause-goes g c =
+pub returns-in-Err-clause-goes : goal.returns-in-Err-clause-goes
+returns-in-Err-clause-goes g c =
     let us = c.args.updates.now in
     let i = c.loop-update.update-index in
     let u = c.update-item.result in
     let cut = drop_more us i u c.loop-update-test.true
     ∙ ap (λ (x : Update). x ∷ drop (i + 1) us) (sym c.update-item.is) in
-    let p = err_from_is_err_and c.from_residual.result c.from_residual.ensures.1 in
-    rw (p.1, p.2) (c.loop-update.invariant.goes _ (Err c.in_err-task.field-0.0)
-    (goes_without_next c.args.switches c.args.part.now c.loop-update.tasks.items us i u _ _ c.in_err-task.field-0.0 cut
-    c.in_err-task.ensures.goes))
+    c.loop-update.invariant.goes _ (Err 1)
+    (goes_without_next c.args.switches c.args.part.now c.loop-update.tasks.items us i u _ _ 1 cut c.in-Err.ensures.goes)
+
+pub returns-in-Err-clause-told : goal.returns-in-Err-clause-told
+returns-in-Err-clause-told g c =
+    let us = c.args.updates.now in
+    let i = c.loop-update.update-index in
+    let u = c.update-item.result in
+    let placed : length c.as_slice.result.now ≡ i =
+    ap length (c.as_slice.ensures.value ∙ c.in-Err.ensures.same) ∙ c.loop-update.invariant.placed in
+    let found : slice_get us (length c.as_slice.result.now) ≡ Some u =
+    ap (slice_get us) placed ∙ slice_get-get_or us i u c.loop-update-test.true ∙ ap Some (sym c.update-item.is) in (
+      u,
+      (
+        found,
+        fault_since u c.in-Err.fault (g.D.Desk.view c.args.desk.now) (g.D.Desk.view c.loop-update.desk)
+            (g.D.Desk.view c.update_task.new.desk) c.loop-update.invariant.counts c.in-Err.ensures.told,
+      ),
+    )
 
 pub returns-clause-goes : goal.returns-clause-goes
 returns-clause-goes g c =

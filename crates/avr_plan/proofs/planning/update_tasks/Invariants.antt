@@ -1,4 +1,5 @@
-use Rattle.std.proofs.Common.{ℕ, List, [], drop, Result, All}
+use Rattle.std.proofs.Common.{◌≡◌, ℕ, List, [], drop, length, Result, All}
+use Rattle.avr_desk.specs.Fault.{HasSameCounts}
 use Rattle.avr_desk.specs.Record.{DeskView}
 use Rattle.avr_plan.specs.Plan.{IsFitted}
 use Rattle.avr_plan.specs.Planning.{tasks_stage}
@@ -17,5 +18,7 @@ invariant-loop-update g l = record {
       → Goes (AtTask l.switches l.part [] l.updates) (tasks_stage l.switches l.part [] l.updates)
       (g.D.Desk.view l.initial.desk) new result;
   fitted : All (IsFitted l.part) l.tasks.items;
+  counts : HasSameCounts (g.D.Desk.view l.initial.desk) (g.D.Desk.view l.desk);
+  placed : length l.tasks.items ≡ l.update-index;
   stays : Stays g.D.Desk.comes_of l.initial.desk l.desk;
 }

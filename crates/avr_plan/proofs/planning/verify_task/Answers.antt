@@ -16,5 +16,5 @@ pub returns-in-Err-clause-goes : goal.returns-in-Err-clause-goes
 returns-in-Err-clause-goes g c =
     let u = c.args.update.now in
     goes_no_further (AtStart (has_values u.format)) (update_image c.args.switches c.args.part.now u)
-    (λ image. verdict_stage (Ok (Verify u.memory image))) _ _ c.in-Err.status
+    (λ image. verdict_stage (Ok (Verify u.memory image))) _ _ 1
     c.in-Err.ensures.goes

@@ -1,4 +1,6 @@
+use Rattle.std.proofs.Common.{refl}
 use Rattle.avr_plan.specs.declared.image_file.TheConstants.{LARGEST_IMAGE_FILE}
+use Rattle.avr_plan.proofs.Stages.Told.{fault_since}
 use Rattle.avr_plan.proofs.Stages.Images.{went_image, goes_unwarned, goes_without_image, goes_without_room}
 use Rattle.avr_plan.proofs.Files.Sizes.{image-size}
 use Rattle.avr_plan.proofs.update_image.file_image.Goals as goal
@@ -24,7 +26,7 @@ returns-in-Err-warn_of_ending-clause-goes g c =
 pub returns-then-is_err-clause-goes : goal.returns-then-is_err-clause-goes
 returns-then-is_err-clause-goes g c =
     goes_without_room c.args.switches c.args.file.now c.args.format c.args.size _ _ _ c.in-Ok.image c.in-Ok.ending _
-    c.in-Ok.ensures.read c.in-Ok.ensures.sound c.refuse.ensures.status
+    c.in-Ok.ensures.read c.in-Ok.ensures.sound refl
     (rw c.memory_message.ensures at c.refuse.ensures.told)
 
 pub returns-in-Err-clause-goes : goal.returns-in-Err-clause-goes
@@ -32,5 +34,11 @@ returns-in-Err-clause-goes g c =
     goes_without_image c.args.switches c.args.file.now c.args.format c.args.size _ _ _ c.in-Err.fault _
     c.in-Err.ensures.read
     c.in-Err.ensures.rises
-    c.in-Err.ensures.counted c.refuse-in-Err.ensures.status
+    c.in-Err.ensures.counted refl
     (rw c.image_message.ensures at c.refuse-in-Err.ensures.told)
+
+pub returns-in-Err-warn_of_ending-clause-told : goal.returns-in-Err-warn_of_ending-clause-told
+returns-in-Err-warn_of_ending-clause-told g c = λ update named.
+    fault_since update c.in-Err-warn_of_ending.fault (g.D.Desk.view c.args.desk.now)
+    (g.D.Desk.view c.read_image.new.desk) (g.D.Desk.view c.warn_of_ending.new.desk) c.in-Ok.ensures.sound
+    (c.in-Err-warn_of_ending.ensures.told update)

@@ -1,14 +1,22 @@
+use Rattle.std.proofs.Common.{refl, sym}
+use Rattle.avr_plan.specs.PlanFaults.{with_status}
 use Rattle.avr_plan.proofs.Stages.Tasks.{goes_of_values, goes_of_file}
 use Rattle.avr_plan.proofs.update_image.update_image.Goals as goal
 
 pub returns-in-Immediate-clause-goes : goal.returns-in-Immediate-clause-goes
 returns-in-Immediate-clause-goes g c =
-    goes_of_values c.args.switches c.args.update.now.memory _ _ _ _ c.args.update.now.format _ _ c.values_image.result
+    goes_of_values c.args.switches c.args.update.now.memory _ _ _ _ c.args.update.now.format _ _ (with_status c.values_image.result)
     c.size_of-size.ensures.value
     c.as_str-text.ensures c.in-Immediate.is (c.values_image.ensures.goes c.args.switches)
 
 pub returns-in_default-clause-goes : goal.returns-in_default-clause-goes
 returns-in_default-clause-goes g c =
-    goes_of_file c.args.switches c.args.update.now.memory _ _ _ _ c.args.update.now.format _ _ c.file_image.result
+    goes_of_file c.args.switches c.args.update.now.memory _ _ _ _ c.args.update.now.format _ _ (with_status c.file_image.result)
     c.size_of-size.ensures.value
     c.as_str-text.ensures c.in_default.not-Immediate c.file_image.ensures.goes
+
+pub returns-in-Immediate-clause-told : goal.returns-in-Immediate-clause-told
+returns-in-Immediate-clause-told g c = c.values_image.ensures.told c.args.update.now refl
+
+pub returns-in_default-clause-told : goal.returns-in_default-clause-told
+returns-in_default-clause-told g c = c.file_image.ensures.told c.args.update.now (sym c.as_str-text.ensures)

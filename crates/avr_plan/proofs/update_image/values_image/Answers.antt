@@ -1,3 +1,4 @@
+use Rattle.std.proofs.Common.{refl}
 use Rattle.avr_plan.proofs.Stages.Values.{went_values, goes_bad_values, goes_without_room}
 use Rattle.avr_plan.proofs.update_image.values_image.Goals as goal
 
@@ -8,10 +9,10 @@ returns-in-Ok-clause-goes g c = λ switches. went_values switches c.args.memory 
 pub returns-in-Err-clause-goes : goal.returns-in-Err-clause-goes
 returns-in-Err-clause-goes g c = λ switches.
     goes_bad_values switches c.args.memory c.args.size c.args.text.now _ _ _ c.in-Err.fault c.in-Err.ensures.value
-    c.refuse-in-Err.ensures.status
+    refl
     (rw c.values_message.ensures at c.refuse-in-Err.ensures.told)
 
 pub returns-then-is_err-clause-goes : goal.returns-then-is_err-clause-goes
 returns-then-is_err-clause-goes g c = λ switches.
-    goes_without_room switches c.args.memory c.args.size c.args.text.now _ _ _ c.refuse.ensures.status
+    goes_without_room switches c.args.memory c.args.size c.args.text.now _ _ _ refl
     (rw c.memory_message.ensures at c.refuse.ensures.told)

@@ -1,12 +1,14 @@
-use Rattle.std.proofs.Common.{◌+◌, ◌≤◌, length}
-use Rattle.avr_records.specs.Extents.{IsNear}
+use Rattle.std.proofs.Common.{◌≡◌, ◌+◌, ◌≤◌, length, false}
+use Rattle.avr_records.specs.Lines.{lines}
+use Rattle.avr_records.specs.Steps.{InRange}
 use Rattle.avr_records.proofs.Readers.Extents.{Walked}
 use Rattle.avr_records.proofs.needed.needed_size.Given as goal
 
 abbrev pub invariant-loop-line : goal.invariant-loop-line
 invariant-loop-line l = record {
-  walked : Walked l.kind l.extent l.text l.rest;
-  near : IsNear l.kind l.extent;
+  walked : Walked l.kind l.extent l.text (lines l.rest);
+  goes_on : l.extent.ended ≡ false;
+  range : InRange l.kind l.extent;
   room : l.extent.lines + length l.rest ≤ length l.text;
 }
 

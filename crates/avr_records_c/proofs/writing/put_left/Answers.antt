@@ -1,15 +1,15 @@
 use Rattle.std.proofs.Common.{◌≡◌, ◌∙◌, sym, ap, arith, ℕ, ◌+◌, ◌-◌, ◌≤◌, List, ◌++◌, length, drop}
 use Rattle.std.proofs.lemmas.List.{length-drop}
-use Rattle.avr_records_c.specs.Cursor.{lines_left}
+use Rattle.avr_records.specs.Writing.{left}
 use Rattle.avr_records_c.proofs.Rooms.{IsPut, NextLine, all-put, line-out, more-put, room-length}
 use Rattle.avr_records_c.proofs.writing.put_left.Goals as goal
 
 pub returns-then-gone-count-clause-put : goal.returns-then-gone-count-clause-put
 returns-then-gone-count-clause-put c =
     let kept = c.lines.invariant in
-    let text : List ℕ = drop c.args.gone.now (lines_left c.args.lines.now c.args.memory.now) in
-    let whole : List ℕ = lines_left c.lines.lines c.args.memory.now in
-    let more : List ℕ = lines_left c.next_line.new.lines c.args.memory.now in
+    let text : List ℕ = drop c.args.gone.now (left c.args.lines.now c.args.memory.now) in
+    let whole : List ℕ = left c.lines.lines c.args.memory.now in
+    let more : List ℕ = left c.next_line.new.self c.args.memory.now in
     let line : List ℕ = c.as_slice.result.now in
     let after : List ℕ = c.put_part-count.new.room in
     let count : ℕ = c.put_part-count.result in
@@ -37,9 +37,9 @@ returns-then-gone-count-clause-put c =
 pub lines-preserved : goal.lines-preserved
 lines-preserved c =
     let kept = c.lines.invariant in
-    let text : List ℕ = drop c.args.gone.now (lines_left c.args.lines.now c.args.memory.now) in
-    let whole : List ℕ = lines_left c.lines.lines c.args.memory.now in
-    let more : List ℕ = lines_left c.next_line.new.lines c.args.memory.now in
+    let text : List ℕ = drop c.args.gone.now (left c.args.lines.now c.args.memory.now) in
+    let whole : List ℕ = left c.lines.lines c.args.memory.now in
+    let more : List ℕ = left c.next_line.new.self c.args.memory.now in
     let line : List ℕ = c.as_slice.result.now in
     let after : List ℕ = c.put_part-count.new.room in
     let count : ℕ = c.put_part-count.result in
@@ -60,6 +60,5 @@ lines-preserved c =
     record {
       so_far = line-out text whole c.args.room.now after (c.lines.put + count) (c.lines.gone + count) left next
           moved out left_is;
-      sound = c.next_line.ensures.sound;
       kind = c.next_line.ensures.kind ∙ kept.kind;
     }

@@ -4,5 +4,5 @@ pub returns-clause-leaves_out : goal.returns-clause-leaves_out
 returns-clause-leaves_out g c = record {
   told = c.warn-warned.result;
   reports = c.warn-warned.ensures.reports;
-  result_is = c.fine_if_said.ensures;
+  result_is = c.conclude.ensures;
 }

@@ -4,6 +4,6 @@ pub returns-clause-leaves_out : goal.returns-clause-leaves_out
 returns-clause-leaves_out g c = record {
   told = c.report_bytes-said.result;
   reports =
-      rw (c.switches.ensures, c.len.ensures) at c.report_bytes-said.ensures.reports;
-  result_is = c.fine_if_said.ensures;
+      rw (c.switches-quiet.ensures, c.len.ensures) at c.report_bytes-said.ensures.reports;
+  result_is = c.conclude.ensures;
 }

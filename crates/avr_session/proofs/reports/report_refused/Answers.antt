@@ -3,7 +3,7 @@ use Rattle.std.proofs.Common.{[], ◌∷◌}
 use Rattle.stk_host.specs.declared.fault.HostFault.TheVariants.{WrongSignature}
 use Rattle.avr_desk.specs.Said.{Line}
 use Rattle.avr_session.specs.Lines.{fault_line}
-use Rattle.avr_session.specs.Runs.{PrintStops}
+use Rattle.avr_session.specs.Reporting.{PrintStops}
 use Rattle.avr_session.specs.Session.{signature_says}
 use Rattle.avr_session.proofs.PhaseByPhase.Reports.{reports_then, reports_until}
 use Rattle.avr_session.proofs.reports.report_refused.Goals as goal
@@ -17,6 +17,6 @@ returns-clause-reports g c =
 pub returns-in_err-report_found-clause-reports : goal.returns-in_err-report_found-clause-reports
 returns-in_err-report_found-clause-reports g c =
     let p = err_from_is_err_and c.from_residual.result c.from_residual.ensures.1 in
-    rw p.1 (reports_until PrintStops PrintStops (signature_says c.args.quiet c.args.found)
-    (Line (fault_line c.args.part.now (WrongSignature c.args.found)) ∷ []) p.0 (λ cause told stops. stops)
+    rw (p.1, p.2) (reports_until PrintStops PrintStops (signature_says c.args.quiet c.args.found)
+    (Line (fault_line c.args.part.now (WrongSignature c.args.found)) ∷ []) _ (λ cause told stops. stops)
     c.in_err-report_found.ensures.reports)

@@ -1,5 +1,5 @@
 use Rattle.std.proofs.lemmas.Result.{err_from_is_err_and}
-use Rattle.avr_session.specs.Runs.{PrintStops}
+use Rattle.avr_session.specs.Reporting.{PrintStops}
 use Rattle.avr_session.specs.Session.{signature_says, warns_of_signature}
 use Rattle.avr_session.proofs.PhaseByPhase.Reports.{reports_then, reports_until}
 use Rattle.avr_session.proofs.reports.report_taken.Goals as goal
@@ -13,6 +13,6 @@ returns-clause-reports g c =
 pub returns-in_err-report_found-clause-reports : goal.returns-in_err-report_found-clause-reports
 returns-in_err-report_found-clause-reports g c =
     let p = err_from_is_err_and c.from_residual.result c.from_residual.ensures.1 in
-    rw p.1 (reports_until PrintStops PrintStops (signature_says c.args.quiet c.args.found)
-    (warns_of_signature c.args.quiet c.args.part.now c.args.found) p.0 (λ cause told stops. stops)
+    rw (p.1, p.2) (reports_until PrintStops PrintStops (signature_says c.args.quiet c.args.found)
+    (warns_of_signature c.args.quiet c.args.part.now c.args.found) _ (λ cause told stops. stops)
     c.in_err-report_found.ensures.reports)

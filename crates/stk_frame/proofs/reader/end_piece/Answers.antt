@@ -9,8 +9,8 @@ returns-then-len-size_of_piece-clause-fed c part bytes short is =
     c.size_of_piece.ensures.size ∙ ap piece_size c.as_slice.ensures.value in
     from_part part bytes c.args.held.now.items short is (omega arith)
 
-pub returns-then-len-le5-clause-fed : goal.returns-then-len-le5-clause-fed
-returns-then-len-le5-clause-fed c part bytes short is =
+pub returns-then-len-le-HEADER_SIZE-clause-fed : goal.returns-then-len-le-HEADER_SIZE-clause-fed
+returns-then-len-le-HEADER_SIZE-clause-fed c part bytes short is =
     let size : c.size_of_piece.result ≡ piece_size c.args.held.now.items =
     c.size_of_piece.ensures.size ∙ ap piece_size c.as_slice.ensures.value in
     rw c.clear.ensures (from_skip part bytes c.args.held.now.items short is (omega arith) (omega arith))

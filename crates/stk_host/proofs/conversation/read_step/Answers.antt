@@ -5,7 +5,7 @@ use Rattle.stk_host.proofs.conversation.read_step.Goals as goal
 
 pub append-requires : goal.append-requires
 append-requires g c = rw c.data_read.ensures
-    (rw (counted_data _ _ c.requires.brings.counted c.in_ok-step.ensures.sized) c.requires.room)
+    (rw (counted_data _ _ c.requires.sized.counted c.in_ok-step.ensures.sized) c.requires.room)
 
 pub returns-in_err-step-clause-asks : goal.returns-in_err-step-clause-asks
 returns-in_err-step-clause-asks g c = record {
@@ -28,5 +28,5 @@ returns-clause-size g c = rw (
   c.append.ensures.items,
   c.data_read.ensures,
   length-append,
-  counted_data _ _ c.requires.brings.counted c.in_ok-step.ensures.sized,
+  counted_data _ _ c.requires.sized.counted c.in_ok-step.ensures.sized,
 ) refl

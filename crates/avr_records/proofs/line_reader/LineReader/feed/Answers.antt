@@ -1,7 +1,7 @@
-use Rattle.std.proofs.Common.{◌≡◌, ◌+◌, ◌∙◌, ap, arith, ◌∷◌, length}
+use Rattle.std.proofs.Common.{◌≡◌, ◌+◌, ◌∙◌, ap, arith, refl, ◌∷◌, length}
 use Rattle.std.proofs.lemmas.List.{length-append}
 use Rattle.std.proofs.lemmas.Result.{err_from_is_err_and}
-use Rattle.avr_records.proofs.Readers.Fed.{carries-next, carries-fault, carries-last}
+use Rattle.avr_records.proofs.Readers.Fed.{carries-start, carries-next, carries-fault, carries-last}
 use Rattle.avr_records.proofs.line_reader.LineReader.feed.Goals as goal
 
 pub returns-in_err-end_line-clause-fault : goal.returns-in_err-end_line-clause-fault
@@ -11,6 +11,16 @@ returns-in_err-end_line-clause-fault c =
     let step = rw kept.kind at c.in_err-end_line.ensures.step in
     rw (p.1, p.2) (λ text r. carries-fault _ _ _ _ _ _ _ _ kept.carries c.in-Some.ensures.0 c.in-Some.ensures.1 step
     kept.size text r)
+
+pub loop-line-init : goal.loop-line-init
+loop-line-init c = record {
+  kind = refl;
+  size = refl;
+  range = c.requires.range;
+  room = c.requires.few;
+  count = omega arith;
+  carries = carries-start _ _ _;
+}
 
 pub loop-line-preserved : goal.loop-line-preserved
 loop-line-preserved c =

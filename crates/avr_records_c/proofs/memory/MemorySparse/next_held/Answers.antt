@@ -9,5 +9,5 @@ overflow_cast-result c =
     let present : List ℕ = c.self.inside.present.now in
     let bytes : List ℕ = c.self.inside.bytes.now in
     let found = next_held (image_of present bytes) c.args.addr c.in-Some.place
-    (sym c.next_there.ensures ∙ c.in-Some.is) in
+    (sym c.next_there.ensures.next ∙ c.in-Some.is) in
     omega (arith, found.within, length-image 0 present bytes, c.self.invariant.below)

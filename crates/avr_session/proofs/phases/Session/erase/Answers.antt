@@ -1,31 +1,24 @@
-use Rattle.std.proofs.Common.{false, []}
+use Rattle.std.proofs.Common.{false, [], refl}
 use Rattle.stk_host.specs.Operations.{erasing}
 use Rattle.avr_session.specs.Actions.{EraseChip}
+use Rattle.avr_session.specs.Lines.{fault_line}
 use Rattle.avr_session.specs.Session.{erased_says}
-use Rattle.avr_session.specs.Runs.{PrintStops}
 use Rattle.avr_session.proofs.PhaseByPhase.Operations.{call_ended, erasing_lacks_none, told_of}
 use Rattle.avr_session.proofs.PhaseByPhase.Sequences.{does_one, operation_performs, print_stops_report}
-use Rattle.avr_session.specs.Lines.{fault_line}
 use Rattle.avr_session.proofs.Runs.Outcomes.{last_line, told_by}
 use Rattle.avr_session.proofs.phases.Session.erase.Goals as goal
 
 pub returns-clause-performs : goal.returns-clause-performs
 returns-clause-performs g c =
     let part = c.args.self.now.plan.now.part in
-    let s = c.args.self.now.plan.now.switches in
-    let reports = rw (c.part.ensures, c.switches.ensures) at c.report_erased-reported.ensures.reports in
-    does_one c.args.self.now.plan.now EraseChip (operation_performs false erasing (erased_says s.quiet part)
-    c.erase-erased.result c.report_erased-reported.result c.conclude.result PrintStops
-    (print_stops_report _ _ reports)
-    c.requires.sound c.erase-erased.ensures.calls (call_ended erasing _ _ _ c.erase-erased.result _ erasing_lacks_none)
-    reports
-    (told_of _ _ part _ c.erase-erased.result c.report_erased-reported.result reports) c.conclude.ensures)
+    let says = erased_says c.args.self.now.plan.now.switches.quiet part in
+    let reports = c.report_erased-reported.ensures.reports in
+    does_one c.args.self.now.plan.now EraseChip (operation_performs false erasing says reports
+    (print_stops_report _ _ reports) (told_of part says (λ stop. refl) reports) c.requires.sound
+    c.erase-erased.ensures.calls (call_ended erasing _ _ _ _ _ erasing_lacks_none) c.conclude.ensures)
 
 pub returns-clause-told : goal.returns-clause-told
 returns-clause-told g c =
     let part = c.args.self.now.plan.now.part in
-    let s = c.args.self.now.plan.now.switches in
-    let reports = rw (c.part.ensures, c.switches.ensures) at c.report_erased-reported.ensures.reports in
-    told_by part (erased_says s.quiet part) PrintStops _ _ c.erase-erased.result c.report_erased-reported.result
-    c.conclude.result _ (λ fault r. last_line [] (fault_line part fault) r) reports c.conclude.ensures
-    c.fault_of-self.ensures
+    told_by part (erased_says c.args.self.now.plan.now.switches.quiet part)
+    (λ fault r. last_line [] (fault_line part fault) r) c.report_erased-reported.ensures.reports c.conclude.ensures

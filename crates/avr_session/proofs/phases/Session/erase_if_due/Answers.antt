@@ -35,4 +35,5 @@ returns-clause-performs g c =
 
 pub returns-then-switches-2-clause-told : goal.returns-then-switches-2-clause-told
 returns-then-switches-2-clause-told g c =
-    left_out_told _ _ _ c.leave_out_erase.result c.leave_out_erase.ensures.leaves_out
+    left_out_told c.args.self.now.plan.now.part (g.D.Desk.view c.leave_out_erase.new.desk) c.leave_out_erase.result
+    c.leave_out_erase.ensures.leaves_out

@@ -1,21 +1,25 @@
-use Rattle.std.proofs.Common.{false}
-use Rattle.std.proofs.lemmas.Result.{err_from_is_err_and}
-use Rattle.avr_session.specs.Actions.{actions, takes_memory}
 use Rattle.avr_session.specs.Session.{ending}
-use Rattle.avr_session.proofs.PhaseByPhase.FaultsTold.{phases_foretells}
-use Rattle.avr_session.proofs.PhaseByPhase.Sequences.{performs_on, performs_until}
+use Rattle.avr_session.specs.Standing.{Fine, Faulty, Over}
+use Rattle.avr_session.proofs.PhaseByPhase.Sequences.{ends_so, nothing_performs, performs_until}
 use Rattle.avr_session.proofs.phases.Session.play.Goals as goal
 
-pub returns-clause-performs : goal.returns-clause-performs
-returns-clause-performs g c =
-    let plan = c.args.self.now.plan.now in
-    performs_on (takes_memory plan) _ c.in_ok-standing.ensures.performs false (ending plan.part plan.switches)
-    c.end.result (λ e. absurd (cc)) (phases_foretells plan.part plan.switches (actions plan))
-    (λ during shown never. let e = never.0 in absurd (cc))
-    (rw c.in_ok-standing.ensures.keeps.plan at c.end.ensures.performs)
+pub returns-in-Ok-clause-performs : goal.returns-in-Ok-clause-performs
+returns-in-Ok-clause-performs g c =
+    ends_so c.args.self.now.plan.now Fine _ (rw c.in-Ok.is at c.work.ensures.performs)
+    (rw c.work.ensures.keeps.plan at c.close.ensures.performs)
 
-pub returns-in_err-standing-clause-performs : goal.returns-in_err-standing-clause-performs
-returns-in_err-standing-clause-performs g c =
-    let p = err_from_is_err_and c.from_residual.result c.from_residual.ensures.1 in
-    rw p.1 (performs_until (ending c.args.self.now.plan.now.part c.args.self.now.plan.now.switches) p.0
-    c.in_err-standing.ensures.performs)
+pub returns-in-Err-Faulty-clause-performs : goal.returns-in-Err-Faulty-clause-performs
+returns-in-Err-Faulty-clause-performs g c =
+    ends_so c.args.self.now.plan.now Faulty _
+    (rw (c.in-Err-Faulty.is, c.in-Err-Faulty.field-0-is) at c.work.ensures.performs)
+    c.leave.ensures.performs
+
+pub returns-in-Err-Over-clause-performs : goal.returns-in-Err-Over-clause-performs
+returns-in-Err-Over-clause-performs g c =
+    ends_so c.args.self.now.plan.now Over _
+    (rw (c.in-Err-Over.is, c.in-Err-Over.field-0-is) at c.work.ensures.performs) (nothing_performs Over _ _ tt)
+
+pub returns-in-Err-Stopped-clause-performs : goal.returns-in-Err-Stopped-clause-performs
+returns-in-Err-Stopped-clause-performs g c =
+    performs_until (ending c.args.self.now.plan.now.part c.args.self.now.plan.now.switches) tt
+    (rw (c.in-Err-Stopped.is, c.in-Err-Stopped.field-0-is) at c.work.ensures.performs)

@@ -3,7 +3,6 @@ use Rattle.stk_host.specs.Operations.{reading}
 use Rattle.stk_host.specs.Calls.{given_or_fault}
 use Rattle.avr_session.specs.Actions.{SaveMemory}
 use Rattle.avr_session.specs.Session.{fault_or, read_says}
-use Rattle.avr_session.specs.Runs.{ReadStops}
 use Rattle.avr_session.proofs.PhaseByPhase.FaultsTold.{read_none}
 use Rattle.avr_session.proofs.PhaseByPhase.Operations.{lack_ended}
 use Rattle.avr_session.proofs.PhaseByPhase.Sequences.{does_one, operation_performs, given_concluded, given_told, read_stops_report}
@@ -22,18 +21,15 @@ returns-clause-performs g c =
     let file = c.args.target.file.now in
     let items = c.read-outcome.new.out.items in
     let outcome = given_or_fault items c.read-outcome.result in
-    let told = c.report_read-reported.result in
     let operation = reading part c.args.mem in
     let good = read_says s c.args.mem format file in
     let reports = rw c.as_slice.ensures.value at c.report_read-reported.ensures.reports in
     does_one c.args.self.now.plan.now (SaveMemory c.args.mem format file)
-    (operation_performs true operation (fault_or part good) outcome told c.conclude.result
-    (ReadStops c.read-outcome.result) (read_stops_report part good items (read_none s c.args.mem format file items)
-    c.read-outcome.result _ _ reports)
-    c.requires.sound c.read-outcome.ensures.calls
-    (λ ends. lack_ended operation _ _ _ outcome _ (rw c.requires.part at ends)) reports
-    (given_told items good _ _ part c.read-outcome.result told reports)
-    (c.conclude.ensures ∙ sym (given_concluded items c.read-outcome.result told)))
+    (operation_performs true operation (fault_or part good) reports
+    (read_stops_report part good items (read_none s c.args.mem format file items) c.read-outcome.result _ _ reports)
+    (given_told items good part c.read-outcome.result reports) c.requires.sound c.read-outcome.ensures.calls
+    (λ ends. lack_ended operation _ _ _ outcome _ (rw c.requires.part at ends))
+    (c.conclude.ensures ∙ sym (given_concluded items c.read-outcome.result c.report_read-reported.result)))
 
 pub returns-clause-told : goal.returns-clause-told
 returns-clause-told g c =
@@ -42,6 +38,5 @@ returns-clause-told g c =
     let items = c.read-outcome.new.out.items in
     let good = read_says s c.args.mem c.args.target.format c.args.target.file.now in
     let reports = rw c.as_slice.ensures.value at c.report_read-reported.ensures.reports in
-    told_by part (λ outcome. fault_or part good (given_or_fault items outcome)) (ReadStops c.read-outcome.result) _ _
-    c.read-outcome.result c.report_read-reported.result c.conclude.result _
-    (λ fault r. last_line [] (fault_line part fault) r) reports c.conclude.ensures c.fault_of-self.ensures
+    told_by part (λ outcome. fault_or part good (given_or_fault items outcome))
+    (λ fault r. last_line [] (fault_line part fault) r) reports c.conclude.ensures

@@ -1,4 +1,4 @@
-use Rattle.std.proofs.Common.{◌≡◌, ◌++◌, refl, false, [], ◌∷◌, Ok, Err}
+use Rattle.std.proofs.Common.{◌≡◌, ◌++◌, refl, false, [], ◌∷◌}
 use Rattle.std.proofs.lemmas.Result.{err_from_is_err_and}
 use Rattle.avr_session.specs.Actions.{TheWrite, WriteImage, LeaveOut, read_back_actions, write_actions}
 use Rattle.avr_session.specs.Session.{left_out_says}
@@ -16,38 +16,29 @@ returns-then-switches-clause-performs g c =
     (left_out_performs false (left_out_says s.quiet what) c.leave_out_write.result
     c.requires.sound c.leave_out_write.ensures.leaves_out))
 
-pub returns-in_err-fault-clause-performs : goal.returns-in_err-fault-clause-performs
-returns-in_err-fault-clause-performs g c =
+pub returns-in_err-write-clause-performs : goal.returns-in_err-write-clause-performs
+returns-in_err-write-clause-performs g c =
     let p = err_from_is_err_and c.from_residual.result c.from_residual.ensures.1 in
     let is_not_dry = rw c.switches.ensures at c.if-switches.false in
     let write = WriteImage c.args.mem c.args.image.now ∷ [] in
     let more = read_back_actions c.args.self.now.plan.now.switches c.args.mem c.args.image.now in
     let due : write ++ more ≡ write_actions c.args.self.now.plan.now.switches c.args.mem c.args.image.now =
     rw is_not_dry refl in
-    rw p.1 (does_same c.args.self.now.plan.now _ _ due
-    (does_last c.args.self.now.plan.now write more (Err p.0) (λ e. cc) c.in_err-fault.ensures.performs))
+    rw (p.1, p.2) (does_same c.args.self.now.plan.now _ _ due
+    (does_last c.args.self.now.plan.now write more _ c.in_err-write.ensures.performs))
 
-pub returns-in-Fine-clause-performs : goal.returns-in-Fine-clause-performs
-returns-in-Fine-clause-performs g c =
+pub returns-clause-performs : goal.returns-clause-performs
+returns-clause-performs g c =
     let is_not_dry = rw c.switches.ensures at c.if-switches.false in
     let write = WriteImage c.args.mem c.args.image.now ∷ [] in
     let more = read_back_actions c.args.self.now.plan.now.switches c.args.mem c.args.image.now in
     let due : write ++ more ≡ write_actions c.args.self.now.plan.now.switches c.args.mem c.args.image.now =
     rw is_not_dry refl in
-    does_same c.args.self.now.plan.now _ _ due (does_then c.args.self.now.plan.now write more c.read_back.result
-    (rw c.in-Fine.is at c.in_ok-fault.ensures.performs)
-    (rw c.in_ok-fault.ensures.keeps.plan at c.read_back.ensures.performs))
-
-pub returns-in_default-clause-performs : goal.returns-in_default-clause-performs
-returns-in_default-clause-performs g c =
-    let is_not_dry = rw c.switches.ensures at c.if-switches.false in
-    let write = WriteImage c.args.mem c.args.image.now ∷ [] in
-    let more = read_back_actions c.args.self.now.plan.now.switches c.args.mem c.args.image.now in
-    let due : write ++ more ≡ write_actions c.args.self.now.plan.now.switches c.args.mem c.args.image.now =
-    rw is_not_dry refl in
-    does_same c.args.self.now.plan.now _ _ due (does_last c.args.self.now.plan.now write more (Ok c.in_ok-fault.fault)
-    (λ e. c.in_default.not-Fine cc) c.in_ok-fault.ensures.performs)
+    does_same c.args.self.now.plan.now _ _ due (does_then c.args.self.now.plan.now write more _
+    c.in_ok-write.ensures.performs
+    (rw c.in_ok-write.ensures.keeps.plan at c.read_back.ensures.performs))
 
 pub returns-then-switches-clause-told : goal.returns-then-switches-clause-told
-returns-then-switches-clause-told g c = left_out_told _ _ _ c.leave_out_write.result
+returns-then-switches-clause-told g c = left_out_told
+    c.args.self.now.plan.now.part (g.D.Desk.view c.leave_out_write.new.desk) c.leave_out_write.result
     c.leave_out_write.ensures.leaves_out

@@ -7,7 +7,7 @@ pub returns-clause-answers : goal.returns-clause-answers
 returns-clause-answers c =
     rw (← c.self.view_is)
     (appends_one _ _ _ c.feed-used.new.out.items c.self.inside.waits.items _ c.feed-used.ensures.one
-    (c.push_all.ensures
+    (c.append.ensures
     ∙ (ap (λ o. o ++ c.as_slice.result.now) c.reserve.ensures.items
     ∙ ap (λ o. c.self.inside.waits.items ++ o) c.as_slice.ensures.value)))
 

@@ -13,7 +13,7 @@ loop-tried-init g c = record {
 
 pub returns-in-Ok-Data-clause-asks : goal.returns-in-Ok-Data-clause-asks
 returns-in-Ok-Data-clause-asks g c = record {
-  played = try_data {k = 4 - c.loop-tried.tried} (4 - (c.loop-tried.tried + 1)) _ _ (omega arith)
+  played = try_data {k = 4 - c.loop-tried._tried} (4 - (c.loop-tried._tried + 1)) _ _ (omega arith)
       c.loop-tried.invariant.reaches c.in-Ok-Data.ensures.replies.ok c.in-Ok-Data.field-0-is;
   counted = search rules;
   bound = search rules;
@@ -21,7 +21,7 @@ returns-in-Ok-Data-clause-asks g c = record {
 
 pub returns-in-Ok-Stop-clause-asks : goal.returns-in-Ok-Stop-clause-asks
 returns-in-Ok-Stop-clause-asks g c = record {
-  played = try_stop {k = 4 - c.loop-tried.tried} (4 - (c.loop-tried.tried + 1)) _ _ (omega arith)
+  played = try_stop {k = 4 - c.loop-tried._tried} (4 - (c.loop-tried._tried + 1)) _ _ (omega arith)
       c.loop-tried.invariant.reaches _ c.in-Ok-Stop.ensures.replies.ok c.in-Ok-Stop.field-0-is;
   counted = search rules;
   bound = search rules;
@@ -29,7 +29,7 @@ returns-in-Ok-Stop-clause-asks g c = record {
 
 pub returns-in-Err-clause-asks : goal.returns-in-Err-clause-asks
 returns-in-Err-clause-asks g c = record {
-  played = try_breaks {k = 4 - c.loop-tried.tried} (4 - (c.loop-tried.tried + 1)) _ _ (omega arith)
+  played = try_breaks {k = 4 - c.loop-tried._tried} (4 - (c.loop-tried._tried + 1)) _ _ (omega arith)
       c.loop-tried.invariant.reaches c.in-Err.ensures.replies.err;
   counted = search rules;
   bound = search rules;
@@ -37,7 +37,7 @@ returns-in-Err-clause-asks g c = record {
 
 pub loop-tried-preserved : goal.loop-tried-preserved
 loop-tried-preserved g c = record {
-  reaches = try_again {k = 4 - c.loop-tried.tried} (4 - (c.loop-tried.tried + 1)) _ _ (omega arith)
+  reaches = try_again {k = 4 - c.loop-tried._tried} (4 - (c.loop-tried._tried + 1)) _ _ (omega arith)
       c.loop-tried.invariant.reaches _ c.in-Ok-Again.ensures.replies.ok c.in-Ok-Again.field-0-is;
   bound = λ some. c.attempt.ensures.replies.bound;
   counted = omega (arith, c.in-Ok-Again.ensures.replies.counts.sound, c.loop-tried.invariant.counted);
@@ -46,7 +46,7 @@ loop-tried-preserved g c = record {
 
 pub returns-clause-asks : goal.returns-clause-asks
 returns-clause-asks g c = record {
-  played = try_end (4 - c.loop-tried.tried) _ _ c.loop-tried.invariant.reaches (omega arith);
+  played = try_end (4 - c.loop-tried._tried) _ _ c.loop-tried.invariant.reaches (omega arith);
   counted = search rules;
   bound = search rules;
 }

@@ -9,7 +9,7 @@ returns-in-Ok-clause-comes g c = λ start since.
       reader = c.hear_bytes.new.reader;
       writer = c.self.inside.writer;
       failures = c.self.inside.failures;
-      error = c.self.inside.error;
+      last_error = c.self.inside.last_error;
       talk = c.heard-self-inside.result.items;
     } in
     true_on g.R.Read.remaining g.W.Write.contents start c.args.self.now after since

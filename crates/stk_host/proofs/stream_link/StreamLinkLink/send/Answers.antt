@@ -9,7 +9,7 @@ returns-in-Ok-clause-comes g c = λ start since.
       reader = c.self.inside.reader;
       writer = c.put_bytes.new.writer;
       failures = c.self.inside.failures;
-      error = c.self.inside.error;
+      last_error = c.self.inside.last_error;
       talk = c.sent-self-inside.result.items;
     } in
     let bytes = take c.in-Ok.count c.args.bytes.now in

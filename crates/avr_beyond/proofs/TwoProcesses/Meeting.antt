@@ -1,0 +1,192 @@
+-- A host that plays a dialog, and a server, at the two ends of a line that keeps their bytes in order.
+use Rattle.std.proofs.Common.{◌≡◌, ℕ, ◌≤◌, List, [], ◌∷◌, ◌++◌, length, refl, sym, ap, ◌∙◌, subst, append_assoc, arith, Some, None, inl, inr}
+use Rattle.std.proofs.lemmas.Bool.{cases_Bool, cond-true, cond-false}
+use Rattle.std.proofs.lemmas.List.{append-nil}
+use Rattle.std.proofs.lemmas.List.Elements.{filter-append}
+use Rattle.std.specs.List.{concat}
+use Rattle.std.specs.Prelude.{filter}
+use Rattle.stk_frame.specs.Cut.{cut, rest, frames, is_frame, is_good, seq_of, body_of}
+use Rattle.stk_frame.proofs.Cuts.{cut_append}
+use Rattle.stk_frame.proofs.Laws.{frame_is_piece, length_frame}
+use Rattle.stk_host.specs.Dialog.{Dialog, Event, played, frames_in, bytes_sent}
+use Rattle.stk_host.specs.Play.{IsPrefixOf}
+use Rattle.stk_host.specs.Talk.{Talk, sent, heard}
+use Rattle.stk_host.specs.Tape.{Tape, bytes_of}
+use Rattle.stk_emu.specs.Along.{AsksBodies}
+use Rattle.avr_course.specs.AnyTape.{AreHonest, after_sent}
+use Rattle.stk_emu.specs.Device.{device, refusal, answer_body, answer_frame, after_frame, after_frames, answers}
+use Rattle.stk_emu.specs.Emulator.{Machine}
+use Rattle.stk_emu.specs.Lawful.{IsBody}
+use Rattle.stk_emu.specs.Programmer.{Programmer}
+use Rattle.stk_emu.proofs.Answers.Texts.{answers_more}
+use Rattle.stk_emu.proofs.Answers.BodySizes.{answers_bodies, obey_body}
+use Rattle.avr_course.proofs.Lines.InTurn.{sends_whole, frames_prefix}
+use Rattle.avr_emulator.specs.Serving.{HasNoEnd, AnswersAll, BreaksOff, ServingLeaves}
+use Rattle.avr_emulator.specs.declared.serving.Served.{Served}
+use Rattle.avr_emulator.specs.declared.serving.Served.TheVariants.{Ended, RecvFailed, SendFailed, TooManyReads}
+use Rattle.avr_beyond.specs.TwoProcesses.{IsJoined, IsPrompt, StallsBetweenAnswers, HasServed, obeyed}
+use Rattle.avr_beyond.proofs.TwoProcesses.InOrder.{MissesFew, first_of, answer_list, Brings, in_order_honest, in_order_ends, answers_joined, after_first}
+use Rattle.avr_beyond.proofs.TwoProcesses.NeverSilent.{Straight, goes_straight}
+use Rattle.avr_beyond.proofs.TwoProcesses.AnswerParts.{IsShort, AreShort, InSlots, parted}
+
+first_prefix : (xs ys : List (List ℕ)) → first_of (length xs) (xs ++ ys) ≡ xs
+first_prefix [] ys = refl
+first_prefix (x ∷ xs) ys = ap (λ zs. x ∷ zs) (first_prefix xs ys)
+
+-- each answer is a frame
+body_answered : (piece : List ℕ) (p : Programmer) → IsBody (answer_body device piece p)
+body_answered piece p = elim (cases_Bool (is_good piece)) [
+  | inl good ↦ subst IsBody (sym (cond-true (is_good piece) (device.answer (body_of piece) p) refusal good))
+      (obey_body (body_of piece) p)
+  | inr bad ↦ subst IsBody (sym (cond-false (is_good piece) (device.answer (body_of piece) p) refusal bad))
+      (record { some = omega arith; few = omega arith })
+]
+
+answer_short : (piece : List ℕ) (p : Programmer) → IsShort (answer_frame device piece p)
+answer_short piece p =
+    let b = body_answered piece p in
+    let few = b.few in
+    record {
+      whole = frame_is_piece (seq_of piece) (answer_body device piece p) b.some b.few;
+      few = rw (length_frame (seq_of piece) (answer_body device piece p)) (omega (arith, few));
+    }
+
+answers_short : (pieces : List (List ℕ)) (p : Programmer) → AreShort (answer_list device pieces p)
+answers_short [] p = tt
+answers_short (piece ∷ pieces) p = (answer_short piece p, answers_short pieces (after_frame device piece p))
+
+-- ---- the server's end
+
+pub all_served : (p : Programmer) (talk : Talk) (left : Machine)
+    → AnswersAll p [] (bytes_of (heard talk)) (sent talk) left → HasServed p talk left.programmer
+all_served p talk left all = record {
+  used = bytes_of (heard talk);
+  unused = [];
+  heard_is = append-nil (bytes_of (heard talk));
+  unsent = [];
+  sent_is = append-nil (sent talk) ∙ sym all.answered;
+  left_is = all.fed.obeyed;
+}
+
+broken_served : (p : Programmer) (talk : Talk) (left : Machine)
+    → BreaksOff p [] (bytes_of (heard talk)) (sent talk) left → HasServed p talk left.programmer
+broken_served p talk left b = record {
+  used = b.used;
+  unused = b.unused;
+  heard_is = sym b.bytes_are;
+  unsent = b.unsent;
+  sent_is =
+      ap (λ bs. bs ++ b.unsent) b.sent_is
+      ∙ (append_assoc (answers device b.earlier p) b.part b.unsent
+      ∙ (ap (λ bs. answers device b.earlier p ++ bs)
+      (sym b.answer_is ∙ sym (append-nil (answer_frame device b.last (after_frames device b.earlier p))))
+      ∙ (sym (answers_more device b.earlier (b.last ∷ []) p) ∙ ap (λ fs. answers device fs p) (sym b.frames_are))));
+  left_is = b.fed.obeyed;
+}
+
+pub has_served : (served : Served) (p : Programmer) (talk : Talk) (left : Machine) → ServingLeaves served p [] talk left
+    → HasServed p talk left.programmer
+has_served Ended p talk left l = all_served p talk left l
+has_served RecvFailed p talk left l = all_served p talk left l
+has_served SendFailed p talk left l = broken_served p talk left l.1
+has_served TooManyReads p talk left l = all_served p talk left l
+
+-- ---- both ends
+
+-- the frames of some bytes come first among those of more
+frames_more : (used more : List ℕ) → frames (used ++ more) ≡ frames used ++ filter is_frame (cut (rest used ++ more))
+frames_more used more = ap (filter is_frame) (cut_append used more)
+    ∙ filter-append is_frame (cut used) (cut (rest used ++ more))
+
+-- of the frames that were sent those were obeyed that the server took, and so it stands
+pub meet_sent : (p left : Programmer) (host server : Talk) (serves : HasServed p server left) → IsJoined host server
+    → after_sent device (frames (sent host)) (obeyed (length (frames serves.used))) p ≡ left
+meet_sent p left host server serves joined =
+    let arrived = length (frames serves.used) in
+    let more = serves.unused ++ joined.up.0 in
+    let all : serves.used ++ more ≡ sent host =
+    sym (append_assoc serves.used serves.unused joined.up.0)
+    ∙ (ap (λ bs. bs ++ joined.up.0) serves.heard_is ∙ joined.up.1) in
+    let others = filter is_frame (cut (rest serves.used ++ more)) in
+    let first : first_of arrived (frames (sent host)) ≡ frames serves.used =
+    ap (λ bs. first_of arrived (frames bs)) (sym all)
+    ∙ (ap (first_of arrived) (frames_more serves.used more) ∙ first_prefix (frames serves.used) others) in
+    sym (after_first device answers_bodies arrived (frames (sent host)) p)
+    ∙ (ap (λ fs. after_frames device fs p) first ∙ sym serves.left_is)
+
+module _ {E R : Type 0} (d : Dialog E R) (asks : AsksBodies d) (p left : Programmer) (host server : Talk)
+    (serves : HasServed p server left) (joined : IsJoined host server)
+    (plays : IsPrefixOf (sent host) (bytes_sent (played d 1 (heard host)).events)) where
+  abbrev events : List (Event E)
+  events = (played d 1 (heard host)).events
+
+  abbrev arrived : ℕ
+  arrived = length (frames serves.used)
+
+  abbrev given : List (List ℕ)
+  given = answer_list device (frames serves.used) p
+
+  prefix : serves.used ++ (serves.unused ++ (joined.up.0 ++ plays.0)) ≡ bytes_sent events
+  prefix =
+      sym (append_assoc serves.used serves.unused (joined.up.0 ++ plays.0))
+      ∙ (ap (λ bs. bs ++ (joined.up.0 ++ plays.0)) serves.heard_is
+      ∙ (sym (append_assoc (bytes_of (heard server)) joined.up.0 plays.0)
+      ∙ (ap (λ bs. bs ++ plays.0) joined.up.1 ∙ plays.1)))
+
+  some_frames : (others : List (List ℕ)) × (frames_in events ≡ frames serves.used ++ others)
+  some_frames = frames_prefix events serves.used (serves.unused ++ (joined.up.0 ++ plays.0))
+      (sends_whole d 1 (heard host) asks) prefix
+
+  arrived_are : first_of arrived (frames_in events) ≡ frames serves.used
+  arrived_are = ap (first_of arrived) some_frames.1 ∙ first_prefix (frames serves.used) some_frames.0
+
+  -- so the server stands
+  pub meet_leaves : after_sent device (frames_in events) (obeyed arrived) p ≡ left
+  meet_leaves = sym (after_first device answers_bodies arrived (frames_in events) p)
+      ∙ (ap (λ fs. after_frames device fs p) arrived_are ∙ sym serves.left_is)
+
+  -- where it stalls between answers alone
+  module _ (few : MissesFew 8 d) (endless : HasNoEnd (heard host)) (stalls : StallsBetweenAnswers (heard host)) where
+    abbrev unheard : List ℕ
+    unheard = joined.down.0 ++ serves.unsent
+
+    heard_are : bytes_of (heard host) ++ unheard ≡ concat given
+    heard_are =
+        sym (append_assoc (bytes_of (heard host)) joined.down.0 serves.unsent)
+        ∙ (ap (λ bs. bs ++ serves.unsent) joined.down.1
+        ∙ (serves.sent_is ∙ answers_joined device answers_bodies (frames serves.used) p))
+
+    slots : InSlots [] (heard host) given unheard
+    slots = parted [] (heard host) given unheard (omega arith) (answers_short (frames serves.used) p) endless stalls
+        heard_are
+
+    brings : Brings device d 1 (heard host) p arrived 8 slots.more
+    brings = record {
+      slots = slots.slots;
+      last = slots.last;
+      stub = slots.stub;
+      tape_is = slots.tape_is;
+      missed = 0;
+      count = refl;
+      old = [];
+      are_old = tt;
+      few = omega arith;
+      comes = slots.pieces_are ∙ ap (λ fs. answer_list device fs p) (sym arrived_are);
+    }
+
+    -- what the host reads is honest, by what arrived
+    pub meet_honest : AreHonest device d 1 (heard host) p (obeyed arrived)
+    meet_honest = in_order_honest device answers_bodies d 1 (heard host) p arrived 8 slots.more brings few asks
+
+    -- where all was heard, the host doesn't wait
+    pub meet_ends : unheard ≡ [] → length (frames_in events) ≤ arrived → (played d 1 (heard host)).outcome ≡ None → ⊥
+    meet_ends none all waits =
+        in_order_ends device answers_bodies d 1 (heard host) p arrived 8
+        (subst (λ more. Brings device d 1 (heard host) p arrived 8 more) (slots.complete none) brings) few asks all
+        waits
+
+    -- on a line that is never silent it goes straight
+    pub meet_straight : IsPrompt (heard host) → (r : R) (seq : ℕ) (unread : Tape)
+        → (played d 1 (heard host)).outcome ≡ Some (r, seq, unread) → Straight device d 1 (heard host) p arrived r
+    meet_straight prompt r seq unread e = goes_straight device answers_bodies d 1 (heard host) p arrived 8 slots.more
+        brings few asks prompt r seq unread e

@@ -1,0 +1,472 @@
+-- A session and a server over a line that cuts nothing and is never silent: for every dialog there is such a run.
+use Rattle.std.proofs.Common.{◌≡◌, ◌∙◌, ap, subst, sym, refl, arith, ℕ, ◌≤◌, length, List, [], ◌∷◌, ◌++◌, append_assoc, append-nil, Some, None, inl}
+use Rattle.std.proofs.lemmas.Bool.{and_from, eq-eqb, cond-true, and_parts}
+use Rattle.std.proofs.lemmas.List.Elements.{filter-append}
+use Rattle.std.specs.Prelude.{filter}
+use Rattle.avr_desk.specs.Record.{Bytes, DeskView, nothing_kept, showing, with_replaced}
+use Rattle.avr_desk.specs.Said.{after_all}
+use Rattle.avr_part.specs.ChipFile.{chip_file}
+use Rattle.avr_part.specs.State as chips
+use Rattle.avr_plan.specs.Plan.{Plan}
+use Rattle.avr_session.specs.Runs.{Ran, devices, start}
+use Rattle.avr_session.specs.Session.{session}
+use Rattle.stk_frame.specs.Frame.{frame}
+use Rattle.stk_frame.specs.Cut.{cut, frames, is_frame, rest}
+use Rattle.stk_frame.proofs.Cuts.{cut_append, rest_append}
+use Rattle.stk_frame.proofs.FedReaders.{cut_whole, rest_whole}
+use Rattle.stk_frame.proofs.Laws.{body_of_frame, frame_is_good, frame_is_piece, length_frame}
+use Rattle.stk_host.specs.Dialog.{Dialog, Done, Say, Ask, Event, Frame, Said, behind, by_answer, bytes_sent, next, played, sayings}
+use Rattle.stk_host.specs.Play.{IsPrefixOf, TurnsFrom}
+use Rattle.stk_host.specs.Talk.{LinkView, Talk, Sent, Got, heard, sent}
+use Rattle.stk_host.specs.Tape.{Tape, Answered, Reading, answer, bytes_of, first_answer, is_answer, limit, on_tape}
+use Rattle.stk_host.specs.declared.link.Item.TheVariants.{End}
+use Rattle.stk_host.proofs.Talks.InDialogs.{bytes_append}
+use Rattle.stk_host.proofs.Tapes.Answers.{answer_found, answer_waits, bytes_of_append, bytes_of_on_tape}
+use Rattle.stk_emu.proofs.Answers.Texts.{after_more, answers_more}
+use Rattle.stk_emu.proofs.Answers.BodySizes.{answers_bodies}
+use Rattle.stk_emu.specs.Along.{AsksBodies}
+use Rattle.stk_emu.specs.Device.{after_frame, after_frames, answer_frame, answers, device}
+use Rattle.stk_emu.specs.Emulator.{Machine, IsFed, emulate}
+use Rattle.stk_emu.specs.Lawful.{IsBody}
+use Rattle.stk_emu.specs.Programmer.{Programmer, fresh_programmer}
+use Rattle.avr_emulator.specs.Serving.{AnswersAll, AnswersInTurn, HasNoEnd, reads}
+use Rattle.avr_emulator.specs.ServedRun.{ServesChip, fresh_machine}
+use Rattle.avr_emulator.specs.declared.serving.Served.TheVariants.{Ended}
+use Rattle.avr_beyond.proofs.TwoProcesses.InOrder.{after_is, answer_is}
+use Rattle.avr_beyond.specs.TwoProcesses.{Call, HostSays, HostHears, ServerSays, ServerHears, HasRun, IsOrdered, IsPrompt, of_host, of_server}
+
+-- each frame is heard and answered at once, and at the end the server hears that of the line
+abbrev asking : List ℕ → List ℕ → List Call → List Call
+asking question reply later = HostSays question ∷ ServerHears (on_tape question) ∷ ServerSays reply
+    ∷ HostHears (on_tape reply) ∷ later
+
+abbrev pub calls_of : {E R : Type 0} → Dialog E R → ℕ → Programmer → List Call
+calls_of (Done r) n p = ServerHears (End ∷ []) ∷ []
+calls_of (Say e d) n p = calls_of d n p
+calls_of (Ask bytes go_on) n p =
+    asking (frame n bytes) (frame n (device.answer bytes p))
+    (calls_of (go_on (Answered (device.answer bytes p))) (next n) (device.after bytes p))
+
+-- ---- the line
+
+-- at each moment what an end has heard is a prefix of what the other has sent
+abbrev Joined : List ℕ → List ℕ → List ℕ → List ℕ → Type 0
+Joined said_up heard_up said_down heard_down = IsPrefixOf heard_up said_up × IsPrefixOf heard_down said_down
+
+abbrev JoinedFrom : List ℕ → List ℕ → List ℕ → List ℕ → List Call → Type 0
+JoinedFrom said_up heard_up said_down heard_down [] = Joined said_up heard_up said_down heard_down
+JoinedFrom said_up heard_up said_down heard_down (HostSays bytes ∷ calls) =
+    Joined said_up heard_up said_down heard_down × JoinedFrom (said_up ++ bytes) heard_up said_down heard_down calls
+JoinedFrom said_up heard_up said_down heard_down (HostHears items ∷ calls) =
+    Joined said_up heard_up said_down heard_down
+    × JoinedFrom said_up heard_up said_down (heard_down ++ bytes_of items) calls
+JoinedFrom said_up heard_up said_down heard_down (ServerSays bytes ∷ calls) =
+    Joined said_up heard_up said_down heard_down × JoinedFrom said_up heard_up (said_down ++ bytes) heard_down calls
+JoinedFrom said_up heard_up said_down heard_down (ServerHears items ∷ calls) =
+    Joined said_up heard_up said_down heard_down
+    × JoinedFrom said_up (heard_up ++ bytes_of items) said_down heard_down calls
+
+joined_now : (a b c d : List ℕ) (calls : List Call) → JoinedFrom a b c d calls → Joined a b c d
+joined_now a b c d [] j = j
+joined_now a b c d (HostSays bytes ∷ calls) j = j.0
+joined_now a b c d (HostHears items ∷ calls) j = j.0
+joined_now a b c d (ServerSays bytes ∷ calls) j = j.0
+joined_now a b c d (ServerHears items ∷ calls) j = j.0
+
+-- after some first calls
+joined_behind : (a b c d : List ℕ) (first later : List Call) → JoinedFrom a b c d (first ++ later)
+    → Joined (a ++ sent (of_host first)) (b ++ bytes_of (heard (of_server first))) (c ++ sent (of_server first))
+    (d ++ bytes_of (heard (of_host first)))
+joined_behind a b c d [] later j = rw (append-nil a, append-nil b, append-nil c, append-nil d)
+    (joined_now a b c d later j)
+joined_behind a b c d (HostSays bytes ∷ first) later j =
+    subst (λ x. Joined x (b ++ bytes_of (heard (of_server first))) (c ++ sent (of_server first))
+    (d ++ bytes_of (heard (of_host first))))
+    (append_assoc a bytes (sent (of_host first))) (joined_behind (a ++ bytes) b c d first later j.1)
+joined_behind a b c d (HostHears items ∷ first) later j =
+    subst (λ x. Joined (a ++ sent (of_host first)) (b ++ bytes_of (heard (of_server first)))
+    (c ++ sent (of_server first)) x)
+    (append_assoc d (bytes_of items) (bytes_of (heard (of_host first)))
+    ∙ ap (λ bs. d ++ bs) (sym (bytes_of_append items (heard (of_host first)))))
+    (joined_behind a b c (d ++ bytes_of items) first later j.1)
+joined_behind a b c d (ServerSays bytes ∷ first) later j =
+    subst (λ x. Joined (a ++ sent (of_host first)) (b ++ bytes_of (heard (of_server first))) x
+    (d ++ bytes_of (heard (of_host first))))
+    (append_assoc c bytes (sent (of_server first))) (joined_behind a b (c ++ bytes) d first later j.1)
+joined_behind a b c d (ServerHears items ∷ first) later j =
+    subst (λ x. Joined (a ++ sent (of_host first)) x (c ++ sent (of_server first))
+    (d ++ bytes_of (heard (of_host first))))
+    (append_assoc b (bytes_of items) (bytes_of (heard (of_server first)))
+    ∙ ap (λ bs. b ++ bs) (sym (bytes_of_append items (heard (of_server first)))))
+    (joined_behind a (b ++ bytes_of items) c d first later j.1)
+
+-- all was heard
+even : (a : List ℕ) → IsPrefixOf a a
+even a = ([], append-nil a)
+
+more : (a bytes : List ℕ) → IsPrefixOf a (a ++ bytes)
+more a bytes = (bytes, refl)
+
+asking_joined : (a c question reply : List ℕ) (later : List Call)
+    → JoinedFrom (a ++ question) (a ++ question) (c ++ reply) (c ++ reply) later
+    → JoinedFrom a a c c (asking question reply later)
+asking_joined a c question reply later j =
+    let up : a ++ bytes_of (on_tape question) ≡ a ++ question = ap (λ bs. a ++ bs) (bytes_of_on_tape question) in
+    let down : c ++ bytes_of (on_tape reply) ≡ c ++ reply = ap (λ bs. c ++ bs) (bytes_of_on_tape reply) in (
+      (even a, even c),
+      (
+        (more a question, even c),
+        (
+          (subst (λ x. IsPrefixOf x (a ++ question)) (sym up) (even (a ++ question)), even c),
+          (
+            (subst (λ x. IsPrefixOf x (a ++ question)) (sym up) (even (a ++ question)), more c reply),
+            subst (λ x. JoinedFrom (a ++ question) x (c ++ reply) (c ++ bytes_of (on_tape reply)) later) (sym up)
+                (subst (λ x. JoinedFrom (a ++ question) (a ++ question) (c ++ reply) x later) (sym down) j),
+          ),
+        ),
+      ),
+    )
+
+calls_joined : {E R : Type 0} (d : Dialog E R) (n : ℕ) (p : Programmer) (a c : List ℕ)
+    → JoinedFrom a a c c (calls_of d n p)
+calls_joined (Done r) n p a c = ((even a, even c), (subst (λ x. IsPrefixOf x a) (sym (append-nil a)) (even a), even c))
+calls_joined (Say e d) n p a c = calls_joined d n p a c
+calls_joined (Ask bytes go_on) n p a c =
+    asking_joined a c (frame n bytes) (frame n (device.answer bytes p))
+    (calls_of (go_on (Answered (device.answer bytes p))) (next n) (device.after bytes p))
+    (calls_joined (go_on (Answered (device.answer bytes p))) (next n) (device.after bytes p) (a ++ frame n bytes)
+    (c ++ frame n (device.answer bytes p)))
+
+-- bytes alone are heard
+bytes_prompt : (bytes : List ℕ) (tape : Tape) → IsPrompt tape → IsPrompt (on_tape bytes ++ tape)
+bytes_prompt [] tape prompt = prompt
+bytes_prompt (b ∷ bytes) tape prompt = bytes_prompt bytes tape prompt
+
+bytes_endless : (bytes : List ℕ) (tape : Tape) → HasNoEnd tape → HasNoEnd (on_tape bytes ++ tape)
+bytes_endless [] tape endless = endless
+bytes_endless (b ∷ bytes) tape endless = bytes_endless bytes tape endless
+
+pub calls_prompt : {E R : Type 0} (d : Dialog E R) (n : ℕ) (p : Programmer)
+    → IsPrompt (heard (of_host (calls_of d n p)))
+calls_prompt (Done r) n p = tt
+calls_prompt (Say e d) n p = calls_prompt d n p
+calls_prompt (Ask bytes go_on) n p =
+    bytes_prompt (frame n (device.answer bytes p)) _
+    (calls_prompt (go_on (Answered (device.answer bytes p))) (next n) (device.after bytes p))
+
+calls_endless : {E R : Type 0} (d : Dialog E R) (n : ℕ) (p : Programmer) → HasNoEnd (heard (of_host (calls_of d n p)))
+calls_endless (Done r) n p = tt
+calls_endless (Say e d) n p = calls_endless d n p
+calls_endless (Ask bytes go_on) n p =
+    bytes_endless (frame n (device.answer bytes p)) _
+    (calls_endless (go_on (Answered (device.answer bytes p))) (next n) (device.after bytes p))
+
+pub calls_ordered : {E R : Type 0} (d : Dialog E R) (n : ℕ) (p : Programmer) → IsOrdered (calls_of d n p)
+calls_ordered d n p = record {
+  joined = λ first later is.
+      let j = joined_behind [] [] [] [] first later (subst (JoinedFrom [] [] [] []) is (calls_joined d n p [] [])) in
+      record { up = j.0; down = j.1 };
+  endless = calls_endless d n p;
+}
+
+-- ---- the host
+
+own_answer : (n : ℕ) (bytes : List ℕ) (later : Tape) → IsBody bytes
+    → answer n (on_tape (frame n bytes) ++ later) ≡ Some (Answered bytes, later)
+own_answer n bytes later b =
+    let found : first_answer n (cut (frame n bytes)) ≡ Some (bytes, length (frame n bytes)) =
+    ap (first_answer n) (cut_whole (frame n bytes) (frame_is_piece n bytes b.some b.few))
+    ∙ (cond-true (is_answer n (frame n bytes)) _ _ (and_from _ _ (frame_is_good n bytes b.some) (eq-eqb n n refl))
+    ∙ ap (λ x. Some (x, length (frame n bytes))) (body_of_frame n bytes)) in
+    let few : length (frame n bytes) ≤ limit = let f = b.few in rw (length_frame n bytes) (omega (arith, f)) in
+    answer_found n (frame n bytes) later bytes found few
+
+-- a question that was answered so
+asked : {E R : Type 0} (bytes : List ℕ) (go_on : Reading → Dialog E R) (n : ℕ) (reply : List ℕ) (later : Tape)
+    → IsBody reply
+    → played (Ask bytes go_on) n (on_tape (frame n reply) ++ later)
+    ≡ behind (Frame (frame n bytes) ∷ []) (played (go_on (Answered reply)) (next n) later)
+asked bytes go_on n reply later b =
+    ap (λ o. behind (Frame (frame n bytes) ∷ []) (by_answer (λ reading. played (go_on reading) (next n)) o))
+    (own_answer n reply later b)
+
+-- the play of the dialog, whatever follows on the line
+pub record IsWhole {E R : Type 0} (d : Dialog E R) (n : ℕ) (talk : Talk) : Type 0 where
+  pub events : List (Event E)
+  pub result : R
+  pub at : ℕ
+  pub plays : (later : Tape) → played d n (heard talk ++ later)
+      ≡ record { events = events; outcome = Some (result, at, later) }
+  pub all_sent : bytes_sent events ≡ sent talk
+
+pub host_plays : {E R : Type 0} (d : Dialog E R) (n : ℕ) (p : Programmer) → AsksBodies d
+    → IsWhole d n (of_host (calls_of d n p))
+host_plays (Done r) n p asks = record { events = []; result = r; at = n; plays = λ later. refl; all_sent = refl }
+host_plays (Say e d) n p asks =
+    let inner = host_plays d n p asks in
+    record {
+      events = Said e ∷ inner.events;
+      result = inner.result;
+      at = inner.at;
+      plays = λ later. ap (behind (Said e ∷ [])) (inner.plays later);
+      all_sent = inner.all_sent;
+    }
+host_plays (Ask bytes go_on) n p asks =
+    let reply = device.answer bytes p in
+    let d = go_on (Answered reply) in
+    let inner = host_plays (go_on (Answered (device.answer bytes p))) (next n) (device.after bytes p)
+    (asks.1 (Answered (device.answer bytes p))) in
+    let talk = of_host (calls_of d (next n) (device.after bytes p)) in
+    record {
+      events = Frame (frame n bytes) ∷ inner.events;
+      result = inner.result;
+      at = inner.at;
+      plays = λ later.
+          ap (played (Ask bytes go_on) n) (append_assoc (on_tape (frame n reply)) (heard talk) later)
+          ∙ asked bytes go_on n reply (heard talk ++ later) (answers_bodies bytes p asks.0)
+          ∙ ap (behind (Frame (frame n bytes) ∷ [])) (inner.plays later);
+      all_sent = ap (λ bs. frame n bytes ++ bs) inner.all_sent;
+    }
+
+-- a dialog in turn, as one that it goes on as
+module _ {E R : Type 0} (d e : Dialog E R) (n k : ℕ) (prefix : Tape) (events : List (Event E))
+    (goes : (tape : Tape) → played d n (prefix ++ tape) ≡ behind events (played e k tape)) where
+  turns_behind : (talk : Talk) (tape : Tape) (bytes : List ℕ) → TurnsFrom e k tape bytes talk
+      → TurnsFrom d n (prefix ++ tape) (bytes_sent events ++ bytes) talk
+  turns_behind [] tape bytes turns = tt
+  turns_behind (Sent more ∷ talk) tape bytes turns =
+      subst (λ bs. TurnsFrom d n (prefix ++ tape) bs talk) (sym (append_assoc (bytes_sent events) bytes more))
+      (turns_behind talk tape (bytes ++ more) turns)
+  turns_behind (Got items ∷ talk) tape bytes turns = (
+    record {
+      waits = ap (λ p. p.outcome) (goes tape) ∙ turns.0.waits;
+      all_sent = ap (λ p. bytes_sent p.events) (goes tape) ∙ bytes_append events (played e k tape).events
+          ∙ ap (λ bs. bytes_sent events ++ bs) turns.0.all_sent;
+    },
+    subst (λ t. TurnsFrom d n t (bytes_sent events ++ bytes) talk) (sym (append_assoc prefix tape items))
+        (turns_behind talk (tape ++ items) bytes turns.1),
+  )
+
+pub host_in_turn : {E R : Type 0} (d : Dialog E R) (n : ℕ) (p : Programmer) → AsksBodies d
+    → TurnsFrom d n [] [] (of_host (calls_of d n p))
+host_in_turn (Done r) n p asks = tt
+host_in_turn (Say e d) n p asks =
+    turns_behind (Say e d) d n n [] (Said e ∷ []) (λ tape. refl) (of_host (calls_of d n p)) [] []
+    (host_in_turn d n p asks)
+host_in_turn (Ask bytes go_on) n p asks =
+    let reply = device.answer bytes p in
+    let d = go_on (Answered reply) in
+    let talk = of_host (calls_of d (next n) (device.after bytes p)) in
+    let waits : answer n [] ≡ None = answer_waits n [] refl (omega arith) in
+    let nothing : played (Ask bytes go_on) n [] ≡ record { events = Frame (frame n bytes) ∷ []; outcome = None } =
+    ap (λ o. behind (Frame (frame n bytes) ∷ []) (by_answer (λ reading. played (go_on reading) (next n)) o)) waits in
+    let later : TurnsFrom (Ask bytes go_on) n (on_tape (frame n reply) ++ []) ((frame n bytes ++ []) ++ []) talk =
+    turns_behind (Ask bytes go_on) d n (next n) (on_tape (frame n reply)) (Frame (frame n bytes) ∷ [])
+    (λ tape. asked bytes go_on n reply tape (answers_bodies bytes p asks.0)) talk [] []
+    (host_in_turn (go_on (Answered (device.answer bytes p))) (next n) (device.after bytes p)
+    (asks.1 (Answered (device.answer bytes p)))) in (
+      record {
+        waits = ap (λ q. q.outcome) nothing;
+        all_sent =
+            ap (λ q. bytes_sent q.events) nothing ∙ append-nil (frame n bytes);
+      },
+      subst (λ t. TurnsFrom (Ask bytes go_on) n t (frame n bytes) talk) (append-nil (on_tape (frame n reply)))
+          (subst (λ bs. TurnsFrom (Ask bytes go_on) n (on_tape (frame n reply) ++ []) bs talk)
+          (append-nil (frame n bytes ++ []) ∙ append-nil (frame n bytes)) later),
+    )
+
+-- ---- the server
+
+-- it was fed whole frames, and stands as they left it
+record HasObeyed (p : Programmer) (text : List ℕ) (now : Programmer) : Type 0 where
+  whole : rest text ≡ []
+  stands : now ≡ after_frames device (frames text) p
+
+-- one more frame
+module _ (p : Programmer) (text : List ℕ) (n : ℕ) (bytes : List ℕ) (body : IsBody bytes) (now : Programmer)
+    (was : HasObeyed p text now) where
+  abbrev question : List ℕ
+  question = frame n bytes
+
+  one_more : frames (text ++ question) ≡ frames text ++ question ∷ []
+  one_more =
+      let cut_so : cut (text ++ question) ≡ cut text ++ question ∷ [] =
+      cut_append text question ∙ ap (λ r. cut text ++ cut (r ++ question)) was.whole
+      ∙ ap (λ ps. cut text ++ ps) (cut_whole question (frame_is_piece n bytes body.some body.few)) in
+      ap (filter is_frame) cut_so ∙ filter-append is_frame (cut text) (question ∷ [])
+      ∙ ap (λ ps. frames text ++ ps) (cond-true (is_frame question) (question ∷ []) []
+      (and_parts _ _ (frame_is_good n bytes body.some)).0)
+
+  fed_more : HasObeyed p (text ++ question) (device.after bytes now)
+  fed_more = record {
+    whole = rest_append text question ∙ ap (λ r. rest (r ++ question)) was.whole
+        ∙ rest_whole question (frame_is_piece n bytes body.some body.few);
+    stands = sym (ap (λ fs. after_frames device fs p) one_more ∙ after_more device (frames text) (question ∷ []) p
+        ∙ ap (after_frame device question) (sym was.stands) ∙ after_is device answers_bodies n bytes now body);
+  }
+
+  answered_more : emulate p (text ++ question) ≡ emulate p text ++ frame n (device.answer bytes now)
+  answered_more =
+      ap (λ fs. answers device fs p) one_more ∙ answers_more device (frames text) (question ∷ []) p
+      ∙ ap (λ q. emulate p text ++ (answer_frame device question q ++ [])) (sym was.stands)
+      ∙ ap (λ bs. emulate p text ++ bs) (append-nil (answer_frame device question now)
+      ∙ answer_is device answers_bodies n bytes now body)
+
+-- what is left of the programmer
+abbrev pub left_of : {E R : Type 0} → Dialog E R → ℕ → Programmer → Programmer
+left_of (Done r) n p = p
+left_of (Say e d) n p = left_of d n p
+left_of (Ask bytes go_on) n p = left_of (go_on (Answered (device.answer bytes p))) (next n) (device.after bytes p)
+
+-- After any text of whole frames, that it answered, it answers all that it hears.
+record ServesOn (p : Programmer) (text : List ℕ) (talk : Talk) (left : Programmer) : Type 0 where
+  in_turn : AnswersInTurn p text (emulate p text) talk
+  fed : HasObeyed p (text ++ bytes_of (heard talk)) left
+  answered : emulate p (text ++ bytes_of (heard talk)) ≡ emulate p text ++ sent talk
+
+serves_on : {E R : Type 0} (d : Dialog E R) (n : ℕ) (now p : Programmer) (text : List ℕ) → AsksBodies d
+    → HasObeyed p text now
+    → ServesOn p text (of_server (calls_of d n now)) (left_of d n now)
+serves_on (Done r) n now p text asks was = record {
+  in_turn = (refl, tt);
+  fed = subst (λ bs. HasObeyed p bs now) (sym (append-nil text)) was;
+  answered = ap (emulate p) (append-nil text) ∙ sym (append-nil (emulate p text));
+}
+serves_on (Say e d) n now p text asks was = serves_on d n now p text asks was
+serves_on (Ask bytes go_on) n now p text asks was =
+    let question = frame n bytes in
+    let reply = device.answer bytes now in
+    let d = go_on (Answered reply) in
+    let inner =
+    serves_on (go_on (Answered (device.answer bytes now))) (next n) (device.after bytes now) p (text ++ question)
+    (asks.1 (Answered (device.answer bytes now)))
+    (fed_more p text n bytes asks.0 now was) in
+    let later = of_server (calls_of d (next n) (device.after bytes now)) in
+    let answered = answered_more p text n bytes asks.0 now was in
+    let bytes_are : text ++ bytes_of (on_tape question ++ heard later) ≡ (text ++ question) ++ bytes_of (heard later) =
+    ap (λ bs. text ++ bs) (bytes_of_append (on_tape question) (heard later)
+    ∙ ap (λ bs. bs ++ bytes_of (heard later)) (bytes_of_on_tape question))
+    ∙ sym (append_assoc text question (bytes_of (heard later))) in
+    record {
+      in_turn = (
+        refl,
+        subst (λ bs. AnswersInTurn p (text ++ bs) (emulate p text ++ frame n reply) later)
+            (sym (bytes_of_on_tape question))
+            (subst (λ bs. AnswersInTurn p (text ++ question) bs later) answered inner.in_turn),
+      );
+      fed = subst (λ bs. HasObeyed p bs (left_of d (next n) (device.after bytes now))) (sym bytes_are) inner.fed;
+      answered = ap (emulate p) bytes_are ∙ inner.answered ∙ ap (λ bs. bs ++ sent later) answered
+          ∙ append_assoc (emulate p text) (frame n reply) (sent later);
+    }
+
+-- the end of the line is heard last
+ends : {E R : Type 0} (d : Dialog E R) (n : ℕ) (p : Programmer)
+    → (before : Tape) × HasNoEnd before × (heard (of_server (calls_of d n p)) ≡ before ++ End ∷ [])
+ends (Done r) n p = ([], tt, refl)
+ends (Say e d) n p = ends d n p
+ends (Ask bytes go_on) n p =
+    let later = ends (go_on (Answered (device.answer bytes p))) (next n) (device.after bytes p) in (
+      on_tape (frame n bytes) ++ later.0,
+      bytes_endless (frame n bytes) later.0 later.1,
+      ap (λ t. on_tape (frame n bytes) ++ t) later.2 ∙ sym (append_assoc (on_tape (frame n bytes)) later.0 (End ∷ [])),
+    )
+
+-- ---- both
+
+module _ (plan : Plan) (s : chips.ChipState) (file : Bytes) (asks : AsksBodies (session plan)) where
+  abbrev calls : List Call
+  calls = calls_of (session plan) 1 (fresh_programmer s)
+
+  abbrev host : Talk
+  host = of_host calls
+
+  abbrev server : Talk
+  server = of_server calls
+
+  abbrev left : Machine
+  left = record { held = []; programmer = left_of (session plan) 1 (fresh_programmer s) }
+
+  abbrev silent : LinkView
+  silent = record { talk = []; failures = 0 }
+
+  abbrev empty_desk : DeskView
+  empty_desk = showing nothing_kept 0 0
+
+  whole : IsWhole (session plan) 1 host
+  whole = host_plays (session plan) 1 (fresh_programmer s) asks
+
+  abbrev said_desk : DeskView
+  said_desk = showing (after_all (sayings whole.events) nothing_kept) 0 0
+
+  abbrev saved_desk : DeskView
+  saved_desk = showing (with_replaced file (chip_file left.programmer.chip) nothing_kept) 0 0
+
+  runs : Ran (session plan) start (devices silent empty_desk) (devices (record { talk = host; failures = 0 }) said_desk)
+      whole.result (record { next = whole.at; unread = [] })
+  runs = record {
+    during = host;
+    events = whole.events;
+    grows = refl;
+    plays = record {
+      plays = whole.plays;
+      all_sent = whole.all_sent;
+      in_turn =
+          host_in_turn (session plan) 1 (fresh_programmer s) asks;
+    };
+    few = λ few. omega arith;
+    kept = refl;
+    sound = (refl, (refl, refl));
+  }
+
+  on : (p : Programmer) (text : List ℕ) → IsFed p text (fresh_machine s) → ServesOn p text server left.programmer
+  on p text was = serves_on (session plan) 1 (fresh_programmer s) p text asks
+      (record { whole = was.stands; stands = was.obeyed })
+
+  answers_all : (p : Programmer) (text : List ℕ) → IsFed p text (fresh_machine s)
+      → AnswersAll p text (bytes_of (heard server)) (sent server) left
+  answers_all p text was =
+      let it = on p text was in
+      record { fed = record { stands = it.fed.whole; obeyed = it.fed.stands }; answered = it.answered }
+
+  fed_nothing : IsFed (fresh_programmer s) [] (fresh_machine s)
+  fed_nothing = record { stands = refl; obeyed = refl }
+
+  serves : ServesChip s file (reads server) (devices silent empty_desk)
+      (devices (record { talk = server; failures = 0 }) saved_desk) 0
+  serves =
+      let last = ends (session plan) 1 (fresh_programmer s) in
+      record {
+        served = Ended;
+        left = left;
+        told_desk = empty_desk;
+        serves = record {
+          during = server;
+          grows = refl;
+          hears = (last.0, last.1, last.2, omega arith);
+          in_turn = λ p text was. (on p text was).in_turn;
+          leaves = answers_all;
+        };
+        in_turn = (on (fresh_programmer s) [] fed_nothing).in_turn;
+        leaves = answers_all (fresh_programmer s) [] fed_nothing;
+        fails = refl;
+        told = refl;
+        rises = (omega arith, omega arith);
+        saved = inl ((refl, (refl, refl)), refl);
+        follows = (omega arith, omega arith);
+      }
+
+  pub has_run : HasRun plan s file
+  has_run = record {
+    calls = calls;
+    ordered = calls_ordered (session plan) 1 (fresh_programmer s);
+    prompt = calls_prompt (session plan) 1 (fresh_programmer s);
+    most = reads server;
+    status = whole.result;
+    after = record { next = whole.at; unread = [] };
+    host_desk = empty_desk;
+    host_desk_then = said_desk;
+    server_desk = empty_desk;
+    server_desk_then = saved_desk;
+    ran = runs;
+    serves = serves;
+  }

@@ -1,0 +1,280 @@
+-- A session and a server at the two ends of an ordered line.
+use Rattle.std.proofs.Common.{◌≡◌, ℕ, List, [], ◌∷◌, ◌++◌, length, refl, sym, ap, ◌∙◌, subst, append_assoc, arith, All, inl, inr, Some, Ok}
+use Rattle.std.proofs.lemmas.List.{append-nil}
+use Rattle.avr_desk.specs.Record.{Bytes}
+use Rattle.avr_desk.specs.Said.{Saying}
+use Rattle.avr_part.specs.Part.{IsPart}
+use Rattle.avr_part.specs.Sound.{IsSoundChip}
+use Rattle.avr_part.specs.State as chips
+use Rattle.avr_plan.specs.Plan.{Plan, IsFitted}
+use Rattle.avr_session.specs.Run.{RunsSession}
+use Rattle.avr_session.specs.Runs.{Devices, start, Ran}
+use Rattle.avr_session.specs.Session.{session}
+use Rattle.stk_frame.specs.Cut.{frames}
+use Rattle.stk_host.specs.Dialog.{Event, played, frames_in, bytes_sent, sayings}
+use Rattle.stk_host.specs.Play.{Position, Plays, IsPrefixOf, IsDue, InTurn}
+use Rattle.stk_host.specs.Tape.{Tape, on_tape, bytes_of}
+use Rattle.stk_host.specs.Talk.{Talk, Sent, Got, sent, heard}
+use Rattle.stk_host.proofs.Tapes.Answers.{bytes_of_append}
+use Rattle.stk_emu.specs.Along.{along, AsksBodies}
+use Rattle.stk_emu.specs.Effect.{memories_of}
+use Rattle.stk_emu.specs.Settled.{Idle, FitsPart}
+use Rattle.avr_course.proofs.Given.FirstSteps.{fresh_idle, fresh_fits}
+use Rattle.avr_course.specs.Course.{course}
+use Rattle.avr_course.proofs.FewBad.Sessions.{session_ends}
+use Rattle.avr_course.specs.AnyTape.{AreHonest, after_sent, turns_heard}
+use Rattle.stk_emu.specs.Device.{device, after_frames}
+use Rattle.stk_emu.specs.Emulator.{emulate}
+use Rattle.stk_emu.specs.Programmer.{Programmer, fresh_programmer}
+use Rattle.avr_course.specs.NoFrame.{MakesNoFrame}
+use Rattle.avr_course.proofs.Lines.NoFrame.{no_frame_honest}
+use Rattle.avr_course.proofs.Lines.InTurn.{due_at, sends_whole, frames_sent}
+use Rattle.avr_course.proofs.AnyLine.FrameSizes.{session_asks}
+use Rattle.avr_emulator.specs.Serving.{HasNoEnd, AnswersInTurn}
+use Rattle.avr_emulator.specs.ServedRun.{ServesChip, SavesAfterServing}
+use Rattle.avr_emulator.specs.Saving.{Saves}
+use Rattle.avr_part.specs.ChipFile.{chip_file}
+use Rattle.avr_course.specs.AnyLine.{OverTurns, WholeOverTurns}
+use Rattle.avr_beyond.specs.TwoProcesses.{Call, of_host, of_server, IsJoined, IsOrdered, IsPrompt, StallsBetweenAnswers, HasServed, obeyed}
+use Rattle.avr_beyond.proofs.TwoProcesses.Meeting.{meet_honest, meet_leaves, meet_sent, meet_ends, meet_straight, has_served}
+use Rattle.avr_beyond.proofs.TwoProcesses.NeverSilent.{prompt_stalls}
+use Rattle.avr_beyond.proofs.TwoProcesses.Misses.{session_few}
+use Rattle.avr_course.proofs.AnyLink.{since_none, over_any_line, over_any_end, IsFirst, sent_first}
+
+-- where something is heard, all answers had been sent
+answered_at : (p : Programmer) (text answered : List ℕ) (before after : Talk) (items : Tape)
+    → AnswersInTurn p text answered (before ++ Got items ∷ after)
+    → answered ++ sent before ≡ emulate p (text ++ bytes_of (heard before))
+answered_at p text answered [] after items turns =
+    append-nil answered ∙ (turns.0 ∙ ap (emulate p) (sym (append-nil text)))
+answered_at p text answered (Sent more ∷ before) after items turns =
+    sym (append_assoc answered more (sent before)) ∙ answered_at p text (answered ++ more) before after items turns
+answered_at p text answered (Got got ∷ before) after items turns =
+    answered_at p (text ++ bytes_of got) answered before after items turns.1
+    ∙ ap (emulate p) (append_assoc text (bytes_of got) (bytes_of (heard before))
+    ∙ ap (λ bs. text ++ bs) (sym (bytes_of_append got (heard before))))
+
+-- a server of status 0 has saved its chip
+pub saved_chip : (s : chips.ChipState) (file : Bytes) (most : ℕ) (old new : Devices) (status : ℕ)
+    (serves : ServesChip s file most old new status) → status ≡ 0
+    → Saves serves.told_desk new.desk file (chip_file serves.left.programmer.chip) (Ok tt)
+saved_chip s file most old new status serves zero = by serves.saved
+  where
+    by : SavesAfterServing serves.served serves.told_desk new.desk file (chip_file serves.left.programmer.chip) status
+        → Saves serves.told_desk new.desk file (chip_file serves.left.programmer.chip) (Ok tt)
+    by (inl saved) = saved.0
+    by (inr failed) = let one = failed.2 in absurd (omega (arith, one, zero))
+
+module _ (plan : Plan) (s : chips.ChipState) (is_sound : IsSoundChip s) (part_is : s.part ≡ plan.part)
+    (fitted : All (IsFitted plan.part) plan.tasks) where
+  pub asks : AsksBodies (session plan)
+  asks = session_asks plan (subst IsPart part_is is_sound.part) fitted
+
+  module _ (host server : Talk) (endless : HasNoEnd (heard host)) (stalls : StallsBetweenAnswers (heard host)) where
+    pub honest : (left : Programmer) (serves : HasServed (fresh_programmer s) server left) → IsJoined host server
+        → IsPrefixOf (sent host) (bytes_sent (played (session plan) 1 (heard host)).events)
+        → AreHonest device (session plan) 1 (heard host) (fresh_programmer s) (obeyed (length (frames serves.used)))
+    honest left serves joined plays = meet_honest (session plan) asks (fresh_programmer s) left host server serves
+        joined plays (session_few plan) endless stalls
+
+    pub leaves : (left : Programmer) (serves : HasServed (fresh_programmer s) server left) → IsJoined host server
+        → IsPrefixOf (sent host) (bytes_sent (played (session plan) 1 (heard host)).events)
+        → after_sent device (frames_in (played (session plan) 1 (heard host)).events)
+        (obeyed (length (frames serves.used))) (fresh_programmer s) ≡ left
+    leaves left serves joined plays = meet_leaves (session plan) asks (fresh_programmer s) left host server serves
+        joined plays
+
+    -- NO DEADLOCK
+    pub never_wait : bytes_of (heard server) ≡ sent host → bytes_of (heard host) ≡ sent server
+        → sent server ≡ emulate (fresh_programmer s) (bytes_of (heard server))
+        → IsDue (session plan) 1 (heard host) (sent host) → ⊥
+    never_wait up down answered due =
+        let events = (played (session plan) 1 (heard host)).events in
+        let p : Programmer = fresh_programmer s in
+        let serves : HasServed p server (after_frames device (frames (bytes_of (heard server))) p) = record {
+          used = bytes_of (heard server);
+          unused = [];
+          heard_is = append-nil (bytes_of (heard server));
+          unsent = [];
+          sent_is = append-nil (sent server) ∙ answered;
+          left_is = refl;
+        } in
+        let all : frames_in events ≡ frames (bytes_of (heard server)) =
+        sym (frames_sent events (sends_whole (session plan) 1 (heard host) asks))
+        ∙ ap frames (due.all_sent ∙ sym up) in
+        meet_ends (session plan) asks p (after_frames device (frames (bytes_of (heard server))) p) host server serves
+        (record {
+          up = ([], append-nil (bytes_of (heard server)) ∙ up);
+          down =
+              ([], append-nil (bytes_of (heard host)) ∙ down);
+        }) ([], append-nil (sent host) ∙ sym due.all_sent)
+        (session_few plan) endless stalls
+        refl (let same = ap length all in omega (arith, same)) due.waits
+
+    -- so at each moment
+    pub never_both : (host_items server_items : Tape) → InTurn (session plan) start (host ++ Got host_items ∷ [])
+        → AnswersInTurn (fresh_programmer s) [] [] (server ++ Got server_items ∷ [])
+        → bytes_of (heard server) ≡ sent host → bytes_of (heard host) ≡ sent server → ⊥
+    never_both host_items server_items host_turns server_turns up down =
+        never_wait up down (answered_at (fresh_programmer s) [] [] server [] server_items server_turns)
+        (due_at (session plan) 1 [] [] host [] host_items host_turns)
+
+    -- whatever becomes of both
+    pub touched : (left : Programmer) (serves : HasServed (fresh_programmer s) server left) → IsJoined host server
+        → IsPrefixOf (sent host) (bytes_sent (played (session plan) 1 (heard host)).events)
+        → OverTurns plan (fresh_programmer s) left
+        (turns_heard (session plan) 1 (heard host) (obeyed (length (frames serves.used)))) (sent host)
+        (played (session plan) 1 (heard host)).events
+    touched left serves joined plays =
+        let becames = obeyed (length (frames serves.used)) in
+        subst (λ q. OverTurns plan (fresh_programmer s) q (turns_heard (session plan) 1 (heard host) becames)
+        (sent host) (played (session plan) 1 (heard host)).events)
+        (meet_sent (fresh_programmer s) left host server serves joined)
+        (over_any_end plan s is_sound part_is fitted (heard host) becames (honest left serves joined plays) (sent host)
+        plays)
+
+    -- a whole session
+    module _ (events : List (Event Saying)) (status : ℕ) (after : Position)
+        (plays : Plays (session plan) start host events status after) where
+      over : played (session plan) 1 (heard host)
+          ≡ record { events = events; outcome = Some (status, after.next, on_tape after.unread ++ []) }
+      over = ap (played (session plan) 1) (sym (append-nil (heard host))) ∙ plays.plays []
+
+      all_sent : bytes_sent (played (session plan) 1 (heard host)).events ≡ sent host
+      all_sent = ap (λ p. bytes_sent p.events) over ∙ plays.all_sent
+
+      pub whole : (left : Programmer) (serves : HasServed (fresh_programmer s) server left) → IsJoined host server
+          → WholeOverTurns plan (fresh_programmer s) left
+          (turns_heard (session plan) 1 (heard host) (obeyed (length (frames serves.used)))) (sent host) events
+          status
+      whole left serves joined =
+          let prefix : IsPrefixOf (sent host) (bytes_sent (played (session plan) 1 (heard host)).events) =
+          ([], append-nil (sent host) ∙ sym all_sent) in
+          let becames = obeyed (length (frames serves.used)) in
+          subst (λ q. WholeOverTurns plan (fresh_programmer s) q (turns_heard (session plan) 1 (heard host) becames)
+          (sent host) events status) (meet_sent (fresh_programmer s) left host server serves joined)
+          (over_any_line plan s is_sound part_is fitted (heard host) becames (honest left serves joined prefix)
+          (sent host) (on_tape after.unread ++ []) events status after.next over plays.all_sent)
+
+      -- and one over a line that is never silent
+      pub course_of : (left : Programmer) → HasServed (fresh_programmer s) server left → IsJoined host server
+          → IsPrompt (heard host)
+          → (status ≡ (course plan (memories_of s)).status) × (sayings events ≡ (course plan (memories_of s)).says)
+          × (memories_of left.chip ≡ (course plan (memories_of s)).memories)
+      course_of left serves joined prompt =
+          let p : Programmer = fresh_programmer s in
+          let prefix : IsPrefixOf (sent host) (bytes_sent (played (session plan) 1 (heard host)).events) =
+          ([], append-nil (sent host) ∙ sym all_sent) in
+          let fs : List (List ℕ) = frames_in (played (session plan) 1 (heard host)).events in
+          let goes = meet_straight (session plan) asks p left host server serves joined prefix (session_few plan)
+          endless
+          stalls prompt status after.next (on_tape after.unread ++ []) (ap (λ x. x.outcome) over) in
+          let came = session_ends plan (subst IsPart part_is is_sound.part) fitted (memories_of s) p []
+          (subst (λ part. FitsPart part (memories_of s)) part_is (fresh_fits s is_sound))
+          (subst (λ part. Idle part (memories_of s) p) part_is (fresh_idle s is_sound)) tt (length fs) status
+          goes.dialog in
+          let stands : (along device (length fs) (session plan) p []).programmer ≡ left =
+          goes.programmer ∙ leaves left serves joined prefix in (
+            came.result,
+            ap (λ x. sayings x.events) (sym over) ∙ (goes.says ∙ came.sayings),
+            ap (λ (q : Programmer). memories_of q.chip) (sym stands) ∙ came.after,
+          )
+
+  -- over an ordered line that stalls anywhere, and makes no frame
+  pub stalling : (left : Programmer) (host server : Talk) (events : List (Event Saying)) (status : ℕ) (after : Position)
+      (serves : HasServed (fresh_programmer s) server left) → IsJoined host server
+      → Plays (session plan) start host events status after
+      → MakesNoFrame device (session plan) 1 (heard host) (fresh_programmer s) (obeyed (length (frames serves.used))) []
+      → WholeOverTurns plan (fresh_programmer s) left
+      (turns_heard (session plan) 1 (heard host) (obeyed (length (frames serves.used)))) (sent host) events status
+  stalling left host server events status after serves joined plays made =
+      let over : played (session plan) 1 (heard host)
+      ≡ record { events = events; outcome = Some (status, after.next, on_tape after.unread ++ []) } =
+      ap (played (session plan) 1) (sym (append-nil (heard host))) ∙ plays.plays [] in
+      let becames = obeyed (length (frames serves.used)) in
+      subst (λ q. WholeOverTurns plan (fresh_programmer s) q (turns_heard (session plan) 1 (heard host) becames)
+      (sent host) events status) (meet_sent (fresh_programmer s) left host server serves joined)
+      (over_any_line plan s is_sound part_is fitted (heard host) becames
+      (no_frame_honest device (session plan) 1 (heard host) (fresh_programmer s) becames [] tt made) (sent host)
+      (on_tape after.unread ++ [])
+      events status after.next over plays.all_sent)
+
+  -- whatever becomes of both
+  module _ (calls : List Call) (ordered : IsOrdered calls) (stalls : StallsBetweenAnswers (heard (of_host calls)))
+      (left : Programmer) (serves : HasServed (fresh_programmer s) (of_server calls) left) where
+    abbrev Ended : Type 0
+    Ended = OverTurns plan (fresh_programmer s) left
+        (turns_heard (session plan) 1 (heard (of_host calls)) (obeyed (length (frames serves.used))))
+        (sent (of_host calls))
+        (played (session plan) 1 (heard (of_host calls))).events
+
+    after_run : (old new : Devices) (status : ℕ) → old.link.talk ≡ [] → new.link.talk ≡ of_host calls
+        → RunsSession plan old new status → Ended
+    after_run old new status host_old host_new runs =
+        touched (of_host calls) (of_server calls) ordered.endless stalls left serves
+        (ordered.joined calls [] (sym (append-nil calls)))
+        (subst (IsFirst plan) host_new (sent_first plan old new status host_old runs)).1
+
+  -- THE TWO PROCESSES, from these devices to those
+  module _ (calls : List Call) (old new : Devices) (server_old server_new : Devices) (file : Bytes)
+      (most status served_status : ℕ) where
+    -- what passed since nothing had passed is all of it, at the server's end and at the host's
+    served_all : server_old.link.talk ≡ [] → server_new.link.talk ≡ of_server calls
+        → (serves : ServesChip s file most server_old server_new served_status)
+        → HasServed (fresh_programmer s) (of_server calls) serves.left.programmer
+    served_all none some serves =
+        subst (λ t. HasServed (fresh_programmer s) t serves.left.programmer)
+        (since_none server_old.link.talk server_new.link.talk serves.serves.during (of_server calls) none some
+        serves.serves.grows)
+        (has_served serves.served (fresh_programmer s) serves.serves.during serves.left serves.leaves)
+
+    played_all : (after : Position) → old.link.talk ≡ [] → new.link.talk ≡ of_host calls
+        → (ran : Ran (session plan) start old new status after)
+        → Plays (session plan) start (of_host calls) ran.events status after
+    played_all after none some ran =
+        subst (λ t. Plays (session plan) start t ran.events status after)
+        (since_none old.link.talk new.link.talk ran.during (of_host calls) none some ran.grows) ran.plays
+
+    pub one_run : (after : Position) → IsOrdered calls → StallsBetweenAnswers (heard (of_host calls))
+        → old.link.talk ≡ [] → new.link.talk ≡ of_host calls → server_old.link.talk ≡ []
+        → server_new.link.talk ≡ of_server calls
+        → (ran : Ran (session plan) start old new status after)
+        → (serves : ServesChip s file most server_old server_new served_status)
+        → (served : HasServed (fresh_programmer s) (of_server calls) serves.left.programmer)
+        × WholeOverTurns plan (fresh_programmer s) serves.left.programmer
+        (turns_heard (session plan) 1 (heard (of_host calls)) (obeyed (length (frames served.used))))
+        (sent (of_host calls)) ran.events status
+    one_run after ordered stalls host_old host_new server_none server_some ran serves =
+        let served = served_all server_none server_some serves in (
+          served,
+          whole (of_host calls) (of_server calls) ordered.endless stalls ran.events status after
+              (played_all after host_old host_new ran) serves.left.programmer served
+              (ordered.joined calls [] (sym (append-nil calls))),
+        )
+
+    -- and over a line that is never silent
+    pub one_course : (after : Position) → IsOrdered calls → IsPrompt (heard (of_host calls))
+        → old.link.talk ≡ [] → new.link.talk ≡ of_host calls → server_old.link.talk ≡ []
+        → server_new.link.talk ≡ of_server calls
+        → (ran : Ran (session plan) start old new status after)
+        → (serves : ServesChip s file most server_old server_new served_status)
+        → (status ≡ (course plan (memories_of s)).status) × (sayings ran.events ≡ (course plan (memories_of s)).says)
+        × (memories_of serves.left.programmer.chip ≡ (course plan (memories_of s)).memories)
+    one_course after ordered prompt host_old host_new server_none server_some ran serves =
+        course_of (of_host calls) (of_server calls) ordered.endless (prompt_stalls (heard (of_host calls)) prompt)
+        ran.events status after (played_all after host_old host_new ran) serves.left.programmer
+        (served_all server_none server_some serves) (ordered.joined calls [] (sym (append-nil calls))) prompt
+
+    -- and however both end
+    pub any_run : IsOrdered calls → StallsBetweenAnswers (heard (of_host calls))
+        → old.link.talk ≡ [] → new.link.talk ≡ of_host calls → server_old.link.talk ≡ []
+        → server_new.link.talk ≡ of_server calls
+        → RunsSession plan old new status → (serves : ServesChip s file most server_old server_new served_status)
+        → (served : HasServed (fresh_programmer s) (of_server calls) serves.left.programmer)
+        × OverTurns plan (fresh_programmer s) serves.left.programmer
+        (turns_heard (session plan) 1 (heard (of_host calls)) (obeyed (length (frames served.used))))
+        (sent (of_host calls))
+        (played (session plan) 1 (heard (of_host calls))).events
+    any_run ordered stalls host_old host_new server_none server_some runs serves =
+        let served = served_all server_none server_some serves in
+        (served, after_run calls ordered stalls serves.left.programmer served old new status host_old host_new runs)

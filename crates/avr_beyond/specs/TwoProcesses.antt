@@ -1,0 +1,110 @@
+-- TWO PROCESSES: a host that plays and a server that answers, at the two ends of a line that keeps the order of bytes,
+-- loses none and adds none, and cuts and stalls wherever it likes.
+use Rattle.std.specs.Prelude.{ℕ, zero, suc, List, [], ◌∷◌, ◌++◌, ◌≡◌}
+use Rattle.avr_desk.specs.Record.{Bytes, DeskView}
+use Rattle.avr_part.specs.State.{ChipState as Chip}
+use Rattle.avr_plan.specs.Plan.{Plan}
+use Rattle.avr_session.specs.Runs.{Ran, devices, start}
+use Rattle.avr_session.specs.Session.{session}
+use Rattle.stk_frame.specs.Cut.{frames, rest}
+use Rattle.stk_host.specs.declared.link.Item.TheVariants.{Byte, Silence, End}
+use Rattle.stk_host.specs.Play.{IsPrefixOf, Position}
+use Rattle.stk_host.specs.Talk.{LinkView, Talk, Sent, Got, sent, heard}
+use Rattle.stk_host.specs.Tape.{Tape, bytes_of}
+use Rattle.stk_emu.specs.Device.{device, answers, after_frames}
+use Rattle.stk_emu.specs.Programmer.{Programmer}
+use Rattle.stk_emu.specs.Turn.{Became, Obeyed}
+use Rattle.avr_emulator.specs.ServedRun.{ServesChip}
+use Rattle.avr_emulator.specs.Serving.{HasNoEnd}
+
+-- ---- 1. Both ends in one order
+
+-- one call of one end: it sent bytes, or heard a piece
+pub data Call : Type 0 where
+  HostSays : List ℕ → Call
+  HostHears : Tape → Call
+  ServerSays : List ℕ → Call
+  ServerHears : Tape → Call
+
+-- what each end knows of it: its own talk
+abbrev pub of_host : List Call → Talk
+of_host [] = []
+of_host (HostSays bytes ∷ calls) = Sent bytes ∷ of_host calls
+of_host (HostHears items ∷ calls) = Got items ∷ of_host calls
+of_host (ServerSays bytes ∷ calls) = of_host calls
+of_host (ServerHears items ∷ calls) = of_host calls
+
+abbrev pub of_server : List Call → Talk
+of_server [] = []
+of_server (HostSays bytes ∷ calls) = of_server calls
+of_server (HostHears items ∷ calls) = of_server calls
+of_server (ServerSays bytes ∷ calls) = Sent bytes ∷ of_server calls
+of_server (ServerHears items ∷ calls) = Got items ∷ of_server calls
+
+-- what one end has heard is a prefix of what the other has sent
+pub record IsJoined (host server : Talk) : Type 0 where
+  pub up : IsPrefixOf (bytes_of (heard server)) (sent host)
+  pub down : IsPrefixOf (bytes_of (heard host)) (sent server)
+
+-- THE LINE. At each moment what an end has heard is a prefix of what the other has sent till then: nothing is lost,
+-- doubled, changed or heard before it was sent, and the pieces are whatever they are. Silences may come anywhere. The
+-- host meets no end of the line; the server may, at any time.
+pub record IsOrdered (calls : List Call) : Type 0 where
+  pub joined : (first later : List Call) → calls ≡ first ++ later → IsJoined (of_host first) (of_server first)
+  pub endless : HasNoEnd (heard (of_host calls))
+
+-- It stalls between answers alone: where the host hears a silence, no part of an answer has come.
+abbrev pub StallsBetweenAnswers : Tape → Type 0
+StallsBetweenAnswers tape = (before after : Tape) → tape ≡ before ++ Silence ∷ after → rest (bytes_of before) ≡ []
+
+-- ---- 2. The server's end
+
+-- However serving ended: it took so many of the bytes that it heard, obeyed all frames in them, and sent their answers,
+-- the last one perhaps in part.
+pub record HasServed (p : Programmer) (talk : Talk) (left : Programmer) : Type 0 where
+  pub used : List ℕ
+  pub unused : List ℕ
+  pub heard_is : used ++ unused ≡ bytes_of (heard talk)
+  pub unsent : List ℕ
+  pub sent_is : sent talk ++ unsent ≡ answers device (frames used) p
+  pub left_is : left ≡ after_frames device (frames used) p
+
+-- ---- 3. What became of the frames
+
+-- the first so many were obeyed, and the others never arrived
+abbrev pub obeyed : ℕ → List Became
+obeyed zero = []
+obeyed (suc h) = Obeyed ∷ obeyed h
+
+-- ---- 4. How the host hears it
+
+-- it is never silent
+abbrev pub IsPrompt : Tape → Type 0
+IsPrompt [] = Unit {0}
+IsPrompt (Byte byte ∷ tape) = IsPrompt tape
+IsPrompt (Silence ∷ tape) = ⊥
+IsPrompt (End ∷ tape) = IsPrompt tape
+
+-- ---- 5. That there is such a run
+
+-- a link over which this passed, and that never failed
+abbrev pub passed : Talk → LinkView
+passed talk = record { talk = talk; failures = 0 }
+
+-- A session of this plan that was played whole, and a server of status 0 with this chip, at the ends of an ordered line
+-- that is never silent; nothing had passed before.
+pub record HasRun (plan : Plan) (chip : Chip) (file : Bytes) : Type 0 where
+  pub calls : List Call
+  pub ordered : IsOrdered calls
+  pub prompt : IsPrompt (heard (of_host calls))
+  pub most : ℕ
+  pub status : ℕ
+  pub after : Position
+  pub host_desk : DeskView
+  pub host_desk_then : DeskView
+  pub server_desk : DeskView
+  pub server_desk_then : DeskView
+  pub ran : Ran (session plan) start (devices (passed []) host_desk) (devices (passed (of_host calls)) host_desk_then)
+      status after
+  pub serves : ServesChip chip file most (devices (passed []) server_desk)
+      (devices (passed (of_server calls)) server_desk_then) 0

@@ -1,0 +1,14 @@
+//! Laws beyond what a call's clause cites: of two processes, a session and a server at the two ends of a line.
+//!
+//! No code stands here, and nothing rests on it. The one idea: what a host hears of a server is an honest line, so what
+//! is said of any line holds of both.
+#![tactic(auto)]
+
+mod two_processes;
+
+pub use two_processes::{
+    a_prompt_line_brings_the_course, a_server_sends_the_answers_to_what_it_heard,
+    a_session_and_a_server_are_one_run, an_unordered_line_is_refused, two_processes_have_a_run,
+    two_processes_never_both_wait, what_a_host_hears_of_a_server_is_honest,
+    whatever_becomes_of_both_some_strokes_were_made,
+};

@@ -1,0 +1,148 @@
+//! Laws of a session and a server at the two ends of a line. No code.
+
+ghost use Rattle.std.specs.Prelude.{◌≡◌, ◌++◌, ℕ, length, List, [], All, ◌∷◌, Ok};
+ghost use Rattle.avr_desk.specs.Record.{Bytes};
+ghost use Rattle.avr_course.specs.AnyLine.{OverTurns, WholeOverTurns};
+ghost use Rattle.avr_course.specs.Course.{course};
+ghost use Rattle.avr_desk.specs.Said.{Saying};
+ghost use Rattle.avr_part.specs.Sound.{IsSoundChip};
+ghost use Rattle.avr_part.specs.State.{ChipState as Chip};
+ghost use Rattle.avr_plan.specs.Plan.{Plan, IsFitted};
+ghost use Rattle.avr_session.specs.Run.{RunsSession};
+ghost use Rattle.avr_session.specs.Runs.{Devices, start, Ran};
+ghost use Rattle.avr_session.specs.Session.{session};
+ghost use Rattle.stk_emu.specs.Device.{device, after_frames, answers};
+ghost use Rattle.avr_emulator.specs.Saving.{Saves};
+ghost use Rattle.avr_part.specs.ChipFile.{chip_file};
+ghost use Rattle.avr_emulator.specs.ServedRun.{ServesChip};
+ghost use Rattle.avr_emulator.specs.Serving.{HasNoEnd, AnswersAll, AnswersInTurn, ServingLeaves};
+ghost use Rattle.avr_emulator.specs.declared.serving.Served.{Served};
+ghost use Rattle.avr_beyond.specs.TwoProcesses.{Call, HostSays, ServerHears, of_host, of_server, IsJoined, IsOrdered, IsPrompt, StallsBetweenAnswers, HasRun, HasServed, obeyed};
+ghost use Rattle.stk_emu.specs.Emulator.{Machine};
+ghost use Rattle.stk_emu.specs.Effect.{memories_of};
+ghost use Rattle.stk_emu.specs.Programmer.{Programmer, fresh_programmer};
+ghost use Rattle.stk_frame.specs.Cut.{frames};
+ghost use Rattle.avr_course.specs.AnyTape.{AreHonest, after_sent, turns_heard};
+ghost use Rattle.avr_course.specs.NoFrame.{MakesNoFrame};
+ghost use Rattle.stk_host.specs.Dialog.{Event, played, frames_in, bytes_sent, sayings};
+ghost use Rattle.stk_host.specs.Talk.{Talk, heard, sent, Got};
+ghost use Rattle.stk_host.specs.Play.{Position, Plays, IsPrefixOf, InTurn};
+ghost use Rattle.stk_host.specs.declared.link.Item.TheVariants.{Byte, Silence};
+ghost use Rattle.stk_host.specs.Tape.{Tape, bytes_of};
+
+/// A server that answered all it heard has sent the answers to the frames in it, and no more, and its programmer is as
+/// they left it. However serving ended, it took a prefix of the bytes that it heard, obeyed all frames in that, and
+/// sent their answers, the last one perhaps in part.
+pub fn a_server_sends_the_answers_to_what_it_heard()
+    ensures all { (p : Programmer) (talk : Talk) (left : Machine)
+        → AnswersAll p [] (bytes_of (heard talk)) (sent talk) left
+        → (sent talk ≡ answers device (frames (bytes_of (heard talk))) p)
+        × (left.programmer ≡ after_frames device (frames (bytes_of (heard talk))) p) }
+    ensures however { (served : Served) (p : Programmer) (talk : Talk) (left : Machine)
+        → ServingLeaves served p [] talk left → HasServed p talk left.programmer }
+{}
+
+/// A session and a server at the two ends of a line that keeps their bytes in order, and stalls between answers alone:
+/// all that the host reads is honest, where the frames that the server took were obeyed and the others never arrived,
+/// and so the server stands. It holds at any moment of a session, whatever becomes of it.
+pub fn what_a_host_hears_of_a_server_is_honest()
+    ensures honest { (plan : Plan) (s : Chip) (left : Programmer) (host server : Talk)
+        → IsSoundChip s → s.part ≡ plan.part → All (IsFitted plan.part) plan.tasks
+        → (serves : HasServed (fresh_programmer s) server left) → IsJoined host server
+        → HasNoEnd (heard host) → StallsBetweenAnswers (heard host)
+        → IsPrefixOf (sent host) (bytes_sent (played (session plan) 1 (heard host)).events)
+        → AreHonest device (session plan) 1 (heard host) (fresh_programmer s) (obeyed (length (frames serves.used))) }
+    ensures leaves { (plan : Plan) (s : Chip) (left : Programmer) (host server : Talk)
+        → IsSoundChip s → s.part ≡ plan.part → All (IsFitted plan.part) plan.tasks
+        → (serves : HasServed (fresh_programmer s) server left) → IsJoined host server
+        → HasNoEnd (heard host) → StallsBetweenAnswers (heard host)
+        → IsPrefixOf (sent host) (bytes_sent (played (session plan) 1 (heard host)).events)
+        → after_sent device (frames_in (played (session plan) 1 (heard host)).events)
+        (obeyed (length (frames serves.used))) (fresh_programmer s) ≡ left }
+{}
+
+/// No deadlock: at no moment does a session listen and a server too, where all that either has sent was heard.
+pub fn two_processes_never_both_wait()
+    ensures { (plan : Plan) (s : Chip) (first : List Call) (host_items server_items : Tape)
+        → IsSoundChip s → s.part ≡ plan.part → All (IsFitted plan.part) plan.tasks
+        → HasNoEnd (heard (of_host first)) → StallsBetweenAnswers (heard (of_host first))
+        → InTurn (session plan) start (of_host first ++ Got host_items ∷ [])
+        → AnswersInTurn (fresh_programmer s) [] [] (of_server first ++ Got server_items ∷ [])
+        → bytes_of (heard (of_server first)) ≡ sent (of_host first)
+        → bytes_of (heard (of_host first)) ≡ sent (of_server first) → ⊥ }
+{}
+
+/// THE TWO PROCESSES: a session that was played whole, and a server that ended anyhow, in one order of their calls.
+/// What the status says of the chip is what the page says of one behind a wire: and that chip is the one that was
+/// saved. Where the line stalls within answers too, it does as long as no frame is made so.
+pub fn a_session_and_a_server_are_one_run()
+    ensures between { (plan : Plan) (s : Chip) (calls : List Call) (old new : Devices) (server_old server_new : Devices)
+        (file : Bytes) (most status served_status : ℕ) (after : Position)
+        → IsSoundChip s → s.part ≡ plan.part → All (IsFitted plan.part) plan.tasks
+        → IsOrdered calls → StallsBetweenAnswers (heard (of_host calls))
+        → old.link.talk ≡ [] → new.link.talk ≡ of_host calls
+        → server_old.link.talk ≡ [] → server_new.link.talk ≡ of_server calls
+        → (ran : Ran (session plan) start old new status after)
+        → (serves : ServesChip s file most server_old server_new served_status)
+        → (served : HasServed (fresh_programmer s) (of_server calls) serves.left.programmer)
+        × WholeOverTurns plan (fresh_programmer s) serves.left.programmer
+        (turns_heard (session plan) 1 (heard (of_host calls)) (obeyed (length (frames served.used))))
+        (sent (of_host calls)) ran.events status }
+    ensures anywhere { (plan : Plan) (s : Chip) (left : Programmer) (host server : Talk) (events : List (Event Saying))
+        (status : ℕ) (after : Position)
+        → IsSoundChip s → s.part ≡ plan.part → All (IsFitted plan.part) plan.tasks
+        → (serves : HasServed (fresh_programmer s) server left) → IsJoined host server
+        → Plays (session plan) start host events status after
+        → MakesNoFrame device (session plan) 1 (heard host) (fresh_programmer s)
+        (obeyed (length (frames serves.used))) []
+        → WholeOverTurns plan (fresh_programmer s) left
+        (turns_heard (session plan) 1 (heard host) (obeyed (length (frames serves.used)))) (sent host) events status }
+    ensures saved { (s : Chip) (file : Bytes) (most : ℕ) (old new : Devices) (status : ℕ)
+        → (serves : ServesChip s file most old new status) → status ≡ 0
+        → Saves serves.told_desk new.desk file (chip_file serves.left.programmer.chip) (Ok tt) }
+{}
+
+/// The laws of two processes speak of something: for every plan there is such a run, over a line that is never silent.
+pub fn two_processes_have_a_run()
+    ensures { (plan : Plan) (s : Chip) (file : Bytes)
+        → IsSoundChip s → s.part ≡ plan.part → All (IsFitted plan.part) plan.tasks → HasRun plan s file }
+{}
+
+/// Where the host never hears a silence, however the line cuts, they come to the course of the plan: its status, its
+/// sayings, and its memories in the chip that was saved.
+pub fn a_prompt_line_brings_the_course()
+    ensures { (plan : Plan) (s : Chip) (calls : List Call) (old new : Devices) (server_old server_new : Devices)
+        (file : Bytes) (most status served_status : ℕ) (after : Position)
+        → IsSoundChip s → s.part ≡ plan.part → All (IsFitted plan.part) plan.tasks
+        → IsOrdered calls → IsPrompt (heard (of_host calls))
+        → old.link.talk ≡ [] → new.link.talk ≡ of_host calls
+        → server_old.link.talk ≡ [] → server_new.link.talk ≡ of_server calls
+        → (ran : Ran (session plan) start old new status after)
+        → (serves : ServesChip s file most server_old server_new served_status)
+        → (status ≡ (course plan (memories_of s)).status) × (sayings ran.events ≡ (course plan (memories_of s)).says)
+        × (memories_of serves.left.programmer.chip ≡ (course plan (memories_of s)).memories) }
+{}
+
+/// Whatever becomes of either, so that a session is played or breaks off and serving ends anyhow: the chip that is
+/// saved has the first strokes of the plan, as many as were completed by what was heard and at most one more.
+pub fn whatever_becomes_of_both_some_strokes_were_made()
+    ensures { (plan : Plan) (s : Chip) (calls : List Call) (old new : Devices) (server_old server_new : Devices)
+        (file : Bytes) (most status served_status : ℕ)
+        → IsSoundChip s → s.part ≡ plan.part → All (IsFitted plan.part) plan.tasks
+        → IsOrdered calls → StallsBetweenAnswers (heard (of_host calls))
+        → old.link.talk ≡ [] → new.link.talk ≡ of_host calls
+        → server_old.link.talk ≡ [] → server_new.link.talk ≡ of_server calls
+        → RunsSession plan old new status
+        → (serves : ServesChip s file most server_old server_new served_status)
+        → (served : HasServed (fresh_programmer s) (of_server calls) serves.left.programmer)
+        × OverTurns plan (fresh_programmer s) serves.left.programmer
+        (turns_heard (session plan) 1 (heard (of_host calls)) (obeyed (length (frames served.used))))
+        (sent (of_host calls)) (played (session plan) 1 (heard (of_host calls))).events }
+{}
+
+/// What no such line does: be silent within an answer, lose a byte, or bring one before it was sent.
+pub fn an_unordered_line_is_refused()
+    ensures within { StallsBetweenAnswers (Byte 27 ∷ Silence ∷ []) → ⊥ }
+    ensures lost { IsOrdered (HostSays (1 ∷ 2 ∷ []) ∷ ServerHears (Byte 2 ∷ []) ∷ []) → ⊥ }
+    ensures early { IsOrdered (ServerHears (Byte 1 ∷ []) ∷ HostSays (1 ∷ []) ∷ []) → ⊥ }
+{}

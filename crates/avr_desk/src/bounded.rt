@@ -1,0 +1,93 @@
+//! Writers that keep to the length that the system lets a file have.
+ghost use Rattle.std.specs.Prelude.{◌≡◌};
+
+use std::fs::File;
+use std::io::{ErrorKind, Read, Write};
+use std::marker::Model;
+use std::os::fd::AsRawFd;
+use std::rt::Files;
+use std::{fs, io};
+
+/// The resource of `getrlimit` that bounds the length of files.
+const LENGTH_OF_FILES: i32 = 1;
+
+/// A writer that fails with `FileTooLarge` if its next byte would go beyond the length that the system lets a file
+/// have. (The system would end the program, by SIGXFSZ. It shortens a write that only ends beyond.) Contracts see it as
+/// the writer.
+#[derive(Drop)]
+pub struct Bounded<W> {
+    writer: W,
+    file: Option<File>,
+}
+
+impl<W> Model for Bounded<W> {
+    ghost Value = { W };
+
+    ghost view = { λ bounded. bounded.writer };
+}
+
+/// Returns how long the system lets a file be.
+pub(crate) fn longest_file() -> u64 {
+    let mut limit = libc::types::rlimit {
+        rlim_cur: u64::MAX,
+        rlim_max: u64::MAX,
+    };
+    libc::getrlimit(LENGTH_OF_FILES, &mut limit);
+    limit.rlim_cur
+}
+
+/// Creates a file, or empties the one that is there.
+pub(crate) fn create<R: Files<File = File>>(rt: &R, name: &str) -> io::Result<Bounded<File>> {
+    let writer = fs::create(rt, name)?;
+    let is_regular = writer.metadata()?.is_file();
+    let file = if is_regular {
+        Some(writer.try_clone()?)
+    } else {
+        None
+    };
+    Ok(Bounded::new(writer, file))
+}
+
+impl<W> Bounded<W> {
+    /// Bounds a writer to `file`, by a handle of the same regular file; without one it isn't bounded.
+    pub fn new(writer: W, file: Option<File>) -> Bounded<W>
+        ensures { result ≡ writer }
+    {
+        Bounded { writer, file }
+    }
+}
+
+impl<W: AsRawFd> Bounded<W> {
+    /// Whether no byte more can be written: at the writer's position, or behind the file, as one that appends does.
+    fn is_full(&self) -> bool {
+        let Some(Ok(there)) = self.file.as_ref().map(|file| file.metadata()) else {
+            return false;
+        };
+        let position = libc::lseek(self.writer.as_raw_fd(), 0, libc::SEEK_CUR);
+        let end = u64::try_from(position).unwrap_or(0).max(there.len());
+        longest_file() <= end
+    }
+}
+
+impl<W: Write + AsRawFd> Write for Bounded<W> {
+    ghost contents = { W.contents };
+
+    fn write(&mut self, bytes: &[u8]) -> io::Result<usize> {
+        if self.is_full() {
+            return Err(io::Error::from(ErrorKind::FileTooLarge));
+        }
+        self.writer.write(bytes)
+    }
+
+    fn flush(&mut self) -> io::Result<()> {
+        self.writer.flush()
+    }
+}
+
+impl<R: Read> Read for Bounded<R> {
+    ghost remaining = { R.remaining };
+
+    fn read(&mut self, buf: &mut [u8]) -> io::Result<usize> {
+        self.writer.read(buf)
+    }
+}

@@ -1,0 +1,12 @@
+-- in the order in which to read: chips of files, and files that are saved
+pub mod Chips
+pub mod Savings
+-- serving: talks and answers, a piece and its answers, read after read; serving whole
+pub mod Talks
+pub mod Answers
+pub mod Replies
+pub mod ReadByRead
+pub mod ServedRuns
+-- a run over the emulator, and rows
+pub mod Emulating
+pub mod Rows

@@ -1,0 +1,92 @@
+-- The limits of a chip file and of reads; and worked outcomes that contracts refuse, of holding and saving, and of
+-- answers to a frame with a command that no programmer knows.
+use Rattle.std.proofs.Common.{◌≡◌, ◌≤◌, refl, ap, ℕ, List, [], ◌∷◌, length, Ok, Err, arith}
+use Rattle.ghosts.specs.Failures.{HasRisen}
+use Rattle.avr_desk.specs.Record.{Bytes, DeskView, Record, Passes, after_err, nothing_kept, showing, with_held, with_replaced}
+use Rattle.avr_emulator.specs.declared.loading.TheConstants.{LARGEST_CHIP_FILE}
+use Rattle.avr_emulator.specs.Holding as holding
+use Rattle.avr_emulator.specs.Holding.{HoldsFile}
+use Rattle.avr_emulator.specs.Lines.{in_use_line}
+use Rattle.avr_emulator.specs.Saving.{Saves}
+use Rattle.stk_host.specs.declared.link.Item.TheVariants.{End}
+use Rattle.stk_host.specs.Tape.{on_tape}
+use Rattle.stk_host.specs.Talk.{Talk, Sent, Got}
+use Rattle.stk_emu.specs.Programmer.{Programmer}
+use Rattle.avr_emulator.specs.declared.served_run.TheConstants.{READS}
+use Rattle.avr_emulator.specs.Serving.{AnswersInTurn}
+
+largest_chip_file : LARGEST_CHIP_FILE ≡ 4194304
+largest_chip_file = refl
+
+most_reads : READS ≡ 16777216
+most_reads = refl
+
+-- a desk that was asked for nothing and never failed, and one that shows this and has failed so often
+abbrev begun : DeskView
+begun = showing nothing_kept 0 0
+
+abbrev now : Record → ℕ → DeskView
+now r failures = showing r failures 0
+
+no_rise : (n : ℕ) → HasRisen 0 n → n ≤ 0 → ⊥
+no_rise n rises le = omega (arith, rises, le)
+
+abbrev denials : Record → ℕ
+denials r = length r.denied
+
+abbrev file_count : Record → ℕ
+file_count r = length r.uses
+
+-- that a file is in use, reported of a desk that was not asked
+unasked : (file told : Bytes) (trouble : holding.HoldingTrouble) (after : DeskView)
+    → after ≡ now (after_err (in_use_line file) nothing_kept) 0
+    → holding.TellsHoldingTrouble file trouble told begun after
+    → Passes (λ r. after_err told (holding.denied_by file trouble r)) begun after → ⊥
+unasked file told holding.InUse after is tells kept =
+    let none : denials after.kept ≡ 0 = ap (λ v. denials v.kept) is in
+    let one : denials after.kept ≡ 1 = ap denials kept in
+    omega (arith, none, one)
+unasked file told holding.NotReplaceable after is tells kept =
+    let none : after.failures ≡ 0 = ap (λ v. v.failures) is in
+    no_rise tells.between.failures tells.failed.0 (rw none at tells.until.0)
+
+pub no_denial_unasked : (file : Bytes) → HoldsFile begun (now (after_err (in_use_line file) nothing_kept) 0) file
+    (Err 1) → ⊥
+no_denial_unasked file holds = unasked file holds.1.told holds.1.trouble _ refl holds.1.tells holds.1.kept
+
+-- a file that is held though the desk failed
+pub no_hold_behind_a_failure : (file : Bytes) → HoldsFile begun (now (with_held file nothing_kept) 1) file (Ok tt) → ⊥
+no_hold_behind_a_failure file holds = let e : 1 ≡ 0 = holds.1.0 in omega (arith, e)
+
+-- a save that failed, and left an empty file after
+pub no_empty_file : (file bytes line : Bytes)
+    → Saves begun (now (after_err line (with_replaced file [] nothing_kept)) 1) file bytes (Err 1) → ⊥
+no_empty_file file bytes line saves = let e : 1 ≡ 0 = ap file_count saves.1.kept in omega (arith, e)
+
+-- a save that succeeded, and nothing was written; or though the desk failed
+pub no_success_and_nothing_saved : (file bytes : Bytes) → Saves begun begun file bytes (Ok tt) → ⊥
+no_success_and_nothing_saved file bytes saves = let e : 0 ≡ 1 = ap file_count saves.0 in omega (arith, e)
+
+pub no_success_behind_a_failure : (file bytes : Bytes)
+    → Saves begun (now (with_replaced file bytes nothing_kept) 1) file bytes (Ok tt) → ⊥
+no_success_behind_a_failure file bytes saves = let e : 1 ≡ 0 = saves.1.0 in omega (arith, e)
+
+abbrev frame : List ℕ
+frame = 0x1B ∷ 0x09 ∷ 0x00 ∷ 0x01 ∷ 0x0E ∷ 0x05 ∷ 0x18 ∷ []
+
+abbrev answer : List ℕ
+answer = 0x1B ∷ 0x09 ∷ 0x00 ∷ 0x02 ∷ 0x0E ∷ 0x05 ∷ 0xC9 ∷ 0xD2 ∷ []
+
+-- a programmer that listens before it answers isn't in turn, nor is one that keeps a byte of its answer
+abbrev ahead : Talk
+ahead = Got (on_tape frame) ∷ (Got (End ∷ []) ∷ (Sent answer ∷ []))
+
+pub not_ahead : (p : Programmer) → AnswersInTurn p [] [] ahead → ⊥
+not_ahead p in_turn = let none : [] ≡ answer = in_turn.1.0 in absurd (cc)
+
+abbrev short : Talk
+short = Got (on_tape frame) ∷ (Sent (0x1B ∷ 0x09 ∷ 0x00 ∷ 0x02 ∷ 0x0E ∷ 0x05 ∷ 0xC9 ∷ []) ∷ (Got (End ∷ []) ∷ []))
+
+pub not_short : (p : Programmer) → AnswersInTurn p [] [] short → ⊥
+not_short p in_turn = let less : 0x1B ∷ 0x09 ∷ 0x00 ∷ 0x02 ∷ 0x0E ∷ 0x05 ∷ 0xC9 ∷ [] ≡ answer = in_turn.1.0 in
+    absurd (cc)

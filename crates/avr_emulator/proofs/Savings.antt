@@ -1,0 +1,34 @@
+-- Chip files that are saved.
+use Rattle.std.proofs.Common.{◌≡◌, ℕ, Err, subst}
+use Rattle.std.specs.Prelude.{⊤}
+use Rattle.avr_desk.specs.Fault.{Counts}
+use Rattle.avr_desk.specs.Record.{DeskView, Record, Passes, after_replace, after_err, released, with_none_held, Bytes}
+use Rattle.avr_desk.specs.declared.desk.DeskFault.{DeskFault}
+use Rattle.avr_desk.specs.declared.desk.DeskFault.TheVariants.{NotFound, Failed}
+use Rattle.avr_desk.specs.declared.stream.Stream.TheVariants.{File}
+use Rattle.avr_desk.proofs.Lines.Told.{failure_told}
+use Rattle.avr_desk.specs.Lines.{memory_line, not_written_line}
+use Rattle.avr_desk.specs.Said.{Tells}
+use Rattle.avr_emulator.specs.Saving.{NoMemory, NotReplaced, Saves}
+
+-- memory was refused for the bytes
+pub no_memory : (old new : DeskView) (file bytes : Bytes) (status : ℕ) → status ≡ 1
+    → Tells (released old) new memory_line
+    → Saves old new file bytes (Err status)
+no_memory old new file bytes status one told =
+    (one, record { trouble = NoMemory; told = told.told; tells = told.tells; kept = told.kept })
+
+-- the file was not replaced
+pub not_replaced : (old mid new : DeskView) (file bytes : Bytes) (status : ℕ) (fault : DeskFault)
+    → fault ≡ Failed → Passes (after_replace file bytes (Err fault)) old mid → Counts {T = ⊤} File old mid (Err fault)
+    → status ≡ 1 → Tells (released mid) new (not_written_line file) → Saves old new file bytes (Err status)
+not_replaced old mid new file bytes status NotFound only kept counts one told = cc
+not_replaced old mid new file bytes status Failed only kept counts one told = (
+  one,
+  record {
+    trouble = NotReplaced;
+    told = told.told;
+    tells = failure_told old (released mid) new (not_written_line file) counts.0 counts.1 told;
+    kept = subst (λ (r : Record). new.kept ≡ after_err told.told (with_none_held r)) kept told.kept;
+  },
+)

@@ -1,0 +1,55 @@
+-- Laws of what is heard, and of talks in turn.
+use Rattle.std.proofs.Common.{◌≡◌, ℕ, ◌+◌, List, [], ◌∷◌, ◌++◌, refl, sym, ap, ◌∙◌, subst, append_assoc, arith}
+use Rattle.std.proofs.lemmas.List.{append-nil}
+use Rattle.stk_host.specs.declared.link.Item.TheVariants.{Byte, Silence, End}
+use Rattle.stk_host.specs.Tape.{Tape, on_tape, bytes_of}
+use Rattle.stk_host.specs.Talk.{Talk, Sent, Got, sent, heard}
+use Rattle.stk_host.specs.Reach.{IsQuiet}
+use Rattle.stk_host.proofs.Tapes.Answers.{bytes_of_append}
+use Rattle.stk_emu.specs.Programmer.{Programmer}
+use Rattle.avr_emulator.specs.Serving.{HasNoEnd, reads, AnswersInTurn}
+
+pub no_end_append : (x y : Tape) → HasNoEnd x → HasNoEnd y → HasNoEnd (x ++ y)
+no_end_append [] y f g = g
+no_end_append (Byte b ∷ x) y f g = no_end_append x y f g
+no_end_append (Silence ∷ x) y f g = no_end_append x y f g
+no_end_append (End ∷ x) y f g = absurd f
+
+pub no_end_on_tape : (bytes : List ℕ) → HasNoEnd (on_tape bytes)
+no_end_on_tape [] = tt
+no_end_on_tape (b ∷ bytes) = no_end_on_tape bytes
+
+pub reads_append : (x y : Talk) → reads (x ++ y) ≡ reads x + reads y
+reads_append [] y = omega arith
+reads_append (Sent bytes ∷ x) y = reads_append x y
+reads_append (Got tape ∷ x) y = omega (arith, reads_append x y)
+
+-- in a quiet talk nothing is read, so its answers are in turn
+pub reads_quiet : (talk : Talk) → IsQuiet talk → reads talk ≡ 0
+reads_quiet [] quiet = refl
+reads_quiet (Sent bytes ∷ talk) quiet = reads_quiet talk quiet
+reads_quiet (Got tape ∷ talk) quiet = absurd quiet
+
+pub in_turn_quiet : (p : Programmer) (text out : List ℕ) (talk : Talk) → IsQuiet talk → AnswersInTurn p text out talk
+in_turn_quiet p text out [] quiet = tt
+in_turn_quiet p text out (Sent bytes ∷ talk) quiet = in_turn_quiet p text (out ++ bytes) talk quiet
+in_turn_quiet p text out (Got tape ∷ talk) quiet = absurd quiet
+
+-- one talk after another
+pub in_turn_append : (p : Programmer) (text out : List ℕ) (x y : Talk) → AnswersInTurn p text out x
+    → AnswersInTurn p (text ++ bytes_of (heard x)) (out ++ sent x) y
+    → AnswersInTurn p text out (x ++ y)
+in_turn_append p text out [] y f g =
+    subst (λ t. AnswersInTurn p t out y) (append-nil text)
+    (subst (λ o. AnswersInTurn p (text ++ []) o y) (append-nil out) g)
+in_turn_append p text out (Sent bytes ∷ x) y f g =
+    in_turn_append p text (out ++ bytes) x y f
+    (subst (λ o. AnswersInTurn p (text ++ bytes_of (heard x)) o y) (sym (append_assoc out bytes (sent x))) g)
+in_turn_append p text out (Got tape ∷ x) y f g = (
+  f.0,
+  in_turn_append p (text ++ bytes_of tape) out x y f.1
+      (subst (λ t. AnswersInTurn p t (out ++ sent x) y)
+      (ap (λ bs. text ++ bs) (bytes_of_append tape (heard x))
+      ∙ sym (append_assoc text (bytes_of tape) (bytes_of (heard x))))
+      g),
+)

@@ -1,0 +1,80 @@
+-- Section 6 of the page (avr_tool's specs/Headline): a run over the emulator, whose chip has a file.
+use Rattle.std.specs.Prelude.{◌≡◌, ◌⊎◌, ℕ, List, [], ◌∷◌, All, None, Ok, Err}
+use Rattle.avr_emulator.specs.Holding.{HoldsAndLoads, Loaded}
+use Rattle.avr_emulator.specs.Saving.{Saves}
+use Rattle.avr_cli.specs.declared.settings.Settings.{Settings}
+use Rattle.avr_desk.specs.Fault.{Follows}
+use Rattle.avr_desk.specs.Record.{DeskView, Bytes, released}
+use Rattle.avr_part.specs.ChipFile.{chip_file}
+use Rattle.avr_part.specs.Sound.{IsSoundChip}
+use Rattle.avr_part.specs.State.{ChipState as Chip}
+use Rattle.avr_plan.specs.Plan.{Plan, IsFitted}
+use Rattle.avr_plan.specs.Planning.{LacksPart, planned}
+use Rattle.avr_plan.specs.Taking.{AtUpdate}
+use Rattle.avr_desk.specs.Playing.{Goes, Went}
+use Rattle.avr_desk.specs.Stage.{Made}
+use Rattle.ghosts.specs.Stays.{Stays}
+use Rattle.stk_host.specs.Talk.{sent}
+use Rattle.stk_emu.specs.Programmer.{fresh_programmer}
+use Rattle.stk_emu.specs.Wire.{fresh_wire}
+use Rattle.stk_emu.specs.Wired.{WiredState, ComesOf, wired_view}
+use Rattle.stk_emu.specs.declared.fate.Fate.{Fate}
+use Rattle.avr_session.specs.Run.{RunsSession}
+use Rattle.avr_session.specs.Runs.{devices}
+use Rattle.avr_course.specs.AnyLine.{OverAnyLine}
+
+-- The chip's file is replaced if anything was sent, else only released; where it can't be, the status is 1.
+abbrev pub IsSaved : List ℕ → DeskView → DeskView → Bytes → Bytes → ℕ → ℕ → Type 0
+IsSaved [] old now file bytes ran status = (now ≡ released old) × (status ≡ ran)
+IsSaved (byte ∷ sent) old now file bytes ran status =
+    (Saves old now file bytes (Ok tt) × (status ≡ ran))
+    ⊎ ((fault : ℕ) × Saves old now file bytes (Err fault) × (status ≡ 1))
+
+-- a wire to a chip as it begins: nothing is held, waits or has passed, and these are the fates of its frames
+abbrev pub new_wire : Chip → List Fate → WiredState
+new_wire chip fates =
+    record { held = []; wire = fresh_wire (fresh_programmer chip) fates; waits = []; talk = []; failures = 0 }
+
+-- A plan was made, whose images have the sizes of their memories; then the file was held, and a chip of its part, with
+-- memories of its sizes, was loaded from it. The session was run, to a status, as over any link, over a new wire to
+-- that chip, on which no frame goes wrong: so it is its course, unless it stopped. Then, if anything was sent, the chip
+-- as the wire left it was saved to the file; it is held no longer. A failure of the desk in a stage is one since the
+-- stage before it.
+pub record RunsOverEmulator (settings : Settings) (file : Bytes) (old now : DeskView) (status : ℕ) : Type 0 where
+  pub plan : Plan
+  pub chip : Chip
+  pub after : WiredState
+  pub ran : ℕ
+  pub planned_desk : DeskView
+  pub loaded_desk : DeskView
+  pub played_desk : DeskView
+  pub made : Went (planned settings) old planned_desk (Made plan)
+  pub fitted : All (IsFitted plan.part) plan.tasks
+  pub loaded : Loaded plan.part file planned_desk loaded_desk chip
+  pub part : chip.part ≡ plan.part
+  pub sound : IsSoundChip chip
+  pub runs : RunsSession plan (devices (wired_view (new_wire chip [])) loaded_desk)
+      (devices (wired_view after) played_desk) ran
+  pub comes : Stays ComesOf (new_wire chip []) after
+  pub line : OverAnyLine plan (new_wire chip []) after loaded_desk played_desk ran
+  pub saved : IsSaved (sent after.talk) played_desk now file (chip_file after.wire.programmer.chip) ran status
+  pub in_order : Follows loaded_desk played_desk × Follows played_desk now
+
+-- there is a plan, but no chip: nothing was sent
+pub record LacksChip (settings : Settings) (file : Bytes) (old now : DeskView) (status : ℕ) : Type 0 where
+  pub plan : Plan
+  pub between : DeskView
+  pub made : Went (planned settings) old between (Made plan)
+  pub refused : HoldsAndLoads plan.part file between now (Err status)
+
+-- There is no plan: nothing was sent. Without a part file and updates it is only that no part has the name.
+abbrev pub LacksPlan : Settings → DeskView → DeskView → ℕ → Type 0
+LacksPlan settings old now status =
+    Goes (AtUpdate settings) (planned settings) old now (Err status)
+    × (settings.parts ≡ None → settings.updates ≡ [] → LacksPart settings.part [] old now)
+
+-- a whole run; or there is no chip, or no plan, and the status is 1
+abbrev pub RunsEmulator : Settings → Bytes → DeskView → DeskView → ℕ → Type 0
+RunsEmulator settings file old now status =
+    RunsOverEmulator settings file old now status
+    ⊎ (LacksChip settings file old now status ⊎ LacksPlan settings old now status)

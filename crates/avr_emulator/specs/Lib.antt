@@ -1,0 +1,22 @@
+-- the chip file
+pub mod Holding
+pub mod Lines
+pub mod Loading
+pub mod Saving
+-- serving, and inside, what inner functions promise one another
+pub mod Serving
+pub mod ServedRun
+pub mod Replying
+-- a run over the emulator
+pub mod Emulated
+-- of the crates below, what public contracts name
+pub use Rattle.avr_course.specs.AnyLine
+pub use Rattle.avr_desk.specs.Fault
+pub use Rattle.avr_desk.specs.Playing
+pub use Rattle.avr_desk.specs.Record
+pub use Rattle.avr_part.specs.ChipFile
+pub use Rattle.avr_session.specs.Run
+pub use Rattle.avr_session.specs.Runs
+pub use Rattle.ghosts.specs.Stays
+pub use Rattle.stk_emu.specs.Wired
+pub use Rattle.stk_host.specs.Talk

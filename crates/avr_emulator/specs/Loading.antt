@@ -1,0 +1,39 @@
+-- A chip that is loaded, as a function of what the opening of its file gives.
+use Rattle.std.specs.Prelude.{◌≡◌, ◌==◌, nat_le, [], ◌∷◌, length, Result, Ok, Err, if◌then◌else◌}
+use Rattle.avr_desk.specs.Record.{Bytes}
+use Rattle.avr_desk.specs.declared.record.Opening.{Opening}
+use Rattle.avr_desk.specs.declared.record.Opening.TheVariants.{Absent, Found}
+use Rattle.avr_desk.specs.Lines.{too_long_line}
+use Rattle.avr_part.specs.ChipFile.{chip_file_size, state_in}
+use Rattle.avr_part.specs.Part.{Part}
+use Rattle.avr_part.specs.State.{ChipState, fresh_state}
+use Rattle.avr_desk.specs.Playing.{Taking}
+use Rattle.avr_desk.specs.Said.{Opens}
+use Rattle.avr_desk.specs.Stage.{Stage, ◌>>=◌, verdict_stage, open_stage, content_stage}
+use Rattle.avr_emulator.specs.declared.loading.TheConstants.{LARGEST_CHIP_FILE}
+use Rattle.avr_emulator.specs.Lines.{length_line}
+
+-- the chip of these bytes; another length than the part's is refused
+abbrev pub chip_or_line : Part → Bytes → Bytes → Result ChipState Bytes
+chip_or_line part file bytes =
+    if length bytes == chip_file_size part then Ok (state_in part bytes)
+    else Err (length_line file (length bytes) (chip_file_size part))
+
+-- a file past the limit is refused, whatever the part
+abbrev pub judged_chip : Part → Bytes → Bytes → Result ChipState Bytes
+judged_chip part file bytes =
+    if nat_le (length bytes) LARGEST_CHIP_FILE then chip_or_line part file bytes
+    else Err (too_long_line file LARGEST_CHIP_FILE)
+
+-- where there is no such file the chip is fresh
+abbrev pub chip_given : Part → Bytes → Opening → Stage ChipState
+chip_given part file (Absent name) = verdict_stage (Ok (fresh_state part))
+chip_given part file (Found reading) = content_stage file LARGEST_CHIP_FILE (judged_chip part file) (Found reading)
+
+-- the chip of this part that its file holds
+abbrev pub chip_stage : Part → Bytes → Stage ChipState
+chip_stage part file = open_stage file >>= chip_given part file
+
+-- where memory is taken for it: once its file was opened, or isn't there
+abbrev pub AtOpened : Taking
+AtOpened passed said = (opening : Opening) × (passed ≡ opening ∷ []) × (said ≡ Opens opening ∷ [])

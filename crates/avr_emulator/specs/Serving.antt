@@ -1,0 +1,89 @@
+-- An emulated programmer that answers what it hears on a link.
+use Rattle.std.specs.Prelude.{ℕ, List, [], ◌∷◌, ◌++◌, ◌+◌, ◌≡◌, ◌<◌, ◌≤◌, length}
+use Rattle.stk_frame.specs.Cut.{frames}
+use Rattle.stk_host.specs.declared.link.Item.TheVariants.{Byte, Silence, End}
+use Rattle.stk_host.specs.Tape.{Tape, bytes_of}
+use Rattle.stk_host.specs.Talk.{Talk, LinkView, Sent, Got, sent, heard, Grows, HasFailed}
+use Rattle.stk_host.specs.Play.{IsPrefixOf}
+use Rattle.stk_emu.specs.Programmer.{Programmer}
+use Rattle.stk_emu.specs.Device.{device, answers, answer_frame, after_frames}
+use Rattle.stk_emu.specs.Emulator.{Machine, IsFed, emulate}
+use Rattle.avr_emulator.specs.declared.serving.Served.{Served}
+use Rattle.avr_emulator.specs.declared.serving.Served.TheVariants.{Ended, RecvFailed, SendFailed, TooManyReads}
+
+-- no end is among its items
+abbrev pub HasNoEnd : Tape → Type 0
+HasNoEnd [] = Unit {0}
+HasNoEnd (Byte byte ∷ tape) = HasNoEnd tape
+HasNoEnd (Silence ∷ tape) = HasNoEnd tape
+HasNoEnd (End ∷ tape) = ⊥
+
+-- how many pieces were heard
+abbrev pub reads : Talk → ℕ
+reads [] = 0
+reads (Sent bytes ∷ talk) = reads talk
+reads (Got tape ∷ talk) = reads talk + 1
+
+-- What was heard, in at most so many reads, by how serving ended: the end was heard last where it ended with it, and
+-- never where it didn't.
+abbrev pub HearsUntil : Served → ℕ → Talk → Type 0
+HearsUntil Ended turns talk = (before : Tape) × HasNoEnd before × (heard talk ≡ before ++ End ∷ [])
+    × (reads talk ≤ turns)
+HearsUntil RecvFailed turns talk = HasNoEnd (heard talk) × (reads talk < turns)
+HearsUntil SendFailed turns talk = HasNoEnd (heard talk) × (reads talk ≤ turns)
+HearsUntil TooManyReads turns talk = HasNoEnd (heard talk) × (reads talk ≡ turns)
+
+-- At each piece heard, all answers to what was fed before it had been sent: by a programmer that was fed this text and
+-- had sent these answers when the talk began.
+abbrev pub AnswersInTurn : Programmer → List ℕ → List ℕ → Talk → Type 0
+AnswersInTurn p text answered [] = Unit {0}
+AnswersInTurn p text answered (Sent bytes ∷ talk) = AnswersInTurn p text (answered ++ bytes) talk
+AnswersInTurn p text answered (Got tape ∷ talk) =
+    (answered ≡ emulate p text) × AnswersInTurn p (text ++ bytes_of tape) answered talk
+
+-- An emulator that had been fed a text was fed these bytes after it, and these are exactly its answers to them.
+pub record AnswersAll (p : Programmer) (text bytes out : List ℕ) (now : Machine) : Type 0 where
+  pub fed : IsFed p (text ++ bytes) now
+  pub answered : emulate p (text ++ bytes) ≡ emulate p text ++ out
+
+-- It was fed a prefix of these bytes, and the answer to the last frame that ends in it was not sent whole: what was
+-- sent is all answers to the frames before, and a part of this one.
+pub record BreaksOff (p : Programmer) (text bytes out : List ℕ) (now : Machine) : Type 0 where
+  pub used : List ℕ
+  pub unused : List ℕ
+  pub bytes_are : bytes ≡ used ++ unused
+  pub fed : IsFed p (text ++ used) now
+  pub earlier : List (List ℕ)
+  pub last : List ℕ
+  pub frames_are : frames (text ++ used) ≡ earlier ++ last ∷ []
+  pub part : List ℕ
+  pub unsent : List ℕ
+  pub answer_is : answer_frame device last (after_frames device earlier p) ≡ part ++ unsent
+  pub not_whole : 0 < length unsent
+  pub sent_is : emulate p text ++ out ≡ answers device earlier p ++ part
+
+-- What was sent, and what became of the emulator, by how serving ended: where a send failed only a prefix of all
+-- answers was sent.
+abbrev pub ServingLeaves : Served → Programmer → List ℕ → Talk → Machine → Type 0
+ServingLeaves SendFailed p text talk now =
+    IsPrefixOf (emulate p text ++ sent talk) (emulate p (text ++ bytes_of (heard talk)))
+    × BreaksOff p text (bytes_of (heard talk)) (sent talk) now
+ServingLeaves _ p text talk now = AnswersAll p text (bytes_of (heard talk)) (sent talk) now
+
+-- An emulator served a link that showed this before and after it, in at most so many reads, and this is how it ended:
+-- so it is whatever programmer it began with and whatever text it was fed before.
+pub record Serves (old : Machine) (turns : ℕ) (served : Served) (before after : LinkView)
+    (now : Machine) : Type 0 where
+  pub during : Talk
+  pub grows : Grows before.talk during after.talk
+  pub hears : HearsUntil served turns during
+  pub in_turn : (p : Programmer) (text : List ℕ) → IsFed p text old → AnswersInTurn p text (emulate p text) during
+  pub leaves : (p : Programmer) (text : List ℕ) → IsFed p text old → ServingLeaves served p text during now
+
+-- Where the link is said to have failed, its count of failures rose or stands at its end; where it isn't, the count is
+-- what it was.
+abbrev pub FailsBy : Served → LinkView → LinkView → Type 0
+FailsBy Ended before after = after.failures ≡ before.failures
+FailsBy RecvFailed before after = HasFailed before after
+FailsBy SendFailed before after = HasFailed before after
+FailsBy TooManyReads before after = after.failures ≡ before.failures

@@ -1,0 +1,62 @@
+//! How serving ended is reported, and the chip is saved.
+ghost use Rattle.std.specs.Prelude.{◌≡◌};
+ghost use Rattle.avr_desk.specs.Fault.{Follows};
+ghost use Rattle.avr_part.specs.ChipFile.{chip_file};
+ghost use Rattle.avr_emulator.specs.ServedRun.{TellsEnd, SavesAfterServing, end_pieces, status_of_end};
+ghost use Rattle.ghosts.specs.Stays.{Stays};
+
+use crate::saving::save_chip;
+use crate::serving::Served;
+use avr_desk::{Desk, Message, refuse};
+use avr_part::Chip;
+use std::alloc::Global;
+
+/// What is reported of how serving ended; of an end that was heard nothing is.
+fn end_message(served: Served) -> Option<Message<'static>>
+    ensures { result ≡ end_pieces served }
+{
+    match served {
+        Served::Ended => None,
+        Served::RecvFailed => Some(Message::text("link cannot be read")),
+        Served::SendFailed => Some(Message::text("link cannot be written")),
+        Served::TooManyReads => Some(Message::text("too many reads")),
+    }
+}
+
+/// Tells how serving ended, if not with an end that was heard.
+pub(crate) fn tell_end<D: Desk>(desk: &mut D, served: Served)
+    ensures told { TellsEnd served (D.view desk.old) (D.view desk.new) }
+    ensures follows { Follows (D.view desk.old) (D.view desk.new) }
+    ensures stays { Stays D.comes_of desk.old desk.new }
+{
+    if let Some(message) = end_message(served) {
+        refuse(desk, &message);
+    }
+}
+
+fn status_of(served: Served) -> u8
+    ensures { result ≡ status_of_end served }
+{
+    match served {
+        Served::Ended => 0,
+        Served::RecvFailed | Served::SendFailed | Served::TooManyReads => 1,
+    }
+}
+
+/// Saves the chip that was served, and answers the status.
+pub(crate) fn save_served<D: Desk>(
+    alloc: Global,
+    chip: &Chip,
+    file: &str,
+    desk: &mut D,
+    served: Served,
+) -> u8
+    ensures saved { SavesAfterServing served (D.view desk.old) (D.view desk.new) file.now (chip_file chip.now) result }
+    ensures follows { Follows (D.view desk.old) (D.view desk.new) }
+    ensures stays { Stays D.comes_of desk.old desk.new }
+{
+    match save_chip(alloc, chip, file, desk) {
+        Ok(()) => status_of(served),
+        Err(_) => 1,
+    }
+}

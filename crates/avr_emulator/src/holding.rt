@@ -1,0 +1,47 @@
+//! A chip file is held for one run, and its chip is loaded.
+ghost use Rattle.std.specs.Prelude.{◌≡◌, IfOk};
+ghost use Rattle.avr_desk.specs.Fault.{Follows};
+ghost use Rattle.avr_emulator.specs.Holding.{HoldsFile, HoldsAndLoads};
+ghost use Rattle.ghosts.specs.Stays.{Stays};
+
+use crate::loading::load_chip;
+use crate::messages::in_use_message;
+use avr_desk::{Desk, not_written_message, refuse};
+use avr_part::{Chip, Part};
+use std::alloc::Global;
+
+fn hold_file<D: Desk>(file: &str, desk: &mut D) -> Result<(), u8>
+    ensures holds { HoldsFile (D.view desk.old) (D.view desk.new) file.now result }
+    ensures rises { Follows (D.view desk.old) (D.view desk.new) }
+    ensures stays { Stays D.comes_of desk.old desk.new }
+{
+    match desk.hold(file) {
+        Ok(true) => Ok(()),
+        Ok(false) => Err(refuse(desk, &in_use_message(file))),
+        Err(_) => Err(refuse(desk, &not_written_message(file))),
+    }
+}
+
+/// Holds the file of this name until [`crate::save_chip`] or [`Desk::release`], so that no other run has it, and loads
+/// the chip of this part from it, as [`load_chip`] does.
+///
+/// The answer is `Err(1)` where another one holds the file, where it could not be saved later, as its folder isn't
+/// there or can't be written, and where [`load_chip`] refuses it. Then the line that tells why was printed, as far as
+/// the desk takes it, and the file isn't held.
+pub fn hold_chip<D: Desk>(alloc: Global, part: &Part, file: &str, desk: &mut D) -> Result<Chip, u8>
+    ensures loads { HoldsAndLoads part.now file.now (D.view desk.old) (D.view desk.new) result }
+    ensures part { IfOk result (λ c. c.part ≡ part.now) }
+    ensures rises { Follows (D.view desk.old) (D.view desk.new) }
+    ensures stays { Stays D.comes_of desk.old desk.new }
+{
+    if let Err(status) = hold_file(file, desk) {
+        return Err(status);
+    }
+    match load_chip(alloc, part, file, desk) {
+        Ok(chip) => Ok(chip),
+        Err(status) => {
+            desk.release();
+            Err(status)
+        }
+    }
+}

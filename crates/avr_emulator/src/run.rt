@@ -1,0 +1,94 @@
+//! Runs over the emulated programmer: of a plan over a wire, and from settings to status.
+ghost use Rattle.std.specs.Prelude.{◌≡◌};
+ghost use Rattle.avr_desk.specs.Fault.{Follows};
+ghost use Rattle.avr_course.specs.AnyLine.{OverAnyLine};
+ghost use Rattle.avr_session.specs.Run.{RunsSession};
+ghost use Rattle.avr_session.specs.Runs.{devices};
+ghost use Rattle.stk_emu.specs.Wired.{ComesOf, IsFresh, wired_view};
+ghost use Rattle.ghosts.specs.Stays.{Stays};
+ghost use Rattle.stk_host.specs.Talk.{sent};
+ghost use Rattle.avr_part.specs.ChipFile.{chip_file};
+ghost use Rattle.avr_emulator.specs.Emulated.{IsSaved, RunsEmulator};
+
+use crate::holding::hold_chip;
+use crate::saving::save_chip;
+use avr_cli::Settings;
+use avr_desk::Desk;
+use avr_plan::{Plan, plan};
+use avr_session::drive;
+use std::alloc::Global;
+use stk_emu::{Fates, Wired};
+
+/// Plays the session of a plan over a wire to the emulated programmer, as [`avr_session::drive`] does over any link.
+///
+/// Nothing has passed over the wire yet. A chip of another part than the plan's is met as any programmer is.
+pub fn drive_wired<D: Desk>(alloc: Global, plan: &Plan, desk: &mut D, wire: &mut Wired) -> u8
+    requires fresh { IsFresh wire.old }
+    // What is sent, said and answered is the play of the session.
+    ensures runs { RunsSession plan.now (devices (wired_view wire.old) (D.view desk.old))
+        (devices (wired_view wire.new) (D.view desk.new)) result }
+    // The count of the desk's failures never falls.
+    ensures follows { Follows (D.view desk.old) (D.view desk.new) }
+    // Whatever the wire began as, it is still one that did.
+    ensures comes { Stays ComesOf wire.old wire.new }
+    // With a chip of the plan's part this is what became of it, whatever the line loses, delays and spoils.
+    ensures line { wire.old.wire.programmer.chip.part ≡ plan.now.part
+        → OverAnyLine plan.now wire.old wire.new (D.view desk.old) (D.view desk.new) result }
+    ensures stays { Stays D.comes_of desk.old desk.new }
+{
+    // What the clauses rest on: each image has the size of its memory, and the chip's memories those of its part.
+    let _tasks = plan.tasks();
+    let _part = wire.chip().part();
+    drive(alloc, plan, desk, wire)
+}
+
+/// Saves the chip of a wire if anything was sent over it, releases its file, and answers the status of a run of this
+/// one.
+fn save_if_sent<D: Desk>(alloc: Global, wire: &Wired, file: &str, desk: &mut D, status: u8) -> u8
+    ensures saved { IsSaved (sent wire.now.talk) (D.view desk.old) (D.view desk.new) file.now
+        (chip_file wire.now.wire.programmer.chip) status result }
+    ensures follows { Follows (D.view desk.old) (D.view desk.new) }
+    ensures stays { Stays D.comes_of desk.old desk.new }
+{
+    if wire.sent().is_empty() {
+        desk.release();
+        return status;
+    }
+    match save_chip(alloc, wire.chip(), file, desk) {
+        Ok(()) => status,
+        Err(_) => 1,
+    }
+}
+
+/// Plans what the settings ask for and runs it over the emulated programmer, whose part is loaded from the file of this
+/// name (a fresh one, where there is no such file) and saved to it again if a frame was sent. From then to then the
+/// file is held: another run that wants it is refused.
+///
+/// The status is 0 where no fault came, else 1. Every fault has its line; what is refused is reported before any frame
+/// is sent.
+///
+/// ```text
+/// let settings = Settings::for_link(alloc, "m328p")?;
+/// let mut desk = MemDesk::new(alloc);
+/// assert_eq!(rt; run_emu(alloc, &settings, "chip.bin", &mut desk), 0);
+/// assert!(rt; desk.file("chip.bin").map(|file| file.len()) == Some(33_796));
+/// ```
+pub fn run_emu<D: Desk>(alloc: Global, settings: &Settings, file: &str, desk: &mut D) -> u8
+    ensures runs { RunsEmulator settings.now file.now (D.view desk.old) (D.view desk.new) result }
+    ensures stays { Stays D.comes_of desk.old desk.new }
+{
+    let plan = match plan(alloc, settings, desk) {
+        Ok(plan) => plan,
+        Err(status) => return status,
+    };
+    let chip = match hold_chip(alloc, plan.part(), file, desk) {
+        Ok(chip) => chip,
+        Err(status) => return status,
+    };
+    // What the clause rests on: each image has the size of its memory, and the chip's memories those of its part.
+    let _tasks = plan.tasks();
+    let _part = chip.part();
+    let mut wire = Wired::new(alloc, chip, Fates::none(alloc));
+    let status = drive_wired(alloc, &plan, desk, &mut wire);
+    save_if_sent(alloc, &wire, file, desk, status)
+}

@@ -1,0 +1,165 @@
+//! Serving an emulated programmer, from settings to status.
+ghost use Rattle.std.specs.Prelude.{◌≡◌, ◌≤◌, [], None, IfErr, false};
+ghost use Rattle.avr_desk.specs.Fault.{Follows};
+ghost use Rattle.avr_desk.specs.Playing.{AtStart, Goes};
+ghost use Rattle.avr_plan.specs.Planning.{LacksPart};
+ghost use Rattle.avr_emulator.specs.ServedRun.{JudgesChip, JudgesPart, settings_part};
+ghost use Rattle.avr_emulator.specs.ServedRun.{RunsServed, ServesChip, ServesPart};
+ghost use Rattle.avr_session.specs.Runs.{devices};
+ghost use Rattle.ghosts.specs.Stays.{Stays};
+
+use crate::ending::{save_served, tell_end};
+use crate::holding::hold_chip;
+use crate::serving::answer_all;
+use avr_cli::Settings;
+use avr_desk::Desk;
+use avr_part::{Chip, Part};
+use avr_plan::{chosen_part, given_parts};
+use std::alloc::Global;
+use stk_emu::Emulator;
+use stk_host::Link;
+
+/// How many reads [`serve`] allows.
+pub const READS: u32 = 16_777_216;
+
+/// The part of the settings: looked up in their part file, where they have one, before the built-in parts.
+fn find_part<D: Desk>(alloc: Global, desk: &mut D, settings: &Settings) -> Result<Part, u8>
+    ensures goes { Goes (AtStart false) (settings_part settings.now) (D.view desk.old) (D.view desk.new) result }
+    ensures bare { settings.now.parts ≡ None
+        → IfErr result (λ status. LacksPart settings.now.part [] (D.view desk.old) (D.view desk.new)) }
+    ensures stays { Stays D.comes_of desk.old desk.new }
+{
+    let parts = match given_parts(alloc, desk, &settings.parts) {
+        Ok(parts) => parts,
+        Err(_) => return Err(1),
+    };
+    chosen_part(desk, &parts, settings.part.as_str())
+}
+
+/// The part, once the file of this name was judged as that of a chip of it.
+fn judge_chip<D: Desk>(alloc: Global, part: Part, file: &str, desk: &mut D) -> Result<Part, u8>
+    ensures judges { JudgesChip part file.now (D.view desk.old) (D.view desk.new) result }
+    ensures stays { Stays D.comes_of desk.old desk.new }
+{
+    let _judged = match hold_chip(alloc, &part, file, desk) {
+        Ok(judged) => judged,
+        Err(status) => return Err(status),
+    };
+    desk.release();
+    Ok(part)
+}
+
+/// The part of the settings, once the file of this name was judged as that of a chip of it, for a chip that is loaded
+/// later: all that refuses a chip before a caller comes.
+///
+/// Where the part file, the name of the part or the chip file is refused, where another run has the chip file or it
+/// could not be saved, where the desk fails or memory is refused, the answer is `Err(1)`, and the line that tells why
+/// was printed as far as the desk takes it.
+pub fn judge_part<D: Desk>(
+    alloc: Global,
+    settings: &Settings,
+    file: &str,
+    desk: &mut D,
+) -> Result<Part, u8>
+    ensures judges { JudgesPart settings.now file.now (D.view desk.old) (D.view desk.new) result }
+    ensures stays { Stays D.comes_of desk.old desk.new }
+{
+    match find_part(alloc, desk, settings) {
+        Ok(part) => judge_chip(alloc, part, file, desk),
+        Err(status) => Err(status),
+    }
+}
+
+/// Serves a chip over a link, in at most `turns` reads, tells how that ended, and saves the chip to the file of this
+/// name.
+///
+/// What is sent are the answers of a fresh programmer with this chip to what is heard, and all of them are sent before
+/// the next read. An end that was heard has no line, any other its own; whichever it is, the chip is saved as the
+/// frames that came had left it.
+///
+/// The status is 0 where an end was heard and the chip was saved, else 1.
+pub fn serve_chip<D: Desk, L: Link>(
+    alloc: Global,
+    chip: Chip,
+    file: &str,
+    desk: &mut D,
+    link: &mut L,
+    turns: u32,
+) -> u8
+    ensures serves { ServesChip chip file.now turns (devices (L.view link.old) (D.view desk.old))
+        (devices (L.view link.new) (D.view desk.new)) result }
+    ensures follows { Follows (D.view desk.old) (D.view desk.new) }
+    ensures counted { (L.view link.old).failures ≤ (L.view link.new).failures }
+    ensures comes { Stays L.comes_of link.old link.new }
+    ensures stays { Stays D.comes_of desk.old desk.new }
+{
+    let mut emulator = Emulator::new(chip);
+    let served = answer_all(&mut emulator, link, turns);
+    tell_end(desk, served);
+    save_served(alloc, emulator.chip(), file, desk, served)
+}
+
+/// Holds the file of this name, loads the chip of this part from it, fresh where there is no such file, and serves it
+/// over a link as [`serve_chip`] does. Until the chip was saved no other run has the file.
+///
+/// The status is 0 where an end was heard and the chip was saved, else 1. Where the chip file is refused nothing is
+/// heard or sent, and no file is written.
+pub fn serve_part<D: Desk, L: Link>(
+    alloc: Global,
+    part: &Part,
+    file: &str,
+    desk: &mut D,
+    link: &mut L,
+    turns: u32,
+) -> u8
+    ensures runs { ServesPart part.now file.now turns
+        (devices (L.view link.old) (D.view desk.old)) (devices (L.view link.new) (D.view desk.new)) result }
+    ensures follows { Follows (D.view desk.old) (D.view desk.new) }
+    ensures counted { (L.view link.old).failures ≤ (L.view link.new).failures }
+    ensures comes { Stays L.comes_of link.old link.new }
+    ensures stays { Stays D.comes_of desk.old desk.new }
+{
+    match hold_chip(alloc, part, file, desk) {
+        Ok(chip) => serve_chip(alloc, chip, file, desk, link, turns),
+        Err(status) => status,
+    }
+}
+
+/// Serves the emulated programmer of the settings' part over a link, in at most 16,777,216 reads.
+///
+/// The chip is loaded from the file of this name, which is held until the chip was saved, and is fresh if there is no
+/// such file. What is sent are the answers of a fresh programmer with this chip to what is heard, and all of them are
+/// sent before the next read. However that ends, its line is printed, but for an end that was heard, and the chip is
+/// saved to the file.
+///
+/// The status is 0 if an end was heard and the chip was saved, else 1. If the part or the chip file is refused, nothing
+/// is heard or sent, and no file is written.
+///
+/// ```text
+/// let settings = Settings::for_link(alloc, "m328p")?;
+/// let mut desk = MemDesk::new(alloc);
+/// let sign_on = b"\x1B\x01\x00\x01\x0E\x01\x14";
+/// let mut caller = StreamLink::new(sign_on.as_slice(), Vec::new(alloc));
+/// assert_eq!(rt; serve(alloc, &settings, "chip.bin", &mut desk, &mut caller), 0);
+/// let (_, answer) = caller.into_inner();
+/// assert!(rt; answer.as_slice() == b"\x1B\x01\x00\x0B\x0E\x01\x00\x08STK500_2\x02".as_slice());
+/// ```
+pub fn serve<D: Desk, L: Link>(
+    alloc: Global,
+    settings: &Settings,
+    file: &str,
+    desk: &mut D,
+    link: &mut L,
+) -> u8
+    ensures runs { RunsServed settings.now file.now (devices (L.view link.old) (D.view desk.old))
+        (devices (L.view link.new) (D.view desk.new)) result }
+    ensures follows { Follows (D.view desk.old) (D.view desk.new) }
+    ensures counted { (L.view link.old).failures ≤ (L.view link.new).failures }
+    ensures comes { Stays L.comes_of link.old link.new }
+    ensures stays { Stays D.comes_of desk.old desk.new }
+{
+    match find_part(alloc, desk, settings) {
+        Ok(part) => serve_part(alloc, &part, file, desk, link, READS),
+        Err(status) => status,
+    }
+}

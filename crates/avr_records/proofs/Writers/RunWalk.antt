@@ -1,0 +1,85 @@
+-- A walk over bytes that follow each other in a memory.
+use Rattle.std.proofs.Common.{◌≡◌, ◌∙◌, sym, ap, refl, arith, ℕ, zero, suc, ◌+◌, ◌-◌, ◌^◌, ◌<◌, ◌≤◌, List, [], ◌∷◌, ◌++◌, length, take, drop, min, map, Option, Some, None, is_some}
+use Rattle.std.specs.List.{position_from}
+use Rattle.std.proofs.Math.Seq.{drop-nil, take-nil}
+use Rattle.std.proofs.lemmas.List.{drop_min, length-append, length-map, length-replicate, take_min, take_rest}
+use Rattle.hex.specs.Hex.{IsBytes}
+use Rattle.avr_image.specs.Image.{HoldsBytes, empty, first_from}
+use Rattle.avr_image.specs.Runs.{lead}
+use Rattle.avr_records.specs.Sparse.{IsMemory, run_at}
+
+abbrev held : ℕ → List ℕ → List (Option ℕ)
+held base bytes = empty base ++ map (λ byte. Some byte) bytes
+
+first-held : (k base addr : ℕ) (bytes : List ℕ) → addr - base < length bytes
+    → position_from is_some k (drop addr (held base bytes)) ≡ Some (k + (base - addr))
+first-held k zero addr [] some = absurd (omega (arith, some))
+first-held k zero zero (b ∷ bytes) some = ap Some (omega arith)
+first-held k zero (suc addr) (b ∷ bytes) some =
+    first-held k zero addr bytes (omega (arith, some)) ∙ ap Some (omega arith)
+first-held k (suc base) zero bytes some =
+    first-held (k + 1) base zero bytes (omega (arith, some)) ∙ ap Some (omega arith)
+first-held k (suc base) (suc addr) bytes some =
+    first-held k base addr bytes (omega (arith, some)) ∙ ap Some (omega arith)
+
+pub first-in : (base addr : ℕ) (bytes : List ℕ) → addr - base < length bytes
+    → first_from (run_at base bytes) addr ≡ Some (base + (addr - base))
+first-in base addr [] some = absurd (omega (arith, some))
+first-in base addr (b ∷ bytes) some = first-held addr base addr (b ∷ bytes) some ∙ ap Some (omega arith)
+
+lead-held : (base addr n : ℕ) (bytes : List ℕ) → addr ≡ base + n
+    → lead (drop addr (held base bytes)) ≡ drop n bytes
+lead-held zero zero zero [] is = refl
+lead-held zero zero zero (b ∷ bytes) is = ap (λ (more : List ℕ). b ∷ more) (lead-held zero zero zero bytes is)
+lead-held zero zero (suc n) bytes is = absurd (omega (arith, is))
+lead-held zero (suc addr) zero bytes is = absurd (omega (arith, is))
+lead-held zero (suc addr) (suc n) [] is = refl
+lead-held zero (suc addr) (suc n) (b ∷ bytes) is = lead-held zero addr n bytes (omega (arith, is))
+lead-held (suc base) zero n bytes is = absurd (omega (arith, is))
+lead-held (suc base) (suc addr) n bytes is = lead-held base addr n bytes (omega (arith, is))
+
+lead-in : (base addr n : ℕ) (bytes : List ℕ) → addr ≡ base + n → lead (drop addr (run_at base bytes)) ≡ drop n bytes
+lead-in base addr n [] is = ap lead (drop-nil addr) ∙ sym (drop-nil n)
+lead-in base addr n (b ∷ bytes) is = lead-held base addr n (b ∷ bytes) is
+
+gap-held : (base addr : ℕ) (bytes : List ℕ) → addr < base → lead (drop addr (held base bytes)) ≡ []
+gap-held zero addr bytes before = absurd (omega (arith, before))
+gap-held (suc base) zero bytes before = refl
+gap-held (suc base) (suc addr) bytes before = gap-held base addr bytes (omega (arith, before))
+
+pub gap-in : (base addr most : ℕ) (bytes : List ℕ) → addr < base → take most (lead (drop addr (run_at base bytes))) ≡ []
+gap-in base addr most [] before = ap (λ (xs : List (Option ℕ)). take most (lead xs)) (drop-nil addr) ∙ take-nil most
+gap-in base addr most (b ∷ bytes) before = ap (take most) (gap-held base addr (b ∷ bytes) before) ∙ take-nil most
+
+-- the row that is lent: so many bytes after these
+pub row-in : (base addr most past few : ℕ) (bytes : List ℕ) → base ≤ addr → past ≡ min (addr - base) (length bytes)
+    → few ≡ min most (length (take (length bytes - past) (drop past bytes)))
+    → take few (take (length bytes - past) (drop past bytes)) ≡ take most (lead (drop addr (run_at base bytes)))
+row-in base addr most past few bytes after past_is few_is =
+    let rest : List ℕ = take (length bytes - past) (drop past bytes) in
+    let there : drop past bytes ≡ drop (addr - base) bytes =
+    ap (λ (n : ℕ). drop n bytes) past_is ∙ drop_min (addr - base) bytes in
+    ap (λ (n : ℕ). take n rest) few_is
+    ∙ take_min most rest
+    ∙ ap (take most) (take_rest bytes past ∙ there ∙ sym (lead-in base addr (addr - base) bytes (omega (arith, after))))
+
+bytes-held : (base : ℕ) (bytes : List ℕ) → IsBytes bytes → HoldsBytes (held base bytes)
+bytes-held zero [] all addr byte is = absurd (cc is)
+bytes-held zero (b ∷ bytes) all zero byte is = let same : b ≡ byte = cc is in omega (arith, same, all 0)
+bytes-held zero (b ∷ bytes) all (suc addr) byte is = bytes-held zero bytes (λ i. all (suc i)) addr byte is
+bytes-held (suc base) bytes all zero byte is = absurd (cc is)
+bytes-held (suc base) bytes all (suc addr) byte is = bytes-held base bytes all addr byte is
+
+pub is-memory : (base : ℕ) (bytes : List ℕ) → base + length bytes ≤ 2 ^ 32 → IsBytes bytes
+    → IsMemory (run_at base bytes)
+is-memory base [] below all = record { short = omega arith; bytes = λ addr byte is. absurd (cc is) }
+is-memory base (b ∷ bytes) below all = record {
+  short = omega (
+    arith,
+    below,
+    length-append (empty base) (map (λ byte. Some byte) (b ∷ bytes)),
+    length-replicate {A = Option ℕ} base None,
+    length-map (b ∷ bytes) (λ byte. Some byte),
+  );
+  bytes = bytes-held base (b ∷ bytes) all;
+}

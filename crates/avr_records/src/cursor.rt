@@ -1,0 +1,164 @@
+//! How far a record file of a memory is written.
+
+ghost use Rattle.std.specs.Prelude.{◌≡◌, ◌-◌, ◌<◌, ◌≤◌, ◌↔◌, ◌++◌, [], false, length, IsTrue};
+ghost use Rattle.avr_records.specs.Text.{IsLine, address_size};
+ghost use Rattle.avr_records.specs.Sparse.{file_rows, last_held, new_upper as spec_new_upper, row_size as spec_row_size, row_text};
+ghost use Rattle.avr_records.specs.Writing.{left};
+
+use crate::address_size::AddressSize;
+use crate::kind::Kind;
+use crate::sparse::Sparse;
+use crate::written_line::ROW_SIZE;
+use crate::{ihex_line, srec_line};
+use arrayvec::ArrayVec;
+
+/// Returns the last address that holds a byte, or 0.
+fn last_held_of<M: Sparse>(memory: &M) -> u64
+    ensures { result ≡ last_held 0 0 (M.held memory.now) }
+{
+    let mut last = 0;
+    let mut addr = 0;
+    'rows: while let Some(place) = memory.next_held(addr) {
+        addr = place as u64 + memory.row_at(place, ROW_SIZE).len() as u64;
+        last = addr.saturating_sub(1);
+    }
+    last
+}
+
+/// How far a record file of a memory is written: values that may be kept anywhere, from which the file goes on. Rows
+/// have at most 32 bytes, and cross no gap. Those of Intel HEX cross no multiple of 65,536 either.
+///
+/// ```text
+/// let mut image = Image::new(alloc, 8)?;
+/// image.put_slice(1, &[1, 2])?;
+/// let mut cursor = Cursor::new(Kind::Ihex, &image);
+/// let mut line = ArrayVec::new();
+/// assert!(rt; cursor.next_line(&image, &mut line));
+/// assert_eq!(rt; line.as_slice(), b":020001000102FA\n".as_slice());
+/// assert_eq!(rt; cursor.addr, 3);
+/// ```
+#[derive(Clone, Copy, Debug, PartialEq, Eq)]
+pub struct Cursor {
+    /// The kind of file.
+    pub kind: Kind,
+    /// The bytes below this address were written.
+    pub addr: u64,
+    /// Of Intel HEX: the upper 16 bits of the address that are in force.
+    pub upper: u16,
+    /// Of S-records: how many bytes each address has.
+    pub address_size: AddressSize,
+    /// Whether the end record was written.
+    pub ended: bool,
+}
+
+impl Cursor {
+    /// Returns the cursor at the beginning of a memory's file. The addresses of S-records are as short as the last byte
+    /// allows.
+    ///
+    /// ```text
+    /// let mut image = Image::new(alloc, 0x10001)?;
+    /// image.put(0x10000, 0xAA)?;
+    /// assert_eq!(rt; Cursor::new(Kind::Srec, &image).address_size, AddressSize::Three);
+    /// ```
+    pub fn new<M: Sparse>(kind: Kind, memory: &M) -> Cursor
+        ensures { result ≡ record {
+          kind = kind;
+          addr = 0;
+          upper = 0;
+          address_size = address_size (last_held 0 0 (M.held memory.now));
+          ended = false;
+        } }
+    {
+        Cursor {
+            kind,
+            addr: 0,
+            upper: 0,
+            address_size: AddressSize::holding(last_held_of(memory)),
+            ended: false,
+        }
+    }
+
+    /// Makes `out` the next line of the file and returns true; or empties it and returns false, after the end record.
+    ///
+    /// ```text
+    /// let mut image = Image::new(alloc, 0x20001)?;
+    /// image.put(0x20000, 0x55)?;
+    /// let mut cursor = Cursor::new(Kind::Ihex, &image);
+    /// let mut line = ArrayVec::new();
+    /// assert!(rt; cursor.next_line(&image, &mut line));
+    /// assert_eq!(rt; line.as_slice(), b":020000040002F8\n".as_slice());
+    /// ```
+    pub fn next_line<M: Sparse>(&mut self, memory: &M, out: &mut ArrayVec<u8, 80>) -> bool
+        ensures joined { left self.old (M.held memory.now) ≡ out.new.items ++ left self.new (M.held memory.now) }
+        ensures some { IsTrue result ↔ (0 < length out.new.items) }
+        ensures ends { IsTrue result ↔ (0 < length (left self.old (M.held memory.now))) }
+        ensures line { IsTrue result → IsLine out.new.items }
+        ensures kind { self.new.kind ≡ self.old.kind }
+        ensures size { self.new.address_size ≡ self.old.address_size }
+    {
+        if self.ended {
+            out.clear();
+            return false;
+        }
+        let Some(place) = memory.next_held(self.addr) else {
+            self.put_end(out);
+            self.ended = true;
+            return true;
+        };
+        if let Some(upper) = self.new_upper(place) {
+            ihex_line::put_upper(upper, out);
+            self.upper = upper;
+            return true;
+        }
+        let row = memory.row_at(place, self.row_size(place));
+        self.put_row(place, row, out);
+        self.addr = place as u64 + row.len() as u64;
+        true
+    }
+
+    /// Makes `out` the record that ends the file.
+    fn put_end(&self, out: &mut ArrayVec<u8, 80>)
+        ensures text { out.new.items ≡ file_rows self.now.kind self.now.upper self.now.address_size [] }
+        ensures some { 0 < length out.new.items }
+        ensures line { IsLine out.new.items }
+    {
+        match self.kind {
+            Kind::Ihex => ihex_line::put_end(out),
+            Kind::Srec => srec_line::put_end(self.address_size, out),
+        }
+    }
+
+    /// Returns the upper 16 bits of an address, if a record of Intel HEX has to set them.
+    fn new_upper(&self, addr: u32) -> Option<u16>
+        ensures { result ≡ spec_new_upper self.now.kind self.now.upper addr }
+    {
+        match self.kind {
+            Kind::Ihex => ihex_line::new_upper(addr, self.upper),
+            Kind::Srec => None,
+        }
+    }
+
+    /// Returns how many bytes a row at this address has at most.
+    fn row_size(&self, addr: u32) -> usize
+        ensures size { result ≡ spec_row_size self.now.kind addr }
+        ensures most { result ≤ 32 }
+    {
+        match self.kind {
+            Kind::Ihex => ihex_line::row_size(addr),
+            Kind::Srec => ROW_SIZE,
+        }
+    }
+
+    /// Makes `out` a record of data whose first byte is at this address.
+    fn put_row(&self, addr: u32, row: &[u8], out: &mut ArrayVec<u8, 80>)
+        requires { length row.now ≤ 32 }
+        ensures text { out.new.items ≡ row_text self.now.kind self.now.address_size addr row.now }
+        ensures some { 0 < length out.new.items }
+        ensures line { IsLine out.new.items }
+    {
+        match self.kind {
+            Kind::Ihex => ihex_line::put_row(addr, row, out),
+            Kind::Srec => srec_line::put_row(self.address_size, addr, row, out),
+        }
+    }
+}

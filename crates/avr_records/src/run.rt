@@ -1,0 +1,87 @@
+//! Bytes that follow each other in a memory.
+
+ghost use Rattle.std.specs.Prelude.{◌≡◌, ◌+◌, ◌^◌, ◌≤◌, length, take, drop};
+ghost use Rattle.avr_image.specs.Image.{first_from};
+ghost use Rattle.avr_image.specs.Runs.{lead};
+ghost use Rattle.avr_records.specs.Sparse.{IsMemory, run_at};
+
+use crate::sparse::Sparse;
+use std::marker::Model;
+
+/// Bytes that follow each other in a memory, from a byte address on. Contracts see the memory, which ends with the last
+/// of them.
+///
+/// ```text
+/// let run = Run::new(0x10000, &[0xAA]);
+/// let text = Writer::new(Kind::Srec, &run).to_vec(alloc)?;
+/// assert_eq!(rt; text.as_slice(), b"S205010000AA4F\nS804000000FB\n".as_slice());
+/// ```
+#[derive(Debug, Drop)]
+pub struct Run<'a> {
+    base: u32,
+    bytes: &'a [u8],
+}
+
+impl<'a> Model for Run<'a> {
+    ghost use Rattle.std.specs.Prelude.{ℕ, List, Option, ◌+◌, ◌^◌, ◌≤◌, length};
+    ghost use Rattle.avr_records.specs.Sparse.{run_at};
+
+    ghost Value = { List (Option ℕ) };
+
+    ghost view = { λ run. run_at run.base run.bytes.now };
+
+    ghost invariant = { λ run. run.base + length run.bytes.now ≤ 2 ^ 32 };
+}
+
+impl<'a> Run<'a> {
+    /// Returns the memory of these bytes, of which the first one is at the byte address `base`, and the last one below
+    /// 2 to the power 32. It borrows the bytes.
+    ///
+    /// ```text
+    /// assert_eq!(rt; Run::new(8, &[0x12, 0x34]).next_held(0), Some(8));
+    /// ```
+    pub fn new(base: u32, bytes: &'a [u8]) -> Run<'a>
+        requires { base + length bytes.now ≤ 2 ^ 32 }
+        ensures { result ≡ run_at base bytes.now }
+    {
+        Run { base, bytes }
+    }
+}
+
+/// Returns the least address from `addr` on at which one of these bytes is.
+fn next_in(base: u32, bytes: &[u8], addr: u64) -> Option<u32>
+    requires { base + length bytes.now ≤ 2 ^ 32 }
+    ensures next { result ≡ first_from (run_at base bytes.now) addr }
+    ensures memory { IsMemory (run_at base bytes.now) }
+{
+    let skipped = addr.saturating_sub(u64::from(base));
+    if skipped < bytes.len() as u64 {
+        Some(base + skipped as u32)
+    } else {
+        None
+    }
+}
+
+/// Returns those of these bytes that are from `addr` on, at most so many; none if they begin after it.
+fn row_in<'a>(base: u32, bytes: &'a [u8], addr: u32, most: usize) -> &'a [u8]
+    ensures row { result.now ≡ take most (lead (drop addr (run_at base bytes.now))) }
+    ensures few { length result.now ≤ most }
+{
+    if addr < base {
+        return &[];
+    }
+    let rest = &bytes[((addr - base) as usize).min(bytes.len())..];
+    &rest[..most.min(rest.len())]
+}
+
+impl Sparse for Run<'_> {
+    ghost held = { λ run. run };
+
+    fn next_held(&self, addr: u64) -> Option<u32> {
+        next_in(self.base, self.bytes, addr)
+    }
+
+    fn row_at(&self, addr: u32, most: usize) -> &[u8] {
+        row_in(self.base, self.bytes, addr, most)
+    }
+}

@@ -1,0 +1,118 @@
+//! Where the bytes of a data record lie.
+ghost use Rattle.std.specs.Prelude.{◌≡◌, ◌≤◌, ◌*◌, ◌+◌, length, [], None};
+ghost use Rattle.std.specs.List.{enumerate_from};
+ghost use Rattle.avr_image.specs.Image.{laid_over};
+ghost use Rattle.avr_records.specs.Laying.{Extends, Near, spans_places};
+ghost use Rattle.avr_records.specs.Reading.{beyond, places};
+
+use crate::kind::Base;
+use avr_image::Image;
+
+/// The bytes of a segment, within which offsets wrap.
+const SEGMENT: u32 = 65_536;
+
+/// The end of bytes so far, once bytes from an address on are among them; or the first address of these that isn't
+/// below the limit.
+fn span_end(limit: u32, end: u32, addr: u32, bytes: &[u8]) -> Result<u32, u32>
+    ensures { Extends limit end (enumerate_from addr bytes.now) result }
+{
+    if bytes.is_empty() {
+        Ok(end)
+    } else if bytes.len() <= limit.saturating_sub(addr) as usize {
+        Ok(end.max(addr + bytes.len() as u32))
+    } else {
+        Err(addr.max(limit))
+    }
+}
+
+/// Lays bytes from an address on that all lie inside the image.
+fn lay_span(image: &mut Image, addr: u32, bytes: &[u8])
+    requires { beyond (length image.old) (enumerate_from addr bytes.now) ≡ None }
+    ensures laid { image.new ≡ laid_over image.old (enumerate_from addr bytes.now) }
+    ensures size { length image.new ≡ length image.old }
+{
+    let _ = image.put_slice(addr, bytes);
+}
+
+/// Bytes from an address on, and more from another one on: those of a record that lie past the end of a segment begin
+/// again at its start.
+#[derive(Clone, Copy)]
+pub struct Spans<'a> {
+    addr: u32,
+    bytes: &'a [u8],
+    start: u32,
+    wrapped: &'a [u8],
+}
+
+impl<'a> Spans<'a> {
+    /// Bytes that follow each other.
+    fn one(addr: u32, bytes: &'a [u8]) -> Spans<'a>
+        ensures { spans_places result ≡ enumerate_from addr bytes.now }
+    {
+        Spans {
+            addr,
+            bytes,
+            start: 0,
+            wrapped: &[],
+        }
+    }
+
+    /// No bytes.
+    pub(crate) fn none() -> Spans<'a>
+        ensures { spans_places result ≡ [] }
+    {
+        Spans::one(0, &[])
+    }
+
+    /// The bytes from an offset in a segment on.
+    fn in_segment(paragraph: u16, offset: u32, bytes: &'a [u8]) -> Spans<'a>
+        requires { length bytes.now ≤ 255 }
+        ensures { spans_places result ≡ places (Base.Segment paragraph) offset bytes.now }
+    {
+        let start = paragraph as u32 * 16;
+        let offset = offset % SEGMENT;
+        let room = (SEGMENT - offset) as usize;
+        if bytes.len() <= room {
+            return Spans::one(start + offset, bytes);
+        }
+        Spans {
+            addr: start + offset,
+            bytes: &bytes[..room],
+            start,
+            wrapped: &bytes[room..],
+        }
+    }
+
+    /// The bytes of a data record.
+    pub(crate) fn of_record(base: Base, offset: u32, bytes: &'a [u8]) -> Spans<'a>
+        requires short { length bytes.now ≤ 255 }
+        requires near { Near base offset }
+        ensures { spans_places result ≡ places base offset bytes.now }
+    {
+        match base {
+            Base::Linear(upper) => Spans::one(upper as u32 * SEGMENT + offset, bytes),
+            Base::Segment(paragraph) => Spans::in_segment(paragraph, offset, bytes),
+        }
+    }
+
+    /// The end of bytes so far, once these are among them; or the first address of these that isn't below the limit.
+    pub(crate) fn end(self, limit: u32, end: u32) -> Result<u32, u32>
+        ensures { Extends limit end (spans_places self.entry) result }
+    {
+        match span_end(limit, end, self.addr, self.bytes) {
+            Ok(end) => span_end(limit, end, self.start, self.wrapped),
+            Err(addr) => Err(addr),
+        }
+    }
+
+    /// Lays the bytes into an image that has all their addresses.
+    #[inline(always)]
+    pub(crate) fn lay(self, image: &mut Image)
+        requires { beyond (length image.old) (spans_places self) ≡ None }
+        ensures laid { image.new ≡ laid_over image.old (spans_places self.entry) }
+        ensures size { length image.new ≡ length image.old }
+    {
+        lay_span(image, self.addr, self.bytes);
+        lay_span(image, self.start, self.wrapped);
+    }
+}

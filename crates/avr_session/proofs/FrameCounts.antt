@@ -1,0 +1,124 @@
+-- How many commands the steps of a plan have.
+use Rattle.std.proofs.Common.{◌≡◌, ◌∙◌, refl, ap, sym, arith, ℕ, zero, suc, ◌+◌, ◌*◌, ◌-◌, ◌<◌, ◌≤◌, Bool, true, false, Option, List, [], ◌∷◌, ◌++◌, length, drop, min, ◌^◌}
+use Rattle.avr_part.specs.Part.{Part}
+use Rattle.avr_part.specs.declared.part.Mem.{Mem}
+use Rattle.avr_plan.specs.Plan.{Plan}
+use Rattle.avr_plan.specs.declared.planned.Task.{Task}
+use Rattle.avr_session.specs.Actions.{Action, WriteImage, CompareImage, erase_actions, task_actions, tasks_actions}
+use Rattle.avr_session.specs.PlanSteps.{action_steps, actions_steps, run_steps}
+use Rattle.stk_frame.specs.declared.command.Command.{Command}
+use Rattle.stk_host.specs.Bound.{commands_in, opening_steps, closing_steps}
+use Rattle.stk_host.specs.Places.{each_from}
+use Rattle.stk_host.specs.ReadSteps.{read_steps}
+use Rattle.stk_host.specs.WriteSteps.{is_used, page_steps, write_steps}
+
+pub commands_append : (first second : List (List Command))
+    → commands_in (first ++ second) ≡ commands_in first + commands_in second
+commands_append [] second = omega arith
+commands_append (commands ∷ first) second = let more = commands_append first second in omega (arith, more)
+
+pub actions_append : (part : Part) (first second : List Action)
+    → commands_in (actions_steps part (first ++ second))
+    ≡ commands_in (actions_steps part first) + commands_in (actions_steps part second)
+actions_append part [] second = omega arith
+actions_append part (action ∷ first) second =
+    let here = commands_append (action_steps part action) (actions_steps part (first ++ second)) in
+    let there = commands_append (action_steps part action) (actions_steps part first) in
+    let more = actions_append part first second in
+    omega (arith, here, there, more)
+
+pub write_and_read : (part : Part) (mem : Mem) (image : List (Option ℕ))
+    → commands_in (actions_steps part (WriteImage mem image ∷ CompareImage mem image ∷ []))
+    ≡ commands_in (write_steps part mem image) + commands_in (read_steps part mem)
+write_and_read part mem image =
+    let first = commands_append (write_steps part mem image) (read_steps part mem ++ []) in
+    let second = commands_append (read_steps part mem) [] in
+    omega (arith, first, second)
+
+-- the opening has five commands, and the closing one
+pub plan_commands : (plan : Plan) → commands_in (run_steps plan)
+    ≡ 6 + commands_in (actions_steps plan.part (erase_actions plan.switches plan.tasks))
+    + commands_in (actions_steps plan.part (tasks_actions plan.switches plan.tasks))
+plan_commands plan =
+    let erases = erase_actions plan.switches plan.tasks in
+    let tasks = tasks_actions plan.switches plan.tasks in
+    let whole = commands_append (opening_steps ++ actions_steps plan.part (erases ++ tasks)) closing_steps in
+    let behind = commands_append opening_steps (actions_steps plan.part (erases ++ tasks)) in
+    let both = actions_append plan.part erases tasks in
+    omega (arith, whole, behind, both)
+
+pub two_used : (part : Part) (image : List (Option ℕ)) (page : ℕ)
+    → is_used part.flash_page image (page * part.flash_page) ≡ true → 2 ≡ commands_in (page_steps part image page)
+two_used part image page is = rw is refl
+
+pub none_used : (part : Part) (image : List (Option ℕ)) (page : ℕ)
+    → is_used part.flash_page image (page * part.flash_page) ≡ false → 0 ≡ commands_in (page_steps part image page)
+none_used part image page is = rw is refl
+
+module _ (steps_at : ℕ → List (List Command)) where
+  -- the commands from this place on are those at it and those behind it
+  pub next_place : (place count : ℕ) → place < count
+      → commands_in (each_from steps_at place (count - place))
+      ≡ commands_in (steps_at place) + commands_in (each_from steps_at (place + 1) (count - (place + 1)))
+  next_place place count before =
+      let left : count - place ≡ suc (count - (place + 1)) = omega (arith, before) in
+      ap (λ (n : ℕ). commands_in (each_from steps_at place n)) left
+      ∙ commands_append (steps_at place) (each_from steps_at (place + 1) (count - (place + 1)))
+
+  pub no_place : (place count : ℕ) → count ≤ place → commands_in (each_from steps_at place (count - place)) ≡ 0
+  no_place place count past =
+      let none : count - place ≡ 0 = omega (arith, past) in
+      ap (λ (n : ℕ). commands_in (each_from steps_at place n)) none
+
+  -- where each place has so many commands
+  pub all_places : (each place count : ℕ) → ((k : ℕ) → commands_in (steps_at k) ≡ each)
+      → commands_in (each_from steps_at place count) ≡ count * each
+  all_places each place zero all = omega arith
+  all_places each place (suc count) all =
+      let here = all place in
+      let more = all_places each (place + 1) count all in
+      let both = commands_append (steps_at place) (each_from steps_at (place + 1) count) in
+      omega (arith, here, more, both)
+
+-- ---- the tasks of a plan, one after another
+
+abbrev pub most : ℕ
+most = 2 ^ 64 - 1
+
+-- the commands of its tasks from this one on
+abbrev pub left : Plan → ℕ → ℕ
+left plan i = commands_in (actions_steps plan.part (tasks_actions plan.switches (drop i plan.tasks)))
+
+abbrev pub all : Plan → ℕ
+all plan = commands_in (run_steps plan)
+
+pub counts_first : (plan : Plan) (erase : ℕ)
+    → erase ≡ commands_in (actions_steps plan.part (erase_actions plan.switches plan.tasks))
+    → min most (6 + erase + left plan 0) ≡ min most (all plan)
+counts_first plan erase is =
+    ap (min most) (ap (λ (n : ℕ). 6 + n + left plan 0) is ∙ sym (plan_commands plan))
+
+saturates : (m a b rest : ℕ) → min m (min (a + b) m + rest) ≡ min m (a + (b + rest))
+saturates m a b rest = omega arith
+
+pub counts_on : (plan : Plan) (i count more next : ℕ) (task : Task)
+    → drop i plan.tasks ≡ task ∷ drop (i + 1) plan.tasks
+    → more ≡ commands_in (actions_steps plan.part (task_actions plan.switches task))
+    → next ≡ min (count + more) most → min most (count + left plan i) ≡ min most (all plan)
+    → min most (next + left plan (i + 1)) ≡ min most (all plan)
+counts_on plan i count more next task cut more_is next_is counted =
+    let rest = tasks_actions plan.switches (drop (i + 1) plan.tasks) in
+    let here : left plan i ≡ more + left plan (i + 1) =
+    ap (λ (ts : List Task). commands_in (actions_steps plan.part (tasks_actions plan.switches ts))) cut
+    ∙ actions_append plan.part (task_actions plan.switches task) rest
+    ∙ ap (λ (n : ℕ). n + left plan (i + 1)) (sym more_is) in
+    ap (λ (n : ℕ). min most (n + left plan (i + 1))) next_is ∙ saturates most count more (left plan (i + 1))
+    ∙ ap (λ (n : ℕ). min most (count + n)) (sym here) ∙ counted
+
+pub counts_all : (plan : Plan) (i count : ℕ) → drop i plan.tasks ≡ [] → count ≤ most
+    → min most (count + left plan i) ≡ min most (all plan) → count ≡ min most (all plan)
+counts_all plan i count none few counted =
+    let nothing : left plan i ≡ 0 =
+    ap (λ (ts : List Task). commands_in (actions_steps plan.part (tasks_actions plan.switches ts))) none in
+    let whole : count ≡ min most (count + left plan i) = omega (arith, nothing, few) in
+    whole ∙ counted

@@ -1,0 +1,37 @@
+//! How a session ends before all of its plan is done.
+ghost use Rattle.std.specs.Prelude.{◌≡◌};
+ghost use Rattle.avr_session.specs.Concluding.{conclusion};
+
+use avr_desk::DeskFault;
+use stk_host::HostFault;
+
+/// Why a session goes no further.
+#[derive(Clone, Copy)]
+pub(crate) enum End {
+    /// This fault was reported; the line still serves.
+    Faulty(HostFault),
+    /// This fault was reported, and nothing more goes over the line: it has ended, or programming mode was left.
+    Over(HostFault),
+    /// The link or the desk failed, or memory was refused: nothing more is sent or reported.
+    Stopped,
+}
+
+/// Returns whether a session goes on after an operation of the host whose outcome was reported so.
+pub(crate) fn conclude<T>(
+    outcome: &Result<T, HostFault>,
+    reported: Result<(), DeskFault>,
+) -> Result<(), End>
+    ensures { result ≡ conclusion outcome.now reported }
+{
+    if reported.is_err() {
+        return Err(End::Stopped);
+    }
+    match outcome {
+        Ok(_) => Ok(()),
+        Err(HostFault::LinkEnded) => Err(End::Over(HostFault::LinkEnded)),
+        Err(HostFault::SendFailed | HostFault::RecvFailed | HostFault::Memory) => {
+            Err(End::Stopped)
+        }
+        Err(fault) => Err(End::Faulty(*fault)),
+    }
+}

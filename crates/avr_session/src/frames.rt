@@ -1,0 +1,134 @@
+//! How many frames a plan asks for, so that a caller can show how far its session is.
+ghost use Rattle.std.specs.Prelude.{◌≡◌, ◌≤◌, ◌<◌, ◌/◌, ◌^◌, ◌-◌, min};
+ghost use Rattle.avr_part.specs.Part.{Part as AnyPart};
+ghost use Rattle.avr_session.specs.Actions.{erase_actions, task_actions};
+ghost use Rattle.avr_session.specs.PlanSteps.{actions_steps, run_steps};
+ghost use Rattle.stk_host.specs.Bound.{commands_in};
+ghost use Rattle.stk_host.specs.ReadSteps.{read_steps};
+ghost use Rattle.stk_host.specs.WriteSteps.{page_steps, run_steps_at, write_steps};
+
+use crate::phases::is_erase_due;
+use avr_cli::Switches;
+use avr_image::Image;
+use avr_part::{Mem, Part};
+use avr_plan::{Plan, Task};
+
+/// To sign on, to enter programming mode, and three bytes of the signature.
+const OPENING: u64 = 5;
+
+/// To leave programming mode.
+const CLOSING: u64 = 1;
+
+/// How many bytes one command reads.
+const BLOCK: u32 = 256;
+
+fn read_frames(part: &Part, mem: Mem) -> u64
+    ensures value { result ≡ commands_in (read_steps part.now mem) }
+    ensures few { result ≤ 2 ^ 20 }
+{
+    match mem {
+        Mem::Flash => u64::from(part.size_of(Mem::Flash).div_ceil(BLOCK)) * 2,
+        Mem::Eeprom => u64::from(part.size_of(Mem::Eeprom).div_ceil(BLOCK)) * 2,
+        Mem::Signature => 3,
+        Mem::Lfuse | Mem::Hfuse | Mem::Efuse | Mem::Lock | Mem::Calibration => 1,
+    }
+}
+
+/// Two if the image holds a byte in the page of flash with this number.
+fn page_frames(part: &Part, image: &Image, page: u32) -> u64
+    requires { page < part.now.flash_size / part.now.flash_page }
+    ensures value { result ≡ commands_in (page_steps part.now image.now page) }
+    ensures few { result ≤ 2 }
+{
+    let size = part.page_of(Mem::Flash);
+    let start = page * size;
+    match image.first_from(start) {
+        Some(addr) if addr < start + size => 2,
+        _ => 0,
+    }
+}
+
+fn flash_frames(part: &Part, image: &Image) -> u64
+    ensures value { result ≡ commands_in (write_steps part.now Mem.Flash image.now) }
+    ensures few { result ≤ 2 ^ 20 }
+{
+    let pages = part.size_of(Mem::Flash) / part.page_of(Mem::Flash);
+    let mut count = 0;
+    for page in 0..pages {
+        count += page_frames(part, image, page);
+    }
+    count
+}
+
+/// Two if a run of the image's bytes begins at this address of EEPROM.
+fn run_frames(part: &Part, image: &Image, addr: u32) -> u64
+    ensures value { result ≡ commands_in (run_steps_at part.now image.now addr) }
+    ensures few { result ≤ 2 }
+{
+    let size = part.page_of(Mem::Eeprom);
+    let begins = image.get(addr).is_some() && (addr % size == 0 || image.get(addr - 1).is_none());
+    if begins { 2 } else { 0 }
+}
+
+fn eeprom_frames(part: &Part, image: &Image) -> u64
+    ensures value { result ≡ commands_in (write_steps part.now Mem.Eeprom image.now) }
+    ensures few { result ≤ 2 ^ 20 }
+{
+    let mut count = 0;
+    for addr in 0..part.size_of(Mem::Eeprom) {
+        count += run_frames(part, image, addr);
+    }
+    count
+}
+
+fn write_frames(part: &Part, mem: Mem, image: &Image) -> u64
+    ensures value { result ≡ commands_in (write_steps part.now mem image.now) }
+    ensures few { result ≤ 2 ^ 20 }
+{
+    match mem {
+        Mem::Flash => flash_frames(part, image),
+        Mem::Eeprom => eeprom_frames(part, image),
+        Mem::Lfuse | Mem::Hfuse | Mem::Efuse | Mem::Lock => u64::from(image.get(0).is_some()),
+        Mem::Signature | Mem::Calibration => 0,
+    }
+}
+
+fn task_frames(switches: Switches, part: &Part, task: &Task) -> u64
+    ensures { result ≡ commands_in (actions_steps part.now (task_actions switches task.now)) }
+{
+    match task {
+        Task::Write(_, _) if switches.dry => 0,
+        Task::Write(mem, image) if switches.no_verify => write_frames(part, *mem, image),
+        Task::Write(mem, image) => write_frames(part, *mem, image) + read_frames(part, *mem),
+        Task::Verify(mem, _) | Task::Read { memory: mem, .. } => read_frames(part, *mem),
+    }
+}
+
+fn erase_frames(switches: Switches, tasks: &[Task]) -> u64
+    ensures value { (part : AnyPart) →
+        result ≡ commands_in (actions_steps part (erase_actions switches tasks.now)) }
+    ensures few { result ≤ 1 }
+{
+    u64::from(!switches.dry && is_erase_due(switches, tasks))
+}
+
+/// Returns how many frames a session of `plan` sends over a line that loses nothing, and at most `u64::MAX`.
+///
+/// A session sends fewer if a fault ends it, as a comparison that finds another byte. Over a line that loses it sends at
+/// most four times as many. With a [`stk_host::WatchedLink`], which counts the frames that went out, a caller can draw
+/// how far a session is.
+///
+/// ```text
+/// let all = frame_count(&plan);
+/// ```
+pub fn frame_count(plan: &Plan) -> u64
+    ensures { result ≡ min (2 ^ 64 - 1) (commands_in (run_steps plan.now)) }
+{
+    let switches = plan.switches();
+    let tasks = plan.tasks();
+    let mut count = OPENING + CLOSING + erase_frames(switches, tasks);
+    for task in tasks {
+        count = count.saturating_add(task_frames(switches, plan.part(), task));
+    }
+    count
+}

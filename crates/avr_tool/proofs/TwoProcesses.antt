@@ -1,9 +1,0 @@
--- A session and a server at the two ends of an ordered line.
-pub mod Slots
-pub mod InOrder
-pub mod Misses
-pub mod AnswerParts
-pub mod NeverSilent
-pub mod Meeting
-pub mod Sessions
-pub mod PerfectLine

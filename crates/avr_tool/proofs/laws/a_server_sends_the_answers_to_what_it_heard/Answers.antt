@@ -1,9 +1,0 @@
-use Rattle.avr_tool.proofs.TwoProcesses.Meeting.{has_served}
-use Rattle.avr_tool.proofs.laws.a_server_sends_the_answers_to_what_it_heard.Goals as goal
-use Rattle.std.proofs.Common.{sym}
-
-pub returns-clause-all : goal.returns-clause-all
-returns-clause-all c = λ p talk left all. (sym all.answered, all.fed.obeyed)
-
-pub returns-clause-however : goal.returns-clause-however
-returns-clause-however c = has_served

@@ -1,0 +1,27 @@
+use Rattle.std.proofs.Common.{inl, inr, refl}
+use Rattle.stk_host.proofs.Talks.Streams.{true_now}
+use Rattle.avr_tool.proofs.over_net.run_net.Goals as goal
+
+pub returns-in-Err-clause-runs : goal.returns-in-Err-clause-runs
+returns-in-Err-clause-runs g c = inr (inr
+    (rw c.in-Err.is at c.plan.ensures.goes, rw c.in-Err.is at c.plan.ensures.bare))
+
+pub returns-clause-runs : goal.returns-clause-runs
+returns-clause-runs g c = inl (
+  record {
+    plan = c.in-Ok.plan;
+    planned_desk = g.D.Desk.view c.plan.new.desk;
+    talk = c.drive.new.link.talk;
+    link_failures = c.drive.new.link.failures;
+    made = rw c.in-Ok.is at c.plan.ensures.goes;
+    runs = rw c.in-Ok-connect.ensures.new.fresh at (rw c.in-Ok-connect.ensures.new.quiet at c.drive.ensures.runs);
+  },
+  record {
+    before = c.in-Ok-connect.link;
+    after = c.drive.new.link;
+    new = c.in-Ok-connect.ensures.new;
+    shows = refl;
+    truly = c.drive.ensures.comes c.in-Ok-connect.link
+        (true_now g.N.Stream.Read.remaining g.N.Stream.Write.contents c.in-Ok-connect.link);
+  },
+)

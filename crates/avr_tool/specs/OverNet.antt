@@ -1,0 +1,47 @@
+-- A run over a port of the network, from settings to status.
+use Rattle.std.specs.Prelude.{ℕ, ◌≡◌, ◌⊎◌, [], Option, Some, None, Err, codes}
+use Rattle.avr_cli.specs.declared.settings.Settings.{Settings}
+use Rattle.avr_desk.specs.Record.{DeskView, Bytes}
+use Rattle.avr_desk.specs.Said.{Tells}
+use Rattle.avr_plan.specs.Plan.{Plan}
+use Rattle.avr_plan.specs.Planning.{LacksPart, planned}
+use Rattle.avr_plan.specs.Taking.{AtUpdate}
+use Rattle.avr_desk.specs.Playing.{Goes, Went}
+use Rattle.avr_desk.specs.Stage.{Made}
+use Rattle.avr_session.specs.Run.{RunsSession}
+use Rattle.avr_session.specs.Runs.{devices}
+use Rattle.stk_host.specs.Talk.{Talk, LinkView}
+use Rattle.avr_tool.specs.Lines.{unopened_line}
+
+-- what a connection shows as a link: what passed over it, which is kept for proofs alone, and its failures, which it
+-- counts from 0
+abbrev pub connection : Talk → ℕ → LinkView
+connection talk failures = record { talk = talk; failures = failures }
+
+-- The plan was made, and its session was run over the port.
+pub record PlaysOverNet (settings : Settings) (old new : DeskView) (status : ℕ) : Type 0 where
+  pub plan : Plan
+  pub planned_desk : DeskView
+  pub talk : Talk
+  pub link_failures : ℕ
+  pub made : Went (planned settings) old planned_desk (Made plan)
+  pub runs : RunsSession plan (devices (connection [] 0) planned_desk) (devices (connection talk link_failures) new)
+      status
+
+-- The plan was made, but the port could not be opened: that was reported, nothing else was done at the desk, and the
+-- status is 1.
+pub record LacksPort (settings : Settings) (address : Bytes) (old new : DeskView) (status : ℕ) : Type 0 where
+  pub plan : Plan
+  pub planned_desk : DeskView
+  pub made : Went (planned settings) old planned_desk (Made plan)
+  pub told : Tells planned_desk new (unopened_line (codes "net:") address)
+  pub status_is : status ≡ 1
+
+-- The one or the other, and `over` says what came of the socket (as `IsOverAddress` does); or there is no plan. Without
+-- a part file and updates that is only since no part has the name. (That the port was left alone then, no clause says.)
+abbrev pub RunsOverNet : (Option LinkView → Type 0) → Settings → Bytes → DeskView → DeskView → ℕ → Type 0
+RunsOverNet over settings address old new status =
+    ((plays : PlaysOverNet settings old new status) × over (Some (connection plays.talk plays.link_failures)))
+    ⊎ ((LacksPort settings address old new status × over None)
+    ⊎ (Goes (AtUpdate settings) (planned settings) old new (Err status)
+    × (settings.parts ≡ None → settings.updates ≡ [] → LacksPart settings.part [] old new)))

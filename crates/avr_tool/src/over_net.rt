@@ -1,0 +1,46 @@
+//! A run over a port of the network, from settings to status.
+ghost use Rattle.avr_tool.specs.OverNet.{RunsOverNet};
+ghost use Rattle.avr_tool.specs.Sockets.{IsOverAddress};
+ghost use Rattle.ghosts.specs.Stays.{Stays};
+
+use crate::messages::unopened_message;
+use crate::network::Network;
+use crate::ports::connect;
+use avr_cli::Settings;
+use avr_desk::{Desk, refuse};
+use avr_plan::plan;
+use avr_session::drive;
+use std::alloc::Global;
+
+/// Plans what the settings ask for and runs it over the programmer behind `HOST:PORT`.
+///
+/// The status is 0 where no fault came, else 1. Every fault has its line; what is refused is reported before the port
+/// is opened. There a read that waits for a second is a silence; a connection that was reset is a failure of the link.
+///
+/// ```text
+/// let settings = Settings::for_link(alloc, "nobody")?;
+/// let mut desk = MemDesk::new(alloc);
+/// // the part is judged before a connection is opened
+/// assert_eq!(rt; run_net(&rt, alloc, &settings, "localhost:5000", &mut desk), 1);
+/// ```
+pub fn run_net<N: Network + Drop, D: Desk>(
+    network: N,
+    alloc: Global,
+    settings: &Settings,
+    address: &str,
+    desk: &mut D,
+) -> u8
+    ensures runs { RunsOverNet (IsOverAddress N.Network N.Stream.Read N.Stream.Write address.now) settings.now
+        address.now (D.view desk.old) (D.view desk.new) result }
+    ensures stays { Stays D.comes_of desk.old desk.new }
+{
+    let plan = match plan(alloc, settings, desk) {
+        Ok(plan) => plan,
+        Err(status) => return status,
+    };
+    let mut link = match connect(network, address) {
+        Ok(link) => link,
+        Err(_) => return refuse(desk, &unopened_message("net:", address)),
+    };
+    drive(alloc, &plan, desk, &mut link)
+}

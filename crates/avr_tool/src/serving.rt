@@ -1,0 +1,124 @@
+//! Serving an emulated programmer at a port of this machine, from settings to status.
+ghost use Rattle.std.specs.Prelude.{IfOk, OnErr};
+ghost use Rattle.avr_cli.specs.Port.{port_number as number_of};
+ghost use Rattle.avr_tool.specs.ServedNet.{ServesNet, ServesOn};
+ghost use Rattle.avr_tool.specs.Sockets.{IsNewLink, IsOverCaller, IsOverPort};
+ghost use Rattle.ghosts.specs.Stays.{Stays};
+
+use crate::messages::unopened_message;
+use crate::network::{Callers, Network};
+use crate::ports::{accept, listen};
+use avr_cli::{Settings, port_number};
+use avr_desk::{Desk, refuse};
+use avr_emulator::{READS, judge_part, serve_part};
+use avr_part::Part;
+use std::alloc::Global;
+use std::io;
+use stk_host::StreamLink;
+
+/// Serves a chip of this part to a caller whom a listener accepted, or reports that it accepted none.
+///
+/// The chip is loaded once the connection is there, so that what other runs saved before is in it.
+fn serve_called<L: Callers, D: Desk>(
+    alloc: Global,
+    part: &Part,
+    port: &str,
+    file: &str,
+    called: io::Result<StreamLink<L::Stream, L::Stream>>,
+    desk: &mut D,
+) -> u8
+    ensures serves { (listener : L) → IfOk called (IsNewLink (L.calls listener)) → OnErr called (L.lacks listener)
+        → ServesOn (IsOverCaller L.Callers L.Stream.Read L.Stream.Write listener) part.now port.now file.now
+        (D.view desk.old) (D.view desk.new) result }
+    ensures stays { Stays D.comes_of desk.old desk.new }
+{
+    let mut link = match called {
+        Ok(link) => link,
+        Err(_) => return refuse(desk, &unopened_message("", port)),
+    };
+    serve_part(alloc, part, file, desk, &mut link, READS)
+}
+
+/// Serves the emulated programmer of the settings' part to the first caller of a listener, in at most 16,777,216 reads.
+///
+/// The part and the chip file are judged before a connection is accepted: if they are refused, nobody is waited for.
+/// The chip is loaded from the file when the connection is accepted, and saved to it when the caller is gone. If no
+/// connection can be accepted, that is reported of `port`, the text of `--serve`, and no file is written.
+///
+/// The status is 0 if the caller ended it and the chip was saved, else 1.
+pub fn serve_on<L: Callers, D: Desk>(
+    alloc: Global,
+    settings: &Settings,
+    port: &str,
+    file: &str,
+    listener: &L,
+    desk: &mut D,
+) -> u8
+    ensures serves { ServesNet (IsOverCaller L.Callers L.Stream.Read L.Stream.Write listener.now) settings.now
+        port.now file.now (D.view desk.old) (D.view desk.new) result }
+    ensures stays { Stays D.comes_of desk.old desk.new }
+{
+    let part = match judge_part(alloc, settings, file, desk) {
+        Ok(part) => part,
+        Err(status) => return status,
+    };
+    serve_called::<L, D>(alloc, &part, port, file, accept(listener), desk)
+}
+
+/// Opens the port and serves a chip of this part there, to the first caller and nobody after him: the port is closed
+/// once he is there, so that a second caller is refused at once.
+fn serve_at<N: Network + Drop, D: Desk>(
+    network: N,
+    alloc: Global,
+    part: &Part,
+    port: &str,
+    file: &str,
+    desk: &mut D,
+) -> u8
+    ensures serves { ServesOn (IsOverPort N.Network N.Listener.Callers N.Stream.Read N.Stream.Write
+        (number_of port.now)) part.now port.now file.now (D.view desk.old) (D.view desk.new) result }
+    ensures stays { Stays D.comes_of desk.old desk.new }
+{
+    let Some(number) = port_number(port) else {
+        return refuse(desk, &unopened_message("", port));
+    };
+    let listener = match listen(network, number) {
+        Ok(listener) => listener,
+        Err(_) => return refuse(desk, &unopened_message("", port)),
+    };
+    let called = accept(&listener);
+    drop(listener);
+    serve_called::<N::Listener, D>(alloc, part, port, file, called, desk)
+}
+
+/// Serves the emulated programmer of the settings' part at a port of 127.0.0.1, to the first caller, as [`serve_on`]
+/// does.
+///
+/// The part and the chip file are judged before the port is opened. The port is closed as soon as the caller is there,
+/// so a second one is refused. `port` is the text of `--serve`; a port that cannot be opened is reported, and no file
+/// is written.
+///
+/// ```text
+/// let settings = Settings::for_link(alloc, "nobody")?;
+/// let mut desk = MemDesk::new(alloc);
+/// // the part is judged before anybody is waited for
+/// assert_eq!(rt; serve_net(&rt, alloc, &settings, "5000", "chip.bin", &mut desk), 1);
+/// ```
+pub fn serve_net<N: Network + Drop, D: Desk>(
+    network: N,
+    alloc: Global,
+    settings: &Settings,
+    port: &str,
+    file: &str,
+    desk: &mut D,
+) -> u8
+    ensures serves { ServesNet (IsOverPort N.Network N.Listener.Callers N.Stream.Read N.Stream.Write
+        (number_of port.now)) settings.now port.now file.now (D.view desk.old) (D.view desk.new) result }
+    ensures stays { Stays D.comes_of desk.old desk.new }
+{
+    let part = match judge_part(alloc, settings, file, desk) {
+        Ok(part) => part,
+        Err(status) => return status,
+    };
+    serve_at(network, alloc, &part, port, file, desk)
+}

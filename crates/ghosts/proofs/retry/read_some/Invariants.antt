@@ -1,0 +1,9 @@
+use Rattle.std.proofs.Common.{◌≡◌, length}
+use Rattle.std.specs.Io.KnownBytes.{Keeps}
+use Rattle.ghosts.proofs.retry.read_some.Given as goal
+
+abbrev pub invariant-loop : goal.invariant-loop
+invariant-loop g l = record {
+  room : length l.buffer ≡ length l.fn.buffer;
+  kept : Keeps (g.R.Read.remaining l.fn.reader) (g.R.Read.remaining l.reader);
+}

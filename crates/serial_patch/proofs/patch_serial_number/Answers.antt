@@ -1,0 +1,14 @@
+use Rattle.std.proofs.Common.{rules}
+use Rattle.serial_patch.proofs.patch_serial_number.Goals as goal
+
+pub returns-in-Ok : goal.returns-in-Ok
+returns-in-Ok c = record {
+  kind = c.in_ok-kind.kind;
+  ending = c.in_ok-image.field-0-1;
+  before = c.in_ok-image.image;
+  after = c.put_serial_number.new.image;
+  found = search rules;
+  reads = search rules;
+  reads_back = search rules;
+  is_patched = search rules;
+}

@@ -1,9 +1,0 @@
-use Rattle.std.proofs.Common.{◌≡◌, length}
-use Rattle.std.specs.Io.KnownBytes.{Keeps}
-use Rattle.stk_host.proofs.stream_link.read_bytes.Given as goal
-
-abbrev pub invariant-loop : goal.invariant-loop
-invariant-loop g l = record {
-  room : length l.buffer ≡ length l.fn.buffer;
-  kept : Keeps (g.R.Read.remaining l.fn.reader) (g.R.Read.remaining l.reader);
-}
