@@ -5,14 +5,13 @@ use Rattle.std.specs.Fmt.{digits}
 use Rattle.avr_image.specs.declared.list.Base.{Base}
 use Rattle.avr_image.specs.declared.list.Base.TheVariants.{Dec, Hex, Oct, Bin}
 
--- how many digits a base has
 abbrev pub radix : Base → ℕ
 radix Dec = 10
 radix Hex = 16
 radix Oct = 8
 radix Bin = 2
 
--- what stands in front of a number: nothing; `0x`; a zero from 8 on; `0b`
+-- what comes before the digits: nothing; `0x`; `0` from 8 on; `0b`
 abbrev pub prefix : Base → ℕ → List ℕ
 prefix Dec n = []
 prefix Hex n = 48 ∷ 120 ∷ []
@@ -31,6 +30,6 @@ list_line base bytes = join_with_byte 44 (map (number_text base) bytes)
 abbrev pub list_text : Base → List ℕ → List ℕ
 list_text base bytes = list_line base bytes ++ 10 ∷ []
 
--- the text that is still to come, once its end may have been reached
+-- the text still to come; `ended` is true once all of it was written
 abbrev pub list_rest : Bool → Base → List ℕ → List ℕ
 list_rest ended base bytes = if ended then [] else list_text base bytes
