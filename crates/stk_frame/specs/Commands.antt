@@ -34,7 +34,7 @@ code (ReadSignature f) = CMD_READ_SIGNATURE_ISP
 code (ReadOsccal f) = CMD_READ_OSCCAL_ISP
 code (SpiMulti send_count receive_count receive_start bytes) = CMD_SPI_MULTI
 
--- the bytes of its fields, in their order; a number of several bytes has its highest byte first
+-- the bytes of its fields, in their order, highest byte first
 abbrev pub enter_progmode_fields : EnterFields → List ℕ
 enter_progmode_fields f =
     f.timeout ∷ f.stab_delay ∷ f.command_delay ∷ f.synch_loops ∷ f.byte_delay ∷ f.poll_value ∷ f.poll_index
@@ -70,11 +70,10 @@ fields (ReadSignature f) = read_byte_fields f
 fields (ReadOsccal f) = read_byte_fields f
 fields (SpiMulti send_count receive_count receive_start bytes) = send_count ∷ receive_count ∷ receive_start ∷ bytes
 
--- the bytes of its body
 abbrev pub body : Command → List ℕ
 body command = code command ∷ fields command
 
--- what follows the first status of an answer: a length and a name, so many bytes, or so many bytes and a last status
+-- what follows the first status of an answer: a length and a name, n bytes, or n bytes and a last status
 abbrev pub shape : Command → Shape
 shape SignOn = Name
 shape (GetParameter number) = Bytes 1
@@ -99,7 +98,7 @@ data_of (Closed n) more =
     then (if slice_index more n == STATUS_CMD_OK then Ok (take n more) else Err (Status (slice_index more n)))
     else Err WrongLength
 
--- an answer's body, judged
+-- the result of an answer's body
 abbrev pub judge : Command → List ℕ → Result (List ℕ) FrameFault
 judge command [] = Err WrongCommand
 judge command (first ∷ []) = if first == code command then Err WrongLength else Err WrongCommand

@@ -1,4 +1,4 @@
--- The names that AVR068 gives the first byte of a command and the status of an answer.
+-- AVR068's names of the first byte of a command and the status of an answer.
 use Rattle.std.specs.Prelude.{ℕ, List, [], ◌∷◌, ◌==◌, Option, find, option_map, codes}
 
 -- the commands of serial programming
