@@ -2,11 +2,9 @@
 use Rattle.std.specs.Prelude.{◌≡◌, ℕ, suc, ◌*◌, ◌^◌, ◌<◌, ◌≤◌, false, List, [], ◌∷◌, ◌++◌, ◌+◌, length, take, drop, slice_index, Option, Some, None, if◌then◌else◌}
 use Rattle.avr_image.specs.Present.{is_present}
 
--- the byte, if its address is present
 abbrev pub shown_byte : List ℕ → ℕ → ℕ → Option ℕ
 shown_byte words addr byte = if is_present words addr then Some byte else None
 
--- the optional bytes from an address on
 abbrev pub shown_from : ℕ → List ℕ → List ℕ → List (Option ℕ)
 shown_from addr words [] = []
 shown_from addr words (byte ∷ bytes) = shown_byte words addr byte ∷ shown_from (suc addr) words bytes
@@ -21,6 +19,5 @@ pub record IsKept (words bytes : List ℕ) : Type 0 where
   pub small : (i : ℕ) → slice_index bytes i < 256
   pub blank : (i : ℕ) → i < length bytes → is_present words i ≡ false → slice_index bytes i ≡ 255
 
--- the bytes with a span in place of those from `start` on
 abbrev pub with_span : ℕ → List ℕ → List ℕ → List ℕ
 with_span start span bytes = take start bytes ++ (span ++ drop (start + length span) bytes)

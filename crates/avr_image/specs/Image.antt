@@ -4,7 +4,6 @@ use Rattle.std.specs.Cmp.Lexicographic.{pointwise}
 use Rattle.std.specs.Option.{option_eq}
 use Rattle.std.specs.List.{position_from, prefix_len}
 
--- an image without bytes
 abbrev pub empty : ℕ → List (Option ℕ)
 empty size = replicate size None
 
@@ -38,7 +37,6 @@ laid_over image = fold (λ image place. with_byte image place.0 place.1) image
 abbrev pub image_of_pairs : ℕ → List (ℕ × ℕ) → List (Option ℕ)
 image_of_pairs size = laid_over (empty size)
 
--- the image that holds these bytes from address 0 on
 abbrev pub from_zero : List ℕ → ℕ → List (Option ℕ)
 from_zero bytes size = map (λ byte. Some byte) bytes ++ replicate (size - length bytes) None
 
@@ -47,7 +45,6 @@ abbrev pub fits : ℕ → List ℕ → ℕ → Bool
 fits addr [] size = true
 fits addr (byte ∷ bytes) size = nat_le (addr + length (byte ∷ bytes)) size
 
--- how many addresses hold a byte
 abbrev pub byte_count : List (Option ℕ) → ℕ
 byte_count = count_by is_some
 
@@ -59,7 +56,6 @@ first_from image addr = position_from is_some addr (drop addr image)
 abbrev pub run_end : List (Option ℕ) → ℕ → ℕ → ℕ
 run_end image addr end = addr + prefix_len is_some (take (end - addr) (drop addr image))
 
--- the byte, or FF in a gap
 abbrev pub or_blank : Option ℕ → ℕ
 or_blank byte = unwrap_or byte 255
 

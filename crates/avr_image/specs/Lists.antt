@@ -18,15 +18,12 @@ prefix Hex n = 48 ∷ 120 ∷ []
 prefix Oct n = if nat_lt n 8 then [] else 48 ∷ []
 prefix Bin n = 48 ∷ 98 ∷ []
 
--- a number, in lower case and without padding
 abbrev pub number_text : Base → ℕ → List ℕ
 number_text base n = prefix base n ++ digits (radix base) false n
 
--- the numbers with commas between them
 abbrev pub list_line : Base → List ℕ → List ℕ
 list_line base bytes = join_with_byte 44 (map (number_text base) bytes)
 
--- the numbers on one line
 abbrev pub list_text : Base → List ℕ → List ℕ
 list_text base bytes = list_line base bytes ++ 10 ∷ []
 

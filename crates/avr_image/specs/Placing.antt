@@ -4,11 +4,10 @@ use Rattle.avr_image.specs.Image.{with_byte}
 use Rattle.avr_image.specs.Values.{fitting_value}
 use Rattle.avr_image.specs.declared.fault.ImageFault.{ImageFault}
 
--- the image with the byte of a value
 abbrev pub with_value : List (Option ℕ) → ℕ → Result ℕ ImageFault → Result (List (Option ℕ)) ImageFault
 with_value image addr (Ok byte) = Ok (with_byte image addr byte)
 with_value image addr (Err fault) = Err fault
 
--- the image with the value that a piece writes for an address
+-- the image with the value of a piece
 abbrev pub with_piece : List (Option ℕ) → ℕ → List ℕ → Result (List (Option ℕ)) ImageFault
 with_piece image addr piece = with_value image addr (fitting_value (length image) (addr, piece))

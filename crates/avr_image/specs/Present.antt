@@ -2,7 +2,6 @@
 use Rattle.std.specs.Prelude.{◌≡◌, ℕ, Bool, ◌-◌, ◌*◌, ◌/◌, ◌%◌, ◌^◌, ◌<◌, ◌≤◌, ◌==◌, ◌&&◌, nat_le, nat_lt, not, List, slice_index, slice_set, bit_and, bit_or}
 use Rattle.std.specs.Int.{bit_at}
 
--- the bit of an address is 1
 abbrev pub is_present : List ℕ → ℕ → Bool
 is_present words addr = bit_at (slice_index words (addr / 64)) (addr % 64) == 1
 

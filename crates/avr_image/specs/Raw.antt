@@ -4,11 +4,9 @@ use Rattle.avr_image.specs.Image.{from_zero}
 use Rattle.avr_image.specs.declared.fault.ImageFault.{ImageFault}
 use Rattle.avr_image.specs.declared.fault.ImageFault.TheVariants.{OutOfRange}
 
--- byte i is at address i
 abbrev pub raw : List ℕ → ℕ → Result (List (Option ℕ)) ImageFault
 raw bytes size = if nat_le (length bytes) size then Ok (from_zero bytes size) else Err (OutOfRange size)
 
--- success, or the fault
 abbrev pub without_image : Result (List (Option ℕ)) ImageFault → Result (Unit {0}) ImageFault
 without_image (Ok image) = Ok tt
 without_image (Err fault) = Err fault

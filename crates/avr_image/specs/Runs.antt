@@ -20,6 +20,5 @@ lead [] = []
 lead (None ∷ image) = []
 lead (Some b ∷ image) = b ∷ lead image
 
--- the bytes of a run at their addresses
 abbrev pub places_of : ℕ × List ℕ → List (ℕ × ℕ)
 places_of run = enumerate_from run.0 run.1

@@ -53,13 +53,11 @@ fitting size addr (Some value) =
 abbrev pub fitting_value : ℕ → ℕ × List ℕ → Result ℕ ImageFault
 fitting_value size piece = fitting size piece.0 (value_of piece.1)
 
--- a value before those that follow
 abbrev pub onto_ok : Result ℕ ImageFault → Result (List ℕ) ImageFault → Result (List ℕ) ImageFault
 onto_ok (Err fault) rest = Err fault
 onto_ok (Ok byte) (Err fault) = Err fault
 onto_ok (Ok byte) (Ok bytes) = Ok (byte ∷ bytes)
 
--- all bytes, or the first fault
 abbrev pub all_ok : List (Result ℕ ImageFault) → Result (List ℕ) ImageFault
 all_ok [] = Ok []
 all_ok (r ∷ rs) = onto_ok r (all_ok rs)
@@ -68,7 +66,7 @@ abbrev pub image_of_bytes : ℕ → Result (List ℕ) ImageFault → Result (Lis
 image_of_bytes size (Ok bytes) = Ok (from_zero bytes size)
 image_of_bytes size (Err fault) = Err fault
 
--- The values at the addresses from 0 on. If there is none, the first one is bad.
+-- The values at the addresses from 0 on. Without any, the first one is bad.
 abbrev pub values : List ℕ → ℕ → Result (List (Option ℕ)) ImageFault
 values text size =
     if length (pieces text) == 0 then Err (BadNumber 1)

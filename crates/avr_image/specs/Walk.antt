@@ -14,7 +14,6 @@ pub record IsLastHeld (image : List (Option ℕ)) (place : ℕ) : Type 0 where
   pub held : is_some (byte_at image place) ≡ true
   pub above : (k : ℕ) → place < k → byte_at image k ≡ None
 
--- no address holds a byte
 abbrev pub HoldsNone : List (Option ℕ) → Type 0
 HoldsNone image = (addr : ℕ) → byte_at image addr ≡ None
 

@@ -60,7 +60,6 @@ pub(crate) fn find(words: &[u64], wanted: bool, from: usize, end: usize) -> usiz
     end
 }
 
-/// Returns the word with ones from `low` up to `high`.
 fn ones(low: u32, high: u32) -> u64
     requires low { low < 64 }
     requires some { 0 < high }

@@ -17,7 +17,7 @@ use std::alloc::{AllocError, Global};
 use std::fmt;
 use std::marker::Model;
 
-/// The bytes of a memory, with gaps. Contracts see it as a list of optional bytes, one for each byte address.
+/// The bytes of a memory, with gaps. Contracts see a list of optional bytes, one for each byte address.
 ///
 /// ```text
 /// let mut image = Image::new(alloc, 32_768)?;
@@ -66,7 +66,6 @@ fn copy_padded(bytes: &[u8], start: usize, out: &mut [u8])
     blank.fill(255);
 }
 
-/// Overwrites the bytes from `start` on.
 fn paste(bytes: &mut Vec<u8>, start: usize, span: &[u8])
     requires { start + length span.now ≤ length bytes.old.items }
     ensures { bytes.new.items ≡ with_span start span.now bytes.old.items }
@@ -175,7 +174,7 @@ impl Image {
     pub fn as_slice(&self) -> &[u8]
         ensures filled { result.now ≡ filled_bytes self.now 0 (length self.now) }
 
-        // Names what the list alone doesn't show: its values are bytes, and fewer than 2 to the power 32.
+        // States what the list alone doesn't show: its values are bytes, and fewer than 2 to the power 32.
         ensures image { IsImage self.now }
     {
         self.bytes.as_slice()
@@ -344,8 +343,8 @@ impl Image {
         self.get(addr).is_some() && other.get(addr).is_some()
     }
 
-    /// Returns the least byte address at which both images hold a byte. The images may differ in size. Laid over each
-    /// other, one would hide the other's byte there.
+    /// Returns the least byte address at which both images, of any size, hold a byte. Laid over each other, one would
+    /// hide the other's there.
     ///
     /// ```text
     /// let mut image = Image::new(alloc, 64)?;
@@ -438,8 +437,8 @@ impl Image {
         true
     }
 
-    /// Returns the address after the run of held bytes that begins at `addr`, at most `end`. If `addr` holds no byte,
-    /// it returns `addr`. `end` may lie outside the memory.
+    /// Returns the address after the run of held bytes that begins at `addr`, at most `end`; `addr` if it holds no
+    /// byte. `end` may be outside the memory.
     ///
     /// ```text
     /// let mut image = Image::new(alloc, 64)?;
@@ -502,7 +501,7 @@ impl Eq for Image {
     ghost laws = { lists_equiv (options_equiv nat_eq_equiv) };
 }
 
-/// Shows the size and how many addresses hold a byte, but no byte.
+/// Shows the size and how many addresses hold a byte.
 impl fmt::Debug for Image {
     fn fmt<W: fmt::Write>(&self, f: &mut fmt::Formatter<W>) -> fmt::Result {
         f.debug_struct("Image")

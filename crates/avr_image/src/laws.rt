@@ -40,8 +40,8 @@ pub fn laying_over_groups()
         → over (over first second) third ≡ over first (over second third) }
 {}
 
-/// An address of two overlaid images of one size has the second's byte, if there is one, else the first's. An address
-/// of an image with bytes laid onto it has the last byte laid there, if there is one, else the image's.
+/// An address of two overlaid images of one size has the second's byte, else the first's. After bytes were laid onto
+/// an image, an address has the last one laid there, else the image's.
 pub fn over_is_by_address()
     ensures over { (first second : List (Option ℕ)) (addr : ℕ) → length first ≡ length second
         → byte_at (over first second) addr ≡ either (byte_at second addr) (byte_at first addr) }
@@ -126,8 +126,8 @@ pub fn an_image_is_its_runs()
         ≡ image }
 {}
 
-/// The runs from an address on are those from the next byte on, if there is one. From a byte on, the first run is the
-/// bytes before the next gap, and the other runs come after it.
+/// The runs from an address on are those from the next byte on. From a byte on, the first run is the bytes before the
+/// next gap, and the others come after it.
 pub fn runs_begin_at_the_next_byte()
     ensures none { (image : List (Option ℕ)) (addr : ℕ) → first_from image addr ≡ None
         → runs addr (drop addr image) ≡ [] }
@@ -137,8 +137,8 @@ pub fn runs_begin_at_the_next_byte()
         ≡ (addr, lead image) ∷ runs (addr + length (lead image)) (drop (length (lead image)) image) }
 {}
 
-/// If a byte is next, the bytes before the next gap are not empty. The run from there has as many, and a page has the
-/// same bytes. They are no more than the image has addresses.
+/// If a byte is next, the bytes before the next gap are not empty. The run from there and a page have the same bytes.
+/// They are no more than the image has addresses.
 pub fn a_run_is_the_bytes_before_a_gap()
     ensures some { (image : List (Option ℕ)) (addr place : ℕ) → first_from image addr ≡ Some place
         → 0 < length (lead (drop place image)) }
@@ -149,8 +149,8 @@ pub fn a_run_is_the_bytes_before_a_gap()
     ensures within { (image : List (Option ℕ)) → length (lead image) ≤ length image }
 {}
 
-/// A written list, in any base and without its line end, reads back as values from address 0 on, in each memory that
-/// they fit in. An empty list reads as a bad first value.
+/// A written list without its line end, in any base, reads back as values from address 0 on, if they fit. An empty
+/// list reads as a bad first value.
 pub fn a_list_reads_back()
     ensures some { (base : Base) (bytes : List ℕ) (size : ℕ) → 0 < length bytes → length bytes ≤ size
         → All (λ byte. byte < 256) bytes → values (list_line base bytes) size ≡ Ok (from_zero bytes size) }

@@ -31,8 +31,8 @@ pub enum Base {
 /// The longest number with its comma or line end.
 const LONGEST: usize = 11;
 
-/// Writes bytes as numbers on one line, joined by commas, in pieces of at most 80 bytes. Contracts see it as the text
-/// still to come.
+/// Writes bytes as numbers on one line, joined by commas, in pieces of at most 80 bytes. Contracts see the text still
+/// to come.
 ///
 /// ```text
 /// let mut text = Vec::new(alloc);

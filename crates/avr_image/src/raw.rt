@@ -8,8 +8,8 @@ use std::alloc::Global;
 use std::fmt;
 use std::marker::Model;
 
-/// Reads a raw file in pieces of any size. It keeps only the image. The first piece that goes past the memory is a
-/// fault, and the reader has failed from then on.
+/// Reads a raw file in pieces of any size. It keeps only the image. A reader has failed once a piece went past the
+/// memory.
 ///
 /// ```text
 /// let mut reader = RawReader::new(alloc, 32_768)?;

@@ -8,8 +8,8 @@ use crate::image::Image;
 use std::fmt;
 use std::marker::Model;
 
-/// Iterates over the longest runs of bytes without a gap, by rising address. Each item is a byte address with the
-/// bytes from there on, which are borrowed. Contracts see it as the list of runs left.
+/// Iterates over the longest runs of bytes without a gap, by rising address. Each item is a byte address and the
+/// borrowed bytes from there on. Contracts see the list of runs left.
 ///
 /// ```text
 /// let mut image = Image::new(alloc, 64)?;
@@ -63,7 +63,7 @@ impl<'a> Iterator for Runs<'a> {
     }
 }
 
-/// Shows the address below which all runs were returned, but no byte.
+/// Shows the address below which all runs were returned.
 impl fmt::Debug for Runs<'_> {
     fn fmt<W: fmt::Write>(&self, f: &mut fmt::Formatter<W>) -> fmt::Result {
         f.debug_struct("Runs")

@@ -17,7 +17,6 @@ fn separates(c: u8) -> bool
     c == b',' || c == b' ' || c == b'\t'
 }
 
-/// Returns how many bytes come before the first separator.
 fn piece_len(text: &[u8]) -> usize
     ensures counted { result ≡ position_or_len is_separator text.now }
     ensures within { result ≤ length text.now }
@@ -49,7 +48,6 @@ fn read_number(base: u32, digits: &[u8]) -> Option<u32>
     Some(value)
 }
 
-/// Returns the number that a piece writes, or 256 if it is larger.
 fn read_value(piece: &[u8]) -> Option<u32>
     ensures { result ≡ option_map (λ n. min n 256) (value_of piece.now) }
 {
