@@ -15,11 +15,9 @@ loaded_in_turn word i [] s = s
 loaded_in_turn word i (b ∷ bytes) s =
     loaded_in_turn word (suc i) bytes (after_instruction (LoadFlash (half_at i) ((word + i / 2) % 256) b) s)
 
--- a block of n bytes ends within the page buffer
 abbrev pub is_in_page : ℕ → ℕ → ChipState → Bool
 is_in_page word n s = nat_le (word % (s.part.flash_page / 2) * 2 + n) s.part.flash_page
 
--- loads a block that ends within the page buffer
 abbrev pub load_block : ℕ → List ℕ → ChipState → Bool × ChipState
 load_block word bytes s =
     if is_in_page word (length bytes) s then (true, loaded_in_turn word 0 bytes s) else (false, s)
@@ -33,6 +31,5 @@ read_in_turn word i (suc n) s = flash_byte (half_at i) (word + i / 2) s ∷ read
 abbrev pub is_in_flash : ℕ → ℕ → ChipState → Bool
 is_in_flash word n s = nat_le (word * 2 + n) 131072 && nat_le (word_address s word + n) s.part.flash_size
 
--- reads a block that ends there
 abbrev pub flash_block : ℕ → ℕ → ChipState → Option (List ℕ)
 flash_block word n s = if is_in_flash word n s then Some (read_in_turn word 0 n s) else None

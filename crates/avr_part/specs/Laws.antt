@@ -2,11 +2,9 @@
 use Rattle.std.specs.Prelude.{◌≡◌}
 use Rattle.avr_part.specs.State.{ChipState}
 
--- the flash buffer is loaded again as before
 abbrev pub flash_loaded_as : ChipState → ChipState → ChipState
 flash_loaded_as before s = record s { flash_buffer = before.flash_buffer }
 
--- the EEPROM buffer is loaded again as before
 abbrev pub eeprom_loaded_as : ChipState → ChipState → ChipState
 eeprom_loaded_as before s = record s { eeprom_buffer = before.eeprom_buffer }
 

@@ -29,7 +29,6 @@ abbrev pub number_in : Field → ℕ → ℕ → ℤ → Result ℕ PartFault
 number_in f least most (pos n) = if is_between least most n then Ok n else Err (BadValue f)
 number_in f least most (negsuc n) = Err (BadValue f)
 
--- a field that is a number from `least` to `most`
 abbrev pub number_field : Field → ℕ → ℕ → Option Data → Result ℕ PartFault
 number_field f least most d = do
   value ← ok_or d (Missing f)
@@ -53,7 +52,6 @@ signature_field d = do
   text ← ok_or (as_str value) (BadValue field.Signature)
   hex_value (decode_sized text 3)
 
--- the sizes are whole pages
 abbrev pub fitted_part : Part → Result Part PartFault
 fitted_part p =
     if p.flash_size % p.flash_page == 0 && p.eeprom_size % p.eeprom_page == 0 then Ok p else Err BadSizes
@@ -136,7 +134,6 @@ HasLine text fault None = fault ≢ NotToml
 abbrev pub IsPlaced : Bytes → PlacedFault → Type 0
 IsPlaced text f = HasLine text f.why.fault f.line
 
--- the result without the line
 abbrev pub unplaced : {T : Type 0} → Result T PlacedFault → Result T FileFault
 unplaced (Ok t) = Ok t
 unplaced (Err f) = Err f.why
@@ -144,7 +141,6 @@ unplaced (Err f) = Err f.why
 abbrev pub utf8_text : Bytes → Option Bytes
 utf8_text bytes = if is_utf8 bytes then Some bytes else None
 
--- the parts that a text defines
 abbrev pub parts_of : Bytes → Result (List Part) FileFault
 parts_of bytes = do
   text ← ok_or (utf8_text bytes) (of_file NotToml)
@@ -155,7 +151,6 @@ parts_of bytes = do
 abbrev pub GivesOrMemory : {T : Type 0} → Result T PartFault → Result T PartFault → Type 0
 GivesOrMemory want got = (got ≡ want) ⊎ (got ≡ Err Memory)
 
--- the same for the result of a file
 abbrev pub ReadsOrMemory : {T : Type 0} → Result T FileFault → Result T FileFault → Type 0
 ReadsOrMemory want got = (got ≡ want) ⊎ (got ≡ Err (of_file Memory))
 

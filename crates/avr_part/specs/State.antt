@@ -136,7 +136,6 @@ answer_of ReadCalibration third s = 255
 answer_of Poll third s = 0
 answer_of i third s = third
 
--- what an instruction changes
 abbrev pub after_instruction : Instruction → ChipState → ChipState
 after_instruction Enable s = with_empty_buffers s
 after_instruction Erase s = with_erased s
@@ -150,7 +149,6 @@ after_instruction (WriteLock byte) s = with_lock byte s
 after_instruction (Extend byte) s = record s { extended = byte }
 after_instruction i s = s
 
--- four bytes in, and four bytes out
 abbrev pub spi_of : List ℕ → ChipState → List ℕ × ChipState
 spi_of x s =
     let i = instruction_of x in

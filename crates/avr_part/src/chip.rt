@@ -44,14 +44,12 @@ impl Model for Chip {
     ghost invariant = { IsSoundInside };
 }
 
-/// Puts the extended address in front of a word's number.
 fn extended_word(extended: u8, word: u16) -> usize
     ensures { result ≡ extended * 65536 + word }
 {
     usize::from(extended) * 65536 + usize::from(word)
 }
 
-/// Returns the first address of the page that holds `at`.
 fn page_start(at: usize, page: usize, size: usize) -> usize
     requires inside { at < size }
     requires some { 0 < page }
@@ -169,7 +167,6 @@ impl Chip {
         self.extended = 0;
     }
 
-    /// Returns whether a chip erase keeps the EEPROM.
     fn keeps_eeprom(&self) -> bool
         ensures { result ≡ keeps_eeprom self.now }
     {
@@ -188,7 +185,6 @@ impl Chip {
         }
     }
 
-    /// Returns a word's place in the page buffer.
     fn buffer_place(&self, word: u8) -> usize
         ensures value { result ≡ word % (self.now.part.flash_page / 2) * 2 }
         ensures inside { result + 1 < self.now.part.flash_page }
@@ -362,11 +358,11 @@ impl Chip {
         }
     }
 
-    /// Runs one instruction of four bytes. Returns 00, the first two bytes, and the byte that the instruction reads,
-    /// or the third byte if it reads none. Bytes that are no instruction change nothing.
+    /// Runs one instruction. Returns 00, the first two bytes, and the byte that it reads, or the third byte if it
+    /// reads none. Bytes that are no instruction change nothing.
     ///
-    /// It allocates nothing. A chip erase takes the time of the memories; a page write and programming enable take
-    /// that of the page buffers; all else takes constant time.
+    /// It allocates nothing. A chip erase takes the time of the memories, a page write and programming enable that of
+    /// the page buffers, all else constant time.
     ///
     /// ```text
     /// let mut chip = Chip::fresh(alloc, Parts::none().find("m328p")?)?;
@@ -382,8 +378,8 @@ impl Chip {
         [0, bytes[0], bytes[1], answer]
     }
 
-    /// Loads a block as instructions 40 and 48 would, the low and the high byte of each word in turn, from a word of
-    /// the page on. Returns false and changes nothing if the block reaches over the end of the page.
+    /// Loads a block as instructions 40 and 48 would, from a word of the page on, low byte first. Returns false and
+    /// changes nothing if the block reaches over the page's end.
     ///
     /// ```text
     /// let mut chip = Chip::fresh(alloc, Parts::none().find("m328p")?)?;
@@ -416,8 +412,8 @@ impl Chip {
         self.flash_buffer.paste(place, bytes);
     }
 
-    /// Returns `count` bytes from a word on as instructions 20 and 28 read them, the low and the high byte of each
-    /// word in turn. Returns `None` if the block reaches over the end of flash, or needs another extended address.
+    /// Returns `count` bytes from a word on as instructions 20 and 28 read them, low byte first. Returns `None` if
+    /// the block reaches over the end of flash, or needs another extended address.
     ///
     /// ```text
     /// let chip = Chip::fresh(alloc, Parts::none().find("t85")?)?;
@@ -485,7 +481,7 @@ impl Chip {
     }
 }
 
-/// Shows the part's id, but no memory.
+/// Shows the part's id.
 impl fmt::Debug for Chip {
     fn fmt<W: fmt::Write>(&self, f: &mut fmt::Formatter<W>) -> fmt::Result {
         f.debug_struct("Chip")

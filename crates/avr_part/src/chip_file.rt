@@ -1,4 +1,4 @@
-//! The chip file: flash, EEPROM, low, high and extended fuse and lock, without a gap.
+//! The chip file.
 ghost use Rattle.std.specs.Prelude.{◌≡◌, ◌+◌, IfOk, IfErr, length, Ok};
 ghost use Rattle.avr_part.specs.ChipFile.{chip_file, chip_file_size, chip_in, state_in};
 ghost use Rattle.avr_part.specs.PartFile.{GivesOrMemory};

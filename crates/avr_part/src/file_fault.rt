@@ -10,7 +10,6 @@ use std::error::Error;
 use std::fmt;
 use std::marker::Model;
 
-/// The fault, and the id of the part at fault, if there is one.
 #[derive(Drop)]
 pub(crate) struct FileFault {
     part: Option<ArrayString<31>>,
@@ -97,8 +96,8 @@ impl PartFileFault {
         PartFileFault { why, line: None }
     }
 
-    /// Returns the id of the part at fault. Returns `None` if the file is not TOML, the table of parts is missing or
-    /// no table, the part's key is no id, or allocation failed.
+    /// Returns the id of the part at fault. It is missing if the file is not TOML, `parts` is missing or no table,
+    /// the part's key is no id, or allocation failed.
     ///
     /// ```text
     /// if let Err(fault) = parse_parts(alloc, b"parts = 3") {

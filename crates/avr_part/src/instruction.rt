@@ -167,14 +167,13 @@ impl Instruction {
     }
 }
 
-/// Shows the variant's name, but no field.
+/// Shows the variant's name.
 impl fmt::Debug for Instruction {
     fn fmt<W: fmt::Write>(&self, f: &mut fmt::Formatter<W>) -> fmt::Result {
         f.write_str(self.name())
     }
 }
 
-/// Decodes an instruction that begins with AC, by its second byte.
 fn write_of(second: u8, last: u8) -> Instruction
     ensures { result ≡ write_of second last }
 {

@@ -67,7 +67,6 @@ fn number_in(field: Field, least: u32, most: u32, number: i64) -> Result<u32, Pa
     }
 }
 
-/// Reads a field that is a number from `least` to `most`.
 fn number(table: &Table, key: &str, field: Field, least: u32, most: u32) -> Result<u32, PartFault>
     ensures value { result ≡ number_field field least most (get_member key.now (table_view table.now)) }
     ensures least { IfOk result (λ n. least ≤ n) }
@@ -79,7 +78,6 @@ fn number(table: &Table, key: &str, field: Field, least: u32, most: u32) -> Resu
     number_in(field, least, most, number)
 }
 
-/// Accepts a power of two.
 #[tactic(auto, using(crate::proofs::Powers::power_divides, crate::proofs::Powers::power_is_even))]
 fn power(field: Field, number: u32) -> Result<u32, PartFault>
     requires { number ≤ 256 }

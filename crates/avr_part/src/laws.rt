@@ -60,8 +60,8 @@ pub fn a_locked_chip_keeps_its_memories()
         → is_locked s ≡ true → i ≢ Instruction.Erase → KeepsMemories s (after_instruction i s) }
 {}
 
-/// Reading a written chip file gives the chip's memories, with empty buffers. Writing a chip that was read from a
-/// file of the part's length gives the same file.
+/// A written chip file reads back as the chip's memories, with empty buffers. A file of the part's length, read and
+/// written again, is the same file.
 #[tactic(auto, using(crate::proofs::ChipFiles::read_again, crate::proofs::ChipFiles::written_again))]
 pub fn a_chip_file_is_read_again()
     ensures written { (p : Part) (bytes : List ℕ)

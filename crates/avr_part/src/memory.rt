@@ -64,7 +64,6 @@ impl Loads {
     }
 }
 
-/// The bytes of a memory.
 #[derive(Drop)]
 pub struct Memory {
     bytes: Vec<u8>,
@@ -82,7 +81,6 @@ impl Model for Memory {
 }
 
 impl Memory {
-    /// Creates an erased memory.
     pub fn new(alloc: Global, size: usize) -> Result<Memory, AllocError>
         ensures bytes { IfOk result (λ m. m ≡ replicate size 255) }
         ensures len { IfOk result (λ m. length m ≡ size) }
@@ -125,7 +123,6 @@ impl Memory {
         self.bytes[at] = byte;
     }
 
-    /// Overwrites the bytes from `start` on.
     pub fn paste(&mut self, start: usize, bytes: &[u8])
         requires { start + length bytes.now ≤ length self.old }
         ensures bytes { self.new ≡ pasted start bytes.now self.old }
@@ -147,7 +144,7 @@ impl Memory {
         }
     }
 
-    /// Overwrites the bytes from `start` on with those that were loaded.
+    /// Overwrites the bytes from `start` on with the loaded ones.
     pub fn overlay_page(&mut self, start: usize, loads: &Loads)
         requires { start + length loads.now ≤ length self.old }
         ensures bytes { self.new ≡ map_indexed (overlaid start loads.now) self.old }

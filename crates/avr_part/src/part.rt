@@ -143,7 +143,7 @@ impl Model for Part {
 impl Part {
     ghost use Rattle.avr_part.specs.Part.{size_of, page_of, IsPart};
 
-    /// Returns the id: 1 to 31 ASCII letters, digits, `_` and `-`.
+    /// Returns the id.
     ///
     /// ```text
     /// assert_eq!(rt; Parts::none().find("t85")?.id(), "t85");
