@@ -18,7 +18,6 @@ fault_among size said = first_fault size (in_place [] (up_to_end said))
 abbrev pub closed_fault : Kind → List ℕ → ℕ → Option RecordFault
 closed_fault kind text size = fault_among size (map (said_by_line kind) (all_but_last (lines text)))
 
--- a result without a value: the fault, if there is one
 abbrev pub ok_unless : Option RecordFault → Result Unit RecordFault
 ok_unless None = Ok tt
 ok_unless (Some fault) = Err fault

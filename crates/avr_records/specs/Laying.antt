@@ -7,7 +7,6 @@ use Rattle.avr_records.specs.declared.kind.Base.{Base}
 use Rattle.avr_records.specs.declared.kind.Base.TheVariants.{Linear, Segment}
 use Rattle.avr_records.specs.declared.spans.Spans.{Spans}
 
--- the bytes at their addresses
 abbrev pub spans_places : Spans → List (ℕ × ℕ)
 spans_places s = enumerate_from s.addr s.bytes.now ++ enumerate_from s.start s.wrapped.now
 

@@ -5,7 +5,6 @@ use Rattle.avr_records.specs.Reading.{Said, said_by_line, up_to_end, in_place, a
 use Rattle.avr_records.specs.declared.kind.Kind.{Kind}
 use Rattle.avr_records.specs.declared.fault.RecordFault.{RecordFault}
 
--- the size of the largest memory
 abbrev pub largest : ℕ
 largest = 2 ^ 32 - 1
 

@@ -20,8 +20,8 @@ pub record ReadsLines (kind : Kind) (progress : Progress) (part text : List ℕ)
   pub holds : Holds progress (map (said_by_line kind) prefix)
   pub keeps : progress.extent.ended ≡ false → part ≡ kept last
 
--- What a reader holds: the kind of file, what the lines so far leave, what is kept of the last one, how many bytes
--- came, and whether it has failed.
+-- What a reader holds: the kind of file; what the lines so far leave, and what is kept of the last one; the count of
+-- bytes; whether it has failed.
 pub record ReaderState : Type 0 where
   pub kind : Kind
   pub progress : Progress

@@ -33,7 +33,6 @@ abbrev pub new_upper : Kind → ℕ → ℕ → Option ℕ
 new_upper Ihex in_force addr = if addr / 65536 == in_force then None else Some (addr / 65536)
 new_upper Srec in_force addr = None
 
--- the record of a row
 abbrev pub row_text : Kind → AddressSize → ℕ → List ℕ → List ℕ
 row_text Ihex size addr bytes = ihex_record 0 (addr % 65536) bytes
 row_text Srec size addr bytes = srec_record (bytes_of size - 1) (low_bytes (bytes_of size) addr ++ bytes)
@@ -50,7 +49,6 @@ last_held last addr [] = last
 last_held last addr (None ∷ image) = last_held last (addr + 1) image
 last_held last addr (Some b ∷ image) = last_held addr (addr + 1) image
 
--- the record file of an image
 abbrev pub image_text : Kind → List (Option ℕ) → List ℕ
 image_text kind image =
     file_rows kind 0 (address_size (last_held 0 0 image)) (rows_of (row_size kind) (runs 0 image))

@@ -62,7 +62,6 @@ pub record InRange (kind : Kind) (e : Extent) : Type 0 where
   pub base : HasBase kind e.base
   pub counts : e.data_records ≤ e.lines
 
--- before any line
 abbrev pub no_lines : Extent
 no_lines = record { base = Linear 0; data_records = 0; lines = 0; end = 0; ended = false }
 

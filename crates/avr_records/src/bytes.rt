@@ -68,7 +68,6 @@ pub(crate) fn decode_digits<'b>(
     Ok(&room[..n])
 }
 
-/// Returns the sum modulo 256.
 #[tactic(auto, using(crate::proofs::Texts::Sums::low_sum_is))]
 pub(crate) fn low_sum_of(bytes: &[u8]) -> u8
     ensures { result ≡ sum bytes.now % 256 }

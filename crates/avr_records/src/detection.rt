@@ -9,7 +9,7 @@ use crate::bytes::{are_digits, first};
 use crate::kind::Found;
 use crate::line::{is_blank_byte, split_line};
 
-/// How many of a file's first bytes `detect` looks at.
+/// How many of a file's first bytes `detect` looks at. This many, or all of a shorter file, show what the whole does.
 ///
 /// ```text
 /// assert_eq!(rt; FIRST_BYTES, 1024);
@@ -29,7 +29,6 @@ fn has_digits(n: usize, text: &[u8]) -> bool
     n <= text.len() && are_digits(&text[..n])
 }
 
-/// Returns what a line shows that isn't blank.
 fn shown_by(line: &[u8]) -> Found
     ensures { result ≡ kind_of_line (Some line.now) }
 {

@@ -1,4 +1,4 @@
-//! The lines of a record file so far: the end of their bytes, and what holds for the next line.
+//! The lines of a record file so far: their bytes' end, and what holds for the next line.
 ghost use Rattle.std.specs.Prelude.{◌≡◌, ◌<◌, ◌≤◌, ◌+◌, ◌^◌, Ok, Err, MatchResult, OnOk, IfErr, length};
 ghost use Rattle.avr_records.specs.Judging.{meaning_of, FitsKind};
 ghost use Rattle.avr_records.specs.Laying.{spans_places, Near};
@@ -12,13 +12,11 @@ use crate::kind::{Base, Ending, Kind};
 use crate::line::{Line, line_says};
 use crate::spans::Spans;
 
-/// What the ended lines leave.
 #[derive(Clone, Copy)]
 pub struct Extent {
     /// The base of the addresses of data records.
     pub(crate) base: Base,
     pub(crate) data_records: u32,
-    /// The number of lines.
     pub(crate) lines: u32,
     /// The address after the highest byte.
     pub(crate) end: u32,
@@ -27,7 +25,6 @@ pub struct Extent {
 }
 
 impl Extent {
-    /// Creates the extent before any line.
     pub(crate) fn new() -> Extent
         ensures { result ≡ no_lines }
     {
@@ -132,7 +129,6 @@ impl Extent {
         }
     }
 
-    /// Returns whether an end record came.
     pub(crate) fn ending(&self) -> Ending
         ensures { result ≡ ending_of self.now }
     {

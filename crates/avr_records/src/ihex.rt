@@ -56,7 +56,6 @@ fn ihex_checked(
     ihex_typed(record_type, offset, &more[..size])
 }
 
-/// Reads the record from a line's bytes.
 pub(crate) fn ihex_fields(bytes: &[u8]) -> Result<LineRecord<'_>, LineFault>
     ensures is { MatchResult result (λ found. ihex_from_fields bytes.now ≡ Ok (record_of found))
         (λ fault. ihex_from_fields bytes.now ≡ Err fault) }

@@ -78,7 +78,6 @@ fn is_too_long(line: &[u8]) -> bool
     line.len() > LONGEST
 }
 
-/// Reads a line of Intel HEX without blanks at its end.
 fn ihex_record<'b>(line: &[u8], room: &'b mut [u8; ROOM]) -> Result<LineRecord<'b>, LineFault>
     requires { length line.now ≤ LONGEST }
     ensures is { MatchResult result (λ found. ihex_line line.now ≡ Ok (record_of found))
@@ -91,7 +90,6 @@ fn ihex_record<'b>(line: &[u8], room: &'b mut [u8; ROOM]) -> Result<LineRecord<'
     }
 }
 
-/// Reads a line of S-records without blanks at its end.
 fn srec_record<'b>(line: &[u8], room: &'b mut [u8; ROOM]) -> Result<LineRecord<'b>, LineFault>
     requires { length line.now ≤ LONGEST }
     ensures is { MatchResult result (λ found. srec_line line.now ≡ Ok (record_of found))
@@ -106,7 +104,6 @@ fn srec_record<'b>(line: &[u8], room: &'b mut [u8; ROOM]) -> Result<LineRecord<'
     }
 }
 
-/// Reads a line without blanks at its end.
 fn bare_record<'b>(
     kind: Kind,
     line: &[u8],
@@ -139,7 +136,6 @@ pub(crate) fn record_in<'b>(
     bare_record(kind, trim(line), room)
 }
 
-/// Returns what a line without blanks at its end says.
 fn bare_line_says<'b>(
     kind: Kind,
     line: &[u8],

@@ -26,7 +26,6 @@ fn extend(part: &mut ArrayVec<u8, KEPT>, more: &[u8])
     let _ = part.try_extend_from_slice(first(part.remaining_capacity(), more));
 }
 
-/// What the ended lines leave, and what is kept of the unfinished one.
 #[derive(Drop)]
 pub struct LineReader {
     pub(crate) kind: Kind,
@@ -37,7 +36,6 @@ pub struct LineReader {
 }
 
 impl LineReader {
-    /// Creates the reader before any line, for a memory of `size` bytes.
     pub(crate) fn new(alloc: Global, kind: Kind, size: u32) -> Result<LineReader, ImageFault>
         ensures { MatchResult result (λ reader. (reader.kind ≡ kind)
             × Begins kind size reader.progress reader.part.items) (λ fault. fault ≡ ImageFault.Memory) }
@@ -152,7 +150,6 @@ impl LineReader {
         Ok(())
     }
 
-    /// Takes the last line.
     fn end_text(&mut self) -> Result<(), RecordFault>
         requires range { InRange self.old.kind self.old.progress.extent }
         requires few { self.old.progress.extent.lines + length self.old.part.items < 2 ^ 32 }

@@ -10,7 +10,6 @@ use crate::kind::Kind;
 use avr_image::{Image, ImageFault};
 use std::alloc::Global;
 
-/// What the ended lines leave.
 #[derive(Drop)]
 pub struct Progress {
     pub(crate) extent: Extent,
@@ -18,7 +17,6 @@ pub struct Progress {
 }
 
 impl Progress {
-    /// Starts before any line, for a memory of `size` bytes.
     pub(crate) fn new(alloc: Global, size: u32) -> Result<Progress, ImageFault>
         ensures { MatchResult result (IsFresh size) (λ fault. fault ≡ ImageFault.Memory) }
     {
