@@ -23,11 +23,9 @@ list_rule id short = record (value_rule id short) { action = Some Append }
 abbrev pub number_rule : Bytes → ℕ → Rule
 number_rule id short = record (value_rule id short) { parser = Some (Signed (pos 0) (pos 4294967295)) }
 
--- a flag of one letter
 abbrev pub flag_rule : Bytes → ℕ → Rule
 flag_rule id short = record (new_rule id) { short = Some short; action = Some SetTrue }
 
--- a flag of one letter that is counted
 abbrev pub count_rule : Bytes → ℕ → Rule
 count_rule id short = record (new_rule id) { short = Some short; action = Some Count }
 
@@ -68,12 +66,10 @@ telling_rules =
 unfoldable pub file_rules : List Rule
 file_rules = long_rule (codes "parts") ∷ long_rule (codes "serve") ∷ long_rule (codes "chip") ∷ []
 
--- a command with more options, in this order
 abbrev pub with_rules : App → List Rule → App
 with_rules a [] = a
 with_rules a (rule ∷ rules) = with_rules (with_rule a rule) rules
 
--- a command whose options may be given again
 abbrev pub overriding : App → App
 overriding a = record a { top = record a.top { args_override_self = true } }
 
@@ -81,13 +77,11 @@ overriding a = record a { top = record a.top { args_override_self = true } }
 pub record Builds {E : Type 0} (built : Result Command E) (a : App) : Type 0 where
   pub shape : IfOk built (λ c. app_of c ≡ a)
 
--- the command with all its options
 unfoldable pub avrstk : App
 avrstk =
     with_rules (with_rules (with_rules (with_rules (with_rules (overriding (new_app (codes "avrstk")))
     target_rules) write_rules) run_rules) telling_rules) file_rules
 
--- a flag is given
 abbrev pub is_true : Option Bytes → Bool
 is_true None = false
 is_true (Some text) = bytes_eq text (codes "true")

@@ -26,7 +26,6 @@ is_host_and_port (Some parts) = not (length parts.0 == 0) && is_some (port_numbe
 abbrev pub is_address : Bytes → Bool
 is_address text = is_host_and_port (split_last text)
 
--- the port of a text, by what follows `emu:` or `net:`
 abbrev pub port_after : Bytes → Option Bytes → Option Bytes → Result Port SettingsFault
 port_after text (Some file) other =
     if length file == 0 then Err (BadPort (Some text)) else Ok (Emulated file)
@@ -39,7 +38,6 @@ port_of text =
     if bytes_eq text (codes "stdio:") then Ok Stdio
     else port_after text (after_prefix (codes "emu:") text) (after_prefix (codes "net:") text)
 
--- the port of `-P`
 abbrev pub port_given_of : Option Bytes → Result Port SettingsFault
 port_given_of None = Err (BadPort None)
 port_given_of (Some text) = port_of text

@@ -77,7 +77,6 @@ abbrev pub checked_streams : Port → List Update → Option Bytes → Option By
 checked_streams port updates parts chip =
     if is_taken port updates parts chip then Err StandardTaken else Ok tt
 
--- the settings of a run over a port
 abbrev pub run_settings : Bytes → Entries → Result Settings SettingsFault
 run_settings part e = do
   programmer ← checked_programmer e.programmer
@@ -117,6 +116,5 @@ abbrev pub with_part : Option Bytes → Entries → Result Settings SettingsFaul
 with_part None e = Err NoPart
 with_part (Some part) e = settings_by e.serve part e
 
--- the settings that a command line asks for, or the first fault
 abbrev pub settings_of : Entries → Result Settings SettingsFault
 settings_of e = with_part e.part e

@@ -14,7 +14,6 @@ colon = 58
 abbrev pub onto_prefix : ℕ → Option (Bytes × Bytes) → Option (Bytes × Bytes)
 onto_prefix c = option_map (λ p. (c ∷ p.0, p.1))
 
--- what is before the first colon, and what follows it
 abbrev pub split_first : Bytes → Option (Bytes × Bytes)
 split_first [] = None
 split_first (c ∷ cs) = if c == colon then Some ([], cs) else onto_prefix c (split_first cs)
@@ -23,7 +22,6 @@ abbrev pub or_else : Option (Bytes × Bytes) → Option (Bytes × Bytes) → Opt
 or_else (Some p) other = Some p
 or_else None other = other
 
--- what is before the last colon, and what follows it
 abbrev pub split_last : Bytes → Option (Bytes × Bytes)
 split_last [] = None
 split_last (c ∷ cs) =

@@ -47,7 +47,6 @@ abbrev pub formats_of : Op → List Format
 formats_of Read = Ihex ∷ Srec ∷ Raw ∷ Decimal ∷ Hexadecimal ∷ Octal ∷ Binary ∷ []
 formats_of op = Ihex ∷ Srec ∷ Raw ∷ Immediate ∷ Auto ∷ []
 
--- the format if none is named
 abbrev pub default_format : Op → Format
 default_format Read = Raw
 default_format op = Auto
@@ -71,7 +70,6 @@ update_in memory op file None = Err BadFormat
 update_in memory op file (Some format) =
     Ok (record { memory = memory; op = op; format = format; file = file })
 
--- an operation on a memory, by the file and the letter of its format
 abbrev pub update_by : Mem → Op → Bytes × Option ℕ → Result Update UpdateFault
 update_by memory op named =
     if length named.0 == 0 then Err NoFile else update_in memory op named.0 (format_of op named.1)
@@ -95,11 +93,9 @@ abbrev pub update_cut : Bytes → Option (Bytes × Bytes) → Result Update Upda
 update_cut text None = update_by Flash Write (text, None)
 update_cut text (Some parts) = with_memory (memory_named parts.0) parts.1
 
--- the update that a text asks for
 abbrev pub update_of : Bytes → Result Update UpdateFault
 update_of text = update_cut text (split_first text)
 
--- the text of an update with all four parts
 abbrev pub update_text : Mem → Op → Bytes → ℕ → Bytes
 update_text memory op file letter =
     name_of memory ++ (colon ∷ (op_name op ++ (colon ∷ (file ++ colon ∷ letter ∷ []))))

@@ -32,7 +32,6 @@ There is no -C (no configuration file), no -B (the programmer has its own clock)
 it to --parts. Values in place of a file need the format m. Manual: man avrstk.
 This is avrstk 0.9.0.";
 
-/// Creates an option of one letter, with a value.
 fn value<'a>(alloc: Global, id: &'a str, short: char, value_name: &'a str, help: &'a str) -> Arg<'a>
     ensures rule { rule_of result ≡ value_rule id.entry.now short }
     ensures local { result.global ≡ false }
@@ -43,7 +42,7 @@ fn value<'a>(alloc: Global, id: &'a str, short: char, value_name: &'a str, help:
         .help(help)
 }
 
-/// Creates an option named by its id, with a value.
+/// An option named by its id.
 fn long_value<'a>(alloc: Global, id: &'a str, value_name: &'a str, help: &'a str) -> Arg<'a>
     ensures rule { rule_of result ≡ long_rule id.entry.now }
     ensures local { result.global ≡ false }
@@ -54,7 +53,6 @@ fn long_value<'a>(alloc: Global, id: &'a str, value_name: &'a str, help: &'a str
         .help(help)
 }
 
-/// Creates a flag of one letter.
 fn flag<'a>(alloc: Global, id: &'a str, short: char, help: &'a str) -> Arg<'a>
     ensures rule { rule_of result ≡ flag_rule id.entry.now short }
     ensures local { result.global ≡ false }
@@ -65,7 +63,6 @@ fn flag<'a>(alloc: Global, id: &'a str, short: char, help: &'a str) -> Arg<'a>
         .help(help)
 }
 
-/// Creates a flag of one letter that is counted.
 fn counted<'a>(alloc: Global, id: &'a str, short: char, help: &'a str) -> Arg<'a>
     ensures rule { rule_of result ≡ count_rule id.entry.now short }
     ensures local { result.global ≡ false }
@@ -174,7 +171,6 @@ fn add<'a>(
     command?.arg(arg)
 }
 
-/// Adds the options for what is programmed, and over what.
 fn with_target<'a>(
     alloc: Global,
     command: Result<Command<'a>, AllocError>,
@@ -187,7 +183,6 @@ fn with_target<'a>(
     add(command, update(alloc))
 }
 
-/// Adds the flags for what is done before and after a write.
 fn with_write<'a>(
     alloc: Global,
     command: Result<Command<'a>, AllocError>,
@@ -210,7 +205,6 @@ fn with_write<'a>(
     )
 }
 
-/// Adds the flags for the whole run.
 fn with_run<'a>(
     alloc: Global,
     command: Result<Command<'a>, AllocError>,
@@ -225,7 +219,6 @@ fn with_run<'a>(
     add(command, all(alloc))
 }
 
-/// Adds the options for what is reported, and those without effect.
 fn with_telling<'a>(
     alloc: Global,
     command: Result<Command<'a>, AllocError>,
@@ -253,7 +246,6 @@ fn with_telling<'a>(
     )
 }
 
-/// Adds the options with long names.
 fn with_files<'a>(
     alloc: Global,
     command: Result<Command<'a>, AllocError>,
@@ -329,7 +321,7 @@ pub fn make_command<'a>(alloc: Global) -> Result<Command<'a>, Error>
 ///
 /// # Errors
 ///
-/// `clap`'s own error if the arguments are refused or ask for help. It knows the stream that it belongs to.
+/// `clap`'s own error if the arguments are refused or ask for help. Its `print` chooses the stream.
 ///
 /// ```text
 /// let mut words = Vec::new(alloc);

@@ -14,14 +14,13 @@ use crate::update_text::parse_update;
 use clap::ArgMatches;
 use std::alloc::Global;
 
-/// Returns the value of an option, the last one given.
+/// The last value given.
 pub(crate) fn text_of<'a>(matches: &ArgMatches<'a>, id: &str) -> Option<&'a str>
     ensures { option_map (λ s. s.now) result ≡ first_of id.now (rows_of (found_of matches.now)) }
 {
     matches.get_str(id)
 }
 
-/// Returns the values of an option that collects them.
 pub(crate) fn texts_of<'m, 'a>(matches: &'m ArgMatches<'a>, id: &str) -> Option<&'m [&'a str]>
     ensures { option_map (λ t. map (λ s. s.now) t.now) result ≡ all_of id.now (rows_of (found_of matches.now)) }
 {
@@ -51,10 +50,8 @@ pub(crate) fn switches_of(matches: &ArgMatches<'_>) -> Switches
     }
 }
 
-/// The most updates of a command line.
 const MOST_UPDATES: usize = 16;
 
-/// Refuses any programmer other than `stk500v2`.
 fn check_programmer(alloc: Global, given: Option<&str>) -> Result<(), SettingsFault>
     ensures gives { GivesOrMemory (checked_programmer (option_map (λ s. s.now) given.entry)) result }
     ensures passes { IsOk (checked_programmer (option_map (λ s. s.now) given.entry)) → IsOk result }
@@ -137,7 +134,6 @@ fn keep(
     })
 }
 
-/// Reads the settings of a run over a port.
 fn run_settings(
     alloc: Global,
     part: &str,
@@ -154,7 +150,6 @@ fn run_settings(
     keep(alloc, part, port, parts, updates, switches_of(matches))
 }
 
-/// Reads the settings of an emulator that serves.
 fn serve_settings(
     alloc: Global,
     part: &str,

@@ -35,7 +35,6 @@ pub fn port_number(text: &str) -> Option<u16>
     }
 }
 
-/// Returns whether a text is a host, a colon and a port number.
 fn is_address(text: &str) -> bool
     ensures { result ≡ is_address text.now }
 {
@@ -54,7 +53,6 @@ fn bad_port(alloc: Global, text: &str) -> SettingsFault
     }
 }
 
-/// Reads the chip file after `emu:`.
 fn emulated(alloc: Global, text: &str, file: &str) -> Result<Port, SettingsFault>
     ensures { GivesOrMemory (port_after text.now (Some file.now) None) result }
 {
@@ -64,7 +62,6 @@ fn emulated(alloc: Global, text: &str, file: &str) -> Result<Port, SettingsFault
     Ok(Port::Emulated(owned(alloc, file)?))
 }
 
-/// Reads the address after `net:`.
 fn network(alloc: Global, text: &str, address: &str) -> Result<Port, SettingsFault>
     ensures { GivesOrMemory (port_after text.now None (Some address.now)) result }
 {
@@ -90,7 +87,6 @@ fn port_of(alloc: Global, text: &str) -> Result<Port, SettingsFault>
     }
 }
 
-/// Reads the port of `-P`.
 pub fn port_given(alloc: Global, text: Option<&str>) -> Result<Port, SettingsFault>
     ensures gives { GivesOrMemory (port_given_of (option_map (λ s. s.now) text.entry)) result }
     ensures tells { TellsAnyway (port_given_of (option_map (λ s. s.now) text.entry)) result }

@@ -59,7 +59,6 @@ fn is_port_taken(port: &Port, updates: &[Update]) -> bool
     }
 }
 
-/// Returns whether a standard stream is asked for twice, or in place of a file.
 fn is_taken(port: &Port, updates: &[Update], parts: Option<&str>, chip: Option<&str>) -> bool
     ensures { result ≡ is_taken port.now updates.now (option_map (λ s. s.now) parts.entry)
         (option_map (λ s. s.now) chip.entry) }

@@ -27,7 +27,6 @@ fn format_named(formats: &[Format], letter: u8) -> Option<Format>
         .find(|format| format.letter() == letter)
 }
 
-/// Returns the format of a letter, or the operation's default.
 fn format_of(op: Op, letter: Option<u8>) -> Option<Format>
     ensures { result ≡ format_of op letter }
 {
