@@ -1,7 +1,7 @@
 //! Puts a serial number into the firmware of a record file, and changes nothing else.
 //!
-//! It shows a crate with a contract of its own above avr_image, avr_records and avr_part. tests/vendor.py takes it
-//! into a repository of its own.
+//! A crate with a contract of its own above avr_image, avr_records and avr_part. tests/vendor.py takes it into
+//! another repository.
 #![tactic(auto)]
 
 ghost use Rattle.std.specs.Prelude.{◌≡◌, length, Ok, IfOk, OnOk, OnErr};
@@ -52,7 +52,7 @@ impl PatchFault {
 ///
 /// # Errors
 ///
-/// [`ImageFault::OutOfRange`] if the serial number isn't wholly inside the image, which is then unchanged.
+/// [`ImageFault::OutOfRange`] if it isn't wholly inside the image, which is then unchanged.
 pub fn put_serial_number(image: &mut Image, at: u32, serial: &[u8]) -> Result<(), ImageFault>
     ensures patched { OnOk result (IsPatched at serial.now image.old image.new) }
     ensures same { OnErr result (image.new ≡ image.old) }
@@ -64,15 +64,14 @@ pub fn put_serial_number(image: &mut Image, at: u32, serial: &[u8]) -> Result<()
     Ok(())
 }
 
-/// Returns the Intel HEX file of an image, with only the bytes that are there.
 fn ihex_of(alloc: Global, image: &Image) -> Result<Vec<u8>, AllocError>
     ensures { IfOk result (λ out. image_in_text Kind.Ihex out.items (length image.now) ≡ Ok (image.now, Ended)) }
 {
     Writer::new(Kind::Ihex, image).to_vec(alloc)
 }
 
-/// Returns the record file of a part's flash memory with a serial number from the byte address `at` on. It is Intel
-/// HEX with only the bytes that are there.
+/// Returns the Intel HEX file of a part's flash memory with a serial number from the byte address `at` on. It has
+/// only the bytes that are there.
 ///
 /// # Errors
 ///
