@@ -13,7 +13,6 @@ use Rattle.stk_frame.specs.declared.answer.FrameFault.{FrameFault}
 use Rattle.stk_frame.specs.declared.answer.FrameFault.TheVariants.{WrongLength, WrongCommand, CheckSum, Status}
 use Rattle.stk_frame.specs.declared.protocol.TheConstants.{ANSWER_CKSUM_ERROR, CMD_CHIP_ERASE_ISP, CMD_ENTER_PROGMODE_ISP, CMD_GET_PARAMETER, CMD_LEAVE_PROGMODE_ISP, CMD_LOAD_ADDRESS, CMD_PROGRAM_EEPROM_ISP, CMD_PROGRAM_FLASH_ISP, CMD_PROGRAM_FUSE_ISP, CMD_PROGRAM_LOCK_ISP, CMD_READ_EEPROM_ISP, CMD_READ_FLASH_ISP, CMD_READ_FUSE_ISP, CMD_READ_LOCK_ISP, CMD_READ_OSCCAL_ISP, CMD_READ_SIGNATURE_ISP, CMD_SET_PARAMETER, CMD_SIGN_ON, CMD_SPI_MULTI, STATUS_CKSUM_ERROR, STATUS_CMD_OK}
 
--- the command's byte
 abbrev pub code : Command → ℕ
 code SignOn = CMD_SIGN_ON
 code (SetParameter number value) = CMD_SET_PARAMETER
@@ -98,7 +97,6 @@ data_of (Closed n) more =
     then (if slice_index more n == STATUS_CMD_OK then Ok (take n more) else Err (Status (slice_index more n)))
     else Err WrongLength
 
--- the result of an answer's body
 abbrev pub judge : Command → List ℕ → Result (List ℕ) FrameFault
 judge command [] = Err WrongCommand
 judge command (first ∷ []) = if first == code command then Err WrongLength else Err WrongCommand
@@ -108,7 +106,6 @@ judge command (first ∷ status ∷ more) =
     else if not (status == STATUS_CMD_OK) then Err (Status status)
     else data_of (shape command) more
 
--- data of this shape have its size
 abbrev pub SizedBy : Shape → List ℕ → Type 0
 SizedBy Name bytes = Unit {0}
 SizedBy (Bytes n) bytes = length bytes ≡ n

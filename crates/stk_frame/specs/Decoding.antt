@@ -104,7 +104,6 @@ with_fields code bytes =
     else if code == CMD_SPI_MULTI then spi_multi_of bytes
     else None
 
--- the command with this body
 abbrev pub command_of : List ℕ → Option Command
 command_of [] = None
 command_of (code ∷ bytes) = with_fields code bytes

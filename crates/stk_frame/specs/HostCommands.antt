@@ -53,13 +53,11 @@ program_eeprom_block bytes = ProgramEeprom (programming 0xC1 0xC2 0xA0 bytes)
 abbrev pub read_eeprom_block : ℕ → Command
 read_eeprom_block count = ReadEeprom (record { count = count; cmd1 = 0xA0 })
 
--- the second byte of the instruction that writes a fuse
 abbrev pub write_address : Fuse → ℕ
 write_address Low = 0xA0
 write_address High = 0xA8
 write_address Extended = 0xA4
 
--- the instruction that reads a fuse
 abbrev pub read_instruction : Fuse → List ℕ
 read_instruction Low = 0x50 ∷ 0x00 ∷ 0x00 ∷ 0x00 ∷ []
 read_instruction High = 0x58 ∷ 0x08 ∷ 0x00 ∷ 0x00 ∷ []

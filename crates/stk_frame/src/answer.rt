@@ -137,7 +137,6 @@ impl Shape {
     }
 }
 
-/// Returns `size` bytes that a last status of 00 follows.
 fn closed_data(size: usize, more: &[u8]) -> Result<&[u8], FrameFault>
     requires { size < 65536 }
     ensures judged { MatchResult result (λ found. data_of (Shape.Closed size) more.now ≡ Ok found.now)

@@ -234,7 +234,7 @@ impl Command<'_> {
     }
 }
 
-/// Shows the command's byte, but no field.
+/// Shows the command's byte.
 impl fmt::Debug for Command<'_> {
     fn fmt<W: fmt::Write>(&self, f: &mut fmt::Formatter<W>) -> fmt::Result {
         f.debug_struct("Command")

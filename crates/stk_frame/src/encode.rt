@@ -25,7 +25,6 @@ fn put_both<const CAP: usize>(out: &mut ArrayVec<u8, CAP>, front: &[u8], back: &
     put(out, back);
 }
 
-/// Appends a number in two bytes, high byte first.
 fn put_u16<const CAP: usize>(out: &mut ArrayVec<u8, CAP>, number: u16)
     requires { length out.old.items + 2 ≤ CAP }
     ensures { out.new.items ≡ out.old.items ++ big_bytes 2 number }
@@ -35,7 +34,6 @@ fn put_u16<const CAP: usize>(out: &mut ArrayVec<u8, CAP>, number: u16)
     put(out, &bytes);
 }
 
-/// Appends a number in four bytes, highest byte first.
 fn put_u32<const CAP: usize>(out: &mut ArrayVec<u8, CAP>, number: u32)
     requires { length out.old.items + 4 ≤ CAP }
     ensures { out.new.items ≡ out.old.items ++ big_bytes 4 number }

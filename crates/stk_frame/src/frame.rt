@@ -25,7 +25,7 @@ fn write_header(seq: u8, bytes: &mut [u8])
     bytes[4] = TOKEN;
 }
 
-/// Puts five zeros into `out` in place of the header.
+/// Puts five zeros in place of the header.
 pub(crate) fn begin(out: &mut ArrayVec<u8, LARGEST_FRAME>)
     ensures { out.new.items ≡ 0 ∷ 0 ∷ 0 ∷ 0 ∷ 0 ∷ [] }
 {
@@ -46,8 +46,8 @@ pub(crate) fn end(seq: u8, out: &mut ArrayVec<u8, LARGEST_FRAME>)
 
 /// Puts the frame that carries `body` with the sequence number `seq` into `out`.
 ///
-/// A frame is the start byte `1B`, the number, the body's size in two bytes (high byte first), the token `0E`, the
-/// body, and a byte that makes the XOR of all bytes 0.
+/// A frame is the start byte `1B`, the number, the body's size, high byte first, the token `0E`, and the body. The
+/// last byte makes the XOR of all bytes 0.
 ///
 /// ```text
 /// let mut out = ArrayVec::new();

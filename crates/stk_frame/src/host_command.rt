@@ -20,7 +20,6 @@ pub enum Fuse {
     Extended,
 }
 
-/// Returns the second byte of the instruction that writes a fuse.
 fn write_address(fuse: Fuse) -> u8
     ensures { result ≡ write_address fuse }
 {

@@ -86,7 +86,6 @@ fn size_of_piece(bytes: &[u8]) -> usize
     }
 }
 
-/// Drops a whole frame.
 fn drop_whole(held: &mut ArrayVec<u8, LARGEST_FRAME>)
     requires { IsHeld held.old.items }
     ensures part { length held.new.items < piece_size held.new.items }
@@ -97,7 +96,6 @@ fn drop_whole(held: &mut ArrayVec<u8, LARGEST_FRAME>)
     }
 }
 
-/// Returns how many bytes come before the first start byte.
 fn noise_in_front(bytes: &[u8]) -> usize
     ensures within { result ≤ length bytes.now }
     ensures fed { Fed [] (take result bytes.now) [] [] }
