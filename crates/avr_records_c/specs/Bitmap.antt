@@ -3,21 +3,17 @@ use Rattle.std.specs.Prelude.{◌≡◌, ℕ, zero, suc, Bool, ◌+◌, ◌*◌,
 use Rattle.std.specs.Int.{bit_at}
 use Rattle.avr_image.specs.Image.{byte_at}
 
--- how many octets a bitmap of `size` bytes has
 abbrev pub octets_of : ℕ → ℕ
 octets_of size = (size + 7) / 8
 
--- 1 if the address holds a byte
 abbrev pub bit : List (Option ℕ) → ℕ → ℕ
 bit image addr = if is_some (byte_at image addr) then 1 else 0
 
--- the octet of the eight addresses from `addr` on
 abbrev pub octet : List (Option ℕ) → ℕ → ℕ
 octet image addr =
     bit image addr + 2 * bit image (addr + 1) + 4 * bit image (addr + 2) + 8 * bit image (addr + 3)
     + 16 * bit image (addr + 4) + 32 * bit image (addr + 5) + 64 * bit image (addr + 6) + 128 * bit image (addr + 7)
 
--- n octets of an image's bitmap, from octet k on
 abbrev pub octets : List (Option ℕ) → ℕ → ℕ → List ℕ
 octets image k zero = []
 octets image k (suc n) = octet image (k * 8) ∷ octets image (k + 1) n
@@ -25,15 +21,12 @@ octets image k (suc n) = octet image (k * 8) ∷ octets image (k + 1) n
 abbrev pub bitmap : List (Option ℕ) → ℕ → List ℕ
 bitmap image n = octets image 0 n
 
--- the address's bit is 1
 abbrev pub is_there : List ℕ → ℕ → Bool
 is_there present addr = bit_at (slice_index present (addr / 8)) (addr % 8) == 1
 
--- a byte, if its address's bit is 1
 abbrev pub byte_if_there : List ℕ → ℕ → ℕ → Option ℕ
 byte_if_there present addr byte = if is_there present addr then Some byte else None
 
--- the optional bytes from an address on
 abbrev pub image_from : ℕ → List ℕ → List ℕ → List (Option ℕ)
 image_from addr present [] = []
 image_from addr present (byte ∷ bytes) = byte_if_there present addr byte ∷ image_from (suc addr) present bytes

@@ -10,7 +10,6 @@ use Rattle.avr_records.specs.declared.kind.Kind.{Kind}
 use Rattle.avr_records.specs.declared.kind.Kind.TheVariants.{Ihex, Srec}
 use Rattle.avr_records_c.specs.declared.cursor.Cursor.{Cursor}
 
--- whether the end record was put
 abbrev pub ended_of : ℕ → Option Bool
 ended_of n = if n == 0 then Some false else if n == 1 then Some true else None
 
@@ -34,12 +33,10 @@ lines_of kind cursor image =
     option_and_then (λ ended. option_map (lines_with kind cursor ended) (size_in_force kind cursor.address_size image))
     (ended_of cursor.ended)
 
--- Intel HEX: the upper half of the address in force
 abbrev pub upper_number : Kind → ℕ → ℕ
 upper_number Ihex upper = upper
 upper_number Srec upper = 0
 
--- S-records: how many bytes an address has
 abbrev pub size_number : Kind → AddressSize → ℕ
 size_number Ihex size = 0
 size_number Srec size = bytes_of size

@@ -19,12 +19,10 @@ found_number found.Elf = 3
 abbrev pub kind_numbered : ℕ → Option Kind
 kind_numbered number = if number == 1 then Some kind.Ihex else if number == 2 then Some kind.Srec else None
 
--- a file was read to its end
 abbrev pub outcome_of_end : Ending → Outcome
 outcome_of_end Ended = record { line = 0; address = 0; fault = 0; ended = true }
 outcome_of_end NoEnd = record { line = 0; address = 0; fault = 0; ended = false }
 
--- no file was read, by this fault
 abbrev pub outcome_of_fault : RecordFault → Outcome
 outcome_of_fault fault =
     record {
@@ -34,11 +32,9 @@ outcome_of_fault fault =
       ended = false;
     }
 
--- the arguments don't fit one another
 abbrev pub misfit : Outcome
 misfit = record { line = 0; address = 0; fault = 11; ended = false }
 
--- the format has no records
 abbrev pub no_records : Outcome
 no_records = record { line = 0; address = 0; fault = 12; ended = false }
 

@@ -10,7 +10,6 @@ use Rattle.avr_records_c.specs.declared.outcome.Outcome.{Outcome}
 use Rattle.avr_records_c.specs.Numbers.{kind_to_read, outcome_of_end, outcome_of_fault, misfit}
 use Rattle.avr_records_c.specs.Bitmap.{octets_of, bitmap}
 
--- what a call leaves: its outcome, the memory's bytes and their bitmap
 pub record Left : Type 0 where
   pub outcome : Outcome
   pub bytes : List ℕ
@@ -26,8 +25,8 @@ left_in bytes present (Ok (image, ending)) =
     }
 left_in bytes present (Err fault) = record { outcome = outcome_of_fault fault; bytes = bytes; present = present }
 
--- the kind of file if the arguments fit, else the outcome: file and memory have fewer than 2 to the power 32 bytes,
--- the bitmap has the memory's octets, and the number is a kind's
+-- The kind of file if the arguments fit, else the outcome. File and memory must have fewer than 2 to the power 32
+-- bytes, the bitmap the memory's octets, and the number must be a kind's.
 abbrev pub asked_read : ℕ → ℕ → ℕ → ℕ → Result Kind Outcome
 asked_read kind text size present =
     if nat_lt text (2 ^ 32) && nat_lt size (2 ^ 32) && present == octets_of size then kind_to_read kind else Err misfit

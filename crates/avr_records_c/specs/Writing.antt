@@ -10,14 +10,13 @@ use Rattle.avr_records_c.specs.Cursor.{lines_of}
 use Rattle.avr_records_c.specs.Numbers.{kind_numbered}
 use Rattle.avr_records_c.specs.Bitmap.{octets_of, image_of}
 
--- what a call leaves: how much it put, the cursor, and the caller's room
 pub record Put : Type 0 where
   pub piece : Piece
   pub cursor : Cursor
   pub room : List ℕ
 
--- the kind of file if the number is a kind's, the memory has fewer than 2 to the power 32 bytes, and the bitmap has
--- the memory's octets
+-- The kind of file if the arguments fit. The number must be a kind's, the memory must have fewer than 2 to the power
+-- 32 bytes, and the bitmap the memory's octets.
 abbrev pub asked_write : ℕ → ℕ → ℕ → Option Kind
 asked_write kind size present =
     if nat_lt size (2 ^ 32) && present == octets_of size then kind_numbered kind else None
@@ -34,7 +33,6 @@ abbrev pub file_left : Kind → List (Option ℕ) → Cursor → Option (List �
 file_left kind image cursor =
     option_map (λ lines. drop cursor.gone (text_left lines image)) (lines_of kind cursor image)
 
--- the cursor at a file's beginning
 abbrev pub file_start : Cursor
 file_start = record { addr = 0; gone = 0; upper = 0; address_size = 0; ended = 0 }
 

@@ -4,7 +4,7 @@ ghost use Rattle.avr_records_c.specs.Bitmap.{bit, bitmap, is_there as spec_is_th
 
 use avr_image::Image;
 
-/// Returns whether `octets` octets are the bitmap of a memory of `size` bytes, fewer than 2 to the power 32.
+/// Returns whether `octets` octets are the bitmap of `size` bytes, fewer than 2 to the power 32.
 pub(crate) fn is_bitmap_of(octets: usize, size: usize) -> bool
     ensures { result ≡ (nat_lt size (2 ^ 32) && octets == octets_of size) }
 {
@@ -18,7 +18,6 @@ fn bit(image: &Image, addr: u32) -> u8
     if image.get(addr).is_some() { 1 } else { 0 }
 }
 
-/// Returns the octet of the eight addresses from `addr` on.
 fn octet(image: &Image, addr: u32) -> u8
     requires { addr + 8 ≤ 2 ^ 32 }
     ensures { result ≡ octet image.now addr }

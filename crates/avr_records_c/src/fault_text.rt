@@ -23,7 +23,6 @@ fn text_of(fault: u8) -> &'static [u8]
     }
 }
 
-/// Puts a text and a 0 into `room`. A room that is too small gets as much of the text as leaves space for the 0.
 fn put_text(text: &[u8], room: &mut [u8])
     ensures { room.new ≡ put_text text.now room.old }
 {
@@ -35,9 +34,9 @@ fn put_text(text: &[u8], room: &mut [u8])
     room[count] = 0;
 }
 
-/// Puts the ASCII text of a fault's number and a 0 into the caller's room. Returns the text's length in bytes, which
-/// is below 40. A room that is too small gets as much of the text as leaves space for the 0; an empty one gets
-/// nothing. Bytes after the 0 are unchanged.
+/// Puts the ASCII text of a fault's number and a 0 into the caller's room. Returns the text's length in bytes, below
+/// 40. A room that is too small gets as much of the text as leaves space for the 0; an empty one gets nothing. Bytes
+/// after the 0 are unchanged.
 #[unsafe(no_mangle)]
 pub extern "C" fn avr_records_fault_text(fault: u8, room: &mut [u8]) -> usize
     ensures length { result ≡ length (fault_text fault) }

@@ -17,16 +17,16 @@ pub fn a_bitmap_says_what_is_there()
         → is_there (bitmap image n) addr ≡ is_some (byte_at image addr) }
 {}
 
-/// The pieces that calls put with one cursor, from a file's beginning to its end, joined are the file, whatever the
-/// sizes of their rooms.
+/// The pieces that calls put with one cursor, from a file's beginning to its end, joined are the file, whatever their
+/// rooms.
 #[tactic(auto, using(crate::proofs::Cursors::pieces_join))]
 pub fn pieces_join()
     ensures { (kind : Kind) (image : List (Option ℕ)) (pieces : List (List ℕ)) → Wrote kind image file_start pieces
         → concat pieces ≡ image_text kind image }
 {}
 
-/// The file of a memory reads back, into one of its size, as the bytes that were there, FF for the others, the bitmap
-/// of the same addresses, and the end record.
+/// The file of a memory reads back, into one of its size, with the end record. It gives the same bytes and bitmap,
+/// and FF in gaps.
 #[tactic(auto, using(crate::proofs::RoundTrip::reads_back))]
 pub fn what_is_written_reads_back()
     ensures { (kind : Kind) (present bytes : List ℕ) → length bytes ≤ 2 ^ 32 → EachIsByte bytes

@@ -53,7 +53,6 @@ fn gap_at(present: &[u8], addr: usize) -> usize
     }
 }
 
-/// Returns the least address from `addr` on whose byte is there.
 fn next_there(present: &[u8], bytes: &[u8], addr: usize) -> Option<usize>
     requires octets { length present.now ≡ octets_of (length bytes.now) }
     requires below { length bytes.now < 2 ^ 32 }
@@ -70,7 +69,6 @@ fn next_there(present: &[u8], bytes: &[u8], addr: usize) -> Option<usize>
     None
 }
 
-/// Returns the end of a row of at most `most` bytes at `addr`.
 fn row_end(present: &[u8], bytes: &[u8], addr: usize, most: usize) -> usize
     requires octets { length present.now ≡ octets_of (length bytes.now) }
     requires inside { addr ≤ length bytes.now }
@@ -84,7 +82,6 @@ fn row_end(present: &[u8], bytes: &[u8], addr: usize, most: usize) -> usize
     end
 }
 
-/// Returns at most `most` bytes from `addr` on, up to a gap.
 fn row_there<'a>(present: &[u8], bytes: &'a [u8], addr: usize, most: usize) -> &'a [u8]
     requires { length present.now ≡ octets_of (length bytes.now) }
     ensures row { result.now ≡ take most (lead (drop addr (image_of present.now bytes.now))) }

@@ -8,7 +8,6 @@ use crate::outcome::Outcome;
 use avr_records::{Kind, read_records};
 use std::alloc::Global;
 
-/// Returns the kind of file if the arguments fit one another and the format has records; else the read's outcome.
 fn asked_read(kind: u8, text: usize, size: usize, present: usize) -> Result<Kind, Outcome>
     ensures { result ≡ spec_asked_read kind text size present }
 {

@@ -12,7 +12,6 @@ use crate::piece::Piece;
 use arrayvec::ArrayVec;
 use avr_records::{Cursor as Lines, Kind};
 
-/// Returns the kind of file if the arguments fit one another.
 fn asked_write(kind: u8, size: usize, present: usize) -> Option<Kind>
     ensures { result ≡ spec_asked_write kind size present }
 {
@@ -23,7 +22,7 @@ fn asked_write(kind: u8, size: usize, present: usize) -> Option<Kind>
     }
 }
 
-/// Puts as much as fits of a line, without its first `gone` bytes, at `put` in the room. Returns how much that is.
+/// Puts as much as fits of a line, without its first `gone` bytes, at `put` in the room. Returns how much.
 fn put_part(line: &[u8], gone: usize, room: &mut [u8], put: usize) -> usize
     requires { put ≤ length room.old }
     ensures count { result ≡ min (length room.old - put) (length (drop gone line.now)) }
@@ -35,7 +34,7 @@ fn put_part(line: &[u8], gone: usize, room: &mut [u8], put: usize) -> usize
     count
 }
 
-/// Puts as much as fits of the rest of a file into the room. Returns how much that is.
+/// Puts as much as fits of the rest of a file into the room. Returns how much.
 fn put_left(lines: &mut Lines, gone: &mut u32, memory: &Memory<'_>, room: &mut [u8]) -> usize
     ensures put { PutsOn (drop gone.old (left lines.old memory.now)) (drop gone.new (left lines.new memory.now))
         room.old result room.new }
@@ -61,7 +60,6 @@ fn put_left(lines: &mut Lines, gone: &mut u32, memory: &Memory<'_>, room: &mut [
     put
 }
 
-/// Counts the bytes of the rest of a file.
 fn count_left(lines: Lines, memory: &Memory<'_>) -> usize
     requires { length (left lines memory.now) < 2 ^ 64 }
     ensures { result ≡ length (left lines memory.now) }
@@ -93,7 +91,7 @@ pub extern "C" fn avr_records_length(kind: u8, bytes: &[u8], present: &[u8]) -> 
 
 /// Puts the next bytes of a memory's record file into the caller's room, as many as fit. A piece shorter than the
 /// room is the last one. The cursor keeps the position in the file; all its numbers are 0 at the beginning. The file
-/// has no header and no start address; in the end record of S-records it is 0. It allocates nothing.
+/// has no header and no start address, which is 0 in the end record of S-records. It allocates nothing.
 ///
 /// The kind is 1 for Intel HEX or 2 for S-records. The bitmap, as in `avr_records_read`, marks the bytes that belong
 /// to the file. The fault is 11 if the arguments don't fit one another, or no call leaves such a cursor; then room
