@@ -8,8 +8,8 @@ use Rattle.avr_desk.specs.declared.record.Opening.TheVariants.{Absent, Found}
 use Rattle.avr_desk.specs.declared.record.Open.TheVariants.{ToRead, ToWrite}
 use Rattle.avr_desk.specs.declared.stream.Stream.TheVariants.{File, Messages}
 
--- An output event: a file is opened and gives what it gives; a line is printed to the messages; a file of this name
--- is created; bytes are written to it, or to standard output.
+-- An output event: a file is opened, with what it gives; a line is printed to the messages; a file of this name is
+-- created; bytes are written to it; or bytes are written to standard output.
 pub data Saying : Type 0 where
   Opens : Opening → Saying
   Line : Bytes → Saying

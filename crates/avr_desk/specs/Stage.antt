@@ -7,8 +7,8 @@ use Rattle.avr_desk.specs.declared.record.Reading.{Reading}
 use Rattle.avr_desk.specs.Lines.{not_opened_line}
 use Rattle.avr_desk.specs.Said.{Saying, Opens, Line}
 
--- It made something; or it is refused, by this line; or it has no result because a file was not read to its end or
--- past its limit.
+-- It made something; it is refused, by this line; or a file was not read to its end or past its limit, so it has no
+-- result.
 pub data StageAnswer (A : Type 0) : Type 0 where
   Made : A → StageAnswer A
   Refused : Bytes → StageAnswer A

@@ -11,9 +11,9 @@ use std::{fs, io};
 /// The resource of `getrlimit` that limits the length of files.
 const LENGTH_OF_FILES: i32 = 1;
 
-/// Fails with `FileTooLarge` if the next byte would exceed the system's limit on the length of files. The system
-/// would end the program by SIGXFSZ; it shortens a write that only ends past the limit. Contracts see the writer
-/// itself.
+/// A writer that fails with `FileTooLarge` if its next byte would exceed the system's limit on the length of files.
+/// The system would end the program by SIGXFSZ; it shortens a write that only ends past the limit. Contracts see the
+/// inner writer.
 #[derive(Drop)]
 pub struct Bounded<W> {
     writer: W,

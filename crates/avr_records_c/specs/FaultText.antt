@@ -17,8 +17,8 @@ fault_text fault =
     else if fault == 12 then codes "no record file"
     else codes "no fault of this number"
 
--- a text and a 0 at a room's start, as much of the text as leaves space for the 0; what comes after is unchanged, and
--- an empty room stays empty
+-- A text and a 0 at a room's start, as much of the text as leaves space for the 0. What comes after is unchanged, and
+-- an empty room stays empty.
 abbrev pub put_text : List ℕ → List ℕ → List ℕ
 put_text text [] = []
 put_text text (first ∷ room) =
