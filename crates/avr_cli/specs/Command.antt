@@ -11,7 +11,7 @@ use Rattle.avr_cli.specs.declared.settings.Switches.{Switches}
 use Rattle.avr_cli.specs.declared.settings.Settings.{Settings}
 use Rattle.avr_cli.specs.declared.settings.SettingsFault.{SettingsFault}
 
--- an option of one letter, with a value; given again it has its last value
+-- an option of one letter, with a value; given again, it has its last value
 abbrev pub value_rule : Bytes → ℕ → Rule
 value_rule id short = record (new_rule id) { short = Some short; value_names = 1 }
 
@@ -23,15 +23,13 @@ list_rule id short = record (value_rule id short) { action = Some Append }
 abbrev pub number_rule : Bytes → ℕ → Rule
 number_rule id short = record (value_rule id short) { parser = Some (Signed (pos 0) (pos 4294967295)) }
 
--- a flag of one letter
 abbrev pub flag_rule : Bytes → ℕ → Rule
 flag_rule id short = record (new_rule id) { short = Some short; action = Some SetTrue }
 
--- a flag of one letter, which is counted
 abbrev pub count_rule : Bytes → ℕ → Rule
 count_rule id short = record (new_rule id) { short = Some short; action = Some Count }
 
--- an option that is named by its id, with a value
+-- an option named by its id, with a value
 abbrev pub long_rule : Bytes → Rule
 long_rule id = record (new_rule id) { long = Some id; value_names = 1 }
 
@@ -50,7 +48,7 @@ write_rules =
     ∷ flag_rule (codes "keep-flash") 68
     ∷ flag_rule (codes "no-verify") 86 ∷ []
 
--- -n, -F and -A: how the whole run goes
+-- -n, -F and -A: the whole run
 unfoldable pub run_rules : List Rule
 run_rules =
     flag_rule (codes "dry") 110
@@ -68,26 +66,22 @@ telling_rules =
 unfoldable pub file_rules : List Rule
 file_rules = long_rule (codes "parts") ∷ long_rule (codes "serve") ∷ long_rule (codes "chip") ∷ []
 
--- a command with more options, in this order
 abbrev pub with_rules : App → List Rule → App
 with_rules a [] = a
 with_rules a (rule ∷ rules) = with_rules (with_rule a rule) rules
 
--- a command whose options may be given again
 abbrev pub overriding : App → App
 overriding a = record a { top = record a.top { args_override_self = true } }
 
--- what was built is this command, if memory was there
+-- what was built is this command, unless allocation failed
 pub record Builds {E : Type 0} (built : Result Command E) (a : App) : Type 0 where
   pub shape : IfOk built (λ c. app_of c ≡ a)
 
--- the command with all its options
 unfoldable pub avrstk : App
 avrstk =
     with_rules (with_rules (with_rules (with_rules (with_rules (overriding (new_app (codes "avrstk")))
     target_rules) write_rules) run_rules) telling_rules) file_rules
 
--- a flag is given
 abbrev pub is_true : Option Bytes → Bool
 is_true None = false
 is_true (Some text) = bytes_eq text (codes "true")
@@ -119,6 +113,6 @@ entries_of rows = record {
   chip = first_of (codes "chip") rows;
 }
 
--- what the words of a command line ask for, the program's name first
+-- what the arguments of a command line ask for, the program's name first
 abbrev pub asked_by : List Bytes → Result Settings SettingsFault
 asked_by words = settings_of (entries_of (matches_of avrstk words))

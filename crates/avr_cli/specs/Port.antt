@@ -12,7 +12,7 @@ use Rattle.avr_cli.specs.declared.settings.Port.TheVariants.{Stdio, Emulated, Ne
 use Rattle.avr_cli.specs.declared.settings.SettingsFault.{SettingsFault}
 use Rattle.avr_cli.specs.declared.settings.SettingsFault.TheVariants.{BadPort, NoChip}
 
--- decimal digits and nothing else, of a value from 1 to 65535
+-- only decimal digits, with a value from 1 to 65535
 abbrev pub port_number : Bytes → Option ℕ
 port_number text =
     if list_all is_ascii_digit text && nat_le 1 (digits_value 10 text) && nat_lt (digits_value 10 text) 65536
@@ -22,11 +22,10 @@ abbrev pub is_host_and_port : Option (Bytes × Bytes) → Bool
 is_host_and_port None = false
 is_host_and_port (Some parts) = not (length parts.0 == 0) && is_some (port_number parts.1)
 
--- a host that isn't empty, a colon, which is the last one, and the number of a port
+-- a host that isn't empty, the last colon, and a port number
 abbrev pub is_address : Bytes → Bool
 is_address text = is_host_and_port (split_last text)
 
--- the port of a text, by what follows `emu:` or `net:` there
 abbrev pub port_after : Bytes → Option Bytes → Option Bytes → Result Port SettingsFault
 port_after text (Some file) other =
     if length file == 0 then Err (BadPort (Some text)) else Ok (Emulated file)
@@ -39,12 +38,11 @@ port_of text =
     if bytes_eq text (codes "stdio:") then Ok Stdio
     else port_after text (after_prefix (codes "emu:") text) (after_prefix (codes "net:") text)
 
--- the port of `-P`
 abbrev pub port_given_of : Option Bytes → Result Port SettingsFault
 port_given_of None = Err (BadPort None)
 port_given_of (Some text) = port_of text
 
--- the port of `--serve`, of this number, with the file of `--chip`
+-- the port of `--serve`, by its number, with the file of `--chip`
 abbrev pub served_at : Bytes → Option ℕ → Option Bytes → Result Port SettingsFault
 served_at text None chip = Err (BadPort (Some text))
 served_at text (Some n) None = Err NoChip

@@ -27,7 +27,7 @@ pub record Entries : Type 0 where
   pub serve : Option Bytes
   pub chip : Option Bytes
 
--- the result is the one wanted, or memory was refused
+-- the wanted result, or allocation failed
 abbrev pub GivesOrMemory : {T : Type 0} → Result T SettingsFault → Result T SettingsFault → Type 0
 GivesOrMemory want got = (got ≡ want) ⊎ (got ≡ Err Memory)
 
@@ -42,7 +42,7 @@ abbrev pub is_told_anyway : {T : Type 0} → Result T SettingsFault → Bool
 is_told_anyway (Ok value) = false
 is_told_anyway (Err fault) = keeps_nothing fault
 
--- such a fault is reported even where memory is refused
+-- such a fault is reported even if allocation fails
 abbrev pub TellsAnyway : {T : Type 0} → Result T SettingsFault → Result T SettingsFault → Type 0
 TellsAnyway want got = is_told_anyway want ≡ true → got ≡ want
 
@@ -61,7 +61,7 @@ abbrev pub update_at : ℕ → Result Update UpdateFault → Result Update Setti
 update_at n (Ok u) = Ok u
 update_at n (Err fault) = Err (BadUpdate n fault)
 
--- the updates of texts, the first of which has the number n
+-- the updates of texts; the first has the number n
 abbrev pub updates_from : ℕ → List Bytes → Result (List Update) SettingsFault
 updates_from n [] = Ok []
 updates_from n (text ∷ rest) = do
@@ -77,7 +77,6 @@ abbrev pub checked_streams : Port → List Update → Option Bytes → Option By
 checked_streams port updates parts chip =
     if is_taken port updates parts chip then Err StandardTaken else Ok tt
 
--- the settings of a run over a port
 abbrev pub run_settings : Bytes → Entries → Result Settings SettingsFault
 run_settings part e = do
   programmer ← checked_programmer e.programmer
@@ -97,13 +96,12 @@ no_switches = record {
   quiet = 0;
 }
 
--- the settings of a run over a link of the caller's own: a session with this part that does nothing yet; no run over a
--- link looks at the port
+-- the settings of a run over a caller's own link: a session with this part that does nothing yet; the port is not
+-- used
 abbrev pub link_settings : Bytes → Settings
 link_settings part = record { part = part; port = Stdio; parts = None; updates = []; switches = no_switches }
 
--- the settings of an emulator that serves at a port, for which the programmer, the updates and the switches count for
--- nothing
+-- the settings of an emulator that serves at a port; programmer, updates and switches don't count
 abbrev pub serve_settings : Bytes → Bytes → Entries → Result Settings SettingsFault
 serve_settings part text e = do
   port ← served_at text (port_number text) e.chip
@@ -118,6 +116,5 @@ abbrev pub with_part : Option Bytes → Entries → Result Settings SettingsFaul
 with_part None e = Err NoPart
 with_part (Some part) e = settings_by e.serve part e
 
--- the settings that a command line asks for, or the first fault
 abbrev pub settings_of : Entries → Result Settings SettingsFault
 settings_of e = with_part e.part e

@@ -1,4 +1,4 @@
--- Texts that are split at a colon or after a prefix.
+-- Texts split at a colon or after a prefix.
 use Rattle.std.specs.Prelude.{◌==◌, ℕ, List, [], ◌∷◌, Option, Some, None, option_map, if◌then◌else◌}
 use Rattle.avr_part.specs.PartFile.{Bytes}
 
@@ -14,7 +14,6 @@ colon = 58
 abbrev pub onto_prefix : ℕ → Option (Bytes × Bytes) → Option (Bytes × Bytes)
 onto_prefix c = option_map (λ p. (c ∷ p.0, p.1))
 
--- what stands before the first colon, and what follows it
 abbrev pub split_first : Bytes → Option (Bytes × Bytes)
 split_first [] = None
 split_first (c ∷ cs) = if c == colon then Some ([], cs) else onto_prefix c (split_first cs)
@@ -23,7 +22,6 @@ abbrev pub or_else : Option (Bytes × Bytes) → Option (Bytes × Bytes) → Opt
 or_else (Some p) other = Some p
 or_else None other = other
 
--- what stands before the last colon, and what follows it
 abbrev pub split_last : Bytes → Option (Bytes × Bytes)
 split_last [] = None
 split_last (c ∷ cs) =

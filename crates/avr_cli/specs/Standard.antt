@@ -30,18 +30,17 @@ uses_standard u = is_standard u.file && not (is_values u.format)
 abbrev pub uses_input : Update → Bool
 uses_input u = uses_standard u && not (is_read u.op)
 
--- a file that is given is a standard stream
 abbrev pub is_given_standard : Option Bytes → Bool
 is_given_standard file = option_map_or is_standard file false
 
--- the frames take the standard streams that the updates want, or the emulator's chip has none of its own
+-- the frames take the standard streams that the updates want, or the chip file is one
 abbrev pub is_port_taken : Port → List Update → Bool
 is_port_taken Stdio updates = list_any uses_standard updates
 is_port_taken (Emulated file) updates = is_standard file
 is_port_taken (Network address) updates = false
 is_port_taken (Served port chip) updates = is_standard chip
 
--- A standard stream is asked for twice, or for what must be a file: by the port and the updates, or by the files of
+-- A standard stream is asked for twice, or in place of a file: by the port and the updates, or by the files of
 -- `--parts` and `--chip`.
 abbrev pub is_taken : Port → List Update → Option Bytes → Option Bytes → Bool
 is_taken port updates parts chip =

@@ -15,7 +15,7 @@ use Rattle.avr_cli.specs.declared.update.Update.{Update}
 use Rattle.avr_cli.specs.declared.update.UpdateFault.{UpdateFault}
 use Rattle.avr_cli.specs.declared.update.UpdateFault.TheVariants.{BadMemory, BadOp, BadFormat, NoFile, Memory}
 
--- the result is the one wanted, or memory was refused to an update
+-- the wanted result, or allocation failed for an update
 abbrev pub GivesUpdate : Result Update UpdateFault → Result Update UpdateFault → Type 0
 GivesUpdate want got = (got ≡ want) ⊎ (IsOk want × (got ≡ Err Memory))
 
@@ -31,7 +31,6 @@ op_named name =
     else if bytes_eq name (op_name Verify) then Some Verify
     else None
 
--- the letter that names a format
 abbrev pub letter_of : Format → ℕ
 letter_of Auto = 97
 letter_of Ihex = 105
@@ -43,12 +42,11 @@ letter_of Hexadecimal = 104
 letter_of Octal = 111
 letter_of Binary = 98
 
--- the formats of files that are read, and of files that are made
+-- the formats of output files, and of input files
 abbrev pub formats_of : Op → List Format
 formats_of Read = Ihex ∷ Srec ∷ Raw ∷ Decimal ∷ Hexadecimal ∷ Octal ∷ Binary ∷ []
 formats_of op = Ihex ∷ Srec ∷ Raw ∷ Immediate ∷ Auto ∷ []
 
--- the format where none is named
 abbrev pub default_format : Op → Format
 default_format Read = Raw
 default_format op = Auto
@@ -60,7 +58,7 @@ abbrev pub format_of : Op → Option ℕ → Option Format
 format_of op None = Some (default_format op)
 format_of op (Some letter) = format_named (formats_of op) letter
 
--- the file, and the letter of the format where the last byte but one is a colon
+-- the file, and the format's letter if the last byte but one is a colon
 abbrev pub file_and_letter : Bytes → Bytes × Option ℕ
 file_and_letter rest =
     if nat_le 2 (length rest) && slice_index rest (length rest - 2) == colon
@@ -72,7 +70,6 @@ update_in memory op file None = Err BadFormat
 update_in memory op file (Some format) =
     Ok (record { memory = memory; op = op; format = format; file = file })
 
--- an operation on a memory, by the file and the letter of its format
 abbrev pub update_by : Mem → Op → Bytes × Option ℕ → Result Update UpdateFault
 update_by memory op named =
     if length named.0 == 0 then Err NoFile else update_in memory op named.0 (format_of op named.1)
@@ -81,7 +78,7 @@ abbrev pub with_op : Mem → Option Op → Bytes → Result Update UpdateFault
 with_op memory None rest = Err BadOp
 with_op memory (Some op) rest = update_by memory op (file_and_letter rest)
 
--- what stands before the second colon, or the end, and what follows it
+-- what is before the second colon, or the end, and what follows it
 abbrev pub op_and_rest : Bytes → Option (Bytes × Bytes) → Bytes × Bytes
 op_and_rest after None = (after, [])
 op_and_rest after (Some parts) = parts
@@ -91,16 +88,14 @@ with_memory None after = Err BadMemory
 with_memory (Some memory) after =
     let parts = op_and_rest after (split_first after) in with_op memory (op_named parts.0) parts.1
 
--- a text without a colon is a file, written to flash in whatever format it has
+-- a text without a colon is a file, written to flash in the format that its first bytes show
 abbrev pub update_cut : Bytes → Option (Bytes × Bytes) → Result Update UpdateFault
 update_cut text None = update_by Flash Write (text, None)
 update_cut text (Some parts) = with_memory (memory_named parts.0) parts.1
 
--- the update that a text asks for
 abbrev pub update_of : Bytes → Result Update UpdateFault
 update_of text = update_cut text (split_first text)
 
--- the text of an update in all four parts
 abbrev pub update_text : Mem → Op → Bytes → ℕ → Bytes
 update_text memory op file letter =
     name_of memory ++ (colon ∷ (op_name op ++ (colon ∷ (file ++ colon ∷ letter ∷ []))))

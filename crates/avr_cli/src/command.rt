@@ -32,7 +32,6 @@ There is no -C (no configuration file), no -B (the programmer has its own clock)
 it to --parts. Values in place of a file need the format m. Manual: man avrstk.
 This is avrstk 0.9.0.";
 
-/// An option of one letter, with a value.
 fn value<'a>(alloc: Global, id: &'a str, short: char, value_name: &'a str, help: &'a str) -> Arg<'a>
     ensures rule { rule_of result ≡ value_rule id.entry.now short }
     ensures local { result.global ≡ false }
@@ -43,7 +42,7 @@ fn value<'a>(alloc: Global, id: &'a str, short: char, value_name: &'a str, help:
         .help(help)
 }
 
-/// An option that is named by its id, with a value.
+/// An option named by its id.
 fn long_value<'a>(alloc: Global, id: &'a str, value_name: &'a str, help: &'a str) -> Arg<'a>
     ensures rule { rule_of result ≡ long_rule id.entry.now }
     ensures local { result.global ≡ false }
@@ -54,7 +53,6 @@ fn long_value<'a>(alloc: Global, id: &'a str, value_name: &'a str, help: &'a str
         .help(help)
 }
 
-/// A flag of one letter.
 fn flag<'a>(alloc: Global, id: &'a str, short: char, help: &'a str) -> Arg<'a>
     ensures rule { rule_of result ≡ flag_rule id.entry.now short }
     ensures local { result.global ≡ false }
@@ -65,7 +63,6 @@ fn flag<'a>(alloc: Global, id: &'a str, short: char, help: &'a str) -> Arg<'a>
         .help(help)
 }
 
-/// A flag of one letter that is counted.
 fn counted<'a>(alloc: Global, id: &'a str, short: char, help: &'a str) -> Arg<'a>
     ensures rule { rule_of result ≡ count_rule id.entry.now short }
     ensures local { result.global ≡ false }
@@ -161,8 +158,8 @@ fn all<'a>(alloc: Global) -> Arg<'a>
     )
 }
 
-/// Adds one option, unless memory was refused to an option before it. Only this function has the early exit: checking
-/// one costs much where a command and options are alive.
+/// Adds one option, unless allocation failed before. Only this function has the early exit: proving one is slow while
+/// a command and options are alive.
 #[tactic(auto, using(crate::proofs::ParsedCommands::arg_added))]
 fn add<'a>(
     command: Result<Command<'a>, AllocError>,
@@ -174,7 +171,6 @@ fn add<'a>(
     command?.arg(arg)
 }
 
-/// The command with the options that say what is programmed, and over what.
 fn with_target<'a>(
     alloc: Global,
     command: Result<Command<'a>, AllocError>,
@@ -187,7 +183,6 @@ fn with_target<'a>(
     add(command, update(alloc))
 }
 
-/// The command with the flags about what is done before and after a write.
 fn with_write<'a>(
     alloc: Global,
     command: Result<Command<'a>, AllocError>,
@@ -210,7 +205,6 @@ fn with_write<'a>(
     )
 }
 
-/// The command with the flags about how the whole run goes.
 fn with_run<'a>(
     alloc: Global,
     command: Result<Command<'a>, AllocError>,
@@ -225,7 +219,6 @@ fn with_run<'a>(
     add(command, all(alloc))
 }
 
-/// The command with the options about what is reported, and those without effect.
 fn with_telling<'a>(
     alloc: Global,
     command: Result<Command<'a>, AllocError>,
@@ -253,7 +246,6 @@ fn with_telling<'a>(
     )
 }
 
-/// The command with the options of long names.
 fn with_files<'a>(
     alloc: Global,
     command: Result<Command<'a>, AllocError>,
@@ -284,7 +276,6 @@ fn with_files<'a>(
     )
 }
 
-/// The command with no option yet.
 fn without_options<'a>(alloc: Global) -> Result<Command<'a>, AllocError>
     ensures { Builds result (overriding (new_app (codes "avrstk"))) }
 {
@@ -296,7 +287,6 @@ fn without_options<'a>(alloc: Global) -> Result<Command<'a>, AllocError>
     )
 }
 
-/// The command with all its options.
 fn with_options<'a>(alloc: Global) -> Result<Command<'a>, AllocError>
     ensures { Builds result avrstk }
 {
@@ -308,8 +298,11 @@ fn with_options<'a>(alloc: Global) -> Result<Command<'a>, AllocError>
     with_files(alloc, command)
 }
 
-/// The command with all its options, for its help. An option that is given again has its last
-/// value. Fails only where memory is refused.
+/// Creates the command with all its options, for its help. An option that is given again has its last value.
+///
+/// # Errors
+///
+/// `clap`'s out-of-memory error if allocation fails.
 ///
 /// ```text
 /// let mut command = make_command(alloc)?;
@@ -323,11 +316,12 @@ pub fn make_command<'a>(alloc: Global) -> Result<Command<'a>, Error>
     Ok(with_options(alloc)?)
 }
 
-/// Reads the words of a command line, the program's name first. What is read is a function of the
-/// words, and so is what is refused, but that memory may be refused in place of any answer.
+/// Reads the arguments of a command line, the program's name first. The result depends on the arguments alone, unless
+/// allocation fails.
 ///
-/// What is refused, and a request for help, is `clap`'s own error, which tells it on the stream
-/// where it belongs.
+/// # Errors
+///
+/// `clap`'s own error if the arguments are refused or ask for help. Its `print` chooses the stream.
 ///
 /// ```text
 /// let mut words = Vec::new(alloc);

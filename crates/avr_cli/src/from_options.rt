@@ -1,4 +1,4 @@
-//! What the command line gave, by the names of its options, and the settings from that.
+//! The settings, from the options that the command line gave.
 ghost use Rattle.std.specs.Prelude.{◌≡◌, Ok, option_map, map, ◌≤◌, IsOk, length, [], unwrap_or};
 ghost use Rattle.clap.specs.Words.{found_of, rows_of, first_of, all_of};
 ghost use Rattle.avr_cli.specs.Command.{is_on, switches_of, entries_of};
@@ -14,14 +14,13 @@ use crate::update_text::parse_update;
 use clap::ArgMatches;
 use std::alloc::Global;
 
-/// The text of an option with one value, the last one given.
+/// The last value given.
 pub(crate) fn text_of<'a>(matches: &ArgMatches<'a>, id: &str) -> Option<&'a str>
     ensures { option_map (λ s. s.now) result ≡ first_of id.now (rows_of (found_of matches.now)) }
 {
     matches.get_str(id)
 }
 
-/// The texts of an option that collects them.
 pub(crate) fn texts_of<'m, 'a>(matches: &'m ArgMatches<'a>, id: &str) -> Option<&'m [&'a str]>
     ensures { option_map (λ t. map (λ s. s.now) t.now) result ≡ all_of id.now (rows_of (found_of matches.now)) }
 {
@@ -37,7 +36,6 @@ fn is_on(matches: &ArgMatches<'_>, id: &str) -> bool
     }
 }
 
-/// The switches that are given.
 pub(crate) fn switches_of(matches: &ArgMatches<'_>) -> Switches
     ensures { result ≡ switches_of (rows_of (found_of matches.now)) }
 {
@@ -52,10 +50,8 @@ pub(crate) fn switches_of(matches: &ArgMatches<'_>) -> Switches
     }
 }
 
-/// The most updates of a command line.
 const MOST_UPDATES: usize = 16;
 
-/// Refuses any programmer but the one that there is.
 fn check_programmer(alloc: Global, given: Option<&str>) -> Result<(), SettingsFault>
     ensures gives { GivesOrMemory (checked_programmer (option_map (λ s. s.now) given.entry)) result }
     ensures passes { IsOk (checked_programmer (option_map (λ s. s.now) given.entry)) → IsOk result }
@@ -69,7 +65,7 @@ fn check_programmer(alloc: Global, given: Option<&str>) -> Result<(), SettingsFa
     Err(SettingsFault::BadProgrammer(owned(alloc, name)?))
 }
 
-/// The update of a text; the number, from 1 on, is reported where it is none.
+/// Reads an update; a fault carries its 1-based number.
 fn update_at(alloc: Global, number: u8, text: &str) -> Result<Update, SettingsFault>
     ensures { GivesOrMemory (update_at number (update_of text.now)) result }
 {
@@ -80,7 +76,6 @@ fn update_at(alloc: Global, number: u8, text: &str) -> Result<Update, SettingsFa
     }
 }
 
-/// The updates of at most 16 texts.
 fn read_updates(alloc: Global, texts: &[&str]) -> Result<Updates, SettingsFault>
     requires { length texts.now ≤ 16 }
     ensures { GivesOrMemory (updates_from 1 (map (λ s. s.now) texts.now)) result }
@@ -102,7 +97,6 @@ fn all_updates(alloc: Global, texts: &[&str]) -> Result<Updates, SettingsFault>
     read_updates(alloc, texts)
 }
 
-/// The updates, in the order given.
 fn updates_given(alloc: Global, texts: Option<&[&str]>) -> Result<Updates, SettingsFault>
     ensures { GivesOrMemory (updates_of (unwrap_or (option_map (λ t. map (λ s. s.now) t.now) texts.entry) [])) result }
 {
@@ -112,7 +106,7 @@ fn updates_given(alloc: Global, texts: Option<&[&str]>) -> Result<Updates, Setti
     }
 }
 
-/// Settings that own the id of the part and the name of the file of parts.
+/// Creates settings that own their texts.
 fn keep(
     alloc: Global,
     part: &str,
@@ -140,7 +134,6 @@ fn keep(
     })
 }
 
-/// The settings of a run over a port.
 fn run_settings(
     alloc: Global,
     part: &str,
@@ -157,7 +150,6 @@ fn run_settings(
     keep(alloc, part, port, parts, updates, switches_of(matches))
 }
 
-/// The settings of an emulator that serves.
 fn serve_settings(
     alloc: Global,
     part: &str,
@@ -183,10 +175,12 @@ fn serve_settings(
     )
 }
 
-/// The settings that the command line gives. With `--serve` the options but `-p`, `--parts` and
-/// `--chip` aren't looked at. The first fault is reported, in the order in which [`SettingsFault`] has
-/// them. `Memory` may come in place of any answer but of those that keep no text: no part, no port
-/// and no chip file.
+/// Reads the settings that the command line gives. With `--serve`, only `-p`, `--parts` and `--chip` count.
+///
+/// # Errors
+///
+/// The first fault in the order of [`SettingsFault`]. `Memory` if allocation fails, unless the first fault keeps no
+/// text: no part, no port or no chip file.
 ///
 /// ```text
 /// let settings = read_settings(alloc, &matches)?;

@@ -1,13 +1,12 @@
-//! The command line: its words, and what they ask for.
+//! The command line: its arguments, and what they ask for.
 //!
-//! Options and their meaning are those of the AVRDUDE manual, as far as this profile has them. The
-//! one idea: `clap` cuts the words into options, and what the options ask for is a function of
-//! their texts, which names the first fault.
+//! Options and their meaning are those of the AVRDUDE manual, as far as this profile has them. `clap` splits the
+//! arguments into options. What the options ask for is a function of their texts, which names the first fault.
 //!
 //! `let matches = read_words(alloc, &words)?;` and then `read_settings(alloc, &matches)` makes settings.
 #![tactic(auto)]
 
-// the words, as `clap` cuts them
+// the arguments, as `clap` splits them
 mod command;
 
 // what they may ask for

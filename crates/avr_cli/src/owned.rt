@@ -6,14 +6,12 @@ use crate::settings::SettingsFault;
 use crate::text::Text;
 use std::alloc::Global;
 
-/// The text, for settings to own.
 pub fn owned(alloc: Global, text: &str) -> Result<Text, SettingsFault>
     ensures { GivesOrMemory (Ok text.now) result }
 {
     Text::new(alloc, text).map_err(|_| SettingsFault::Memory)
 }
 
-/// The text, where there is one, for settings to own.
 pub fn owned_option(alloc: Global, text: Option<&str>) -> Result<Option<Text>, SettingsFault>
     ensures { GivesOrMemory (Ok (option_map (λ s. s.now) text.entry)) result }
 {

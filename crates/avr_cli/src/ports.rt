@@ -16,8 +16,7 @@ fn has_only_digits(text: &[u8]) -> bool
     text.iter().all(|byte| byte.is_ascii_digit())
 }
 
-/// The number of a port: decimal digits and nothing else, of a value from 1 to 65535. Zeros may
-/// stand before it.
+/// Reads a port number: only decimal digits, with a value from 1 to 65535. Leading zeros are allowed.
 ///
 /// ```text
 /// assert!(rt; port_number("5000") == Some(5000) && port_number("00080") == Some(80));
@@ -36,7 +35,6 @@ pub fn port_number(text: &str) -> Option<u16>
     }
 }
 
-/// Whether a text is a host, a colon and the number of a port.
 fn is_address(text: &str) -> bool
     ensures { result ≡ is_address text.now }
 {
@@ -55,7 +53,6 @@ fn bad_port(alloc: Global, text: &str) -> SettingsFault
     }
 }
 
-/// The port over the chip file that stands after `emu:` in a text.
 fn emulated(alloc: Global, text: &str, file: &str) -> Result<Port, SettingsFault>
     ensures { GivesOrMemory (port_after text.now (Some file.now) None) result }
 {
@@ -65,7 +62,6 @@ fn emulated(alloc: Global, text: &str, file: &str) -> Result<Port, SettingsFault
     Ok(Port::Emulated(owned(alloc, file)?))
 }
 
-/// The port of the address that stands after `net:` in a text.
 fn network(alloc: Global, text: &str, address: &str) -> Result<Port, SettingsFault>
     ensures { GivesOrMemory (port_after text.now None (Some address.now)) result }
 {
@@ -91,7 +87,6 @@ fn port_of(alloc: Global, text: &str) -> Result<Port, SettingsFault>
     }
 }
 
-/// The port that `-P` gives.
 pub fn port_given(alloc: Global, text: Option<&str>) -> Result<Port, SettingsFault>
     ensures gives { GivesOrMemory (port_given_of (option_map (λ s. s.now) text.entry)) result }
     ensures tells { TellsAnyway (port_given_of (option_map (λ s. s.now) text.entry)) result }
@@ -102,7 +97,7 @@ pub fn port_given(alloc: Global, text: Option<&str>) -> Result<Port, SettingsFau
     }
 }
 
-/// The port of `--serve`, with the file of `--chip`. A bad number is reported before a missing file.
+/// Reads the port of `--serve` and the file of `--chip`. A bad number is reported before a missing file.
 pub fn served(alloc: Global, text: &str, chip: Option<&str>) -> Result<Port, SettingsFault>
     ensures gives { GivesOrMemory (served_at text.now (port_number text.now) (option_map (λ s. s.now) chip.entry))
         result }

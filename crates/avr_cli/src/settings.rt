@@ -16,37 +16,35 @@ pub enum Port {
     Stdio,
     /// `emu:CHIPFILE`, the emulator over this chip file, whose name isn't empty.
     Emulated(Text),
-    /// `net:HOST:PORT`, a socket: `HOST:PORT` as given. What stands before the last colon isn't
-    /// empty, and what stands after it has a [`port_number`](crate::port_number).
+    /// `net:HOST:PORT`, a socket: `HOST:PORT` as given. The host before the last colon isn't empty; after it comes a
+    /// [`port_number`](crate::port_number).
     Network(Text),
-    /// `--serve PORT` with `--chip FILE`: the emulator over this chip file answers at this port of
-    /// 127.0.0.1, in the digits given, which have a [`port_number`](crate::port_number).
+    /// `--serve PORT` with `--chip FILE`: the emulator over this chip file serves at this port of 127.0.0.1. The
+    /// digits as given are a [`port_number`](crate::port_number).
     Served { port: Text, chip: Text },
 }
 
-/// The options that are on or off, and the one that is counted. With `--serve` none is looked at:
-/// all are off.
+/// The switches and the one counted option. With `--serve` all are off.
 #[derive(Clone, Copy, Debug, PartialEq, Eq)]
 pub struct Switches {
     /// `-e`: the chip is erased.
     pub erase: bool,
-    /// `-D`: the chip isn't erased because of a write to flash.
+    /// `-D`: a write to flash doesn't erase the chip.
     pub keep_flash: bool,
     /// `-V`: what was written isn't read back.
     pub no_verify: bool,
     /// `-n`: nothing is written or erased.
     pub dry: bool,
-    /// `-F`: another signature than the part's is no fault.
+    /// `-F`: a signature other than the part's is no fault.
     pub force: bool,
     /// `-A`: trailing FF of a flash read are kept.
     pub all: bool,
-    /// `-q`, how often it is given, up to 255: once, no information lines are printed; from twice
-    /// on, no warnings either.
+    /// `-q`, how often it is given, up to 255. Once suppresses information lines, twice or more warnings too.
     pub quiet: u8,
 }
 
 impl Switches {
-    /// All options off, and `-q` not given.
+    /// Returns all switches off, and `-q` not given.
     pub fn none() -> Switches
         ensures { result ≡ no_switches }
     {
@@ -65,26 +63,29 @@ impl Switches {
 /// What a run was asked to do.
 #[derive(Debug, Drop)]
 pub struct Settings {
-    /// The part's id, as `m328p`, which nothing has looked up yet.
+    /// The part's id, such as `m328p`, not looked up yet.
     pub part: Text,
-    /// Where the programmer is, or where one is to be.
+    /// Where the programmer is, or where one is to serve.
     pub port: Port,
-    /// The file of `--parts`, where it is given.
+    /// The file of `--parts`.
     pub parts: Option<Text>,
     /// Each `-U` in the order given, at most 16; with `--serve` none.
     pub updates: Updates,
-    /// How it is done.
+    /// The switches.
     pub switches: Switches,
 }
 
 impl Settings {
-    /// The settings of a run over a link of the caller's own, which opens a session with the part of
-    /// this id, compares its signature, and does nothing else. What it is to do is put into the
-    /// fields.
+    /// Creates the settings of a run over a caller's own link. It opens a session with the part of this id, compares
+    /// its signature, and does nothing else; set the fields for more.
     ///
-    /// The port is [`Port::Stdio`], at which no run over a link that is passed to it looks. So a
-    /// file `-` is the desk's standard input or output, which [`read_settings`](crate::read_settings)
-    /// refuses over that port, as the frames are there. Fails only where memory is refused.
+    /// The port is [`Port::Stdio`], but no run over a caller's link uses it. So a file `-` is the desk's standard
+    /// input or output, although [`read_settings`](crate::read_settings) refuses it with that port, which the frames
+    /// take.
+    ///
+    /// # Errors
+    ///
+    /// `AllocError` if allocation fails.
     ///
     /// ```text
     /// let mut settings = Settings::for_link(alloc, "m328p")?;
@@ -104,19 +105,18 @@ impl Settings {
     }
 }
 
-/// Why a command line makes no settings. The first that holds is reported, in the order in which they
-/// stand here, but for memory, which may come in place of any other that keeps a text or follows a
-/// text that was kept.
+/// Why a command line is refused. The first fault in this order is reported. `Memory` may come in place of one that
+/// keeps a text or follows a kept text.
 #[derive(Drop, Error)]
 pub enum SettingsFault {
     /// No `-p`.
     #[error("no part given (-p)")]
     NoPart,
-    /// `-c` with another name than `stk500v2`: that name.
+    /// `-c` with this name, not `stk500v2`.
     #[error("programmer {} is not known", .0.as_str())]
     BadProgrammer(Text),
-    /// `-P` with a text that names no port, or `--serve` with no number of one: that text; or none
-    /// where neither is given.
+    /// `-P` with this text, which names no port, or `--serve` with this text, which is no port number; `None` if
+    /// neither option is given.
     #[error("no port given, or one that is not known")]
     BadPort(Option<Text>),
     /// `--serve` without `--chip`.
@@ -125,19 +125,19 @@ pub enum SettingsFault {
     /// More than 16 updates.
     #[error("more than 16 updates")]
     TooMany,
-    /// The update of this number, from 1 on, is none.
+    /// The update with this 1-based number is bad.
     #[error("update {0}: {1}")]
     BadUpdate(u8, UpdateFault),
-    /// A standard stream is asked for twice, or for what must be a file.
+    /// A standard stream is asked for twice, or in place of a file.
     #[error("standard streams are taken")]
     StandardTaken,
-    /// Memory was refused.
+    /// Allocation failed.
     #[error("out of memory")]
     Memory,
 }
 
 impl SettingsFault {
-    /// The number of the fault, from 1 on, whatever order they are reported in.
+    /// Returns the number of the fault, from 1 on. It is not the order in which faults are reported.
     ///
     /// ```text
     /// assert_eq!(rt; SettingsFault::NoPart.number(), 1);

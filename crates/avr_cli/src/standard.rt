@@ -7,14 +7,12 @@ ghost use Rattle.avr_cli.specs.Standard.{is_standard, is_given_standard, uses_st
 use crate::settings::{Port, SettingsFault};
 use crate::update::{Format, Op, Update};
 
-/// Whether a file's name stands for standard input or output.
 fn is_standard(name: &str) -> bool
     ensures { result ≡ is_standard name.now }
 {
     name == "-"
 }
 
-/// Whether a file is given, and a standard stream.
 fn is_given_standard(file: Option<&str>) -> bool
     ensures { result ≡ is_given_standard (option_map (λ s. s.now) file.entry) }
 {
@@ -24,7 +22,7 @@ fn is_given_standard(file: Option<&str>) -> bool
     }
 }
 
-/// Whether the update's file is a standard stream; values are no file.
+/// Returns whether the update's file is a standard stream; values are no file.
 fn uses_standard(update: &Update) -> bool
     ensures { result ≡ uses_standard update.now }
 {
@@ -37,21 +35,19 @@ fn uses_input(update: &Update) -> bool
     uses_standard(update) && !matches!(update.op, Op::Read)
 }
 
-/// Whether the file of any update is a standard stream.
 fn any_standard(updates: &[Update]) -> bool
     ensures { result ≡ list_any uses_standard updates.now }
 {
     updates.iter().any(|update| uses_standard(update))
 }
 
-/// How many updates read standard input.
 fn inputs(updates: &[Update]) -> usize
     ensures { result ≡ count_by uses_input updates.now }
 {
     updates.iter().filter(|update| uses_input(update)).count()
 }
 
-/// Whether the frames and the updates want the same standard streams, or the chip file is one.
+/// Returns whether the frames and the updates want the same standard streams, or the chip file is one.
 fn is_port_taken(port: &Port, updates: &[Update]) -> bool
     ensures { result ≡ is_port_taken port.now updates.now }
 {
@@ -63,7 +59,6 @@ fn is_port_taken(port: &Port, updates: &[Update]) -> bool
     }
 }
 
-/// Whether a standard stream is taken twice, or for what must be a file.
 fn is_taken(port: &Port, updates: &[Update], parts: Option<&str>, chip: Option<&str>) -> bool
     ensures { result ≡ is_taken port.now updates.now (option_map (λ s. s.now) parts.entry)
         (option_map (λ s. s.now) chip.entry) }
@@ -74,8 +69,8 @@ fn is_taken(port: &Port, updates: &[Update], parts: Option<&str>, chip: Option<&
         || inputs(updates) >= 2
 }
 
-/// Refuses to take a standard stream twice, or for what must be a file: the files of `--parts` and
-/// `--chip`, whether or not they are used.
+/// Refuses a standard stream that is asked for twice, or in place of a file. The files of `--parts` and `--chip`
+/// count even if they are not used.
 pub fn check_streams(
     port: &Port,
     updates: &[Update],

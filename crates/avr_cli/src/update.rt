@@ -23,17 +23,17 @@ pub enum Op {
 /// The format of a file, as AVRDUDE's `-U` names it by a letter.
 #[derive(Clone, Copy, Debug, PartialEq, Eq)]
 pub enum Format {
-    /// `a`: whatever the file's first bytes look like. For files that are read.
+    /// `a`: the format that the first bytes show. Only for input files.
     Auto,
     /// `i`: Intel HEX.
     Ihex,
     /// `s`: Motorola S-records.
     Srec,
-    /// `r`: the bytes themselves.
+    /// `r`: raw bytes.
     Raw,
-    /// `m`: the values stand in the file's place. For writes and comparisons.
+    /// `m`: values in place of the file's name. Only for writes and comparisons.
     Immediate,
-    /// `d`: a list of decimal numbers. For files that are made, as are the three below.
+    /// `d`: a list of decimal numbers. Only for output files, like the three below.
     Decimal,
     /// `h`: a list of hexadecimal numbers.
     Hexadecimal,
@@ -43,7 +43,7 @@ pub enum Format {
     Binary,
 }
 
-/// The formats of a file that is made.
+/// The formats of output files.
 static MADE: [Format; 7] = [
     Format::Ihex,
     Format::Srec,
@@ -54,7 +54,7 @@ static MADE: [Format; 7] = [
     Format::Binary,
 ];
 
-/// The formats of a file that is read.
+/// The formats of input files.
 static READ: [Format; 5] = [
     Format::Ihex,
     Format::Srec,
@@ -64,7 +64,6 @@ static READ: [Format; 5] = [
 ];
 
 impl Op {
-    /// The formats of the file, which a read makes and the others read.
     pub(crate) fn formats(self) -> &'static [Format]
         ensures { result.now ≡ formats_of self }
     {
@@ -74,7 +73,6 @@ impl Op {
         }
     }
 
-    /// The format where none is named.
     pub(crate) fn default_format(self) -> Format
         ensures { result ≡ default_format self }
     {
@@ -86,7 +84,6 @@ impl Op {
 }
 
 impl Format {
-    /// The letter that names the format.
     pub(crate) fn letter(self) -> u8
         ensures { result ≡ letter_of self }
     {
@@ -109,12 +106,11 @@ impl Format {
 pub struct Update {
     /// The memory.
     pub memory: Mem,
-    /// What is done with it.
+    /// The operation.
     pub op: Op,
-    /// The format of the file, one of those that the operation has.
+    /// The format of the file, one of the operation's own.
     pub format: Format,
-    /// The file's name, which isn't empty, `-` for standard input or output; with
-    /// [`Format::Immediate`] the values.
+    /// The file's name, which isn't empty; `-` for standard input or output; with [`Format::Immediate`] the values.
     pub file: Text,
 }
 
@@ -124,7 +120,7 @@ pub enum UpdateFault {
     /// No memory has the name before the first colon.
     #[error("no such memory")]
     BadMemory,
-    /// The operation is none of `r`, `w` and `v`, or missing.
+    /// The operation is missing, or not `r`, `w` or `v`.
     #[error("no such operation")]
     BadOp,
     /// The letter names no format of this operation.
@@ -133,13 +129,13 @@ pub enum UpdateFault {
     /// The file's name is empty or missing.
     #[error("no file named")]
     NoFile,
-    /// Memory was refused.
+    /// Allocation failed.
     #[error("out of memory")]
     Memory,
 }
 
 impl UpdateFault {
-    /// The number of the fault, from 1 on, in the order in which they stand here.
+    /// Returns the number of the fault, from 1 on, in this order.
     ///
     /// ```text
     /// assert_eq!(rt; UpdateFault::NoFile.number(), 4);
@@ -157,7 +153,7 @@ impl UpdateFault {
     }
 }
 
-/// What is done with the memories, in the order given. Contracts see it as the list of the updates.
+/// The updates, in the order given. Contracts see it as their list.
 ///
 /// ```text
 /// let mut updates = Updates::new(alloc);
@@ -179,7 +175,7 @@ impl Model for Updates {
 }
 
 impl Updates {
-    /// No update. Takes no memory yet.
+    /// Creates an empty list. It allocates nothing yet.
     pub fn new(alloc: Global) -> Updates
         ensures { result ≡ [] }
     {
@@ -188,7 +184,11 @@ impl Updates {
         }
     }
 
-    /// Puts an update after the others. Where memory is refused they stay as they are.
+    /// Appends an update.
+    ///
+    /// # Errors
+    ///
+    /// `AllocError` if allocation fails; the list is then unchanged.
     pub fn push(&mut self, update: Update) -> Result<(), AllocError>
         ensures { self.new ≡ (if is_ok result then self.old ++ update ∷ [] else self.old) }
     {
@@ -196,7 +196,7 @@ impl Updates {
         Ok(())
     }
 
-    /// The updates, the first one first.
+    /// Returns the updates in their order.
     pub fn as_slice(&self) -> &[Update]
         ensures { result.now ≡ self.now }
     {

@@ -7,7 +7,6 @@ use crate::update::{Format, Op, Update, UpdateFault};
 use avr_part::Mem;
 use std::alloc::Global;
 
-/// The operation that this letter names.
 fn op_named(name: &str) -> Option<Op>
     ensures { result ≡ op_named name.now }
 {
@@ -19,7 +18,6 @@ fn op_named(name: &str) -> Option<Op>
     }
 }
 
-/// The format among these that this letter names.
 fn format_named(formats: &[Format], letter: u8) -> Option<Format>
     ensures { result ≡ format_named formats.now letter }
 {
@@ -29,7 +27,6 @@ fn format_named(formats: &[Format], letter: u8) -> Option<Format>
         .find(|format| format.letter() == letter)
 }
 
-/// The format that a letter names for an operation, or the one where none is named.
 fn format_of(op: Op, letter: Option<u8>) -> Option<Format>
     ensures { result ≡ format_of op letter }
 {
@@ -39,7 +36,7 @@ fn format_of(op: Op, letter: Option<u8>) -> Option<Format>
     }
 }
 
-/// The file, and the letter of the format where the last byte but one is a colon.
+/// Splits off the format's letter, if the last byte but one is a colon.
 fn file_and_letter(rest: &str) -> (&str, Option<u8>)
     ensures { (result.0.now, result.1) ≡ file_and_letter rest.now }
 {
@@ -52,7 +49,6 @@ fn file_and_letter(rest: &str) -> (&str, Option<u8>)
     }
 }
 
-/// An operation on a memory, by the file and the letter of its format.
 fn update_by(
     alloc: Global,
     memory: Mem,
@@ -75,11 +71,13 @@ fn update_by(
     })
 }
 
-/// The update that a text asks for: `MEMORY:OP:FILE`, `MEMORY:OP:FILE:FORMAT`, or a file alone,
-/// which is written to flash. Colons beyond these belong to the file.
+/// Reads `MEMORY:OP:FILE`, `MEMORY:OP:FILE:FORMAT`, or a file alone, which is written to flash. Colons beyond these
+/// belong to the file.
 ///
-/// The first fault is told: of the memory, the operation, the file, the format. `Memory` may come
-/// in place of an update, and of nothing else.
+/// # Errors
+///
+/// The first fault, of the memory, the operation, the file, then the format. `Memory` if allocation fails and there
+/// is no other fault.
 ///
 /// ```text
 /// let update = parse_update(alloc, "lfuse:w:0xE2:m")?;

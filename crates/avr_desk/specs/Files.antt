@@ -1,4 +1,4 @@
--- A whole file over a desk: what passes when it is read to its end or past a limit.
+-- What passes when a whole file is read over a desk, to its end or past a limit.
 use Rattle.std.specs.Prelude.{◌≡◌, ◌≤◌, ◌<◌, ◌+◌, ℕ, length, Bool, Result, Ok, Err, false, MatchBool}
 use Rattle.avr_desk.specs.Record.{DeskView, Record, Bytes, Passes, noted, with_open, with_absent}
 use Rattle.avr_desk.specs.Fault.{Follows, HasFailedAt, HasSameCounts}
@@ -14,7 +14,7 @@ file_fault_number NotOpened = 2
 file_fault_number NotRead = 3
 file_fault_number Memory = 4
 
--- the open file gave these bytes, and its end was seen or wasn't
+-- the open file gave these bytes, and its end was seen or not
 abbrev pub after_reading : Bytes → Bool → Record → Record
 after_reading bytes ended r = record r { current = noted bytes ended r.current }
 
@@ -22,41 +22,40 @@ after_reading bytes ended r = record r { current = noted bytes ended r.current }
 abbrev pub with_read : Bytes → Bytes → Bool → Record → Record
 with_read name bytes ended r = with_open (ToRead (record { name = name; bytes = bytes; ended = ended })) r
 
--- the file was opened and gave all that was answered; with no such file that is noted; where it
--- could not be opened nothing passed; where its reading broke off it gave some bytes
+-- The file was opened and gave what was returned. If it doesn't exist, that is noted; if it couldn't be opened,
+-- nothing passed; if reading broke off, it gave some bytes.
 abbrev pub ReadsFile : Bytes → DeskView → DeskView → Result Contents FileFault → Type 0
 ReadsFile name old new (Ok c) = Passes (with_read name c.bytes c.ended) old new
 ReadsFile name old new (Err Absent) = Passes (with_absent name) old new
 ReadsFile name old new (Err NotOpened) = new.kept ≡ old.kept
 ReadsFile name old new (Err fault) = (bytes : Bytes) × Passes (with_read name bytes false) old new
 
--- the same of a file that is open
+-- the same of an open file
 abbrev pub ReadsOpen : DeskView → DeskView → Result Contents FileFault → Type 0
 ReadsOpen old new (Ok c) = Passes (after_reading c.bytes c.ended) old new
 ReadsOpen old new (Err Absent) = ⊥
 ReadsOpen old new (Err NotOpened) = ⊥
 ReadsOpen old new (Err fault) = (bytes : Bytes) × Passes (after_reading bytes false) old new
 
--- How the reading of a file breaks off that is not kept whole: with no such file that is noted; where it could not be
--- opened nothing passed; where it could not be read on it gave some bytes, and where memory was refused perhaps all.
+-- How reading a file breaks off: the same faults; if allocation failed, it perhaps gave all bytes.
 abbrev pub FileBreaks : Bytes → DeskView → DeskView → FileFault → Type 0
 FileBreaks name old new Absent = Passes (with_absent name) old new
 FileBreaks name old new NotOpened = new.kept ≡ old.kept
 FileBreaks name old new NotRead = (bytes : Bytes) × Passes (with_read name bytes false) old new
 FileBreaks name old new Memory = (bytes : Bytes) × (ended : Bool) × Passes (with_read name bytes ended) old new
 
--- what the counts of failures say of such a fault
+-- the counts of failures after such a fault
 abbrev pub IsCounted : DeskView → DeskView → FileFault → Type 0
 IsCounted old new NotOpened = HasFailedAt File old new
 IsCounted old new NotRead = HasFailedAt File old new
 IsCounted old new fault = HasSameCounts old new
 
--- the end was seen within the limit, or more bytes came than it allows, by one piece at most
+-- the end was seen within the limit, or more bytes came, by one piece at most
 abbrev pub IsWhole : ℕ → Contents → Type 0
 IsWhole limit c =
     MatchBool c.ended (length c.bytes ≤ limit) ((limit < length c.bytes) × (length c.bytes ≤ limit + 4096))
 
--- what the counts of failures say of a fault: want of memory is no failure of the desk
+-- the counts of failures after a fault; a failed allocation is no failure of the desk
 abbrev pub FaultIsCounted : DeskView → DeskView → Result Contents FileFault → Type 0
 FaultIsCounted old new (Err NotOpened) = HasFailedAt File old new
 FaultIsCounted old new (Err NotRead) = HasFailedAt File old new

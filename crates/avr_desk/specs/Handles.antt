@@ -1,5 +1,5 @@
--- What the desk of a program says of files and of standard input, by the handles that the system gave it. It is true by
--- parametricity, as its contracts know of a system's files only what their own calls ensure.
+-- What a program's desk records of files and standard input, by the system's handles. The record is true by
+-- parametricity: the contracts know of a system's files only what their own calls ensure.
 use Rattle.std.specs.Prelude.{◌≡◌, ◌≤◌, ◌⊎◌, true, length, Option, Some, None, IfSome}
 use Rattle.std.specs.Io.KnownBytes.{Appends, Consumes}
 use Rattle.std.specs.List.{All}
@@ -18,7 +18,7 @@ use Rattle.avr_desk.specs.declared.record.Writing.{Writing}
 use Rattle.avr_desk.specs.declared.system.Held.{Held}
 use Rattle.avr_desk.specs.declared.system.Held.TheVariants.{Nothing, Input, ToRead, ToWrite, Output}
 
--- what a handle that was `first` has given until it is `now`: its next bytes, and no more are left if its end was seen
+-- what a handle gave between `first` and `now`: its next bytes, and none are left if its end was seen
 pub record HasGiven {H : Type 0} (reads : Reads H) (first now : H) (reading : Reading) : Type 0 where
   pub gave : Consumes (reads.remaining first) (reads.remaining now) reading.bytes
   pub ends : reading.ended ≡ true → IfSome (reads.remaining first) (λ bytes. length bytes ≤ length reading.bytes)
@@ -37,7 +37,7 @@ TookFile {F = F} system writes now writing =
     (first : F) × system.is_of first writing.name
     × Appends (writes.contents first) (writes.contents now) writing.bytes
 
--- what is open is what the record says of it
+-- what is open is what the record says
 abbrev pub IsTrueOpen : {S F H I : Type 0} → Ghosts S F H → Reads F → Writes F → Reads I → Held F I → Open → Type 0
 IsTrueOpen system reads writes input Nothing current = current ≡ is.Closed
 IsTrueOpen system reads writes input (Input now) current =
@@ -58,14 +58,12 @@ IsTrueUse {F = F} system reads writes input (Created writing) =
     (is_dash writing.name ≡ true) ⊎ ((now : F) × TookFile system writes now writing)
     ⊎ system.replaced writing.name writing.bytes
 
--- what is held is held by this name
 abbrev pub IsHeldBy : {S F H : Type 0} → Ghosts S F H → Option H → Option Bytes → Type 0
 IsHeldBy system None None = Unit {0}
 IsHeldBy system (Some hold) (Some name) = system.holds hold name
 IsHeldBy system hold name = ⊥
 
--- All that the record says of files and of standard input is what the system answered, of the names that it was asked
--- for.
+-- All that the record says of files and standard input is what the system returned for the names asked.
 pub record IsTrueRecord {S F H I : Type 0} (system : Ghosts S F H) (reads : Reads F) (writes : Writes F)
     (input : Reads I) (opened : Held F I) (hold : Option H) (kept : Record) : Type 0 where
   pub uses : All (IsTrueUse system reads writes input) kept.uses

@@ -15,8 +15,8 @@ pub mod Lines
 pub mod Said
 pub mod Stage
 pub mod Playing
--- inside: how things are kept, and what inner functions promise one another
+-- inside: how things are stored, and contracts of private functions
 pub mod Standing
--- of the crates below, what public contracts name
+-- names from the crates below that public contracts use
 pub use Rattle.ghosts.specs.Failures
 pub use Rattle.ghosts.specs.Stays

@@ -27,7 +27,7 @@ text_of (Signature bytes) = spaced_digits bytes
 text_of (Address address) = digits (big_bytes 4 address)
 text_of (Number number) = decimal number
 
--- a line that begins with this mark: the pieces, one after the other
+-- a line with this mark: the pieces, one after the other
 abbrev pub line : Bytes → List Bytes → Bytes
 line mark pieces = mark ++ (concat pieces ++ 10 ∷ [])
 
@@ -40,7 +40,7 @@ warning pieces = line (codes "avrstk: warning: ") pieces
 abbrev pub error : List Bytes → Bytes
 error pieces = line (codes "avrstk: error: ") pieces
 
--- ---- what is reported of any file, and of memory that was refused
+-- ---- the messages about any file, and about failed allocation
 
 abbrev pub memory_pieces : List Bytes
 memory_pieces = codes "out of memory" ∷ []
@@ -51,14 +51,12 @@ not_opened_pieces file = file ∷ codes ": cannot be opened" ∷ []
 abbrev pub not_read_pieces : Bytes → List Bytes
 not_read_pieces file = file ∷ codes ": cannot be read" ∷ []
 
--- why a file was not read
 abbrev pub file_pieces : Bytes → FileFault → List Bytes
 file_pieces file Absent = not_opened_pieces file
 file_pieces file NotOpened = not_opened_pieces file
 file_pieces file NotRead = not_read_pieces file
 file_pieces file Memory = memory_pieces
 
--- a file has more bytes than the limit
 abbrev pub too_long_pieces : Bytes → ℕ → List Bytes
 too_long_pieces file limit = file ∷ codes ": longer than " ∷ decimal limit ∷ codes " bytes" ∷ []
 

@@ -1,11 +1,11 @@
--- A desk in memory: what contracts see of it, and the bytes that a name stands for.
+-- A desk in memory: what contracts see of it, and the bytes that a name means.
 use Rattle.std.specs.Prelude.{ℕ, List, ◌++◌, drop, length, Option, Some, None, if◌then◌else◌}
 use Rattle.avr_desk.specs.Record.{DeskView, Record, Bytes, all_files, showing}
 use Rattle.avr_desk.specs.Named.{bytes_given, is_dash, newest}
 use Rattle.avr_desk.specs.declared.record.Writing.{Writing}
 
--- what passed, the failures and how many were at the messages, the standard input, the files that were put there, and
--- the whole bytes of the file that was opened last
+-- The record; the failures and those at the messages; the standard input; the files put there; all bytes of the file
+-- opened last.
 pub record MemDeskState : Type 0 where
   pub kept : Record
   pub failures : ℕ
@@ -14,7 +14,7 @@ pub record MemDeskState : Type 0 where
   pub stored : List Writing
   pub opened : Bytes
 
--- what it shows as any desk does
+-- what it shows, as any desk does
 abbrev pub memory_view : MemDeskState → DeskView
 memory_view m = showing m.kept m.failures m.unsaid
 
@@ -26,16 +26,15 @@ pub record Stock : Type 0 where
 abbrev pub stock_of : MemDeskState → Stock
 stock_of m = record { input = m.input; files = m.stored }
 
--- the file of this name, where these have been made since: the one that was made last, else the one that was put there
--- last
+-- the newest file of this name among those made since, else the last one put there
 abbrev pub file_named : Bytes → Stock → List Writing → Option Bytes
 file_named name stock made = newest name None (stock.files ++ made)
 
--- what a name stands for then
+-- what a name means then
 abbrev pub stood_for : Stock → List Writing → Bytes → Option Bytes
 stood_for stock made name = if is_dash name then Some stock.input else file_named name stock made
 
--- what it stands for when it is opened
+-- what a name means when it is opened
 abbrev pub contents : Bytes → MemDeskState → Option Bytes
 contents name m = stood_for (stock_of m) (all_files m.kept) name
 

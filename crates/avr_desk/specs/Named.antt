@@ -1,4 +1,4 @@
--- Files by their names, and the place where the open one stands.
+-- Files by their names, and the position of the open one.
 use Rattle.std.specs.Prelude.{Bool, false, List, [], ◌∷◌, codes, Option, Some, None, if◌then◌else◌}
 use Rattle.std.specs.Str.{bytes_eq}
 use Rattle.avr_desk.specs.Record.{Bytes, Record}
@@ -10,16 +10,14 @@ use Rattle.avr_desk.specs.declared.record.Writing.{Writing}
 abbrev pub is_dash : Bytes → Bool
 is_dash name = bytes_eq name (codes "-")
 
--- the bytes of a file that has this name, else `older`
 abbrev pub or_older : Bytes → Option Bytes → Writing → Option Bytes
 or_older name older f = if bytes_eq f.name name then Some f.bytes else older
 
--- the bytes of the newest file of this name; `older` where none has it
+-- the bytes of the newest file of this name, else `older`
 abbrev pub newest : Bytes → Option Bytes → List Writing → Option Bytes
 newest name older [] = older
 newest name older (f ∷ fs) = newest name (or_older name older f) fs
 
--- the file of this name is held
 abbrev pub is_held_name : Bytes → Option Bytes → Bool
 is_held_name name None = false
 is_held_name name (Some held) = bytes_eq held name
@@ -27,7 +25,6 @@ is_held_name name (Some held) = bytes_eq held name
 abbrev pub holds : Bytes → Record → Bool
 holds name r = is_held_name name r.held
 
--- the bytes that the open file has given
 abbrev pub bytes_given : Open → Bytes
 bytes_given (ToRead x) = x.bytes
 bytes_given o = []

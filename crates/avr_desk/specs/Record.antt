@@ -13,8 +13,8 @@ use Rattle.avr_desk.specs.declared.record.Open.TheVariants.{Closed, ToRead, ToWr
 abbrev pub Bytes : Type 0
 Bytes = List ℕ
 
--- what a desk keeps: the openings that are over and the files that are done, in their order, the file that is open, the
--- name of the file that is held, the names of those that were held already, the output and the messages
+-- What a desk keeps: the finished openings and files in their order; the open file; the held file; those held
+-- already; output and messages.
 pub record Record : Type 0 where
   pub uses : List FileUse
   pub current : Open
@@ -23,17 +23,16 @@ pub record Record : Type 0 where
   pub output : Bytes
   pub messages : Bytes
 
--- what a desk shows of itself: its record, how often a call has failed, and how often of these a write to its messages
+-- what a desk shows: its record, its failed calls, and how many of these wrote to the messages
 pub record DeskView : Type 0 where
   pub kept : Record
   pub failures : ℕ
   pub unsaid : ℕ
 
--- what a desk shows that keeps this and has failed so often
 abbrev pub showing : Record → ℕ → ℕ → DeskView
 showing kept failures unsaid = record { kept = kept; failures = failures; unsaid = unsaid }
 
--- what a desk keeps has become this
+-- what a desk keeps has changed like this
 abbrev pub Passes : (Record → Record) → DeskView → DeskView → Type 0
 Passes change old new = new.kept ≡ change old.kept
 
@@ -50,7 +49,7 @@ use_of Closed = []
 use_of (ToRead x) = Opened (Found x) ∷ []
 use_of (ToWrite x) = Created x ∷ []
 
--- the openings among these uses, and the files that were created
+-- the openings among these uses, and the created files
 abbrev pub openings_among : List FileUse → List Opening
 openings_among [] = []
 openings_among (Opened opening ∷ uses) = opening ∷ openings_among uses
@@ -61,7 +60,7 @@ files_among [] = []
 files_among (Opened opening ∷ uses) = files_among uses
 files_among (Created file ∷ uses) = file ∷ files_among uses
 
--- every use of a file, every opening, and every file that was created, with the open file at the end
+-- all uses of files, all openings and all created files, with the open file last
 abbrev pub all_uses : Record → List FileUse
 all_uses r = r.uses ++ use_of r.current
 
@@ -71,11 +70,10 @@ all_openings r = openings_among r.uses ++ opening_of r.current
 abbrev pub all_files : Record → List Writing
 all_files r = files_among r.uses ++ file_of r.current
 
--- the open file is put by, and another one is open
 abbrev pub with_open : Open → Record → Record
 with_open o r = record r { uses = all_uses r; current = o }
 
--- the open file is put by, and no file of this name was there
+-- the open file is closed, and no file has this name
 abbrev pub with_absent : Bytes → Record → Record
 with_absent name r = record r { uses = all_uses r ++ Opened (Absent name) ∷ []; current = Closed }
 
@@ -88,7 +86,7 @@ abbrev pub after_create : Bytes → Result ⊤ DeskFault → Record → Record
 after_create name (Ok done) r = with_open (ToWrite (record { name = name; bytes = [] })) r
 after_create name (Err fault) r = r
 
--- a file is held, or it is held already
+-- a file is held, or is held already
 abbrev pub with_held : Bytes → Record → Record
 with_held name r = record r { held = Some name }
 
@@ -107,7 +105,7 @@ with_none_held r = record r { held = None }
 abbrev pub released : DeskView → DeskView
 released view = record view { kept = with_none_held view.kept }
 
--- the open file is put by, a file of this name has these bytes, whole, and nothing is held
+-- the open file is closed, a file of this name has these bytes, and nothing is held
 abbrev pub with_replaced : Bytes → Bytes → Record → Record
 with_replaced name bytes r = record r {
   uses = all_uses r ++ Created (record { name = name; bytes = bytes }) ∷ [];
@@ -115,7 +113,7 @@ with_replaced name bytes r = record r {
   held = None;
 }
 
--- where it can't be replaced nothing passed
+-- a failed replacement changes nothing
 abbrev pub after_replace : Bytes → Bytes → Result ⊤ DeskFault → Record → Record
 after_replace name bytes (Ok done) r = with_replaced name bytes r
 after_replace name bytes (Err fault) r = r
@@ -128,7 +126,6 @@ abbrev pub noted : Bytes → Bool → Open → Open
 noted bytes ends (ToRead x) = ToRead (record x { bytes = x.bytes ++ bytes; ended = x.ended || ends })
 noted bytes ends o = o
 
--- n bytes were read, which lie at the start of the buffer
 abbrev pub read_on : Bytes → ℕ → Open → Open
 read_on buf n o = noted (take n buf) (n == 0 && not (is_nil buf)) o
 
@@ -140,7 +137,6 @@ abbrev pub written_on : Bytes → Open → Open
 written_on bytes (ToWrite x) = ToWrite (record x { bytes = x.bytes ++ bytes })
 written_on bytes o = o
 
--- the bytes that a call took
 abbrev pub bytes_taken : Bytes → Result ℕ DeskFault → Bytes
 bytes_taken bytes (Ok n) = take n bytes
 bytes_taken bytes (Err fault) = []
@@ -162,7 +158,7 @@ abbrev pub is_to_write : Open → Bool
 is_to_write (ToWrite x) = true
 is_to_write o = false
 
--- a call that is answered has its file
+-- a successful call has its file
 abbrev pub HasOpen : {T : Type 0} → (Open → Bool) → DeskView → Result T DeskFault → Type 0
 HasOpen test old r = OnOk r (test old.kept.current ≡ true)
 

@@ -8,8 +8,8 @@ use Rattle.avr_desk.specs.declared.record.Opening.TheVariants.{Absent, Found}
 use Rattle.avr_desk.specs.declared.record.Open.TheVariants.{ToRead, ToWrite}
 use Rattle.avr_desk.specs.declared.stream.Stream.TheVariants.{File, Messages}
 
--- A file is opened to be read, and gives what it gives; a line of messages is printed; a file of this name is created;
--- bytes are written to it, or to standard output.
+-- An output event: a file is opened, with what it gives; a line is printed to the messages; a file of this name is
+-- created; bytes are written to it; or bytes are written to standard output.
 pub data Saying : Type 0 where
   Opens : Opening → Saying
   Line : Bytes → Saying
@@ -21,7 +21,6 @@ abbrev pub after_opening : Opening → Record → Record
 after_opening (Absent name) r = with_absent name r
 after_opening (Found reading) r = with_open (ToRead reading) r
 
--- what a desk keeps after it
 abbrev pub after : Saying → Record → Record
 after (Opens opening) r = after_opening opening r
 after (Line bytes) r = after_err bytes r
@@ -29,41 +28,39 @@ after (Creates name) r = with_open (ToWrite (record { name = name; bytes = [] })
 after (Writes bytes) r = after_write bytes r
 after (Outs bytes) r = after_out bytes r
 
--- after several, in their order
 abbrev pub after_all : List Saying → Record → Record
 after_all [] r = r
 after_all (saying ∷ sayings) r = after_all sayings (after saying r)
 
--- these bytes are a prefix of those
 abbrev pub IsPrefixOf : Bytes → Bytes → Type 0
 IsPrefixOf prefix bytes = (back : Bytes) × (prefix ++ back ≡ bytes)
 
--- a part of it was done: of what is printed or written, a prefix
+-- a part of an event was done: of what is printed or written, a prefix
 abbrev pub SaidPart : Saying → Saying → Type 0
 SaidPart (Line part) (Line whole) = IsPrefixOf part whole
 SaidPart (Writes part) (Writes whole) = IsPrefixOf part whole
 SaidPart (Outs part) (Outs whole) = IsPrefixOf part whole
 SaidPart _ _ = ⊥
 
--- The line was printed, or where a write to the messages failed a prefix of it.
+-- The line was printed, or a prefix of it if a write to the messages failed.
 abbrev pub IsPrinted : {T Fault : Type 0} → DeskView → DeskView → Bytes → Result T Fault → Type 0
 IsPrinted old new bytes (Ok done) = Passes (after_err bytes) old new
 IsPrinted old new bytes (Err fault) = SendsPart Messages old new bytes
 
--- The line was reported whole, and no call failed; or a write to the messages has failed, and a prefix of it was.
+-- The whole line was reported and no call failed; or a prefix of it was, and a write to the messages failed.
 abbrev pub TellsLine : Bytes → Bytes → DeskView → DeskView → Type 0
 TellsLine line told old new =
     ((told ≡ line) × HasSameCounts old new) ⊎ (IsPrefixOf told line × HasFailedToSay old new)
 
--- So much of the line was reported, and nothing else happened.
+-- This part of the line was reported, and nothing else happened.
 pub record Tells (old new : DeskView) (line : Bytes) : Type 0 where
   pub told : Bytes
   pub tells : TellsLine line told old new
   pub kept : Passes (after_err told) old new
   pub follows : Follows old new
 
--- The desk failed, for a file or the output and not yet at the messages, and from then on, as it stood in between, the
--- line of that was reported.
+-- The desk failed, for a file or the output and not yet at the messages. From its state then, `between`, the line
+-- about that was reported.
 pub record TellsFailure (line told : Bytes) (old new : DeskView) : Type 0 where
   pub between : DeskView
   pub failed : HasFailedAt File old between

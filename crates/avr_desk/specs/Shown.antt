@@ -1,4 +1,4 @@
--- What the desk of a program shows: its two writers, and what they take.
+-- What a program's desk shows: its two writers, and what they take.
 use Rattle.std.specs.Prelude.{◌≡◌, ◌++◌, ℕ, Bool, false, ◌≤◌, length, List, Option, IsSome, Result, Ok, Err, take}
 use Rattle.std.specs.Io.KnownBytes.{Appends}
 use Rattle.std.specs.List.{list_any}
@@ -17,8 +17,8 @@ use Rattle.avr_desk.specs.declared.desk.DeskFault.{DeskFault}
 use Rattle.avr_desk.specs.declared.desk.DeskFault.TheVariants.{Failed, NotFound}
 use Rattle.avr_desk.specs.declared.system.Held.{Held}
 
--- the writers of the output and of the messages, the failures and those at the messages, the kind of the error of the
--- last failure, what is open and what is held, by their handles; and what passed, which is kept for proofs alone
+-- The writers; the failures, those at the messages, and the last error; the handles of what is open and held; the
+-- record, which is kept for proofs alone.
 pub record Shown (F H I O E : Type 0) : Type 0 where
   pub output : O
   pub messages : E
@@ -29,15 +29,14 @@ pub record Shown (F H I O E : Type 0) : Type 0 where
   pub hold : Option H
   pub kept : Record
 
--- what it shows as any desk does
 abbrev pub shown_view : {F H I O E : Type 0} → Shown F H I O E → DeskView
 shown_view d = showing d.kept d.failures d.unsaid
 
--- whether what is written to the file goes to the output
+-- whether writes to the file go to the output
 abbrev pub to_output : {F H I O E : Type 0} → Shown F H I O E → Bool
 to_output d = is_output d.opened
 
--- the error that a desk keeps after a call: a failure has one, and every other answer leaves that of the last failure
+-- the error after a call: a failure sets it, and any other result keeps it
 abbrev pub KeepsError : {A : Type 0} → Option ErrorKind → Option ErrorKind → Result A DeskFault → Type 0
 KeepsError old new (Err Failed) = IsSome new
 KeepsError old new (Err NotFound) = new ≡ old
@@ -47,13 +46,12 @@ KeepsError old new (Ok done) = new ≡ old
 abbrev pub AppendsPrefix : Option Bytes → Option Bytes → Bytes → Type 0
 AppendsPrefix old new bytes = (prefix : Bytes) × ((back : Bytes) × (prefix ++ back ≡ bytes)) × Appends old new prefix
 
--- it took as many of them as were answered; after a fault perhaps a prefix
+-- it took the returned number of them; after a fault perhaps a prefix
 abbrev pub AppendsTaken : {F : Type 0} → Option Bytes → Option Bytes → Bytes → Result ℕ F → Type 0
 AppendsTaken old new bytes (Ok n) = Appends old new (take n bytes)
 AppendsTaken old new bytes (Err fault) = AppendsPrefix old new bytes
 
--- What is recorded of a write is what the writer took: as many of the bytes as were answered, and after a fault a
--- prefix of them.
+-- The record of a write is what the writer took: the returned number of bytes, or a prefix after a fault.
 abbrev pub RecordsTaken : Stream → Bytes → Option Bytes → Option Bytes → Record → Record → ℕ → Type 0
 RecordsTaken stream bytes old new before now n =
     (now ≡ after_sent stream (take n bytes) before) × Appends old new (take n bytes)
@@ -64,12 +62,11 @@ TakesTruly stream bytes old new before now (Ok n) = RecordsTaken stream bytes ol
 TakesTruly stream bytes old new before now (Err fault) =
     (n : ℕ) × (n ≤ length bytes) × RecordsTaken stream bytes old new before now n
 
--- where what is written goes after an opening, and after a creation: a call that failed changes nothing
+-- whether writes go to the output after opening and creating; a failed call changes nothing
 abbrev pub to_output_opened : Result (Unit {0}) DeskFault → Bool → Bool
 to_output_opened (Err Failed) before = before
 to_output_opened result before = false
 
--- a replaced file is closed
 abbrev pub to_output_replaced : Result (Unit {0}) DeskFault → Bool → Bool
 to_output_replaced (Ok done) before = false
 to_output_replaced (Err fault) before = before
@@ -78,13 +75,12 @@ abbrev pub to_output_created : Bytes → Result (Unit {0}) DeskFault → Bool �
 to_output_created name (Ok done) before = is_dash name
 to_output_created name (Err fault) before = before
 
--- one of these files is the output
 abbrev pub has_dash : List Writing → Bool
 has_dash = list_any (λ file. is_dash file.name)
 
--- What a desk keeps since it was `old` is true. Of its writers: their bytes, where they are known, have grown by what
--- was sent to them. For the output that is so as long as no file is the output too, then and since; one that was stays
--- among the files. Of files and standard input: it is what the system answered, if it was so of what it kept before.
+-- What a desk has kept since `old` is true. The known bytes of its writers grew by what was sent to them, for the
+-- output while no file is the output too. The record of files and standard input is what the system returned, if it
+-- was so in `old`. A file that was the output stays among the files.
 pub record IsTrueSince {S F H I O E : Type 0} (system : Ghosts S F H) (reads : Reads F) (writes : Writes F)
     (input : Reads I) (output_of : Writes O) (messages_of : Writes E) (old new : Shown F H I O E) : Type 0 where
   pub said : Bytes

@@ -1,4 +1,4 @@
--- A stage: what is done at the desk and what that comes to, as a function of what the openings of files give.
+-- A stage: what is done at the desk and its result, as a function of what the openings of files give.
 use Rattle.std.specs.Prelude.{ℕ, Bool, ◌||◌, nat_lt, List, [], ◌∷◌, ◌++◌, drop, length, Result, Ok, Err, if◌then◌else◌, ⊤}
 use Rattle.avr_desk.specs.Record.{Bytes}
 use Rattle.avr_desk.specs.declared.record.Opening.{Opening}
@@ -7,20 +7,20 @@ use Rattle.avr_desk.specs.declared.record.Reading.{Reading}
 use Rattle.avr_desk.specs.Lines.{not_opened_line}
 use Rattle.avr_desk.specs.Said.{Saying, Opens, Line}
 
--- It made something; or it is refused, by this line; or it can't be judged, since a file was not read to its end or
--- past its limit.
+-- It made something; it is refused, by this line; or a file was not read to its end or past its limit, so it has no
+-- result.
 pub data StageAnswer (A : Type 0) : Type 0 where
   Made : A → StageAnswer A
   Refused : Bytes → StageAnswer A
   Unread : StageAnswer A
 
--- what was said before the answer, the answer, and what the later openings give
+-- the events before the result, the result, and what the later openings give
 pub record StageResult (A : Type 0) : Type 0 where
   pub says : List Saying
   pub answer : StageAnswer A
   pub left : List Opening
 
--- what was said, and the line of a refusal, which comes last
+-- the events, and last the line of a refusal
 abbrev pub all_told : {A : Type 0} → List Saying → StageAnswer A → List Saying
 all_told says (Made a) = says
 all_told says (Refused line) = says ++ Line line ∷ []
@@ -32,7 +32,6 @@ told_in p = all_told p.says p.answer
 abbrev pub Stage : Type 0 → Type 0
 Stage A = List Opening → StageResult A
 
--- after these sayings
 abbrev pub behind_sayings : {A : Type 0} → List Saying → StageResult A → StageResult A
 behind_sayings says p = record { says = says ++ p.says; answer = p.answer; left = p.left }
 
@@ -41,18 +40,17 @@ going_on says left go_on (Made a) = behind_sayings says (go_on a left)
 going_on says left go_on (Refused line) = record { says = says; answer = Refused line; left = left }
 going_on says left go_on Unread = record { says = says; answer = Unread; left = left }
 
--- one stage, and then the one that its answer chooses
+-- one stage, and then the one that its result chooses
 infixl 10 ◌>>=◌
 abbrev pub ◌>>=◌ : {A B : Type 0} → Stage A → (A → Stage B) → Stage B
 ◌>>=◌ stage go_on openings =
     let p = stage openings in
     going_on p.says p.left go_on p.answer
 
--- something is said
 abbrev pub saying_stage : List Saying → Stage ⊤
 saying_stage says openings = record { says = says; answer = Made tt; left = openings }
 
--- a judgment: what it gives, or the line of its refusal
+-- a result, or the line of its refusal
 abbrev pub verdict_stage : {A : Type 0} → Result A Bytes → Stage A
 verdict_stage (Ok a) openings = record { says = []; answer = Made a; left = openings }
 verdict_stage (Err line) openings = record { says = []; answer = Refused line; left = openings }
@@ -65,7 +63,7 @@ abbrev pub under_name : Bytes → Opening → Opening
 under_name name (Absent other) = Absent name
 under_name name (Found reading) = Found (record reading { name = name })
 
--- the file of this name gives what the next opening gives; after the last one it is not there
+-- the file of this name gives what the next opening gives; after the last opening it is absent
 abbrev pub next_opening : Bytes → List Opening → Opening
 next_opening name [] = Absent name
 next_opening name (opening ∷ openings) = under_name name opening
@@ -77,7 +75,6 @@ open_stage name openings = record {
   left = drop 1 openings;
 }
 
--- the file was read to its end, or past the limit
 abbrev pub is_whole : ℕ → Reading → Bool
 is_whole limit reading = reading.ended || nat_lt limit (length reading.bytes)
 
@@ -86,6 +83,6 @@ content_stage name limit judge (Absent other) = verdict_stage (Err (not_opened_l
 content_stage name limit judge (Found reading) =
     if is_whole limit reading then verdict_stage (judge reading.bytes) else unread_stage
 
--- the judgment of a file, once it was read to its end or past its limit
+-- the result of a file, once it was read to its end or past its limit
 abbrev pub file_stage : {A : Type 0} → Bytes → ℕ → (Bytes → Result A Bytes) → Stage A
 file_stage name limit judge = open_stage name >>= content_stage name limit judge

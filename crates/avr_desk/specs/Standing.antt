@@ -1,4 +1,4 @@
--- What is open at the desk of a program.
+-- What is open at a program's desk.
 use Rattle.std.specs.Prelude.{◌≡◌, ◌<◌, ℕ, Bool, true, false, length, take}
 use Rattle.std.specs.Io.KnownBytes.{Consumes, IsAtEnd, Keeps}
 use Rattle.std.specs.declared.io.Read.{Ghosts as Reads}
@@ -21,23 +21,22 @@ takes (ToWrite f) = true
 takes Output = true
 takes held = false
 
--- what is open is what the record says of it
+-- what is open is what the record says
 pub record Stands {F I : Type 0} (held : Held F I) (current : Open) : Type 0 where
   pub reads : is_to_read current ≡ gives held
   pub writes : is_to_write current ≡ takes held
 
--- a handle gave n bytes, which lie at the start of the buffer, and none only at its end or where there is no room
+-- a handle gave n bytes into the start of the buffer, and none only at its end or without room
 pub record GivesBytes {H : Type 0} (reads : Reads H) (old new : H) (buf : Bytes) (n : ℕ) : Type 0 where
   pub gave : Consumes (reads.remaining old) (reads.remaining new) (take n buf)
   pub ends : n ≡ 0 → 0 < length buf → IsAtEnd (reads.remaining new)
 
--- what is open gave them
 abbrev pub HeldGives : {F I : Type 0} → Reads F → Reads I → Held F I → Held F I → Bytes → ℕ → Type 0
 HeldGives {I = I} reads input (Input old) new buf n = (now : I) × (new ≡ Input now) × GivesBytes input old now buf n
 HeldGives {F = F} reads input (ToRead old) new buf n = (now : F) × (new ≡ ToRead now) × GivesBytes reads old now buf n
 HeldGives reads input old new buf n = ⊥
 
--- it gave none, and is open still
+-- it gave none, and is still open
 abbrev pub HeldGivesNone : {F I : Type 0} → Reads F → Reads I → Held F I → Held F I → Type 0
 HeldGivesNone {I = I} reads input (Input old) new =
     (now : I) × (new ≡ Input now) × Keeps (input.remaining old) (input.remaining now)

@@ -1,11 +1,10 @@
--- Where bytes go, and a call that sends them all or only a prefix of them.
+-- Where bytes go, and a call that sends all or only a prefix of them.
 use Rattle.std.specs.Prelude.{◌≤◌, ℕ, take, length, Result, Ok, Err}
 use Rattle.avr_desk.specs.declared.desk.DeskFault.{DeskFault}
 use Rattle.avr_desk.specs.Record.{DeskView, Record, Bytes, Passes, after_write, after_out, after_err}
 use Rattle.avr_desk.specs.declared.stream.Stream.{Stream}
 use Rattle.avr_desk.specs.declared.stream.Stream.TheVariants.{File, Output, Messages}
 
--- these bytes went there
 abbrev pub after_sent : Stream → Bytes → Record → Record
 after_sent File bytes r = after_write bytes r
 after_sent Output bytes r = after_out bytes r
@@ -15,7 +14,7 @@ after_sent Messages bytes r = after_err bytes r
 abbrev pub SendsPart : Stream → DeskView → DeskView → Bytes → Type 0
 SendsPart stream old new bytes = (n : ℕ) × (n ≤ length bytes) × Passes (after_sent stream (take n bytes)) old new
 
--- as many of these bytes went there as were answered; after a fault perhaps a prefix of them
+-- the returned number of these bytes went there; after a fault perhaps a prefix
 abbrev pub SendsTaken : Stream → Bytes → DeskView → DeskView → Result ℕ DeskFault → Type 0
 SendsTaken stream bytes old new (Ok n) = Passes (after_sent stream (take n bytes)) old new
 SendsTaken stream bytes old new (Err fault) = SendsPart stream old new bytes

@@ -10,24 +10,24 @@ use Rattle.avr_desk.specs.declared.record.Opening.{Opening}
 use Rattle.avr_desk.specs.declared.record.Opening.TheVariants.{Absent, Found}
 use Rattle.avr_desk.specs.declared.record.Writing.{Writing}
 
--- these were read of what a name stood for: a prefix of its bytes, all of them where their end was seen
+-- what was read of the bytes of a name: a prefix, all of them if their end was seen
 pub record IsRead (stood : Option Bytes) (bytes : Bytes) (ended : Bool) : Type 0 where
   pub unread : Bytes
   pub whole : stood ≡ Some (bytes ++ unread)
   pub ends : ended ≡ true → unread ≡ []
 
--- an opening that was true when these files had been made: there was nothing of that name, or that was read of it
+-- an opening that was true after these files were made: the name meant nothing, or this was read of it
 abbrev pub IsTrueOpening : Stock → List Writing → Opening → Type 0
 IsTrueOpening stock made (Absent name) = stood_for stock made name ≡ None
 IsTrueOpening stock made (Found reading) = IsRead (stood_for stock made reading.name) reading.bytes reading.ended
 
--- Each opening was true when it was made, of the files that had been made before it: these, and those among the uses.
+-- Each opening was true when it was made, by the files made before it: these, and those among the uses.
 abbrev pub AreTrue : Stock → List Writing → List FileUse → Type 0
 AreTrue stock made [] = Unit {0}
 AreTrue stock made (Opened opening ∷ uses) = IsTrueOpening stock made opening × AreTrue stock made uses
 AreTrue stock made (Created file ∷ uses) = AreTrue stock (made ++ file ∷ []) uses
 
--- of a file that is read the desk holds what its name stands for
+-- the desk holds what the name of the open file means
 abbrev pub IsOpenTrue : Stock → MemDeskState → Open → Type 0
 IsOpenTrue stock m (ToRead reading) =
     (stood_for stock (files_among m.kept.uses) reading.name ≡ Some m.opened)

@@ -1,4 +1,4 @@
--- What a watcher of a desk is told.
+-- What a watcher of a desk receives.
 use Rattle.std.specs.Prelude.{ℕ, Bool, Result, ⊤}
 use Rattle.avr_desk.specs.Record.{Bytes}
 use Rattle.avr_desk.specs.declared.desk.DeskFault.{DeskFault}
@@ -6,7 +6,7 @@ use Rattle.avr_desk.specs.declared.stream.Stream.{Stream}
 use Rattle.avr_desk.specs.declared.watched.DeskCall.{DeskCall}
 use Rattle.avr_desk.specs.declared.watched.DeskCall.TheVariants as call
 
--- a call of a desk that is over: what it was given, and what it answered
+-- a finished call of a desk: its arguments and its result
 pub data ToldOfDesk : Type 0 where
   Opened : Bytes → Result ⊤ DeskFault → ToldOfDesk
   Created : Bytes → Result ⊤ DeskFault → ToldOfDesk
@@ -16,7 +16,6 @@ pub data ToldOfDesk : Type 0 where
   Read : Bytes → Result ℕ DeskFault → ToldOfDesk
   Wrote : Stream → Bytes → Result ℕ DeskFault → ToldOfDesk
 
--- the call, by the bytes that are lent with it
 abbrev pub desk_told : DeskCall → ToldOfDesk
 desk_told (call.Opened name answer) = Opened name.now answer
 desk_told (call.Created name answer) = Created name.now answer

@@ -1,4 +1,4 @@
-//! Writers that keep to the length that the system lets a file have.
+//! Writers that keep to the system's limit on the length of files.
 ghost use Rattle.std.specs.Prelude.{◌≡◌};
 
 use std::fs::File;
@@ -8,12 +8,12 @@ use std::os::fd::AsRawFd;
 use std::rt::Files;
 use std::{fs, io};
 
-/// The resource of `getrlimit` that bounds the length of files.
+/// The resource of `getrlimit` that limits the length of files.
 const LENGTH_OF_FILES: i32 = 1;
 
-/// A writer that fails with `FileTooLarge` if its next byte would go beyond the length that the system lets a file
-/// have. (The system would end the program, by SIGXFSZ. It shortens a write that only ends beyond.) Contracts see it as
-/// the writer.
+/// A writer that fails with `FileTooLarge` if its next byte would exceed the system's limit on the length of files.
+/// The system would end the program by SIGXFSZ; it shortens a write that only ends past the limit. Contracts see the
+/// inner writer.
 #[derive(Drop)]
 pub struct Bounded<W> {
     writer: W,
@@ -26,7 +26,6 @@ impl<W> Model for Bounded<W> {
     ghost view = { λ bounded. bounded.writer };
 }
 
-/// Returns how long the system lets a file be.
 pub(crate) fn longest_file() -> u64 {
     let mut limit = libc::types::rlimit {
         rlim_cur: u64::MAX,
@@ -36,7 +35,7 @@ pub(crate) fn longest_file() -> u64 {
     limit.rlim_cur
 }
 
-/// Creates a file, or empties the one that is there.
+/// Creates or empties a file.
 pub(crate) fn create<R: Files<File = File>>(rt: &R, name: &str) -> io::Result<Bounded<File>> {
     let writer = fs::create(rt, name)?;
     let is_regular = writer.metadata()?.is_file();
@@ -49,7 +48,8 @@ pub(crate) fn create<R: Files<File = File>>(rt: &R, name: &str) -> io::Result<Bo
 }
 
 impl<W> Bounded<W> {
-    /// Bounds a writer to `file`, by a handle of the same regular file; without one it isn't bounded.
+    /// Creates a writer with the limit for `file`, a handle of the same regular file. Without a file there is no
+    /// limit.
     pub fn new(writer: W, file: Option<File>) -> Bounded<W>
         ensures { result ≡ writer }
     {
@@ -58,7 +58,7 @@ impl<W> Bounded<W> {
 }
 
 impl<W: AsRawFd> Bounded<W> {
-    /// Whether no byte more can be written: at the writer's position, or behind the file, as one that appends does.
+    /// Returns whether no more byte fits at the writer's position, or at the end of the file for an appending writer.
     fn is_full(&self) -> bool {
         let Some(Ok(there)) = self.file.as_ref().map(|file| file.metadata()) else {
             return false;

@@ -1,10 +1,10 @@
-//! A list of bytes that is kept.
+//! An owned list of bytes.
 ghost use Rattle.std.specs.Prelude.{◌≡◌, ◌++◌, ℕ, List, [], IfOk, length, is_ok, if◌then◌else◌};
 
 use std::alloc::{AllocError, Global};
 use std::marker::Model;
 
-/// A list of bytes. Contracts see it as that list.
+/// An owned list of bytes. Contracts see it as that list.
 #[derive(Debug, Drop)]
 pub struct Bytes {
     items: Vec<u8>,
@@ -45,7 +45,7 @@ impl Bytes {
         self.items.len()
     }
 
-    /// Appends the bytes; nothing changes where memory is refused.
+    /// Appends the bytes. If allocation fails, nothing changes.
     pub fn extend(&mut self, bytes: &[u8]) -> Result<(), AllocError>
         ensures { self.new ≡ (if is_ok result then self.old ++ bytes.now else self.old) }
     {

@@ -7,8 +7,7 @@ ghost use Rattle.ghosts.specs.Stays.{Stays};
 use crate::desk::{Desk, DeskFault};
 use std::marker::Model;
 
-/// A desk whose nth call fails: it answers the fault, raises the count and changes nothing. All
-/// other calls go to the desk within.
+/// A desk whose nth call fails: it returns the fault and raises the count. All other calls go to the inner desk.
 #[derive(Debug, Drop)]
 pub struct FailingDesk<D> {
     inner: D,
@@ -26,7 +25,7 @@ impl<D> Model for FailingDesk<D> {
 }
 
 impl<D> FailingDesk<D> {
-    /// Over this desk, with the call that fails counted from 1; 0 for none.
+    /// Creates a desk over `inner` whose call `n`, counted from 1, fails; 0 for none.
     pub fn new(inner: D, n: u64) -> FailingDesk<D>
         ensures { result ≡ record { inner = inner; due = n; planned = 0; unsaid = 0 } }
     {
@@ -38,14 +37,14 @@ impl<D> FailingDesk<D> {
         }
     }
 
-    /// The desk within.
+    /// Returns the inner desk.
     pub fn inner(&self) -> &D
         ensures { result.now ≡ self.now.inner }
     {
         &self.inner
     }
 
-    /// Counts a call, and says whether it is the one that fails.
+    /// Counts a call, and returns whether it is the one that fails.
     fn is_due(&mut self) -> bool
         ensures due { result ≡ (self.old.due == 1) }
         ensures same { self.new ≡ record self.old {

@@ -1,4 +1,4 @@
-//! The files of a system by their names, as the desk of a program asks for them.
+//! The files of a system by their names, as a program's desk uses them.
 ghost use Rattle.std.specs.Prelude.{◌≡◌, ⊤, true, IfOk, IfErr, OnOk, MatchOption};
 ghost use Rattle.std.specs.IoError.{error_kind};
 ghost use Rattle.avr_desk.specs.Record.{Bytes};
@@ -10,51 +10,66 @@ use std::io::{ErrorKind, Read, Write};
 use std::rt::Files;
 use std::{fs, io};
 
-/// Opens, creates and replaces the files of a system by their names. Only a call here can say what the ghost members
-/// say of a file or a name. So a desk over any such system can record of a name only what the system answered of it.
+/// Opens, creates and replaces a system's files by their names. Only a call here yields what the ghost members state.
+/// So a desk can record of a name only what the system returned for it.
 ///
-/// A runtime with the system's files is a `FileSystem`. Tests show that it does with a name what it was asked.
+/// A runtime with the system's files is a `FileSystem`. That it does as asked with a name is only tested.
 pub trait FileSystem {
     /// A file that was opened or created.
     type File: Read + Write + Drop;
 
-    /// What holds a file that is to be replaced.
+    /// Holds a file that is to be replaced.
     type Hold: Drop;
 
     /// The file was opened or created by this name.
     ghost is_of: { Self.File → Bytes → Type 0 };
 
-    /// There was no file of this name.
+    /// No file had this name.
     ghost lacks: { Bytes → Type 0 };
 
     /// It holds the file of this name.
     ghost holds: { Self.Hold → Bytes → Type 0 };
 
-    /// Another one held the file of this name.
+    /// Another process held the file of this name.
     ghost denies: { Bytes → Type 0 };
 
-    /// The file of this name was replaced by one of these bytes.
+    /// The file of this name was replaced with these bytes.
     ghost replaced: { Bytes → Bytes → Type 0 };
 
-    /// Opens a file to read. The error is the system's, `NotFound` if there is no such file.
+    /// Opens a file to read.
+    ///
+    /// # Errors
+    ///
+    /// The system's error, `NotFound` if there is no such file.
     fn open_named(&self, name: &str) -> io::Result<Self::File>
         ensures named { IfOk result (λ file. is_of file name.now) }
         ensures absent { IfErr result (λ error. error_kind error ≡ ErrorKind.NotFound → lacks name.now) };
 
-    /// Creates a file, or empties the one that is there. The error is the system's.
+    /// Creates a file, or empties an existing one.
+    ///
+    /// # Errors
+    ///
+    /// The system's error.
     fn create_named(&self, name: &str) -> io::Result<Self::File>
         ensures named { IfOk result (λ file. is_of file name.now) };
 
-    /// Locks the file of this name, which is to be replaced. Returns none if another process has locked it. The error
-    /// is the system's.
+    /// Locks the file of this name, which is to be replaced. Returns `None` if another process has locked it.
+    ///
+    /// # Errors
+    ///
+    /// The system's error.
     fn hold_named(&self, name: &str) -> io::Result<Option<Self::Hold>>
         ensures held { IfOk result (λ answer. MatchOption answer (denies name.now) (λ hold. holds hold name.now)) };
 
-    /// Whether `hold` is of the file of this name.
+    /// Returns whether `hold` is of the file of this name.
     fn is_held(&self, hold: &Self::Hold, name: &str) -> bool
         ensures held { result ≡ true → holds hold.now name.now };
 
-    /// Replaces the file that is held by one of these bytes. The error is the system's.
+    /// Replaces the held file with these bytes.
+    ///
+    /// # Errors
+    ///
+    /// The system's error.
     fn put_held(&self, hold: &mut Self::Hold, bytes: &[u8]) -> io::Result<()>
         ensures put { OnOk result ((name : Bytes) → holds hold.old name → replaced name bytes.now) }
         ensures stays { (name : Bytes) → holds hold.old name → holds hold.new name };

@@ -1,4 +1,4 @@
-//! A whole file over a desk.
+//! Reads a whole file over a desk.
 ghost use Rattle.std.specs.Prelude.{◌≡◌, IfOk};
 ghost use Rattle.avr_desk.specs.Files.{file_fault_number, FaultCounts, IsWhole, ReadsOpen, ReadsFile};
 ghost use Rattle.ghosts.specs.Stays.{Stays};
@@ -8,7 +8,6 @@ use crate::desk::{Desk, DeskFault};
 use std::alloc::Global;
 use thiserror::Error;
 
-/// The most bytes that are asked of a desk at a time.
 const PIECE: usize = 4096;
 
 /// Why a file was not read.
@@ -17,19 +16,19 @@ pub enum FileFault {
     /// The desk has no such file.
     #[error("cannot be opened")]
     Absent,
-    /// The desk failed as it opened the file.
+    /// The desk failed to open the file.
     #[error("cannot be opened")]
     NotOpened,
-    /// The desk failed as it read the file.
+    /// The desk failed to read the file.
     #[error("cannot be read")]
     NotRead,
-    /// There was no memory for the bytes.
+    /// Allocation for the bytes failed.
     #[error("out of memory")]
     Memory,
 }
 
 impl FileFault {
-    /// The fault's number, from 1 on, which no later version changes.
+    /// Returns the fault's number, from 1 on, which no later version changes.
     pub fn number(&self) -> u8
         ensures { result ≡ file_fault_number self.now }
     {
@@ -46,11 +45,15 @@ impl FileFault {
 #[derive(Debug, Drop)]
 pub struct Contents {
     pub bytes: Bytes,
-    /// The end was seen; else the bytes are more than the limit.
+    /// Whether the end was seen; else there are more bytes than the limit.
     pub ended: bool,
 }
 
 /// Reads a file to its end, or until more than `limit` bytes came, in pieces of at most 4,096.
+///
+/// # Errors
+///
+/// `Absent` if there is no such file; `NotOpened` or `NotRead` if the desk fails; `Memory` if allocation fails.
 pub fn read_file<D: Desk>(
     alloc: Global,
     desk: &mut D,

@@ -82,7 +82,6 @@ impl Kept {
         self.uses.as_slice()
     }
 
-    /// The bytes that the open file has given.
     pub fn given(&self) -> &[u8]
         ensures { result.now ≡ bytes_given self.now.current }
     {
@@ -92,7 +91,7 @@ impl Kept {
         }
     }
 
-    /// The bytes of the file of this name that was created last; `older` where none was.
+    /// Returns the bytes of the newest file created with this name, else `older`.
     #[tactic(auto, using(crate::proofs::FileUses::Names::newest_append))]
     pub fn created<'a>(&'a self, older: Option<&'a [u8]>, name: &[u8]) -> Option<&'a [u8]>
         ensures { option_copied result ≡ newest name.now (option_copied older.entry) (all_files self.now) }
@@ -116,7 +115,7 @@ impl Kept {
         self.messages.extend(bytes)
     }
 
-    /// Puts the open file by, adds `last` to the uses, and has `next` open.
+    /// Closes the open file, adds `last` to the uses, and opens `next`.
     fn close_current(&mut self, last: Option<FileUse>, next: Open) -> Result<(), AllocError>
         ensures { self.new ≡ (if is_ok result
             then record self.old { uses = all_uses self.old ++ option_to_list last; current = next }
@@ -137,14 +136,13 @@ impl Kept {
         Ok(())
     }
 
-    /// Puts the open file by, and has another one open.
     pub fn begin(&mut self, next: Open) -> Result<(), AllocError>
         ensures { self.new ≡ (if is_ok result then with_open next self.old else self.old) }
     {
         self.close_current(None, next)
     }
 
-    /// Puts the open file by, and notes that there is no file of this name.
+    /// Closes the open file, and notes that no file has this name.
     pub fn note_absent(&mut self, name: Bytes) -> Result<(), AllocError>
         ensures { self.new ≡ (if is_ok result then with_absent name self.old else self.old) }
     {
@@ -152,7 +150,6 @@ impl Kept {
         self.close_current(Some(FileUse::Opened(absent)), Open::Closed)
     }
 
-    /// Whether the file of this name is held.
     pub fn holds(&self, name: &[u8]) -> bool
         ensures { result ≡ holds name.now self.now }
     {
@@ -162,14 +159,12 @@ impl Kept {
         }
     }
 
-    /// The file of this name is held, and no other one.
     pub fn hold(&mut self, name: Bytes)
         ensures { self.new ≡ with_held name self.old }
     {
         self.held = Some(name);
     }
 
-    /// Notes that the file of this name was held already.
     pub fn deny(&mut self, name: Bytes) -> Result<(), AllocError>
         ensures { self.new ≡ (if is_ok result then with_denied name self.old else self.old) }
     {
@@ -177,14 +172,13 @@ impl Kept {
         Ok(())
     }
 
-    /// Nothing is held any more.
     pub fn release(&mut self)
         ensures { self.new ≡ with_none_held self.old }
     {
         self.held = None;
     }
 
-    /// Puts the open file by, and adds a file that was written whole. Nothing is held any more.
+    /// Closes the open file, and adds a file that was written whole.
     pub fn add(&mut self, file: Writing) -> Result<(), AllocError>
         ensures { self.new ≡ (if is_ok result then with_replaced file.name file.bytes self.old else self.old) }
     {

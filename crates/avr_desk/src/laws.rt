@@ -13,11 +13,11 @@ use crate::mem_desk::MemDesk;
 use crate::system::SystemDesk;
 use std::io::Write;
 
-/// Whatever was done with a desk in memory, each opening that it shows gave what its name stood for then, by the files
-/// that it shows to have been made before: a prefix of the bytes of the newest one, all of them where the end was seen,
-/// and nothing where there was no file.
+/// Whatever was done with a desk in memory, each opening that it shows gave what its name meant then, by the files
+/// made before. That is a prefix of the newest file's bytes, all of them if the end was seen, or nothing if there was
+/// no file.
 ///
-/// What it asks for is what each call over a [`crate::Desk`] promises, and so all that is made of such calls.
+/// Every call over a [`crate::Desk`] promises the precondition, and so does all code made of such calls.
 pub fn what_a_desk_in_memory_gives_is_true(before: &MemDesk, after: &MemDesk)
     requires { Stays HoldsTrue before.now after.now }
     ensures begins { (fresh : MemDeskState) → fresh.kept ≡ nothing_kept
@@ -26,9 +26,9 @@ pub fn what_a_desk_in_memory_gives_is_true(before: &MemDesk, after: &MemDesk)
         → AreTrue stock [] (all_uses after.now.kept) }
 {}
 
-/// Whatever was done with the desk of a program, its record is true. Of its writers: their bytes, where they are known,
-/// have grown by what was sent to the messages, and to the output as long as no file is the output too. Of files and
-/// standard input: the system answered so, of the names that it was asked for.
+/// Whatever was done with a program's desk, its record is true. A writer's known bytes grew by what was sent to the
+/// messages, or to the output while no file is the output too. For files and standard input the record is what the
+/// system returned for the names asked.
 pub fn what_a_desk_of_a_program_keeps_is_true<
     'a,
     R: FileSystem + Input,

@@ -1,11 +1,11 @@
-//! What a run reads and writes beside its link: files, standard input and output, messages.
+//! What a run reads and writes besides its link: files, standard input and output, messages.
 //!
-//! The one idea: what was asked of a desk and what it gave is one record, so that a contract of a
-//! caller can say what was opened, created, printed and reported, over any desk that shows it.
+//! What was asked of a desk and what it gave is one record. So a caller's contract can state what was opened,
+//! created, printed and reported, over any desk that shows it.
 //!
-//! `read_file(alloc, &mut desk, "a.hex", 65_536)?` reads a file whole, `write_all(&mut desk,
-//! Stream::Messages, b"done\n")?` writes bytes to a stream, and `print_error(&mut desk, &[Piece::Text("command "),
-//! Piece::Byte(0x10), Piece::Text(": bad answer")])?` prints the line `avrstk: error: command 10: bad answer`.
+//! `read_file(alloc, &mut desk, "a.hex", 65_536)?` reads a file whole. `write_all(&mut desk, Stream::Messages,
+//! b"done\n")?` writes bytes to a stream. `print_error(&mut desk, &[Piece::Text("command "), Piece::Byte(0x10),
+//! Piece::Text(": bad answer")])?` prints the line `avrstk: error: command 10: bad answer`.
 #![tactic(auto)]
 
 // What a desk is, and what it keeps of a run.

@@ -14,20 +14,19 @@ use crate::stream::{Stream, write_all};
 use arrayvec::{ArrayVec, CapacityError};
 use byteorder::{BigEndian, ByteOrder};
 
-/// The longest line that is written at once, with its LF: a pipe takes so many bytes whole.
+/// The longest line that is written at once, with its LF: a pipe takes that many bytes whole.
 const AT_ONCE: usize = 4096;
 
-/// A line that is gathered to be written at once.
 type Gathered = ArrayVec<u8, AT_ONCE>;
 
 /// A piece of a line.
 #[derive(Clone, Copy, Debug)]
 pub enum Piece<'a> {
-    /// A text as it is. Nothing in it is escaped.
+    /// A text as it is; nothing is escaped.
     Text(&'a str),
     /// A byte as two upper-case hexadecimal digits, as `0F`.
     Byte(u8),
-    /// The three bytes of a signature, so written, with a blank between two, as `1E 95 0F`.
+    /// The three bytes of a signature, with blanks between them, as `1E 95 0F`.
     Signature([u8; 3]),
     /// A byte address as eight upper-case hexadecimal digits, as `00010000`.
     Address(u32),
@@ -35,7 +34,6 @@ pub enum Piece<'a> {
     Number(u32),
 }
 
-/// A byte as two upper-case hexadecimal digits.
 #[tactic(auto, unfolding(crate::specs::Lines::digits))]
 fn digits(byte: u8) -> [u8; 2]
     ensures { result ≡ digits (byte ∷ []) }
@@ -46,7 +44,6 @@ fn digits(byte: u8) -> [u8; 2]
     [high.to_ascii_uppercase(), low.to_ascii_uppercase()]
 }
 
-/// An address as eight upper-case hexadecimal digits.
 fn address_digits(address: u32) -> [u8; 8]
     ensures { result ≡ digits (big_bytes 4 address) }
 {
@@ -60,7 +57,6 @@ fn address_digits(address: u32) -> [u8; 8]
     [a, b, c, d, e, f, g, h]
 }
 
-/// A signature as digits, with a blank between two bytes.
 fn spaced(signature: [u8; 3]) -> [u8; 8]
     ensures { result ≡ spaced_digits signature }
 {
@@ -71,7 +67,6 @@ fn spaced(signature: [u8; 3]) -> [u8; 8]
     [a, b, b' ', c, d, b' ', e, f]
 }
 
-/// Writes a number's decimal digits to the messages.
 fn write_number<D: Desk>(desk: &mut D, number: u32) -> Result<(), DeskFault>
     ensures all { OnOk result (Passes (after_err (decimal number)) (D.view desk.old) (D.view desk.new)) }
     ensures part { OnErr result (SendsPart Stream.Messages (D.view desk.old) (D.view desk.new) (decimal number)) }
@@ -125,7 +120,7 @@ fn end_line<D: Desk>(desk: &mut D) -> Result<(), DeskFault>
     write_all(desk, Stream::Messages, b"\n")
 }
 
-/// Appends the text of a piece to a line; nothing changes if there is no room for it.
+/// Appends the text of a piece, unless there is no room for it.
 fn add_piece(line: &mut Gathered, piece: &Piece<'_>) -> Result<(), CapacityError>
     ensures added { OnOk result (line.new.items ≡ line.old.items ++ text_of piece.now) }
     ensures full { OnErr result (AT_ONCE < length line.old.items + length (text_of piece.now)) }
@@ -141,7 +136,7 @@ fn add_piece(line: &mut Gathered, piece: &Piece<'_>) -> Result<(), CapacityError
     }
 }
 
-/// Gathers a line that begins with this mark; an error if it is longer than what is written at once.
+/// Gathers a line, unless it is longer than what is written at once.
 fn gathered(mark: &str, pieces: &[Piece<'_>]) -> Result<Gathered, CapacityError>
     ensures whole { IfOk result (λ it. it.items ≡ line mark.now (map text_of pieces.now)) }
     ensures long { OnErr result (AT_ONCE < length (line mark.now (map text_of pieces.now))) }
@@ -155,7 +150,6 @@ fn gathered(mark: &str, pieces: &[Piece<'_>]) -> Result<Gathered, CapacityError>
     Ok(line)
 }
 
-/// Prints a line that begins with this mark, piece by piece.
 fn print_by_pieces<D: Desk>(desk: &mut D, mark: &str, pieces: &[Piece<'_>]) -> Result<(), DeskFault>
     ensures printed { IsPrinted (D.view desk.old) (D.view desk.new) (line mark.now (map text_of pieces.now)) result }
     ensures counts { Counts Stream.Messages (D.view desk.old) (D.view desk.new) result }
@@ -167,8 +161,7 @@ fn print_by_pieces<D: Desk>(desk: &mut D, mark: &str, pieces: &[Piece<'_>]) -> R
     end_line(desk)
 }
 
-/// Prints a line that begins with this mark: in one write, so that other programs' lines don't come between its pieces,
-/// or else piece by piece.
+/// Prints a line in one write, so that other programs' lines don't come in between. A longer one goes by pieces.
 fn print_line<D: Desk>(desk: &mut D, mark: &str, pieces: &[Piece<'_>]) -> Result<(), DeskFault>
     ensures printed { IsPrinted (D.view desk.old) (D.view desk.new) (line mark.now (map text_of pieces.now)) result }
     ensures counts { Counts Stream.Messages (D.view desk.old) (D.view desk.new) result }
@@ -181,8 +174,11 @@ fn print_line<D: Desk>(desk: &mut D, mark: &str, pieces: &[Piece<'_>]) -> Result
     }
 }
 
-/// Prints a line of information to the desk's messages: `avrstk: `, the pieces and LF. The one fault
-/// is `Failed`, which comes where the desk failed; a prefix of the line was printed then, and no more.
+/// Prints a line of information to the desk's messages: `avrstk: `, the pieces and LF.
+///
+/// # Errors
+///
+/// `Failed` if the desk fails; a prefix of the line was then printed.
 ///
 /// ```text
 /// let signature = Piece::Signature([0x1E, 0x95, 0x0F]);
@@ -198,7 +194,11 @@ pub fn print_information<D: Desk>(desk: &mut D, pieces: &[Piece<'_>]) -> Result<
     print_line(desk, "avrstk: ", pieces)
 }
 
-/// Prints a warning, as [`print_information`] prints a line, after `avrstk: warning: `.
+/// Prints a warning after `avrstk: warning: `, as [`print_information`] prints a line.
+///
+/// # Errors
+///
+/// Those of [`print_information`].
 ///
 /// ```text
 /// print_warning(&mut desk, &[Piece::Text("a.hex"), Piece::Text(": no end record")])?;
@@ -213,7 +213,11 @@ pub fn print_warning<D: Desk>(desk: &mut D, pieces: &[Piece<'_>]) -> Result<(), 
     print_line(desk, "avrstk: warning: ", pieces)
 }
 
-/// Prints an error, as [`print_information`] prints a line, after `avrstk: error: `.
+/// Prints an error after `avrstk: error: `, as [`print_information`] prints a line.
+///
+/// # Errors
+///
+/// Those of [`print_information`].
 ///
 /// ```text
 /// let pieces = [Piece::Text("command "), Piece::Byte(0x10), Piece::Text(": bad answer")];

@@ -11,8 +11,7 @@ use std::marker::Model;
 
 /// A desk that holds files, input, output and messages in memory, and shows all that passed.
 ///
-/// A growth that is refused within a call is a failure of the desk, which counts it and changes
-/// nothing else.
+/// If allocation fails within a call, the call fails and is counted; nothing else changes.
 #[derive(Debug, Drop)]
 pub struct MemDesk {
     alloc: Global,
@@ -39,7 +38,7 @@ impl Model for MemDesk {
     } };
 }
 
-/// The bytes from `at` on, at most `room` of them.
+/// Returns at most `room` of the bytes from `at` on.
 fn next_bytes(bytes: &[u8], at: usize, room: usize) -> &[u8]
     ensures { result.now ≡ take room (drop at bytes.now) }
 {
@@ -53,7 +52,6 @@ fn next_bytes(bytes: &[u8], at: usize, room: usize) -> &[u8]
     }
 }
 
-/// Copies the bytes to the start of the buffer.
 fn copy_prefix(bytes: &[u8], buf: &mut [u8]) -> usize
     requires { length bytes.now ≤ length buf.old }
     ensures count { result ≡ length bytes.now }
@@ -63,7 +61,6 @@ fn copy_prefix(bytes: &[u8], buf: &mut [u8]) -> usize
     bytes.len()
 }
 
-/// Whether nothing was read though there was room for it.
 fn is_end(count: usize, room: usize) -> bool
     ensures { result ≡ (count == 0 && not (room == 0)) }
 {
@@ -77,7 +74,7 @@ impl MemDesk {
     ghost use Rattle.avr_desk.specs.Memory.{contents, file_named, memory_view, stock_of};
     ghost use Rattle.avr_desk.specs.Record.{all_files};
 
-    /// A desk with no files, whose standard input is empty.
+    /// Creates a desk without files, with an empty standard input.
     ///
     /// ```text
     /// let mut desk = MemDesk::new(alloc);
@@ -97,8 +94,7 @@ impl MemDesk {
         MemDesk::with_input(alloc, Bytes::new(alloc))
     }
 
-    /// A desk with no files, whose standard input has these bytes: what opening the name `-` gives,
-    /// each time anew.
+    /// Creates a desk without files. Its standard input has these bytes, from the start each time `-` is opened.
     pub fn with_input(alloc: Global, input: Bytes) -> MemDesk
         ensures { result ≡ record {
           kept = nothing_kept;
@@ -120,7 +116,11 @@ impl MemDesk {
         }
     }
 
-    /// Puts a file there, which a later one of its name replaces; so does one that is created.
+    /// Puts a file there. A later one of its name, put or created, replaces it.
+    ///
+    /// # Errors
+    ///
+    /// `AllocError` if allocation fails; nothing is then put.
     pub fn put(&mut self, name: &str, bytes: &[u8]) -> Result<(), AllocError>
         ensures { self.new ≡ (if is_ok result then record self.old
             { stored = self.old.stored ++ record { name = name.now; bytes = bytes.now } ∷ [] } else self.old) }
@@ -131,8 +131,7 @@ impl MemDesk {
         Ok(())
     }
 
-    /// The bytes of a file: what was written to it since it was created last, else what was put
-    /// there last.
+    /// Returns the bytes of a file: what was written since it was last created, else what was last put there.
     #[tactic(auto, using(crate::proofs::FileUses::Names::newest_append))]
     pub fn file(&self, name: &str) -> Option<&[u8]>
         ensures { option_copied result
@@ -143,28 +142,28 @@ impl MemDesk {
             .created(newest(None, self.stored.as_slice(), name), name)
     }
 
-    /// The standard output.
+    /// Returns the standard output.
     pub fn output(&self) -> &[u8]
         ensures { result.now ≡ self.now.kept.output }
     {
         self.kept.output()
     }
 
-    /// The messages.
+    /// Returns the messages.
     pub fn messages(&self) -> &[u8]
         ensures { result.now ≡ self.now.kept.messages }
     {
         self.kept.messages()
     }
 
-    /// The openings that are over and the files that are done, in their order.
+    /// Returns the openings that are over and the files that are done, in their order.
     pub fn uses(&self) -> &[FileUse]
         ensures { result.now ≡ self.now.kept.uses }
     {
         self.kept.uses()
     }
 
-    /// What a name stands for when it is opened.
+    /// Returns the bytes that a name means when it is opened.
     fn contents(&self, name: &str) -> Option<&[u8]>
         ensures { option_copied result ≡ contents name.now self.now }
     {
@@ -175,7 +174,6 @@ impl MemDesk {
         }
     }
 
-    /// Counts a failure.
     fn fail(&mut self) -> DeskFault
         ensures fault { result ≡ DeskFault.Failed }
         ensures same { self.new ≡ record self.old { failures = self.new.failures } }
@@ -186,7 +184,6 @@ impl MemDesk {
         DeskFault::Failed
     }
 
-    /// Counts a failure at the messages.
     fn fail_to_say(&mut self) -> DeskFault
         ensures fault { result ≡ DeskFault.Failed }
         ensures same { self.new ≡ record self.old { failures = self.new.failures; unsaid = self.new.unsaid } }

@@ -12,7 +12,7 @@ use std::marker::Model;
 /// The most pieces of a message.
 const MOST: usize = 8;
 
-/// What a line says: at most eight pieces. Contracts see it as the list of their texts.
+/// The text of a line, in at most eight pieces. Contracts see it as the list of their texts.
 #[derive(Debug, Drop)]
 pub struct Message<'a> {
     pieces: [Piece<'a>; MOST],
@@ -31,7 +31,7 @@ impl<'a> Model for Message<'a> {
 }
 
 impl<'a> Message<'a> {
-    /// The message of these pieces.
+    /// Creates a message of these pieces.
     ///
     /// ```text
     /// let message = Message::new(&[Piece::Text("command "), Piece::Byte(0x10), Piece::Text(": bad answer")]);
@@ -49,21 +49,21 @@ impl<'a> Message<'a> {
         }
     }
 
-    /// The message of one text.
+    /// Creates a message of one text.
     pub fn text(text: &'a str) -> Message<'a>
         ensures { result ≡ text.now ∷ [] }
     {
         Message::new(&[Piece::Text(text)])
     }
 
-    /// The message of a name, of a file or of a memory, and what is reported of it.
+    /// Creates a message of a name, such as a file or a memory, and a text about it.
     pub fn about(name: &'a str, text: &'a str) -> Message<'a>
         ensures { result ≡ name.now ∷ text.now ∷ [] }
     {
         Message::new(&[Piece::Text(name), Piece::Text(text)])
     }
 
-    /// Its pieces.
+    /// Returns its pieces.
     pub fn pieces(&self) -> &[Piece<'a>]
         ensures { map text_of result.now ≡ self.now }
     {
@@ -71,7 +71,7 @@ impl<'a> Message<'a> {
     }
 }
 
-/// Prints an error of this message, as far as the desk takes it, and answers the status of what is refused, 1.
+/// Prints an error with this message, as far as the desk takes it. Returns the status of a refusal, 1.
 pub fn refuse<D: Desk>(desk: &mut D, message: &Message<'_>) -> u8
     ensures status { result ≡ 1 }
     ensures told { Tells (D.view desk.old) (D.view desk.new) (error message.now) }
@@ -81,15 +81,15 @@ pub fn refuse<D: Desk>(desk: &mut D, message: &Message<'_>) -> u8
     1
 }
 
-/// Memory was refused: `out of memory`.
+/// Returns the message that allocation failed: `out of memory`.
 pub fn memory_message<'a>() -> Message<'a>
     ensures { result ≡ memory_pieces }
 {
     Message::text("out of memory")
 }
 
-/// Why a file was not read: `FILE: cannot be opened`, also where it is not there, `FILE: cannot be read` or `out of
-/// memory`.
+/// Returns why a file was not read: `FILE: cannot be opened`, also if it doesn't exist; `FILE: cannot be read`; or
+/// `out of memory`.
 pub fn file_message<'a>(file: &'a str, fault: FileFault) -> Message<'a>
     ensures { result ≡ file_pieces file.now fault }
 {
@@ -100,7 +100,7 @@ pub fn file_message<'a>(file: &'a str, fault: FileFault) -> Message<'a>
     }
 }
 
-/// A file has more bytes than `limit`: `FILE: longer than 65536 bytes`.
+/// Returns the message for a file of more than `limit` bytes: `FILE: longer than 65536 bytes`.
 pub fn too_long_message<'a>(file: &'a str, limit: u32) -> Message<'a>
     ensures { result ≡ too_long_pieces file.now limit }
 {
@@ -112,14 +112,14 @@ pub fn too_long_message<'a>(file: &'a str, limit: u32) -> Message<'a>
     ])
 }
 
-/// A file could not be created: `FILE: cannot be created`.
+/// Returns the message for a file that couldn't be created: `FILE: cannot be created`.
 pub fn not_created_message<'a>(file: &'a str) -> Message<'a>
     ensures { result ≡ not_created_pieces file.now }
 {
     Message::about(file, ": cannot be created")
 }
 
-/// A file that was created could not be written to its end: `FILE: cannot be written`.
+/// Returns the message for a created file that couldn't be written to its end: `FILE: cannot be written`.
 pub fn not_written_message<'a>(file: &'a str) -> Message<'a>
     ensures { result ≡ not_written_pieces file.now }
 {

@@ -11,11 +11,11 @@ use crate::bytes::Bytes;
 pub struct Reading {
     pub name: Bytes,
     pub bytes: Bytes,
-    /// The end was seen.
+    /// Whether the end was seen.
     pub ended: bool,
 }
 
-/// A file that was created, with the bytes that were written so far.
+/// A created file, with the bytes written so far.
 #[derive(Debug, Drop)]
 pub struct Writing {
     pub name: Bytes,
@@ -25,7 +25,7 @@ pub struct Writing {
 /// What one opening gave.
 #[derive(Debug, Drop)]
 pub enum Opening {
-    /// There was no file of this name.
+    /// No file has this name.
     Absent(Bytes),
     Found(Reading),
 }
@@ -33,13 +33,13 @@ pub enum Opening {
 /// A use of a file that is over.
 #[derive(Debug, Drop)]
 pub enum FileUse {
-    /// It was opened to be read.
+    /// It was opened to read.
     Opened(Opening),
     /// It was created, or replaced.
     Created(Writing),
 }
 
-/// The file that is open.
+/// The open file.
 #[derive(Debug, Drop)]
 pub enum Open {
     Closed,
@@ -50,7 +50,7 @@ pub enum Open {
 impl Writing {
     ghost use Rattle.avr_desk.specs.Named.{or_older};
 
-    /// The file's bytes if it has this name, else `older`.
+    /// Returns the file's bytes if it has this name, else `older`.
     pub(crate) fn or_older<'a>(&'a self, older: Option<&'a [u8]>, name: &[u8]) -> Option<&'a [u8]>
         ensures { option_copied result ≡ or_older name.now (option_copied older.entry) self.now }
     {
@@ -62,7 +62,6 @@ impl Writing {
     }
 }
 
-/// The bytes of the last file of this name, else `older`.
 pub(crate) fn newest<'a>(
     older: Option<&'a [u8]>,
     files: &'a [Writing],
@@ -77,7 +76,7 @@ pub(crate) fn newest<'a>(
     found
 }
 
-/// The bytes of the last file of this name that was created among these uses, else `older`.
+/// Returns the bytes of the last such file created among these uses, else `older`.
 pub(crate) fn newest_created<'a>(
     older: Option<&'a [u8]>,
     uses: &'a [FileUse],

@@ -1,10 +1,10 @@
-//! A file is replaced by another one, whole or not at all, by one program at a time.
+//! Replaces a file whole or not at all, by one program at a time.
 //!
-//! The new file is made beside the one that it replaces, under its name with `.avrstk-new`. The program that has locked
-//! the new file holds the old one, until the new one is renamed or removed; where a program ends the system unlocks it.
+//! The new file is made beside the old one, under its name with `.avrstk-new`. The program that has locked the new
+//! file holds the old one, until the new one is renamed or removed. If a program ends, the system unlocks it.
 //!
-//! A new file is empty until its bytes are written, and has a mark while they are. So what is neither was not made
-//! here, and is left alone.
+//! A new file is empty until its bytes are written, and marked while they are. Any other file was not made here, and
+//! is left alone.
 ghost use Rattle.std.specs.Prelude.{Option, OnOk};
 ghost use Rattle.avr_desk.specs.Handles.{IsHeldBy};
 ghost use Rattle.avr_desk.specs.Record.{Bytes};
@@ -18,13 +18,13 @@ use std::os::unix::fs::{MetadataExt, PermissionsExt, fchown};
 use std::rt::Files;
 use std::{fs, io};
 
-/// How often a new file is opened again that another program has put in place or removed in the meantime.
+/// How often a new file is opened again after another program put it in place or removed it.
 const ATTEMPTS: u32 = 100;
 
-/// The bits of a mode that a new file takes over from the old one: no setuid, no setgid.
+/// The mode bits that a new file takes over from the old one: no setuid, no setgid.
 const PERMISSIONS: u32 = 0o777;
 
-/// The mark of a file whose bytes are being written: the sticky bit, which means nothing at a regular file.
+/// The mark of a file whose bytes are being written: the sticky bit, which has no meaning for a regular file.
 const MARK: u32 = 0o1000;
 
 /// The new file, which is renamed to `target`.
@@ -36,19 +36,18 @@ struct NewFile {
     is_begun: bool,
 }
 
-/// What takes the place of the file of this name. Without a new file it is written as it is, and not locked.
+/// Replaces the file of this name. Without a new file, it is written in place and not locked.
 #[derive(Drop)]
 pub struct Replacement {
     name: String,
     new: Option<NewFile>,
 }
 
-/// Whether both are one file.
 fn is_same(one: &Metadata, other: &Metadata) -> bool {
     one.ino() == other.ino() && one.dev() == other.dev()
 }
 
-/// Whether this open file is still the one of this path.
+/// Returns whether this open file is still the one at the path.
 fn is_at<R: Files>(rt: &R, file: &File, path: &str) -> io::Result<bool> {
     match fs::symlink_metadata(rt, path) {
         Ok(there) => Ok(is_same(&file.metadata()?, &there)),
@@ -57,17 +56,16 @@ fn is_at<R: Files>(rt: &R, file: &File, path: &str) -> io::Result<bool> {
     }
 }
 
-/// Whether a program that was ended may have left this file: a regular file of one name, which is empty or marked.
+/// Returns whether an ended program may have left this file: a regular file with one name that is empty or marked.
 fn is_left(there: &Metadata) -> bool {
     there.is_file() && there.nlink() <= 1 && (there.len() == 0 || there.mode() & MARK != 0)
 }
 
-/// The error of a file that is not ours.
 fn not_ours() -> io::Error {
     io::Error::from(ErrorKind::AlreadyExists)
 }
 
-/// What was opened; none if it failed for this reason.
+/// Returns `None` if opening failed for this reason.
 fn unless(opened: io::Result<File>, reason: ErrorKind) -> io::Result<Option<File>> {
     match opened {
         Ok(file) => Ok(Some(file)),
@@ -76,8 +74,8 @@ fn unless(opened: io::Result<File>, reason: ErrorKind) -> io::Result<Option<File
     }
 }
 
-/// Opens the file of this path, or makes it; none if another program made or removed it just now. Any file that no
-/// program here can have left is refused, and so is a link.
+/// Opens or makes the file at this path, or returns `None` if another program just made or removed it. It refuses
+/// links and files that no program here can have left.
 fn open_or_make<R: Files<File = File>>(rt: &R, path: &str) -> io::Result<Option<File>> {
     let mut options = OpenOptions::new();
     options.read(true).write(true);
@@ -92,7 +90,7 @@ fn open_or_make<R: Files<File = File>>(rt: &R, path: &str) -> io::Result<Option<
     }
 }
 
-/// Locks the file; false where another one has locked it.
+/// Locks the file. Returns false if another process has.
 fn lock(file: &File) -> io::Result<bool> {
     match file.try_lock() {
         Ok(()) => Ok(true),
@@ -101,7 +99,7 @@ fn lock(file: &File) -> io::Result<bool> {
     }
 }
 
-/// Opens or makes the file of this path and locks it; none where another one has locked it.
+/// Opens or makes the file at this path and locks it. Returns `None` if another process has locked it.
 fn open_locked<R: Files<File = File>>(rt: &R, path: &str) -> io::Result<Option<File>> {
     for _ in 0..ATTEMPTS {
         if let Some(file) = open_or_make(rt, path)? {
@@ -116,7 +114,7 @@ fn open_locked<R: Files<File = File>>(rt: &R, path: &str) -> io::Result<Option<F
     Err(io::Error::from(ErrorKind::WouldBlock))
 }
 
-/// Makes a file that is locked an empty one without the mark. (The file was opened by its name, so it is judged again.)
+/// Empties a locked file and removes its mark. The file is checked again because it was opened by its name.
 fn empty(file: &File) -> io::Result<()> {
     let there = file.metadata()?;
     if !is_left(&there) {
@@ -131,7 +129,7 @@ fn empty(file: &File) -> io::Result<()> {
     Ok(())
 }
 
-/// Gives the file the group and the owner of the file of this path, as far as the system allows it.
+/// Gives the file the group and owner of the one at `target`, as far as the system allows.
 fn give_owner<R: Files>(rt: &R, file: &File, target: &str) -> io::Result<()> {
     let own = file.metadata()?;
     if let Ok(old) = fs::metadata(rt, target) {
@@ -145,8 +143,7 @@ fn give_owner<R: Files>(rt: &R, file: &File, target: &str) -> io::Result<()> {
     Ok(())
 }
 
-/// Waits until the name of the file of this path is on the disk. A folder that can't be opened, or that the system
-/// can't wait for, is passed over.
+/// Waits until the file's name is on the disk. It ignores a folder that can't be opened or synchronized.
 fn sync_folder<R: Files<File = File>>(rt: &R, path: &str) -> io::Result<()> {
     let folder = match path.rsplit_once('/') {
         Some(("", _)) => "/",
@@ -162,20 +159,19 @@ fn sync_folder<R: Files<File = File>>(rt: &R, path: &str) -> io::Result<()> {
     }
 }
 
-/// Whether there is a link of this name, to whatever.
 fn is_link<R: Files>(rt: &R, name: &str) -> bool {
     matches!(fs::symlink_metadata(rt, name), Ok(there) if there.is_symlink())
 }
 
-/// The path of the regular file that is to be replaced: the one that a link leads to. None where what is there is no
-/// regular file, or a link to nothing.
+/// Returns the path of the regular file to replace, following links. Returns `None` for anything but a regular file,
+/// and for a link to nothing.
 fn target_of<R: Files<File = File> + Alloc<A = Global>>(
     rt: &R,
     name: &str,
 ) -> io::Result<Option<String>> {
     match fs::metadata(rt, name) {
         Ok(old) if old.is_file() => {
-            // refused where it may not be written
+            // Fails if the file may not be written.
             OpenOptions::new().write(true).open(rt, name)?;
             Ok(Some(fs::canonicalize(rt, name)?.into_string()))
         }
@@ -191,12 +187,12 @@ fn target_of<R: Files<File = File> + Alloc<A = Global>>(
 }
 
 impl NewFile {
-    /// Whether nobody else has written to the file.
+    /// Returns whether no one else has written to the file.
     fn is_own(&self) -> io::Result<bool> {
         Ok(self.is_begun || self.file.metadata()?.len() == 0)
     }
 
-    /// The permissions that the file will have: those of the old one, or else its own.
+    /// Returns the permissions that the file will have: the old one's, else its own.
     fn permissions<R: Files>(&self, rt: &R) -> io::Result<u32> {
         let like = match fs::metadata(rt, self.target.as_str()) {
             Ok(old) => old,
@@ -227,8 +223,8 @@ impl NewFile {
         self.file.sync_all()
     }
 
-    /// Puts a file of these bytes in place, and waits until it is on the disk under its name. Nothing is put in place
-    /// if another program wrote to the file, or if it is no longer the one of its path.
+    /// Puts a file of these bytes in place, and waits until it is on the disk under its name. Fails if another
+    /// program wrote to the file, or if it is no longer the one at its path.
     fn put<R: Files<File = File>>(&mut self, rt: &R, bytes: &[u8]) -> io::Result<()> {
         if !self.is_own()? {
             return Err(not_ours());
@@ -242,14 +238,14 @@ impl NewFile {
             return Err(not_ours());
         }
         fs::rename(rt, self.path.as_str(), self.target.as_str())?;
-        // the file is in place, whether or not this takes its mark away
+        // The file is in place, even if its mark can't be removed.
         let _ = self
             .file
             .set_permissions(Permissions::from_mode(permissions));
         sync_folder(rt, self.target.as_str())
     }
 
-    /// Removes the file, unless it was put in place or is another one by now.
+    /// Removes the file, unless it was put in place or another one has its path.
     fn remove<R: Files>(&self, rt: &R) {
         let is_there = matches!(is_at(rt, &self.file, self.path.as_str()), Ok(true));
         if is_there && matches!(self.is_own(), Ok(true)) {
@@ -259,7 +255,7 @@ impl NewFile {
 }
 
 impl Replacement {
-    /// Holds the file of this name; none where another one does.
+    /// Holds the file of this name. Returns `None` if another process does.
     pub(crate) fn begin<R: Files<File = File> + Alloc<A = Global>>(
         rt: &R,
         name: &str,
@@ -289,12 +285,10 @@ impl Replacement {
         }))
     }
 
-    /// Whether it is for the file of this name.
     pub(crate) fn is_of(&self, name: &str) -> bool {
         self.name.as_str() == name
     }
 
-    /// Puts these bytes in the place of the file.
     pub(crate) fn put<R: Files<File = File>>(&mut self, rt: &R, bytes: &[u8]) -> io::Result<()> {
         match &mut self.new {
             Some(new) => new.put(rt, bytes),
@@ -302,7 +296,7 @@ impl Replacement {
         }
     }
 
-    /// Removes the new file, unless it was put in place, and unlocks it.
+    /// Removes the new file, unless it was put in place.
     pub(crate) fn leave<R: Files>(self, rt: &R) {
         if let Some(new) = &self.new {
             new.remove(rt);
@@ -310,7 +304,7 @@ impl Replacement {
     }
 }
 
-/// Replaces the file of this name by one of these bytes, where nobody holds it.
+/// Replaces a file that is not held here.
 fn replace_at_once<R: FileSystem>(rt: &R, name: &str, bytes: &[u8]) -> io::Result<()>
     ensures { OnOk result (R.replaced name.now bytes.now) }
 {
@@ -322,7 +316,7 @@ fn replace_at_once<R: FileSystem>(rt: &R, name: &str, bytes: &[u8]) -> io::Resul
     put
 }
 
-/// Replaces the file of this name by one of these bytes, by what holds it where that is here.
+/// Replaces the file of this name with these bytes, through `held` if that holds it.
 pub(crate) fn replace_named<R: FileSystem>(
     rt: &R,
     held: &mut Option<R::Hold>,

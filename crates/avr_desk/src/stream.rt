@@ -1,4 +1,4 @@
-//! All of the bytes, to one of the three places that a desk writes to.
+//! Writes all bytes to one of the three streams of a desk.
 ghost use Rattle.std.specs.Prelude.{◌≡◌, ◌≤◌, length, IfOk, IfErr, OnOk, OnErr};
 ghost use Rattle.avr_desk.specs.Fault.{Counts, WriteCounts};
 ghost use Rattle.avr_desk.specs.Record.{Passes};
@@ -10,7 +10,7 @@ use crate::desk::{Desk, DeskFault};
 /// Where bytes go.
 #[derive(Clone, Copy, Debug, PartialEq, Eq)]
 pub enum Stream {
-    /// The file that was created and is open.
+    /// The created file that is open.
     File,
     /// Standard output.
     Output,
@@ -32,7 +32,11 @@ fn write_some<D: Desk>(desk: &mut D, stream: Stream, bytes: &[u8]) -> Result<usi
     }
 }
 
-/// Writes all the bytes. After a fault a prefix of them was written.
+/// Writes all bytes.
+///
+/// # Errors
+///
+/// `Failed` if the desk fails or takes no byte; a prefix of the bytes was then written.
 pub fn write_all<D: Desk>(desk: &mut D, stream: Stream, bytes: &[u8]) -> Result<(), DeskFault>
     ensures all { OnOk result (Passes (after_sent stream bytes.now) (D.view desk.old) (D.view desk.new)) }
     ensures part { OnErr result (SendsPart stream (D.view desk.old) (D.view desk.new) bytes.now) }

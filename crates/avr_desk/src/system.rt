@@ -24,7 +24,6 @@ use std::io::{ErrorKind, Read, Write};
 use std::marker::Model;
 use std::{fmt, io};
 
-/// What is open.
 #[derive(Drop)]
 enum Held<F, I> {
     Nothing,
@@ -34,16 +33,16 @@ enum Held<F, I> {
     Output,
 }
 
-/// The desk of a program: the files of `rt`, its standard input, and two writers, for output and
-/// for messages. The record of what passes is kept for proofs alone, and takes no memory.
+/// The desk of a program: the files of `rt`, its standard input, and two writers, for output and messages. Its record
+/// is kept for proofs alone and takes no memory.
 ///
-/// `-` is standard input to `open`, and the output to `create`. Files are written without a
-/// buffer, and the writers are flushed at each call, so nothing is left unwritten at the end; a
-/// flush that fails is a failure. A call that a signal broke off is made again.
+/// `-` is standard input to `open`, and the output to `create`. Files are written without a buffer, and each call
+/// flushes the writers, so nothing is left unwritten at the end. A failed flush is a failure. A call that a signal
+/// interrupted is retried.
 ///
-/// A file is replaced by a new one beside it, of its name with `.avrstk-new`, which is renamed once it is on the disk,
-/// and it is held by a lock on that one. What is no regular file, and a link to no file, is written as it is, and held
-/// by nobody.
+/// A file is replaced by a new one beside it, its name with `.avrstk-new`, which is renamed once it is on the disk. A
+/// lock on the new file holds the old one. Anything but a regular file, and a link to no file, is written in place
+/// and not locked.
 #[derive(Drop)]
 pub struct SystemDesk<'a, R: FileSystem + Input, O: Write + Drop, E: Write + Drop> {
     rt: &'a R,
@@ -78,7 +77,6 @@ impl<'a, R: FileSystem + Input, O: Write + Drop, E: Write + Drop> Model
     ghost invariant = { λ desk. Stands desk.held desk.journal.kept.current };
 }
 
-/// Reads what is open.
 fn read_held<F: Read, I: Read>(held: &mut Held<F, I>, buf: &mut [u8]) -> io::Result<usize>
     ensures bound { IfOk result (λ n. n ≤ length buf.new) }
     ensures ok { IfOk result (λ n. HeldGives F.Read I.Read held.old held.new buf.new n) }
@@ -91,7 +89,7 @@ fn read_held<F: Read, I: Read>(held: &mut Held<F, I>, buf: &mut [u8]) -> io::Res
     }
 }
 
-/// Writes once, and sees that it went out. A flush may fail after bytes that were taken: these are recorded too.
+/// Writes once and flushes. A flush may fail after bytes that were taken; these are recorded too.
 fn write_through<W: Outlet>(
     to: &mut W,
     stream: Stream,
@@ -130,7 +128,7 @@ fn fail(failures: &mut u64, last: &mut Option<ErrorKind>, error: &io::Error) -> 
 }
 
 impl<'a, R: FileSystem + Input, O: Write + Drop, E: Write + Drop> SystemDesk<'a, R, O, E> {
-    /// A desk with nothing open.
+    /// Creates a desk with nothing open.
     pub fn new(rt: &'a R, output: O, messages: E) -> SystemDesk<'a, R, O, E>
         ensures { result ≡ record {
           output = output;
@@ -156,17 +154,15 @@ impl<'a, R: FileSystem + Input, O: Write + Drop, E: Write + Drop> SystemDesk<'a,
         }
     }
 
-    /// The kind of the error for which the last call failed that did (`StorageFull`: no room is left): that of the
-    /// system or of a writer; `WriteZero` where a writer took no byte, and `NotFound` where a file was read or written
-    /// and none was open for that. None while no call has failed; a call that succeeds leaves it, and so does a file
-    /// to open that isn't there, which is no failure.
+    /// Returns the error kind of the last failed call, or `None` if no call has failed. It is the system's or a
+    /// writer's, such as `StorageFull`. It is `WriteZero` if a writer took no byte, and `NotFound` if no file was
+    /// open to read or write. A success keeps it, and so does opening a file that doesn't exist, which is no failure.
     pub fn last_error(&self) -> Option<ErrorKind>
         ensures { result ≡ self.now.error }
     {
         self.error
     }
 
-    /// Ends what is held to be replaced.
     fn leave_replacement(&mut self)
         ensures { self.new ≡ record self.old { hold = None } }
     {
@@ -448,7 +444,7 @@ impl<'a, R: FileSystem + Input, O: Outlet + Drop, E: Outlet + Drop> Desk
     }
 }
 
-/// Shows the failures, those at the messages and the error of the last, and neither the writers nor what is open.
+/// Shows the failures, those at the messages and the last error, but neither the writers nor what is open.
 impl<'a, R: FileSystem + Input, O: Write + Drop, E: Write + Drop> fmt::Debug
     for SystemDesk<'a, R, O, E> {
     fn fmt<F: fmt::Write>(&self, f: &mut fmt::Formatter<F>) -> fmt::Result {

@@ -1,4 +1,4 @@
-//! A desk that is watched: who stands by is told of each call of it, as a window that shows how far a run is.
+//! A desk with a watcher of its calls, such as a window that shows a run's progress.
 ghost use Rattle.std.specs.Prelude.{◌≡◌, ◌≤◌, length, IfOk, IfErr};
 ghost use Rattle.avr_desk.specs.Watching.{ToldOfDesk, Opened, Created, Held, Released, Replaced, Read, Wrote, desk_told};
 ghost use Rattle.ghosts.specs.Stays.{Stays};
@@ -6,40 +6,39 @@ ghost use Rattle.ghosts.specs.Stays.{Stays};
 use crate::desk::{Desk, DeskFault};
 use crate::stream::Stream;
 
-/// A call of a desk that is over: what it was given, and what it answered.
+/// A finished call of a desk: its arguments and its result.
 #[derive(Clone, Copy, Debug)]
 pub enum DeskCall<'a> {
     /// The file of this name was opened to read.
     Opened(&'a str, Result<(), DeskFault>),
     /// The file of this name was created.
     Created(&'a str, Result<(), DeskFault>),
-    /// The file of this name was held; `false`: it is held already.
+    /// The file of this name was held; `false` if it is held already.
     Held(&'a str, Result<bool, DeskFault>),
     /// What was held was released.
     Released,
-    /// The file of this name was replaced by these bytes.
+    /// The file of this name was replaced with these bytes.
     Replaced(&'a str, &'a [u8], Result<(), DeskFault>),
-    /// So many bytes of the open file were read, which stand at the start of this buffer.
+    /// This many bytes of the open file were read into the start of this buffer.
     Read(&'a [u8], Result<usize, DeskFault>),
-    /// So many of these bytes were written.
+    /// This many of these bytes were written.
     Wrote(Stream, &'a [u8], Result<usize, DeskFault>),
 }
 
-/// Who is told of the calls of a desk. A watcher can't touch the desk or what a call answers.
+/// Receives the calls of a desk. A watcher can't touch the desk or a call's result.
 ///
-/// Proofs that want to know what a watcher makes of what it is told say so by `after`. For all others it is
-/// `λ call old new. Unit {0}`.
+/// Proofs about what a watcher becomes state it by `after`; others set it to `λ call old new. Unit {0}`.
 pub trait WatchDesk {
-    /// The watcher has become this by being told of this call.
+    /// The watcher became `new` when it received this call.
     ghost after: { ToldOfDesk → Self → Self → Type 0 };
 
-    /// A call is over.
+    /// Receives a finished call.
     fn told(&mut self, call: &DeskCall<'_>)
         ensures { after (desk_told call.now) self.old self.new };
 }
 
-/// A desk and its watcher, which is told once of each call, when the desk has answered it. It is a desk as that within
-/// is: it shows the same, answers the same, and comes of the same.
+/// A desk and its watcher, which receives each call once, after the desk has returned. It shows, returns and comes of
+/// the same as the inner desk.
 ///
 /// ```text
 /// #[derive(Drop)]
@@ -58,9 +57,9 @@ pub trait WatchDesk {
 /// ```
 #[derive(Debug, Drop)]
 pub struct WatchedDesk<D, W> {
-    /// The desk within.
+    /// The inner desk.
     pub desk: D,
-    /// Who watches it.
+    /// The watcher.
     pub watcher: W,
 }
 

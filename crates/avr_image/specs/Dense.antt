@@ -1,12 +1,10 @@
--- How an image is kept: a byte for each address, FF where there is none, and the bits of those that are present.
+-- How an image is stored: a byte for each address, FF in gaps, and presence bits.
 use Rattle.std.specs.Prelude.{◌≡◌, ℕ, suc, ◌*◌, ◌^◌, ◌<◌, ◌≤◌, false, List, [], ◌∷◌, ◌++◌, ◌+◌, length, take, drop, slice_index, Option, Some, None, if◌then◌else◌}
 use Rattle.avr_image.specs.Present.{is_present}
 
--- a byte, as far as its address is present
 abbrev pub shown_byte : List ℕ → ℕ → ℕ → Option ℕ
 shown_byte words addr byte = if is_present words addr then Some byte else None
 
--- the bytes from an address on, as far as they are present
 abbrev pub shown_from : ℕ → List ℕ → List ℕ → List (Option ℕ)
 shown_from addr words [] = []
 shown_from addr words (byte ∷ bytes) = shown_byte words addr byte ∷ shown_from (suc addr) words bytes
@@ -14,13 +12,12 @@ shown_from addr words (byte ∷ bytes) = shown_byte words addr byte ∷ shown_fr
 abbrev pub dense_image : List ℕ → List ℕ → List (Option ℕ)
 dense_image words bytes = shown_from 0 words bytes
 
--- a bit for each byte, fewer than 2 to the power 32 bytes, each below 256, and FF for each that is absent
+-- a bit for each byte; fewer than 2 to the power 32 bytes, each below 256; FF in each gap
 pub record IsKept (words bytes : List ℕ) : Type 0 where
   pub enough : length bytes ≤ length words * 64
   pub below : length bytes < 2 ^ 32
   pub small : (i : ℕ) → slice_index bytes i < 256
   pub blank : (i : ℕ) → i < length bytes → is_present words i ≡ false → slice_index bytes i ≡ 255
 
--- bytes with a span in place of those from `start` on
 abbrev pub with_span : ℕ → List ℕ → List ℕ → List ℕ
 with_span start span bytes = take start bytes ++ (span ++ drop (start + length span) bytes)

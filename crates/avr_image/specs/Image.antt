@@ -1,26 +1,21 @@
--- An image of a memory: for each address below its size the byte that it holds there, if it holds one.
+-- An image of a memory: for each address below its size an optional byte.
 use Rattle.std.specs.Prelude.{◌≡◌, ◌<◌, ◌^◌, ℕ, zero, suc, Bool, true, nat_le, length, ◌+◌, ◌-◌, List, [], ◌∷◌, ◌++◌, map, take, drop, replicate, Option, Some, None, is_some, nat_eq, unwrap_or, slice_index_or, slice_set, fold, count_by}
 use Rattle.std.specs.Cmp.Lexicographic.{pointwise}
 use Rattle.std.specs.Option.{option_eq}
 use Rattle.std.specs.List.{position_from, prefix_len}
 
--- an image that holds nothing
 abbrev pub empty : ℕ → List (Option ℕ)
 empty size = replicate size None
 
--- images of one size that hold the same at each address
 abbrev pub is_same : List (Option ℕ) → List (Option ℕ) → Bool
 is_same = pointwise (option_eq nat_eq)
 
--- the byte at an address
 abbrev pub byte_at : List (Option ℕ) → ℕ → Option ℕ
 byte_at image addr = slice_index_or image addr None
 
--- the image with this byte at this address
 abbrev pub with_byte : List (Option ℕ) → ℕ → ℕ → List (Option ℕ)
 with_byte image addr byte = slice_set image addr (Some byte)
 
--- the image with a gap at this address
 abbrev pub without_byte : List (Option ℕ) → ℕ → List (Option ℕ)
 without_byte image addr = slice_set image addr None
 
@@ -29,30 +24,27 @@ abbrev pub either : Option ℕ → Option ℕ → Option ℕ
 either (Some b) a = Some b
 either None a = a
 
--- the images of one size laid over each other: where both hold a byte, the second's stands
+-- images of one size laid over each other: if both hold a byte, the second's wins
 abbrev pub over : List (Option ℕ) → List (Option ℕ) → List (Option ℕ)
 over [] bs = []
 over (a ∷ more) [] = a ∷ more
 over (a ∷ more) (b ∷ bs) = either b a ∷ over more bs
 
--- an image once bytes are laid down at addresses, in their order: a later byte at an address wins
+-- an image with bytes laid down in their order: a later byte at an address wins
 abbrev pub laid_over : List (Option ℕ) → List (ℕ × ℕ) → List (Option ℕ)
 laid_over image = fold (λ image place. with_byte image place.0 place.1) image
 
--- the image of bytes at addresses
 abbrev pub image_of_pairs : ℕ → List (ℕ × ℕ) → List (Option ℕ)
 image_of_pairs size = laid_over (empty size)
 
--- the image that holds these bytes from address 0 on
 abbrev pub from_zero : List ℕ → ℕ → List (Option ℕ)
 from_zero bytes size = map (λ byte. Some byte) bytes ++ replicate (size - length bytes) None
 
--- bytes from an address on lie inside a memory of this size; no byte lies anywhere
+-- bytes from an address on are inside a memory of this size; an empty list always is
 abbrev pub fits : ℕ → List ℕ → ℕ → Bool
 fits addr [] size = true
 fits addr (byte ∷ bytes) size = nat_le (addr + length (byte ∷ bytes)) size
 
--- how many addresses hold a byte
 abbrev pub byte_count : List (Option ℕ) → ℕ
 byte_count = count_by is_some
 
@@ -64,7 +56,6 @@ first_from image addr = position_from is_some addr (drop addr image)
 abbrev pub run_end : List (Option ℕ) → ℕ → ℕ → ℕ
 run_end image addr end = addr + prefix_len is_some (take (end - addr) (drop addr image))
 
--- a byte, or FF in a gap
 abbrev pub or_blank : Option ℕ → ℕ
 or_blank byte = unwrap_or byte 255
 
@@ -73,11 +64,11 @@ abbrev pub filled_bytes : List (Option ℕ) → ℕ → ℕ → List ℕ
 filled_bytes image start zero = []
 filled_bytes image start (suc n) = or_blank (byte_at image start) ∷ filled_bytes image (start + 1) n
 
--- each address holds a byte below 256, or none
+-- each byte is below 256
 abbrev pub HoldsBytes : List (Option ℕ) → Type 0
 HoldsBytes image = (addr byte : ℕ) → byte_at image addr ≡ Some byte → byte < 256
 
--- what an image of the code is: fewer than 2 to the power 32 addresses, and bytes
+-- what holds for every image of the code: fewer than 2 to the power 32 addresses, and bytes
 pub record IsImage (image : List (Option ℕ)) : Type 0 where
   pub short : length image < 2 ^ 32
   pub bytes : HoldsBytes image

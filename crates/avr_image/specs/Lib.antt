@@ -8,7 +8,7 @@ pub mod Lists
 pub mod ByAddress
 pub mod Runs
 pub mod Overlap
--- inside: how things are kept, and what inner functions promise one another
+-- inside: how images are stored, and contracts of private functions
 pub mod Present
 pub mod Dense
 pub mod Placing

@@ -5,32 +5,28 @@ use Rattle.std.specs.Fmt.{digits}
 use Rattle.avr_image.specs.declared.list.Base.{Base}
 use Rattle.avr_image.specs.declared.list.Base.TheVariants.{Dec, Hex, Oct, Bin}
 
--- how many digits a base has
 abbrev pub radix : Base → ℕ
 radix Dec = 10
 radix Hex = 16
 radix Oct = 8
 radix Bin = 2
 
--- what stands in front of a number: nothing; `0x`; a zero from 8 on; `0b`
+-- what comes before the digits: nothing; `0x`; `0` from 8 on; `0b`
 abbrev pub prefix : Base → ℕ → List ℕ
 prefix Dec n = []
 prefix Hex n = 48 ∷ 120 ∷ []
 prefix Oct n = if nat_lt n 8 then [] else 48 ∷ []
 prefix Bin n = 48 ∷ 98 ∷ []
 
--- a number, in lower case and without padding
 abbrev pub number_text : Base → ℕ → List ℕ
 number_text base n = prefix base n ++ digits (radix base) false n
 
--- the numbers with commas between them
 abbrev pub list_line : Base → List ℕ → List ℕ
 list_line base bytes = join_with_byte 44 (map (number_text base) bytes)
 
--- the numbers on one line
 abbrev pub list_text : Base → List ℕ → List ℕ
 list_text base bytes = list_line base bytes ++ 10 ∷ []
 
--- the text that is still to come, once its end may have been reached
+-- the text still to come; `ended` is true once all of it was written
 abbrev pub list_rest : Bool → Base → List ℕ → List ℕ
 list_rest ended base bytes = if ended then [] else list_text base bytes

@@ -9,7 +9,7 @@ hold_both first second addr = is_some (byte_at first addr) && is_some (byte_at s
 abbrev pub AreDisjoint : List (Option ℕ) → List (Option ℕ) → Type 0
 AreDisjoint first second = (addr : ℕ) → hold_both first second addr ≡ false
 
--- at this one, and at none below it
+-- at this address, and at no lower one
 pub record IsFirstOverlap (first second : List (Option ℕ)) (addr : ℕ) : Type 0 where
   pub both : hold_both first second addr ≡ true
   pub least : (lower : ℕ) → lower < addr → hold_both first second lower ≡ false

@@ -1,25 +1,23 @@
--- Raw files: their bytes as they are, from address 0 on; and what a reader of one stands for.
+-- Raw files: their bytes as they are, from address 0 on; and the state of their reader.
 use Rattle.std.specs.Prelude.{◌≡◌, ℕ, ◌≤◌, nat_le, Bool, false, List, length, Option, Result, Ok, Err, if◌then◌else◌}
 use Rattle.avr_image.specs.Image.{from_zero}
 use Rattle.avr_image.specs.declared.fault.ImageFault.{ImageFault}
 use Rattle.avr_image.specs.declared.fault.ImageFault.TheVariants.{OutOfRange}
 
--- byte i stands at address i
 abbrev pub raw : List ℕ → ℕ → Result (List (Option ℕ)) ImageFault
 raw bytes size = if nat_le (length bytes) size then Ok (from_zero bytes size) else Err (OutOfRange size)
 
--- whether an image came, and else the fault
 abbrev pub without_image : Result (List (Option ℕ)) ImageFault → Result (Unit {0}) ImageFault
 without_image (Ok image) = Ok tt
 without_image (Err fault) = Err fault
 
--- what a reader holds: the image so far, how many bytes came, and whether it met a fault
+-- what a reader holds: the image so far, how many bytes came, and whether it has failed
 pub record Holding : Type 0 where
   pub image : List (Option ℕ)
   pub fed : ℕ
   pub failed : Bool
 
--- the reader holds this text and no more
+-- the reader holds exactly this text
 pub record HoldsText (reader : Holding) (text : List ℕ) : Type 0 where
   pub sound : reader.failed ≡ false
   pub counted : reader.fed ≡ length text

@@ -1,25 +1,24 @@
--- The runs of an image: its bytes, as far as they follow each other without a gap.
+-- The runs of an image: its bytes that follow each other without a gap.
 use Rattle.std.specs.Prelude.{ℕ, ◌+◌, ◌==◌, List, [], ◌∷◌, Option, Some, None, if◌then◌else◌}
 use Rattle.std.specs.List.{enumerate_from}
 
--- a byte before some runs: it joins the first one, if that begins right after it
+-- a byte before some runs: it joins the first run if that begins right after it
 abbrev pub onto_runs : ℕ → ℕ → List (ℕ × List ℕ) → List (ℕ × List ℕ)
 onto_runs addr b [] = (addr, b ∷ []) ∷ []
 onto_runs addr b ((next, bytes) ∷ more) =
     if next == addr + 1 then (addr, b ∷ bytes) ∷ more else (addr, b ∷ []) ∷ (next, bytes) ∷ more
 
--- the longest runs of bytes without a gap, each with its first address; the image's part begins at `addr`
+-- the longest runs without a gap, each with its first address; the image begins at `addr`
 abbrev pub runs : ℕ → List (Option ℕ) → List (ℕ × List ℕ)
 runs addr [] = []
 runs addr (None ∷ image) = runs (addr + 1) image
 runs addr (Some b ∷ image) = onto_runs addr b (runs (addr + 1) image)
 
--- the bytes of an image's part before its first gap
+-- the bytes before the first gap
 abbrev pub lead : List (Option ℕ) → List ℕ
 lead [] = []
 lead (None ∷ image) = []
 lead (Some b ∷ image) = b ∷ lead image
 
--- the bytes of a run at their addresses
 abbrev pub places_of : ℕ × List ℕ → List (ℕ × ℕ)
 places_of run = enumerate_from run.0 run.1

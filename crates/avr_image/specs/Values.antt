@@ -1,4 +1,4 @@
--- Values given in the words of a command.
+-- Values given on the command line.
 use Rattle.std.specs.Prelude.{ℕ, Bool, ◌+◌, ◌-◌, ◌^◌, min, ◌==◌, ◌&&◌, ◌||◌, not, nat_lt, nat_le, List, [], ◌∷◌, length, map, filter, Option, Some, None, Result, Ok, Err, if◌then◌else◌}
 use Rattle.std.specs.List.{list_all, slice_split, enumerate_from}
 use Rattle.std.specs.Char.{digit_value}
@@ -11,11 +11,10 @@ use Rattle.avr_image.specs.declared.fault.ImageFault.TheVariants.{OutOfRange, Ba
 abbrev pub is_separator : ℕ → Bool
 is_separator c = c == 44 || c == 32 || c == 9
 
--- what stands between separators, without the empty pieces
+-- what is between separators, without empty pieces
 abbrev pub pieces : List ℕ → List (List ℕ)
 pieces text = filter (λ piece. nat_lt 0 (length piece)) (slice_split is_separator text)
 
--- a character is a digit of a base
 abbrev pub is_digit_of : ℕ → ℕ → Bool
 is_digit_of base c = nat_lt (digit_value c) base
 
@@ -25,25 +24,25 @@ number_in_base base digits =
     if nat_lt 0 (length digits) && list_all (is_digit_of base) digits
     then Some (digits_value base digits) else None
 
--- what a zero and a letter say of the digits after them
+-- the number after a zero, by the next letter
 abbrev pub prefixed_number : ℕ → List ℕ → Option ℕ
 prefixed_number letter digits =
     if letter == 120 || letter == 88 then number_in_base 16 digits
     else if letter == 98 || letter == 66 then number_in_base 2 digits
     else number_in_base 8 (letter ∷ digits)
 
--- the number that a piece writes: `0x` and hexadecimal digits, `0b` and binary ones, `0` and octal ones, or decimal
--- ones
+-- the number that a piece writes: `0x` with hexadecimal digits, `0b` with binary ones, `0` with octal ones, or
+-- decimal digits
 abbrev pub value_of : List ℕ → Option ℕ
 value_of (first ∷ second ∷ more) =
     if first == 48 then prefixed_number second more else number_in_base 10 (first ∷ second ∷ more)
 value_of digits = number_in_base 10 digits
 
--- the place of the value for an address: values are counted from 1, as far as a number of 32 bits counts
+-- the 1-based place of the value for an address, at most 2^32 - 1
 abbrev pub place : ℕ → ℕ
 place addr = min (addr + 1) (2 ^ 32 - 1)
 
--- the byte that the value for an address is, in a memory of this size
+-- the byte of the value for an address, in a memory of this size
 abbrev pub fitting : ℕ → ℕ → Option ℕ → Result ℕ ImageFault
 fitting size addr None = Err (BadNumber (place addr))
 fitting size addr (Some value) =
@@ -54,13 +53,11 @@ fitting size addr (Some value) =
 abbrev pub fitting_value : ℕ → ℕ × List ℕ → Result ℕ ImageFault
 fitting_value size piece = fitting size piece.0 (value_of piece.1)
 
--- with a value before those that follow
 abbrev pub onto_ok : Result ℕ ImageFault → Result (List ℕ) ImageFault → Result (List ℕ) ImageFault
 onto_ok (Err fault) rest = Err fault
 onto_ok (Ok byte) (Err fault) = Err fault
 onto_ok (Ok byte) (Ok bytes) = Ok (byte ∷ bytes)
 
--- all bytes, or the first fault
 abbrev pub all_ok : List (Result ℕ ImageFault) → Result (List ℕ) ImageFault
 all_ok [] = Ok []
 all_ok (r ∷ rs) = onto_ok r (all_ok rs)
@@ -69,7 +66,7 @@ abbrev pub image_of_bytes : ℕ → Result (List ℕ) ImageFault → Result (Lis
 image_of_bytes size (Ok bytes) = Ok (from_zero bytes size)
 image_of_bytes size (Err fault) = Err fault
 
--- The values stand at the addresses from 0 on. No value at all is a bad first one.
+-- The values at the addresses from 0 on. Without any, the first one is bad.
 abbrev pub values : List ℕ → ℕ → Result (List (Option ℕ)) ImageFault
 values text size =
     if length (pieces text) == 0 then Err (BadNumber 1)

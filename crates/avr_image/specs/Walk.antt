@@ -14,7 +14,6 @@ pub record IsLastHeld (image : List (Option ℕ)) (place : ℕ) : Type 0 where
   pub held : is_some (byte_at image place) ≡ true
   pub above : (k : ℕ) → place < k → byte_at image k ≡ None
 
--- no address holds a byte
 abbrev pub HoldsNone : List (Option ℕ) → Type 0
 HoldsNone image = (addr : ℕ) → byte_at image addr ≡ None
 
@@ -25,13 +24,12 @@ pub record IsByteRun (image : List (Option ℕ)) (addr end place : ℕ) : Type 0
   pub held : (k : ℕ) → addr ≤ k → k < place → is_some (byte_at image k) ≡ true
   pub stop : place < end → byte_at image place ≡ None
 
--- so many bytes, each that of its address, or FF in a gap
+-- n bytes, each that of its address, or FF in a gap
 pub record IsFilled (image : List (Option ℕ)) (start n : ℕ) (bytes : List ℕ) : Type 0 where
   pub size : length bytes ≡ n
   pub byte : (i : ℕ) → i < n → slice_index bytes i ≡ or_blank (byte_at image (start + i))
 
--- a longest run of an image's bytes: they stand one after the other from its address on, and no byte before or after
--- them
+-- a longest run of an image's bytes: no byte is right before or after it
 pub record IsLongestRun (image : List (Option ℕ)) (run : ℕ × List ℕ) : Type 0 where
   pub some : 0 < length run.1
   pub bytes : (i : ℕ) → i < length run.1 → byte_at image (run.0 + i) ≡ Some (slice_index run.1 i)

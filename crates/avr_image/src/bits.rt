@@ -1,10 +1,9 @@
-//! The bits that say which addresses hold a byte: 64 a word, the lowest address in the lowest bit.
+//! Presence bits: one for each address, 64 per word, the lowest address in the lowest bit.
 
 ghost use Rattle.std.specs.Prelude.{◌≡◌, ◌+◌, ◌*◌, ◌^◌, ◌<◌, ◌≤◌, ◌==◌, ◌&&◌, ◌||◌, ℕ, length, nat_le, nat_lt, if◌then◌else◌, not};
 ghost use Rattle.std.specs.Int.{bit_at};
 ghost use Rattle.avr_image.specs.Present.{is_present, with_mark, without_mark, is_within, NextOne, FirstPlace};
 
-/// Whether the bit of an address is 1.
 pub(crate) fn is_set(words: &[u64], addr: usize) -> bool
     requires { addr < length words.now * 64 }
     ensures { result ≡ is_present words.now addr }
@@ -12,7 +11,6 @@ pub(crate) fn is_set(words: &[u64], addr: usize) -> bool
     (words[addr / 64] >> (addr % 64)) & 1 == 1
 }
 
-/// Makes the bit of an address 1.
 pub(crate) fn mark(words: &mut Vec<u64>, addr: usize)
     requires { addr < length words.old.items * 64 }
     ensures words { words.new.items ≡ with_mark words.old.items addr }
@@ -20,7 +18,6 @@ pub(crate) fn mark(words: &mut Vec<u64>, addr: usize)
     words[addr / 64] |= 1 << (addr % 64);
 }
 
-/// Makes the bit of an address 0.
 pub(crate) fn unmark(words: &mut Vec<u64>, addr: usize)
     requires { addr < length words.old.items * 64 }
     ensures words { words.new.items ≡ without_mark words.old.items addr }
@@ -28,7 +25,7 @@ pub(crate) fn unmark(words: &mut Vec<u64>, addr: usize)
     words[addr / 64] &= !(1 << (addr % 64));
 }
 
-/// The place of a word's lowest 1 from `from` on, or 64.
+/// Returns the place of the lowest 1 from `from` on, or 64.
 fn next_one(word: u64, from: u32) -> u32
     requires { from < 64 }
     ensures { NextOne word from result }
@@ -36,7 +33,7 @@ fn next_one(word: u64, from: u32) -> u32
     (word & (u64::MAX << from)).trailing_zeros()
 }
 
-/// A word that has a 1 where the bit is the wanted one.
+/// Returns a word whose 1 bits are the bits that are `wanted`.
 fn matching(word: u64, wanted: bool) -> u64
     ensures { (i : ℕ) → i < 64 → (bit_at result i == 1) ≡ (if wanted then bit_at word i == 1
         else not (bit_at word i == 1)) }
@@ -44,7 +41,7 @@ fn matching(word: u64, wanted: bool) -> u64
     if wanted { word } else { !word }
 }
 
-/// The least address from `from` on, below `end`, that is present or absent as wanted; or `end`.
+/// Returns the least address from `from` on, below `end`, whose presence is `wanted`; or `end`.
 pub(crate) fn find(words: &[u64], wanted: bool, from: usize, end: usize) -> usize
     requires ordered { from ≤ end }
     requires within { end ≤ length words.now * 64 }
@@ -63,7 +60,6 @@ pub(crate) fn find(words: &[u64], wanted: bool, from: usize, end: usize) -> usiz
     end
 }
 
-/// The word whose bits from `low` up to `high` are 1.
 fn ones(low: u32, high: u32) -> u64
     requires low { low < 64 }
     requires some { 0 < high }
@@ -73,7 +69,6 @@ fn ones(low: u32, high: u32) -> u64
     (u64::MAX << low) & (u64::MAX >> (64 - high))
 }
 
-/// Makes the bits of the addresses from `from` up to `end` 1.
 pub(crate) fn mark_span(words: &mut Vec<u64>, from: usize, end: usize)
     requires ordered { from ≤ end }
     requires within { end ≤ length words.old.items * 64 }

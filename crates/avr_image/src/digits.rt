@@ -7,7 +7,6 @@ ghost use Rattle.avr_image.specs.Lists.{number_text, prefix, radix};
 use crate::list::Base;
 use arrayvec::ArrayVec;
 
-/// The character of a digit.
 fn glyph(digit: u8) -> u8
     requires { digit < 16 }
     ensures { result ≡ digit_glyph false digit }
@@ -19,7 +18,7 @@ fn glyph(digit: u8) -> u8
     }
 }
 
-/// Writes the digits of a byte into the end of the buffer, and answers where they begin.
+/// Writes the digits at the end of `buffer` and returns where they begin.
 fn write_digits(radix: u8, byte: u8, buffer: &mut [u8; 8]) -> usize
     requires low { 2 ≤ radix }
     requires high { radix ≤ 16 }
@@ -38,7 +37,6 @@ fn write_digits(radix: u8, byte: u8, buffer: &mut [u8; 8]) -> usize
     }
 }
 
-/// Appends bytes for which there is room.
 fn append(out: &mut ArrayVec<u8, 80>, bytes: &[u8])
     requires { array_vec_len out.old + length bytes.now ≤ 80 }
     ensures { out.new.items ≡ out.old.items ++ bytes.now }
@@ -46,7 +44,6 @@ fn append(out: &mut ArrayVec<u8, 80>, bytes: &[u8])
     let _ = out.try_extend_from_slice(bytes);
 }
 
-/// What stands in front of a byte's digits.
 fn prefix_of(base: Base, byte: u8) -> &'static [u8]
     ensures { result.now ≡ prefix base byte }
 {
@@ -58,7 +55,6 @@ fn prefix_of(base: Base, byte: u8) -> &'static [u8]
     }
 }
 
-/// The count of a base's digits.
 fn radix_of(base: Base) -> u8
     ensures { result ≡ radix base }
 {
@@ -70,7 +66,6 @@ fn radix_of(base: Base) -> u8
     }
 }
 
-/// Appends a byte as a number.
 pub(crate) fn push_number(base: Base, byte: u8, out: &mut ArrayVec<u8, 80>)
     requires { array_vec_len out.old + 10 ≤ 80 }
     ensures written { out.new.items ≡ out.old.items ++ number_text base byte }

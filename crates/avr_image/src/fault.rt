@@ -1,4 +1,4 @@
-//! What may be wrong with the bytes of an image.
+//! Faults of images.
 
 ghost use Rattle.std.specs.Prelude.{◌≡◌};
 ghost use Rattle.avr_image.specs.Fault.{number_of};
@@ -6,7 +6,7 @@ ghost use Rattle.avr_image.specs.Fault.{number_of};
 use std::fmt;
 use thiserror::Error;
 
-/// Why no image came of some bytes, or one was not changed.
+/// Why an image wasn't made or changed.
 ///
 /// ```text
 /// let fault = parse_immediate(alloc, "1,256", 4).err();
@@ -14,28 +14,28 @@ use thiserror::Error;
 /// ```
 #[derive(Clone, Copy, Drop, PartialEq, Eq, Error)]
 pub enum ImageFault {
-    /// This byte address lies outside the memory. Of a raw file it is the memory's size.
+    /// This byte address is outside the memory. For a raw file it is the memory's size.
     #[error("address {0:08X} out of range")]
     OutOfRange(u32),
-    /// The value at this place, counted from 1, is no number.
+    /// The value at this 1-based place is no number.
     #[error("value {0}: not a number")]
     BadNumber(u32),
-    /// The value at this place, counted from 1, is above 255.
+    /// The value at this 1-based place is above 255.
     #[error("value {0}: above 255")]
     TooLarge(u32),
-    /// The reader met a fault before.
+    /// The reader has failed before.
     #[error("the reader has failed before")]
     Failed,
-    /// There was no memory for the image.
+    /// Allocation failed.
     #[error("out of memory")]
     Memory,
-    /// The other image is one of a memory of another size.
+    /// The other image has another size.
     #[error("the images are of different sizes")]
     OtherSize,
 }
 
 impl ImageFault {
-    /// The fault's number, from 1 on.
+    /// Returns the fault's number, from 1 on.
     ///
     /// ```text
     /// assert_eq!(rt; ImageFault::OutOfRange(64).number(), 1);

@@ -17,8 +17,7 @@ use std::alloc::{AllocError, Global};
 use std::fmt;
 use std::marker::Model;
 
-/// The bytes of a memory, as far as there are any. Contracts see it as the list of optional bytes, one for each byte
-/// address below its size.
+/// The bytes of a memory, with gaps. Contracts see a list of optional bytes, one for each byte address.
 ///
 /// ```text
 /// let mut image = Image::new(alloc, 32_768)?;
@@ -43,21 +42,19 @@ impl Model for Image {
     ghost invariant = { λ i. IsKept i.words.items i.bytes.items };
 }
 
-/// So many bytes FF.
 fn blank_bytes(alloc: Global, n: usize) -> Result<Vec<u8>, AllocError>
     ensures { IfOk result (λ v. v.items ≡ replicate n 255) }
 {
     vec![in alloc; 255; n]
 }
 
-/// So many words 0.
 fn zero_words(alloc: Global, n: usize) -> Result<Vec<u64>, AllocError>
     ensures { IfOk result (λ v. v.items ≡ replicate n 0) }
 {
     vec![in alloc; 0; n]
 }
 
-/// Copies the bytes from `start` on, and FF after their end.
+/// Copies the bytes from `start` on; FF after their end.
 fn copy_padded(bytes: &[u8], start: usize, out: &mut [u8])
     ensures len { length out.new ≡ length out.old }
     ensures copied { (i : ℕ) → i < length out.old → slice_index out.new i ≡ slice_index_or bytes.now (start + i) 255 }
@@ -69,7 +66,6 @@ fn copy_padded(bytes: &[u8], start: usize, out: &mut [u8])
     blank.fill(255);
 }
 
-/// Copies a span over the bytes from `start` on.
 fn paste(bytes: &mut Vec<u8>, start: usize, span: &[u8])
     requires { start + length span.now ≤ length bytes.old.items }
     ensures { bytes.new.items ≡ with_span start span.now bytes.old.items }
@@ -79,8 +75,11 @@ fn paste(bytes: &mut Vec<u8>, start: usize, span: &[u8])
 }
 
 impl Image {
-    /// An image of a memory of this many bytes that holds nothing. It takes all the memory that the image will ever
-    /// need; where that is refused, the fault is `Memory`.
+    /// Creates an image without bytes for a memory of `size` bytes. It allocates all that the image will ever need.
+    ///
+    /// # Errors
+    ///
+    /// `Memory` if allocation fails.
     ///
     /// ```text
     /// let image = Image::new(alloc, 32_768)?;
@@ -99,7 +98,11 @@ impl Image {
         Ok(Image { bytes, words })
     }
 
-    /// A copy in memory of its own; where that is refused, the fault is `Memory`.
+    /// Copies the image.
+    ///
+    /// # Errors
+    ///
+    /// `Memory` if allocation fails.
     ///
     /// ```text
     /// let mut image = Image::new(alloc, 64)?;
@@ -117,7 +120,7 @@ impl Image {
         Ok(copy)
     }
 
-    /// How many bytes the memory has: its addresses lie below.
+    /// Returns the memory's size in bytes.
     ///
     /// ```text
     /// let image = Image::new(alloc, 32_768)?;
@@ -130,7 +133,7 @@ impl Image {
         self.bytes.len() as u32
     }
 
-    /// How many addresses hold a byte. The runs are looked at, and not their bytes.
+    /// Returns how many addresses hold a byte. It looks at the runs, not at their bytes.
     ///
     /// ```text
     /// let mut image = Image::new(alloc, 64)?;
@@ -147,7 +150,7 @@ impl Image {
         self.size() - gaps
     }
 
-    /// Whether no address holds a byte.
+    /// Returns whether no address holds a byte.
     ///
     /// ```text
     /// let mut image = Image::new(alloc, 64)?;
@@ -161,7 +164,7 @@ impl Image {
         self.first_from(0).is_none()
     }
 
-    /// The bytes of all addresses, FF where none is held. They are lent as the image keeps them.
+    /// Returns the bytes of all addresses, FF in gaps. They are borrowed from the image.
     ///
     /// ```text
     /// let mut image = Image::new(alloc, 4)?;
@@ -171,13 +174,13 @@ impl Image {
     pub fn as_slice(&self) -> &[u8]
         ensures filled { result.now ≡ filled_bytes self.now 0 (length self.now) }
 
-        // The list alone doesn't say that an image holds bytes, and how many at most.
+        // States what the list alone doesn't show: its values are bytes, and fewer than 2 to the power 32.
         ensures image { IsImage self.now }
     {
         self.bytes.as_slice()
     }
 
-    /// The longest runs of bytes without a gap, by rising address.
+    /// Iterates over the longest runs of bytes without a gap, by rising address.
     ///
     /// ```text
     /// let mut image = Image::new(alloc, 64)?;
@@ -192,7 +195,7 @@ impl Image {
         Runs::new(self)
     }
 
-    /// The byte at a byte address, if it holds one. Outside the memory none does.
+    /// Returns the byte at a byte address; `None` in a gap or outside the memory.
     ///
     /// ```text
     /// let mut image = Image::new(alloc, 64)?;
@@ -211,8 +214,11 @@ impl Image {
         }
     }
 
-    /// Lays a byte down at a byte address, over one that it may hold. Outside the memory the fault is `OutOfRange` with
-    /// the address, and the image is unchanged.
+    /// Puts a byte at a byte address, in place of one that it may hold.
+    ///
+    /// # Errors
+    ///
+    /// `OutOfRange` with the address if it is outside the memory; the image is then unchanged.
     ///
     /// ```text
     /// let mut image = Image::new(alloc, 64)?;
@@ -236,8 +242,7 @@ impl Image {
         Ok(())
     }
 
-    /// Takes away the byte at a byte address, and answers it; the address is a gap then. Where it holds none, the image
-    /// is unchanged.
+    /// Removes the byte at a byte address and returns it; `None` if the address holds none.
     ///
     /// ```text
     /// let mut image = Image::new(alloc, 64)?;
@@ -260,9 +265,11 @@ impl Image {
         byte
     }
 
-    /// Lays bytes down at the byte addresses from `addr` on, as `put` of each in their order, and answers the address
-    /// after them. Where one lies outside the memory the fault is `OutOfRange` with the first that does, and the image
-    /// is unchanged.
+    /// Puts bytes at the byte addresses from `addr` on and returns the address after them.
+    ///
+    /// # Errors
+    ///
+    /// `OutOfRange` with the first address outside the memory; the image is then unchanged.
     ///
     /// ```text
     /// let mut image = Image::new(alloc, 64)?;
@@ -291,8 +298,11 @@ impl Image {
         Ok(end as u32)
     }
 
-    /// Lays the bytes of another image of the same size over those of this one. Where the sizes differ the fault is
-    /// `OtherSize`, and the image is unchanged.
+    /// Puts the bytes of another image over those of this one.
+    ///
+    /// # Errors
+    ///
+    /// `OtherSize` if the sizes differ; the image is then unchanged.
     ///
     /// ```text
     /// let mut image = Image::new(alloc, 4)?;
@@ -316,27 +326,25 @@ impl Image {
         Ok(())
     }
 
-    /// Lays the runs of an image of the same size over the bytes of this one.
     fn lay_runs(&mut self, other: &Image)
         requires { length other.now ≡ length self.old }
         ensures over { self.new ≡ over self.old other.now }
         ensures size { length self.new ≡ length self.old }
     {
         for (addr, bytes) in other.runs() {
-            // Each run lies inside, since both images have one size.
+            // Each run fits because both images have one size.
             let _ = self.put_slice(addr, bytes);
         }
     }
 
-    /// Whether this image and another one hold a byte at a byte address.
     fn holds_both(&self, other: &Image, addr: u32) -> bool
         ensures { result ≡ hold_both self.now other.now addr }
     {
         self.get(addr).is_some() && other.get(addr).is_some()
     }
 
-    /// The least byte address at which this image and another one, of any size, hold a byte: where one would hide the
-    /// other's, once it is laid over it.
+    /// Returns the least byte address at which both images, of any size, hold a byte. Laid over each other, one would
+    /// hide the other's there.
     ///
     /// ```text
     /// let mut image = Image::new(alloc, 64)?;
@@ -357,7 +365,7 @@ impl Image {
         None
     }
 
-    /// The least byte address from `addr` on that holds a byte.
+    /// Returns the least byte address from `addr` on that holds a byte.
     ///
     /// ```text
     /// let mut image = Image::new(alloc, 64)?;
@@ -378,7 +386,7 @@ impl Image {
         }
     }
 
-    /// The highest byte address that holds a byte, if one does.
+    /// Returns the highest byte address that holds a byte.
     ///
     /// ```text
     /// let mut image = Image::new(alloc, 64)?;
@@ -399,14 +407,13 @@ impl Image {
         None
     }
 
-    /// Whether this image and another one hold the same at a byte address.
     fn is_same_at(&self, other: &Image, addr: u32) -> bool
         ensures { IsTrue result ↔ (byte_at self.now addr ≡ byte_at other.now addr) }
     {
         self.get(addr) == other.get(addr)
     }
 
-    /// Whether another image has the same size and holds the same bytes, with the same gaps.
+    /// Returns whether both images have the same size, bytes and gaps.
     ///
     /// ```text
     /// let mut image = Image::new(alloc, 64)?;
@@ -430,9 +437,8 @@ impl Image {
         true
     }
 
-    /// The end of the run of byte addresses that hold a byte and begins at `addr`, at most `end`; `addr` where it holds
-    /// none. The end is the address after the last one. `end` has to be `addr` or above; it may lie outside the
-    /// memory.
+    /// Returns the address after the run of held bytes that begins at `addr`, at most `end`; `addr` if it holds no
+    /// byte. `end` may be outside the memory.
     ///
     /// ```text
     /// let mut image = Image::new(alloc, 64)?;
@@ -456,8 +462,7 @@ impl Image {
         ) as u32
     }
 
-    /// Makes `out` the bytes from the byte address `start` on, FF in gaps and outside the memory. The last address has
-    /// to be below 2 to the power 32.
+    /// Fills `out` with the bytes from the byte address `start` on, FF in gaps and outside the memory.
     ///
     /// ```text
     /// let mut image = Image::new(alloc, 64)?;
@@ -474,7 +479,7 @@ impl Image {
     }
 }
 
-/// Two images are equal of which one `holds_same` as the other.
+/// Images are equal if they have the same size, bytes and gaps.
 ///
 /// ```text
 /// let mut image = Image::new(alloc, 64)?;
@@ -496,7 +501,7 @@ impl Eq for Image {
     ghost laws = { lists_equiv (options_equiv nat_eq_equiv) };
 }
 
-/// Shows the size and how many addresses hold a byte, and no byte.
+/// Shows the size and how many addresses hold a byte.
 impl fmt::Debug for Image {
     fn fmt<W: fmt::Write>(&self, f: &mut fmt::Formatter<W>) -> fmt::Result {
         f.debug_struct("Image")

@@ -1,4 +1,4 @@
-//! Laws of the definitions that contracts cite, whatever the code does.
+//! Laws of the definitions in contracts, whatever the code does.
 
 ghost use Rattle.std.specs.Prelude.{◌≡◌, ◌≢◌, ◌<◌, ◌≤◌, ◌↔◌, ◌+◌, ◌-◌, ◌++◌, ◌⊎◌, ℕ, true, List, [], ◌∷◌, All, length, take, drop, min, flat_map, slice_index_or, is_some, IsTrue, Ok, Err, Option, None, Some};
 ghost use Rattle.std.specs.List.{enumerate_from, slice_range};
@@ -12,7 +12,7 @@ ghost use Rattle.avr_image.specs.Walk.{IsFilled, IsLongestRun, IsNextHeld, IsByt
 
 use crate::fault::ImageFault;
 
-/// An address that holds a byte is below the size, and past the size none is held.
+/// An address that holds a byte is below the size.
 pub fn bytes_are_held_below_the_size()
     ensures within { (image : List (Option ℕ)) (addr : ℕ) → is_some (byte_at image addr) ≡ true
         → addr < length image }
@@ -26,7 +26,7 @@ pub fn parts_are_laid_over()
         ≡ over (image_of_pairs size first) (image_of_pairs size second) }
 {}
 
-/// Bytes laid onto an image are an image of them laid over it.
+/// Laying bytes onto an image is laying an image of them over it.
 #[tactic(auto, using(crate::proofs::Lemmas::laid_is_over))]
 pub fn laying_is_laying_over()
     ensures { (image : List (Option ℕ)) (places : List (ℕ × ℕ))
@@ -40,8 +40,8 @@ pub fn laying_over_groups()
         → over (over first second) third ≡ over first (over second third) }
 {}
 
-/// Of images of one size, laid over each other, each address has the second's byte, if it holds one, else the first's;
-/// and where bytes were laid onto an image, the last one for the address, if there is one, else the image's.
+/// An address of two overlaid images of one size has the second's byte, else the first's. After bytes were laid onto
+/// an image, an address has the last one laid there, else the image's.
 pub fn over_is_by_address()
     ensures over { (first second : List (Option ℕ)) (addr : ℕ) → length first ≡ length second
         → byte_at (over first second) addr ≡ either (byte_at second addr) (byte_at first addr) }
@@ -49,8 +49,7 @@ pub fn over_is_by_address()
         → byte_at (laid_over image places) addr ≡ either (last_at addr places) (byte_at image addr) }
 {}
 
-/// After a byte, or a span of bytes, that was laid down inside a memory: they stand at their addresses, and each other
-/// address holds what it held.
+/// A byte or span put inside a memory is at its addresses. All other addresses and the size are unchanged.
 pub fn a_span_is_by_address()
     ensures byte { (image : List (Option ℕ)) (addr byte : ℕ) → addr < length image
         → byte_at (with_byte image addr byte) addr ≡ Some byte }
@@ -67,13 +66,13 @@ pub fn a_span_is_by_address()
         → length (laid_over image places) ≡ length image }
 {}
 
-/// Bytes from address 0 on are a span that is laid down there, onto nothing.
+/// Bytes from address 0 on are a span put at 0 into an empty image.
 pub fn bytes_from_zero_are_a_span()
     ensures { (bytes : List ℕ) (size : ℕ) → length bytes ≤ size
         → from_zero bytes size ≡ image_of_pairs size (enumerate_from 0 bytes) }
 {}
 
-/// Bytes fit exactly where there are none, or the last one's address is below the size.
+/// Bytes fit exactly if the list is empty or the last address is below the size.
 pub fn bytes_fit_below_the_size()
     ensures fitting { (addr : ℕ) (bytes : List ℕ) (size : ℕ) → fits addr bytes size ≡ true
         → (bytes ≡ []) ⊎ (addr + length bytes ≤ size) }
@@ -81,19 +80,19 @@ pub fn bytes_fit_below_the_size()
     ensures none { (addr size : ℕ) → fits addr [] size ≡ true }
 {}
 
-/// Images of one size that have the same byte, or none, at each address are one image.
+/// Images of one size with the same byte or gap at each address are one image.
 pub fn images_are_equal_by_address()
     ensures { (first second : List (Option ℕ)) → length first ≡ length second
         → ((addr : ℕ) → addr < length second → byte_at first addr ≡ byte_at second addr) → first ≡ second }
 {}
 
-/// Images that `==` tells to be equal are one image, and no others.
+/// `==` holds exactly for one and the same image.
 #[tactic(auto, using(crate::proofs::Lemmas::equal_are_one))]
 pub fn equal_images_are_one()
     ensures { (first second : List (Option ℕ)) → IsTrue (is_same first second) ↔ (first ≡ second) }
 {}
 
-/// A walk from byte to byte finds the next, and nothing only where none is left.
+/// A walk from byte to byte finds the next one, and stops only if none is left.
 pub fn first_from_is_the_next_held()
     ensures next { (image : List (Option ℕ)) (addr place : ℕ) → first_from image addr ≡ Some place
         → IsNextHeld image addr place }
@@ -119,7 +118,7 @@ pub fn a_part_of_all_bytes_is_filled()
         → slice_range (filled_bytes image 0 (length image)) place end ≡ filled_bytes image place (end - place) }
 {}
 
-/// An image is that of its runs; each of them is a longest one, and ends inside.
+/// An image is made of its runs. Each run is longest and ends inside.
 pub fn an_image_is_its_runs()
     ensures longest { (image : List (Option ℕ)) → All (IsLongestRun image) (runs 0 image) }
     ensures inside { (image : List (Option ℕ)) → All (λ run. run.0 + length run.1 ≤ length image) (runs 0 image) }
@@ -127,8 +126,8 @@ pub fn an_image_is_its_runs()
         ≡ image }
 {}
 
-/// The runs from an address on are those from the next byte on, or none where none is left. From a byte on, the first
-/// is the bytes before the next gap, and the others are those after it.
+/// The runs from an address on are those from the next byte on. From a byte on, the first run is the bytes before the
+/// next gap, and the others come after it.
 pub fn runs_begin_at_the_next_byte()
     ensures none { (image : List (Option ℕ)) (addr : ℕ) → first_from image addr ≡ None
         → runs addr (drop addr image) ≡ [] }
@@ -138,8 +137,8 @@ pub fn runs_begin_at_the_next_byte()
         ≡ (addr, lead image) ∷ runs (addr + length (lead image)) (drop (length (lead image)) image) }
 {}
 
-/// The bytes before the next gap: there are some where a byte is next, as many as the run from there on has, and no
-/// more than the image has addresses; a page has the same.
+/// If a byte is next, the bytes before the next gap are not empty. The run from there and a page have the same bytes.
+/// They are no more than the image has addresses.
 pub fn a_run_is_the_bytes_before_a_gap()
     ensures some { (image : List (Option ℕ)) (addr place : ℕ) → first_from image addr ≡ Some place
         → 0 < length (lead (drop place image)) }
@@ -150,8 +149,8 @@ pub fn a_run_is_the_bytes_before_a_gap()
     ensures within { (image : List (Option ℕ)) → length (lead image) ≤ length image }
 {}
 
-/// A list that was written of some bytes, in any base and without its line end, gives them as values: they stand from
-/// address 0 on in each memory that they fit in. Of no bytes it is a bad first value.
+/// A written list without its line end, in any base, reads back as values from address 0 on, if they fit. An empty
+/// list reads as a bad first value.
 pub fn a_list_reads_back()
     ensures some { (base : Base) (bytes : List ℕ) (size : ℕ) → 0 < length bytes → length bytes ≤ size
         → All (λ byte. byte < 256) bytes → values (list_line base bytes) size ≡ Ok (from_zero bytes size) }

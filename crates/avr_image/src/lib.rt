@@ -1,10 +1,10 @@
 //! Images of a part's memories, and the plain files and texts that hold them.
 //!
-//! The ways to name the bytes of a memory are those of AVRDUDE's `-U`: raw files (`r`), values in the command line
-//! (`m`), and lists of numbers (`d`, `h`, `o`, `b`).
+//! The formats are those of AVRDUDE's `-U`: raw files (`r`), immediate values (`m`), and lists of numbers (`d`, `h`,
+//! `o`, `b`).
 //!
-//! An image is the list of its optional bytes, one for each byte address. `parse_immediate(alloc, "0x12, 0b101", 4)` is
-//! the image that holds 0x12 at address 0 and 0x05 at address 1.
+//! An image is the list of its optional bytes, one for each byte address. `parse_immediate(alloc, "0x12, 0b101", 4)`
+//! is the image that holds 0x12 at address 0 and 0x05 at address 1.
 #![tactic(auto)]
 
 mod bits;

@@ -1,4 +1,4 @@
-//! Lists of numbers, and the ways in which one is written.
+//! Lists of numbers.
 ghost use Rattle.std.specs.Prelude.{◌≡◌, ◌==◌, ◌+◌, ◌<◌, ◌≤◌, ◌++◌, ℕ, List, [], length, not, nat_lt, IsTrue};
 ghost use Rattle.arrayvec.specs.ArrayVec.{array_vec_len};
 ghost use Rattle.avr_image.specs.Lists.{list_text};
@@ -20,7 +20,7 @@ use std::marker::Model;
 pub enum Base {
     /// Decimal digits.
     Dec,
-    /// `0x` and hexadecimal digits in lower case.
+    /// `0x` and lower-case hexadecimal digits.
     Hex,
     /// Octal digits, after a `0` from 8 on.
     Oct,
@@ -28,11 +28,11 @@ pub enum Base {
     Bin,
 }
 
-/// The most bytes that a number takes with the comma or the line end after it.
+/// The longest number with its comma or line end.
 const LONGEST: usize = 11;
 
-/// Writes bytes as numbers on one line, joined by commas, in pieces of at most 80 bytes. Contracts see it as the text
-/// that is still to come.
+/// Writes bytes as numbers on one line, joined by commas, in pieces of at most 80 bytes. Contracts see the text still
+/// to come.
 ///
 /// ```text
 /// let mut text = Vec::new(alloc);
@@ -60,7 +60,7 @@ impl<'a> Model for ListWriter<'a> {
 }
 
 impl<'a> ListWriter<'a> {
-    /// A writer of these bytes, before its first piece. It borrows them and takes no memory.
+    /// Creates a writer of `bytes`, which it borrows. It allocates nothing.
     ///
     /// ```text
     /// let mut piece = ArrayVec::new();
@@ -84,7 +84,7 @@ impl<'a> ListWriter<'a> {
         self.ended
     }
 
-    /// Appends the next number and what stands after it, or the line end of an empty list.
+    /// Appends the next number with its comma or line end, or the line end of an empty list.
     fn push_next(&mut self, out: &mut ArrayVec<u8, 80>)
         requires more { 0 < length self.old }
         requires room { array_vec_len out.old + 11 ≤ 80 }
@@ -125,7 +125,7 @@ impl Pieces for ListWriter<'_> {
     }
 }
 
-/// Shows how the numbers are written, how many bytes are left, and whether the line has ended.
+/// Shows the base, how many bytes are left, and whether the line has ended.
 impl fmt::Debug for ListWriter<'_> {
     fn fmt<W: fmt::Write>(&self, f: &mut fmt::Formatter<W>) -> fmt::Result {
         f.debug_struct("ListWriter")

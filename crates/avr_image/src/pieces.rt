@@ -1,4 +1,4 @@
-//! Texts that come in pieces.
+//! Texts written in pieces.
 
 ghost use Rattle.std.specs.Prelude.{◌≡◌, ◌<◌, ◌↔◌, ◌++◌, ℕ, List, [], length, IfOk, IsTrue, OnOk};
 ghost use Rattle.std.specs.Io.KnownBytes.{Appends};
@@ -7,7 +7,7 @@ use arrayvec::ArrayVec;
 use std::alloc::{AllocError, Global};
 use std::io::{self, Write};
 
-/// A text that is written in pieces of at most 80 bytes, for which its writer needs no memory.
+/// A text written in pieces of at most 80 bytes. Its writer allocates nothing.
 ///
 /// ```text
 /// let mut writer = ListWriter::new(Base::Dec, &[18, 255]);
@@ -17,21 +17,24 @@ use std::io::{self, Write};
 /// assert!(rt; !writer.next_piece(&mut piece));
 /// ```
 pub trait Pieces {
-    // The text that is still to come.
+    // The text still to come.
     ghost rest: { Self → List ℕ };
 
-    // What a piece is, beside a part of the text.
+    // What a piece is, besides a part of the text.
     ghost IsPiece: { List ℕ → Type 0 };
 
-    /// Makes `out` the next piece of the text, which is never empty, and answers true; or empties it and answers false,
-    /// where nothing is left.
+    /// Puts the next piece into `out` and returns true, or empties `out` and returns false if no text is left.
     fn next_piece(&mut self, out: &mut ArrayVec<u8, 80>) -> bool
         ensures joined { rest self.old ≡ out.new.items ++ rest self.new }
         ensures some { IsTrue result ↔ (0 < length out.new.items) }
         ensures ends { IsTrue result ↔ (0 < length (rest self.old)) }
         ensures piece { IsTrue result → IsPiece out.new.items };
 
-    /// All of the text that is still to come, in memory of its own.
+    /// Collects the text still to come.
+    ///
+    /// # Errors
+    ///
+    /// `AllocError` if allocation fails.
     ///
     /// ```text
     /// let text = ListWriter::new(Base::Hex, &[18, 255]).to_vec(alloc)?;
@@ -50,8 +53,11 @@ pub trait Pieces {
         Ok(text)
     }
 
-    /// Writes all of the text that is still to come, and takes no memory. After an error of the writer a part of it
-    /// may have been written.
+    /// Writes the text still to come, without allocating.
+    ///
+    /// # Errors
+    ///
+    /// The writer's error; a part of the text may have been written.
     ///
     /// ```text
     /// let mut out = Vec::new(alloc);

@@ -8,8 +8,8 @@ use std::alloc::Global;
 use std::fmt;
 use std::marker::Model;
 
-/// Reads a raw file in pieces of any size. It keeps the image alone, so a fault comes with the first piece that goes
-/// past the memory; from then on the reader has failed.
+/// Reads a raw file in pieces of any size. It keeps only the image. A reader has failed once a piece went past the
+/// memory.
 ///
 /// ```text
 /// let mut reader = RawReader::new(alloc, 32_768)?;
@@ -37,8 +37,11 @@ impl Model for RawReader {
 impl RawReader {
     ghost use Rattle.avr_image.specs.Raw.{raw, without_image, HoldsText};
 
-    /// A reader for a memory of this many bytes, before any byte of the file. It takes all the memory that the reader
-    /// will ever need; where that is refused, the fault is `Memory`.
+    /// Creates a reader for a memory of `size` bytes. It allocates all that the reader will ever need.
+    ///
+    /// # Errors
+    ///
+    /// `Memory` if allocation fails.
     ///
     /// ```text
     /// let reader = RawReader::new(alloc, 64)?;
@@ -56,8 +59,11 @@ impl RawReader {
         })
     }
 
-    /// Takes the next bytes of the file. Where they go past the memory, the fault is `OutOfRange` with the memory's
-    /// size; from then on it is `Failed`.
+    /// Takes the next bytes of the file.
+    ///
+    /// # Errors
+    ///
+    /// `OutOfRange` with the memory's size if they go past the memory; `Failed` after any fault.
     ///
     /// ```text
     /// let mut reader = RawReader::new(alloc, 2)?;
@@ -71,7 +77,7 @@ impl RawReader {
             → HoldsText self.new (text ++ piece.now)) }
         ensures size { length self.new.image ≡ length self.old.image }
 
-        // After a fault the reader has failed, and stays so.
+        // A failed reader stays failed.
         ensures fails { OnErr result (self.new.failed ≡ true) }
         ensures failed { self.old.failed ≡ true → result ≡ Err ImageFault.Failed }
         ensures memory { result ≢ Err ImageFault.Memory }
@@ -91,7 +97,11 @@ impl RawReader {
         }
     }
 
-    /// The image of the whole file, its first byte at address 0; or `Failed` after a fault.
+    /// Returns the image of the whole file, its first byte at address 0.
+    ///
+    /// # Errors
+    ///
+    /// `Failed` after a fault.
     ///
     /// ```text
     /// let mut reader = RawReader::new(alloc, 64)?;
@@ -119,7 +129,7 @@ impl RawReader {
     }
 }
 
-/// Shows how many bytes came, and whether the reader has failed.
+/// Shows how many bytes came and whether the reader has failed.
 impl fmt::Debug for RawReader {
     fn fmt<W: fmt::Write>(&self, f: &mut fmt::Formatter<W>) -> fmt::Result {
         f.debug_struct("RawReader")

@@ -8,8 +8,8 @@ use crate::image::Image;
 use std::fmt;
 use std::marker::Model;
 
-/// The longest runs of bytes that follow each other without a gap, by rising address: the byte address of each with its
-/// bytes, which are lent. Contracts see it as the list of those that are left.
+/// Iterates over the longest runs of bytes without a gap, by rising address. Each item is a byte address and the
+/// borrowed bytes from there on. Contracts see the list of runs left.
 ///
 /// ```text
 /// let mut image = Image::new(alloc, 64)?;
@@ -23,7 +23,7 @@ use std::marker::Model;
 #[derive(Drop)]
 pub struct Runs<'a> {
     image: &'a Image,
-    /// The runs below this address were given.
+    /// All runs below this address were returned.
     addr: u32,
 }
 
@@ -63,7 +63,7 @@ impl<'a> Iterator for Runs<'a> {
     }
 }
 
-/// Shows the address below which the runs were given, and no byte.
+/// Shows the address below which all runs were returned.
 impl fmt::Debug for Runs<'_> {
     fn fmt<W: fmt::Write>(&self, f: &mut fmt::Formatter<W>) -> fmt::Result {
         f.debug_struct("Runs")

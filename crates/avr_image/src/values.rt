@@ -1,4 +1,4 @@
-//! Values given in the words of a command.
+//! Values given on the command line.
 
 ghost use Rattle.std.specs.Prelude.{◌≡◌, ◌+◌, ◌-◌, ◌<◌, ◌≤◌, ◌==◌, ◌||◌, ◌^◌, ℕ, List, length, min, option_map, Ok, Err, IfOk, OnOk, MatchResult};
 ghost use Rattle.avr_image.specs.Values.{is_separator, number_in_base, value_of, fitting_value, values};
@@ -11,14 +11,12 @@ use crate::fault::ImageFault;
 use crate::image::Image;
 use std::alloc::Global;
 
-/// Whether a byte separates values.
 fn separates(c: u8) -> bool
     ensures { result ≡ is_separator c }
 {
     c == b',' || c == b' ' || c == b'\t'
 }
 
-/// How many bytes stand before the first comma, space or tab.
 fn piece_len(text: &[u8]) -> usize
     ensures counted { result ≡ position_or_len is_separator text.now }
     ensures within { result ≤ length text.now }
@@ -31,7 +29,7 @@ fn piece_len(text: &[u8]) -> usize
     text.len()
 }
 
-/// The number that the digits of a base write, or 256 where it is larger.
+/// Returns the number that the digits write, or 256 if it is larger.
 fn read_number(base: u32, digits: &[u8]) -> Option<u32>
     requires low { 2 ≤ base }
     requires high { base ≤ 16 }
@@ -50,7 +48,6 @@ fn read_number(base: u32, digits: &[u8]) -> Option<u32>
     Some(value)
 }
 
-/// The number that a piece writes, or 256 where it is larger.
 fn read_value(piece: &[u8]) -> Option<u32>
     ensures { result ≡ option_map (λ n. min n 256) (value_of piece.now) }
 {
@@ -62,7 +59,6 @@ fn read_value(piece: &[u8]) -> Option<u32>
     }
 }
 
-/// The byte that a piece is for an address.
 fn judge(size: u32, addr: u32, piece: &[u8]) -> Result<u8, ImageFault>
     ensures { result ≡ fitting_value size (addr, piece.now) }
 {
@@ -78,7 +74,6 @@ fn judge(size: u32, addr: u32, piece: &[u8]) -> Result<u8, ImageFault>
     Ok(value as u8)
 }
 
-/// Lays the value of a piece down at an address.
 fn lay_value(image: &mut Image, addr: u32, piece: &[u8]) -> Result<(), ImageFault>
     ensures laid { MatchResult result (λ _. with_piece image.old addr piece.now ≡ Ok image.new)
         (λ fault. with_piece image.old addr piece.now ≡ Err fault) }
@@ -89,7 +84,6 @@ fn lay_value(image: &mut Image, addr: u32, piece: &[u8]) -> Result<(), ImageFaul
     image.put(addr, byte)
 }
 
-/// Lays the values of a text down from address 0 on.
 fn lay_values(image: &mut Image, text: &[u8]) -> Result<(), ImageFault>
     requires { image.old ≡ empty (length image.old) }
     ensures laid { MatchResult result (λ _. values text.now (length image.old) ≡ Ok image.new)
@@ -115,11 +109,14 @@ fn lay_values(image: &mut Image, text: &[u8]) -> Result<(), ImageFault>
     Ok(())
 }
 
-/// Reads values from the words of a command: `0x` and hexadecimal digits, `0b` and binary digits, `0` and octal digits,
-/// or decimal digits, separated by commas, spaces and tabs. They stand at the byte addresses 0, 1 and so on of a memory
-/// of `size` bytes. The first value at fault is told: `BadNumber` or `TooLarge` with its place, counted from 1, or
-/// `OutOfRange` with its address. A text without a value is `BadNumber(1)`. `Memory` is the answer where the image's
-/// memory is refused.
+/// Reads values from a command line option. A value is `0x` with hexadecimal digits, `0b` with binary ones, `0` with
+/// octal ones, or decimal digits. Commas, spaces and tabs separate values. They are put at the byte addresses 0, 1
+/// and so on of a memory of `size` bytes.
+///
+/// # Errors
+///
+/// The fault of the first bad value: `BadNumber` or `TooLarge` with its 1-based place, or `OutOfRange` with its
+/// address. `BadNumber(1)` if there is no value; `Memory` if allocation fails.
 ///
 /// ```text
 /// let image = parse_immediate(alloc, "0x12, 0b101 017", 4)?;

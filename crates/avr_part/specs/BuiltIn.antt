@@ -45,11 +45,10 @@ built_in_parts = m328p ∷ t85 ∷ m2560 ∷ []
 abbrev pub has_id : List ℕ → Part → Bool
 has_id id p = bytes_eq p.id id
 
--- the first part of this id, those of a file before the built-in ones
+-- the first part of this id; parts of a file come before the built-in ones
 abbrev pub part_of_id : List ℕ → List Part → Result Part PartFault
 part_of_id id parts = ok_or (find (has_id id) (parts ++ built_in_parts)) NoSuchPart
 
--- the parts of a file, if there is one
 abbrev pub parts_of_file : Option (Vec Part) → List Part
 parts_of_file None = []
 parts_of_file (Some v) = v.items

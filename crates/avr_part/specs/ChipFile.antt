@@ -1,4 +1,4 @@
--- The chip file: flash, EEPROM, low, high and extended fuse and lock, byte after byte.
+-- The chip file: flash, EEPROM, low, high and extended fuse and lock, without a gap.
 use Rattle.std.specs.Prelude.{◌+◌, ◌==◌, ℕ, List, [], ◌∷◌, ◌++◌, length, take, drop, slice_index, Result, Ok, Err, if◌then◌else◌}
 use Rattle.avr_part.specs.Part.{Part}
 use Rattle.avr_part.specs.State.{ChipState, fresh_state}

@@ -1,4 +1,4 @@
--- Why there is no part or no chip.
+-- Faults of parts and chips.
 use Rattle.std.specs.Prelude.{ℕ, List, codes}
 use Rattle.avr_part.specs.declared.fault.Field.{Field}
 use Rattle.avr_part.specs.declared.fault.Field.TheVariants as field

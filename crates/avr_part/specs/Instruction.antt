@@ -1,11 +1,11 @@
--- The serial programming instructions, by the table of the part's manual.
+-- The serial programming instructions, by the table of the part's data sheet.
 use Rattle.std.specs.Prelude.{ℕ, ◌==◌, ◌&&◌, ◌+◌, ◌*◌, List, if◌then◌else◌, slice_index}
 use Rattle.avr_part.specs.declared.instruction.Half.TheVariants as half
 use Rattle.avr_part.specs.declared.instruction.Fuse.TheVariants as fuse
 use Rattle.avr_part.specs.declared.instruction.Instruction.{Instruction}
 use Rattle.avr_part.specs.declared.instruction.Instruction.TheVariants.{Enable, Erase, LoadFlash, WriteFlashPage, ReadFlash, ReadEeprom, WriteEeprom, LoadEeprom, WriteEepromPage, WriteFuse, WriteLock, ReadFuse, ReadLock, ReadSignature, ReadCalibration, Poll, Extend, Nothing}
 
--- AC and a second byte
+-- instructions that begin with AC, by their second byte
 abbrev pub write_of : ℕ → ℕ → Instruction
 write_of b d =
     if b == 0x53 then Enable
@@ -16,7 +16,7 @@ write_of b d =
     else if b == 0xE0 then WriteLock d
     else Nothing
 
--- the instructions that read a fuse or the lock, by their first two bytes
+-- instructions that read a fuse or the lock, by their first two bytes
 abbrev pub read_of : ℕ → ℕ → Instruction
 read_of a b =
     if a == 0x50 && b == 0x00 then ReadFuse fuse.Low
@@ -43,6 +43,5 @@ instruction_by a b c d =
     else if a == 0x4D then Extend c
     else read_of a b
 
--- the instruction of four bytes
 abbrev pub instruction_of : List ℕ → Instruction
 instruction_of x = instruction_by (slice_index x 0) (slice_index x 1) (slice_index x 2) (slice_index x 3)

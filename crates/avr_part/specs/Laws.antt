@@ -1,16 +1,14 @@
--- What the laws of the chip speak of.
+-- Definitions for the laws of the chip.
 use Rattle.std.specs.Prelude.{◌≡◌}
 use Rattle.avr_part.specs.State.{ChipState}
 
--- the flash buffer is loaded again as it was
 abbrev pub flash_loaded_as : ChipState → ChipState → ChipState
 flash_loaded_as before s = record s { flash_buffer = before.flash_buffer }
 
--- the EEPROM buffer is loaded again as it was
 abbrev pub eeprom_loaded_as : ChipState → ChipState → ChipState
 eeprom_loaded_as before s = record s { eeprom_buffer = before.eeprom_buffer }
 
--- flash, EEPROM and fuses are as they were
+-- flash, EEPROM and fuses are unchanged
 pub record KeepsMemories (before s : ChipState) : Type 0 where
   pub flash : s.flash ≡ before.flash
   pub eeprom : s.eeprom ≡ before.eeprom

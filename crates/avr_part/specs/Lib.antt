@@ -11,5 +11,5 @@ pub mod Block
 pub mod Sound
 pub mod ChipFile
 pub mod Laws
--- inside: how things are kept, and what inner functions promise one another
+-- inside: how things are stored, and contracts of private functions
 pub mod Chip

@@ -17,7 +17,6 @@ name_of Calibration = codes "calibration"
 abbrev pub all_memories : List Mem
 all_memories = Flash ∷ Eeprom ∷ Lfuse ∷ Hfuse ∷ Efuse ∷ Lock ∷ Signature ∷ Calibration ∷ []
 
--- the memory of this name
 abbrev pub memory_named : List ℕ → Option Mem
 memory_named name = find (λ memory. bytes_eq (name_of memory) name) all_memories
 

@@ -11,11 +11,9 @@ abbrev pub map_indexed_from : ℕ → (ℕ → ℕ → ℕ) → List ℕ → Lis
 map_indexed_from i f [] = []
 map_indexed_from i f (x ∷ xs) = f i x ∷ map_indexed_from (suc i) f xs
 
--- each byte x at an address i becomes f i x
 abbrev pub map_indexed : (ℕ → ℕ → ℕ) → List ℕ → List ℕ
 map_indexed f xs = map_indexed_from 0 f xs
 
--- the address lies in the n bytes from start on
 abbrev pub is_in_span : ℕ → ℕ → ℕ → Bool
 is_in_span start n i = nat_le start i && nat_lt i (start + n)
 
@@ -29,15 +27,13 @@ blank xs = replicate (length xs) 255
 abbrev pub nothing_loaded : List (Option ℕ) → List (Option ℕ)
 nothing_loaded loads = replicate (length loads) None
 
--- within the page each byte becomes the one that was loaded for its place, if one was
+-- within the page each byte becomes the one loaded for its place, if any
 abbrev pub overlaid : ℕ → List (Option ℕ) → ℕ → ℕ → ℕ
 overlaid start loads i x =
     if is_in_span start (length loads) i then unwrap_or (slice_index_or loads (i - start) None) x else x
 
--- the first address of the page in which an address lies
 abbrev pub page_start : ℕ → ℕ → ℕ
 page_start page i = i / page * page
 
--- bytes in place of those from start on
 abbrev pub pasted : ℕ → List ℕ → List ℕ → List ℕ
 pasted start bytes xs = take start xs ++ (bytes ++ drop (start + length bytes) xs)

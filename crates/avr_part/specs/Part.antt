@@ -27,7 +27,7 @@ is_id text = is_between 1 31 (length text) && list_all is_id_byte text
 abbrev pub id_of : List ℕ → Option (List ℕ)
 id_of text = if is_id text then Some text else None
 
--- An id, and sizes that a part can have: a page divides 256, so it is a power of two up to 256, and a memory is whole
+-- A valid id, and sizes that a part can have: a page divides 256, so it is a power of two, and a memory is whole
 -- pages.
 pub record IsPart (p : Part) : Type 0 where
   pub id : is_id p.id ≡ true
@@ -45,7 +45,6 @@ pub record IsPart (p : Part) : Type 0 where
   pub eeprom_most : p.eeprom_size ≤ 4096
   pub eesave_bit : p.eesave_bit < 8
 
--- how many bytes a memory has
 abbrev pub size_of : Mem → Part → ℕ
 size_of Flash p = p.flash_size
 size_of Eeprom p = p.eeprom_size

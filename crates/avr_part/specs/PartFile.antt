@@ -1,4 +1,4 @@
--- The parts of a part file, as its TOML tree is judged.
+-- How the TOML tree of a part file is read.
 use Rattle.std.specs.Prelude.{◌≡◌, ◌≢◌, ◌≤◌, ◌⊎◌, ◌+◌, ℕ, ℤ, pos, negsuc, List, [], ◌∷◌, ◌&&◌, ◌==◌, ◌%◌, Option, Some, None, Result, Ok, Err, ok_or, codes, count_by, take, if◌then◌else◌}
 use Rattle.std.specs.Int.{is_power_of_two}
 use Rattle.std.specs.Str.{is_utf8}
@@ -29,7 +29,6 @@ abbrev pub number_in : Field → ℕ → ℕ → ℤ → Result ℕ PartFault
 number_in f least most (pos n) = if is_between least most n then Ok n else Err (BadValue f)
 number_in f least most (negsuc n) = Err (BadValue f)
 
--- a field that is a number from `least` to `most`
 abbrev pub number_field : Field → ℕ → ℕ → Option Data → Result ℕ PartFault
 number_field f least most d = do
   value ← ok_or d (Missing f)
@@ -47,14 +46,12 @@ abbrev pub hex_value : {E : Type 0} → Result Bytes E → Result Bytes PartFaul
 hex_value (Ok bytes) = Ok bytes
 hex_value (Err e) = Err (BadValue field.Signature)
 
--- the signature's three bytes
 abbrev pub signature_field : Option Data → Result Bytes PartFault
 signature_field d = do
   value ← ok_or d (Missing field.Signature)
   text ← ok_or (as_str value) (BadValue field.Signature)
   hex_value (decode_sized text 3)
 
--- the sizes are whole pages
 abbrev pub fitted_part : Part → Result Part PartFault
 fitted_part p =
     if p.flash_size % p.flash_page == 0 && p.eeprom_size % p.eeprom_page == 0 then Ok p else Err BadSizes
@@ -78,23 +75,21 @@ part_with id ms = do
     eesave_bit = eesave_bit;
   })
 
--- a member of the table of parts: a table, named by the part's id
+-- a member of the table of parts: a table named by the part's id
 abbrev pub part_of : Bytes → Data → Result Part PartFault
 part_of key d = do
   fields ← ok_or (as_table d) (BadValue field.Parts)
   id ← ok_or (id_of key) (BadValue field.Id)
   part_with id fields
 
--- why a part file is refused, and the id of the part that is at fault, if one is, and has an id
+-- why a part file is refused, and the id of the part at fault, if it has one
 pub record FileFault : Type 0 where
   pub part : Option Bytes
   pub fault : PartFault
 
--- a fault of no part
 abbrev pub of_file : PartFault → FileFault
 of_file fault = record { part = None; fault = fault }
 
--- the fault is of the part of this key
 abbrev pub in_part : Bytes → Result Part PartFault → Result Part FileFault
 in_part key (Ok part) = Ok part
 in_part key (Err fault) = Err (record { part = id_of key; fault = fault })
@@ -113,15 +108,14 @@ document_parts ms = do
   members ← ok_or (as_table parts) (of_file (BadValue field.Parts))
   parts_in members
 
--- how many lines a text has
 abbrev pub line_count : Bytes → ℕ
 line_count text = count_by (λ byte. byte == 10) text + 1
 
--- the line of a place in a text, from 1
+-- the 1-based line of a place in a text
 abbrev pub line_at : Bytes → ℕ → ℕ
 line_at text place = line_count (take place text)
 
--- why a part file is refused, and the line at which it is no TOML
+-- why a part file is refused, and the line at which it stops being TOML
 pub record PlacedFault : Type 0 where
   pub why : FileFault
   pub line : Option ℕ
@@ -132,7 +126,7 @@ not_toml_at line = record { why = of_file NotToml; line = Some line }
 abbrev pub lineless : FileFault → PlacedFault
 lineless why = record { why = why; line = None }
 
--- a text that is no TOML has a line, one of its own, and no other fault has one
+-- a text that is not TOML has a line, one of its own; no other fault has one
 abbrev pub HasLine : Bytes → PartFault → Option ℕ → Type 0
 HasLine text fault (Some line) = (fault ≡ NotToml) × (1 ≤ line) × (line ≤ line_count text)
 HasLine text fault None = fault ≢ NotToml
@@ -140,7 +134,6 @@ HasLine text fault None = fault ≢ NotToml
 abbrev pub IsPlaced : Bytes → PlacedFault → Type 0
 IsPlaced text f = HasLine text f.why.fault f.line
 
--- what was read, whatever the line
 abbrev pub unplaced : {T : Type 0} → Result T PlacedFault → Result T FileFault
 unplaced (Ok t) = Ok t
 unplaced (Err f) = Err f.why
@@ -148,18 +141,16 @@ unplaced (Err f) = Err f.why
 abbrev pub utf8_text : Bytes → Option Bytes
 utf8_text bytes = if is_utf8 bytes then Some bytes else None
 
--- the parts that a text defines
 abbrev pub parts_of : Bytes → Result (List Part) FileFault
 parts_of bytes = do
   text ← ok_or (utf8_text bytes) (of_file NotToml)
   document ← ok_or (parse_document text) (of_file NotToml)
   document_parts document
 
--- the result is the one wanted, or memory was refused
+-- the wanted result, or allocation failed
 abbrev pub GivesOrMemory : {T : Type 0} → Result T PartFault → Result T PartFault → Type 0
 GivesOrMemory want got = (got ≡ want) ⊎ (got ≡ Err Memory)
 
--- the same of what a file gives
 abbrev pub ReadsOrMemory : {T : Type 0} → Result T FileFault → Result T FileFault → Type 0
 ReadsOrMemory want got = (got ≡ want) ⊎ (got ≡ Err (of_file Memory))
 
@@ -167,7 +158,7 @@ abbrev pub listed_items : Result (Vec Part) FileFault → Result (List Part) Fil
 listed_items (Ok v) = Ok v.items
 listed_items (Err e) = Err e
 
--- what was read is the document, or memory was refused
+-- the document, or allocation failed
 abbrev pub ReadsDocument : Option Members → Result (BTreeMap (String Global) Value) PlacedFault → Type 0
 ReadsDocument want (Ok t) = want ≡ Some (table_view t)
 ReadsDocument want (Err e) = (e.why ≡ of_file Memory) ⊎ ((e.why ≡ of_file NotToml) × (want ≡ None))

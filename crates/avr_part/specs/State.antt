@@ -1,4 +1,4 @@
--- The chip, as its memories and buffers, and what each instruction does to them.
+-- The chip as its memories and buffers, and what each instruction does to them.
 use Rattle.std.specs.Prelude.{ℕ, Bool, ◌+◌, ◌*◌, ◌/◌, ◌%◌, ◌==◌, List, [], ◌∷◌, Option, Some, None, replicate, slice_index, slice_set, bit_and, if◌then◌else◌}
 use Rattle.std.specs.Int.{bit_at}
 use Rattle.avr_part.specs.Memory.{map_indexed, byte_and_page, overlaid, blank, nothing_loaded, page_start}
@@ -25,7 +25,7 @@ pub record ChipState : Type 0 where
   pub eeprom_buffer : List (Option ℕ)
   pub extended : ℕ
 
--- a chip whose memories are all FF, and whose buffers are empty
+-- a chip whose memories are all FF and whose buffers are empty
 abbrev pub fresh_state : Part → ChipState
 fresh_state p = record {
   part = p;
@@ -40,7 +40,7 @@ fresh_state p = record {
   extended = 0;
 }
 
--- an empty flash buffer is FF, and nothing is loaded in an empty EEPROM buffer
+-- FF in all of the flash buffer, nothing in the EEPROM buffer
 abbrev pub with_empty_buffers : ChipState → ChipState
 with_empty_buffers s = record s {
   flash_buffer = blank s.flash_buffer;
@@ -59,7 +59,7 @@ with_erased s = record s {
   eeprom = if keeps_eeprom s then s.eeprom else blank s.eeprom;
 }
 
--- lock bit 0 is 0: nothing but a chip erase changes flash, EEPROM and fuses
+-- lock bit 0 is 0: only a chip erase changes flash, EEPROM and fuses
 abbrev pub is_locked : ChipState → Bool
 is_locked s = bit_at s.lock 0 == 0
 
@@ -72,7 +72,7 @@ with_load h word byte s = record s {
   flash_buffer = slice_set s.flash_buffer (word % (s.part.flash_page / 2) * 2 + half_offset h) byte;
 }
 
--- the address of the low byte of a word
+-- the address of a word's low byte
 abbrev pub word_address : ChipState → ℕ → ℕ
 word_address s word = (s.extended * 65536 + word) % (s.part.flash_size / 2) * 2
 
@@ -125,7 +125,7 @@ fuse_of fuse.Extended s = s.efuse
 abbrev pub signature_byte : ℕ → ChipState → ℕ
 signature_byte place s = if place % 4 == 3 then 255 else slice_index s.part.signature (place % 4)
 
--- the byte that an instruction reads; one that reads none gives its third byte back
+-- the byte that an instruction reads, or its third byte if it reads none
 abbrev pub answer_of : Instruction → ℕ → ChipState → ℕ
 answer_of (ReadFlash h word) third s = flash_byte h word s
 answer_of (ReadEeprom address) third s = eeprom_byte address s
@@ -136,7 +136,6 @@ answer_of ReadCalibration third s = 255
 answer_of Poll third s = 0
 answer_of i third s = third
 
--- what an instruction changes
 abbrev pub after_instruction : Instruction → ChipState → ChipState
 after_instruction Enable s = with_empty_buffers s
 after_instruction Erase s = with_erased s
@@ -150,13 +149,11 @@ after_instruction (WriteLock byte) s = with_lock byte s
 after_instruction (Extend byte) s = record s { extended = byte }
 after_instruction i s = s
 
--- four bytes in, and four bytes out
 abbrev pub spi_of : List ℕ → ChipState → List ℕ × ChipState
 spi_of x s =
     let i = instruction_of x in
     (0 ∷ slice_index x 0 ∷ slice_index x 1 ∷ answer_of i (slice_index x 2) s ∷ [], after_instruction i s)
 
--- the bytes of a memory
 abbrev pub memory_of : Mem → ChipState → List ℕ
 memory_of Flash s = s.flash
 memory_of Eeprom s = s.eeprom

@@ -5,7 +5,6 @@ ghost use Rattle.avr_part.specs.BuiltIn.{m328p, t85, m2560, built_in_parts};
 use crate::part::Part;
 use arrayvec::ArrayString;
 
-/// The text of an id.
 fn id_from(id: &str) -> ArrayString<31>
     requires { length id.now ≤ 31 }
     ensures { result.bytes ≡ id.now }
@@ -57,7 +56,6 @@ fn m2560() -> Part
     }
 }
 
-/// The built-in part at this place of their list.
 pub fn built_in_at(place: usize) -> Option<Part>
     ensures { result ≡ slice_get built_in_parts place }
 {

@@ -11,8 +11,7 @@ use std::alloc::{AllocError, Global};
 use std::marker::Model;
 use std::{fmt, slice};
 
-/// A chip of some part: its memories, its page buffers and its extended address. Contracts see it as the record of
-/// these.
+/// A chip of some part: its memories, page buffers and extended address.
 ///
 /// ```text
 /// let mut chip = Chip::fresh(alloc, Parts::none().find("m328p")?)?;
@@ -45,14 +44,12 @@ impl Model for Chip {
     ghost invariant = { IsSoundInside };
 }
 
-/// The number of a word, with the extended address in front.
 fn extended_word(extended: u8, word: u16) -> usize
     ensures { result ≡ extended * 65536 + word }
 {
     usize::from(extended) * 65536 + usize::from(word)
 }
 
-/// The first address of the page in which an address lies.
 fn page_start(at: usize, page: usize, size: usize) -> usize
     requires inside { at < size }
     requires some { 0 < page }
@@ -70,9 +67,11 @@ impl Chip {
     ghost use Rattle.avr_part.specs.Sound.{IsSoundChip};
     ghost use Rattle.avr_part.specs.PartFile.{GivesOrMemory};
 
-    /// A chip of this part whose memories are all FF.
+    /// Creates a chip of this part whose memories are all FF.
     ///
-    /// The one fault is [`PartFault::Memory`].
+    /// # Errors
+    ///
+    /// [`PartFault::Memory`] if allocation fails.
     ///
     /// ```text
     /// let chip = Chip::fresh(alloc, Parts::none().find("t85")?)?;
@@ -92,7 +91,7 @@ impl Chip {
         Chip::holding(alloc, part, flash, eeprom)
     }
 
-    /// A chip of this part with these memories, whose fuses and lock are FF.
+    /// Creates a chip with these memories; fuses and lock are FF.
     pub(crate) fn holding(
         alloc: Global,
         part: Part,
@@ -119,7 +118,7 @@ impl Chip {
         })
     }
 
-    /// The part that the chip is.
+    /// Returns the chip's part.
     ///
     /// ```text
     /// let chip = Chip::fresh(alloc, Parts::none().find("t85")?)?;
@@ -158,7 +157,7 @@ impl Chip {
         self.part.page_of(Mem::Eeprom) as usize
     }
 
-    /// Both buffers are emptied, and the extended address is 0.
+    /// Empties both buffers and sets the extended address to 0.
     #[inline(never)]
     fn enable(&mut self)
         ensures { self.new ≡ with_empty_buffers self.old }
@@ -168,7 +167,6 @@ impl Chip {
         self.extended = 0;
     }
 
-    /// Whether an erase keeps the EEPROM.
     fn keeps_eeprom(&self) -> bool
         ensures { result ≡ keeps_eeprom self.now }
     {
@@ -187,7 +185,6 @@ impl Chip {
         }
     }
 
-    /// The place of a word in the page buffer.
     fn buffer_place(&self, word: u8) -> usize
         ensures value { result ≡ word % (self.now.part.flash_page / 2) * 2 }
         ensures inside { result + 1 < self.now.part.flash_page }
@@ -205,7 +202,7 @@ impl Chip {
         }
     }
 
-    /// The address of the low byte of a word.
+    /// Returns the address of a word's low byte.
     fn word_address(&self, word: u16) -> usize
         ensures value { result ≡ word_address self.now word }
         ensures inside { result + 1 < self.now.part.flash_size }
@@ -221,7 +218,7 @@ impl Chip {
         usize::from(address) % self.eeprom_size()
     }
 
-    /// Whether lock bit 0 is programmed, so that nothing but a chip erase changes flash, EEPROM and fuses.
+    /// Returns whether lock bit 0 is programmed: then only a chip erase changes flash, EEPROM and fuses.
     fn is_locked(&self) -> bool
         ensures { result ≡ is_locked self.now }
     {
@@ -325,7 +322,7 @@ impl Chip {
         }
     }
 
-    /// The byte that an instruction reads; one that reads none gives its third byte back.
+    /// Returns the byte that an instruction reads, or `third` if it reads none.
     #[inline(always)]
     fn answer(&self, instruction: Instruction, third: u8) -> u8
         ensures { result ≡ answer_of instruction third self.now }
@@ -342,7 +339,6 @@ impl Chip {
         }
     }
 
-    /// What an instruction changes.
     #[inline(always)]
     fn obey(&mut self, instruction: Instruction)
         ensures { self.new ≡ after_instruction instruction self.old }
@@ -362,11 +358,11 @@ impl Chip {
         }
     }
 
-    /// Four bytes in, and four bytes out: 00, the first two bytes in, and the byte that the instruction reads, or the
-    /// third byte in where it reads none. Bytes that are no instruction change nothing.
+    /// Runs one instruction. Returns 00, the first two bytes, and the byte that it reads, or the third byte if it
+    /// reads none. Bytes that are no instruction change nothing.
     ///
-    /// Takes no memory. A chip erase takes the time of the memories, a page write and programming enable that of the
-    /// page buffers, all else constant time.
+    /// It allocates nothing. A chip erase takes the time of the memories, a page write and programming enable that of
+    /// the page buffers, all else constant time.
     ///
     /// ```text
     /// let mut chip = Chip::fresh(alloc, Parts::none().find("m328p")?)?;
@@ -382,9 +378,8 @@ impl Chip {
         [0, bytes[0], bytes[1], answer]
     }
 
-    /// Loads the bytes of a block as so many instructions 40 and 48 do, the low and the high byte of each word in turn
-    /// from a word of the page on, and says whether it did. A block that reaches over the end of the page changes
-    /// nothing.
+    /// Loads a block as instructions 40 and 48 would, from a word of the page on, low byte first. Returns false and
+    /// changes nothing if the block reaches over the page's end.
     ///
     /// ```text
     /// let mut chip = Chip::fresh(alloc, Parts::none().find("m328p")?)?;
@@ -417,9 +412,8 @@ impl Chip {
         self.flash_buffer.paste(place, bytes);
     }
 
-    /// The bytes of a block, as so many instructions 20 and 28 read them, the low and the high byte of each word in
-    /// turn from a word on; `None` for a block that reaches over the end of flash, or over the last word that can be
-    /// read without another extended address.
+    /// Returns `count` bytes from a word on as instructions 20 and 28 read them, low byte first. Returns `None` if
+    /// the block reaches over the end of flash, or needs another extended address.
     ///
     /// ```text
     /// let chip = Chip::fresh(alloc, Parts::none().find("t85")?)?;
@@ -451,7 +445,7 @@ impl Chip {
         &self.flash.as_slice()[start..start + usize::from(count)]
     }
 
-    /// The bytes of a memory, that of address 0 first.
+    /// Returns the bytes of a memory, address 0 first.
     ///
     /// ```text
     /// let chip = Chip::fresh(alloc, Parts::none().find("m328p")?)?;
@@ -473,7 +467,7 @@ impl Chip {
         }
     }
 
-    /// The byte of a memory at an address, or `None` after its end.
+    /// Returns the byte of a memory at an address, or `None` after its end.
     ///
     /// ```text
     /// let chip = Chip::fresh(alloc, Parts::none().find("m328p")?)?;
@@ -487,7 +481,7 @@ impl Chip {
     }
 }
 
-/// Shows the part's id, and no memory.
+/// Shows the part's id.
 impl fmt::Debug for Chip {
     fn fmt<W: fmt::Write>(&self, f: &mut fmt::Formatter<W>) -> fmt::Result {
         f.debug_struct("Chip")

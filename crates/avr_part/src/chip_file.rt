@@ -1,4 +1,4 @@
-//! The chip file: flash, EEPROM, low, high and extended fuse and lock, byte after byte.
+//! The chip file.
 ghost use Rattle.std.specs.Prelude.{◌≡◌, ◌+◌, IfOk, IfErr, length, Ok};
 ghost use Rattle.avr_part.specs.ChipFile.{chip_file, chip_file_size, chip_in, state_in};
 ghost use Rattle.avr_part.specs.PartFile.{GivesOrMemory};
@@ -10,7 +10,7 @@ use crate::part::{Mem, Part};
 use std::alloc::{AllocError, Global};
 
 impl Part {
-    /// Returns how many bytes a chip file of this part has: its flash and EEPROM, three fuses and the lock.
+    /// Returns the size of this part's chip file in bytes: its flash and EEPROM, three fuses and the lock.
     ///
     /// ```text
     /// assert_eq!(rt; Parts::none().find("m328p")?.chip_file_size(), 33_796);
@@ -22,7 +22,6 @@ impl Part {
     }
 }
 
-/// The chip of a file that has the part's length.
 fn read_chip(alloc: Global, part: Part, bytes: &[u8]) -> Result<Chip, AllocError>
     requires { length bytes.now ≡ chip_file_size part }
     ensures { IfOk result (λ c. c ≡ state_in part bytes.now) }
@@ -41,7 +40,6 @@ fn read_chip(alloc: Global, part: Part, bytes: &[u8]) -> Result<Chip, AllocError
     Ok(chip)
 }
 
-/// The bytes of a chip file.
 fn write_chip(alloc: Global, chip: &Chip) -> Result<Vec<u8>, AllocError>
     ensures { IfOk result (λ v. v.items ≡ chip_file chip.now) }
 {
@@ -53,10 +51,12 @@ fn write_chip(alloc: Global, chip: &Chip) -> Result<Vec<u8>, AllocError>
 }
 
 impl Chip {
-    /// The chip of this part whose memories are those of a chip file, with empty buffers.
+    /// Creates a chip of this part from a chip file, with empty buffers. The file is flash, EEPROM, low, high and
+    /// extended fuse and lock, without a gap.
     ///
-    /// A file is flash, EEPROM, low, high and extended fuse and lock, without a gap. The faults are
-    /// [`PartFault::BadChipFile`] where its length is another than the part's, and [`PartFault::Memory`].
+    /// # Errors
+    ///
+    /// [`PartFault::BadChipFile`] if its length is not the part's; [`PartFault::Memory`] if allocation fails.
     ///
     /// ```text
     /// let chip = Chip::from_bytes(alloc, Parts::none().find("t85")?, &[0; 100]);
@@ -71,7 +71,11 @@ impl Chip {
         read_chip(alloc, part, bytes).map_err(|_| PartFault::Memory)
     }
 
-    /// The bytes of the chip's file. The one fault is [`PartFault::Memory`].
+    /// Returns the bytes of the chip's file.
+    ///
+    /// # Errors
+    ///
+    /// [`PartFault::Memory`] if allocation fails.
     ///
     /// ```text
     /// let chip = Chip::fresh(alloc, Parts::none().find("t85")?)?;

@@ -1,20 +1,20 @@
-//! Why there is no part or no chip.
+//! Faults of parts and chips.
 ghost use Rattle.std.specs.Prelude.{◌≡◌, Some};
 ghost use Rattle.avr_part.specs.Fault.{field_name, part_fault_number};
 
 use std::fmt;
 use thiserror::Error;
 
-/// What a fault of a part file is about.
+/// The field of a part file that is at fault.
 ///
 /// ```text
 /// assert_eq!(rt; Field::Id.name(), "id");
 /// ```
 #[derive(Clone, Copy, Debug, PartialEq, Eq)]
 pub enum Field {
-    /// The table of parts, or a member of it that is no table.
+    /// The table of parts, or a member that is no table.
     Parts,
-    /// The key of a part's table.
+    /// The key of a part's table, which is the part's id.
     Id,
     Signature,
     FlashSize,
@@ -25,7 +25,7 @@ pub enum Field {
 }
 
 impl Field {
-    /// The key, as it stands in a part file; `id` for the key of a part's table, which is the part's id.
+    /// Returns the key as the part file spells it; `id` for the key of a part's table.
     ///
     /// ```text
     /// assert_eq!(rt; Field::FlashSize.name(), "flash_size");
@@ -54,20 +54,20 @@ impl fmt::Display for Field {
     }
 }
 
-/// Why there is no part or no chip.
+/// Why a part or a chip couldn't be made or found.
 ///
 /// ```text
 /// assert_eq!(rt; Parts::none().find("m9").err(), Some(PartFault::NoSuchPart));
 /// ```
 #[derive(Clone, Copy, PartialEq, Eq, Error)]
 pub enum PartFault {
-    /// The part file is no TOML, or not UTF-8.
+    /// The part file is not TOML, or not UTF-8.
     #[error("not TOML")]
     NotToml,
-    /// The part file lacks a field.
+    /// The part file lacks this field.
     #[error("{0} is missing")]
     Missing(Field),
-    /// A field has a value that no part has.
+    /// The field has a value that no part has.
     #[error("{0} has a bad value")]
     BadValue(Field),
     /// A memory is not whole pages.
@@ -76,16 +76,16 @@ pub enum PartFault {
     /// Neither the part file nor the built-in list has a part of this id.
     #[error("no part of this id")]
     NoSuchPart,
-    /// A chip file has this many bytes, and another number is wanted for the part.
+    /// The chip file has this many bytes, not the part's number.
     #[error("{0} bytes, another number expected")]
     BadChipFile(usize),
-    /// Memory was refused.
+    /// Allocation failed.
     #[error("out of memory")]
     Memory,
 }
 
 impl PartFault {
-    /// The fault's number, from 1 on.
+    /// Returns the fault's number, from 1 on.
     ///
     /// ```text
     /// assert_eq!(rt; PartFault::Missing(Field::Signature).number(), 2);

@@ -1,4 +1,4 @@
-//! Why a part file is refused, in which part, and at which line.
+//! Faults of a part file, with their part and line.
 ghost use Rattle.std.specs.Prelude.{◌≡◌, Some, option_map};
 ghost use Rattle.avr_part.specs.Part.{id_of};
 ghost use Rattle.avr_part.specs.PartFile.{of_file, not_toml_at, lineless};
@@ -10,7 +10,6 @@ use std::error::Error;
 use std::fmt;
 use std::marker::Model;
 
-/// What is at fault in a part file, and the id of the part that has it, if one has.
 #[derive(Drop)]
 pub(crate) struct FileFault {
     part: Option<ArrayString<31>>,
@@ -27,14 +26,12 @@ impl Model for FileFault {
 }
 
 impl FileFault {
-    /// A fault of no part.
     pub(crate) fn of_file(fault: PartFault) -> FileFault
         ensures { result ≡ of_file fault }
     {
         FileFault { part: None, fault }
     }
 
-    /// A fault of the part of this key.
     pub(crate) fn of_part(key: &str, fault: PartFault) -> FileFault
         ensures { result ≡ record { part = id_of key.now; fault = fault } }
     {
@@ -60,7 +57,7 @@ impl FileFault {
     }
 }
 
-/// Why a part file is refused; the id of the part that is at fault, if one is; and the line at which a text is no TOML.
+/// Why a part file is refused, with the id of the part at fault and the line at which the text stops being TOML.
 ///
 /// ```text
 /// let refused = parse_parts(alloc, b"[parts.x1]");
@@ -84,7 +81,6 @@ impl Model for PartFileFault {
 }
 
 impl PartFileFault {
-    /// A text that is no TOML, from this line on.
     pub(crate) fn not_toml_at(line: usize) -> PartFileFault
         ensures { result ≡ not_toml_at line }
     {
@@ -94,15 +90,14 @@ impl PartFileFault {
         }
     }
 
-    /// A fault that has no line.
     pub(crate) fn lineless(why: FileFault) -> PartFileFault
         ensures { result ≡ lineless why }
     {
         PartFileFault { why, line: None }
     }
 
-    /// The id of the part that is at fault. None where the file is no TOML, the table of parts isn't there or is no
-    /// table, the part's key is no id, and where memory was refused.
+    /// Returns the id of the part at fault. It is missing if the file is not TOML, `parts` is missing or no table,
+    /// the part's key is no id, or allocation failed.
     ///
     /// ```text
     /// if let Err(fault) = parse_parts(alloc, b"parts = 3") {
@@ -115,7 +110,7 @@ impl PartFileFault {
         self.why.part()
     }
 
-    /// What is at fault.
+    /// Returns the fault.
     ///
     /// ```text
     /// if let Err(fault) = parse_parts(alloc, b"parts = 3") {
@@ -128,11 +123,11 @@ impl PartFileFault {
         self.why.fault()
     }
 
-    /// The line at which the text stops being TOML, counted from 1: of bytes that aren't UTF-8 that of the first bad
-    /// byte, else that of the first byte of what `toml` refuses. None of every other fault.
+    /// Returns the 1-based line at which the text stops being TOML, or `None` for every other fault. It is the line
+    /// of the first byte that is not UTF-8, else of the first byte that `toml` refuses.
     ///
-    /// What is refused may be empty: then it is the line of that place. Of a key that is given twice it is the second
-    /// one's line.
+    /// The refused text may be empty: then it is the line of that place. Of a duplicate key it is the second one's
+    /// line.
     ///
     /// ```text
     /// if let Err(fault) = parse_parts(alloc, b"a = 1\na = 2\n") {
@@ -146,7 +141,7 @@ impl PartFileFault {
     }
 }
 
-/// `part ID: ` in front of the fault's text, where a part is at fault.
+/// Writes the fault's text, after `part ID: ` if a part is at fault.
 impl fmt::Display for PartFileFault {
     fn fmt<W: fmt::Write>(&self, f: &mut fmt::Formatter<W>) -> fmt::Result {
         if let Some(id) = self.part() {

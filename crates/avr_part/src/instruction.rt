@@ -4,7 +4,7 @@ ghost use Rattle.avr_part.specs.Instruction.{instruction_of, write_of};
 
 use std::fmt;
 
-/// One of the two bytes of a word of flash.
+/// One of the two bytes of a flash word.
 ///
 /// ```text
 /// let read = Instruction::of([0x28, 0x01, 0x02, 0]);
@@ -31,9 +31,9 @@ pub enum Fuse {
     Extended,
 }
 
-/// What four bytes ask of the chip (ATmega328P data sheet, table "Serial Programming Instruction Set").
+/// An instruction of four bytes (ATmega328P data sheet, table "Serial Programming Instruction Set").
 ///
-/// A `word`, an `address` and a `place` are as they stand in the bytes: how they wrap depends on the part.
+/// A `word`, `address` or `place` is as in the bytes; how it wraps depends on the part.
 ///
 /// ```text
 /// assert_eq!(rt; Instruction::of([0xAC, 0x53, 0, 0]), Instruction::Enable);
@@ -74,12 +74,12 @@ pub enum Instruction {
     Poll,
     /// 4D: load the extended address.
     Extend { byte: u8 },
-    /// Any other bytes.
+    /// All other bytes.
     Nothing,
 }
 
 impl Instruction {
-    /// The instruction of four bytes.
+    /// Decodes four bytes.
     ///
     /// ```text
     /// assert_eq!(rt; Instruction::of([0xA0, 0x01, 0x02, 0]), Instruction::ReadEeprom { address: 0x0102 });
@@ -143,7 +143,6 @@ impl Instruction {
 }
 
 impl Instruction {
-    /// The name of the variant.
     fn name(&self) -> &'static str {
         match self {
             Instruction::Enable => "Enable",
@@ -168,14 +167,13 @@ impl Instruction {
     }
 }
 
-/// Shows the name of the variant, and no field.
+/// Shows the variant's name.
 impl fmt::Debug for Instruction {
     fn fmt<W: fmt::Write>(&self, f: &mut fmt::Formatter<W>) -> fmt::Result {
         f.write_str(self.name())
     }
 }
 
-/// The instruction that begins with AC, by its second byte.
 fn write_of(second: u8, last: u8) -> Instruction
     ensures { result ≡ write_of second last }
 {

@@ -1,4 +1,4 @@
-//! One part of a part file, judged.
+//! Checks one part of a part file.
 ghost use Rattle.std.specs.Prelude.{◌≡◌, ◌≢◌, ◌≤◌, ◌<◌, ◌%◌, codes, option_map, IfOk, IfErr, IfSome, length, true};
 ghost use Rattle.std.specs.List.{list_all};
 ghost use Rattle.hex.specs.Hex.{decode_sized};
@@ -36,7 +36,6 @@ fn is_id(text: &[u8]) -> bool
     has_id_bytes(text)
 }
 
-/// The key as an id.
 pub(crate) fn id_of(key: &str) -> Option<ArrayString<31>>
     ensures value { option_map (λ t. t.bytes) result ≡ id_of key.now }
     ensures is_id { IfSome result (λ t. is_id t.bytes ≡ true) }
@@ -50,14 +49,12 @@ pub(crate) fn id_of(key: &str) -> Option<ArrayString<31>>
     }
 }
 
-/// The value at a key.
 pub(crate) fn at_key<'a>(table: &'a Table, key: &str) -> Option<&'a Value>
     ensures { option_map (λ v. view v.now) result ≡ get_member key.now (table_view table.now) }
 {
     table.get(key)
 }
 
-/// A number from `least` to `most`.
 fn number_in(field: Field, least: u32, most: u32, number: i64) -> Result<u32, PartFault>
     ensures value { result ≡ number_in field least most number }
     ensures least { IfOk result (λ n. least ≤ n) }
@@ -70,7 +67,6 @@ fn number_in(field: Field, least: u32, most: u32, number: i64) -> Result<u32, Pa
     }
 }
 
-/// A field that is a number from `least` to `most`.
 fn number(table: &Table, key: &str, field: Field, least: u32, most: u32) -> Result<u32, PartFault>
     ensures value { result ≡ number_field field least most (get_member key.now (table_view table.now)) }
     ensures least { IfOk result (λ n. least ≤ n) }
@@ -82,7 +78,6 @@ fn number(table: &Table, key: &str, field: Field, least: u32, most: u32) -> Resu
     number_in(field, least, most, number)
 }
 
-/// A number up to 256, where it is a power of two.
 #[tactic(auto, using(crate::proofs::Powers::power_divides, crate::proofs::Powers::power_is_even))]
 fn power(field: Field, number: u32) -> Result<u32, PartFault>
     requires { number ≤ 256 }
@@ -99,7 +94,7 @@ fn power(field: Field, number: u32) -> Result<u32, PartFault>
     }
 }
 
-/// A field that is a page: a power of two from `least` to 256.
+/// Reads a field that is a page: a power of two from `least` to 256.
 fn page(table: &Table, key: &str, field: Field, least: u32) -> Result<u32, PartFault>
     ensures value { result ≡ page_field field least (get_member key.now (table_view table.now)) }
     ensures least { IfOk result (λ n. least ≤ n) }
@@ -110,7 +105,6 @@ fn page(table: &Table, key: &str, field: Field, least: u32) -> Result<u32, PartF
     power(field, number(table, key, field, least, 256)?)
 }
 
-/// The bytes of a signature.
 fn signature_in(text: &str) -> Result<[u8; 3], PartFault>
     ensures value { result ≡ hex_value (decode_sized text.now 3) }
     ensures toml { IfErr result (λ fault. fault ≢ PartFault.NotToml) }
@@ -127,7 +121,7 @@ fn signature(table: &Table) -> Result<[u8; 3], PartFault>
     signature_in(text)
 }
 
-/// The fields of a part, in their order.
+/// Reads the fields of a part, in the order of [`Field`].
 fn judge_fields(id: ArrayString<31>, table: &Table) -> Result<Part, PartFault>
     requires { is_id id.bytes ≡ true }
     ensures value { result ≡ part_with id.bytes (table_view table.now) }
@@ -153,7 +147,6 @@ fn judge_fields(id: ArrayString<31>, table: &Table) -> Result<Part, PartFault>
     })
 }
 
-/// A member of the table of parts.
 fn judge_part(key: &str, value: &Value) -> Result<Part, PartFault>
     ensures value { result ≡ part_of key.now (view value.now) }
     ensures toml { IfErr result (λ fault. fault ≢ PartFault.NotToml) }
@@ -163,7 +156,7 @@ fn judge_part(key: &str, value: &Value) -> Result<Part, PartFault>
     judge_fields(id, table)
 }
 
-/// A member of the table of parts, or its fault with the part's id.
+/// Reads a member of the table of parts; a fault carries the part's id.
 pub(crate) fn judge_member(key: &str, value: &Value) -> Result<Part, FileFault>
     ensures value { result ≡ in_part key.now (part_of key.now (view value.now)) }
     ensures toml { IfErr result (λ fault. fault.fault ≢ PartFault.NotToml) }

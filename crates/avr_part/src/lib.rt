@@ -1,8 +1,8 @@
-//! AVR parts: what is known of them, the part file, and the chip behind its serial programming pins.
+//! AVR parts: their data, the part file, and the chip behind its serial programming pins.
 //!
 //! Sizes and instructions are those of the parts' data sheets (ATmega328P: "Memory Programming", table "Serial
-//! Programming Instruction Set"); docs/PART.md has them all. The one idea: four bytes are decoded once, to an
-//! instruction, and that acts on memories that are lists of bytes.
+//! Programming Instruction Set"); docs/PART.md has them all. Four bytes are decoded once to an instruction, which
+//! acts on memories that are lists of bytes.
 //!
 //! ```text
 //! let mut chip = Chip::fresh(alloc, Parts::none().find("m328p")?)?;
@@ -10,9 +10,9 @@
 //! ```
 #![tactic(auto)]
 
-// what a part is, and how one is found
+// a part and its memories
 mod part;
-// the built-in ones
+// the built-in parts
 mod built_in;
 mod parts;
 // the part file
@@ -21,11 +21,11 @@ mod file_fault;
 mod judge;
 mod lines;
 mod part_file;
-// the chip: what four bytes ask of it,
+// the chip: its instructions
 mod instruction;
-// the memories and buffers on which that acts,
+// its memories and buffers
 mod memory;
-// and the whole, with its file
+// the chip itself, and its file
 mod chip;
 mod chip_file;
 pub mod laws;

@@ -8,7 +8,6 @@ fn line_count(text: &[u8]) -> usize
     text.iter().filter(|byte| **byte == b'\n').count() + 1
 }
 
-/// The line of a place in a text.
 #[tactic(auto, using(crate::proofs::LineCounts::line_within))]
 pub(crate) fn line_at(text: &[u8], place: usize) -> usize
     requires { place ≤ length text.now }

@@ -1,11 +1,11 @@
-//! The bytes of a memory, and the page buffer of one whose bytes are loaded one by one.
+//! The bytes of a memory, and a page buffer whose bytes are loaded one by one.
 ghost use Rattle.std.specs.Prelude.{◌≡◌, ◌<◌, ℕ, List, Option, Some, None, IfOk, length, replicate, slice_index_or, slice_set, ◌+◌, ◌≤◌, slice_index, slice_get};
 ghost use Rattle.avr_part.specs.Memory.{AreLoads, nothing_loaded, AreBytes, map_indexed, byte_and_page, overlaid, blank, pasted};
 
 use std::alloc::{AllocError, Global};
 use std::marker::Model;
 
-/// For each place of a page the byte that was loaded there, if one was.
+/// A page buffer: for each place the byte that was loaded there, if any.
 #[derive(Drop)]
 pub struct Loads {
     bytes: Vec<Option<u8>>,
@@ -55,7 +55,6 @@ impl Loads {
         self.bytes[place] = Some(byte);
     }
 
-    /// Nothing is loaded any more.
     pub fn clear(&mut self)
         ensures bytes { self.new ≡ nothing_loaded self.old }
         ensures len { length self.new ≡ length self.old }
@@ -65,7 +64,6 @@ impl Loads {
     }
 }
 
-/// The bytes of a memory. Contracts see it as their list.
 #[derive(Drop)]
 pub struct Memory {
     bytes: Vec<u8>,
@@ -83,7 +81,6 @@ impl Model for Memory {
 }
 
 impl Memory {
-    /// An erased memory.
     pub fn new(alloc: Global, size: usize) -> Result<Memory, AllocError>
         ensures bytes { IfOk result (λ m. m ≡ replicate size 255) }
         ensures len { IfOk result (λ m. length m ≡ size) }
@@ -94,7 +91,6 @@ impl Memory {
         })
     }
 
-    /// A memory that holds these bytes.
     pub fn from_slice(alloc: Global, bytes: &[u8]) -> Result<Memory, AllocError>
         ensures bytes { IfOk result (λ m. m ≡ bytes.now) }
         ensures len { IfOk result (λ m. length m ≡ length bytes.now) }
@@ -127,7 +123,6 @@ impl Memory {
         self.bytes[at] = byte;
     }
 
-    /// The bytes from `start` on become these.
     pub fn paste(&mut self, start: usize, bytes: &[u8])
         requires { start + length bytes.now ≤ length self.old }
         ensures bytes { self.new ≡ pasted start bytes.now self.old }
@@ -137,7 +132,7 @@ impl Memory {
         self.bytes[start..start + bytes.len()].copy_from_slice(bytes);
     }
 
-    /// Each byte from `start` on becomes itself AND the page's byte.
+    /// ANDs each byte of the page into the bytes from `start` on.
     pub fn and_page(&mut self, start: usize, page: &[u8])
         requires { start + length page.now ≤ length self.old }
         ensures bytes { self.new ≡ map_indexed (byte_and_page start page.now) self.old }
@@ -149,7 +144,7 @@ impl Memory {
         }
     }
 
-    /// Each byte from `start` on becomes the one that was loaded for its place, if one was.
+    /// Overwrites the bytes from `start` on with the loaded ones.
     pub fn overlay_page(&mut self, start: usize, loads: &Loads)
         requires { start + length loads.now ≤ length self.old }
         ensures bytes { self.new ≡ map_indexed (overlaid start loads.now) self.old }
@@ -163,7 +158,7 @@ impl Memory {
         }
     }
 
-    /// Each byte becomes FF.
+    /// Makes every byte FF.
     pub fn erase(&mut self)
         ensures bytes { self.new ≡ blank self.old }
         ensures len { length self.new ≡ length self.old }

@@ -1,4 +1,4 @@
-//! A part, and the memories that it has.
+//! A part and its memories.
 ghost use Rattle.std.specs.Prelude.{◌≡◌, ◌<◌, ◌≤◌, ℕ, List, length, Some, option_map};
 ghost use Rattle.avr_part.specs.Mem.{name_of, is_writable, memory_named};
 
@@ -24,7 +24,7 @@ pub enum Mem {
 }
 
 impl Mem {
-    /// Each memory once.
+    /// Every memory once.
     ///
     /// ```text
     /// assert_eq!(rt; Mem::ALL.len(), 8);
@@ -41,7 +41,7 @@ impl Mem {
         Mem::Calibration,
     ];
 
-    /// The memory's name in lower case.
+    /// Returns the memory's name in lower case.
     ///
     /// ```text
     /// assert_eq!(rt; Mem::Hfuse.name(), "hfuse");
@@ -61,7 +61,7 @@ impl Mem {
         }
     }
 
-    /// The memory of this name, which is spelled as [`Mem::name`] spells it.
+    /// Returns the memory of this name, spelled exactly as by [`Mem::name`].
     ///
     /// ```text
     /// assert_eq!(rt; Mem::named("eeprom"), Some(Mem::Eeprom));
@@ -73,7 +73,7 @@ impl Mem {
         Mem::ALL.iter().copied().find(|mem| mem.name() == name)
     }
 
-    /// Whether serial programming can write the memory: all but the signature and the calibration.
+    /// Returns whether serial programming can write the memory: all but the signature and the calibration.
     ///
     /// ```text
     /// assert!(rt; Mem::Lock.writable() && !Mem::Signature.writable());
@@ -85,7 +85,7 @@ impl Mem {
     }
 }
 
-/// A memory is shown by its name.
+/// Writes the memory's name.
 impl fmt::Display for Mem {
     ghost output = { λ mem. Some (name_of mem) };
 
@@ -96,9 +96,8 @@ impl fmt::Display for Mem {
 
 /// What is known of a part. Sizes and pages are in bytes.
 ///
-/// Every part has an id of 1 to 31 ASCII letters, digits, `_` and `-`, and sizes that fit one another: pages are powers
-/// of two up to 256, a page of flash holds whole words, and a memory is whole pages; flash has up to 262,144 bytes and
-/// EEPROM up to 4,096.
+/// Every part has an id of 1 to 31 ASCII letters, digits, `_` and `-`. Pages are powers of two up to 256, and a flash
+/// page holds whole words. A memory is whole pages: flash up to 262,144 bytes, EEPROM up to 4,096.
 ///
 /// ```text
 /// let part = Parts::none().find("m328p")?;
@@ -144,7 +143,7 @@ impl Model for Part {
 impl Part {
     ghost use Rattle.avr_part.specs.Part.{size_of, page_of, IsPart};
 
-    /// The id: 1 to 31 ASCII letters, digits, `_` and `-`.
+    /// Returns the id.
     ///
     /// ```text
     /// assert_eq!(rt; Parts::none().find("t85")?.id(), "t85");
@@ -155,7 +154,7 @@ impl Part {
         self.id.as_str()
     }
 
-    /// The signature, byte 0 first.
+    /// Returns the signature, byte 0 first.
     ///
     /// ```text
     /// assert_eq!(rt; Parts::none().find("t85")?.signature(), [0x1E, 0x93, 0x0B]);
@@ -166,14 +165,14 @@ impl Part {
         self.signature
     }
 
-    /// The same, lent.
+    /// Borrows the signature.
     pub(crate) fn signature_bytes(&self) -> &[u8]
         ensures { result.now ≡ self.now.signature }
     {
         &self.signature
     }
 
-    /// The number of bytes of a memory.
+    /// Returns the size of a memory in bytes.
     ///
     /// ```text
     /// let part = Parts::none().find("m2560")?;
@@ -192,7 +191,7 @@ impl Part {
         }
     }
 
-    /// The number of bytes that are written at once: a page of flash or EEPROM, and one byte of another memory.
+    /// Returns how many bytes are written at once: a page of flash or EEPROM, else one byte.
     ///
     /// ```text
     /// let part = Parts::none().find("m2560")?;
@@ -210,7 +209,8 @@ impl Part {
         }
     }
 
-    /// The number of the EESAVE bit in the high fuse, 0 to 7. Where that bit is 0 a chip erase keeps the EEPROM.
+    /// Returns the number of the EESAVE bit in the high fuse, 0 to 7. If that bit is 0, a chip erase keeps the
+    /// EEPROM.
     ///
     /// ```text
     /// assert_eq!(rt; Parts::none().find("m328p")?.eesave_bit(), 3);
@@ -222,7 +222,7 @@ impl Part {
         self.eesave_bit
     }
 
-    /// The same part again, which takes no memory.
+    /// Copies the part without allocating.
     ///
     /// ```text
     /// let part = Parts::none().find("m328p")?;

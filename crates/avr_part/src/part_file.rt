@@ -16,7 +16,6 @@ use std::alloc::Global;
 use std::str;
 use toml::Table;
 
-/// The members of the table of parts, in order.
 fn judge_all(alloc: Global, table: &Table) -> Result<Vec<Part>, FileFault>
     ensures reads { ReadsOrMemory (parts_in (table_view table.now)) (listed_items result) }
     ensures toml { IfErr result (λ e. e.fault ≢ PartFault.NotToml) }
@@ -31,7 +30,6 @@ fn judge_all(alloc: Global, table: &Table) -> Result<Vec<Part>, FileFault>
     Ok(parts)
 }
 
-/// The parts of a document.
 fn judge_document(alloc: Global, document: &Table) -> Result<Vec<Part>, FileFault>
     ensures reads { ReadsOrMemory (document_parts (table_view document.now)) (listed_items result) }
     ensures toml { IfErr result (λ e. e.fault ≢ PartFault.NotToml) }
@@ -43,7 +41,7 @@ fn judge_document(alloc: Global, document: &Table) -> Result<Vec<Part>, FileFaul
     judge_all(alloc, table)
 }
 
-/// The document of a text, or the line from which on it is none.
+/// Parses the document; a fault has the line at which the text stops being TOML.
 fn read_document(alloc: Global, text: &str) -> Result<Table, PartFileFault>
     ensures reads { ReadsDocument (parse_document text.now) result }
     ensures line { IfErr result (IsPlaced text.now) }
@@ -57,7 +55,7 @@ fn read_document(alloc: Global, text: &str) -> Result<Table, PartFileFault>
     }
 }
 
-/// The text of bytes that are UTF-8, or the line of the first one that isn't.
+/// Checks that the bytes are UTF-8; a fault has the line of the first byte that isn't.
 #[tactic(auto, using(crate::proofs::JudgedParts::text_is_text, crate::proofs::JudgedParts::other_is_none))]
 fn utf8_text(bytes: &[u8]) -> Result<&str, PartFileFault>
     ensures text { IfOk result (λ s. utf8_text bytes.now ≡ Some s.now) }
@@ -71,17 +69,19 @@ fn utf8_text(bytes: &[u8]) -> Result<&str, PartFileFault>
     }
 }
 
-/// The parts that a part file defines: a TOML text with a table `parts`, each of whose members is a table named by the
-/// part's id.
+/// Reads a part file: a TOML text with a table `parts`, each of whose members is a table named by the part's id.
+/// Other keys are ignored.
 ///
-/// Parts are judged in the byte order of their ids, and a part's fields in the order of [`Field`]; other keys are not
-/// looked at. The first fault is the answer, with the id of the part that has it:
-/// - [`PartFault::NotToml`]: the text is not UTF-8, or `toml` refuses it; this one has a line;
-/// - [`PartFault::Missing`]: a field, or the table `parts`, is not there;
-/// - [`PartFault::BadValue`]: a field's value is of another kind or out of its range, an id is not 1 to 31 letters,
-///   digits, `_` and `-`, or `parts` or a member of it is no table;
-/// - [`PartFault::BadSizes`]: a size is no multiple of its page;
-/// - [`PartFault::Memory`]: memory was refused.
+/// # Errors
+///
+/// The first fault, with the id of the part at fault. Parts are read in the byte order of their ids, and a part's
+/// fields in the order of [`Field`].
+/// - [`PartFault::NotToml`]: the text is not UTF-8, or `toml` refuses it; only this fault has a line.
+/// - [`PartFault::Missing`]: a field or the table `parts` is missing.
+/// - [`PartFault::BadValue`]: a field's value has another kind or is out of range, `parts` or a member of it is no
+///   table, or an id is not 1 to 31 letters, digits, `_` and `-`.
+/// - [`PartFault::BadSizes`]: a size is no multiple of its page.
+/// - [`PartFault::Memory`]: allocation failed.
 ///
 /// ```text
 /// let text = "[parts.x1]\nsignature = \"1E950F\"\nflash_size = 32768\nflash_page = 128\n\

@@ -9,7 +9,7 @@ use crate::fault::PartFault;
 use crate::part::Part;
 use std::marker::Model;
 
-/// The parts of a part file, in the byte order of their ids, where there is such a file.
+/// The parts of a part file, if there is one, in the byte order of their ids.
 ///
 /// ```text
 /// let part = Parts::none().find("m328p")?;
@@ -31,7 +31,7 @@ impl Model for Parts {
 }
 
 impl Parts {
-    /// The built-in parts alone.
+    /// Creates a list of the built-in parts alone.
     ///
     /// ```text
     /// assert_eq!(rt; Parts::none().iter().count(), 3);
@@ -42,14 +42,12 @@ impl Parts {
         Parts { file: None }
     }
 
-    /// The parts of a file before the built-in ones.
     pub(crate) fn of_file(parts: Vec<Part>) -> Parts
         ensures { result ≡ parts.items }
     {
         Parts { file: Some(parts) }
     }
 
-    /// The file's parts.
     fn in_file(&self) -> &[Part]
         ensures { result.now ≡ self.now }
     {
@@ -59,7 +57,8 @@ impl Parts {
         }
     }
 
-    /// Goes over the parts: the file's, and then the built-in ones, also those that a part of the file stands before.
+    /// Iterates over the file's parts, then the built-in ones. A built-in part comes even if a part of the file has
+    /// its id.
     ///
     /// ```text
     /// let parts = Parts::none();
@@ -75,9 +74,11 @@ impl Parts {
         }
     }
 
-    /// The part of this id: the file's, or else the built-in one. Takes no memory.
+    /// Returns the part of this id: the file's, else the built-in one. It allocates nothing.
     ///
-    /// The one fault is [`PartFault::NoSuchPart`].
+    /// # Errors
+    ///
+    /// [`PartFault::NoSuchPart`] if no part has this id.
     ///
     /// ```text
     /// assert_eq!(rt; Parts::none().find("t85")?.size_of(Mem::Flash), 8192);
@@ -93,7 +94,7 @@ impl Parts {
     }
 }
 
-/// Goes over parts. Contracts see it as the list of those that are left.
+/// Iterates over parts. Contracts see it as the list of parts left.
 ///
 /// ```text
 /// assert_eq!(rt; Parts::none().iter().count(), 3);
@@ -101,7 +102,7 @@ impl Parts {
 #[derive(Debug, Drop)]
 pub struct PartIter<'a> {
     file: &'a [Part],
-    /// How many built-in parts were passed.
+    /// How many built-in parts were returned.
     passed: usize,
 }
 

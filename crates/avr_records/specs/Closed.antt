@@ -5,7 +5,6 @@ use Rattle.avr_records.specs.Reading.{Said, up_to_end, in_place, first_fault, sa
 use Rattle.avr_records.specs.declared.kind.Kind.{Kind}
 use Rattle.avr_records.specs.declared.fault.RecordFault.{RecordFault}
 
--- all lines but the last
 abbrev pub all_but_last : List (List ℕ) → List (List ℕ)
 all_but_last [] = []
 all_but_last (line ∷ []) = []
@@ -15,11 +14,10 @@ all_but_last (line ∷ next ∷ more) = line ∷ all_but_last (next ∷ more)
 abbrev pub fault_among : ℕ → List Said → Option RecordFault
 fault_among size said = first_fault size (in_place [] (up_to_end said))
 
--- the first fault of the closed lines of a file of this kind, for a memory of this size
+-- the first fault of a file's closed lines, for a memory of this size
 abbrev pub closed_fault : Kind → List ℕ → ℕ → Option RecordFault
 closed_fault kind text size = fault_among size (map (said_by_line kind) (all_but_last (lines text)))
 
--- an answer without a value: the fault, if there is one
 abbrev pub ok_unless : Option RecordFault → Result Unit RecordFault
 ok_unless None = Ok tt
 ok_unless (Some fault) = Err fault

@@ -1,9 +1,8 @@
--- The numbers of faults.
+-- Numbers, lines and addresses of faults.
 use Rattle.std.specs.Prelude.{ℕ, Option, Some, None}
 use Rattle.avr_records.specs.declared.fault.RecordFault.{RecordFault}
 use Rattle.avr_records.specs.declared.fault.RecordFault.TheVariants.{BadMark, BadDigit, BadLength, BadSum, BadType, OutOfRange, LineTooLong, BadCount, Failed, Memory, TooLong}
 
--- the number of a fault's kind
 abbrev pub fault_number : RecordFault → ℕ
 fault_number (BadMark line) = 1
 fault_number (BadDigit line) = 2
@@ -17,7 +16,7 @@ fault_number Failed = 9
 fault_number Memory = 10
 fault_number TooLong = 11
 
--- the number of the line at fault, if a line is
+-- the line at fault, if there is one
 abbrev pub fault_line_number : RecordFault → Option ℕ
 fault_line_number (BadMark line) = Some line
 fault_line_number (BadDigit line) = Some line
@@ -31,7 +30,7 @@ fault_line_number Failed = None
 fault_line_number Memory = None
 fault_line_number TooLong = None
 
--- the address outside the memory, if one is at fault
+-- the address outside the memory, if there is one
 abbrev pub fault_address : RecordFault → Option ℕ
 fault_address (OutOfRange line addr) = Some addr
 fault_address fault = None

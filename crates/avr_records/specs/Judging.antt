@@ -9,11 +9,10 @@ use Rattle.avr_records.specs.declared.record.LineRecord.{LineRecord}
 use Rattle.avr_records.specs.declared.line.Line.{Line}
 use Rattle.avr_records.specs.declared.line.Line.TheVariants as line
 
--- the fields of a record
 abbrev pub record_of : LineRecord → RecordFields
 record_of r = record { type = r.record_type; address = r.address; bytes = r.bytes.now }
 
--- What bounds the fields: a line has at most 255 data bytes, and the offsets of Intel HEX have 16 bits.
+-- Bounds of the fields: a line has at most 255 data bytes, and Intel HEX offsets have 16 bits.
 abbrev pub FitsFields : Kind → LineRecord → Type 0
 FitsFields Ihex r = (r.address < 65536) × (length r.bytes.now ≤ 255)
 FitsFields Srec r = length r.bytes.now ≤ 255
@@ -25,7 +24,7 @@ meaning_of (line.Rebase base) = said.Rebase base
 meaning_of (line.Counted n) = said.Counted n
 meaning_of line.End = said.End
 
--- What bounds the addresses of a file of this kind: Intel HEX has small offsets, S-records have no base.
+-- Bounds of the addresses by kind: Intel HEX has small offsets; S-records have no base.
 abbrev pub FitsKind : Kind → Line → Type 0
 FitsKind Ihex (line.Data offset bytes) = (offset < 65536) × (length bytes.now ≤ 255)
 FitsKind Srec (line.Data offset bytes) = length bytes.now ≤ 255

@@ -1,4 +1,4 @@
--- Where the bytes of a record lie.
+-- The addresses of a record's bytes.
 use Rattle.std.specs.Prelude.{ℕ, ◌≡◌, ◌<◌, ◌⊎◌, List, ◌++◌, Some, None, Result, MatchResult}
 use Rattle.std.specs.List.{enumerate_from}
 use Rattle.avr_records.specs.Needed.{end_past}
@@ -7,11 +7,10 @@ use Rattle.avr_records.specs.declared.kind.Base.{Base}
 use Rattle.avr_records.specs.declared.kind.Base.TheVariants.{Linear, Segment}
 use Rattle.avr_records.specs.declared.spans.Spans.{Spans}
 
--- the bytes at their addresses
 abbrev pub spans_places : Spans → List (ℕ × ℕ)
 spans_places s = enumerate_from s.addr s.bytes.now ++ enumerate_from s.start s.wrapped.now
 
--- the end past bytes that all lie below a limit; or the first address that doesn't is reported
+-- the end past bytes that are all below a limit, or the first address that isn't
 abbrev pub Extends : ℕ → ℕ → List (ℕ × ℕ) → Result ℕ ℕ → Type 0
 Extends limit end places result =
     MatchResult result (λ new. (beyond limit places ≡ None) × (new ≡ end_past end places))

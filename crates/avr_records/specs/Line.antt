@@ -1,4 +1,4 @@
--- What a line of a file is.
+-- The record of a line.
 use Rattle.std.specs.Prelude.{ℕ, List, Result}
 use Rattle.avr_records.specs.Record.{RecordFields, unless_long}
 use Rattle.avr_records.specs.Ihex.{ihex_line}
@@ -7,11 +7,11 @@ use Rattle.avr_records.specs.declared.kind.Kind.{Kind}
 use Rattle.avr_records.specs.declared.kind.Kind.TheVariants.{Ihex, Srec}
 use Rattle.avr_records.specs.declared.fault.LineFault.{LineFault}
 
--- the record of a line without blanks at its end
+-- without blanks at its end
 abbrev pub bare_record : Kind → List ℕ → Result RecordFields LineFault
 bare_record Ihex = ihex_line
 bare_record Srec = srec_line
 
--- the record of a line
+-- with blanks at its end
 abbrev pub line_record : Kind → List ℕ → Result RecordFields LineFault
 line_record kind = unless_long (bare_record kind)

@@ -5,15 +5,14 @@ use Rattle.avr_records.specs.Reading.{Said, said_by_line, up_to_end, in_place, a
 use Rattle.avr_records.specs.declared.kind.Kind.{Kind}
 use Rattle.avr_records.specs.declared.fault.RecordFault.{RecordFault}
 
--- the size of the largest memory
 abbrev pub largest : ℕ
 largest = 2 ^ 32 - 1
 
--- an end, or one more than the highest address of some bytes, if that is more
+-- `end`, or one more than the highest address of some bytes, if that is more
 abbrev pub end_past : ℕ → List (ℕ × ℕ) → ℕ
 end_past = fold (λ end place. max end (place.0 + 1))
 
--- one more than the highest address of some bytes; 0 of none
+-- one more than the highest address of some bytes, or 0
 abbrev pub end_of : List (ℕ × ℕ) → ℕ
 end_of = end_past 0
 
@@ -27,7 +26,6 @@ needed_by said =
     let taken = up_to_end said in
     size_or_fault (first_fault largest (in_place [] taken)) (end_of (all_placed taken))
 
--- One more than the highest address that a byte of the file stands at; or the first fault that it has for the largest
--- memory.
+-- One more than the file's highest byte address, or its first fault for the largest memory.
 abbrev pub needed_in_text : Kind → List ℕ → Result ℕ RecordFault
 needed_in_text kind text = needed_by (map (said_by_line kind) (lines text))

@@ -7,12 +7,12 @@ use Rattle.avr_records.specs.Record.{longest}
 use Rattle.avr_records.specs.declared.kind.Kind.{Kind}
 use Rattle.avr_records.specs.declared.progress.Progress.{Progress}
 
--- what is kept of a line that has not ended: no more than shows that it is too long
+-- what is kept of an unfinished line: enough to show that it is too long
 abbrev pub kept : List ℕ → List ℕ
 kept = take (longest + 1)
 
--- This is what the lines of the text that have ended leave, none of them at fault, and what is kept of the last one.
--- After an end record nothing needs to be kept.
+-- What the ended lines of the text leave, none of them at fault, and what is kept of the last one. After an end
+-- record nothing has to be kept.
 pub record ReadsLines (kind : Kind) (progress : Progress) (part text : List ℕ) : Type 0 where
   pub prefix : List (List ℕ)
   pub last : List ℕ
@@ -20,8 +20,8 @@ pub record ReadsLines (kind : Kind) (progress : Progress) (part text : List ℕ)
   pub holds : Holds progress (map (said_by_line kind) prefix)
   pub keeps : progress.extent.ended ≡ false → part ≡ kept last
 
--- What a reader holds: the kind of file, what the lines so far leave, what is kept of the last one, how many bytes
--- came, and whether it met a fault.
+-- What a reader holds: the kind of file; what the lines so far leave, and what is kept of the last one; the count of
+-- bytes; whether it has failed.
 pub record ReaderState : Type 0 where
   pub kind : Kind
   pub progress : Progress
@@ -29,17 +29,16 @@ pub record ReaderState : Type 0 where
   pub fed : ℕ
   pub failed : Bool
 
--- the size of the memory
 abbrev pub memory_size : ReaderState → ℕ
 memory_size s = image_size s.progress
 
--- A reader that holds this may have been fed this text, and has met no fault.
+-- The reader may have been fed this text, and has not failed.
 pub record StandsFor (s : ReaderState) (text : List ℕ) : Type 0 where
   pub reads : ReadsLines s.kind s.progress s.part text
   pub fed : s.fed ≡ length text
   pub sound : s.failed ≡ false
 
--- A reader for a file of this kind, and a memory of this size, that was fed nothing.
+-- A reader for this kind of file and this size of memory that was fed nothing.
 pub record IsNewReader (kind : Kind) (size : ℕ) (s : ReaderState) : Type 0 where
   pub of_kind : s.kind ≡ kind
   pub of_size : memory_size s ≡ size

@@ -23,39 +23,37 @@ run_at base (b ∷ bs) = replicate base None ++ map (λ byte. Some byte) (b ∷ 
 abbrev pub rows_of : (ℕ → ℕ) → List (ℕ × List ℕ) → List (ℕ × List ℕ)
 rows_of size = flat_map (λ run. rows size run.0 run.1)
 
--- how many bytes a row at an address has at most
+-- the most bytes of a row at an address
 abbrev pub row_size : Kind → ℕ → ℕ
 row_size Ihex addr = ihex_row_size addr
 row_size Srec addr = 32
 
--- the upper half of an address, if a record of Intel HEX has to set it, where another is in force
+-- the upper half of an address, if an Intel HEX record has to set it
 abbrev pub new_upper : Kind → ℕ → ℕ → Option ℕ
 new_upper Ihex in_force addr = if addr / 65536 == in_force then None else Some (addr / 65536)
 new_upper Srec in_force addr = None
 
--- the record of a row
 abbrev pub row_text : Kind → AddressSize → ℕ → List ℕ → List ℕ
 row_text Ihex size addr bytes = ihex_record 0 (addr % 65536) bytes
 row_text Srec size addr bytes = srec_record (bytes_of size - 1) (low_bytes (bytes_of size) addr ++ bytes)
 
--- the data records and the end record, where this upper half is in force (of Intel HEX), with addresses of this size
--- (of S-records)
+-- the data records and the end record, with this upper half in force (Intel HEX) or this size of addresses
+-- (S-records)
 abbrev pub file_rows : Kind → ℕ → AddressSize → List (ℕ × List ℕ) → List ℕ
 file_rows Ihex upper size rows = ihex_rows upper rows
 file_rows Srec upper size rows = srec_rows size rows
 
--- the last address that holds a byte, where the image's part begins at `addr`; if none does, this `last`
+-- the last address that holds a byte, else `last`; the image begins at `addr`
 abbrev pub last_held : ℕ → ℕ → List (Option ℕ) → ℕ
 last_held last addr [] = last
 last_held last addr (None ∷ image) = last_held last (addr + 1) image
 last_held last addr (Some b ∷ image) = last_held addr (addr + 1) image
 
--- the record file of an image
 abbrev pub image_text : Kind → List (Option ℕ) → List ℕ
 image_text kind image =
     file_rows kind 0 (address_size (last_held 0 0 image)) (rows_of (row_size kind) (runs 0 image))
 
--- The file of a memory, read for one that is as large or larger, gives the memory, gaps and all, with the end record.
+-- The file of a memory reads back, into one at least as large, as the memory with its gaps and the end record.
 abbrev pub ReadsBack : Kind → Type 0
 ReadsBack kind =
     (image : List (Option ℕ)) (more : ℕ) → length image ≤ 2 ^ 32 → HoldsBytes image

@@ -17,7 +17,6 @@ use Rattle.avr_records.specs.declared.fault.LineFault.{LineFault}
 use Rattle.avr_records.specs.declared.fault.RecordFault.{RecordFault}
 use Rattle.avr_records.specs.declared.progress.Progress.{Progress}
 
--- what a line leaves
 abbrev pub extended : Extent → Said → Extent
 extended e said = record e {
   base = next_base e.base said;
@@ -30,11 +29,11 @@ abbrev pub extent_unless : Option LineFault → ℕ → Extent → Result Extent
 extent_unless (Some fault) line new = Err (in_line line fault)
 extent_unless None line new = Ok new
 
--- what the last line that was counted leaves, for a memory of this size, or its fault
+-- what the line just counted leaves, or its fault
 abbrev pub after_line : ℕ → Extent → Said → Result Extent RecordFault
 after_line size e said = extent_unless (fault_under size e.base e.data_records said) e.lines (extended e said)
 
--- what one line more leaves, or its fault
+-- what one more line leaves, or its fault
 abbrev pub next_extent : ℕ → Extent → Said → Result Extent RecordFault
 next_extent size e = after_line size (record e { lines = e.lines + 1 })
 
@@ -46,7 +45,6 @@ with_extent p said (Ok e) = Ok (record { extent = e; image = laid_over p.image (
 abbrev pub next_progress : Progress → Said → Result Progress RecordFault
 next_progress p said = if p.extent.ended then Ok p else with_extent p said (next_extent (image_size p) p.extent said)
 
--- whether an end record came
 abbrev pub ending_of : Extent → Ending
 ending_of e = if e.ended then Ended else NoEnd
 
@@ -55,7 +53,7 @@ abbrev pub HasBase : Kind → Base → Type 0
 HasBase Ihex base = Unit {0}
 HasBase Srec base = base ≡ Linear 0
 
--- only a line is at fault
+-- a fault with a line
 abbrev pub IsLineFault : RecordFault → Type 0
 IsLineFault fault = IsSome (fault_line_number fault)
 
@@ -64,11 +62,10 @@ pub record InRange (kind : Kind) (e : Extent) : Type 0 where
   pub base : HasBase kind e.base
   pub counts : e.data_records ≤ e.lines
 
--- what no line leaves
 abbrev pub no_lines : Extent
 no_lines = record { base = Linear 0; data_records = 0; lines = 0; end = 0; ended = false }
 
--- and what it leaves in an image of this size
+-- before any line, with the image
 abbrev pub IsFresh : ℕ → Progress → Type 0
 IsFresh size p = (p.extent ≡ no_lines) × (p.image ≡ empty size)
 

@@ -15,7 +15,7 @@ abbrev pub unless_ended : Bool → List ℕ → List ℕ
 unless_ended true text = []
 unless_ended false text = text
 
--- what a cursor has still to write of a memory
+-- what a cursor has still to write
 abbrev pub left : Cursor → List (Option ℕ) → List ℕ
 left cursor image =
     unless_ended cursor.ended (text_from cursor.kind cursor.upper cursor.address_size cursor.addr image)

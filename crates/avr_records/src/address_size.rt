@@ -1,21 +1,21 @@
-//! How many bytes an address of S-records has.
+//! How many bytes an S-record's address has.
 
 ghost use Rattle.std.specs.Prelude.{◌≡◌, ◌≤◌};
 ghost use Rattle.avr_records.specs.Text.{address_size, bytes_of};
 
-/// How many bytes the addresses of a file of S-records have: in records S1 and S9, S2 and S8, or S3 and S7.
+/// How many bytes the addresses of a file of S-records have.
 #[derive(Clone, Copy, Debug, PartialEq, Eq)]
 pub enum AddressSize {
-    /// S1 and S9, up to FFFF.
+    /// Two bytes, in S1 and S9: up to FFFF.
     Two,
-    /// S2 and S8, up to FFFFFF.
+    /// Three bytes, in S2 and S8: up to FFFFFF.
     Three,
-    /// S3 and S7, up to FFFFFFFF.
+    /// Four bytes, in S3 and S7: up to FFFFFFFF.
     Four,
 }
 
 impl AddressSize {
-    /// Returns the least size of addresses that holds this one.
+    /// Returns the least size that holds the address `last`.
     pub(crate) fn holding(last: u64) -> AddressSize
         ensures { result ≡ address_size last }
     {

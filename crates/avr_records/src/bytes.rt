@@ -1,4 +1,4 @@
-//! The bytes of a record: from hexadecimal digits, their sum, and the numbers that they are.
+//! The bytes of a record: decoded from hexadecimal digits, summed, and read as numbers.
 ghost use Rattle.std.specs.Prelude.{◌≡◌, ◌≤◌, ◌*◌, ◌%◌, length, take, Ok, Err, MatchResult, sum};
 ghost use Rattle.std.specs.List.{list_all};
 ghost use Rattle.hex.specs.Hex.{is_hex_digit};
@@ -7,31 +7,28 @@ ghost use Rattle.avr_records.specs.Judging.{low_sum};
 
 use crate::fault::LineFault;
 
-/// How many bytes the digits of a line can write.
+/// The room for a line's decoded bytes.
 pub(crate) const ROOM: usize = 300;
 
-/// The first bytes of a text, at most so many.
 pub(crate) fn first(count: usize, text: &[u8]) -> &[u8]
     ensures { result.now ≡ take count text.now }
 {
     &text[..count.min(text.len())]
 }
 
-/// Whether a byte is a hexadecimal digit.
 pub(crate) fn is_digit(c: u8) -> bool
     ensures { result ≡ is_hex_digit c }
 {
     c.is_ascii_hexdigit()
 }
 
-/// Whether all bytes are hexadecimal digits.
 pub(crate) fn are_digits(text: &[u8]) -> bool
     ensures { result ≡ list_all is_hex_digit text.now }
 {
     text.iter().all(|c| is_digit(*c))
 }
 
-/// What odd digits are wrong with: one of them that is none comes first.
+/// Returns the fault of an odd number of digits; a bad digit comes first.
 fn odd_fault(digits: &[u8]) -> LineFault
     requires { length digits.now % 2 ≡ 1 }
     ensures { bytes_of_digits digits.now ≡ Err result }
@@ -43,7 +40,6 @@ fn odd_fault(digits: &[u8]) -> LineFault
     }
 }
 
-/// Writes the bytes of an even number of digits.
 fn decode_pairs(digits: &[u8], out: &mut [u8]) -> Result<(), LineFault>
     requires { length digits.now ≡ 2 * length out.old }
     ensures { MatchResult result (λ _. bytes_of_digits digits.now ≡ Ok out.new)
@@ -55,7 +51,7 @@ fn decode_pairs(digits: &[u8], out: &mut [u8]) -> Result<(), LineFault>
     }
 }
 
-/// The bytes that digits write, two digits a byte, in this room.
+/// Decodes digits into `room`, two digits a byte.
 pub(crate) fn decode_digits<'b>(
     digits: &[u8],
     room: &'b mut [u8; ROOM],
@@ -72,7 +68,6 @@ pub(crate) fn decode_digits<'b>(
     Ok(&room[..n])
 }
 
-/// The sum of bytes, modulo 256.
 #[tactic(auto, using(crate::proofs::Texts::Sums::low_sum_is))]
 pub(crate) fn low_sum_of(bytes: &[u8]) -> u8
     ensures { result ≡ sum bytes.now % 256 }
@@ -80,7 +75,6 @@ pub(crate) fn low_sum_of(bytes: &[u8]) -> u8
     wrapped_sum(bytes)
 }
 
-/// The sum of bytes, byte by byte.
 fn wrapped_sum(bytes: &[u8]) -> u8
     ensures { result ≡ low_sum bytes.now }
 {
@@ -89,7 +83,7 @@ fn wrapped_sum(bytes: &[u8]) -> u8
         .fold(0, |total: u8, byte| total.wrapping_add(*byte))
 }
 
-/// The number of two to four bytes, the high one first.
+/// Returns the number of two to four bytes, high byte first.
 pub(crate) fn number_of(bytes: &[u8]) -> u32
     requires least { 2 ≤ length bytes.now }
     requires most { length bytes.now ≤ 4 }

@@ -25,8 +25,8 @@ fn last_held_of<M: Sparse>(memory: &M) -> u64
     last
 }
 
-/// How far a record file of a memory is written: values that may be kept anywhere, from which the file goes on. Rows
-/// have at most 32 bytes, and cross no gap. Those of Intel HEX cross no multiple of 65,536 either.
+/// How far a record file of a memory is written. A cursor may be stored anywhere, and the file goes on from there.
+/// Rows have at most 32 bytes and cross no gap. Those of Intel HEX cross no multiple of 65,536 either.
 ///
 /// ```text
 /// let mut image = Image::new(alloc, 8)?;
@@ -41,18 +41,18 @@ fn last_held_of<M: Sparse>(memory: &M) -> u64
 pub struct Cursor {
     /// The kind of file.
     pub kind: Kind,
-    /// The bytes below this address were written.
+    /// All bytes below this address were written.
     pub addr: u64,
-    /// Of Intel HEX: the upper 16 bits of the address that are in force.
+    /// Intel HEX: the upper 16 bits of the address now in force.
     pub upper: u16,
-    /// Of S-records: how many bytes each address has.
+    /// S-records: how many bytes each address has.
     pub address_size: AddressSize,
     /// Whether the end record was written.
     pub ended: bool,
 }
 
 impl Cursor {
-    /// Returns the cursor at the beginning of a memory's file. The addresses of S-records are as short as the last byte
+    /// Creates the cursor at the start of a memory's file. S-records get the shortest addresses that the last byte
     /// allows.
     ///
     /// ```text
@@ -78,7 +78,8 @@ impl Cursor {
         }
     }
 
-    /// Makes `out` the next line of the file and returns true; or empties it and returns false, after the end record.
+    /// Puts the next line of the file into `out` and returns true. After the end record it empties `out` and returns
+    /// false.
     ///
     /// ```text
     /// let mut image = Image::new(alloc, 0x20001)?;
@@ -116,7 +117,6 @@ impl Cursor {
         true
     }
 
-    /// Makes `out` the record that ends the file.
     fn put_end(&self, out: &mut ArrayVec<u8, 80>)
         ensures text { out.new.items ≡ file_rows self.now.kind self.now.upper self.now.address_size [] }
         ensures some { 0 < length out.new.items }
@@ -128,7 +128,7 @@ impl Cursor {
         }
     }
 
-    /// Returns the upper 16 bits of an address, if a record of Intel HEX has to set them.
+    /// Returns the upper 16 bits of an address, if a record has to set them.
     fn new_upper(&self, addr: u32) -> Option<u16>
         ensures { result ≡ spec_new_upper self.now.kind self.now.upper addr }
     {
@@ -138,7 +138,7 @@ impl Cursor {
         }
     }
 
-    /// Returns how many bytes a row at this address has at most.
+    /// Returns the most bytes of a row at this address.
     fn row_size(&self, addr: u32) -> usize
         ensures size { result ≡ spec_row_size self.now.kind addr }
         ensures most { result ≤ 32 }
@@ -149,7 +149,6 @@ impl Cursor {
         }
     }
 
-    /// Makes `out` a record of data whose first byte is at this address.
     fn put_row(&self, addr: u32, row: &[u8], out: &mut ArrayVec<u8, 80>)
         requires { length row.now ≤ 32 }
         ensures text { out.new.items ≡ row_text self.now.kind self.now.address_size addr row.now }

@@ -1,4 +1,4 @@
-//! What the first bytes of a file show.
+//! Detects a file's format from its first bytes.
 ghost use Rattle.std.specs.Prelude.{◌≡◌, Some, length, take, find, not, true, false, MatchOption};
 ghost use Rattle.std.specs.List.{list_all};
 ghost use Rattle.std.specs.Str.{bytes_eq};
@@ -9,8 +9,7 @@ use crate::bytes::{are_digits, first};
 use crate::kind::Found;
 use crate::line::{is_blank_byte, split_line};
 
-/// How many of a file's first bytes `detect` looks at: with so many, or with all of a shorter file, it tells what the
-/// whole file shows.
+/// How many of a file's first bytes `detect` looks at. This many, or all of a shorter file, show what the whole does.
 ///
 /// ```text
 /// assert_eq!(rt; FIRST_BYTES, 1024);
@@ -23,14 +22,13 @@ fn is_elf(prefix: &[u8]) -> bool
     prefix.starts_with(b"\x7fELF")
 }
 
-/// Whether n hexadecimal digits stand in front.
+/// Returns whether the text begins with `n` hexadecimal digits.
 fn has_digits(n: usize, text: &[u8]) -> bool
     ensures { result ≡ spec_has_digits n text.now }
 {
     n <= text.len() && are_digits(&text[..n])
 }
 
-/// What a line shows that isn't blank.
 fn shown_by(line: &[u8]) -> Found
     ensures { result ≡ kind_of_line (Some line.now) }
 {
@@ -41,14 +39,12 @@ fn shown_by(line: &[u8]) -> Found
     }
 }
 
-/// Whether a line has nothing but blanks.
 fn is_blank_line(line: &[u8]) -> bool
     ensures { result ≡ list_all is_blank line.now }
 {
     line.iter().all(|c| is_blank_byte(*c))
 }
 
-/// What a line shows, unless it is blank.
 fn shown_unless_blank(line: &[u8]) -> Option<Found>
     ensures { MatchOption result (list_all is_blank line.now ≡ true)
         (λ found. (list_all is_blank line.now ≡ false) × (found ≡ kind_of_line (Some line.now))) }
@@ -60,7 +56,7 @@ fn shown_unless_blank(line: &[u8]) -> Option<Found>
     }
 }
 
-/// What the first line shows that isn't blank.
+/// Returns what the first line shows that isn't blank.
 fn first_shown(prefix: &[u8]) -> Found
     ensures { result ≡ kind_of_line (find (λ line. not (list_all is_blank line)) (lines prefix.now)) }
 {
@@ -74,8 +70,8 @@ fn first_shown(prefix: &[u8]) -> Found
     shown_unless_blank(rest).unwrap_or(Found::Raw)
 }
 
-/// Tells the format of a file from its first bytes, of which 1,024 are looked at: an ELF file by its magic
-/// number, a record file by the first line that isn't blank; anything else is raw bytes.
+/// Detects the format of a file from its first 1,024 bytes: an ELF file by its magic number, a record file by the
+/// first line that isn't blank; anything else is raw bytes.
 ///
 /// ```text
 /// assert_eq!(rt; detect(b"\r\n:0400000001020304F2\r\n"), Found::Ihex);

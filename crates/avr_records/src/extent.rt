@@ -1,4 +1,4 @@
-//! How far the bytes of lines reach that have ended, and what counts for the next line.
+//! The lines of a record file so far: their bytes' end, and what holds for the next line.
 ghost use Rattle.std.specs.Prelude.{◌≡◌, ◌<◌, ◌≤◌, ◌+◌, ◌^◌, Ok, Err, MatchResult, OnOk, IfErr, length};
 ghost use Rattle.avr_records.specs.Judging.{meaning_of, FitsKind};
 ghost use Rattle.avr_records.specs.Laying.{spans_places, Near};
@@ -12,13 +12,11 @@ use crate::kind::{Base, Ending, Kind};
 use crate::line::{Line, line_says};
 use crate::spans::Spans;
 
-/// What the lines leave that have ended.
 #[derive(Clone, Copy)]
 pub struct Extent {
-    /// Where the addresses of data records count from.
+    /// The base of the addresses of data records.
     pub(crate) base: Base,
     pub(crate) data_records: u32,
-    /// The number of lines.
     pub(crate) lines: u32,
     /// The address after the highest byte.
     pub(crate) end: u32,
@@ -27,7 +25,6 @@ pub struct Extent {
 }
 
 impl Extent {
-    /// What no line leaves.
     pub(crate) fn new() -> Extent
         ensures { result ≡ no_lines }
     {
@@ -40,7 +37,7 @@ impl Extent {
         }
     }
 
-    /// Takes in the data record of the last line that was counted.
+    /// Takes the data record of the line just counted.
     fn take_data<'b>(
         &mut self,
         limit: u32,
@@ -70,7 +67,7 @@ impl Extent {
         }
     }
 
-    /// Takes in what the last line says that was counted, and returns the bytes that it places.
+    /// Takes the line just counted and returns the bytes that it places.
     #[tactic(auto, using(crate::proofs::Texts::Places::near))]
     fn take<'b>(&mut self, limit: u32, kind: Kind, line: Line<'b>) -> Result<Spans<'b>, RecordFault>
         requires fits { FitsKind kind line }
@@ -106,8 +103,7 @@ impl Extent {
         }
     }
 
-    /// Takes in the next line, whose bytes have to lie below the limit, and returns the bytes that it places. They are
-    /// put into the room.
+    /// Takes the next line, decoded into `room`, and returns the bytes that it places. They have to be below `limit`.
     #[inline(always)]
     pub(crate) fn take_line<'b>(
         &mut self,
@@ -133,7 +129,6 @@ impl Extent {
         }
     }
 
-    /// Whether an end record came.
     pub(crate) fn ending(&self) -> Ending
         ensures { result ≡ ending_of self.now }
     {

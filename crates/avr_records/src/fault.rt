@@ -1,4 +1,4 @@
-//! What may be wrong with a record file.
+//! Faults of record files.
 
 ghost use Rattle.std.specs.Prelude.{◌≡◌};
 ghost use Rattle.avr_records.specs.Fault.{fault_address, fault_number, fault_line_number};
@@ -8,7 +8,7 @@ ghost use Rattle.avr_records.specs.Steps.{IsLineFault};
 use std::fmt;
 use thiserror::Error;
 
-/// Why no image came of a record file. The first number is that of the line, the first line being 1.
+/// Why a record file is refused. The first number is the 1-based line.
 ///
 /// ```text
 /// let mut reader = RecordReader::new(alloc, Kind::Ihex, 32_768)?;
@@ -20,40 +20,40 @@ pub enum RecordFault {
     /// The line doesn't begin with `:`, or with `S` and a decimal digit.
     #[error("line {0}: no record mark")]
     BadMark(u32),
-    /// After the mark stands something else than hexadecimal digits.
+    /// After the mark there is something other than hexadecimal digits.
     #[error("line {0}: bad digit")]
     BadDigit(u32),
-    /// An odd number of digits, or another number of bytes than the record says or its type wants.
+    /// The number of digits is odd, or the number of bytes isn't what the record says or its type requires.
     #[error("line {0}: bad length")]
     BadLength(u32),
-    /// The checksum isn't that of the record's other bytes.
+    /// The checksum doesn't match the record's other bytes.
     #[error("line {0}: bad checksum")]
     BadSum(u32),
-    /// There is no record of this type.
+    /// No record has this type.
     #[error("line {0}: bad record type")]
     BadType(u32),
-    /// This byte address, the first of the record's that does so, lies outside the memory.
+    /// This byte address, the record's first such one, is outside the memory.
     #[error("line {0}: address {1:08X} out of range")]
     OutOfRange(u32, u32),
-    /// More than 600 bytes stand before the line's end.
+    /// The line is longer than 600 bytes.
     #[error("line {0}: line too long")]
     LineTooLong(u32),
-    /// The record counts another number of data records than stand before it.
+    /// The record's count differs from the number of data records before it.
     #[error("line {0}: bad record count")]
     BadCount(u32),
-    /// The reader met a fault before.
+    /// The reader has failed before.
     #[error("the reader met a fault before")]
     Failed,
-    /// The image's memory was refused.
+    /// Allocation failed.
     #[error("out of memory")]
     Memory,
-    /// The file has 2 to the power 32 bytes or more. Only `read_records` and `needed_size` tell it.
+    /// The file has 2 to the power 32 bytes or more. Only `read_records` and `needed_size` report it.
     #[error("the file is too long")]
     TooLong,
 }
 
 impl RecordFault {
-    /// The number of the fault's kind, from 1 on.
+    /// Returns the number of the fault's kind, from 1 on.
     ///
     /// ```text
     /// assert_eq!(rt; RecordFault::BadSum(2).number(), 4);
@@ -76,7 +76,7 @@ impl RecordFault {
         }
     }
 
-    /// The number of the line at fault, the first line being 1; none of `Failed`, `Memory` and `TooLong`.
+    /// Returns the 1-based line at fault, or `None` for `Failed`, `Memory` and `TooLong`.
     ///
     /// ```text
     /// assert_eq!(rt; RecordFault::BadSum(2).line(), Some(2));
@@ -98,7 +98,7 @@ impl RecordFault {
         }
     }
 
-    /// The byte address outside the memory that `OutOfRange` tells; none of the other faults.
+    /// Returns the byte address outside the memory for `OutOfRange`, else `None`.
     ///
     /// ```text
     /// assert_eq!(rt; RecordFault::OutOfRange(2, 0x10000).address(), Some(0x10000));
@@ -114,7 +114,7 @@ impl RecordFault {
     }
 }
 
-/// What is wrong with one line.
+/// The fault of one line.
 #[derive(Clone, Copy, Drop)]
 pub enum LineFault {
     Mark,
@@ -129,7 +129,6 @@ pub enum LineFault {
 }
 
 impl LineFault {
-    /// The same, in the line of this number.
     pub(crate) fn in_line(self, line: u32) -> RecordFault
         ensures value { result ≡ in_line line self }
         ensures line { IsLineFault result }

@@ -1,4 +1,4 @@
-//! The fields of a record of Intel HEX.
+//! The fields of an Intel HEX record.
 ghost use Rattle.std.specs.Prelude.{◌≡◌, ◌<◌, ◌≤◌, length, Ok, Err, IfOk, MatchResult};
 ghost use Rattle.avr_records.specs.Ihex.{ihex_from_fields, typed_ihex, checked_ihex};
 ghost use Rattle.avr_records.specs.Judging.{record_of, FitsFields};
@@ -8,7 +8,7 @@ use crate::fault::LineFault;
 use crate::kind::Kind;
 use crate::record::{LineRecord, with_size};
 
-/// The record of a type, an offset and data bytes.
+/// Checks the size that the type requires.
 fn ihex_typed(record_type: u8, offset: u32, bytes: &[u8]) -> Result<LineRecord<'_>, LineFault>
     requires near { offset < 65536 }
     requires short { length bytes.now ≤ 255 }
@@ -32,7 +32,7 @@ fn ihex_typed(record_type: u8, offset: u32, bytes: &[u8]) -> Result<LineRecord<'
     }
 }
 
-/// The record after a size, an offset and a type.
+/// Checks size and sum.
 fn ihex_checked(
     size: u8,
     offset: u32,
@@ -56,7 +56,6 @@ fn ihex_checked(
     ihex_typed(record_type, offset, &more[..size])
 }
 
-/// The record that the bytes of a line of Intel HEX are.
 pub(crate) fn ihex_fields(bytes: &[u8]) -> Result<LineRecord<'_>, LineFault>
     ensures is { MatchResult result (λ found. ihex_from_fields bytes.now ≡ Ok (record_of found))
         (λ fault. ihex_from_fields bytes.now ≡ Err fault) }

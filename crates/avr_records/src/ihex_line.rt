@@ -1,7 +1,8 @@
-//! The lines of Intel HEX, as Intel's "Hexadecimal Object File Format Specification" (revision A, 1988) has them.
+//! Writes lines of Intel HEX, by Intel's "Hexadecimal Object File Format Specification" (revision A, 1988).
 //!
-//! Rows of 32 bytes that never cross a multiple of 65,536; an extended linear address record wherever the upper 16 bits
-//! of the address change; no start address; upper-case digits; each line ends with LF.
+//! Rows have at most 32 bytes and never cross a multiple of 65,536. An extended linear address record comes whenever
+//! the upper 16 bits of the address change. No start address is written. Digits are upper case, and each line ends
+//! with LF.
 ghost use Rattle.std.specs.Prelude.{◌≡◌, ◌/◌, ◌%◌, ◌≤◌, ◌==◌, [], ◌++◌, length, if◌then◌else◌};
 ghost use Rattle.avr_records.specs.Text.{IsLine, ihex_record as spec_record, ihex_row_size, two};
 
@@ -9,19 +10,15 @@ use crate::bytes::low_sum_of;
 use crate::written_line::{Fields, ROW_SIZE, append, put_line};
 use arrayvec::ArrayVec;
 
-/// The type of a record of data bytes.
 const DATA: u8 = 0;
 
-/// The type of the record that ends a file.
 const END: u8 = 1;
 
-/// The type of a record that sets the upper 16 bits of the addresses after it.
 const EXTENDED_LINEAR_ADDRESS: u8 = 4;
 
-/// How many addresses have the same upper 16 bits.
+/// How many addresses share their upper 16 bits.
 const SEGMENT: u32 = 65_536;
 
-/// Makes `out` a record of Intel HEX.
 fn put_record(kind: u8, offset: u16, row: &[u8], out: &mut ArrayVec<u8, 80>)
     requires { length row.now ≤ 32 }
     ensures text { out.new.items ≡ spec_record kind offset row.now }
@@ -37,7 +34,7 @@ fn put_record(kind: u8, offset: u16, row: &[u8], out: &mut ArrayVec<u8, 80>)
     put_line(b":", fields.as_slice(), out);
 }
 
-/// Makes `out` the record that sets the upper 16 bits of the addresses after it.
+/// Writes the record that sets the upper 16 bits of the addresses after it.
 pub(crate) fn put_upper(upper: u16, out: &mut ArrayVec<u8, 80>)
     ensures text { out.new.items ≡ spec_record 4 0 (two upper) }
     ensures line { IsLine out.new.items }
@@ -45,7 +42,7 @@ pub(crate) fn put_upper(upper: u16, out: &mut ArrayVec<u8, 80>)
     put_record(EXTENDED_LINEAR_ADDRESS, 0, &upper.to_be_bytes(), out);
 }
 
-/// Makes `out` a record of data whose first byte is at this address, under its upper 16 bits.
+/// Writes a data record whose first byte is at `addr`, under its upper 16 bits.
 pub(crate) fn put_row(addr: u32, row: &[u8], out: &mut ArrayVec<u8, 80>)
     requires { length row.now ≤ 32 }
     ensures text { out.new.items ≡ spec_record 0 (addr % 65536) row.now }
@@ -54,7 +51,6 @@ pub(crate) fn put_row(addr: u32, row: &[u8], out: &mut ArrayVec<u8, 80>)
     put_record(DATA, (addr % SEGMENT) as u16, row, out);
 }
 
-/// Makes `out` the record that ends a file.
 pub(crate) fn put_end(out: &mut ArrayVec<u8, 80>)
     ensures text { out.new.items ≡ spec_record 1 0 [] }
     ensures line { IsLine out.new.items }
@@ -62,7 +58,7 @@ pub(crate) fn put_end(out: &mut ArrayVec<u8, 80>)
     put_record(END, 0, &[], out);
 }
 
-/// Returns the upper 16 bits of an address, if they are not the ones in force.
+/// Returns the upper 16 bits of `addr`, unless they are in force already.
 pub(crate) fn new_upper(addr: u32, in_force: u16) -> Option<u16>
     ensures { result ≡ (if addr / 65536 == in_force then None else Some (addr / 65536)) }
 {
@@ -70,7 +66,7 @@ pub(crate) fn new_upper(addr: u32, in_force: u16) -> Option<u16>
     if upper == in_force { None } else { Some(upper) }
 }
 
-/// Returns how many bytes a row at this address has: at most 32, and none past a multiple of 65,536.
+/// Returns the most bytes of a row at this address.
 pub(crate) fn row_size(addr: u32) -> usize
     ensures { result ≡ ihex_row_size addr }
 {

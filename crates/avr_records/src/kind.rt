@@ -19,7 +19,7 @@ pub enum Kind {
     Srec,
 }
 
-/// Whether a record file had its end record. A file that was cut short at a line's end reads well but for this.
+/// Whether a record file had its end record. Only this shows that a file was cut short at a line's end.
 ///
 /// ```text
 /// let mut reader = RecordReader::new(alloc, Kind::Ihex, 4)?;
@@ -30,9 +30,9 @@ pub enum Kind {
 /// ```
 #[derive(Clone, Copy, Debug, Drop, PartialEq, Eq)]
 pub enum Ending {
-    /// The end record came; what stands after it wasn't judged.
+    /// The end record came; nothing after it was read.
     Ended,
-    /// The file ended without one.
+    /// The file ended without an end record.
     NoEnd,
 }
 
@@ -49,12 +49,12 @@ pub enum Found {
     Srec,
     /// An executable in the ELF format.
     Elf,
-    /// Bytes as they are.
+    /// Raw bytes.
     Raw,
 }
 
 impl Found {
-    /// The kind of record file; none of what is no record file.
+    /// Returns the kind of record file, or `None` if it is not a record file.
     ///
     /// ```text
     /// assert_eq!(rt; detect(b"S107000001020304EE\n").kind(), Some(Kind::Srec));
@@ -71,7 +71,7 @@ impl Found {
     }
 }
 
-/// Where the addresses of data records count from.
+/// The base of the addresses of data records.
 #[derive(Clone, Copy)]
 pub enum Base {
     /// The upper 16 bits of the address.

@@ -1,4 +1,4 @@
-//! Lines of a record file: where one ends, and what each says, alone.
+//! Lines of a record file: where one ends, and what each says alone.
 ghost use Rattle.std.specs.Prelude.{◌≡◌, [], ◌∷◌, ◌++◌, MatchOption, ◌+◌, ◌≤◌, length, nat_lt, Ok, Err, IfOk, MatchResult};
 ghost use Rattle.avr_records.specs.Lines.{lines, trimmed_line, is_blank};
 ghost use Rattle.std.specs.List.{suffix_len};
@@ -18,7 +18,7 @@ use crate::record::LineRecord;
 use crate::srec::srec_fields;
 use memchr::memchr;
 
-/// The first line and what follows its end, if a line ends there.
+/// Splits the text after its first line end, if there is one.
 #[inline(always)]
 pub(crate) fn split_line(text: &[u8]) -> Option<(&[u8], &[u8])>
     ensures { MatchOption result (lines text.now ≡ text.now ∷ [])
@@ -41,19 +41,18 @@ pub enum Line<'a> {
     /// Bytes at an offset.
     Data(u32, &'a [u8]),
     Rebase(Base),
-    /// So many data records came before.
+    /// How many data records came before.
     Counted(u32),
     End,
 }
 
-/// Whether a byte is a space, a tab or a carriage return.
+/// Returns whether a byte is a space, a tab or a carriage return.
 pub(crate) fn is_blank_byte(c: u8) -> bool
     ensures { result ≡ is_blank c }
 {
     c == b' ' || c == b'\t' || c == b'\r'
 }
 
-/// How long a line is without the blanks at its end.
 fn trimmed_len(line: &[u8]) -> usize
     ensures len { result + suffix_len is_blank line.now ≡ length line.now }
     ensures bound { result ≤ length line.now }
@@ -65,7 +64,7 @@ fn trimmed_len(line: &[u8]) -> usize
     n
 }
 
-/// A line without the blanks at its end.
+/// Cuts off the blanks at the end.
 fn trim(line: &[u8]) -> &[u8]
     ensures value { result.now ≡ trimmed_line line.now }
     ensures bound { length result.now ≤ length line.now }
@@ -73,14 +72,12 @@ fn trim(line: &[u8]) -> &[u8]
     &line[..trimmed_len(line)]
 }
 
-/// Whether a line has more than 600 bytes.
 fn is_too_long(line: &[u8]) -> bool
     ensures { result ≡ nat_lt longest (length line.now) }
 {
     line.len() > LONGEST
 }
 
-/// The record of a line of Intel HEX without blanks at its end.
 fn ihex_record<'b>(line: &[u8], room: &'b mut [u8; ROOM]) -> Result<LineRecord<'b>, LineFault>
     requires { length line.now ≤ LONGEST }
     ensures is { MatchResult result (λ found. ihex_line line.now ≡ Ok (record_of found))
@@ -93,7 +90,6 @@ fn ihex_record<'b>(line: &[u8], room: &'b mut [u8; ROOM]) -> Result<LineRecord<'
     }
 }
 
-/// The record of a line of S-records without blanks at its end.
 fn srec_record<'b>(line: &[u8], room: &'b mut [u8; ROOM]) -> Result<LineRecord<'b>, LineFault>
     requires { length line.now ≤ LONGEST }
     ensures is { MatchResult result (λ found. srec_line line.now ≡ Ok (record_of found))
@@ -108,7 +104,6 @@ fn srec_record<'b>(line: &[u8], room: &'b mut [u8; ROOM]) -> Result<LineRecord<'
     }
 }
 
-/// The record of a line without blanks at its end.
 fn bare_record<'b>(
     kind: Kind,
     line: &[u8],
@@ -125,7 +120,7 @@ fn bare_record<'b>(
     }
 }
 
-/// The record of a line with the blanks at its end. Its bytes are put into the room.
+/// Reads a line, whose bytes are decoded into `room`.
 pub(crate) fn record_in<'b>(
     kind: Kind,
     line: &[u8],
@@ -141,7 +136,6 @@ pub(crate) fn record_in<'b>(
     bare_record(kind, trim(line), room)
 }
 
-/// What a line without blanks at its end says.
 fn bare_line_says<'b>(
     kind: Kind,
     line: &[u8],
@@ -158,7 +152,7 @@ fn bare_line_says<'b>(
     Ok(meaning(kind, bare_record(kind, line, room)?))
 }
 
-/// What a line says, with the blanks at its end. The bytes of a data record are put into the room.
+/// Returns what a line says. The bytes of a data record are decoded into `room`.
 pub(crate) fn line_says<'b>(
     kind: Kind,
     line: &[u8],
@@ -174,7 +168,6 @@ pub(crate) fn line_says<'b>(
     bare_line_says(kind, trim(line), room)
 }
 
-/// A linear base from the two bytes of its record.
 fn linear_base(bytes: &[u8]) -> Line<'_>
     ensures means { meaning_of result ≡ rebase Base.Linear bytes.now }
     ensures fits { FitsKind Kind.Ihex result }
@@ -185,7 +178,6 @@ fn linear_base(bytes: &[u8]) -> Line<'_>
     }
 }
 
-/// A segment from the two bytes of its record.
 fn segment_base(bytes: &[u8]) -> Line<'_>
     ensures means { meaning_of result ≡ rebase Base.Segment bytes.now }
     ensures fits { FitsKind Kind.Ihex result }
@@ -196,7 +188,6 @@ fn segment_base(bytes: &[u8]) -> Line<'_>
     }
 }
 
-/// What a record of Intel HEX means.
 fn ihex_meaning(found: LineRecord<'_>) -> Line<'_>
     requires { FitsFields Kind.Ihex found }
     ensures means { meaning_of result ≡ ihex_means (record_of found.entry) }
@@ -211,7 +202,6 @@ fn ihex_meaning(found: LineRecord<'_>) -> Line<'_>
     }
 }
 
-/// What an S-record means.
 fn srec_meaning(found: LineRecord<'_>) -> Line<'_>
     requires { FitsFields Kind.Srec found }
     ensures means { meaning_of result ≡ srec_means (record_of found.entry) }
@@ -228,7 +218,6 @@ fn srec_meaning(found: LineRecord<'_>) -> Line<'_>
     }
 }
 
-/// What a record of a file of this kind means.
 pub(crate) fn meaning(kind: Kind, found: LineRecord<'_>) -> Line<'_>
     requires { FitsFields kind found }
     ensures means { meaning_of result ≡ means kind (record_of found.entry) }

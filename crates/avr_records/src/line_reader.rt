@@ -1,4 +1,4 @@
-//! The lines of a text that comes in pieces, and what is kept of one that has not ended.
+//! The lines of a text that comes in pieces, and what is kept of an unfinished one.
 ghost use Rattle.std.specs.Prelude.{◌≡◌, ◌<◌, [], Some, MatchOption, ◌+◌, ◌≤◌, ◌^◌, ◌++◌, ℕ, List, false, Ok, Err, ◌∷◌, length, MatchResult, OnOk, IfErr, IfOk};
 ghost use Rattle.avr_records.specs.Steps.{next_progress, ending_of, Begins, InRange, IsLineFault};
 ghost use Rattle.avr_records.specs.Closed.{closed_fault};
@@ -16,10 +16,9 @@ use arrayvec::ArrayVec;
 use avr_image::{Image, ImageFault};
 use std::alloc::Global;
 
-/// How many bytes are kept of a line that has not ended: with one more than the longest line has, it is too long.
+/// How many bytes of an unfinished line are kept: one more than the longest line has shows that it is too long.
 const KEPT: usize = LONGEST + 1;
 
-/// Keeps more of a line.
 fn extend(part: &mut ArrayVec<u8, KEPT>, more: &[u8])
     ensures kept { part.new.items ≡ kept (part.old.items ++ more.now) }
     ensures count { length part.new.items ≤ length part.old.items + length more.now }
@@ -27,18 +26,16 @@ fn extend(part: &mut ArrayVec<u8, KEPT>, more: &[u8])
     let _ = part.try_extend_from_slice(first(part.remaining_capacity(), more));
 }
 
-/// What the lines leave that have ended, and what is kept of the one that has not.
 #[derive(Drop)]
 pub struct LineReader {
     pub(crate) kind: Kind,
     pub(crate) progress: Progress,
     pub(crate) part: ArrayVec<u8, KEPT>,
-    /// Where the bytes of a line are put. It is made once, since a line has only to write what it reads.
+    /// Holds the decoded bytes of a line. It is made once, so that a line need not clear it.
     pub(crate) room: [u8; ROOM],
 }
 
 impl LineReader {
-    /// Before any line, for a memory of this size.
     pub(crate) fn new(alloc: Global, kind: Kind, size: u32) -> Result<LineReader, ImageFault>
         ensures { MatchResult result (λ reader. (reader.kind ≡ kind)
             × Begins kind size reader.progress reader.part.items) (λ fault. fault ≡ ImageFault.Memory) }
@@ -54,7 +51,7 @@ impl LineReader {
         }
     }
 
-    /// Takes in the line that is kept, and begins the next. Few lines lie over two pieces: it stays a call.
+    /// Takes the line that is kept, and begins the next. It stays a call because few lines span two pieces.
     #[inline(never)]
     fn take_part(&mut self) -> Result<(), RecordFault>
         requires range { InRange self.old.kind self.old.progress.extent }
@@ -77,7 +74,7 @@ impl LineReader {
         taken
     }
 
-    /// Takes the last bytes of a line, once its end came. A line of which nothing is kept is judged where it lies.
+    /// Takes the last bytes of a line at its end. A line of which nothing is kept is read in place.
     #[inline(always)]
     fn end_line(&mut self, rest: &[u8]) -> Result<(), RecordFault>
         requires range { InRange self.old.kind self.old.progress.extent }
@@ -102,7 +99,7 @@ impl LineReader {
         self.take_part()
     }
 
-    /// Keeps bytes of a line that has not ended, if they count.
+    /// Keeps bytes of an unfinished line, if they count.
     fn keep(&mut self, piece: &[u8])
         ensures kept { self.old.progress.extent.ended ≡ false
             → self.new.part.items ≡ kept (self.old.part.items ++ piece.now) }
@@ -115,8 +112,7 @@ impl LineReader {
         }
     }
 
-    /// The next line that has ended in what is left of a piece, and what follows it. After an end record, where
-    /// nothing counts, none is looked for.
+    /// Splits the next ended line from `rest`. After an end record, when nothing counts, it looks for none.
     fn next_line<'a>(&self, rest: &'a [u8]) -> Option<(&'a [u8], &'a [u8])>
         ensures { MatchOption result (self.now.progress.extent.ended ≡ false → lines rest.now ≡ rest.now ∷ [])
             (λ parts. (lines parts.0.now ≡ parts.0.now ∷ []) × (rest.now ≡ parts.0.now ++ 10 ∷ parts.1.now)) }
@@ -154,7 +150,6 @@ impl LineReader {
         Ok(())
     }
 
-    /// Takes the last line.
     fn end_text(&mut self) -> Result<(), RecordFault>
         requires range { InRange self.old.kind self.old.progress.extent }
         requires few { self.old.progress.extent.lines + length self.old.part.items < 2 ^ 32 }
@@ -173,7 +168,7 @@ impl LineReader {
         self.end_line(&[])
     }
 
-    /// Takes the last line, and gives what the whole text says.
+    /// Takes the last line and returns what the whole text says.
     pub(crate) fn finish(mut self) -> Result<(Image, Ending), RecordFault>
         requires range { InRange self.kind self.progress.extent }
         requires few { self.progress.extent.lines + length self.part.items < 2 ^ 32 }

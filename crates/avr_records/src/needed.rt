@@ -1,4 +1,4 @@
-//! How large a memory a record file needs, reported before there is an image.
+//! How large a memory a record file needs, before there is an image.
 ghost use Rattle.std.specs.Prelude.{◌≡◌, ◌<◌, ◌≤◌, ◌^◌, ℕ, List, length, Option, Ok, Err};
 ghost use Rattle.avr_records.specs.Needed.{largest, needed_in_text};
 ghost use Rattle.avr_records.specs.Reading.{image_in_text};
@@ -10,13 +10,15 @@ use crate::fault::RecordFault;
 use crate::kind::Kind;
 use crate::line::split_line;
 
-/// How many bytes the smallest memory has into which a record file can be read: one more than the highest byte address
-/// that a byte of the file stands at, and 0 of a file without bytes. It takes no memory, so a size may be judged before
-/// an image of it is asked for.
+/// Returns the size in bytes of the smallest memory that a record file can be read into: one more than the file's
+/// highest byte address, or 0 for a file without bytes. It allocates nothing, so a size can be checked before its
+/// image is allocated.
 ///
-/// The faults are those that `read_records` answers for the largest memory, one of 2 to the power 32 - 1 bytes: a byte
-/// at the address FFFFFFFF or above is `OutOfRange` with the address FFFFFFFF; and `TooLong` is that of a file of 2 to
-/// the power 32 bytes or more, which is not looked at. `Failed` and `Memory` never come.
+/// # Errors
+///
+/// Those of `read_records` for the largest memory, which has 2 to the power 32 - 1 bytes: a byte at FFFFFFFF or above
+/// is `OutOfRange` with the address FFFFFFFF. `TooLong` if the file has 2 to the power 32 bytes or more, which are
+/// not read. `Failed` and `Memory` never come.
 ///
 /// ```text
 /// let size = needed_size(Kind::Ihex, b":020000040800F2\n:020010000102EB\n:00000001FF\n");
@@ -46,7 +48,7 @@ pub fn needed_size(kind: Kind, text: &[u8]) -> Result<u32, RecordFault>
     Ok(extent.end)
 }
 
-/// A file that needs so many bytes reads well into a memory exactly where the memory has as many.
+/// A file is read without a fault exactly into the memories that have at least the needed bytes.
 pub fn a_needed_size_is_the_least()
     ensures enough { (kind : Kind) (text : List ℕ) (needed size : ℕ)
         → needed_in_text kind text ≡ Ok needed → needed ≤ size

@@ -1,4 +1,4 @@
-//! What the lines of a record file leave that have ended: how far they reach, and their bytes in an image.
+//! The lines of a record file so far: their extent, and their bytes in an image.
 ghost use Rattle.std.specs.Prelude.{◌≡◌, ◌<◌, ◌≤◌, ◌+◌, ◌^◌, length, Ok, Err, MatchResult, OnOk, IfErr};
 ghost use Rattle.avr_records.specs.Reading.{said_by_line};
 ghost use Rattle.avr_records.specs.Steps.{next_progress, IsFresh, InRange, IsLineFault};
@@ -10,7 +10,6 @@ use crate::kind::Kind;
 use avr_image::{Image, ImageFault};
 use std::alloc::Global;
 
-/// What the lines leave that have ended.
 #[derive(Drop)]
 pub struct Progress {
     pub(crate) extent: Extent,
@@ -18,7 +17,6 @@ pub struct Progress {
 }
 
 impl Progress {
-    /// What no line leaves, for a memory of this size.
     pub(crate) fn new(alloc: Global, size: u32) -> Result<Progress, ImageFault>
         ensures { MatchResult result (IsFresh size) (λ fault. fault ≡ ImageFault.Memory) }
     {
@@ -28,8 +26,8 @@ impl Progress {
         })
     }
 
-    /// Takes in the next line, if it counts. Its bytes are put into the room, and from there into the image. It stays a
-    /// call, in which all that it does for a line lies together.
+    /// Takes the next line, if it counts. Its bytes are decoded into `room` and put from there into the image. It
+    /// stays a call so that all the work of a line is in one place.
     #[inline(never)]
     pub(crate) fn take_line(
         &mut self,

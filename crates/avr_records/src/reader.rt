@@ -14,9 +14,9 @@ use std::marker::Model;
 
 /// Reads a record file of one kind into an image, from pieces of any length.
 ///
-/// A reader keeps no text: at most 601 bytes of a line, and the image. The contracts speak of the texts that it may
-/// have been fed (`StandsFor`): whatever the pieces, the answers are those of the whole text. Start addresses and
-/// headers (S0) are judged as records, and dropped.
+/// A reader keeps the image and at most 601 bytes of a line. Contracts speak of the texts that it may have been fed
+/// (`StandsFor`): whatever the pieces, the results are those of the whole text. Start addresses and headers (S0) are
+/// checked as records, then dropped.
 ///
 /// ```text
 /// let mut reader = RecordReader::new(alloc, Kind::Ihex, 32_768)?;
@@ -54,8 +54,12 @@ impl Model for RecordReader {
 }
 
 impl RecordReader {
-    /// A reader for a memory of this many bytes, below which all byte addresses have to lie. It makes all the room that
-    /// the reader needs; where that is refused, the fault is `Memory`, which no other call answers.
+    /// Creates a reader for a memory of `size` bytes; all byte addresses have to be below. It allocates all that the
+    /// reader needs.
+    ///
+    /// # Errors
+    ///
+    /// `Memory` if allocation fails. No other call of the reader returns it.
     ///
     /// ```text
     /// let reader = RecordReader::new(alloc, Kind::Srec, 32_768)?;
@@ -76,7 +80,7 @@ impl RecordReader {
         }
     }
 
-    /// How many bytes were fed. A call of `feed` that answers a fault doesn't count.
+    /// Returns how many bytes were fed, without those of a `feed` that failed.
     ///
     /// ```text
     /// let mut reader = RecordReader::new(alloc, Kind::Ihex, 4)?;
@@ -89,9 +93,11 @@ impl RecordReader {
         self.fed
     }
 
-    /// Takes the next piece of the file; all pieces have to have fewer than 2 to the power 32 bytes. The fault of a
-    /// line is answered by the call that brings its line end; where the piece ends several lines, that of the first
-    /// faulty one. After a fault `feed` and `finish` answer `Failed`.
+    /// Takes the next piece of the file. All pieces together must have fewer than 2 to the power 32 bytes.
+    ///
+    /// # Errors
+    ///
+    /// The first fault among the lines that end in this piece; `Failed` after any fault.
     ///
     /// ```text
     /// let mut reader = RecordReader::new(alloc, Kind::Ihex, 4)?;
@@ -127,8 +133,11 @@ impl RecordReader {
         }
     }
 
-    /// What the whole file says: the image, and whether the end record came; or the fault of its last line, where no
-    /// line end stands after it; or `Failed` after a fault.
+    /// Returns the image of the whole file, and whether the end record came.
+    ///
+    /// # Errors
+    ///
+    /// The fault of a last line without a line end; `Failed` after any fault.
     ///
     /// ```text
     /// let mut reader = RecordReader::new(alloc, Kind::Ihex, 4)?;
@@ -150,9 +159,13 @@ impl RecordReader {
     }
 }
 
-/// What a whole record file says, for a memory of `size` bytes: the image, and whether the end record came; or the
-/// first fault; or `Memory`, where memory is refused; or `TooLong` of a file of 2 to the power 32 bytes or more, which
-/// is not looked at. Start addresses and headers (S0) are dropped.
+/// Reads a whole record file for a memory of `size` bytes. Returns the image, and whether the end record came. Start
+/// addresses and headers (S0) are dropped.
+///
+/// # Errors
+///
+/// The first fault of the file; `Memory` if allocation fails; `TooLong` if the file has 2 to the power 32 bytes or
+/// more, which are not read.
 ///
 /// ```text
 /// let (image, ending) = read_records(alloc, Kind::Ihex, 4, b":0400000001020304F2\n:00000001FF\n")?;

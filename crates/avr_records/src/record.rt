@@ -13,7 +13,7 @@ use arrayvec::ArrayVec;
 use std::fmt;
 use std::marker::Model;
 
-/// The fields of a record, whose data bytes stand elsewhere.
+/// The fields of a record; the data bytes are borrowed.
 #[derive(Clone, Copy)]
 pub struct LineRecord<'a> {
     pub(crate) record_type: u8,
@@ -21,7 +21,7 @@ pub struct LineRecord<'a> {
     pub(crate) bytes: &'a [u8],
 }
 
-/// A record whose type wants so many data bytes.
+/// Checks the number of data bytes.
 pub(crate) fn with_size(n: usize, good: LineRecord<'_>) -> Result<LineRecord<'_>, LineFault>
     ensures is { MatchResult result (λ found. (found ≡ good.entry)
         × (spec_with_size n good.entry.bytes.now (Ok (record_of good.entry)) ≡ Ok (record_of good.entry)))
@@ -34,8 +34,7 @@ pub(crate) fn with_size(n: usize, good: LineRecord<'_>) -> Result<LineRecord<'_>
     }
 }
 
-/// A record: its type, what stands in its address field, and its data bytes, which it keeps itself. Its checksum was
-/// right.
+/// A record: its type, its address field and its data bytes, which it owns. Its checksum was right.
 ///
 /// ```text
 /// let record = read_record(Kind::Srec, b"S107000001020304EE")?;
@@ -59,7 +58,6 @@ impl Model for Record {
 }
 
 impl Record {
-    /// The same with its bytes copied.
     fn copied(found: LineRecord<'_>) -> Record
         requires { length found.bytes.now ≤ 255 }
         ensures { result ≡ record_of found.entry }
@@ -73,11 +71,11 @@ impl Record {
         }
     }
 
-    /// The number of the record's type.
+    /// Returns the number of the record's type.
     ///
-    /// Of Intel HEX: 0 data, 1 end of the file, 2 extended segment address, 3 start segment address, 4 extended linear
-    /// address, 5 start linear address. Of S-records the digit after the `S`: 0 header, 1 to 3 data, 5 and 6 a count
-    /// of data records, 7 to 9 end of the file.
+    /// In Intel HEX: 0 data, 1 end of the file, 2 extended segment address, 3 start segment address, 4 extended
+    /// linear address, 5 start linear address. In S-records it is the digit after the `S`: 0 header, 1 to 3 data, 5
+    /// and 6 a count of data records, 7 to 9 end of the file.
     ///
     /// ```text
     /// let record = read_record(Kind::Ihex, b":00000001FF")?;
@@ -89,8 +87,8 @@ impl Record {
         self.record_type
     }
 
-    /// What stands in the address field: of Intel HEX an offset of 16 bits; of S-records an address, of the types 5 and
-    /// 6 the count, of the types 7 to 9 the start address.
+    /// Returns the address field. In Intel HEX it is an offset of 16 bits. In S-records it is an address; for the
+    /// types 5 and 6 it is the count, for the types 7 to 9 the start address.
     ///
     /// ```text
     /// let record = read_record(Kind::Srec, b"S5030001FB")?;
@@ -102,8 +100,8 @@ impl Record {
         self.address
     }
 
-    /// The data bytes, at most 255. Those of the types 2 and 4 of Intel HEX are the upper part of the addresses after
-    /// the record, the high byte first.
+    /// Returns the data bytes, at most 255. For the types 2 and 4 of Intel HEX they are the upper part of the
+    /// addresses after the record, high byte first.
     ///
     /// ```text
     /// let record = read_record(Kind::Ihex, b":020000040001F9")?;
@@ -126,11 +124,13 @@ impl fmt::Debug for Record {
     }
 }
 
-/// The record of one line of a file of this kind, without the line's end; blanks at the end of the line are left out.
-/// It takes no memory.
+/// Reads one line of a file of this kind, without the line's end. Blanks at the end are ignored. It allocates
+/// nothing.
 ///
-/// The faults are those that the reader answers of a line alone, and the number of the line in them is 1. An empty
-/// line, which a file may have, is no record: `BadMark`.
+/// # Errors
+///
+/// The reader's faults of a single line, with 1 as the line. An empty line, which a file may have, is no record:
+/// `BadMark`.
 ///
 /// ```text
 /// let record = read_record(Kind::Ihex, b":0400100001020304E2\r")?;

@@ -1,4 +1,4 @@
-//! Bytes that follow each other in a memory.
+//! Consecutive bytes of a memory.
 
 ghost use Rattle.std.specs.Prelude.{◌≡◌, ◌+◌, ◌^◌, ◌≤◌, length, take, drop};
 ghost use Rattle.avr_image.specs.Image.{first_from};
@@ -8,8 +8,7 @@ ghost use Rattle.avr_records.specs.Sparse.{IsMemory, run_at};
 use crate::sparse::Sparse;
 use std::marker::Model;
 
-/// Bytes that follow each other in a memory, from a byte address on. Contracts see the memory, which ends with the last
-/// of them.
+/// Consecutive bytes of a memory, from a byte address on. Contracts see the memory, which ends with the last of them.
 ///
 /// ```text
 /// let run = Run::new(0x10000, &[0xAA]);
@@ -34,8 +33,8 @@ impl<'a> Model for Run<'a> {
 }
 
 impl<'a> Run<'a> {
-    /// Returns the memory of these bytes, of which the first one is at the byte address `base`, and the last one below
-    /// 2 to the power 32. It borrows the bytes.
+    /// Creates a run whose first byte is at the byte address `base`. It borrows the bytes. The last one has to be
+    /// below 2 to the power 32.
     ///
     /// ```text
     /// assert_eq!(rt; Run::new(8, &[0x12, 0x34]).next_held(0), Some(8));
@@ -48,7 +47,7 @@ impl<'a> Run<'a> {
     }
 }
 
-/// Returns the least address from `addr` on at which one of these bytes is.
+/// Returns the least address from `addr` on that holds one of the bytes.
 fn next_in(base: u32, bytes: &[u8], addr: u64) -> Option<u32>
     requires { base + length bytes.now ≤ 2 ^ 32 }
     ensures next { result ≡ first_from (run_at base bytes.now) addr }
@@ -62,7 +61,7 @@ fn next_in(base: u32, bytes: &[u8], addr: u64) -> Option<u32>
     }
 }
 
-/// Returns those of these bytes that are from `addr` on, at most so many; none if they begin after it.
+/// Returns at most `most` of the bytes from `addr` on; none if the run begins after `addr`.
 fn row_in<'a>(base: u32, bytes: &'a [u8], addr: u32, most: usize) -> &'a [u8]
     ensures row { result.now ≡ take most (lead (drop addr (run_at base bytes.now))) }
     ensures few { length result.now ≤ most }

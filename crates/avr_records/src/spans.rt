@@ -1,4 +1,4 @@
-//! Where the bytes of a data record lie.
+//! The addresses of a data record's bytes.
 ghost use Rattle.std.specs.Prelude.{◌≡◌, ◌≤◌, ◌*◌, ◌+◌, length, [], None};
 ghost use Rattle.std.specs.List.{enumerate_from};
 ghost use Rattle.avr_image.specs.Image.{laid_over};
@@ -11,8 +11,7 @@ use avr_image::Image;
 /// The bytes of a segment, within which offsets wrap.
 const SEGMENT: u32 = 65_536;
 
-/// The end of bytes so far, once bytes from an address on are among them; or the first address of these that isn't
-/// below the limit.
+/// Returns the end of all bytes once these are added, or their first address that isn't below `limit`.
 fn span_end(limit: u32, end: u32, addr: u32, bytes: &[u8]) -> Result<u32, u32>
     ensures { Extends limit end (enumerate_from addr bytes.now) result }
 {
@@ -25,7 +24,6 @@ fn span_end(limit: u32, end: u32, addr: u32, bytes: &[u8]) -> Result<u32, u32>
     }
 }
 
-/// Lays bytes from an address on that all lie inside the image.
 fn lay_span(image: &mut Image, addr: u32, bytes: &[u8])
     requires { beyond (length image.old) (enumerate_from addr bytes.now) ≡ None }
     ensures laid { image.new ≡ laid_over image.old (enumerate_from addr bytes.now) }
@@ -34,8 +32,7 @@ fn lay_span(image: &mut Image, addr: u32, bytes: &[u8])
     let _ = image.put_slice(addr, bytes);
 }
 
-/// Bytes from an address on, and more from another one on: those of a record that lie past the end of a segment begin
-/// again at its start.
+/// Bytes from an address on, and those that wrap: past the end of a segment a record goes on at its start.
 #[derive(Clone, Copy)]
 pub struct Spans<'a> {
     addr: u32,
@@ -45,7 +42,6 @@ pub struct Spans<'a> {
 }
 
 impl<'a> Spans<'a> {
-    /// Bytes that follow each other.
     fn one(addr: u32, bytes: &'a [u8]) -> Spans<'a>
         ensures { spans_places result ≡ enumerate_from addr bytes.now }
     {
@@ -57,14 +53,12 @@ impl<'a> Spans<'a> {
         }
     }
 
-    /// No bytes.
     pub(crate) fn none() -> Spans<'a>
         ensures { spans_places result ≡ [] }
     {
         Spans::one(0, &[])
     }
 
-    /// The bytes from an offset in a segment on.
     fn in_segment(paragraph: u16, offset: u32, bytes: &'a [u8]) -> Spans<'a>
         requires { length bytes.now ≤ 255 }
         ensures { spans_places result ≡ places (Base.Segment paragraph) offset bytes.now }
@@ -83,7 +77,6 @@ impl<'a> Spans<'a> {
         }
     }
 
-    /// The bytes of a data record.
     pub(crate) fn of_record(base: Base, offset: u32, bytes: &'a [u8]) -> Spans<'a>
         requires short { length bytes.now ≤ 255 }
         requires near { Near base offset }
@@ -95,7 +88,7 @@ impl<'a> Spans<'a> {
         }
     }
 
-    /// The end of bytes so far, once these are among them; or the first address of these that isn't below the limit.
+    /// Returns the end of all bytes once these are added, or their first address that isn't below `limit`.
     pub(crate) fn end(self, limit: u32, end: u32) -> Result<u32, u32>
         ensures { Extends limit end (spans_places self.entry) result }
     {
@@ -105,7 +98,7 @@ impl<'a> Spans<'a> {
         }
     }
 
-    /// Lays the bytes into an image that has all their addresses.
+    /// Puts the bytes into an image that has all their addresses.
     #[inline(always)]
     pub(crate) fn lay(self, image: &mut Image)
         requires { beyond (length image.old) (spans_places self) ≡ None }

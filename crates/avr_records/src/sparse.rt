@@ -1,4 +1,4 @@
-//! A memory of which some bytes are there, as writers of record files walk over it.
+//! A memory with gaps, as writers of record files walk over it.
 
 ghost use Rattle.std.specs.Prelude.{◌≡◌, ◌+◌, ◌≤◌, ℕ, List, Option, length, take, drop, min};
 ghost use Rattle.avr_image.specs.Image.{first_from};
@@ -7,8 +7,8 @@ ghost use Rattle.avr_records.specs.Sparse.{IsMemory};
 
 use avr_image::Image;
 
-/// A memory of which some bytes are there: an `Image`, a `Run`, or one that somebody else keeps. A `Writer` or a
-/// `Cursor` makes the lines of its record file.
+/// A memory with gaps: an `Image`, a `Run`, or a caller's own. A `Writer` or a `Cursor` makes the lines of its record
+/// file.
 ///
 /// ```text
 /// let mut image = Image::new(alloc, 64)?;
@@ -24,16 +24,16 @@ pub trait Sparse {
     fn next_held(&self, addr: u64) -> Option<u32>
         ensures next { result ≡ first_from (held self.now) addr }
 
-        // The list alone doesn't say that a memory holds bytes, and how many at most.
+        // Names what the list alone doesn't show: its values are bytes, and at most 2 to the power 32.
         ensures memory { IsMemory (held self.now) };
 
-    /// Returns the bytes from the byte address `addr` on, up to a gap, and at most so many.
+    /// Returns the bytes from the byte address `addr` on, up to a gap, and at most `most` of them.
     fn row_at(&self, addr: u32, most: usize) -> &[u8]
         ensures row { result.now ≡ take most (lead (drop addr (held self.now))) }
         ensures few { length result.now ≤ most };
 }
 
-/// Returns the end of a row of at most so many bytes that begins at an address.
+/// Returns the end of a row of at most `most` bytes at `place`.
 fn row_end(image: &Image, place: u32, most: usize) -> u32
     ensures { result ≡ place + min most (length (lead (drop place image.now))) }
 {
@@ -45,7 +45,7 @@ impl Sparse for Image {
     ghost held = { λ image. image };
 
     fn next_held(&self, addr: u64) -> Option<u32> {
-        // That an image holds bytes is said where they are lent.
+        // Ghost call: brings "an image holds bytes" into scope for the proof.
         let _ = self.as_slice();
         match u32::try_from(addr) {
             Ok(addr) => self.first_from(addr),

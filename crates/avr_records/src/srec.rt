@@ -8,7 +8,7 @@ use crate::fault::LineFault;
 use crate::kind::Kind;
 use crate::record::LineRecord;
 
-/// A record of this type whose address has n bytes, with data after it.
+/// Reads a record whose address has `n` bytes, with data after it.
 fn addressed(record_type: u8, n: usize, bytes: &[u8]) -> Result<LineRecord<'_>, LineFault>
     requires short { length bytes.now ≤ 255 }
     requires least { 2 ≤ n }
@@ -28,7 +28,7 @@ fn addressed(record_type: u8, n: usize, bytes: &[u8]) -> Result<LineRecord<'_>, 
     }
 }
 
-/// A record of this type whose address has n bytes, without data.
+/// Reads a record whose address has `n` bytes, without data.
 fn without_data(record_type: u8, n: usize, bytes: &[u8]) -> Result<LineRecord<'_>, LineFault>
     requires short { length bytes.now ≤ 255 }
     requires least { 2 ≤ n }
@@ -44,7 +44,7 @@ fn without_data(record_type: u8, n: usize, bytes: &[u8]) -> Result<LineRecord<'_
     }
 }
 
-/// The record of a type, given by its digit, and the bytes between the count and the checksum.
+/// Reads the bytes between count and checksum, by the digit of the type.
 fn srec_typed(digit: u8, bytes: &[u8]) -> Result<LineRecord<'_>, LineFault>
     requires { length bytes.now ≤ 255 }
     ensures is { MatchResult result (λ found. typed_srec digit bytes.now ≡ Ok (record_of found))
@@ -65,7 +65,7 @@ fn srec_typed(digit: u8, bytes: &[u8]) -> Result<LineRecord<'_>, LineFault>
     }
 }
 
-/// The record after a count.
+/// Checks count and sum.
 fn srec_checked(digit: u8, count: u8, low_sum: u8, more: &[u8]) -> Result<LineRecord<'_>, LineFault>
     ensures is { MatchResult result (λ found. checked_srec digit count low_sum more.now ≡ Ok (record_of found))
         (λ fault. checked_srec digit count low_sum more.now ≡ Err fault) }
@@ -81,7 +81,7 @@ fn srec_checked(digit: u8, count: u8, low_sum: u8, more: &[u8]) -> Result<LineRe
     srec_typed(digit, &more[..count - 1])
 }
 
-/// The record that the bytes of a line of S-records are.
+/// Reads the record from a line's bytes.
 pub(crate) fn srec_fields(digit: u8, bytes: &[u8]) -> Result<LineRecord<'_>, LineFault>
     ensures is { MatchResult result (λ found. srec_from_fields digit bytes.now ≡ Ok (record_of found))
         (λ fault. srec_from_fields digit bytes.now ≡ Err fault) }

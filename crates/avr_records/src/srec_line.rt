@@ -1,7 +1,7 @@
-//! The lines of S-records, as Motorola's "M68000 Family Programmer's Reference Manual" (appendix C) has them.
+//! Writes lines of S-records, by Motorola's "M68000 Family Programmer's Reference Manual" (appendix C).
 //!
-//! Rows of 32 bytes; S1, S2 or S3, the narrowest that holds the last address, and S9, S8 or S7 at the end, with start
-//! address 0; no header record; upper-case digits; each line ends with LF.
+//! Rows have at most 32 bytes, in S1, S2 or S3, the narrowest that holds the last address. The end is S9, S8 or S7
+//! with start address 0. No header is written. Digits are upper case, and each line ends with LF.
 ghost use Rattle.std.specs.Prelude.{◌≡◌, ◌+◌, ◌-◌, ◌≤◌, ◌++◌, length};
 ghost use Rattle.avr_records.specs.Text.{IsLine, srec_record as spec_record, bytes_of, low_bytes};
 
@@ -10,7 +10,7 @@ use crate::bytes::low_sum_of;
 use crate::written_line::{Fields, append, put_line};
 use arrayvec::ArrayVec;
 
-/// Puts the low bytes of an address after the fields, the high one first.
+/// Appends the low bytes of an address, high byte first.
 fn append_address(fields: &mut Fields, size: AddressSize, addr: u32)
     requires { length fields.old.items ≤ 34 }
     ensures bytes { fields.new.items ≡ fields.old.items ++ low_bytes (bytes_of size) addr }
@@ -19,7 +19,7 @@ fn append_address(fields: &mut Fields, size: AddressSize, addr: u32)
     append(fields, &addr.to_be_bytes()[4 - size.bytes()..]);
 }
 
-/// Makes `out` an S-record of the type that this digit names; the body is all between count and checksum.
+/// Writes an S-record; the body is all between count and checksum.
 fn put_record(kind: u8, body: &[u8], out: &mut ArrayVec<u8, 80>)
     requires digit { kind ≤ 9 }
     requires bytes { length body.now ≤ 36 }
@@ -34,7 +34,7 @@ fn put_record(kind: u8, body: &[u8], out: &mut ArrayVec<u8, 80>)
     put_line(&[b'S', b'0' + kind], fields.as_slice(), out);
 }
 
-/// Makes `out` a record of data whose first byte is at this address.
+/// Writes a data record whose first byte is at `addr`.
 pub(crate) fn put_row(size: AddressSize, addr: u32, row: &[u8], out: &mut ArrayVec<u8, 80>)
     requires { length row.now ≤ 32 }
     ensures text { out.new.items ≡ spec_record (bytes_of size - 1) (low_bytes (bytes_of size) addr ++ row.now) }
@@ -46,7 +46,6 @@ pub(crate) fn put_row(size: AddressSize, addr: u32, row: &[u8], out: &mut ArrayV
     put_record(size.bytes() as u8 - 1, body.as_slice(), out);
 }
 
-/// Makes `out` the record that ends a file whose addresses have this size.
 pub(crate) fn put_end(size: AddressSize, out: &mut ArrayVec<u8, 80>)
     ensures text { out.new.items ≡ spec_record (11 - bytes_of size) (low_bytes (bytes_of size) 0) }
     ensures line { IsLine out.new.items }

@@ -12,8 +12,8 @@ use avr_image::Pieces;
 use std::fmt;
 use std::marker::Model;
 
-/// Writes the record file of a memory, record by record: an `Image`, a `Run` of bytes, or any other that is `Sparse`.
-/// Each piece is a line. Contracts see it as the text still to come.
+/// Writes the record file of a memory line by line: of an `Image`, a `Run` of bytes, or any other `Sparse`. Each
+/// piece is a line. Contracts see it as the text still to come.
 ///
 /// ```text
 /// let mut image = Image::new(alloc, 8)?;
@@ -40,7 +40,7 @@ impl<'a, M: Sparse> Model for Writer<'a, M> {
 }
 
 impl<'a, M: Sparse> Writer<'a, M> {
-    /// Returns a writer of a memory's file. It borrows the memory and does not allocate.
+    /// Creates a writer of a memory's file. It borrows the memory and doesn't allocate.
     ///
     /// ```text
     /// let mut piece = ArrayVec::new();
@@ -54,7 +54,7 @@ impl<'a, M: Sparse> Writer<'a, M> {
         ensures reads_back { image_in_text kind result (length (M.held memory.now))
             ≡ Ok (M.held memory.now, Ending.Ended) }
     {
-        // Brings what a memory is, bytes below 2 to the power 32, into scope for the proof.
+        // Ghost call: brings "a memory holds bytes below 2 to the power 32" into scope for the proof.
         let _ = memory.next_held(0);
         Writer {
             memory,

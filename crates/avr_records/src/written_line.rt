@@ -1,4 +1,4 @@
-//! A line that is written: the fields of a record as digits, after its marks.
+//! Writes a line: marks, then the fields of a record as digits.
 
 ghost use Rattle.std.specs.Prelude.{◌≡◌, ◌+◌, ◌*◌, ◌<◌, ◌≤◌, [], ◌∷◌, ◌++◌, length, map, not, true};
 ghost use Rattle.std.specs.List.{list_all};
@@ -9,13 +9,12 @@ ghost use Rattle.hex.specs.Hex.{encode_upper};
 
 use arrayvec::ArrayVec;
 
-/// How many bytes of data a row has, but for the last one before a gap or a border.
+/// How many data bytes a row has, unless it ends at a gap or a border.
 pub(crate) const ROW_SIZE: usize = 32;
 
-/// The bytes of a record: at most a count, four address bytes, 32 bytes of data and a checksum.
+/// The bytes of a record: at most a count, four address bytes, 32 data bytes and a checksum.
 pub(crate) type Fields = ArrayVec<u8, 38>;
 
-/// Puts bytes after those of `out`, which has room for them.
 pub(crate) fn append<const N: usize>(out: &mut ArrayVec<u8, N>, bytes: &[u8])
     requires { length out.old.items + length bytes.now ≤ N }
     ensures { out.new.items ≡ out.old.items ++ bytes.now }
@@ -23,7 +22,7 @@ pub(crate) fn append<const N: usize>(out: &mut ArrayVec<u8, N>, bytes: &[u8])
     let _ = out.try_extend_from_slice(bytes);
 }
 
-/// Makes letters upper case, since `hex` writes lower-case digits where it takes no memory.
+/// Makes letters upper case: the call of `hex` that doesn't allocate writes lower-case digits.
 fn uppercase(digits: &mut [u8])
     ensures { digits.new ≡ map to_ascii_uppercase digits.old }
 {
@@ -32,7 +31,6 @@ fn uppercase(digits: &mut [u8])
     }
 }
 
-/// Writes the upper-case digits of some bytes.
 #[tactic(auto, using(crate::proofs::Writers::Pieces::raised_encode))]
 fn put_digits(bytes: &[u8], digits: &mut [u8])
     requires { length digits.old ≡ 2 * length bytes.now }
@@ -42,7 +40,7 @@ fn put_digits(bytes: &[u8], digits: &mut [u8])
     uppercase(digits);
 }
 
-/// Makes `out` the line of some marks and the upper-case digits of some bytes.
+/// Writes a line of marks and upper-case digits.
 pub(crate) fn put_line(marks: &[u8], bytes: &[u8], out: &mut ArrayVec<u8, 80>)
     requires room { length marks.now + 2 * length bytes.now < 80 }
     requires marks { list_all (λ c. not (is_line_end c)) marks.now ≡ true }

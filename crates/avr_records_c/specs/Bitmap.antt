@@ -1,23 +1,19 @@
--- A memory as C has it: its bytes, and a bitmap of those that are there, the lowest address in the lowest bit.
+-- A memory as C passes it: its bytes, and a bitmap of those that are there, the lowest address in the lowest bit.
 use Rattle.std.specs.Prelude.{◌≡◌, ℕ, zero, suc, Bool, ◌+◌, ◌*◌, ◌/◌, ◌%◌, ◌^◌, ◌<◌, ◌==◌, List, [], ◌∷◌, length, slice_index, Option, Some, None, is_some, if◌then◌else◌}
 use Rattle.std.specs.Int.{bit_at}
 use Rattle.avr_image.specs.Image.{byte_at}
 
--- how many octets a bitmap of so many bytes has
 abbrev pub octets_of : ℕ → ℕ
 octets_of size = (size + 7) / 8
 
--- 1 where an address holds a byte
 abbrev pub bit : List (Option ℕ) → ℕ → ℕ
 bit image addr = if is_some (byte_at image addr) then 1 else 0
 
--- the octet of the eight addresses from this one on
 abbrev pub octet : List (Option ℕ) → ℕ → ℕ
 octet image addr =
     bit image addr + 2 * bit image (addr + 1) + 4 * bit image (addr + 2) + 8 * bit image (addr + 3)
     + 16 * bit image (addr + 4) + 32 * bit image (addr + 5) + 64 * bit image (addr + 6) + 128 * bit image (addr + 7)
 
--- so many octets of an image's bitmap, from this one on
 abbrev pub octets : List (Option ℕ) → ℕ → ℕ → List ℕ
 octets image k zero = []
 octets image k (suc n) = octet image (k * 8) ∷ octets image (k + 1) n
@@ -25,15 +21,12 @@ octets image k (suc n) = octet image (k * 8) ∷ octets image (k + 1) n
 abbrev pub bitmap : List (Option ℕ) → ℕ → List ℕ
 bitmap image n = octets image 0 n
 
--- an address's bit is 1
 abbrev pub is_there : List ℕ → ℕ → Bool
 is_there present addr = bit_at (slice_index present (addr / 8)) (addr % 8) == 1
 
--- a byte, where its address's bit is 1
 abbrev pub byte_if_there : List ℕ → ℕ → ℕ → Option ℕ
 byte_if_there present addr byte = if is_there present addr then Some byte else None
 
--- the bytes from an address on, as far as they are there
 abbrev pub image_from : ℕ → List ℕ → List ℕ → List (Option ℕ)
 image_from addr present [] = []
 image_from addr present (byte ∷ bytes) = byte_if_there present addr byte ∷ image_from (suc addr) present bytes

@@ -1,4 +1,4 @@
--- Where a file that is written stands.
+-- How far a file is written.
 use Rattle.std.specs.Prelude.{ℕ, Bool, true, false, ◌==◌, min, List, Option, Some, None, if◌then◌else◌}
 use Rattle.std.specs.Option.{option_map, option_and_then}
 use Rattle.avr_records.specs.Sparse.{last_held}
@@ -10,11 +10,10 @@ use Rattle.avr_records.specs.declared.kind.Kind.{Kind}
 use Rattle.avr_records.specs.declared.kind.Kind.TheVariants.{Ihex, Srec}
 use Rattle.avr_records_c.specs.declared.cursor.Cursor.{Cursor}
 
--- whether the end record went out, as a number says it
 abbrev pub ended_of : ℕ → Option Bool
 ended_of n = if n == 0 then Some false else if n == 1 then Some true else None
 
--- how many bytes an address of S-records has: at the beginning as few as hold the last one; of Intel HEX anything
+-- the size of an S-record's address: at the beginning the least that holds the last one; Intel HEX needs none
 abbrev pub size_in_force : Kind → ℕ → List (Option ℕ) → Option AddressSize
 size_in_force Ihex n image = Some Two
 size_in_force Srec n image =
@@ -24,7 +23,7 @@ size_in_force Srec n image =
     else if n == 4 then Some Four
     else None
 
--- the lines of a kind, by the numbers of a cursor; none where no call leaves such numbers
+-- the position by the numbers of a cursor; none if no call leaves such numbers
 abbrev pub lines_with : Kind → Cursor → Bool → AddressSize → Lines
 lines_with kind cursor ended size =
     record { kind = kind; addr = cursor.addr; upper = cursor.upper; address_size = size; ended = ended }
@@ -34,17 +33,15 @@ lines_of kind cursor image =
     option_and_then (λ ended. option_map (lines_with kind cursor ended) (size_in_force kind cursor.address_size image))
     (ended_of cursor.ended)
 
--- the upper half of the address that is in force, of Intel HEX
 abbrev pub upper_number : Kind → ℕ → ℕ
 upper_number Ihex upper = upper
 upper_number Srec upper = 0
 
--- how many bytes an address has, of S-records
 abbrev pub size_number : Kind → AddressSize → ℕ
 size_number Ihex size = 0
 size_number Srec size = bytes_of size
 
--- the cursor of lines, where so many bytes of the next one went out
+-- the cursor for `lines`, with `gone` bytes of the next line put
 abbrev pub cursor_of : Lines → ℕ → Cursor
 cursor_of lines gone =
     record {

@@ -1,7 +1,6 @@
--- What the numbers of faults mean, in words.
+-- The texts of fault numbers.
 use Rattle.std.specs.Prelude.{ℕ, ◌==◌, min, List, [], ◌∷◌, ◌++◌, length, take, drop, codes, if◌then◌else◌}
 
--- the text of a fault's number
 abbrev pub fault_text : ℕ → List ℕ
 fault_text fault =
     if fault == 0 then codes "no fault"
@@ -18,8 +17,8 @@ fault_text fault =
     else if fault == 12 then codes "no record file"
     else codes "no fault of this number"
 
--- a text and a 0 after it stand at a room's start, as much of the text as leaves room for the 0; what was behind them
--- still does, and an empty room stays so
+-- A text and a 0 at a room's start, as much of the text as leaves space for the 0. What comes after is unchanged, and
+-- an empty room stays empty.
 abbrev pub put_text : List ℕ → List ℕ → List ℕ
 put_text text [] = []
 put_text text (first ∷ room) =

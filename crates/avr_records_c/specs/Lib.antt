@@ -5,5 +5,5 @@ pub mod Reading
 pub mod Cursor
 pub mod Writing
 pub mod RoundTrip
--- of the crates below, what public contracts name
+-- names from the crates below that public contracts use
 pub use Rattle.avr_image.specs.Image

@@ -1,4 +1,4 @@
--- The numbers by which C knows formats, faults and versions.
+-- The numbers that C uses for formats, faults and versions.
 use Rattle.std.specs.Prelude.{ℕ, true, false, ◌+◌, ◌*◌, ◌==◌, Option, Some, None, Result, Ok, Err, unwrap_or, if◌then◌else◌}
 use Rattle.avr_records.specs.Fault.{fault_number, fault_line_number, fault_address}
 use Rattle.avr_records.specs.declared.fault.RecordFault.{RecordFault}
@@ -10,23 +10,19 @@ use Rattle.avr_records.specs.declared.kind.Found.{Found}
 use Rattle.avr_records.specs.declared.kind.Found.TheVariants as found
 use Rattle.avr_records_c.specs.declared.outcome.Outcome.{Outcome}
 
--- what the first bytes of a file show
 abbrev pub found_number : Found → ℕ
 found_number found.Raw = 0
 found_number found.Ihex = 1
 found_number found.Srec = 2
 found_number found.Elf = 3
 
--- a kind of record file, by the number of what the first bytes of one show
 abbrev pub kind_numbered : ℕ → Option Kind
 kind_numbered number = if number == 1 then Some kind.Ihex else if number == 2 then Some kind.Srec else None
 
--- a file was read to its end
 abbrev pub outcome_of_end : Ending → Outcome
 outcome_of_end Ended = record { line = 0; address = 0; fault = 0; ended = true }
 outcome_of_end NoEnd = record { line = 0; address = 0; fault = 0; ended = false }
 
--- no file was read, by this fault
 abbrev pub outcome_of_fault : RecordFault → Outcome
 outcome_of_fault fault =
     record {
@@ -36,16 +32,13 @@ outcome_of_fault fault =
       ended = false;
     }
 
--- the arguments do not fit one another
 abbrev pub misfit : Outcome
 misfit = record { line = 0; address = 0; fault = 11; ended = false }
 
--- the file is of a format that has no records
 abbrev pub no_records : Outcome
 no_records = record { line = 0; address = 0; fault = 12; ended = false }
 
--- the kind of record file that is to be read: raw bytes and executables (ELF) have no records, and no format has
--- another number
+-- the kind of record file to read: raw bytes and ELF have no records, and other numbers name no format
 abbrev pub kind_to_read : ℕ → Result Kind Outcome
 kind_to_read number =
     if number == 0 then Err no_records
@@ -54,6 +47,5 @@ kind_to_read number =
     else if number == 3 then Err no_records
     else Err misfit
 
--- a version by its three numbers
 abbrev pub version_number : ℕ → ℕ → ℕ → ℕ
 version_number major minor patch = major * 10000 + minor * 100 + patch

@@ -1,4 +1,4 @@
--- What C has of a record file that is written.
+-- What C gets of a record file that is written.
 use Rattle.std.specs.Prelude.{◌≡◌, ℕ, ◌==◌, ◌&&◌, ◌^◌, nat_lt, min, List, [], ◌∷◌, ◌++◌, length, take, drop, Option, Some, None, MatchOption, if◌then◌else◌}
 use Rattle.std.specs.Option.{option_map}
 use Rattle.avr_records.specs.Sparse.{image_text}
@@ -10,36 +10,33 @@ use Rattle.avr_records_c.specs.Cursor.{lines_of}
 use Rattle.avr_records_c.specs.Numbers.{kind_numbered}
 use Rattle.avr_records_c.specs.Bitmap.{octets_of, image_of}
 
--- what a call leaves: how much it put, where the file stands, and the room that it was lent
 pub record Put : Type 0 where
   pub piece : Piece
   pub cursor : Cursor
   pub room : List ℕ
 
--- the kind of file, where the number is that of one, the memory has fewer than 2 to the power 32 bytes, and the bitmap
--- has as many octets as the memory needs
+-- The kind of file if the arguments fit. The number must be a kind's, the memory must have fewer than 2 to the power
+-- 32 bytes, and the bitmap the memory's octets.
 abbrev pub asked_write : ℕ → ℕ → ℕ → Option Kind
 asked_write kind size present =
     if nat_lt size (2 ^ 32) && present == octets_of size then kind_numbered kind else None
 
--- The first bytes of a text, as many as a room takes, stand at its start, what was after them still does, and the
--- others are left.
+-- The room begins with as much of the text as fits, and is unchanged after it; `rest` is left.
 pub record PutsOn (text rest room : List ℕ) (n : ℕ) (after : List ℕ) : Type 0 where
   pub count : n ≡ min (length room) (length text)
   pub left : rest ≡ drop n text
   pub stands : after ≡ take n text ++ drop n room
 
--- what a cursor says is still to be written of a memory's file: its lines, of which the first has lost what went out;
--- none where no call leaves such a cursor
+-- what is left of a memory's file by a cursor: its lines, without what was put of the first; none if no call leaves
+-- such a cursor
 abbrev pub file_left : Kind → List (Option ℕ) → Cursor → Option (List ℕ)
 file_left kind image cursor =
     option_map (λ lines. drop cursor.gone (text_left lines image)) (lines_of kind cursor image)
 
--- the cursor at a file's beginning
 abbrev pub file_start : Cursor
 file_start = record { addr = 0; gone = 0; upper = 0; address_size = 0; ended = 0 }
 
--- a call puts what is left of this text on, and the cursor says what is then left
+-- a call puts the next part of the text, and the cursor then gives the rest
 pub record PutsText (kind : Kind) (image : List (Option ℕ)) (text room : List ℕ) (put : Put) : Type 0 where
   pub good : put.piece.fault ≡ 0
   pub rest : List ℕ
@@ -50,8 +47,7 @@ pub record PutsText (kind : Kind) (image : List (Option ℕ)) (text room : List 
 abbrev pub put_none : Cursor → List ℕ → Put
 put_none cursor room = record { piece = record { length = 0; fault = 11 }; cursor = cursor; room = room }
 
--- A call goes on with the memory's file; where the arguments do not fit one another it puts nothing, and changes
--- nothing.
+-- A call goes on with the memory's file. If the arguments don't fit one another, it changes nothing.
 abbrev pub Writes : ℕ → List ℕ → List ℕ → Cursor → List ℕ → Put → Type 0
 Writes kind bytes present cursor room put =
     MatchOption (asked_write kind (length bytes) (length present))
@@ -70,13 +66,13 @@ pub record PieceCall (kind : Kind) (image : List (Option ℕ)) (cursor next : Cu
       (record { piece = record { length = length piece; fault = 0 }; cursor = next; room = after })
   pub prefix : piece ≡ take (length piece) after
 
--- calls put these pieces one after the other, from a cursor on to the file's end
+-- calls that put these pieces one after the other, from a cursor to the file's end
 abbrev pub Wrote : Kind → List (Option ℕ) → Cursor → List (List ℕ) → Type 0
 Wrote kind image cursor [] = file_left kind image cursor ≡ Some []
 Wrote kind image cursor (piece ∷ more) =
     (next : Cursor) × PieceCall kind image cursor next piece × Wrote kind image next more
 
--- A call returns how many bytes the memory's file has; where the arguments do not fit one another, none.
+-- A call returns the length of the memory's file, or 0 if the arguments don't fit one another.
 abbrev pub Measures : ℕ → List ℕ → List ℕ → Piece → Type 0
 Measures kind bytes present piece =
     MatchOption (asked_write kind (length bytes) (length present))

@@ -1,17 +1,16 @@
-//! A memory as C has it: its bytes, and a bitmap of those that are there.
+//! A memory as C passes it: its bytes, and a bitmap of those that are there.
 ghost use Rattle.std.specs.Prelude.{◌≡◌, ◌==◌, ◌&&◌, ◌+◌, ◌*◌, ◌^◌, ◌<◌, ◌≤◌, ℕ, length, nat_lt, slice_index};
 ghost use Rattle.avr_records_c.specs.Bitmap.{bit, bitmap, is_there as spec_is_there, octet, octets_of};
 
 use avr_image::Image;
 
-/// Whether a bitmap of so many octets is that of a memory of so many bytes, fewer than 2 to the power 32.
+/// Returns whether `octets` octets are the bitmap of `size` bytes, fewer than 2 to the power 32.
 pub(crate) fn is_bitmap_of(octets: usize, size: usize) -> bool
     ensures { result ≡ (nat_lt size (2 ^ 32) && octets == octets_of size) }
 {
     size <= u32::MAX as usize && octets == size.div_ceil(8)
 }
 
-/// 1 where an address holds a byte.
 fn bit(image: &Image, addr: u32) -> u8
     ensures value { result ≡ bit image.now addr }
     ensures small { result < 2 }
@@ -19,7 +18,6 @@ fn bit(image: &Image, addr: u32) -> u8
     if image.get(addr).is_some() { 1 } else { 0 }
 }
 
-/// The octet of the eight addresses from this one on.
 fn octet(image: &Image, addr: u32) -> u8
     requires { addr + 8 ≤ 2 ^ 32 }
     ensures { result ≡ octet image.now addr }
@@ -34,7 +32,7 @@ fn octet(image: &Image, addr: u32) -> u8
         + 128 * bit(image, addr + 7)
 }
 
-/// Returns the end of the octets without a gap that begin with this one; `first` if it has a gap.
+/// Returns the end of the gapless octets from `first` on, or `first` if it has a gap.
 fn full_end(image: &Image, first: usize) -> usize
     requires { first * 8 ≤ length image.now }
     ensures after { first ≤ result }
@@ -44,7 +42,6 @@ fn full_end(image: &Image, first: usize) -> usize
     image.run_from(first as u32 * 8, size) as usize / 8
 }
 
-/// Makes the octets from `first` up to `end` 255.
 fn fill_octets(present: &mut [u8], first: usize, end: usize)
     requires ordered { first ≤ end }
     requires within { end ≤ length present.old }
@@ -56,9 +53,8 @@ fn fill_octets(present: &mut [u8], first: usize, end: usize)
     present[first..end].fill(255);
 }
 
-/// Puts the next octets of an image's bitmap, the first being `from`, over octets that are 0, and returns the number of
-/// the octet after them. These are the octets up to the next byte, which stay 0, and from there on either all octets
-/// without a gap, or one.
+/// Puts the next octets of an image's bitmap, from `from` on, over octets that are 0. Returns the number of the octet
+/// after them. It skips to the next byte, then puts all gapless octets, or one.
 fn put_octets(image: &Image, from: usize, present: &mut [u8]) -> usize
     requires some { from < length present.old }
     requires few { length present.old * 8 ≤ 2 ^ 32 }
@@ -86,7 +82,6 @@ fn put_octets(image: &Image, from: usize, present: &mut [u8]) -> usize
     first + 1
 }
 
-/// Makes `present` the bitmap of an image.
 pub(crate) fn put_bitmap(image: &Image, present: &mut [u8])
     requires { length present.old * 8 ≤ 2 ^ 32 }
     ensures { present.new ≡ bitmap image.now (length present.old) }
@@ -98,7 +93,6 @@ pub(crate) fn put_bitmap(image: &Image, present: &mut [u8])
     }
 }
 
-/// Whether an address's bit is 1.
 pub(crate) fn is_there(present: &[u8], addr: usize) -> bool
     requires { addr < length present.now * 8 }
     ensures { result ≡ spec_is_there present.now addr }

@@ -1,4 +1,4 @@
-//! Where a file that is written stands, as C keeps it.
+//! How far a file is written, as C keeps it.
 ghost use Rattle.std.specs.Prelude.{◌≡◌, ◌^◌, min, IfSome};
 ghost use Rattle.avr_records_c.specs.Cursor.{cursor_of as spec_cursor_of, ended_of as spec_ended_of};
 ghost use Rattle.avr_records_c.specs.Cursor.{lines_of as spec_lines_of, size_in_force as spec_size_of};
@@ -6,23 +6,23 @@ ghost use Rattle.avr_records_c.specs.Cursor.{lines_of as spec_lines_of, size_in_
 use crate::memory::Memory;
 use avr_records::{AddressSize, Cursor as Lines, Kind};
 
-/// Where a file that is written stands: at its beginning, where all numbers are 0.
+/// How far a file is written. At its beginning all numbers are 0.
 #[repr(C)]
 #[derive(Clone, Copy, Debug, PartialEq, Eq)]
 pub struct Cursor {
-    /// The bytes below this address are in lines that went out.
+    /// All bytes below this address are in lines that were put.
     pub addr: u32,
-    /// How many bytes of the line that comes next went out.
+    /// How many bytes of the next line were put.
     pub gone: u32,
-    /// Of Intel HEX: the upper 16 bits of the address that are in force.
+    /// Intel HEX: the upper 16 bits of the address now in force.
     pub upper: u16,
-    /// Of S-records: how many bytes each address has, from 2 to 4, or 0 at the beginning.
+    /// S-records: how many bytes each address has, from 2 to 4, or 0 at the beginning.
     pub address_size: u8,
-    /// 1 where the end record went out, else 0.
+    /// 1 if the end record was put, else 0.
     pub ended: u8,
 }
 
-/// Returns how many bytes an address of S-records has, as a cursor says it; of Intel HEX anything.
+/// Returns the size of an S-record's address by a cursor's number; any number will do for Intel HEX.
 fn size_in_force(kind: Kind, size: u8, memory: &Memory<'_>) -> Option<AddressSize>
     ensures { result ≡ spec_size_of kind size memory.now }
 {
@@ -38,7 +38,6 @@ fn size_in_force(kind: Kind, size: u8, memory: &Memory<'_>) -> Option<AddressSiz
     }
 }
 
-/// Returns whether the end record went out, as a cursor says it.
 fn ended_of(ended: u8) -> Option<bool>
     ensures { result ≡ spec_ended_of ended }
 {
@@ -49,7 +48,7 @@ fn ended_of(ended: u8) -> Option<bool>
     }
 }
 
-/// Returns where the lines stand, as a cursor says it; nothing if no call leaves such a cursor.
+/// Returns the position of a cursor, or `None` if no call leaves such a cursor.
 pub(crate) fn lines_of(kind: Kind, cursor: &Cursor, memory: &Memory<'_>) -> Option<Lines>
     ensures value { result ≡ spec_lines_of kind cursor.now memory.now }
     ensures kind { IfSome result (λ lines. lines.kind ≡ kind) }
@@ -65,7 +64,7 @@ pub(crate) fn lines_of(kind: Kind, cursor: &Cursor, memory: &Memory<'_>) -> Opti
     })
 }
 
-/// Returns the cursor of lines of which so many bytes of the next one went out.
+/// Returns the cursor for `lines`, with `gone` bytes of the next line put.
 pub(crate) fn cursor_of(lines: &Lines, gone: u32) -> Cursor
     ensures { result ≡ spec_cursor_of lines.now gone }
 {

@@ -1,8 +1,7 @@
-//! What the numbers of faults mean, in words.
+//! The texts of fault numbers.
 ghost use Rattle.std.specs.Prelude.{◌≡◌, ◌<◌, length};
 ghost use Rattle.avr_records_c.specs.FaultText.{fault_text, put_text};
 
-/// Returns what the number of a fault means, in a few words of ASCII.
 fn text_of(fault: u8) -> &'static [u8]
     ensures text { result.now ≡ fault_text fault }
     ensures short { length result.now < 40 }
@@ -24,7 +23,6 @@ fn text_of(fault: u8) -> &'static [u8]
     }
 }
 
-/// Puts a text and a 0 after it into a room; if the room is too small, as much of the text as leaves room for the 0.
 fn put_text(text: &[u8], room: &mut [u8])
     ensures { room.new ≡ put_text text.now room.old }
 {
@@ -36,9 +34,9 @@ fn put_text(text: &[u8], room: &mut [u8])
     room[count] = 0;
 }
 
-/// Puts the text of a fault's number into a room that the caller lends, with a 0 after it, and returns the text's
-/// length in bytes, which is below 40. If the room is too small, it gets as much of the text as leaves room for the 0;
-/// an empty room gets nothing. The bytes after the 0 stay as they were.
+/// Puts the ASCII text of a fault's number and a 0 into the caller's room. Returns the text's length in bytes, below
+/// 40. A room that is too small gets as much of the text as leaves space for the 0; an empty one gets nothing. Bytes
+/// after the 0 are unchanged.
 #[unsafe(no_mangle)]
 pub extern "C" fn avr_records_fault_text(fault: u8, room: &mut [u8]) -> usize
     ensures length { result ≡ length (fault_text fault) }

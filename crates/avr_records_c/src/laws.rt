@@ -1,4 +1,4 @@
-//! Laws of what C has, over the definitions alone.
+//! Laws of what C gets, over the definitions alone.
 ghost use Rattle.std.specs.Prelude.{◌≡◌, ◌*◌, ◌<◌, ◌≤◌, ◌^◌, ℕ, List, length, Option, is_some};
 ghost use Rattle.std.specs.List.{concat};
 ghost use Rattle.avr_image.specs.Image.{byte_at};
@@ -10,23 +10,23 @@ ghost use Rattle.avr_records_c.specs.Reading.{left_in};
 ghost use Rattle.avr_records_c.specs.RoundTrip.{EachIsByte, written_and_read};
 ghost use Rattle.avr_records_c.specs.Writing.{Wrote, file_start};
 
-/// A bit of an image's bitmap is 1 where, and only where, its address holds a byte.
+/// A bit of an image's bitmap is 1 exactly if its address holds a byte.
 #[tactic(auto, using(crate::proofs::Bits::there_where_held))]
 pub fn a_bitmap_says_what_is_there()
     ensures { (image : List (Option ℕ)) (n addr : ℕ) → addr < n * 8
         → is_there (bitmap image n) addr ≡ is_some (byte_at image addr) }
 {}
 
-/// The pieces that calls put with one cursor, from a file's beginning to its end, joined are the file, whatever rooms
-/// they got.
+/// The pieces that calls put with one cursor, from a file's beginning to its end, joined are the file, whatever their
+/// rooms.
 #[tactic(auto, using(crate::proofs::Cursors::pieces_join))]
 pub fn pieces_join()
     ensures { (kind : Kind) (image : List (Option ℕ)) (pieces : List (List ℕ)) → Wrote kind image file_start pieces
         → concat pieces ≡ image_text kind image }
 {}
 
-/// The file of a memory, read again for one of its size, gives the bytes that were there, FF in the place of the
-/// others, and the bitmap of the same addresses, with the end record.
+/// The file of a memory reads back, into one of its size, with the end record. It gives the same bytes and bitmap,
+/// and FF in gaps.
 #[tactic(auto, using(crate::proofs::RoundTrip::reads_back))]
 pub fn what_is_written_reads_back()
     ensures { (kind : Kind) (present bytes : List ℕ) → length bytes ≤ 2 ^ 32 → EachIsByte bytes

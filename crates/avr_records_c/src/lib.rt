@@ -1,8 +1,7 @@
 //! Record files for C: Intel HEX and S-records, read into a memory that the caller lends and written from one.
 //!
-//! Each function is that of avr_records over memory that belongs to the caller: no handle stays after a call, nothing
-//! is global, and what a call allocates it has freed when it returns. `include/avr_records.h` declares the functions
-//! and says what their callers owe.
+//! Each function is that of avr_records over the caller's memory. No handle outlives a call, nothing is global, and a
+//! call frees all that it allocates. `include/avr_records.h` declares the functions and the duties of their callers.
 #![tactic(auto)]
 
 mod bitmap;

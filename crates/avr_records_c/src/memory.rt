@@ -1,4 +1,4 @@
-//! A memory as C has it, as the writers of record files walk over it.
+//! A memory as C passes it, for the writers of record files.
 ghost use Rattle.std.specs.Prelude.{◌≡◌, ◌+◌, ◌*◌, ◌^◌, ◌<◌, ◌≤◌, ℕ, false, length, take, drop, min};
 ghost use Rattle.avr_image.specs.Image.{first_from};
 ghost use Rattle.avr_image.specs.Runs.{lead};
@@ -28,7 +28,6 @@ impl<'a> Model for Memory<'a> {
 }
 
 impl<'a> Memory<'a> {
-    /// The memory of these bytes, as far as they are there.
     pub(crate) fn new(present: &'a [u8], bytes: &'a [u8]) -> Memory<'a>
         requires below { length bytes.now < 2 ^ 32 }
         requires octets { length present.now ≡ octets_of (length bytes.now) }
@@ -39,7 +38,7 @@ impl<'a> Memory<'a> {
     }
 }
 
-/// Returns how far a search steps from an address whose byte isn't there: over a whole octet that is 0, else by one.
+/// Returns the step of a search from an absent byte: a whole octet that is 0, else one address.
 fn gap_at(present: &[u8], addr: usize) -> usize
     requires inside { addr < length present.now * 8 }
     requires gap { spec_is_there present.now addr ≡ false }
@@ -54,7 +53,6 @@ fn gap_at(present: &[u8], addr: usize) -> usize
     }
 }
 
-/// The least address from one on whose byte is there.
 fn next_there(present: &[u8], bytes: &[u8], addr: usize) -> Option<usize>
     requires octets { length present.now ≡ octets_of (length bytes.now) }
     requires below { length bytes.now < 2 ^ 32 }
@@ -71,7 +69,6 @@ fn next_there(present: &[u8], bytes: &[u8], addr: usize) -> Option<usize>
     None
 }
 
-/// The end of a row of at most so many bytes that begins at an address of the memory.
 fn row_end(present: &[u8], bytes: &[u8], addr: usize, most: usize) -> usize
     requires octets { length present.now ≡ octets_of (length bytes.now) }
     requires inside { addr ≤ length bytes.now }
@@ -85,7 +82,6 @@ fn row_end(present: &[u8], bytes: &[u8], addr: usize, most: usize) -> usize
     end
 }
 
-/// The bytes from an address on, as far as they are there, and at most so many.
 fn row_there<'a>(present: &[u8], bytes: &'a [u8], addr: usize, most: usize) -> &'a [u8]
     requires { length present.now ≡ octets_of (length bytes.now) }
     ensures row { result.now ≡ take most (lead (drop addr (image_of present.now bytes.now))) }

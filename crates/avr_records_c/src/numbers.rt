@@ -1,4 +1,4 @@
-//! The numbers by which C knows formats.
+//! The numbers that C uses for formats.
 ghost use Rattle.std.specs.Prelude.{◌≡◌};
 ghost use Rattle.avr_records_c.specs.Numbers.{
   found_number as spec_found_number,
@@ -9,7 +9,6 @@ ghost use Rattle.avr_records_c.specs.Numbers.{
 use crate::outcome::Outcome;
 use avr_records::{Found, Kind};
 
-/// The number of a format.
 pub(crate) fn found_number(found: Found) -> u8
     ensures { result ≡ spec_found_number found }
 {
@@ -21,7 +20,6 @@ pub(crate) fn found_number(found: Found) -> u8
     }
 }
 
-/// The kind of record file that a number names.
 pub(crate) fn kind_numbered(number: u8) -> Option<Kind>
     ensures { result ≡ spec_kind_numbered number }
 {
@@ -32,7 +30,7 @@ pub(crate) fn kind_numbered(number: u8) -> Option<Kind>
     }
 }
 
-/// The kind of record file that a number names; else the outcome of a read of that format.
+/// Returns the kind of record file for a format's number, or the outcome of reading any other format.
 pub(crate) fn kind_to_read(number: u8) -> Result<Kind, Outcome>
     ensures { result ≡ spec_kind_to_read number }
 {

@@ -4,19 +4,19 @@ ghost use Rattle.avr_records_c.specs.Numbers.{outcome_of_end, misfit, no_records
 
 use avr_records::{Ending, RecordFault};
 
-/// The fault of arguments that do not fit one another.
+/// The fault of arguments that don't fit one another.
 pub const MISFIT: u8 = 11;
 
-/// The fault of a file whose format has no records.
+/// The fault of a format without records.
 pub const NO_RECORDS: u8 = 12;
 
-/// How a read ended: well, where the fault is 0.
+/// How a read ended: it succeeded if the fault is 0.
 #[repr(C)]
 #[derive(Clone, Copy, Debug, PartialEq, Eq)]
 pub struct Outcome {
-    /// The line at fault, the first being 1; 0 where none is.
+    /// The 1-based line at fault, or 0.
     pub line: u32,
-    /// The first byte address outside the memory, where that is the fault; else 0.
+    /// The line's first byte address outside the memory, if that is the fault; else 0.
     pub address: u32,
     /// 0, or the number of the fault.
     pub fault: u8,
@@ -25,7 +25,6 @@ pub struct Outcome {
 }
 
 impl Outcome {
-    /// A file was read to its end.
     pub(crate) fn done(ending: Ending) -> Outcome
         ensures { result ≡ outcome_of_end ending }
     {
@@ -37,7 +36,6 @@ impl Outcome {
         }
     }
 
-    /// No file was read, by this fault.
     pub(crate) fn refused(fault: RecordFault) -> Outcome
         ensures { result ≡ outcome_of_fault fault }
     {
@@ -49,7 +47,6 @@ impl Outcome {
         }
     }
 
-    /// The arguments do not fit one another.
     pub(crate) fn misfit() -> Outcome
         ensures { result ≡ misfit }
     {
@@ -61,7 +58,6 @@ impl Outcome {
         }
     }
 
-    /// The file is of a format that has no records.
     pub(crate) fn no_records() -> Outcome
         ensures { result ≡ no_records }
     {

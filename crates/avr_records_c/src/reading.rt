@@ -1,4 +1,4 @@
-//! A record file read into the caller's memory.
+//! Reads a record file into the caller's memory.
 ghost use Rattle.std.specs.Prelude.{◌≡◌};
 ghost use Rattle.avr_records_c.specs.Reading.{asked_read as spec_asked_read, Reads};
 
@@ -8,7 +8,6 @@ use crate::outcome::Outcome;
 use avr_records::{Kind, read_records};
 use std::alloc::Global;
 
-/// The kind of file, where the arguments fit one another and the file is to have records; else the read's outcome.
 fn asked_read(kind: u8, text: usize, size: usize, present: usize) -> Result<Kind, Outcome>
     ensures { result ≡ spec_asked_read kind text size present }
 {
@@ -19,14 +18,15 @@ fn asked_read(kind: u8, text: usize, size: usize, present: usize) -> Result<Kind
     }
 }
 
-/// Reads a whole record file of this kind (1 for Intel HEX, 2 for S-records) into the bytes of a memory, FF in gaps,
-/// and a bitmap of the bytes that are there, which has an octet for each eight bytes, the last perhaps in part. Start
-/// addresses and headers (S0) are dropped.
+/// Reads a whole record file, of kind 1 for Intel HEX or 2 for S-records, into a memory and its bitmap. The memory's
+/// bytes are FF in gaps. The bitmap has an octet for each eight bytes, the last perhaps in part. Start addresses and
+/// headers (S0) are dropped.
 ///
-/// After a fault bytes and bitmap are as they were. The faults have the numbers of `RecordFault`; 11 is that of
-/// arguments that do not fit one another: a number that no format has, a bitmap of another length, a file or a memory
-/// of 2 to the power 32 bytes or more. 12, where these fit, is that of a file which is no record file: raw bytes (kind
-/// 0) or ELF (kind 3), as `avr_records_detect` tells them.
+/// After a fault the bytes and the bitmap are unchanged. Faults have the numbers of `RecordFault`, and two more:
+/// - 11 if the arguments don't fit one another: an unknown format, a bitmap of another length, or a file or memory of
+///   2 to the power 32 bytes or more.
+/// - 12 if they do, but the format has no records: raw bytes (kind 0) or ELF (kind 3), as `avr_records_detect`
+///   returns them.
 #[unsafe(no_mangle)]
 pub extern "C" fn avr_records_read(
     alloc: Global,

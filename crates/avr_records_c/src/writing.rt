@@ -1,4 +1,4 @@
-//! A record file written from the caller's memory.
+//! Writes a record file from the caller's memory.
 ghost use Rattle.std.specs.Prelude.{◌≡◌, ◌+◌, ◌-◌, ◌<◌, ◌≤◌, ◌^◌, ◌++◌, length, take, drop, min};
 ghost use Rattle.avr_records.specs.Writing.{left};
 ghost use Rattle.avr_records_c.specs.Writing.{asked_write as spec_asked_write, Measures, PutsOn, Writes};
@@ -12,7 +12,6 @@ use crate::piece::Piece;
 use arrayvec::ArrayVec;
 use avr_records::{Cursor as Lines, Kind};
 
-/// The kind of file, where the arguments fit one another.
 fn asked_write(kind: u8, size: usize, present: usize) -> Option<Kind>
     ensures { result ≡ spec_asked_write kind size present }
 {
@@ -23,7 +22,7 @@ fn asked_write(kind: u8, size: usize, present: usize) -> Option<Kind>
     }
 }
 
-/// Puts a line, without its bytes that went out, after what stands in a room, as much as fits; how much that is.
+/// Puts as much as fits of a line, without its first `gone` bytes, at `put` in the room. Returns how much.
 fn put_part(line: &[u8], gone: usize, room: &mut [u8], put: usize) -> usize
     requires { put ≤ length room.old }
     ensures count { result ≡ min (length room.old - put) (length (drop gone line.now)) }
@@ -35,7 +34,7 @@ fn put_part(line: &[u8], gone: usize, room: &mut [u8], put: usize) -> usize
     count
 }
 
-/// Puts what is left of a file into a room, as much as it takes; how much that is.
+/// Puts as much as fits of the rest of a file into the room. Returns how much.
 fn put_left(lines: &mut Lines, gone: &mut u32, memory: &Memory<'_>, room: &mut [u8]) -> usize
     ensures put { PutsOn (drop gone.old (left lines.old memory.now)) (drop gone.new (left lines.new memory.now))
         room.old result room.new }
@@ -61,7 +60,6 @@ fn put_left(lines: &mut Lines, gone: &mut u32, memory: &Memory<'_>, room: &mut [
     put
 }
 
-/// Counts the bytes that lines have still to say of a memory.
 fn count_left(lines: Lines, memory: &Memory<'_>) -> usize
     requires { length (left lines memory.now) < 2 ^ 64 }
     ensures { result ≡ length (left lines memory.now) }
@@ -75,8 +73,8 @@ fn count_left(lines: Lines, memory: &Memory<'_>) -> usize
     count
 }
 
-/// Returns how many bytes the record file of a memory has, so that a room for all of it can be had. The arguments and
-/// the fault are those of `avr_records_write`; with the fault comes length 0. A call takes no memory.
+/// Returns the length in bytes of a memory's record file, so that the caller can get a room for all of it. Arguments
+/// and fault are those of `avr_records_write`; with a fault the length is 0. It allocates nothing.
 #[unsafe(no_mangle)]
 pub extern "C" fn avr_records_length(kind: u8, bytes: &[u8], present: &[u8]) -> Piece
     ensures { Measures kind bytes.now present.now result }
@@ -91,15 +89,14 @@ pub extern "C" fn avr_records_length(kind: u8, bytes: &[u8], present: &[u8]) -> 
     }
 }
 
-/// Puts a piece of the record file of a memory into a room that the caller lends: the file's next bytes, as many as the
-/// room takes. The cursor says where the file stands, and is then where the next call goes on; all its numbers are 0 at
-/// the beginning. A piece that is shorter than the room is the file's last. The file has no header and no start address
-/// (0 in the end record of S-records). A call takes no memory.
+/// Puts the next bytes of a memory's record file into the caller's room, as many as fit. A piece shorter than the
+/// room is the last one. The cursor keeps the position in the file; all its numbers are 0 at the beginning. The file
+/// has no header and no start address, which is 0 in the end record of S-records. It allocates nothing.
 ///
-/// The kind is 1 for Intel HEX and 2 for S-records; the bitmap is that of `avr_records_read`, and says which bytes of
-/// the memory belong to the file. The fault is 11, where the arguments do not fit one another, or no call leaves such a
-/// cursor; then room and cursor are as they were. Of a cursor that was changed otherwise, or that stands in another
-/// memory or kind, comes what its numbers say.
+/// The kind is 1 for Intel HEX or 2 for S-records. The bitmap, as in `avr_records_read`, marks the bytes that belong
+/// to the file. The fault is 11 if the arguments don't fit one another, or no call leaves such a cursor; then room
+/// and cursor are unchanged. A cursor that was otherwise changed, or comes from another memory or kind, is taken by
+/// its numbers.
 #[tactic(auto, using(crate::proofs::Cursors::left_kept))]
 #[unsafe(no_mangle)]
 pub extern "C" fn avr_records_write(

@@ -1,7 +1,7 @@
--- Counts of failures, which end at 2^64 - 1.
+-- Failure counts, which end at 2^64 - 1.
 use Rattle.std.specs.Prelude.{◌≡◌, ◌<◌, ◌+◌, ◌-◌, ◌^◌, ℕ, min}
 
--- so many failures, as far as a count goes
+-- the count after `failures` failures
 abbrev pub counted : ℕ → ℕ
 counted failures = min failures (2 ^ 64 - 1)
 
@@ -9,6 +9,6 @@ counted failures = min failures (2 ^ 64 - 1)
 abbrev pub HasRisen : ℕ → ℕ → Type 0
 HasRisen before now = now ≡ counted (before + 1)
 
--- none was: the count is as it was, and not at its end, where it shows no further failure
+-- no failure was counted; at its end the count couldn't show one
 abbrev pub HasStood : ℕ → ℕ → Type 0
 HasStood before now = (now ≡ before) × (now < 2 ^ 64 - 1)

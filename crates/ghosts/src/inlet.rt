@@ -1,4 +1,4 @@
-//! Readers that wait.
+//! Readers that can time out.
 ghost use Rattle.std.specs.Prelude.{◌≡◌, ⊤, IfErr};
 ghost use Rattle.std.specs.Io.{ReadsAtMost};
 ghost use Rattle.std.specs.Io.KnownBytes.{ReadConsumes};
@@ -7,15 +7,18 @@ ghost use Rattle.std.specs.IoError.{error_kind};
 use std::io;
 use std::io::{ErrorKind, Read};
 
-/// A reader, of which a call can promise that it timed out: only a read here that failed so can say what the ghost
-/// member says of a reader.
+/// A reader of which a contract can promise that it timed out: only a failed `read_in` yields `is_silent`.
 ///
-/// Every reader is an `Inlet`. Tests show which faults of the system's own readers are timeouts.
+/// Every reader is an `Inlet`. Which faults of the system's own readers are timeouts is only tested.
 pub trait Inlet: Read {
-    /// A read of it has just timed out, or would have blocked.
+    /// The last read timed out or would have blocked.
     ghost is_silent: { Self → Type 0 };
 
-    /// Reads as [`Read::read`] does. The error is the reader's.
+    /// Reads as [`Read::read`] does.
+    ///
+    /// # Errors
+    ///
+    /// The reader's own error.
     fn read_in(&mut self, buf: &mut [u8]) -> io::Result<usize>
         ensures bound { ReadsAtMost result buf.new }
         ensures bytes { ReadConsumes (Self.remaining self.old) (Self.remaining self.new) result buf.new }

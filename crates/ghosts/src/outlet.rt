@@ -1,19 +1,23 @@
-//! Writers whose bytes go out.
+//! Writers that are flushed.
 ghost use Rattle.std.specs.Prelude.{⊤, OnOk};
 ghost use Rattle.std.specs.Io.KnownBytes.{Keeps};
 
 use std::io;
 use std::io::Write;
 
-/// A writer, of which a call can promise that it was flushed. What its ghost member says of a writer, only a flush here
-/// can say: so a call that promises it has flushed, and has written nothing since.
+/// A writer of which a contract can promise that it was flushed. Only `flush_out` yields `is_out`, so a call that
+/// promises it has flushed and written nothing since.
 ///
-/// Every writer is one. What a flush of the system's own writers does, tests show.
+/// Every writer is an `Outlet`. What a flush of the system's own writers does is only tested.
 pub trait Outlet: Write {
-    /// Nothing was written since it was flushed.
+    /// Nothing was written since the last flush.
     ghost is_out: { Self → Type 0 };
 
-    /// Flushes.
+    /// Flushes the writer.
+    ///
+    /// # Errors
+    ///
+    /// The writer's own error.
     fn flush_out(&mut self) -> io::Result<()>
         ensures bytes { Keeps (Self.contents self.old) (Self.contents self.new) }
         ensures out { OnOk result (is_out self.new) };

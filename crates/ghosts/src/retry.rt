@@ -1,4 +1,4 @@
-//! Calls that are repeated where a signal interrupted them.
+//! Calls that are retried if a signal interrupts them.
 ghost use Rattle.std.specs.Prelude.{◌≡◌, ◌≢◌, ◌<◌, ◌≤◌, [], length, take, IfOk, IfErr, OnErr, OnOk};
 ghost use Rattle.std.specs.Io.KnownBytes.{Keeps, Appends, Consumes, IsAtEnd};
 ghost use Rattle.std.specs.IoError.{error_kind};
@@ -8,7 +8,11 @@ use crate::outlet::Outlet;
 use std::io;
 use std::io::{ErrorKind, Write};
 
-/// Reads once.
+/// Reads once, and retries a read that a signal interrupted. 0 means the end, unless `buffer` is empty.
+///
+/// # Errors
+///
+/// The reader's error, which is never `Interrupted`; `Other` after 2^64 - 1 interruptions.
 pub fn read_some<R: Inlet>(reader: &mut R, buffer: &mut [u8]) -> io::Result<usize>
     ensures bound { IfOk result (λ n. n ≤ length buffer.new) }
     ensures ok { IfOk result (λ n. Consumes (R.remaining reader.old) (R.remaining reader.new) (take n buffer.new)) }
@@ -27,7 +31,12 @@ pub fn read_some<R: Inlet>(reader: &mut R, buffer: &mut [u8]) -> io::Result<usiz
     Err(io::Error::other("interrupted too often"))
 }
 
-/// Writes once, at least one byte if there is one.
+/// Writes once, at least one byte of `bytes` unless it is empty, and retries a write that a signal interrupted.
+///
+/// # Errors
+///
+/// The writer's error, which is never `Interrupted`; `WriteZero` if the writer takes no byte; `Other` after 2^64 - 1
+/// interruptions.
 pub fn write_some<W: Write>(writer: &mut W, bytes: &[u8]) -> io::Result<usize>
     ensures bound { IfOk result (λ n. n ≤ length bytes.now) }
     ensures some { IfOk result (λ n. n ≡ 0 → bytes.now ≡ []) }
@@ -45,7 +54,11 @@ pub fn write_some<W: Write>(writer: &mut W, bytes: &[u8]) -> io::Result<usize>
     Err(io::Error::other("interrupted too often"))
 }
 
-/// Flushes once.
+/// Flushes once, and retries a flush that a signal interrupted.
+///
+/// # Errors
+///
+/// The writer's error.
 pub fn flush<W: Outlet>(writer: &mut W) -> io::Result<()>
     ensures bytes { Keeps (W.contents writer.old) (W.contents writer.new) }
     ensures out { OnOk result (W.is_out writer.new) }

@@ -1,3 +1,3 @@
 pub mod Patch
--- of the crates below, what public contracts name
+-- names from the crates below that public contracts use
 pub use Rattle.avr_part.specs.Part

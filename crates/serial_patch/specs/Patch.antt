@@ -10,13 +10,14 @@ use Rattle.avr_records.specs.declared.kind.Ending.TheVariants.{Ended}
 use Rattle.serial_patch.specs.declared.PatchFault.{PatchFault}
 use Rattle.serial_patch.specs.declared.PatchFault.TheVariants.{NoRecords, Records, Outside, Memory}
 
--- These bytes stand there, and every other byte is as it was.
+-- These bytes are there, and every other byte is unchanged.
 pub record IsPatched (at : ℕ) (serial : List ℕ) (before after : List (Option ℕ)) : Type 0 where
   pub inside : (place : ℕ) → place < length serial → byte_at after (at + place) ≡ Some (slice_index_or serial place 0)
   pub below : (other : ℕ) → other < at → byte_at after other ≡ byte_at before other
   pub above : (other : ℕ) → at + length serial ≤ other → byte_at after other ≡ byte_at before other
 
--- One file says what is in a memory of this size, and the other, of Intel HEX, says the same but for the serial number.
+-- One file says what is in a memory of this size. The other, of Intel HEX, says the same except for the serial
+-- number.
 pub record IsPatchedFile (size : ℕ) (text : List ℕ) (at : ℕ) (serial : List ℕ) (patched : List ℕ) : Type 0 where
   pub kind : Kind
   pub ending : Ending

@@ -1,7 +1,7 @@
 //! Puts a serial number into the firmware of a record file, and changes nothing else.
 //!
-//! It shows a crate with a contract of its own above avr_image, avr_records and avr_part, and is the one that
-//! tests/vendor.py takes into a repository of its own.
+//! A crate with a contract of its own above avr_image, avr_records and avr_part. tests/vendor.py takes it into
+//! another repository.
 #![tactic(auto)]
 
 ghost use Rattle.std.specs.Prelude.{◌≡◌, length, Ok, IfOk, OnOk, OnErr};
@@ -29,13 +29,13 @@ pub enum PatchFault {
     /// The serial number doesn't fit there.
     #[error(transparent)]
     Outside(ImageFault),
-    /// Memory was refused.
+    /// Allocation failed.
     #[error("out of memory")]
     Memory,
 }
 
 impl PatchFault {
-    /// The fault's number, from 1 on, which no later version changes.
+    /// Returns the fault's number, from 1 on, which no later version changes.
     pub fn number(&self) -> u8
         ensures { result ≡ patch_fault_number self.now }
     {
@@ -48,9 +48,11 @@ impl PatchFault {
     }
 }
 
-/// Puts a serial number into an image, from this address on.
+/// Puts a serial number into an image, from the byte address `at` on.
 ///
-/// Fails with [`ImageFault::OutOfRange`] where it doesn't lie inside the image whole, which then is as it was.
+/// # Errors
+///
+/// [`ImageFault::OutOfRange`] if it isn't wholly inside the image, which is then unchanged.
 pub fn put_serial_number(image: &mut Image, at: u32, serial: &[u8]) -> Result<(), ImageFault>
     ensures patched { OnOk result (IsPatched at serial.now image.old image.new) }
     ensures same { OnErr result (image.new ≡ image.old) }
@@ -62,15 +64,18 @@ pub fn put_serial_number(image: &mut Image, at: u32, serial: &[u8]) -> Result<()
     Ok(())
 }
 
-/// Returns the record file of an image, as Intel HEX with only the bytes that are there.
 fn ihex_of(alloc: Global, image: &Image) -> Result<Vec<u8>, AllocError>
     ensures { IfOk result (λ out. image_in_text Kind.Ihex out.items (length image.now) ≡ Ok (image.now, Ended)) }
 {
     Writer::new(Kind::Ihex, image).to_vec(alloc)
 }
 
-/// The record file of a part's flash memory with a serial number in it, from this address on, as Intel HEX with only
-/// the bytes that are there. The first fault is reported.
+/// Returns the Intel HEX file of a part's flash memory with a serial number from the byte address `at` on. It has
+/// only the bytes that are there.
+///
+/// # Errors
+///
+/// The first fault; `Memory` if allocation of the new file fails.
 pub fn patch_serial_number(
     alloc: Global,
     part: &Part,

@@ -13,7 +13,6 @@ use Rattle.stk_frame.specs.declared.answer.FrameFault.{FrameFault}
 use Rattle.stk_frame.specs.declared.answer.FrameFault.TheVariants.{WrongLength, WrongCommand, CheckSum, Status}
 use Rattle.stk_frame.specs.declared.protocol.TheConstants.{ANSWER_CKSUM_ERROR, CMD_CHIP_ERASE_ISP, CMD_ENTER_PROGMODE_ISP, CMD_GET_PARAMETER, CMD_LEAVE_PROGMODE_ISP, CMD_LOAD_ADDRESS, CMD_PROGRAM_EEPROM_ISP, CMD_PROGRAM_FLASH_ISP, CMD_PROGRAM_FUSE_ISP, CMD_PROGRAM_LOCK_ISP, CMD_READ_EEPROM_ISP, CMD_READ_FLASH_ISP, CMD_READ_FUSE_ISP, CMD_READ_LOCK_ISP, CMD_READ_OSCCAL_ISP, CMD_READ_SIGNATURE_ISP, CMD_SET_PARAMETER, CMD_SIGN_ON, CMD_SPI_MULTI, STATUS_CKSUM_ERROR, STATUS_CMD_OK}
 
--- the command's byte
 abbrev pub code : Command → ℕ
 code SignOn = CMD_SIGN_ON
 code (SetParameter number value) = CMD_SET_PARAMETER
@@ -34,7 +33,7 @@ code (ReadSignature f) = CMD_READ_SIGNATURE_ISP
 code (ReadOsccal f) = CMD_READ_OSCCAL_ISP
 code (SpiMulti send_count receive_count receive_start bytes) = CMD_SPI_MULTI
 
--- the bytes of its fields, in their order; a number of several bytes has its highest byte first
+-- the bytes of its fields, in their order, highest byte first
 abbrev pub enter_progmode_fields : EnterFields → List ℕ
 enter_progmode_fields f =
     f.timeout ∷ f.stab_delay ∷ f.command_delay ∷ f.synch_loops ∷ f.byte_delay ∷ f.poll_value ∷ f.poll_index
@@ -70,11 +69,10 @@ fields (ReadSignature f) = read_byte_fields f
 fields (ReadOsccal f) = read_byte_fields f
 fields (SpiMulti send_count receive_count receive_start bytes) = send_count ∷ receive_count ∷ receive_start ∷ bytes
 
--- the bytes of its body
 abbrev pub body : Command → List ℕ
 body command = code command ∷ fields command
 
--- what follows the first status of an answer: a length and a name, so many bytes, or so many bytes and a last status
+-- what follows the first status of an answer: a length and a name, n bytes, or n bytes and a last status
 abbrev pub shape : Command → Shape
 shape SignOn = Name
 shape (GetParameter number) = Bytes 1
@@ -99,7 +97,6 @@ data_of (Closed n) more =
     then (if slice_index more n == STATUS_CMD_OK then Ok (take n more) else Err (Status (slice_index more n)))
     else Err WrongLength
 
--- an answer's body, judged
 abbrev pub judge : Command → List ℕ → Result (List ℕ) FrameFault
 judge command [] = Err WrongCommand
 judge command (first ∷ []) = if first == code command then Err WrongLength else Err WrongCommand
@@ -109,7 +106,6 @@ judge command (first ∷ status ∷ more) =
     else if not (status == STATUS_CMD_OK) then Err (Status status)
     else data_of (shape command) more
 
--- data of this shape have its size
 abbrev pub SizedBy : Shape → List ℕ → Type 0
 SizedBy Name bytes = Unit {0}
 SizedBy (Bytes n) bytes = length bytes ≡ n

@@ -8,7 +8,7 @@ use Rattle.stk_frame.specs.declared.command.ReadBlock.{ReadBlock}
 use Rattle.stk_frame.specs.declared.command.ReadByte.{ReadByte}
 use Rattle.stk_frame.specs.declared.protocol.TheConstants.{CMD_CHIP_ERASE_ISP, CMD_ENTER_PROGMODE_ISP, CMD_GET_PARAMETER, CMD_LEAVE_PROGMODE_ISP, CMD_LOAD_ADDRESS, CMD_PROGRAM_EEPROM_ISP, CMD_PROGRAM_FLASH_ISP, CMD_PROGRAM_FUSE_ISP, CMD_PROGRAM_LOCK_ISP, CMD_READ_EEPROM_ISP, CMD_READ_FLASH_ISP, CMD_READ_FUSE_ISP, CMD_READ_LOCK_ISP, CMD_READ_OSCCAL_ISP, CMD_READ_SIGNATURE_ISP, CMD_SET_PARAMETER, CMD_SIGN_ON, CMD_SPI_MULTI}
 
--- The fields of each command, from their bytes; None where these are too few or too many.
+-- The fields of each command, from their bytes; `None` if there are too few or too many.
 abbrev pub sign_on_of : List ℕ → Option Command
 sign_on_of [] = Some SignOn
 sign_on_of _ = None
@@ -82,7 +82,6 @@ spi_multi_of (send_count ∷ receive_count ∷ receive_start ∷ bytes) =
     Some (SpiMulti send_count receive_count receive_start bytes)
 spi_multi_of _ = None
 
--- the command of this byte that has these fields
 abbrev pub with_fields : ℕ → List ℕ → Option Command
 with_fields code bytes =
     if code == CMD_SIGN_ON then sign_on_of bytes
@@ -105,7 +104,6 @@ with_fields code bytes =
     else if code == CMD_SPI_MULTI then spi_multi_of bytes
     else None
 
--- the command whose body these bytes are
 abbrev pub command_of : List ℕ → Option Command
 command_of [] = None
 command_of (code ∷ bytes) = with_fields code bytes

@@ -26,7 +26,7 @@ leave = LeaveProgmode 0x01 0x01
 abbrev pub erase : Command
 erase = ChipErase 0x09 0x00 (0xAC ∷ 0x80 ∷ 0x00 ∷ 0x00 ∷ [])
 
--- a block in page mode that ends by polling RDY/BSY and is written, with these first bytes of instructions
+-- a block in page mode that is written at its end and polls RDY/BSY
 abbrev pub programming : ℕ → ℕ → ℕ → List ℕ → ProgramBlock
 programming cmd1 cmd2 cmd3 bytes =
     record {
@@ -53,19 +53,17 @@ program_eeprom_block bytes = ProgramEeprom (programming 0xC1 0xC2 0xA0 bytes)
 abbrev pub read_eeprom_block : ℕ → Command
 read_eeprom_block count = ReadEeprom (record { count = count; cmd1 = 0xA0 })
 
--- the second byte of the instruction that writes a fuse
 abbrev pub write_address : Fuse → ℕ
 write_address Low = 0xA0
 write_address High = 0xA8
 write_address Extended = 0xA4
 
--- the instruction that reads a fuse
 abbrev pub read_instruction : Fuse → List ℕ
 read_instruction Low = 0x50 ∷ 0x00 ∷ 0x00 ∷ 0x00 ∷ []
 read_instruction High = 0x58 ∷ 0x08 ∷ 0x00 ∷ 0x00 ∷ []
 read_instruction Extended = 0x50 ∷ 0x08 ∷ 0x00 ∷ 0x00 ∷ []
 
--- a byte that is the fourth one out
+-- the result is the fourth byte out
 abbrev pub fourth : List ℕ → ReadByte
 fourth instruction = record { return_address = 4; instruction = instruction }
 
@@ -81,7 +79,6 @@ program_lock value = ProgramLock (0xAC ∷ 0xE0 ∷ 0x00 ∷ value ∷ [])
 abbrev pub read_lock : Command
 read_lock = ReadLock (fourth (0x58 ∷ 0x00 ∷ 0x00 ∷ 0x00 ∷ []))
 
--- of the byte with this place
 abbrev pub read_signature : ℕ → Command
 read_signature place = ReadSignature (fourth (0x30 ∷ 0x00 ∷ place ∷ 0x00 ∷ []))
 

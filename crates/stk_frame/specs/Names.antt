@@ -1,4 +1,4 @@
--- The names that AVR068 gives the first byte of a command and the status of an answer.
+-- AVR068's names of the first byte of a command and the status of an answer.
 use Rattle.std.specs.Prelude.{ℕ, List, [], ◌∷◌, ◌==◌, Option, find, option_map, codes}
 
 -- the commands of serial programming
@@ -36,6 +36,5 @@ status_names =
     ∷ (0xC9, codes "STATUS_CMD_UNKNOWN")
     ∷ []
 
--- the name that a table gives a byte
 abbrev pub name_in : List (ℕ × List ℕ) → ℕ → Option (List ℕ)
 name_in rows byte = option_map (λ row. row.1) (find (λ row. byte == row.0) rows)

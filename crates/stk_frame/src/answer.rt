@@ -1,4 +1,4 @@
-//! Answers, as they are judged.
+//! Answers, and how they are checked.
 ghost use Rattle.std.specs.Prelude.{◌≡◌, ◌<◌, ◌≤◌, length, MatchResult, IfOk, Ok, Err};
 ghost use Rattle.stk_frame.specs.Commands.{judge, shape, data_of, SizedBy};
 ghost use Rattle.stk_frame.specs.Faults.{frame_fault_number};
@@ -7,7 +7,7 @@ use crate::command::Command;
 use crate::protocol::{ANSWER_CKSUM_ERROR, STATUS_CKSUM_ERROR, STATUS_CMD_OK};
 use thiserror::Error;
 
-/// Why an answer is none that the command can have, or not the one that was hoped for.
+/// Why the body isn't a good answer to the command.
 ///
 /// ```text
 /// let spoiled = Answer::read(&Command::SignOn, &[0xB0, 0xC1]);
@@ -19,16 +19,16 @@ use thiserror::Error;
 /// ```
 #[derive(Clone, Copy, Debug, PartialEq, Eq, Error)]
 pub enum FrameFault {
-    /// The answer to this command has another length, or the answer is the command's byte alone.
+    /// The answer has another length than this command's, or is the command's byte alone.
     #[error("an answer of another length")]
     WrongLength,
-    /// Its first byte is another than the command's.
+    /// The first byte is not the command's.
     #[error("an answer to another command")]
     WrongCommand,
-    /// The programmer got a spoiled frame: the answer `B0 C1`.
+    /// The programmer received a bad frame: the answer `B0 C1`.
     #[error("a frame that came spoiled")]
     CheckSum,
-    /// The first status or the last one is this byte, and not 00.
+    /// The first or the last status is this byte, not 00.
     #[error("status {0:02X}")]
     Status(u8),
 }
@@ -59,7 +59,7 @@ impl FrameFault {
 /// ```
 #[derive(Clone, Copy, Debug)]
 pub struct Answer<'a> {
-    /// What stands between the first status and the last one, or after the only one; of SIGN_ON's answer the name.
+    /// The bytes between the first and the last status, or after the only one. For SIGN_ON they are the name.
     pub data: &'a [u8],
 }
 
@@ -74,14 +74,14 @@ pub struct Answer<'a> {
 pub enum Shape {
     /// A length, and a name of that many bytes.
     Name,
-    /// So many bytes.
+    /// This many bytes.
     Bytes(u16),
-    /// So many bytes, and a last status.
+    /// This many bytes, and a last status.
     Closed(u16),
 }
 
 impl Command<'_> {
-    /// What follows the first status of an answer to this command.
+    /// Returns what follows the first status of an answer to this command.
     ///
     /// ```text
     /// assert_eq!(rt; Command::SignOn.shape(), Shape::Name);
@@ -106,8 +106,11 @@ impl Command<'_> {
 }
 
 impl Shape {
-    /// The data among what follows the first status: WrongLength where that has another length, and
-    /// Status where the last status isn't 00.
+    /// Returns the data in what follows the first status.
+    ///
+    /// # Errors
+    ///
+    /// `WrongLength` if it has another length; `Status` if the last status isn't 00.
     ///
     /// ```text
     /// assert!(rt; Shape::Closed(1).data_in(&[0x62, 0x00])? == [0x62].as_slice());
@@ -134,7 +137,6 @@ impl Shape {
     }
 }
 
-/// So many bytes that a last status of 00 follows.
 fn closed_data(size: usize, more: &[u8]) -> Result<&[u8], FrameFault>
     requires { size < 65536 }
     ensures judged { MatchResult result (λ found. data_of (Shape.Closed size) more.now ≡ Ok found.now)
@@ -152,10 +154,17 @@ fn closed_data(size: usize, more: &[u8]) -> Result<&[u8], FrameFault>
 }
 
 impl<'a> Answer<'a> {
-    /// Judges the body of an answer to this command, in this order: exactly `B0 C1` is CheckSum;
-    /// another first byte than the command's, or none, is WrongCommand; one byte alone is WrongLength;
-    /// a second byte other than 00 is Status; a length other than the command's is WrongLength; a last
-    /// status other than 00, where the command has one, is Status.
+    /// Reads the body of an answer to this command.
+    ///
+    /// # Errors
+    ///
+    /// The first of these, in this order:
+    /// - `CheckSum`: the body is exactly `B0 C1`.
+    /// - `WrongCommand`: the first byte is missing or not the command's.
+    /// - `WrongLength`: there is one byte alone.
+    /// - `Status`: the second byte isn't 00.
+    /// - `WrongLength`: the length isn't the command's.
+    /// - `Status`: the last status, if the command has one, isn't 00.
     ///
     /// ```text
     /// let answer = Answer::read(&Command::SignOn, b"\x01\x00\x08STK500_2")?;

@@ -1,4 +1,4 @@
-//! Commands of the programmer, and the data that they carry.
+//! Commands of the programmer, and their data.
 ghost use Rattle.std.specs.Prelude.{◌≡◌};
 ghost use Rattle.stk_frame.specs.Commands.{code};
 
@@ -12,7 +12,7 @@ use crate::protocol::{
 use std::fmt;
 use std::marker::Model;
 
-/// Bytes that a command lends from elsewhere. They are seen as the list of them.
+/// Bytes that a command borrows. Contracts see them as their list.
 ///
 /// ```text
 /// let lent = [0xE2, 0xD9];
@@ -32,7 +32,7 @@ impl<'a> Model for Data<'a> {
 }
 
 impl<'a> Data<'a> {
-    /// Data of these bytes.
+    /// Borrows these bytes.
     ///
     /// ```text
     /// let data = Data::new(&[0xAC, 0x53]);
@@ -44,7 +44,7 @@ impl<'a> Data<'a> {
         Data { bytes }
     }
 
-    /// The bytes.
+    /// Returns the bytes.
     ///
     /// ```text
     /// assert!(rt; Data::new(b"AVR").bytes() == b"AVR".as_slice());
@@ -73,9 +73,9 @@ pub struct EnterProgmode {
     /// How often the instruction is tried.
     pub synch_loops: u8,
     pub byte_delay: u8,
-    /// What the part answers when it is in step; `53` for an AVR.
+    /// The byte that a part in step returns; `53` for an AVR.
     pub poll_value: u8,
-    /// Which of the four bytes out is compared with `poll_value`, from 1; 0 asks for no test.
+    /// Which of the four bytes out is compared with `poll_value`, from 1; 0 for no test.
     pub poll_index: u8,
     /// The serial programming instruction that is sent.
     pub instruction: [u8; 4],
@@ -92,7 +92,7 @@ pub struct EnterProgmode {
 /// ```
 #[derive(Debug, Drop)]
 pub struct ProgramBlock<'a> {
-    /// How many bytes the block has, as the sender says; it is a field by itself, whatever bytes follow.
+    /// The block's size in bytes. It is a field of its own, whatever bytes follow.
     pub count: u16,
     /// Bit 0: page mode. Bit 6: polling of RDY/BSY for a page. Bit 7: the page is written.
     pub mode: u8,
@@ -104,10 +104,10 @@ pub struct ProgramBlock<'a> {
     pub cmd2: u8,
     /// The first byte of the instruction that reads a byte.
     pub cmd3: u8,
-    /// Values that are polled where the mode asks for it.
+    /// Values that are polled if the mode asks for it.
     pub poll1: u8,
     pub poll2: u8,
-    /// What is programmed.
+    /// The bytes to program.
     pub bytes: Data<'a>,
 }
 
@@ -135,7 +135,7 @@ pub struct ReadBlock {
 /// ```
 #[derive(Clone, Copy, Debug, PartialEq, Eq)]
 pub struct ReadByte {
-    /// Which of the four bytes out is the answer, from 1.
+    /// Which of the four bytes out is the result, from 1.
     pub return_address: u8,
     pub instruction: [u8; 4],
 }
@@ -161,8 +161,8 @@ pub enum Command<'a> {
     GetParameter {
         number: u8,
     },
-    /// The address from which the next block is read or programmed: in words for flash, in bytes for
-    /// EEPROM. Bit 31 asks for the part's extended address.
+    /// The address of the next block that is read or programmed: in words for flash, in bytes for EEPROM. Bit 31 asks
+    /// for the part's extended address.
     LoadAddress {
         address: u32,
     },
@@ -172,7 +172,7 @@ pub enum Command<'a> {
         pre_delay: u8,
         post_delay: u8,
     },
-    /// The delay is in milliseconds; the method 0 waits so long, 1 polls RDY/BSY.
+    /// The delay is in milliseconds. Method 0 waits that long; method 1 polls RDY/BSY.
     ChipErase {
         erase_delay: u8,
         poll_method: u8,
@@ -192,8 +192,8 @@ pub enum Command<'a> {
     ReadLock(ReadByte),
     ReadSignature(ReadByte),
     ReadOsccal(ReadByte),
-    /// Sends the bytes as they are, and answers `receive_count` of the bytes out, from the place
-    /// `receive_start` on, counted from 0.
+    /// Sends the bytes as they are, and returns `receive_count` of the bytes out, from the 0-based place
+    /// `receive_start` on.
     SpiMulti {
         send_count: u8,
         receive_count: u8,
@@ -203,7 +203,7 @@ pub enum Command<'a> {
 }
 
 impl Command<'_> {
-    /// The command's byte.
+    /// Returns the command's byte.
     ///
     /// ```text
     /// assert_eq!(rt; Command::SignOn.code(), 0x01);
@@ -234,7 +234,7 @@ impl Command<'_> {
     }
 }
 
-/// Shows the command's byte, and no field.
+/// Shows the command's byte.
 impl fmt::Debug for Command<'_> {
     fn fmt<W: fmt::Write>(&self, f: &mut fmt::Formatter<W>) -> fmt::Result {
         f.debug_struct("Command")

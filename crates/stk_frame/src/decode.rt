@@ -1,5 +1,4 @@
-//! Commands, from their bodies. Fields that only one command has are read as this command, fields that several share as
-//! fields.
+//! Reads commands from their bodies. Fields of a single command are read as this command, shared fields as fields.
 ghost use Rattle.std.specs.Prelude.{◌≡◌, ◌↔◌, Some, IfSome};
 ghost use Rattle.stk_frame.specs.Commands.{body};
 ghost use Rattle.stk_frame.specs.Decoding.{FieldsFit, command_of, with_fields, sign_on_of, set_parameter_of, get_parameter_of, load_address_of, enter_progmode_of, leave_progmode_of, chip_erase_of, program_block_of, read_block_of, instruction, read_byte_of, spi_multi_of};
@@ -110,7 +109,6 @@ fn chip_erase(fields: &[u8]) -> Option<Command<'_>>
     }
 }
 
-/// The fields of a command that programs a block, and the bytes after them.
 fn program_block(fields: &[u8]) -> Option<ProgramBlock<'_>>
     ensures { result ≡ program_block_of fields.now }
 {
@@ -141,7 +139,6 @@ fn program_block(fields: &[u8]) -> Option<ProgramBlock<'_>>
     }
 }
 
-/// The fields of a command that reads a block.
 fn read_block(fields: &[u8]) -> Option<ReadBlock>
     ensures { result ≡ read_block_of fields.now }
 {
@@ -154,7 +151,6 @@ fn read_block(fields: &[u8]) -> Option<ReadBlock>
     }
 }
 
-/// An instruction and nothing else.
 fn instruction(fields: &[u8]) -> Option<[u8; 4]>
     ensures { result ≡ instruction fields.now }
 {
@@ -164,7 +160,6 @@ fn instruction(fields: &[u8]) -> Option<[u8; 4]>
     }
 }
 
-/// The fields of a command that reads one byte.
 fn read_byte(fields: &[u8]) -> Option<ReadByte>
     ensures { result ≡ read_byte_of fields.now }
 {
@@ -191,7 +186,6 @@ fn spi_multi(fields: &[u8]) -> Option<Command<'_>>
     }
 }
 
-/// The command of this byte that has these fields.
 fn with_fields(code: u8, fields: &[u8]) -> Option<Command<'_>>
     ensures { result ≡ with_fields code fields.now }
 {
@@ -223,7 +217,7 @@ fn with_fields(code: u8, fields: &[u8]) -> Option<Command<'_>>
 }
 
 impl<'a> Command<'a> {
-    /// The command whose body these bytes are; None where they are no command's.
+    /// Reads a command from its body. Returns `None` if the bytes are no command's.
     ///
     /// ```text
     /// let Some(Command::LoadAddress { address }) = Command::read(&[0x06, 0x80, 0x00, 0x01, 0x00]) else {

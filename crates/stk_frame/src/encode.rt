@@ -1,4 +1,4 @@
-//! The bodies of commands, and the frames that carry them.
+//! Writes the bodies of commands, and the frames that carry them.
 ghost use Rattle.std.specs.Prelude.{◌≡◌, ◌+◌, ◌<◌, ◌≤◌, ◌++◌, length};
 ghost use Rattle.byteorder.specs.Endian.{big_bytes};
 ghost use Rattle.stk_frame.specs.Frame.{frame};
@@ -10,7 +10,6 @@ use crate::protocol::{LARGEST_BODY, LARGEST_FRAME};
 use arrayvec::ArrayVec;
 use byteorder::{BigEndian, ByteOrder};
 
-/// Puts bytes after those of `out`.
 fn put<const CAP: usize>(out: &mut ArrayVec<u8, CAP>, bytes: &[u8])
     requires { length out.old.items + length bytes.now ≤ CAP }
     ensures { out.new.items ≡ out.old.items ++ bytes.now }
@@ -18,7 +17,6 @@ fn put<const CAP: usize>(out: &mut ArrayVec<u8, CAP>, bytes: &[u8])
     let _ = out.try_extend_from_slice(bytes);
 }
 
-/// Puts the bytes of `front` and then those of `back` after those of `out`.
 fn put_both<const CAP: usize>(out: &mut ArrayVec<u8, CAP>, front: &[u8], back: &[u8])
     requires { length out.old.items + length (front.now ++ back.now) ≤ CAP }
     ensures { out.new.items ≡ out.old.items ++ (front.now ++ back.now) }
@@ -27,7 +25,6 @@ fn put_both<const CAP: usize>(out: &mut ArrayVec<u8, CAP>, front: &[u8], back: &
     put(out, back);
 }
 
-/// Puts a number in two bytes, its high byte first.
 fn put_u16<const CAP: usize>(out: &mut ArrayVec<u8, CAP>, number: u16)
     requires { length out.old.items + 2 ≤ CAP }
     ensures { out.new.items ≡ out.old.items ++ big_bytes 2 number }
@@ -37,7 +34,6 @@ fn put_u16<const CAP: usize>(out: &mut ArrayVec<u8, CAP>, number: u16)
     put(out, &bytes);
 }
 
-/// Puts a number in four bytes, its highest byte first.
 fn put_u32<const CAP: usize>(out: &mut ArrayVec<u8, CAP>, number: u32)
     requires { length out.old.items + 4 ≤ CAP }
     ensures { out.new.items ≡ out.old.items ++ big_bytes 4 number }
@@ -47,7 +43,6 @@ fn put_u32<const CAP: usize>(out: &mut ArrayVec<u8, CAP>, number: u32)
     put(out, &bytes);
 }
 
-/// Puts the fields of a command that programs a block.
 fn put_program_block<const CAP: usize>(out: &mut ArrayVec<u8, CAP>, block: &ProgramBlock<'_>)
     requires { length out.old.items + length (program_block_fields block.now) ≤ CAP }
     ensures { out.new.items ≡ out.old.items ++ program_block_fields block.now }
@@ -87,7 +82,6 @@ fn put_enter_progmode<const CAP: usize>(out: &mut ArrayVec<u8, CAP>, enter: &Ent
     put(out, &enter.instruction);
 }
 
-/// Puts the fields of a command that reads a block.
 fn put_read_block<const CAP: usize>(out: &mut ArrayVec<u8, CAP>, block: &ReadBlock)
     requires { length out.old.items + 3 ≤ CAP }
     ensures { out.new.items ≡ out.old.items ++ read_block_fields block.now }
@@ -96,7 +90,6 @@ fn put_read_block<const CAP: usize>(out: &mut ArrayVec<u8, CAP>, block: &ReadBlo
     put(out, &[block.cmd1]);
 }
 
-/// Puts the fields of a command that reads one byte.
 fn put_read_byte<const CAP: usize>(out: &mut ArrayVec<u8, CAP>, read: &ReadByte)
     requires { length out.old.items + length (read_byte_fields read.now) ≤ CAP }
     ensures { out.new.items ≡ out.old.items ++ read_byte_fields read.now }
@@ -106,8 +99,8 @@ fn put_read_byte<const CAP: usize>(out: &mut ArrayVec<u8, CAP>, read: &ReadByte)
 }
 
 impl Command<'_> {
-    /// Makes `out` the frame that carries the command under the sequence number `seq`. The bytes that the command lends
-    /// are copied into the frame and nowhere else.
+    /// Puts the frame that carries the command with the sequence number `seq` into `out`. Borrowed bytes are copied
+    /// only there.
     ///
     /// ```text
     /// let mut out = ArrayVec::new();
@@ -123,8 +116,8 @@ impl Command<'_> {
         end(seq, out);
     }
 
-    /// Makes `out` the command's body: its byte, and its fields in their order. Counts and addresses
-    /// have their highest byte first.
+    /// Puts the command's body into `out`: its byte, then its fields in order. Counts and addresses have their
+    /// highest byte first.
     ///
     /// ```text
     /// let mut body = ArrayVec::new();
@@ -140,7 +133,6 @@ impl Command<'_> {
         self.put_body(out);
     }
 
-    /// Puts the command's byte and its fields after the bytes of `out`.
     fn put_body<const CAP: usize>(&self, out: &mut ArrayVec<u8, CAP>)
         requires { length out.old.items + length (body self.now) ≤ CAP }
         ensures { out.new.items ≡ out.old.items ++ body self.now }
@@ -149,7 +141,6 @@ impl Command<'_> {
         self.put_fields(out);
     }
 
-    /// Puts the command's fields after the bytes of `out`.
     fn put_fields<const CAP: usize>(&self, out: &mut ArrayVec<u8, CAP>)
         requires { length out.old.items + length (fields self.now) ≤ CAP }
         ensures { out.new.items ≡ out.old.items ++ fields self.now }

@@ -12,7 +12,7 @@ pub(crate) fn xor_of(bytes: &[u8]) -> u8
     bytes.iter().fold(0, |xor, byte| xor ^ *byte)
 }
 
-/// Writes the header of a frame into its first five bytes; the body follows these.
+/// Writes the header into the first five bytes; the body follows.
 fn write_header(seq: u8, bytes: &mut [u8])
     requires header { HEADER_SIZE ≤ length bytes.old }
     requires fits { length bytes.old < LARGEST_FRAME }
@@ -25,7 +25,7 @@ fn write_header(seq: u8, bytes: &mut [u8])
     bytes[4] = TOKEN;
 }
 
-/// Empties `out` and puts five zeros there, in the place of the header.
+/// Puts five zeros in place of the header.
 pub(crate) fn begin(out: &mut ArrayVec<u8, LARGEST_FRAME>)
     ensures { out.new.items ≡ 0 ∷ 0 ∷ 0 ∷ 0 ∷ 0 ∷ [] }
 {
@@ -33,7 +33,7 @@ pub(crate) fn begin(out: &mut ArrayVec<u8, LARGEST_FRAME>)
     let _ = out.try_extend_from_slice(&[0; HEADER_SIZE]);
 }
 
-/// Ends a frame that was begun and has its body: writes its header, and puts the checksum after the body.
+/// Ends a frame that has its body: writes the header and appends the checksum.
 pub(crate) fn end(seq: u8, out: &mut ArrayVec<u8, LARGEST_FRAME>)
     requires header { HEADER_SIZE ≤ length out.old.items }
     requires room { length out.old.items < LARGEST_FRAME }
@@ -44,10 +44,10 @@ pub(crate) fn end(seq: u8, out: &mut ArrayVec<u8, LARGEST_FRAME>)
     out.push(xor);
 }
 
-/// Makes `out` the frame that carries `body` under the sequence number `seq`.
+/// Puts the frame that carries `body` with the sequence number `seq` into `out`.
 ///
-/// A frame is the start byte `1B`, the number, the body's size in two bytes (the high one first),
-/// the token `0E`, the body, and a byte that makes the XOR of all bytes 0.
+/// A frame is the start byte `1B`, the number, the body's size, high byte first, the token `0E`, and the body. The
+/// last byte makes the XOR of all bytes 0.
 ///
 /// ```text
 /// let mut out = ArrayVec::new();

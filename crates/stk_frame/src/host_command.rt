@@ -12,7 +12,7 @@ use crate::protocol::{
     CMD_READ_SIGNATURE_ISP, LARGEST_BLOCK,
 };
 
-/// Which fuse byte is meant.
+/// Names a fuse byte.
 #[derive(Clone, Copy, Debug, PartialEq, Eq)]
 pub enum Fuse {
     Low,
@@ -20,7 +20,6 @@ pub enum Fuse {
     Extended,
 }
 
-/// The second byte of the instruction that writes a fuse.
 fn write_address(fuse: Fuse) -> u8
     ensures { result ≡ write_address fuse }
 {
@@ -31,7 +30,6 @@ fn write_address(fuse: Fuse) -> u8
     }
 }
 
-/// The instruction that reads a fuse.
 fn read_instruction(fuse: Fuse) -> [u8; 4]
     ensures { result ≡ read_instruction fuse }
 {
@@ -42,7 +40,7 @@ fn read_instruction(fuse: Fuse) -> [u8; 4]
     }
 }
 
-/// A block in page mode that ends by polling RDY/BSY and is written, with these first bytes of instructions.
+/// Returns a block in page mode that is written at its end and polls RDY/BSY.
 fn programming<'a>(cmd1: u8, cmd2: u8, cmd3: u8, bytes: &'a [u8]) -> ProgramBlock<'a>
     requires { length bytes.now ≤ LARGEST_BLOCK }
     ensures { result ≡ programming cmd1 cmd2 cmd3 bytes.now }
@@ -61,7 +59,7 @@ fn programming<'a>(cmd1: u8, cmd2: u8, cmd3: u8, bytes: &'a [u8]) -> ProgramBloc
 }
 
 impl<'a> Command<'a> {
-    /// Turns programming mode on, and tests that the part is in step.
+    /// Enters programming mode, and tests that the part is in step.
     ///
     /// ```text
     /// let mut body = ArrayVec::new();
@@ -86,7 +84,7 @@ impl<'a> Command<'a> {
         })
     }
 
-    /// Turns programming mode off.
+    /// Leaves programming mode.
     ///
     /// ```text
     /// let mut body = ArrayVec::new();
@@ -121,7 +119,7 @@ impl<'a> Command<'a> {
         }
     }
 
-    /// Programs a page of flash with these bytes, at the address that was loaded.
+    /// Programs a page of flash with `bytes` at the loaded address.
     ///
     /// ```text
     /// let mut body = ArrayVec::new();
@@ -138,7 +136,7 @@ impl<'a> Command<'a> {
         Command::ProgramFlash(programming(0x40, 0x4C, 0x20, bytes))
     }
 
-    /// Reads so many bytes of flash from the address that was loaded on.
+    /// Reads `count` bytes of flash from the loaded address on.
     ///
     /// ```text
     /// let mut body = ArrayVec::new();
@@ -152,7 +150,7 @@ impl<'a> Command<'a> {
         Command::ReadFlash(ReadBlock { count, cmd1: 0x20 })
     }
 
-    /// Programs a run of EEPROM bytes, at the address that was loaded.
+    /// Programs consecutive bytes of EEPROM at the loaded address.
     ///
     /// ```text
     /// let mut body = ArrayVec::new();
@@ -169,7 +167,7 @@ impl<'a> Command<'a> {
         Command::ProgramEeprom(programming(0xC1, 0xC2, 0xA0, bytes))
     }
 
-    /// Reads so many bytes of EEPROM from the address that was loaded on.
+    /// Reads `count` bytes of EEPROM from the loaded address on.
     ///
     /// ```text
     /// let mut body = ArrayVec::new();
@@ -249,7 +247,7 @@ impl<'a> Command<'a> {
         })
     }
 
-    /// Reads the signature's byte of this place, from 0 to 2.
+    /// Reads the signature's byte at `place`, 0 to 2.
     ///
     /// ```text
     /// let mut body = ArrayVec::new();

@@ -1,12 +1,11 @@
-//! Frames, commands and answers of the STK500 protocol, version 2, by the rules of Atmel's
-//! application note AVR068 ("Message format" and "Commands").
+//! Frames, commands and answers of the STK500 protocol, version 2, by Atmel's application note AVR068 ("Message
+//! format" and "Commands").
 //!
-//! The flow: a `command` has a body (`encode`), which goes into a `frame`; bytes are cut into frames
-//! by a `reader`, and a body is read as a command (`decode`) or judged as an `answer` to one.
-//! The one idea: bytes are cut in one way, whatever pieces they come in.
+//! A `command` has a body (`encode`), which goes into a `frame`. A `reader` cuts bytes into frames, the same ones
+//! whatever pieces the bytes come in. A body is read as a command (`decode`) or as an `answer` to one.
 //!
-//! `put_frame(1, &[0x01], &mut out)` makes `out` the frame `1B 01 00 01 0E 01 14`; a `FrameReader`
-//! that is fed these bytes tells of a frame with `seq()` 1 and `body()` `[0x01]`.
+//! `put_frame(1, &[0x01], &mut out)` puts the frame `1B 01 00 01 0E 01 14` into `out`. A `FrameReader` that is fed
+//! these bytes returns a frame with `seq()` 1 and `body()` `[0x01]`.
 #![tactic(auto)]
 
 mod answer;
@@ -29,8 +28,8 @@ pub use host_command::Fuse;
 pub use protocol::{LARGEST_BODY, LARGEST_FRAME, command_name, status_name};
 pub use reader::{Event, FrameReader};
 
-/// A law, and no code: whatever cuts bytes into pieces is the cutting, a frame is one good piece,
-/// and a good piece is the frame of its number and body.
+/// A law: only one cutting of bytes into pieces exists. A frame is one good piece, and a good piece is the frame of
+/// its number and body.
 #[tactic(auto, using(crate::proofs::Laws::frame_is_piece, crate::proofs::Laws::frame_is_good))]
 pub fn cutting_is_the_only_one()
     ensures one { (bytes : List ℕ) → Cuts bytes (cut bytes) (rest bytes) }

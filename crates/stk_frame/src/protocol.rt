@@ -1,4 +1,4 @@
-//! The numbers of the protocol, by the names that AVR068 gives them, and the sizes of frames.
+//! The numbers of the protocol, by their names in AVR068, and the sizes of frames.
 //!
 //! `CMD_..` is the first byte of a command's body and of its answer, `STATUS_..` the second byte of an answer.
 ghost use Rattle.std.specs.Prelude.{◌≡◌, option_map};
@@ -10,19 +10,19 @@ pub const MESSAGE_START: u8 = 0x1B;
 /// The last byte of a frame's header.
 pub const TOKEN: u8 = 0x0E;
 
-/// The most bytes that a body has.
+/// The most bytes of a body.
 pub const LARGEST_BODY: usize = 275;
 
-/// The bytes of a frame in front of its body.
+/// The bytes of a frame before its body.
 pub(crate) const HEADER_SIZE: usize = 5;
 
-/// The most bytes that a frame has: a header, a body, and the byte that makes the XOR of all 0.
+/// The most bytes of a frame: header, body, and the byte that makes the XOR of all 0.
 pub const LARGEST_FRAME: usize = HEADER_SIZE + LARGEST_BODY + 1;
 
-/// The most bytes of a block that is programmed: ten others stand before them in the body.
+/// The most bytes of a block to program: ten others come before them in the body.
 pub const LARGEST_BLOCK: usize = LARGEST_BODY - 10;
 
-/// Added to an address that is loaded: asks for the part's extended address.
+/// Added to a loaded address: asks for the part's extended address.
 pub const EXTENDED_ADDRESS: u32 = 1 << 31;
 
 pub const CMD_SIGN_ON: u8 = 0x01;
@@ -76,16 +76,16 @@ pub const STATUS_SET_PARAM_MISSING: u8 = 0x82;
 /// The command was not done.
 pub const STATUS_CMD_FAILED: u8 = 0xC0;
 
-/// A frame came spoiled; it stands after `ANSWER_CKSUM_ERROR`.
+/// A bad frame was received; follows `ANSWER_CKSUM_ERROR`.
 pub const STATUS_CKSUM_ERROR: u8 = 0xC1;
 
-/// There is no such command.
+/// The command is unknown.
 pub const STATUS_CMD_UNKNOWN: u8 = 0xC9;
 
-/// What stands in the place of the command's byte where a frame came spoiled.
+/// Comes in place of the command's byte if a bad frame was received.
 pub const ANSWER_CKSUM_ERROR: u8 = 0xB0;
 
-/// AVR068's name of the command with this byte, for messages and logs; None for a byte that is no command of serial
+/// Returns AVR068's name of a command's byte, for messages and logs; `None` for a byte that is no command of serial
 /// programming.
 ///
 /// ```text
@@ -118,7 +118,7 @@ pub fn command_name(byte: u8) -> Option<&'static str>
     }
 }
 
-/// AVR068's name of the status that is this byte, warnings too; None for a byte that is none.
+/// Returns AVR068's name of a status, warnings included; `None` for any other byte.
 ///
 /// ```text
 /// assert_eq!(rt; status_name(0xC0), Some("STATUS_CMD_FAILED"));

@@ -10,7 +10,7 @@ use byteorder::{BigEndian, ByteOrder};
 use memchr::memchr;
 use std::marker::Model;
 
-/// What came of a piece that was fed.
+/// What a piece that was fed brought.
 ///
 /// ```text
 /// let mut reader = FrameReader::new();
@@ -19,22 +19,21 @@ use std::marker::Model;
 /// ```
 #[derive(Clone, Copy, Debug, PartialEq, Eq)]
 pub enum Event {
-    /// All of it was used, and no frame has ended.
+    /// The whole piece was used, and no frame has ended.
     More,
     /// A good frame ended with the last byte used.
     Frame,
-    /// A frame whose XOR is wrong ended with the last byte used.
+    /// A frame with a wrong XOR ended with the last byte used.
     Spoiled,
 }
 
 /// Cuts bytes into frames, whatever pieces they come in.
 ///
-/// Bytes in front of a start byte `1B` are skipped. The five bytes from it on are a header; one with
-/// a size of 0 or above 275, or with another token than `0E`, is skipped whole. Else the header, the
-/// body and the XOR byte are a frame.
+/// Bytes before a start byte `1B` are skipped. The five bytes from it on are a header. It is skipped whole if its
+/// size is 0 or above 275, or its token isn't `0E`. Else header, body and XOR byte are a frame.
 ///
-/// Only the part of a frame that has come is held, or the whole frame that has just ended. A reader
-/// is seen as these bytes.
+/// The reader holds the part of a frame that has come, or the frame that has just ended. Contracts see it as these
+/// bytes.
 ///
 /// ```text
 /// let mut reader = FrameReader::new();
@@ -59,7 +58,7 @@ impl Model for FrameReader {
     ghost invariant = { λ reader. IsHeld reader.held.items };
 }
 
-/// How many bytes a body has whose header has these bytes, if a frame can have it.
+/// Returns the body's size by its header, if a frame can have it.
 fn size_in(high: u8, low: u8, token: u8) -> Option<usize>
     ensures { MatchOption result (is_header high low token ≡ false)
         (λ size. (is_header high low token ≡ true) × (size ≡ body_size high low) × (size ≤ LARGEST_BODY)) }
@@ -72,7 +71,7 @@ fn size_in(high: u8, low: u8, token: u8) -> Option<usize>
     }
 }
 
-/// How many bytes the piece has that these bytes begin, as far as they tell.
+/// Returns the size of the piece that these bytes begin, as far as they show it.
 fn size_of_piece(bytes: &[u8]) -> usize
     ensures size { result ≡ piece_size bytes.now }
     ensures bound { result ≤ LARGEST_FRAME }
@@ -87,7 +86,6 @@ fn size_of_piece(bytes: &[u8]) -> usize
     }
 }
 
-/// Drops a whole frame, which is done with.
 fn drop_whole(held: &mut ArrayVec<u8, LARGEST_FRAME>)
     requires { IsHeld held.old.items }
     ensures part { length held.new.items < piece_size held.new.items }
@@ -98,7 +96,6 @@ fn drop_whole(held: &mut ArrayVec<u8, LARGEST_FRAME>)
     }
 }
 
-/// How many bytes stand in front of the first start byte.
 fn noise_in_front(bytes: &[u8]) -> usize
     ensures within { result ≤ length bytes.now }
     ensures fed { Fed [] (take result bytes.now) [] [] }
@@ -106,8 +103,8 @@ fn noise_in_front(bytes: &[u8]) -> usize
     memchr(MESSAGE_START, bytes).unwrap_or(bytes.len())
 }
 
-/// Takes bytes that the piece still lacks, as far as what is held tells how many these are: up to the
-/// start byte, the header's end or the frame's end. Tells how many.
+/// Takes bytes that the piece still lacks, up to the start byte, the header's end or the frame's end. Returns how
+/// many.
 fn take_missing(held: &mut ArrayVec<u8, LARGEST_FRAME>, bytes: &[u8]) -> usize
     requires part { length held.old.items < piece_size held.old.items }
     requires some { 0 < length bytes.now }
@@ -122,7 +119,7 @@ fn take_missing(held: &mut ArrayVec<u8, LARGEST_FRAME>, bytes: &[u8]) -> usize
     taken
 }
 
-/// Tells what has ended with the last byte, and drops a piece that is no frame.
+/// Returns what has ended with the last byte, and drops a piece that is no frame.
 fn end_piece(held: &mut ArrayVec<u8, LARGEST_FRAME>) -> Event
     requires { IsHeld held.old.items }
     ensures held { IsHeld held.new.items }
@@ -145,7 +142,7 @@ fn end_piece(held: &mut ArrayVec<u8, LARGEST_FRAME>) -> Event
 }
 
 impl FrameReader {
-    /// A reader of no bytes.
+    /// Creates a reader that holds nothing.
     ///
     /// ```text
     /// let reader = FrameReader::new();
@@ -173,7 +170,7 @@ impl FrameReader {
         self.held.clear();
     }
 
-    /// The sequence number of the frame that has just ended.
+    /// Returns the sequence number of the frame that has just ended.
     ///
     /// ```text
     /// let mut reader = FrameReader::new();
@@ -187,7 +184,7 @@ impl FrameReader {
         self.held[1]
     }
 
-    /// The body of the frame that has just ended.
+    /// Returns the body of the frame that has just ended.
     ///
     /// ```text
     /// let mut reader = FrameReader::new();
@@ -205,8 +202,8 @@ impl FrameReader {
         &bytes[HEADER_SIZE..bytes.len() - 1]
     }
 
-    /// Takes bytes up to the end of one piece at most: noise in front of a start byte, or what the
-    /// header or the frame still lacks.
+    /// Takes bytes up to the end of at most one piece: noise before a start byte, or what the header or the frame
+    /// lacks.
     fn take_span(&mut self, bytes: &[u8]) -> (usize, Event)
         requires { 0 < length bytes.now }
         ensures within { result.0 ≤ length bytes.now }
@@ -225,7 +222,8 @@ impl FrameReader {
         (taken, end_piece(&mut self.held))
     }
 
-    /// Takes bytes up to the end of the first frame that ends in the piece, or all of them.
+    /// Takes bytes up to the end of the first frame that ends in the piece, or all of them. Returns how many bytes it
+    /// used, and what ended.
     ///
     /// ```text
     /// let mut reader = FrameReader::new();
