@@ -4,7 +4,8 @@
     tests/measure.py            the table, which docs/ARCHITECTURE has too
     tests/measure.py -v         also the places: lines over 120 columns, the widest definitions, names with several meanings
     tests/measure.py --write    puts it into docs/ARCHITECTURE
-    tests/measure.py --check    whether it stands there
+    tests/measure.py --check    whether it stands there, and whether README's sentences are short
+    tests/measure.py --words    counts words that the style rules of CONTRIBUTING avoid, and long sentences of documents
 
 Only files that git knows of are read. Lines of code are those of src/ without tests, blank lines, comments and contracts;
 contracts are the clauses of functions, definitions specs/, proofs proofs/, each without blank lines, comments and `use`
@@ -30,6 +31,14 @@ HEADER = re.compile(r"^\s*(?:(?:abbrev|unfoldable) pub|pub (record|data)) (\S+)(
 TYPE = re.compile(r"(?:pub(?:\(crate\))? )?(?:struct|enum|trait|type) (\w+)")
 DATA = re.compile(r"(?:pub (?:record|data)|abbrev pub(?= [A-Z]\w* : Type 0$)) ([A-Z]\w*)")
 TEST = re.compile(r"/src/(?:.*/)?(?:\w*tests?|examples)(?:/|\.rt)")
+
+AVOIDED = ["answers", "where", "stands", "so many", "told", "tell", "tells", "says", "is none"]
+LONG = 30
+COMMENT = {".rt": re.compile(r"^\s*//[/!]?(.*)"), ".antt": re.compile(r"^\s*--(.*)")}
+# what isn't prose: code blocks, tables, titles
+NO_PROSE = re.compile(r"^```.*?^```|^(?:\||#|    ).*?$", re.MULTILINE | re.DOTALL)
+PARAGRAPH = re.compile(r"\n\s*\n|\n(?=\s*(?:[-*]|\d+\.) )")
+SENTENCE = re.compile(r"(?<=[.!?])[*_)\"]*\s+(?=[*_(`\"]*[A-Z`\[])")
 
 
 def known_files():
@@ -206,12 +215,53 @@ def with_figures(page):
     return re.sub(rf"{SHARED}\d+", shared, page)
 
 
+def documents():
+    """The documents, by their names."""
+    listed = subprocess.run(["git", "-C", TOP, "ls-files", "*.md"], capture_output=True, text=True, check=True)
+    return [name for name in listed.stdout.splitlines() if (TOP / name).exists()]
+
+
+def comments_in(name):
+    """The comments of a source, joined."""
+    found = map(COMMENT[Path(name).suffix].match, lines_of(name))
+    return " ".join(it.group(1) for it in found if it)
+
+
+def long_sentences(name):
+    """The sentences of a document with more than 30 words."""
+    prose = NO_PROSE.sub("\n\n", (TOP / name).read_text())
+    sentences = [it for paragraph in PARAGRAPH.split(prose) for it in SENTENCE.split(" ".join(paragraph.split()))]
+    return [it for it in sentences if len(it.split()) > LONG]
+
+
+def words():
+    """How often documents and comments have each avoided word, and the long sentences of each document."""
+    texts = {
+        "documents": " ".join((TOP / name).read_text() for name in documents()),
+        "comments": " ".join(comments_in(name) for files in CRATES.values() for name in files),
+    }
+    print("| Word | In documents | In comments |\n| --- | ---: | ---: |")
+    for word in AVOIDED:
+        counts = [len(re.findall(rf"\b{word}\b", text)) for text in texts.values()]
+        print(f"| {word} | {counts[0]} | {counts[1]} |")
+    size = sum((TOP / name).stat().st_size for name in documents())
+    long = {name: found for name in documents() if (found := long_sentences(name))}
+    print(f"\nDocuments: {size:,} bytes; sentences over {LONG} words: {sum(map(len, long.values()))}")
+    for name, found in long.items():
+        print(f"  {name}: {len(found)}")
+        print("".join(f"    {it}\n" for it in found) if "-v" in sys.argv else "", end="")
+
+
 def main():
     page = PAGE.read_text()
+    if "--words" in sys.argv:
+        words()
+        return
     if "--check" in sys.argv:
-        same = with_figures(page) == page
-        print("1 passed, 0 failed" if same else f"{PAGE.name} has other figures: tests/measure.py --write\n0 passed, 1 failed")
-        sys.exit(0 if same else 1)
+        wrong = [f"{PAGE.name} has other figures: tests/measure.py --write"] if with_figures(page) != page else []
+        wrong += [f"README.md has a sentence over {LONG} words: {it}" for it in long_sentences("README.md")]
+        print("\n".join([*wrong, f"{int(not wrong)} passed, {len(wrong)} failed"]))
+        sys.exit(int(bool(wrong)))
     if "--write" in sys.argv:
         PAGE.write_text(with_figures(page))
         return
