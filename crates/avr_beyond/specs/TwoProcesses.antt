@@ -46,9 +46,9 @@ pub record IsJoined (host server : Talk) : Type 0 where
   pub up : IsPrefixOf (bytes_of (heard server)) (sent host)
   pub down : IsPrefixOf (bytes_of (heard host)) (sent server)
 
--- THE LINK. At each moment what an end has received is a prefix of what the other has sent so far: nothing is lost,
--- repeated, changed or received before it was sent, however it is cut. Timeouts may occur anywhere. The host never
--- meets the end of the link; the server may, at any time.
+-- THE LINK. At each moment what an end has received is a prefix of what the other has sent so far. So nothing is
+-- lost, repeated, changed or received before it was sent. Pieces may be cut, and timeouts may occur, anywhere. The
+-- host never meets the end of the link; the server may, at any time.
 pub record IsOrdered (calls : List Call) : Type 0 where
   pub joined : (first later : List Call) → calls ≡ first ++ later → IsJoined (of_host first) (of_server first)
   pub endless : HasNoEnd (heard (of_host calls))
@@ -78,7 +78,6 @@ obeyed (suc h) = Obeyed ∷ obeyed h
 
 -- ---- 4. What the host receives
 
--- It has no timeout.
 abbrev pub IsPrompt : Tape → Type 0
 IsPrompt [] = Unit {0}
 IsPrompt (Byte byte ∷ tape) = IsPrompt tape
@@ -87,7 +86,6 @@ IsPrompt (End ∷ tape) = IsPrompt tape
 
 -- ---- 5. Such a run exists
 
--- A link over which this passed, and which never failed.
 abbrev pub passed : Talk → LinkView
 passed talk = record { talk = talk; failures = 0 }
 

@@ -109,7 +109,7 @@ pub fn two_processes_have_a_run()
 {}
 
 /// States that a session and a server make the expected run of the plan if the host never has a timeout, however the
-/// link cuts: its status, its output, and its memories in the chip saved.
+/// link cuts. The status, the output and the memories in the saved chip are those of the expected run.
 pub fn a_prompt_line_brings_the_course()
     ensures { (plan : Plan) (s : Chip) (calls : List Call) (old new : Devices) (server_old server_new : Devices)
         (file : Bytes) (most status served_status : ℕ) (after : Position)

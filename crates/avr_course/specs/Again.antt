@@ -33,7 +33,7 @@ chip_of part byte = record {
   lock = byte;
 }
 
--- The comparisons of a plan agree with a chip of 00 and with one of FF. So each compares only bytes that the plan has
+-- The comparisons of a plan agree on a chip of 00 and on one of FF. So each compares only bytes that the plan has
 -- made, with what it made.
 pub record AgreesAnyway (plan : Plan) : Type 0 where
   pub zeros : Agrees plan (chip_of plan.part 0)

@@ -74,7 +74,8 @@ pub record ComesOverTurns (plan : Plan) (before after : Memories) (turns : List 
   -- few bad frames change nothing: if at most three of any seven consecutive frames go wrong, where a reset counts as
   -- four, the session is its expected run
   pub few_bad : AreFew turns → IsCourse plan before after says status
-  -- then a plan that erases, and agrees with a chip of 00 and with one of FF, succeeds, whatever the chip held
+  -- then a plan that erases, and whose comparisons agree on a chip of 00 and on one of FF, succeeds, whatever the
+  -- chip held
   pub again : AreFew turns → has_erase (items plan) ≡ true → AgreesAnyway plan → status ≡ 0
 
 abbrev pub WholeOverTurns : Plan → Programmer → Programmer → List Turn → List ℕ → List (Event Saying) → ℕ → Type 0

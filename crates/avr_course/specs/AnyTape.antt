@@ -22,8 +22,8 @@ abbrev pub on_answer : (Reading → Tape → Type 0) → Option (Reading × Tape
 on_answer Claim None = Unit {0}
 on_answer Claim (Some (reading, tape)) = Claim reading tape
 
--- WHATEVER THE LINK DOES, as long as it forges no answer: at each question of this dialog, run over this tape with
--- frames numbered from `n`, the reading is honest, given what happened to the programmer there.
+-- WHATEVER THE LINK DOES, as long as it forges no answer: each reading of this dialog is honest, given what happened
+-- to the programmer at its question. The dialog is run over this tape, with frames numbered from `n`.
 abbrev pub AreHonest : {E R P : Type 0} → Device P → Dialog E R → ℕ → Tape → P → List Became → Type 0
 AreHonest m (Done r) n tape p becames = Unit {0}
 AreHonest m (Say e dialog) n tape p becames = AreHonest m dialog n tape p becames

@@ -1,5 +1,4 @@
--- The expected run: a run over a link on which few frames go wrong, without frames and answers. It has only output
--- and memories.
+-- The expected run, `course` in names: a run over a link on which few frames go wrong, as output and memories alone.
 use Rattle.std.specs.Prelude.{ℕ, List, [], ◌∷◌, ◌++◌, Result, Ok}
 use Rattle.avr_cli.specs.declared.settings.Switches.{Switches}
 use Rattle.avr_desk.specs.Said.{Saying}

@@ -1,4 +1,4 @@
--- The output of a session, whatever the link does: that of the expected run, or that of the actions that ended, and
+-- The output of a session, whatever the link does: that of the expected run, or that of the actions that ended and
 -- then the line of a failed step.
 use Rattle.std.specs.Prelude.{ℕ, ◌≡◌, ◌⊎◌, List, [], ◌∷◌, ◌++◌}
 use Rattle.avr_cli.specs.declared.settings.Switches.{Switches}

@@ -31,9 +31,9 @@ WereSent n sent [] = Unit {0}
 WereSent n sent (piece ∷ pieces) =
     WasSent sent piece × (is_answer n piece ≡ false → WereSent n sent pieces)
 
--- THE LINK FORGES NO FRAME: at each question of this dialog, run over this tape, each good frame that the host cuts
--- from what it reads is one of the programmer's last 256 answers, or a refusal. Anything else may be anywhere on the
--- tape: parts of answers, noise, earlier answers, refusals, timeouts.
+-- THE LINK FORGES NO FRAME: each good frame that the host cuts at a question of this dialog, run over this tape, is
+-- one of the programmer's last 256 answers, or a refusal. Anything else may be anywhere on the tape: parts of
+-- answers, noise, earlier answers, refusals, timeouts.
 abbrev pub MakesNoFrame : {E R P : Type 0} → Device P → Dialog E R → ℕ → Tape → P → List Became → List (List ℕ)
     → Type 0
 MakesNoFrame m (Done r) n tape p becames before = Unit {0}

@@ -11,7 +11,7 @@ use Rattle.avr_course.specs.Agrees.{Agrees}
 use Rattle.avr_course.specs.Course.{course}
 use Rattle.avr_course.specs.Made.{made_by}
 
--- What the steps of a plan write, one after another: its erase, and the parts of its writes.
+-- The single writes of a plan, `strokes` in names: its erase, and the parts of its writes.
 abbrev pub strokes : Plan → List Item
 strokes plan = strokes_of (all_steps plan.part (items plan))
 

@@ -23,9 +23,9 @@ pub fn a_second_run_heals_the_first()
         ≡ effects plan.part (items plan) m }
 {}
 
-/// States that a plan with an erase agrees with every chip if its comparisons agree with a chip of 00 and with one of
-/// FF. Its expected run then has status 0, whatever the chip held. `needed`: a plan that agrees with every chip
-/// agrees with these two.
+/// States that a plan with an erase agrees on every chip if its comparisons agree on a chip of 00 and on one of FF.
+/// Its expected run then has status 0, whatever the chip held. `needed`: a plan that agrees on every chip agrees on
+/// these two.
 pub fn what_agrees_on_two_chips_agrees_on_all()
     ensures agrees { (plan : Plan) (m : Memories) → FitsPart plan.part m
         → has_erase (items plan) ≡ true → AgreesAnyway plan → Agrees plan m }
@@ -35,7 +35,7 @@ pub fn what_agrees_on_two_chips_agrees_on_all()
     ensures needed { (plan : Plan) → ((m : Memories) → FitsPart plan.part m → Agrees plan m) → AgreesAnyway plan }
 {}
 
-/// States that the same run again heals what a broken-off run left: its expected run has status 0, and leaves the
+/// States that the same run again heals what a broken-off run left. Its expected run has status 0, and leaves the
 /// memories that one run would have left. `done`: a second run with status 0, whatever its link does, leaves what a
 /// first run leaves that is not broken off.
 pub fn the_same_run_again_heals()

@@ -48,8 +48,8 @@ pub fn a_run_makes_its_strokes_in_order()
         ≡ effects plan.part (take j (strokes plan)) m) p turns }
 {}
 
-/// States that a run sends at most four times as many frames as the steps of its plan have commands, whatever the
-/// link does, and also if the run breaks off.
+/// States that a run sends at most four frames for each command in the steps of its plan, counted over all steps.
+/// This holds whatever the link does, and also if the run breaks off.
 pub fn a_run_sends_at_most_four_times_its_commands()
     ensures { (plan : Plan) → SendsAtMost SaidPart (4 * commands_in (run_steps plan)) (session plan) }
 {}
@@ -71,8 +71,8 @@ pub fn what_a_run_tells_is_true()
         → TellsTrue device (λ q saying. IsTrue plan m (memories_of q.chip) saying) k (session plan) p turns }
 {}
 
-/// States that everything reported over a wire was true of the chip at that moment: all output of a session that ran
-/// whole, and all whole events of one that stopped.
+/// States that everything reported over a wire was true of the chip at that moment. This covers all output of a
+/// session that ran whole, and all whole events of one that stopped.
 pub fn what_was_told_was_true()
     ensures played { (plan : Plan) (w v : WiredState) (d e : DeskView) (status : ℕ)
         → w.talk ≡ [] → OverAnyLine plan w v d e status

@@ -17,7 +17,7 @@ ghost use Rattle.stk_emu.specs.Turn.{Turn};
 ghost use Rattle.avr_session.specs.PlanSteps.{run_steps};
 ghost use Rattle.avr_course.specs.Course.{course};
 
-/// States that a session is its expected run if at most three of any seven consecutive frames go wrong, where a
+/// States when a session is its expected run: if at most three of any seven consecutive frames go wrong, and a
 /// restart of the programmer counts as four. It is done after at most four times its commands, with the expected
 /// run's output, status and memories.
 pub fn a_run_with_few_bad_frames_has_its_course()

@@ -73,7 +73,6 @@ LacksPlan settings old now status =
     Goes (AtUpdate settings) (planned settings) old now (Err status)
     × (settings.parts ≡ None → settings.updates ≡ [] → LacksPart settings.part [] old now)
 
--- A whole run; or there is no chip or no plan, and the status is 1.
 abbrev pub RunsEmulator : Settings → Bytes → DeskView → DeskView → ℕ → Type 0
 RunsEmulator settings file old now status =
     RunsOverEmulator settings file old now status

@@ -32,7 +32,6 @@ pub record JudgedChip (part : Part) (file : Bytes) (old new : DeskView) : Type 0
   pub loaded : Loaded part file old loaded_desk chip
   pub released_is : new ≡ released loaded_desk
 
--- The file is judged as a chip of this part.
 abbrev pub JudgesChip : Part → Bytes → DeskView → DeskView → Result Part ℕ → Type 0
 JudgesChip part file old new (Ok judged) = (judged ≡ part) × JudgedChip part file old new
 JudgesChip part file old new (Err status) = HoldsAndLoads part file old new (Err status)
@@ -57,7 +56,6 @@ JudgesPart settings file old new (Err status) =
     FindsNoPart settings old new status
     ⊎ WithPart settings old (λ part desk. JudgesChip part file desk new (Err status))
 
--- An emulator with this chip that was fed nothing.
 abbrev pub fresh_machine : chips.ChipState → Machine
 fresh_machine chip = record { held = []; programmer = fresh_programmer chip }
 
@@ -76,7 +74,6 @@ TellsIfAny (Some pieces) old new = Tells old new (error pieces)
 abbrev pub TellsEnd : Served → DeskView → DeskView → Type 0
 TellsEnd served = TellsIfAny (end_pieces served)
 
--- The status if the chip was saved.
 abbrev pub status_of_end : Served → ℕ
 status_of_end Ended = 0
 status_of_end RecvFailed = 1

@@ -17,7 +17,6 @@ HasNoEnd (Byte byte ∷ tape) = HasNoEnd tape
 HasNoEnd (Silence ∷ tape) = HasNoEnd tape
 HasNoEnd (End ∷ tape) = ⊥
 
--- The number of pieces received.
 abbrev pub reads : Talk → ℕ
 reads [] = 0
 reads (Sent bytes ∷ talk) = reads talk
@@ -67,8 +66,8 @@ ServingLeaves SendFailed p text talk now =
     × BreaksOff p text (bytes_of (heard talk)) (sent talk) now
 ServingLeaves _ p text talk now = AnswersAll p text (bytes_of (heard talk)) (sent talk) now
 
--- An emulator served a link between these states, in at most `turns` reads, and ended like this, whatever programmer
--- it began with and whatever text it was fed before.
+-- An emulator served a link between these states, in at most `turns` reads, and ended like this. This holds whatever
+-- programmer it began with and whatever text it was fed before.
 pub record Serves (old : Machine) (turns : ℕ) (served : Served) (before after : LinkView)
     (now : Machine) : Type 0 where
   pub during : Talk

@@ -27,9 +27,9 @@ fn hold_file<D: Desk>(file: &str, desk: &mut D) -> Result<(), u8>
 ///
 /// # Errors
 ///
-/// The status 1 if another run has locked the file, if the file could not be saved later because its folder is
-/// missing or read-only, or if [`load_chip`] refuses it. The line of the reason was printed, as far as the desk takes
-/// it, and the file isn't locked.
+/// The status 1 if another run has locked the file, or if [`load_chip`] refuses it. It is also 1 if the file could
+/// not be saved later, because its folder is missing or read-only. The line of the reason was printed, as far as the
+/// desk takes it, and the file isn't locked.
 pub fn hold_chip<D: Desk>(alloc: Global, part: &Part, file: &str, desk: &mut D) -> Result<Chip, u8>
     ensures loads { HoldsAndLoads part.now file.now (D.view desk.old) (D.view desk.new) result }
     ensures part { IfOk result (λ c. c.part ≡ part.now) }

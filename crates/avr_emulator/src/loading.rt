@@ -82,9 +82,9 @@ fn unread_chip<D: Desk>(
 ///
 /// # Errors
 ///
-/// The status 1 if the file's length isn't that of the part's flash, EEPROM and 4 bytes (33,796 for `m328p`), if the
-/// file can't be opened or can't be read to its end, or if allocation fails. An empty file is refused too. The line
-/// of the reason was printed, as far as the desk takes it.
+/// The status 1 if the file can't be opened or can't be read to its end, or if allocation fails. It is also 1 if the
+/// file has any length but the part's: flash, EEPROM and 4 bytes, 33,796 for `m328p`. The line of the reason was
+/// printed, as far as the desk takes it.
 pub fn load_chip<D: Desk>(alloc: Global, part: &Part, file: &str, desk: &mut D) -> Result<Chip, u8>
     ensures goes { Goes AtOpened (chip_stage part.now file.now) (D.view desk.old) (D.view desk.new) result }
     ensures part { IfOk result (λ c. c.part ≡ part.now) }

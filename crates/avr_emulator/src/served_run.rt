@@ -54,9 +54,9 @@ fn judge_chip<D: Desk>(alloc: Global, part: Part, file: &str, desk: &mut D) -> R
 ///
 /// # Errors
 ///
-/// The status 1 if the part file, the part's name or the chip file is refused, if another run has locked the chip
-/// file or it could not be saved, or if the desk or allocation fails. The line of the reason was printed, as far as
-/// the desk takes it.
+/// The status 1 if the part file, the part's name or the chip file is refused, or if another run has locked the chip
+/// file. It is also 1 if the chip file could not be saved later, or if the desk or allocation fails. The line of the
+/// reason was printed, as far as the desk takes it.
 pub fn judge_part<D: Desk>(
     alloc: Global,
     settings: &Settings,
@@ -100,8 +100,8 @@ pub fn serve_chip<D: Desk, L: Link>(
     save_served(alloc, emulator.chip(), file, desk, served)
 }
 
-/// Locks this file, loads the chip of this part from it, or a fresh one if the file doesn't exist, and serves it over
-/// a link as [`serve_chip`] does. The file is locked until the chip is saved.
+/// Serves the chip of this part over a link as [`serve_chip`] does. The chip is loaded from this file, or fresh if
+/// the file doesn't exist. The file is locked until the chip is saved.
 ///
 /// Returns the status: 0 if the link ended and the chip was saved, otherwise 1. If the chip file is refused, nothing
 /// is received or sent, and no file is written.

@@ -45,7 +45,6 @@ abbrev pub read_whole : Bytes → Option Bytes → Opening
 read_whole name None = Absent name
 read_whole name (Some bytes) = Found (record { name = name; bytes = bytes; ended = true })
 
--- What opening these names gives before any file is created.
 abbrev pub files_give : Stock → List Bytes → List Opening
 files_give stock names = map (λ name. read_whole name (stood_for stock [] name)) names
 

@@ -47,19 +47,16 @@ long_file file.Ihex prefix size = or_too_long (closed_fault records.Ihex prefix 
 long_file file.Srec prefix size = or_too_long (closed_fault records.Srec prefix size)
 long_file found prefix size = TooLong
 
--- What a file is if it may have at most `limit` bytes.
 abbrev pub file_within : ℕ → Found → Bytes → ℕ → Given
 file_within limit found bytes size =
     if nat_le (length bytes) limit then whole_file found bytes size
     else Err (long_file found (take limit bytes) size)
 
--- The kind of a file: the one given, or the one its first bytes show.
 abbrev pub kind_of : Format → Bytes → Found
 kind_of letter.Ihex bytes = file.Ihex
 kind_of letter.Srec bytes = file.Srec
 kind_of letter.Raw bytes = file.Raw
 kind_of format bytes = kind_of_file bytes
 
--- What a file of this format is.
 abbrev pub image_within : ℕ → Format → Bytes → ℕ → Given
 image_within limit format bytes size = file_within limit (kind_of format bytes) bytes size

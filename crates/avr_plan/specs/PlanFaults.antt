@@ -16,7 +16,6 @@ use Rattle.avr_plan.specs.declared.plan_fault.PlanFault.TheVariants.{PartFile, N
 use Rattle.avr_plan.specs.declared.plan_fault.TaskFault.{TaskFault}
 use Rattle.avr_plan.specs.declared.plan_fault.TaskFault.TheVariants.{ReadOnly, Values, File, Memory, Unwarned}
 
--- The same result with status 1 in place of the fault.
 abbrev pub with_status : {A E : Type 0} → Result A E → Result A ℕ
 with_status result = result_map_both (λ a. a) (λ fault. 1) result
 
@@ -42,7 +41,6 @@ TellsTaskFault u old new (File fault) = LastTold (image_line u.file fault) old n
 TellsTaskFault u old new Memory = LastTold memory_line old new
 TellsTaskFault u old new Unwarned = HasFailedToSay old new
 
--- The update with this number has this fault.
 abbrev pub TellsTasksFault : List Update → DeskView → DeskView → PlanFault → Type 0
 TellsTasksFault updates old new (OfUpdate index fault) =
     (u : Update) × ((slice_get updates index ≡ Some u) × TellsTaskFault u old new fault)

@@ -40,7 +40,6 @@ judged_parts file bytes =
     if nat_le (length bytes) LARGEST_PART_FILE then parts_or_line file (parts_of bytes)
     else Err (too_long_line file LARGEST_PART_FILE)
 
--- The parts of the part file, if one is given.
 abbrev pub parts_stage : Option Bytes → Stage (List Part)
 parts_stage None = verdict_stage (Ok [])
 parts_stage (Some file) = file_stage file LARGEST_PART_FILE (judged_parts file)
@@ -53,7 +52,6 @@ part_or_line id (Err fault) = Err (no_part_line id)
 abbrev pub part_stage : Bytes → List Part → Stage Part
 part_stage id parts = verdict_stage (part_or_line id (part_of_id id parts))
 
--- No part has this id, and this was reported.
 abbrev pub LacksPart : Bytes → List Part → DeskView → DeskView → Type 0
 LacksPart id parts old new = IsErr (part_of_id id parts) × Tells old new (no_part_line id)
 

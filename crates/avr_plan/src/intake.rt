@@ -82,7 +82,6 @@ fn in_long_file(fault: BadFile) -> BadFile
 }
 
 impl Intake {
-    /// Starts on a file of this kind for a memory of this size.
     pub(crate) fn new(alloc: Global, found: Found, size: u32) -> Result<Intake, FileFault>
         ensures { MatchResult result (λ intake. Takes found size intake [] × (fed_count intake ≡ 0))
             (λ fault. fault ≡ FileFault.Memory) }
@@ -115,7 +114,6 @@ impl Intake {
         }
     }
 
-    /// Returns what the whole file is.
     pub(crate) fn finish(self) -> Result<(Image, Ending), BadFile>
         ensures { (found : AnyFound) (size : ℕ) (text : Bytes) → Takes found size self text
             → result ≡ whole_file found text size }

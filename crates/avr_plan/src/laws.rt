@@ -28,8 +28,8 @@ pub fn a_sound_plan_is_refused_aloud()
         → WentRefused (planned s) (showing before k m) (showing after l n) }
 {}
 
-/// States that planning is a function of the files. If each opening was true of them, and each file was read to its
-/// end or past its limit, the result and the printed lines are those of planning over the whole files.
+/// States that planning is a function of the files, if each opening was true of them, and each file was read to its
+/// end or past its limit. The result and the printed lines are those of planning over the whole files.
 pub fn a_plan_is_of_whole_files()
     ensures { (s : Settings) (stock : Stock) (openings : List Opening) → AreSeen stock (planned s openings).says
         → ((planned s openings).answer ≡ Unread → ⊥)

@@ -50,7 +50,6 @@ fn in_line_message<'a>(file: &'a str, line: u32, wrong: &'a str) -> Message<'a>
     ])
 }
 
-/// Reports a line of a file that goes past the memory.
 fn line_range_message<'a>(file: &'a str, line: u32, address: u32) -> Message<'a>
     ensures { result ≡ line_range_pieces file.now line address }
 {
@@ -113,7 +112,6 @@ fn bad_file_message<'a>(file: &'a str, fault: BadFile) -> Message<'a>
     }
 }
 
-/// Reports why a file gave no image.
 pub(crate) fn image_message<'a>(file: &'a str, fault: ReadFault) -> Message<'a>
     ensures { result ≡ image_pieces file.now fault }
 {
@@ -123,7 +121,6 @@ pub(crate) fn image_message<'a>(file: &'a str, fault: ReadFault) -> Message<'a>
     }
 }
 
-/// Reports what is wrong with value number `place`.
 fn value_message<'a>(memory: Mem, place: u32, wrong: &'a str) -> Message<'a>
     ensures { result ≡ value_pieces memory place wrong.now }
 {

@@ -194,7 +194,7 @@ pub fn plan_or_fault<D: Desk>(
     Ok(Plan::new(part, tasks, switches))
 }
 
-/// Makes the plan of a run: reads and judges the part file, looks the part up, and then reads and judges the file of
+/// Makes the plan of a run: reads and judges the part file, finds the part, and then reads and judges the file of
 /// each update in order. Warns about a missing end record, unless warnings are off.
 ///
 /// Every file is opened anew and read to its end, or past its limit, before it is judged. No file is created.

@@ -15,8 +15,6 @@ pub data LeftOut : Type 0 where
   TheErase : LeftOut
   TheWrite : Mem → List (Option ℕ) → LeftOut
 
--- Open the session, erase the chip, write an image, compare a memory with an image, read a memory and save it, or
--- skip an erase or a write.
 pub data Action : Type 0 where
   OpenSession : Action
   EraseChip : Action
@@ -29,7 +27,6 @@ abbrev pub writes_flash : Task → Bool
 writes_flash (Write Flash image) = true
 writes_flash task = false
 
--- An erase is asked for, or due because flash is written.
 abbrev pub is_erase_due : Switches → List Task → Bool
 is_erase_due s tasks = s.erase || (list_any writes_flash tasks && not s.keep_flash)
 
@@ -57,7 +54,6 @@ abbrev pub tasks_actions : Switches → List Task → List Action
 tasks_actions s [] = []
 tasks_actions s (task ∷ tasks) = task_actions s task ++ tasks_actions s tasks
 
--- The opening, the erase, and the tasks in order.
 abbrev pub actions : Plan → List Action
 actions plan = OpenSession ∷ (erase_actions plan.switches plan.tasks ++ tasks_actions plan.switches plan.tasks)
 

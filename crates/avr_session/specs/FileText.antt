@@ -18,7 +18,6 @@ file_text Octal bytes = list_text Oct bytes
 file_text Binary bytes = list_text Bin bytes
 file_text format bytes = bytes
 
--- The number of bytes up to the last that isn't FF.
 abbrev pub used_length : Bytes → ℕ
 used_length [] = 0
 used_length (byte ∷ bytes) = if used_length bytes == 0 && byte == 255 then 0 else 1 + used_length bytes

@@ -30,6 +30,5 @@ pub record Keeps {LinkStart DeskStart D L : Type 0} (LinkComes : LinkStart → L
   pub comes : Stays LinkComes old.link.now new.link.now
   pub stays : Stays DeskComes old.desk.now new.desk.now
 
--- If a fault ends the session, the fault's line is the last one reported.
 abbrev pub TellsLast : {D L : Type 0} → (D → DeskView) → Session D L → Result ⊤ End → Type 0
 TellsLast desk session result = EndsTold session.plan.now.part (desk session.desk.now) result

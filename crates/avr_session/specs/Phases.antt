@@ -18,7 +18,6 @@ use Rattle.avr_session.specs.Reporting.{PrintStops, Reports}
 use Rattle.avr_session.specs.Session.{phases}
 use Rattle.avr_session.specs.Taking.{AtOnce, AtTaking}
 
--- A fault was reported.
 abbrev pub is_told : Standing → Bool
 is_told Fine = false
 is_told standing = true

@@ -54,7 +54,6 @@ PrintStops old new cause told = ⊥
 abbrev pub FileStops : DeskView → DeskView → Bytes → FileTrouble → Bytes → Type 0
 FileStops old new file trouble told = TellsFailure (cause_line (OfFile file trouble)) told old new
 
--- The desk failed, at a file or at printing.
 abbrev pub DeskStops : DeskView → DeskView → Cause → Bytes → Type 0
 DeskStops old new (OfFile file trouble) told = FileStops old new file trouble told
 DeskStops old new cause told = PrintStops old new cause told

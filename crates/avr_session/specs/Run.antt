@@ -21,7 +21,6 @@ abbrev pub RunsSession : Plan → Devices → Devices → ℕ → Type 0
 RunsSession plan old new status =
     RunsTo (session plan) old new (takes_memory plan) (AtTaking plan.part plan.switches (actions plan)) status
 
--- The session broke off.
 abbrev pub StopsSession : Plan → Devices → Devices → Type 0
 StopsSession plan old new =
     BrokeOff (session plan) start old new (untold (takes_memory plan))

@@ -22,11 +22,9 @@ pub record Devices : Type 0 where
 abbrev pub devices : LinkView → DeskView → Devices
 devices link desk = record { link = link; desk = desk }
 
--- No call of the link or of the desk failed.
 abbrev pub NoneFailed : Devices → Devices → Type 0
 NoneFailed old new = (new.link.failures ≡ old.link.failures) × HasSameCounts old.desk new.desk
 
--- The start of a conversation.
 abbrev pub start : Position
 start = record { next = 1; unread = [] }
 
@@ -52,12 +50,10 @@ cause_line (OfFile file NotWritten) = error (not_written_pieces file)
 cause_line OfPrinting = []
 cause_line OfMemory = memory_line
 
--- It is the line of an error.
 abbrev pub is_error : Saying → Bool
 is_error (Line bytes) = starts_with nat_eq bytes (codes "avrstk: error: ")
 is_error saying = false
 
--- These output events report a fault.
 abbrev pub tells_fault : List Saying → Bool
 tells_fault sayings = list_any is_error sayings
 
@@ -85,12 +81,11 @@ pub record AtCreation (file : Bytes) (begun later : List (Event Saying)) : Type 
   pub due : later ≡ Said (Creates file) ∷ more
   pub none : begun ≡ []
 
--- The last event created this file.
 abbrev pub CreatesLast : Bytes → List (Event Saying) → Type 0
 CreatesLast file whole = (before : List (Event Saying)) × (whole ≡ before ++ Said (Creates file) ∷ [])
 
--- Where a cause stops a run: after the whole events, in the next one, of which a part may have happened. Bytes are
--- written to a file that was created just before, or to standard output, whose name is `-`.
+-- A cause stops a run after the whole events, in the next one, of which a part may have happened. Bytes are written
+-- to a file that was created just before, or to standard output, whose name is `-`.
 abbrev pub StopsAt : Cause → List (Event Saying) → List (Event Saying) → List (Event Saying) → Type 0
 StopsAt OfSending whole begun later = AtFrame begun later
 StopsAt OfListening whole begun later = (begun ≡ []) × (later ≡ [])
@@ -115,8 +110,8 @@ HasCome takes old then OfPrinting =
     desk.HasFailedToSay old.desk then.desk × (then.link.failures ≡ old.link.failures)
 HasCome takes old then cause = HasFailedAt File old.desk then.desk × (then.link.failures ≡ old.link.failures)
 
--- The cause's line was reported. After the line of a fault only the link or the printing can fail, and nothing more
--- is reported.
+-- The cause's line was reported. After a fault's line only the link or the printing can fail, and nothing more is
+-- reported.
 abbrev pub TellsCause : Bool → Cause → Bytes → DeskView → DeskView → Type 0
 TellsCause false cause told old new = TellsLine (cause_line cause) told old new
 TellsCause true OfSending told old new = told ≡ []
@@ -132,7 +127,7 @@ pub record Terms : Type 0 where
 abbrev pub untold : Bool → Terms
 untold takes = record { takes = takes; was_told = false }
 
--- Where allocation can fail: a predicate of the start, the transcript and the events so far.
+-- When allocation can fail: a predicate of the start, the transcript and the events so far.
 abbrev pub Lacking : Type 1
 Lacking = Position → Talk → List (Event Saying) → Type 0
 
@@ -160,7 +155,7 @@ pub record Ran {R : Type 0} (dialog : Dialog Saying R) (before : Position) (old 
   pub sound : NoneFailed old new
 
 -- The dialog broke off. What was sent and output is a prefix of its events, the last one perhaps in part, and then
--- the report of the cause. Allocation can fail only where it may.
+-- the report of the cause. Allocation fails only where the terms allow it.
 pub record BrokeOff {R : Type 0} (dialog : Dialog Saying R) (before : Position) (old new : Devices)
     (terms : Terms) (Lacks : Lacking) : Type 0 where
   pub during : Talk

@@ -1,4 +1,4 @@
--- Where allocation can fail in a session: at an action that allocates, before anything of it has happened.
+-- When allocation can fail in a session: at an action that allocates, before anything of it has happened.
 use Rattle.std.specs.Prelude.{ℕ, Bool, true, List, [], ◌∷◌, ◌++◌, ◌≡◌, Some}
 use Rattle.avr_cli.specs.declared.settings.Switches.{Switches}
 use Rattle.avr_desk.specs.Said.{Saying}

@@ -22,7 +22,6 @@ fn refused_message<'a>(command: u8, status: u8) -> Message<'a>
     ])
 }
 
-/// Reports a command whose reply is no answer to it.
 fn bad_answer_message<'a>(command: u8) -> Message<'a>
     ensures { result ≡ bad_answer_pieces command }
 {
@@ -61,7 +60,6 @@ fn differs_message<'a>(mem: Mem, address: u32, want: u8, found: u8) -> Message<'
     ])
 }
 
-/// Returns the message of a fault of the host.
 pub(crate) fn fault_message<'a>(part: &'a Part, fault: HostFault) -> Message<'a>
     ensures { result ≡ fault_pieces part.now fault }
 {
@@ -85,7 +83,6 @@ pub(crate) fn fault_message<'a>(part: &'a Part, fault: HostFault) -> Message<'a>
     }
 }
 
-/// Reports what is wrong with update number `number`.
 fn in_update_message<'a>(number: u8, wrong: &'a str) -> Message<'a>
     ensures { result ≡ in_update_pieces number wrong.now }
 {
@@ -118,7 +115,6 @@ fn unknown_message<'a>(what: &'a str, name: &'a str) -> Message<'a>
     ])
 }
 
-/// Reports a port that is unknown, or that none is given.
 fn port_message<'a>(port: &'a Option<Text>) -> Message<'a>
     ensures { result ≡ port_pieces port.now }
 {

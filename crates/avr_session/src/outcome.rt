@@ -32,7 +32,6 @@ impl Outcome {
     }
 }
 
-/// Returns the outcome of a session that was done, or ended like this.
 pub(crate) fn outcome_of(session: Result<(), End>) -> Outcome
     ensures { result ≡ outcome_of session }
 {

@@ -22,7 +22,6 @@ use avr_plan::{Plan, Task};
 use std::alloc::Global;
 use stk_host::{Host, Link};
 
-/// Warns that an erase was skipped.
 fn leave_out_erase<D: Desk>(desk: &mut D, quiet: u8) -> Result<(), End>
     ensures leaves_out { LeavesOut (left_out_says quiet TheErase) (D.view desk.old) (D.view desk.new) result }
     ensures stays { Stays D.comes_of desk.old desk.new }
@@ -50,7 +49,6 @@ pub(crate) fn is_erase_due(switches: Switches, tasks: &[Task]) -> bool
     switches.erase || (any_writes_flash(tasks) && !switches.keep_flash)
 }
 
-/// Reports that a write was skipped.
 fn leave_out_write<D: Desk>(desk: &mut D, plan: &Plan, mem: Mem, image: &Image) -> Result<(), End>
     ensures leaves_out { LeavesOut (left_out_says plan.now.switches.quiet (TheWrite mem image.now))
         (D.view desk.old) (D.view desk.new) result }

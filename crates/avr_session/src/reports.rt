@@ -114,7 +114,6 @@ fn report_found<D: Desk>(desk: &mut D, quiet: u8, found: [u8; 3]) -> Result<(), 
     inform(desk, quiet, &pieces)
 }
 
-/// Warns if a signature isn't the part's.
 fn warn_of_signature<D: Desk>(
     desk: &mut D,
     quiet: u8,

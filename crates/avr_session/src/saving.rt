@@ -17,7 +17,7 @@ use avr_part::Mem;
 use avr_plan::Plan;
 use stk_host::HostFault;
 
-/// Where bytes are saved: the name of a file, or `-` for standard output, and the format.
+/// The name of a file, or `-` for standard output, and the format.
 #[derive(Clone, Copy)]
 pub(crate) struct Target<'a> {
     pub(crate) file: &'a str,

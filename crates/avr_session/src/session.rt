@@ -145,7 +145,7 @@ pub fn drive<D: Desk, L: Link>(alloc: Global, plan: &Plan, desk: &mut D, link: &
     drive_outcome(alloc, plan, desk, link).status()
 }
 
-/// Makes the plan of a run, runs its session over a link, reports it at the desk, and returns the status: 0 if there
+/// Makes the plan of a run, runs its session over a link, and reports it at the desk. Returns the status: 0 if there
 /// was no fault, otherwise 1. A refusal is reported before any frame is sent or file created.
 pub fn run<D: Desk, L: Link>(alloc: Global, settings: &Settings, desk: &mut D, link: &mut L) -> u8
     ensures runs { RunsBetween D.view D.comes_of settings.now (L.view link.old) (L.view link.new)

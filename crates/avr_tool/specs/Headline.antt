@@ -1,11 +1,11 @@
 -- THE HEADLINE. What the program does is `RunsProgram` (specs/Program): from a command line to a status. It rests on
--- this page: what a run does, from settings to status, and what it leaves in a chip behind a link that loses, delays
--- and spoils bytes, as long as the link forges no frame. Read it from top to bottom: each term is defined here, or
--- one step below in the file that its `use` names. Sections 1 to 3 say what a run is, that a call does it, and how it
--- stops; `ActsAtPort` states this of `stdio:`. What the session of a plan leaves (4) is avr_course's specs/AnyLine,
--- and 5 is the same from settings on. A run over a chip file (6), which `ActsAtPort` states of `emu:`, is
--- avr_emulator's specs/Emulated. For `net:` and for a server `ActsAtPort` uses specs/OverNet and specs/ServedNet.
--- From bytes to bytes (7) is specs/InMemory.
+-- this page, which says what a run does, from settings to status. It also says what a run leaves in a chip behind a
+-- link that loses, delays and spoils bytes but forges no frame. Read it from top to bottom: each term is defined
+-- here, or one step below in the file that its `use` names. Sections 1 to 3 say what a run is, that a call does it,
+-- and how it stops; `ActsAtPort` states this of `stdio:`. What the session of a plan leaves (4) is avr_course's
+-- specs/AnyLine, and 5 is the same from settings on. A run over a chip file (6), which `ActsAtPort` states of `emu:`,
+-- is avr_emulator's specs/Emulated. For `net:` and for a server it uses specs/OverNet and specs/ServedNet. From bytes
+-- to bytes (7) is specs/InMemory.
 --
 -- What it does not say. Every desk and every link keeps a record; the real ones keep it for proofs alone. It holds
 -- what their calls returned, and what a reader gave and a writer took (stk_host's Links, avr_desk's Shown). Nothing
@@ -86,7 +86,7 @@ pub record IsRun (settings : Settings) (before now : Devices) (status : ℕ) : T
 
 -- ---- 3. Or it stopped: a device failed, as the first since the run began, or allocation failed, in a session only
 -- at an action that allocates. The status is 1. The line of the reason is cut short only if a write to the messages
--- failed: a failure at a file excuses no missing line. After the line of a fault there is no such line.
+-- failed; a failure at a file excuses no missing line. After a fault's line there is none.
 
 -- It stopped while its plan was run: a prefix of the session was sent and output, and then the cause was reported.
 pub record StoppedPlaying (settings : Settings) (before now : Devices) (status : ℕ) : Type 0 where
@@ -177,5 +177,5 @@ RunsWired settings before after desk_before desk_now status =
 
 -- ---- 7. From bytes to bytes: specs/InMemory
 --
--- `Leaves`: over known files, standard input and tape, the status, the bytes sent, the messages, the output and the
--- files created are a function of the settings and these. No device is in it.
+-- `Leaves`: over known files, standard input and tape, what a run leaves is a function of the settings and these. It
+-- leaves its status, the bytes sent, the messages, the output and the files created. No device is in it.

@@ -25,8 +25,9 @@ use Rattle.avr_tool.specs.Sockets.{Peers}
 use Rattle.avr_tool.specs.Texts.{PrintsText, ReportsText}
 use Rattle.stk_host.specs.Talk.{LinkView}
 
--- The port of the settings decides: standard input and output, which is the link; the emulator over a chip file; a
--- connection to the address; or a service at the port, which uses only the chip file, the port and the part.
+-- The port of the settings decides. It is standard input and output, which is the link; the emulator over a chip
+-- file; a connection to the address; or a service at the port. A service uses only the chip file, the port and the
+-- part.
 abbrev pub ActsAtPort : Peers → Port → Settings → Devices → Devices → ℕ → Type 0
 ActsAtPort peers Stdio settings old new status = IsRun settings old new status ⊎ IsStopped settings old new status
 ActsAtPort peers (Emulated file) settings old new status =
@@ -50,8 +51,8 @@ pub record RefusesWords (words : List Bytes) (before after : LinkView) (old new 
   pub untouched : after ≡ before
   pub status_is : status ≡ 1
 
--- The command refuses the command line, or it asks for help: an error of a kind that it calls for is left to be
--- printed, and nothing was done.
+-- The command refuses the command line, or this asks for help. The error is of a kind that it calls for and is left
+-- to be printed; nothing was done.
 pub record LeavesError (words : List Bytes) (before after : LinkView) (old new : DeskView) (error : Error)
     : Type 0 where
   pub kind : HasKind (fault_of avrstk words) error

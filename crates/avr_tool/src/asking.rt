@@ -23,8 +23,8 @@ use thiserror::Error;
 /// ```
 #[derive(Debug, Drop, Error)]
 pub enum NotAsked {
-    /// `clap` refuses the command line, or it asks for help or the version. This is clap's own error with its text,
-    /// which is not printed yet.
+    /// `clap` refuses the command line, this asks for help or the version, or an allocation fails in `clap`. This is
+    /// clap's own error with its text, which is not printed yet.
     #[error(transparent)]
     Words(clap::Error),
     /// The settings have a fault, whose line was printed as far as the desk takes it. The status is 1.
@@ -48,8 +48,8 @@ impl NotAsked {
 ///
 /// # Errors
 ///
-/// [`NotAsked::Words`] if `clap` refuses the command line, or it asks for help or the version; nothing is printed.
-/// [`NotAsked::Refused`] if the settings have a fault or allocation fails, after its line was printed.
+/// [`NotAsked::Words`] with the error of `clap`, which isn't printed. [`NotAsked::Refused`] if the settings have a
+/// fault or allocation fails, after the line was printed.
 ///
 /// ```text
 /// let mut words = Vec::new(alloc);

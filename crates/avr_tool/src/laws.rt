@@ -59,9 +59,9 @@ pub fn a_stop_is_a_prefix()
         → x.openings ≡ y.openings → heard x.during ≡ heard y.during → m ≡ n }
 {}
 
-/// States what the page refuses of a run over a wire. With status 0: memories other than those that all writes leave,
-/// or output other than that of a perfect link. With any status: a chip that changed though no frame was sent, or
-/// more than four frames for each command, however frames are weighed.
+/// States what the page refuses of a run over a wire. With status 0: memories that the plan's writes don't leave, or
+/// output other than over a perfect link. With any status: a chip that changed though no frame was sent, or more than
+/// four frames for each command, by any weight.
 pub fn a_wrong_outcome_is_refused()
     ensures memories { (plan : Plan) (w v : WiredState) (d e : DeskView)
         → (memories v ≡ effects plan.part (items plan) (memories w) → ⊥) → OverAnyLine plan w v d e 0 → ⊥ }
@@ -75,11 +75,11 @@ pub fn a_wrong_outcome_is_refused()
         → OverAnyLine plan w v d e status → ⊥ }
 {}
 
-/// States when a session over a wire is its expected run. At most three of any seven consecutive frames go wrong,
-/// where a reset counts as four. No device fails, and the messages don't report a failed allocation.
+/// States when a session over a wire is its expected run. At most three of any seven consecutive frames go wrong, and
+/// a reset counts as four. No device fails, and the messages report no failed allocation.
 ///
-/// It also states what a plan does that erases, and that agrees with itself on a chip of 00 and on one of FF. Its
-/// status is 0, and if it verifies, the chip holds its images, whatever the chip held before.
+/// If such a plan erases and verifies, and its comparisons agree on a chip of 00 and on one of FF, its status is 0
+/// and the chip holds its images. This holds whatever the chip held before.
 pub fn a_sound_run_is_its_course()
     ensures course { (plan : Plan) (w v : WiredState) (d e : Record) (a b : ℕ × ℕ) (status : ℕ)
         → AreFew (turns_of w.wire.fates) → IsSound (wire_and_desk w (keeping d a)) (wire_and_desk v (keeping e b))
@@ -95,14 +95,13 @@ pub fn a_sound_run_is_its_course()
         → (status ≡ 0) × IsWritten plan.part (asked_items plan) (memories w) (memories v) }
 {}
 
-/// States that a further run heals: the same run once more, over the chip that a first one left, whatever happened to
-/// that one. At most three of any seven consecutive frames go wrong, where a reset counts as four. The plan erases,
-/// and agrees with itself on a chip of 00 and on one of FF. Then its status is 0, and the chip is as one run would
-/// have left it before both.
+/// States that a further run heals: the same run again, over the chip that a first one left, however that one ended.
+/// At most three of any seven consecutive frames go wrong, and a reset counts as four. The plan erases, and its
+/// comparisons agree on a chip of 00 and on one of FF. Then its status is 0, and the chip is as one run would have
+/// left it before both.
 ///
 /// If the chip keeps EEPROM at an erase, each byte that the plan writes to the high fuse must keep it too. `wire`
-/// states this over a wire. `link` states it over any link that forges no frame, by the turns, however the first
-/// session ended and without regard to devices.
+/// states this over a wire, `link` over any link that forges no frame, by the turns and without regard to devices.
 pub fn a_further_run_heals()
     ensures wire { (plan : Plan) (w v x y : WiredState) (d e f g : DeskView) (status further : ℕ)
         → IsPart plan.part → All (IsFitted plan.part) plan.tasks → FitsPart plan.part (memories w)
@@ -121,9 +120,9 @@ pub fn a_further_run_heals()
         → (further ≡ 0) × IsDone plan (memories_of p.chip) (memories_of y.chip) }
 {}
 
-/// States which chip a run over the emulator begins with, over a desk in memory. It is the chip in its file as the
-/// file was before the run, whose length is the part's, or a fresh one if the file doesn't exist. With status 0 the
-/// run leaves its chip there. A file named `-` is read from standard input, so no chip is left in it.
+/// States which chip a run over the emulator begins with, over a desk in memory: the one in its file, or a fresh one
+/// if the file doesn't exist. The file is as it was before the run, and has the part's length. With status 0 the run
+/// leaves its chip there. A file named `-` is read from standard input, so no chip is left in it.
 pub fn a_run_finds_and_leaves_the_chip_of_its_file()
     ensures finds { (settings : AnySettings) (file : Bytes) (stock : Stock) (old new : MemDeskState) (status : ℕ)
         → HoldsTrue stock new → (r : RunsOverEmulator settings file (memory_view old) (memory_view new) status)
@@ -134,9 +133,9 @@ pub fn a_run_finds_and_leaves_the_chip_of_its_file()
         → file_held stock new.kept file ≡ Some (chip_file r.after.wire.programmer.chip) }
 {}
 
-/// States that a further run over its chip file heals: the same run once more, whatever happened to the first one and
-/// to the saving of its chip. The plan erases, and agrees with itself on a chip of 00 and on one of FF. Unless a
-/// device or an allocation failed, its status is 0, and the chip is as one run would have left it before both.
+/// States that a further run over its chip file heals: the same run again, however the first one and the saving of
+/// its chip ended. The plan erases, and its comparisons agree on a chip of 00 and on one of FF. Unless a device or an
+/// allocation failed, its status is 0, and the chip is as one run would have left it before both.
 ///
 /// If the first chip keeps EEPROM at an erase, each byte that the plan writes to the high fuse must keep it too. No
 /// update of the first run may be read into the chip's own file.
@@ -176,9 +175,9 @@ pub fn a_run_in_memory_has_one_outcome()
     ensures absent { (tape : Tape) → Leaves absent_settings no_stock tape absent_outcome }
 {}
 
-/// States that the promise needs a link without forged frames. Over a tape with a forged frame, comparing the low
-/// fuse with E2 ends with status 0 whatever the chip has, so for a chip with another fuse the promise fails. No link
-/// without forged frames gives this tape.
+/// States that the promise needs a link without forged frames. Over a tape with one, comparing the low fuse with E2
+/// ends with status 0 whatever the chip has. For a chip with another fuse the promise fails. No link without forged
+/// frames gives this tape.
 pub fn a_made_frame_voids_the_promise()
     ensures ends { (played (session fuse_plan) 1 made_answers).outcome ≡ Some (0, 8, []) }
     ensures void { (p q : Programmer) (turns : List Turn) (bytes : List ℕ) (events : List (Event Saying))

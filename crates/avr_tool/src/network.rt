@@ -17,7 +17,7 @@ fn sides_of<S: OpenStream + Drop>(stream: S) -> io::Result<(S, S)> {
     Ok((stream, writer))
 }
 
-/// Accepts connections at a listener. Only this call produces what the ghost members state of a stream or a listener.
+/// Accepts connections at a listener. Only this call produces what the ghost members state.
 ///
 /// Every listener of the system implements it.
 pub trait Callers {
@@ -60,9 +60,8 @@ where
 /// Connects to an address or listens at a port, once. The call consumes the network, so its owner makes at most one
 /// connection or one listener.
 ///
-/// Only these calls produce what the ghost members state of an address, a port, a stream or a listener. A reference
-/// to a runtime with the system's network is a `Network`. That it connects and listens as asked is tested, not
-/// proved.
+/// Only these calls produce what the ghost members state. A reference to a runtime with the system's network is a
+/// `Network`. That it connects and listens as asked is tested, not proved.
 pub trait Network {
     /// One side of a connection.
     type Stream: Read + Write + Drop;
@@ -76,10 +75,10 @@ pub trait Network {
     /// No connection to `HOST:PORT` could be made.
     ghost misses: { Bytes → Type 0 };
 
-    /// It listens at this port of 127.0.0.1.
+    /// It listens at this port, for clients on this machine alone.
     ghost listens: { Self.Listener → ℕ → Type 0 };
 
-    /// Listening at this port of 127.0.0.1 failed.
+    /// Listening at this port failed.
     ghost is_shut: { ℕ → Type 0 };
 
     /// Connects to `HOST:PORT`, and returns the reader and the writer. A read times out after one second.
@@ -92,11 +91,11 @@ pub trait Network {
         ensures writer { IfOk result (λ sides. reaches sides.1 address.now) }
         ensures missed { OnErr result (misses address.now) };
 
-    /// Listens at a port of 127.0.0.1; 0 means any free port.
+    /// Listens at a port, for clients on this machine alone; 0 means any free port.
     ///
     /// # Errors
     ///
-    /// The system's error, if the port can't be listened at, such as one in use.
+    /// The system's error, such as for a port in use.
     fn listen_here(self, port: u16) -> io::Result<Self::Listener>
         ensures listens { IfOk result (λ listener. listens listener port) }
         ensures shut { OnErr result (is_shut port) };

@@ -18,7 +18,7 @@ pub(crate) fn connect<N: Network>(
     Ok(StreamLink::new(reader, writer))
 }
 
-/// Listens at a port of 127.0.0.1; 0 means any free port.
+/// Listens at a port, for clients on this machine alone; 0 means any free port.
 ///
 /// # Errors
 ///

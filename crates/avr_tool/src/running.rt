@@ -20,7 +20,7 @@ use std::io::{Read, Write};
 use stk_emu::Wired;
 use stk_host::{Link, StreamLink, TapeLink};
 
-/// Makes the plan of a run, runs its session over a link, reports it at the desk, and returns the status: 0 if there
+/// Makes the plan of a run, runs its session over a link, and reports it at the desk. Returns the status: 0 if there
 /// was no fault, otherwise 1. A refusal is reported before any frame is sent or file created.
 ///
 /// ```text

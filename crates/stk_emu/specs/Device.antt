@@ -17,7 +17,6 @@ device = record {
   reset = restarted_programmer;
 }
 
--- The body that reports a wrong XOR.
 abbrev pub refusal : List ℕ
 refusal = 0xB0 ∷ 0xC1 ∷ []
 

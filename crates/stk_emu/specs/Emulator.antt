@@ -29,7 +29,7 @@ pub record Answers (old : Machine) (used : List ℕ) (new : Machine) (out : List
   pub answered : out ≡ answers device found old.programmer
   pub obeyed : new.programmer ≡ after_frames device found old.programmer
 
--- It was fed all of these bytes. For every text it stands for, the frames found end in them, and their answers were
+-- It was fed all of these bytes. Whatever text came before, the frames found end in them, and their answers were
 -- appended in order.
 pub record AppendsAnswers (old : Machine) (bytes : List ℕ) (new : Machine) (before after : List ℕ) : Type 0 where
   pub found : List (List ℕ)

@@ -40,7 +40,6 @@ given_by part (ReadSignature f ∷ []) m = read_by part (instruction_of f.instru
 given_by part (ReadOsccal f ∷ []) m = read_by part (instruction_of f.instruction) m
 given_by part commands m = []
 
--- The data of steps, joined, each from the memories that those before it leave.
 abbrev pub all_given : Part → List (List Command) → Memories → List ℕ
 all_given part [] m = []
 all_given part (commands ∷ steps) m = given_by part commands m ++ all_given part steps (struck part commands m)

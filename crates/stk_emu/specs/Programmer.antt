@@ -12,7 +12,6 @@ use Rattle.stk_frame.specs.Decoding.{command_of}
 use Rattle.stk_emu.specs.declared.programmer.TheConstants.{LARGEST_READ}
 
 pub record Programmer : Type 0 where
-  -- It is in programming mode.
   pub mode : Bool
   -- 31 bits
   pub address : ℕ
@@ -188,7 +187,6 @@ program_eeprom f p =
     )
     else fail 0x15 p)
 
--- The bytes read, and the chip after the instructions that read them.
 abbrev pub Looked : Type 0
 Looked = List ℕ × ChipState
 
@@ -256,7 +254,6 @@ obey_command (ReadOsccal f) p = read_byte 0x1C f p
 obey_command (SpiMulti send_count receive_count receive_start bytes) p =
     spi_multi send_count receive_count receive_start bytes p
 
--- This is the byte of a command.
 abbrev pub is_known : ℕ → Bool
 is_known code = nat_le 0x01 code && nat_le code 0x03 || code == 0x06 || nat_le 0x10 code && nat_le code 0x1D
 

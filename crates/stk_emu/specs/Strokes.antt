@@ -54,7 +54,6 @@ strokes_of (commands ∷ steps) = stroke_of commands ++ strokes_of steps
 abbrev pub struck : Part → List Command → Memories → Memories
 struck part commands m = effects part (stroke_of commands) m
 
--- The memories after the first `count` steps.
 abbrev pub struck_by : Part → ℕ → List (List Command) → Memories → Memories
 struck_by part zero steps m = m
 struck_by part (suc count) [] m = m
@@ -68,7 +67,6 @@ abbrev pub all_steps : Part → List Item → List (List Command)
 all_steps part [] = []
 all_steps part (item ∷ items) = steps_of part item ++ all_steps part items
 
--- An image is no larger than its memory.
 abbrev pub FitsItem : Part → Item → Type 0
 FitsItem part Erase = Unit {0}
 FitsItem part (Write mem image) = length image ≤ size_of mem part

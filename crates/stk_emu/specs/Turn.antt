@@ -9,8 +9,8 @@ pub data Became : Type 0 where
   Obeyed : Became
   Anew : Became → Became
 
--- What is read if it isn't the programmer's own answer: the refusal, or no answer, because listening ended with a
--- timeout, with too many bytes or with the end of the link.
+-- What is read in place of the programmer's own answer: the refusal, or nothing. Then listening ended with a timeout,
+-- with too many bytes or with the end of the link.
 pub data Instead : Type 0 where
   Refusal : Instead
   Nothing : Instead

@@ -49,7 +49,6 @@ back CommandRefused answered refused = on_tape refused
 back (AnswerSpoiled noise) answered refused = on_tape noise.items ++ Silence ∷ []
 back _ answered refused = Silence ∷ []
 
--- The answers that wait go on waiting.
 abbrev pub is_held : Fate → Bool
 is_held HeldAnswer = true
 is_held _ = false
@@ -70,7 +69,6 @@ pub record Wire (P : Type 0) : Type 0 where
   pub fates : List Fate
   pub late : Late
 
--- The items that a whole frame brings.
 abbrev pub segment : {P : Type 0} → Device P → List ℕ → Wire P → Tape
 segment m piece w =
     on_tape (let_go (first_fate w.fates) w.late)
@@ -92,6 +90,5 @@ abbrev pub wire_after : {P : Type 0} → Device P → List (List ℕ) → Wire P
 wire_after m [] w = w
 wire_after m (piece ∷ pieces) w = wire_after m pieces (wire_behind m piece w)
 
--- A wire before its first frame.
 abbrev pub fresh_wire : {P : Type 0} → P → List Fate → Wire P
 fresh_wire p fates = record { programmer = p; fates = fates; late = none_late }

@@ -73,14 +73,12 @@ fn fail(out: &mut Body, code: u8)
     answer_with(out, &[code, STATUS_CMD_FAILED]);
 }
 
-/// Returns whether this is the byte of a command.
 fn is_known(code: u8) -> bool
     ensures { result ≡ is_known code }
 {
     matches!(code, CMD_SIGN_ON..=CMD_GET_PARAMETER | CMD_LOAD_ADDRESS | CMD_ENTER_PROGMODE_ISP..=CMD_SPI_MULTI)
 }
 
-/// Returns the command byte.
 fn code_of(body: &[u8]) -> u8
     ensures { result ≡ slice_index body.now 0 }
 {
@@ -90,7 +88,6 @@ fn code_of(body: &[u8]) -> u8
     }
 }
 
-/// Returns the status for a body that is no command.
 fn status_of(code: u8) -> u8
     ensures { result ≡ (if is_known code then STATUS_CMD_FAILED else STATUS_CMD_UNKNOWN) }
 {
@@ -219,7 +216,6 @@ impl Programmer {
         answer_with(out, &[CMD_LOAD_ADDRESS, STATUS_CMD_OK]);
     }
 
-    /// Sets the mode and answers.
     fn entered(&mut self, ok: bool, out: &mut Body)
         ensures { (out.new.items, self.new) ≡ enter_response ok self.old }
     {

@@ -76,7 +76,6 @@ impl Model for Late {
 }
 
 impl Late {
-    /// Creates an empty list.
     pub fn new() -> Late
         ensures { result ≡ none_late }
     {

@@ -15,7 +15,6 @@ pub(crate) fn at_address(command: u8, address: u32, byte: u8) -> [u8; 4]
     [command, high, low, byte]
 }
 
-/// Returns the instruction for the low or the high byte of a word.
 pub(crate) fn for_half(command: u8, place: u16) -> u8
     ensures { result ≡ for_half command place }
 {

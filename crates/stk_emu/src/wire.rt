@@ -118,7 +118,7 @@ fn pass_with(
 }
 
 impl Wire {
-    /// Creates a wire to a programmer with this chip, out of programming mode. After these fates all are good.
+    /// Creates a wire to a programmer with this chip. After these fates all are good.
     pub fn new(chip: Chip, fates: Vec<Fate>) -> Wire
         requires { AreLawful fates.items }
         ensures { result ≡ fresh_wire (fresh_programmer chip) fates.items }

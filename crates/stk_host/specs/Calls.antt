@@ -102,11 +102,10 @@ with_steps these before steps = play (these ++ steps) before
 abbrev pub with_step : List Command → List ℕ → Playing
 with_step commands before = with_steps (commands ∷ []) before
 
--- The run of the others alone.
 abbrev pub without_step : List ℕ → Playing
 without_step before steps = play steps before
 
--- A step that others follow: the others remain, after all data so far; or all stop with it.
+-- A step that others follow: they remain, after all data so far, or all stop with it.
 abbrev pub EndsInnerStep : Playing → Playing → Position → LinkView → LinkView → Result (Unit {0}) Stop → Position
     → Type 0
 EndsInnerStep whole rest before old new (Ok done) after =
@@ -125,13 +124,11 @@ IsSizedShape Name = ⊥
 IsSizedShape (Bytes n) = Unit {0}
 IsSizedShape (Closed n) = Unit {0}
 
--- The count of failures rises if the link failed, and stays otherwise.
 abbrev pub FailsByLink : {A : Type 0} → LinkView → LinkView → Result A Stop → Type 0
 FailsByLink old new (Ok done) = new.failures ≡ old.failures
 FailsByLink old new (Err (Fault fault)) = new.failures ≡ old.failures
 FailsByLink old new (Err (Link broken)) = HasFailed old new
 
--- The count of failures never falls.
 abbrev pub CountsLink : {A : Type 0} → LinkView → LinkView → Result A Stop → Type 0
 CountsLink old new result = (old.failures ≤ new.failures) × FailsByLink old new result
 
@@ -180,7 +177,6 @@ abbrev pub given_or_fault : {A : Type 0} → A → Result (Unit {0}) HostFault �
 given_or_fault a (Ok done) = Ok a
 given_or_fault a (Err fault) = Err fault
 
--- The link failed.
 abbrev pub IsBroken : {A : Type 0} → Result A HostFault → Type 0
 IsBroken (Ok a) = ⊥
 IsBroken (Err SendFailed) = Unit {0}
@@ -201,7 +197,6 @@ pub record BringsNoData (command : Command) : Type 0 where
   pub fits : FitsFrame command
   pub quiet : shape command ≡ Bytes 0
 
--- The data bytes of a step with this last command.
 abbrev pub step_brings : Command → ℕ
 step_brings last = data_count (shape last)
 

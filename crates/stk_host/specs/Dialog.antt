@@ -1,10 +1,10 @@
--- Dialogs, and their one meaning: the run over a tape of answers.
+-- Dialogs, and their one meaning: the run over a tape of answers, `played` in names.
 use Rattle.std.specs.Prelude.{ℕ, ◌+◌, ◌%◌, List, [], ◌∷◌, ◌++◌, Option, Some, None}
 use Rattle.stk_frame.specs.Frame.{frame}
 use Rattle.stk_host.specs.Tape.{Tape, Reading, answer}
 
--- A dialog is done; or it outputs an event beside the link, such as a message; or it sends a command's body and goes
--- on with the reading of its answer.
+-- A dialog is done, or it outputs an event beside the link, such as a message, or it asks. To ask, it sends a
+-- command's body, and goes on with the reading of its answer.
 pub data Dialog (E R : Type 0) : Type 0 where
   Done : R → Dialog E R
   Say : E → Dialog E R → Dialog E R
@@ -36,7 +36,6 @@ pub record Played (E R : Type 0) : Type 0 where
 abbrev pub behind : {E R : Type 0} → List (Event E) → Played E R → Played E R
 behind events p = record { events = events ++ p.events; outcome = p.outcome }
 
--- The run after an answer; it waits if there is none yet.
 abbrev pub by_answer : {E R : Type 0} → (Reading → Tape → Played E R) → Option (Reading × Tape) → Played E R
 by_answer go_on None = record { events = []; outcome = None }
 by_answer go_on (Some (reading, tape)) = go_on reading tape

@@ -87,7 +87,7 @@ HearsKnown hears.End buffer old new = Keeps old new × IsAtEnd new
 abbrev pub AppendsPrefix : Option (List ℕ) → Option (List ℕ) → List ℕ → Type 0
 AppendsPrefix old new bytes = (prefix : List ℕ) × IsPrefixOf prefix bytes × Appends old new prefix
 
--- A failing link: the inner one; the calls up to the one that fails, or 0 if none does; the most bytes of a piece;
+-- A failing link: the inner link, the calls up to the one that fails (0: none does), the most bytes of a piece, and
 -- its own failures.
 pub record FailingState (L : Type 0) : Type 0 where
   pub inner : L
@@ -95,7 +95,6 @@ pub record FailingState (L : Type 0) : Type 0 where
   pub cut : ℕ
   pub failed : ℕ
 
--- Counts a call; the due one is a failure.
 pub record CountsCall {L : Type 0} (old new : FailingState L) (is_due : Bool) : Type 0 where
   pub value : is_due ≡ (old.due == 1)
   pub due : new.due ≡ old.due - 1
@@ -113,7 +112,6 @@ pub record FailsAsPlanned {A L : Type 0} (view : L → LinkView) (old new : Fail
   pub chosen : old.due ≡ 1 → (result ≡ Err Failed) × (new.inner ≡ old.inner)
   pub others : old.due ≢ 1 → (new.failed ≡ old.failed) × OnErr result (HasFailed (view old.inner) (view new.inner))
 
--- The failures of both links, up to the largest count.
 abbrev pub total_failures : ℕ → ℕ → ℕ
 total_failures inner own = min (inner + own) (2 ^ 64 - 1)
 

@@ -23,18 +23,15 @@ host_fault of_step.Babble = Babble
 host_fault (of_step.Refused command status) = Refused command status
 host_fault (of_step.BadAnswer command) = BadAnswer command
 
--- Signs on, enters programming mode and reads the signature.
 unfoldable pub handshake : Dialog ⊥ StepOutcome
 handshake =
     step (SignOn ∷ []) >>= if_done (λ name. step (enter ∷ []) >>= if_done (λ nothing. play signature_steps []))
 
--- Returns the signature if it is the wanted one or `force` is set.
 abbrev pub signature_judged : List ℕ → Bool → StepOutcome → Result (List ℕ) HostFault
 signature_judged wanted force (Ok found) =
     if force then Ok found else if bytes_eq found wanted then Ok found else Err (WrongSignature found)
 signature_judged wanted force (Err fault) = Err (host_fault fault)
 
--- Opens a session with a part of this signature.
 unfoldable pub opening : List ℕ → Bool → Dialog ⊥ (Result (List ℕ) HostFault)
 opening wanted force = handshake >>= λ outcome. Done (signature_judged wanted force outcome)
 
@@ -45,12 +42,10 @@ without_bytes (Err fault) = Err (host_fault fault)
 unfoldable pub closing : Dialog ⊥ (Result ⊤ HostFault)
 closing = step (leave ∷ []) >>= λ outcome. Done (without_bytes outcome)
 
--- What the data are judged to be, or the fault of a step.
 abbrev pub judged_by : {A : Type 0} → (List ℕ → Result A HostFault) → StepOutcome → Result A HostFault
 judged_by judge (Ok bytes) = judge bytes
 judged_by judge (Err fault) = Err (host_fault fault)
 
--- Runs the steps and judges their data.
 unfoldable pub operation : {A : Type 0} → List (List Command) → (List ℕ → Result A HostFault)
     → Dialog ⊥ (Result A HostFault)
 operation steps judge = play steps [] >>= λ outcome. Done (judged_by judge outcome)
@@ -61,7 +56,6 @@ no_result bytes = Ok tt
 abbrev pub erasing : Dialog ⊥ (Result ⊤ HostFault)
 erasing = operation ((erase ∷ []) ∷ []) no_result
 
--- Writes an image to a memory, if it can be written.
 abbrev pub writing : Part → Mem → List (Option ℕ) → Dialog ⊥ (Result ⊤ HostFault)
 writing part mem image =
     if is_writable mem then operation (write_steps part mem image) no_result else Done (Err (ReadOnly mem))
@@ -92,6 +86,5 @@ differs mem (Some d) = Err (Differs mem d.addr d.want d.found)
 abbrev pub comparison : Mem → List (Option ℕ) → List ℕ → Result ⊤ HostFault
 comparison mem image bytes = differs mem (difference_from 0 image bytes)
 
--- Compares a memory with an image.
 abbrev pub verifying : Part → Mem → List (Option ℕ) → Dialog ⊥ (Result ⊤ HostFault)
 verifying part mem image = operation (read_steps part mem) (comparison mem image)

@@ -96,7 +96,6 @@ pub record BreaksListening {E R : Type 0} (dialog : Dialog E R) (before : Positi
   pub all_sent : bytes_sent shown ≡ sent talk
   pub in_turn : InTurn dialog before talk
 
--- The run broke off because the link failed at this.
 abbrev pub BreaksBy : {E R : Type 0} → Broken → Dialog E R → Position → Talk → List (Event E) → Type 0
 BreaksBy Send dialog before talk shown = BreaksSending dialog before talk shown
 BreaksBy Recv dialog before talk shown = BreaksListening dialog before talk shown

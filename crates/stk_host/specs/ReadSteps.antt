@@ -22,13 +22,11 @@ read_count part mem = div_ceil (size_of mem part) (read_unit mem)
 abbrev pub block_size : ℕ → ℕ → ℕ
 block_size size start = min 256 (size - start)
 
--- Loads the address of block `number`.
 abbrev pub load_at : Part → Mem → ℕ → Option Command
 load_at part Flash number = Some (load_flash part (number * 256))
 load_at part Eeprom number = Some (load_eeprom (number * 256))
 load_at part mem number = None
 
--- Reads the bytes of step `number`.
 abbrev pub read_at : Part → Mem → ℕ → Command
 read_at part Flash number = read_flash_block (block_size part.flash_size (number * 256))
 read_at part Eeprom number = read_eeprom_block (block_size part.eeprom_size (number * 256))

@@ -58,12 +58,10 @@ unfoldable pub tries : ℕ → List Command → StepFault → Dialog ⊥ StepOut
 tries zero commands fault = Done (Err fault)
 tries (suc more) commands fault = attempt commands [] >>= end_or_again (tries more commands)
 
--- A last command, and perhaps one before it.
 abbrev pub commands_by : Option Command → Command → List Command
 commands_by None last = last ∷ []
 commands_by (Some first) last = first ∷ last ∷ []
 
--- At most four attempts.
 abbrev pub step : List Command → Dialog ⊥ StepOutcome
 step commands = tries 4 commands NoAnswer
 

@@ -18,7 +18,6 @@ is_used page image start = list_any is_some (take page (drop start image))
 abbrev pub page_step : Part → List (Option ℕ) → ℕ → List Command
 page_step part image start = load_flash part start ∷ program_page (filled_bytes image start part.flash_page) ∷ []
 
--- The step of page `number`, if the image holds a byte in it.
 abbrev pub page_steps : Part → List (Option ℕ) → ℕ → List (List Command)
 page_steps part image number =
     if is_used part.flash_page image (number * part.flash_page)
@@ -40,7 +39,6 @@ run_step part image addr =
     (filled_bytes image addr (run_end image addr (page_end part.eeprom_page addr) - addr))
     ∷ []
 
--- The step of the run that begins here, if one does.
 abbrev pub run_steps_at : Part → List (Option ℕ) → ℕ → List (List Command)
 run_steps_at part image addr = if begins_run part.eeprom_page image addr then run_step part image addr ∷ [] else []
 
@@ -53,7 +51,6 @@ abbrev pub place_steps : Part → Mem → List (Option ℕ) → ℕ → List (Li
 place_steps part Flash image number = page_steps part image number
 place_steps part mem image addr = run_steps_at part image addr
 
--- The step of a memory of one byte, if the image holds it.
 abbrev pub byte_steps : (ℕ → Command) → Option ℕ → List (List Command)
 byte_steps program None = []
 byte_steps program (Some byte) = (program byte ∷ []) ∷ []

@@ -16,7 +16,6 @@ use std::marker::Model;
 use stk_frame::protocol::STATUS_CKSUM_ERROR;
 use stk_frame::{Answer, Command, FrameFault, FrameReader};
 
-/// The attempts of a step.
 const ATTEMPTS: u8 = 4;
 
 /// What follows from the answer to a command.
@@ -99,7 +98,6 @@ fn reply_to(reader: &FrameReader, reading: Reading, command: &Command<'_>) -> Re
 }
 
 impl Conversation {
-    /// Creates a conversation in which nothing was sent.
     pub(crate) fn new() -> Self
         ensures next { result.progress.next ≡ 1 }
         ensures unread { result.progress.unread ≡ [] }
@@ -121,7 +119,6 @@ impl Conversation {
         }
     }
 
-    /// Sends a command and reads its answer.
     fn exchange<L: Link>(&mut self, link: &mut L, command: &Command<'_>) -> Result<Reply, Broken>
         requires { FitsFrame command.now }
         ensures replies { GetsReply (exchange command.now) command.now self.old.progress
@@ -193,7 +190,6 @@ impl Conversation {
     }
 }
 
-/// Appends bytes to a vector that has room for them.
 fn append(out: &mut Vec<u8>, bytes: &[u8])
     requires { length out.old.items + length bytes.now ≤ vec_capacity out.old }
     ensures items { out.new.items ≡ out.old.items ++ bytes.now }

@@ -17,7 +17,6 @@ impl Model for History {
 }
 
 impl History {
-    /// Creates an empty history.
     pub fn new() -> History
         ensures { result.items ≡ [] }
     {

@@ -112,7 +112,6 @@ fn clear_on_fault(outcome: &Result<(), HostFault>, out: &mut Vec<u8>)
     }
 }
 
-/// Compares what was read with the image.
 fn judge_comparison(
     taken: Result<(), Stop>,
     mem: Mem,
@@ -255,8 +254,8 @@ impl Host {
     ///
     /// # Errors
     ///
-    /// [`HostFault::Memory`] if allocation fails, which happens before the first frame is sent. Otherwise a fault of
-    /// a step or of the link, or the lasting fault. After any fault the vector is empty.
+    /// Memory is allocated before the first frame is sent; if that fails, the fault is [`HostFault::Memory`].
+    /// Otherwise it is a fault of a step or of the link, or the lasting fault. After any fault the vector is empty.
     ///
     /// ```text
     /// let part = Parts::none().find("m328p")?;
@@ -298,8 +297,9 @@ impl Host {
     ///
     /// # Errors
     ///
-    /// [`HostFault::Differs`] at the lowest address that differs. [`HostFault::Memory`] if allocation fails, which
-    /// happens before the first frame is sent. Otherwise a fault of a step or of the link, or the lasting fault.
+    /// [`HostFault::Differs`] at the lowest address that differs. Memory is allocated before the first frame is sent;
+    /// if that fails, the fault is [`HostFault::Memory`]. Otherwise it is a fault of a step or of the link, or the
+    /// lasting fault.
     ///
     /// ```text
     /// let part = Parts::none().find("m328p")?;

@@ -110,7 +110,7 @@ pub trait Link {
 
     /// Receives at least one byte and at most as many as the buffer holds, or a timeout, or the end.
     ///
-    /// The buffer isn't empty.
+    /// The buffer must not be empty.
     ///
     /// # Errors
     ///
