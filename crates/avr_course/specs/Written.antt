@@ -89,8 +89,9 @@ abbrev pub IsErasedFor : Mem → Image → List Item → Type 0
 IsErasedFor mem image items = (has_erase items ≡ true)
     × ((addr byte : ℕ) → byte_at image addr ≡ Some byte → LeaveFree items mem addr)
 
--- When a memory takes an image after some items that left the chip like this. It isn't locked. Flash and the lock, in
--- which a write only clears bits, were erased for the image. A memory that can't be written takes none.
+-- When a memory takes an image after some items that left the chip like this. Flash, EEPROM and fuses must not be
+-- locked. Flash and the lock, in which a write only clears bits, must be erased for the image. A memory that can't be
+-- written takes none.
 abbrev pub IsTaken : Mem → Image → List Item → Memories → Type 0
 IsTaken Flash image items m = (are_locked m ≡ false) × IsErasedFor Flash image items
 IsTaken Eeprom image items m = are_locked m ≡ false

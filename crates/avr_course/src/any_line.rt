@@ -107,10 +107,10 @@ pub fn a_session_says_its_course_up_to_a_fault()
 /// repeat anything. The session goes along the turns of its questions, which follow from what was read and what
 /// happened to the programmer. It does what the page says.
 ///
-/// `bytes` states this in bytes. The programmer got any bytes whose good frames are some of those sent, in order. The
-/// tape that came back is any on which each good frame that the host cuts is one of the programmer's last answers, or
-/// a refusal. `end` holds however a session ends, so that any prefix of its bytes was sent. The memories are those of
-/// its first writes. Its output is the expected run's, up to the line of a failed step.
+/// `bytes` states this in bytes. The programmer may have got any bytes whose good frames are some of those sent, in
+/// order. The tape that came back is any on which each good frame that the host cuts is one of the programmer's last
+/// answers, or a refusal. `end` holds however a session ends, so that any prefix of its bytes was sent. The memories
+/// are those of its first writes. Its output is the expected run's, up to the line of a failed step.
 pub fn a_session_over_any_line()
     ensures turns { (plan : Plan) (s : Chip) (becames : List Became) (bytes : List ℕ)
         (tape left : Tape) (events : List (Event Saying)) (status next : ℕ)

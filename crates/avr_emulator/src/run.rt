@@ -86,8 +86,7 @@ pub fn run_emu<D: Desk>(alloc: Global, settings: &Settings, file: &str, desk: &m
         Ok(chip) => chip,
         Err(status) => return status,
     };
-    // Ghost calls: bring into scope that each image has its memory's size, and the chip's memories their part's
-    // sizes.
+    // Ghost calls, as above.
     let _tasks = plan.tasks();
     let _part = chip.part();
     let mut wire = Wired::new(alloc, chip, Fates::none(alloc));

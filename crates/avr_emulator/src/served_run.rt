@@ -103,8 +103,7 @@ pub fn serve_chip<D: Desk, L: Link>(
 /// Serves the chip of this part over a link as [`serve_chip`] does. The chip is loaded from this file, or fresh if
 /// the file doesn't exist. The file is locked until the chip is saved.
 ///
-/// Returns the status: 0 if the link ended and the chip was saved, otherwise 1. If the chip file is refused, nothing
-/// is received or sent, and no file is written.
+/// If the chip file is refused, the status is 1. Nothing is received or sent, and no file is written.
 pub fn serve_part<D: Desk, L: Link>(
     alloc: Global,
     part: &Part,
@@ -126,14 +125,10 @@ pub fn serve_part<D: Desk, L: Link>(
     }
 }
 
-/// Serves the emulated programmer of the settings' part over a link, in at most 16,777,216 reads.
+/// Serves the emulated programmer of the settings' part over a link, as [`serve_part`] does, in at most 16,777,216
+/// reads.
 ///
-/// The chip is loaded from this file, or fresh if the file doesn't exist; the file is locked until the chip is saved.
-/// The answers sent are those of a fresh programmer with this chip, and all of them are sent before the next read.
-/// Any ending but the end of the link prints its line. In each case the chip is saved to the file.
-///
-/// Returns the status: 0 if the link ended and the chip was saved, otherwise 1. If the part or the chip file is
-/// refused, nothing is received or sent, and no file is written.
+/// If the part is refused, the status is 1. Nothing is received or sent, and no file is written.
 ///
 /// ```text
 /// let settings = Settings::for_link(alloc, "m328p")?;

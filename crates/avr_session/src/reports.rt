@@ -72,7 +72,7 @@ pub(crate) fn tell<D: Desk>(desk: &mut D, message: &Message<'_>) -> Result<(), D
     print_error(desk, message.pieces())
 }
 
-/// Prints how many bytes of a memory were written, read or the like.
+/// Prints what was done with how many bytes of a memory.
 pub(crate) fn report_bytes<D: Desk>(
     desk: &mut D,
     quiet: u8,

@@ -133,12 +133,12 @@ pub fn a_run_finds_and_leaves_the_chip_of_its_file()
         → file_held stock new.kept file ≡ Some (chip_file r.after.wire.programmer.chip) }
 {}
 
-/// States that a further run over its chip file heals: the same run again, however the first one and the saving of
-/// its chip ended. The plan erases, and its comparisons agree on a chip of 00 and on one of FF. Unless a device or an
-/// allocation failed, its status is 0, and the chip is as one run would have left it before both.
+/// States that a further run over its chip file heals, for a plan as in [`a_further_run_heals`], however the first
+/// run and the saving of its chip ended. Unless a device or an allocation failed, the run's status is 0, and the chip
+/// is as one run would have left it before both.
 ///
-/// If the first chip keeps EEPROM at an erase, each byte that the plan writes to the high fuse must keep it too. No
-/// update of the first run may be read into the chip's own file.
+/// The EEPROM condition is that of [`a_further_run_heals`]. No update of the first run may be read into the chip's
+/// own file.
 pub fn a_further_run_over_its_chip_file_heals()
     ensures { (settings : AnySettings) (file : Bytes) (stock : Stock) (old mid new : MemDeskState) (status further : ℕ)
         → is_dash file ≡ false → HoldsTrue stock old → Stays HoldsTrue old mid → Stays HoldsTrue mid new

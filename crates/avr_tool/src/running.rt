@@ -45,9 +45,8 @@ pub fn run<D: Desk, L: Link>(alloc: Global, settings: &Settings, desk: &mut D, l
     run_over(alloc, settings, desk, link)
 }
 
-/// Runs as [`run`] does, over a reader and a writer. The link's record of the run, kept for proofs alone, is true.
-/// The bytes received are those that the reader gave. While the link has never failed, the bytes sent are those that
-/// the writer took.
+/// Runs as [`run`] does, over a reader and a writer. The link's record of the run, kept for proofs alone, is true: it
+/// received what the reader gave, and while it has never failed, it sent what the writer took.
 ///
 /// ```text
 /// let settings = Settings::for_link(alloc, "m328p")?;
@@ -73,9 +72,9 @@ pub fn run_streams<D: Desk, R: Read + Drop, W: Write + Drop>(
     run(alloc, settings, desk, link)
 }
 
-/// Runs as [`run`] does, over files, standard input and a tape that are known. The status, the bytes sent, the
-/// messages, the output and the files created are a function of the settings, the files and the tape. Like any run it
-/// may stop instead: devices in memory fail if allocation fails.
+/// Runs as [`run`] does, over known files, standard input and tape. The status, the bytes sent, the messages, the
+/// output and the files created are a function of these and the settings. Like any run it may stop instead: devices
+/// in memory fail if allocation fails.
 ///
 /// Nothing has passed over the desk and the link yet. Each file is read as it was before the run, also one that the
 /// run creates anew.
@@ -133,8 +132,8 @@ pub fn run_streams_in_memory<R: Read + Drop, W: Write + Drop>(
     run_over(alloc, settings, desk, streams)
 }
 
-/// Runs what the settings ask for over a wire to the emulated programmer, whatever the wire loses, delays and spoils.
-/// Returns the status: 0 if there was no fault, otherwise 1.
+/// Runs what the settings ask for over a wire to the emulated programmer, as [`run`] does over a link, whatever the
+/// wire loses, delays and spoils.
 ///
 /// Nothing has passed over the wire yet. The promises about the chip hold if it is of the plan's part; it may be of
 /// another part.

@@ -93,13 +93,10 @@ fn serve_at<N: Network + Drop, D: Desk>(
 }
 
 /// Serves the emulated programmer of the settings' part at a port of 127.0.0.1, to the first client, as [`serve_on`]
-/// does.
+/// does. The part and the chip file are checked before the port is opened.
 ///
-/// The part and the chip file are checked before the port is opened. The port is closed when the first client has
-/// connected, so a second one is refused. `port` is the text of `--serve`. A port that can't be opened is reported,
-/// and no file is written.
-///
-/// Returns the status: 0 if the client closed the connection and the chip was saved, otherwise 1.
+/// The port is closed when the first client has connected, so a second one is refused. `port` is the text of
+/// `--serve`. A port that can't be opened is reported, and no file is written.
 ///
 /// ```text
 /// let settings = Settings::for_link(alloc, "nobody")?;

@@ -68,7 +68,6 @@ fn answer_event(reader: &FrameReader, event: Event, programmer: &mut Programmer,
     }
 }
 
-/// Appends bytes to a vector that has room for them.
 fn append(answers: &mut Vec<u8>, bytes: &[u8])
     requires { vec_len answers.old + length bytes.now ≤ vec_capacity answers.old }
     ensures { answers.new.items ≡ answers.old.items ++ bytes.now }

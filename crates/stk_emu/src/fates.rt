@@ -68,7 +68,6 @@ impl Model for Fates {
     ghost invariant = { λ fates. AreLawful fates.all.items };
 }
 
-/// Returns whether a fate has no noise or lawful noise.
 fn is_lawful(fate: &Fate) -> bool
     ensures { IsTrue result ↔ IsLawfulFate fate.now }
 {

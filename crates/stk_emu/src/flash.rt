@@ -41,7 +41,6 @@ fn load_at_once(chip: &mut Chip, wide: bool, command: u8, address: u32, bytes: &
     is_loaded
 }
 
-/// Loads the bytes one by one.
 fn load_in_turn(chip: &mut Chip, wide: bool, command: u8, address: u32, bytes: &[u8])
     requires address { address < bit_31 }
     requires count { length bytes.now < 65536 }
@@ -84,7 +83,6 @@ pub(crate) fn read(
     }
 }
 
-/// Appends bytes to a body that has room for them.
 fn append(out: &mut Body, bytes: &[u8])
     requires { length out.old.items + length bytes.now ≤ LARGEST_BODY }
     ensures { out.new.items ≡ out.old.items ++ bytes.now }
@@ -123,7 +121,6 @@ fn read_at_once(
     true
 }
 
-/// Reads the bytes one by one.
 fn read_in_turn(chip: &mut Chip, wide: bool, command: u8, address: u32, count: u16, out: &mut Body)
     requires address { address < bit_31 }
     requires room { length out.old.items + count ≤ LARGEST_BODY }

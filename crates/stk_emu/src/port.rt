@@ -45,7 +45,6 @@ impl Model for EmulatedPort {
     ghost view = { λ port. record { machine = port.emulator; waits = port.waits.items } };
 }
 
-/// Appends bytes to a queue that has room for them.
 fn append(waits: &mut VecDeque<u8>, bytes: &[u8])
     requires { deque_len waits.old + length bytes.now ≤ deque_capacity waits.old }
     ensures { waits.new.items ≡ waits.old.items ++ bytes.now }
