@@ -71,8 +71,8 @@ pub record ComesOverTurns (plan : Plan) (before after : Memories) (turns : List 
   -- each memory holds its images, later over earlier; the rest is as it was, or as an erase leaves it
   pub images : status ≡ 0 → plan.switches.no_verify ≡ false
       → IsWritten plan.part (asked_items plan) before after
-  -- few bad frames change nothing: if at most three of any seven consecutive frames go wrong, where a reset counts as
-  -- four, the session is its expected run
+  -- few bad frames change nothing: the session is its expected run if at most three of any seven consecutive frames
+  -- go wrong, and a reset counts as four
   pub few_bad : AreFew turns → IsCourse plan before after says status
   -- then a plan that erases, and whose comparisons agree on a chip of 00 and on one of FF, succeeds, whatever the
   -- chip held

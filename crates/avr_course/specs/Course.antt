@@ -60,7 +60,7 @@ actions_course part s (action ∷ actions) m = action_course part s action m the
 abbrev pub working_course : Plan → Memories → Course
 working_course plan m = actions_course plan.part plan.switches (actions plan) m
 
--- The output at its end: a second fault is not reported, and there is none.
+-- The output at its end: nothing after a fault, because a second fault is not reported.
 abbrev pub ending_says : Plan → Standing → List Saying
 ending_says plan Fine = closed_says plan.switches.quiet plan.part (Ok tt)
 ending_says plan _ = []

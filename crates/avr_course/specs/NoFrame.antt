@@ -31,8 +31,8 @@ WereSent n sent [] = Unit {0}
 WereSent n sent (piece ∷ pieces) =
     WasSent sent piece × (is_answer n piece ≡ false → WereSent n sent pieces)
 
--- THE LINK FORGES NO FRAME: each good frame that the host cuts at a question of this dialog, run over this tape, is
--- one of the programmer's last 256 answers, or a refusal. Anything else may be anywhere on the tape: parts of
+-- THE LINK FORGES NO FRAME: at a question, each good frame that the host cuts is one of the programmer's last 256
+-- answers, or a refusal. The dialog is run over this tape. Anything else may be anywhere on the tape: parts of
 -- answers, noise, earlier answers, refusals, timeouts.
 abbrev pub MakesNoFrame : {E R P : Type 0} → Device P → Dialog E R → ℕ → Tape → P → List Became → List (List ℕ)
     → Type 0

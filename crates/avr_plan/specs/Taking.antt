@@ -1,4 +1,4 @@
--- Where a failed allocation may stop a plan while no file is open. If a file is open, avr_desk's `NoMemoryFor`
+-- When a failed allocation may stop a plan while no file is open. If a file is open, avr_desk's `NoMemoryFor`
 -- applies.
 use Rattle.std.specs.Prelude.{◌≡◌, Bool, true, false, List, [], ◌∷◌, ◌++◌, if◌then◌else◌}
 use Rattle.avr_cli.specs.declared.settings.Settings.{Settings}

@@ -155,7 +155,7 @@ pub record Ran {R : Type 0} (dialog : Dialog Saying R) (before : Position) (old 
   pub sound : NoneFailed old new
 
 -- The dialog broke off. What was sent and output is a prefix of its events, the last one perhaps in part, and then
--- the report of the cause. Allocation fails only where the terms allow it.
+-- the report of the cause. If allocation failed, it did so at a moment that `Lacks` allows.
 pub record BrokeOff {R : Type 0} (dialog : Dialog Saying R) (before : Position) (old new : Devices)
     (terms : Terms) (Lacks : Lacking) : Type 0 where
   pub during : Talk

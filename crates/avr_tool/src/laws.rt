@@ -78,8 +78,8 @@ pub fn a_wrong_outcome_is_refused()
 /// States when a session over a wire is its expected run. At most three of any seven consecutive frames go wrong, and
 /// a reset counts as four. No device fails, and the messages report no failed allocation.
 ///
-/// If such a plan erases and verifies, and its comparisons agree on a chip of 00 and on one of FF, its status is 0
-/// and the chip holds its images. This holds whatever the chip held before.
+/// If such a plan erases and verifies, and its comparisons agree on a chip of 00 and on one of FF, its status is 0.
+/// The chip then holds its images, whatever it held before.
 pub fn a_sound_run_is_its_course()
     ensures course { (plan : Plan) (w v : WiredState) (d e : Record) (a b : ℕ × ℕ) (status : ℕ)
         → AreFew (turns_of w.wire.fates) → IsSound (wire_and_desk w (keeping d a)) (wire_and_desk v (keeping e b))
