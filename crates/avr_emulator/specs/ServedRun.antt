@@ -25,7 +25,7 @@ use Rattle.avr_emulator.specs.declared.serving.Served.TheVariants.{Ended, RecvFa
 abbrev pub settings_part : Settings → Stage Part
 settings_part s = parts_stage s.parts >>= λ parts. part_stage s.part parts
 
--- The file was locked, it holds a chip of this part, and it was unlocked.
+-- The file was locked, a chip of this part was loaded from it, and it was unlocked.
 pub record JudgedChip (part : Part) (file : Bytes) (old new : DeskView) : Type 0 where
   pub chip : chips.ChipState
   pub loaded_desk : DeskView

@@ -36,7 +36,7 @@ fn find_part<D: Desk>(alloc: Global, desk: &mut D, settings: &Settings) -> Resul
     chosen_part(desk, &parts, settings.part.as_str())
 }
 
-/// Checks that the file holds a chip of this part, and returns the part.
+/// Checks that a chip of this part can be loaded from the file, and returns the part.
 fn judge_chip<D: Desk>(alloc: Global, part: Part, file: &str, desk: &mut D) -> Result<Part, u8>
     ensures judges { JudgesChip part file.now (D.view desk.old) (D.view desk.new) result }
     ensures stays { Stays D.comes_of desk.old desk.new }
@@ -49,8 +49,8 @@ fn judge_chip<D: Desk>(alloc: Global, part: Part, file: &str, desk: &mut D) -> R
     Ok(part)
 }
 
-/// Returns the part of the settings after checking that the file holds a chip of it. A server calls this before a
-/// client connects; the chip itself is loaded later.
+/// Returns the part of the settings after checking that a chip of it can be loaded from the file. A server calls this
+/// before a client connects; the chip itself is loaded later.
 ///
 /// # Errors
 ///
