@@ -1,4 +1,4 @@
--- of the crates below, what public contracts name
+-- of the crates below, the definitions that public contracts cite
 pub use Rattle.avr_emulator.specs.Saving
 pub use Rattle.avr_course.specs.AnyLine
 pub use Rattle.avr_course.specs.AnyTape

@@ -1,5 +1,5 @@
--- TWO PROCESSES: a host that plays and a server that answers, at the two ends of a line that keeps the order of bytes,
--- loses none and adds none, and cuts and stalls wherever it likes.
+-- TWO PROCESSES: a session's host and a server, at the two ends of a link. The link keeps the order of bytes, loses
+-- none and adds none, and cuts and has timeouts anywhere.
 use Rattle.std.specs.Prelude.{ℕ, zero, suc, List, [], ◌∷◌, ◌++◌, ◌≡◌}
 use Rattle.avr_desk.specs.Record.{Bytes, DeskView}
 use Rattle.avr_part.specs.State.{ChipState as Chip}
@@ -19,14 +19,14 @@ use Rattle.avr_emulator.specs.Serving.{HasNoEnd}
 
 -- ---- 1. Both ends in one order
 
--- one call of one end: it sent bytes, or heard a piece
+-- One call of one end: it sent bytes, or received a piece.
 pub data Call : Type 0 where
   HostSays : List ℕ → Call
   HostHears : Tape → Call
   ServerSays : List ℕ → Call
   ServerHears : Tape → Call
 
--- what each end knows of it: its own talk
+-- The transcript of each end.
 abbrev pub of_host : List Call → Talk
 of_host [] = []
 of_host (HostSays bytes ∷ calls) = Sent bytes ∷ of_host calls
@@ -41,25 +41,25 @@ of_server (HostHears items ∷ calls) = of_server calls
 of_server (ServerSays bytes ∷ calls) = Sent bytes ∷ of_server calls
 of_server (ServerHears items ∷ calls) = Got items ∷ of_server calls
 
--- what one end has heard is a prefix of what the other has sent
+-- What each end has received is a prefix of what the other has sent.
 pub record IsJoined (host server : Talk) : Type 0 where
   pub up : IsPrefixOf (bytes_of (heard server)) (sent host)
   pub down : IsPrefixOf (bytes_of (heard host)) (sent server)
 
--- THE LINE. At each moment what an end has heard is a prefix of what the other has sent till then: nothing is lost,
--- doubled, changed or heard before it was sent, and the pieces are whatever they are. Silences may come anywhere. The
--- host meets no end of the line; the server may, at any time.
+-- THE LINK. At each moment what an end has received is a prefix of what the other has sent so far. So nothing is
+-- lost, repeated, changed or received before it was sent. Pieces may be cut, and timeouts may occur, anywhere. The
+-- host never meets the end of the link; the server may, at any time.
 pub record IsOrdered (calls : List Call) : Type 0 where
   pub joined : (first later : List Call) → calls ≡ first ++ later → IsJoined (of_host first) (of_server first)
   pub endless : HasNoEnd (heard (of_host calls))
 
--- It stalls between answers alone: where the host hears a silence, no part of an answer has come.
+-- Timeouts occur only between answers: at each timeout the host has received no part of an answer.
 abbrev pub StallsBetweenAnswers : Tape → Type 0
 StallsBetweenAnswers tape = (before after : Tape) → tape ≡ before ++ Silence ∷ after → rest (bytes_of before) ≡ []
 
 -- ---- 2. The server's end
 
--- However serving ended: it took so many of the bytes that it heard, obeyed all frames in them, and sent their answers,
+-- However serving ended, the server took the first bytes received, obeyed all frames in them, and sent their answers,
 -- the last one perhaps in part.
 pub record HasServed (p : Programmer) (talk : Talk) (left : Programmer) : Type 0 where
   pub used : List ℕ
@@ -69,30 +69,28 @@ pub record HasServed (p : Programmer) (talk : Talk) (left : Programmer) : Type 0
   pub sent_is : sent talk ++ unsent ≡ answers device (frames used) p
   pub left_is : left ≡ after_frames device (frames used) p
 
--- ---- 3. What became of the frames
+-- ---- 3. What happened to the frames
 
--- the first so many were obeyed, and the others never arrived
+-- The first of them were obeyed, and the others never arrived.
 abbrev pub obeyed : ℕ → List Became
 obeyed zero = []
 obeyed (suc h) = Obeyed ∷ obeyed h
 
--- ---- 4. How the host hears it
+-- ---- 4. What the host receives
 
--- it is never silent
 abbrev pub IsPrompt : Tape → Type 0
 IsPrompt [] = Unit {0}
 IsPrompt (Byte byte ∷ tape) = IsPrompt tape
 IsPrompt (Silence ∷ tape) = ⊥
 IsPrompt (End ∷ tape) = IsPrompt tape
 
--- ---- 5. That there is such a run
+-- ---- 5. Such a run exists
 
--- a link over which this passed, and that never failed
 abbrev pub passed : Talk → LinkView
 passed talk = record { talk = talk; failures = 0 }
 
--- A session of this plan that was played whole, and a server of status 0 with this chip, at the ends of an ordered line
--- that is never silent; nothing had passed before.
+-- A session of this plan that ran whole, and a server of status 0 with this chip, at the ends of an ordered link
+-- without timeouts. Nothing had passed before.
 pub record HasRun (plan : Plan) (chip : Chip) (file : Bytes) : Type 0 where
   pub calls : List Call
   pub ordered : IsOrdered calls

@@ -1,7 +1,7 @@
-//! Laws beyond what a call's clause cites: of two processes, a session and a server at the two ends of a line.
+//! Laws beyond what the clauses of calls cite: two processes, a session and a server at the two ends of a link.
 //!
-//! No code stands here, and nothing rests on it. The one idea: what a host hears of a server is an honest line, so what
-//! is said of any line holds of both.
+//! There is no code here, and nothing depends on it. What a host receives from a server is an honest link, so what
+//! holds for any link holds for both.
 #![tactic(auto)]
 
 mod two_processes;

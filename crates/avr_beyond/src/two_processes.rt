@@ -1,4 +1,4 @@
-//! Laws of a session and a server at the two ends of a line. No code.
+//! Laws of a session and a server at the two ends of a link. No code.
 
 ghost use Rattle.std.specs.Prelude.{◌≡◌, ◌++◌, ℕ, length, List, [], All, ◌∷◌, Ok};
 ghost use Rattle.avr_desk.specs.Record.{Bytes};
@@ -30,9 +30,9 @@ ghost use Rattle.stk_host.specs.Play.{Position, Plays, IsPrefixOf, InTurn};
 ghost use Rattle.stk_host.specs.declared.link.Item.TheVariants.{Byte, Silence};
 ghost use Rattle.stk_host.specs.Tape.{Tape, bytes_of};
 
-/// A server that answered all it heard has sent the answers to the frames in it, and no more, and its programmer is as
-/// they left it. However serving ended, it took a prefix of the bytes that it heard, obeyed all frames in that, and
-/// sent their answers, the last one perhaps in part.
+/// States what a server sends. If it answered all it received, it sent exactly the answers to the frames in it, and
+/// its programmer is as they left it. However serving ended, it took a prefix of the bytes received, obeyed all
+/// frames in it, and sent their answers, the last one perhaps in part.
 pub fn a_server_sends_the_answers_to_what_it_heard()
     ensures all { (p : Programmer) (talk : Talk) (left : Machine)
         → AnswersAll p [] (bytes_of (heard talk)) (sent talk) left
@@ -42,9 +42,9 @@ pub fn a_server_sends_the_answers_to_what_it_heard()
         → ServingLeaves served p [] talk left → HasServed p talk left.programmer }
 {}
 
-/// A session and a server at the two ends of a line that keeps their bytes in order, and stalls between answers alone:
-/// all that the host reads is honest, where the frames that the server took were obeyed and the others never arrived,
-/// and so the server stands. It holds at any moment of a session, whatever becomes of it.
+/// States that all a host reads from a server is honest, over a link that keeps their bytes in order and has timeouts
+/// only between answers. The frames that the server took were obeyed, and the others never arrived; the server's
+/// programmer is as they left it. This holds at any moment of a session, however it ends.
 pub fn what_a_host_hears_of_a_server_is_honest()
     ensures honest { (plan : Plan) (s : Chip) (left : Programmer) (host server : Talk)
         → IsSoundChip s → s.part ≡ plan.part → All (IsFitted plan.part) plan.tasks
@@ -61,7 +61,7 @@ pub fn what_a_host_hears_of_a_server_is_honest()
         (obeyed (length (frames serves.used))) (fresh_programmer s) ≡ left }
 {}
 
-/// No deadlock: at no moment does a session listen and a server too, where all that either has sent was heard.
+/// States that there is no deadlock: a session and a server never both listen when everything sent was received.
 pub fn two_processes_never_both_wait()
     ensures { (plan : Plan) (s : Chip) (first : List Call) (host_items server_items : Tape)
         → IsSoundChip s → s.part ≡ plan.part → All (IsFitted plan.part) plan.tasks
@@ -72,9 +72,9 @@ pub fn two_processes_never_both_wait()
         → bytes_of (heard (of_host first)) ≡ sent (of_server first) → ⊥ }
 {}
 
-/// THE TWO PROCESSES: a session that was played whole, and a server that ended anyhow, in one order of their calls.
-/// What the status says of the chip is what the page says of one behind a wire: and that chip is the one that was
-/// saved. Where the line stalls within answers too, it does as long as no frame is made so.
+/// THE TWO PROCESSES: a session that ran whole, and a server that ended in any way, in one order of their calls. The
+/// status means for the server's chip what the page says for one behind a wire, and that chip is the one saved. If
+/// timeouts occur within answers too, this holds as long as they forge no frame.
 pub fn a_session_and_a_server_are_one_run()
     ensures between { (plan : Plan) (s : Chip) (calls : List Call) (old new : Devices) (server_old server_new : Devices)
         (file : Bytes) (most status served_status : ℕ) (after : Position)
@@ -102,14 +102,14 @@ pub fn a_session_and_a_server_are_one_run()
         → Saves serves.told_desk new.desk file (chip_file serves.left.programmer.chip) (Ok tt) }
 {}
 
-/// The laws of two processes speak of something: for every plan there is such a run, over a line that is never silent.
+/// States that the laws of two processes apply: for every plan there is such a run, over a link without timeouts.
 pub fn two_processes_have_a_run()
     ensures { (plan : Plan) (s : Chip) (file : Bytes)
         → IsSoundChip s → s.part ≡ plan.part → All (IsFitted plan.part) plan.tasks → HasRun plan s file }
 {}
 
-/// Where the host never hears a silence, however the line cuts, they come to the course of the plan: its status, its
-/// sayings, and its memories in the chip that was saved.
+/// States that a session and a server make the expected run of the plan if the host never has a timeout, however the
+/// link cuts. The status, the output and the memories in the saved chip are those of the expected run.
 pub fn a_prompt_line_brings_the_course()
     ensures { (plan : Plan) (s : Chip) (calls : List Call) (old new : Devices) (server_old server_new : Devices)
         (file : Bytes) (most status served_status : ℕ) (after : Position)
@@ -123,8 +123,8 @@ pub fn a_prompt_line_brings_the_course()
         × (memories_of serves.left.programmer.chip ≡ (course plan (memories_of s)).memories) }
 {}
 
-/// Whatever becomes of either, so that a session is played or breaks off and serving ends anyhow: the chip that is
-/// saved has the first strokes of the plan, as many as were completed by what was heard and at most one more.
+/// States what the saved chip holds, whether the session ran whole or broke off, and however serving ended. It has
+/// the first writes of the plan: as many as were completed by what was received, and at most one more.
 pub fn whatever_becomes_of_both_some_strokes_were_made()
     ensures { (plan : Plan) (s : Chip) (calls : List Call) (old new : Devices) (server_old server_new : Devices)
         (file : Bytes) (most status served_status : ℕ)
@@ -140,7 +140,7 @@ pub fn whatever_becomes_of_both_some_strokes_were_made()
         (sent (of_host calls)) (played (session plan) 1 (heard (of_host calls))).events }
 {}
 
-/// What no such line does: be silent within an answer, lose a byte, or bring one before it was sent.
+/// States what no such link does: have a timeout within an answer, lose a byte, or bring one before it was sent.
 pub fn an_unordered_line_is_refused()
     ensures within { StallsBetweenAnswers (Byte 27 ∷ Silence ∷ []) → ⊥ }
     ensures lost { IsOrdered (HostSays (1 ∷ 2 ∷ []) ∷ ServerHears (Byte 2 ∷ []) ∷ []) → ⊥ }

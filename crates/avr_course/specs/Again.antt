@@ -1,4 +1,4 @@
--- When the same run again comes to what one run comes to, and when a run succeeds whatever the chip was.
+-- When the same run again has the same result as one run, and when a run succeeds whatever the chip held.
 use Rattle.std.specs.Prelude.{ℕ, Bool, true, ◌==◌, ◌≡◌, List, [], ◌∷◌, Option, Some, None, replicate, ⊤}
 use Rattle.std.specs.Int.{bit_at}
 use Rattle.avr_image.specs.Image.{byte_at}
@@ -9,12 +9,12 @@ use Rattle.stk_emu.specs.Effect.{Item, Write, Memories}
 use Rattle.avr_course.specs.Agrees.{Agrees}
 use Rattle.avr_course.specs.Course.{course}
 
--- a byte of the high fuse that keeps EEPROM, or none
+-- A byte of the high fuse that keeps EEPROM, or none.
 abbrev pub is_keeping : Part → Option ℕ → Bool
 is_keeping part None = true
 is_keeping part (Some byte) = bit_at byte part.eesave_bit == 0
 
--- what an item writes to the high fuse keeps EEPROM
+-- What an item writes to the high fuse keeps EEPROM.
 abbrev pub IsKeeping : Part → Item → Type 0
 IsKeeping part (Write Hfuse image) = is_keeping part (byte_at image 0) ≡ true
 IsKeeping part item = ⊤
@@ -23,7 +23,6 @@ abbrev pub AreKeeping : Part → List Item → Type 0
 AreKeeping part [] = ⊤
 AreKeeping part (item ∷ items) = IsKeeping part item × AreKeeping part items
 
--- a chip of this one byte everywhere
 abbrev pub chip_of : Part → ℕ → Memories
 chip_of part byte = record {
   flash = replicate part.flash_size byte;
@@ -34,13 +33,14 @@ chip_of part byte = record {
   lock = byte;
 }
 
--- The comparisons of a plan agree on a chip of nothing but 00 and on one of nothing but FF: so none of them is of a
--- byte that the plan hasn't made, and each is of what it made.
+-- The comparisons of a plan agree on a chip of 00 and on one of FF. So each compares only bytes that the plan has
+-- made, with what it made.
 pub record AgreesAnyway (plan : Plan) : Type 0 where
   pub zeros : Agrees plan (chip_of plan.part 0)
   pub ones : Agrees plan (chip_of plan.part 255)
 
--- The plan's course from these memories ends with status 0, and leaves what the one from those before would have left.
+-- The plan's expected run from these memories has status 0, and leaves what the one from those before would have
+-- left.
 pub record Heals (plan : Plan) (before left : Memories) : Type 0 where
   pub status : (course plan left).status ≡ 0
   pub memories : (course plan left).memories ≡ (course plan before).memories

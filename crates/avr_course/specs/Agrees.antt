@@ -8,7 +8,7 @@ use Rattle.stk_emu.specs.Effect.{Image, Memories, effects, memory_in}
 use Rattle.stk_emu.specs.Given.{Holds}
 use Rattle.avr_course.specs.Items.{action_items}
 
--- the memory holds the image's byte at every address of the image
+-- The memory holds the image's byte at every address of the image.
 abbrev pub Shows : Part → Mem → Image → Memories → Type 0
 Shows part mem image m = Holds image (memory_in part mem m)
 
@@ -16,12 +16,12 @@ abbrev pub ActionAgrees : Part → Action → Memories → Type 0
 ActionAgrees part (CompareImage mem image) m = Shows part mem image m
 ActionAgrees part action m = ⊤
 
--- each action in its order, over the memories that those before it leave
+-- Each action in order, over the memories that those before it leave.
 abbrev pub ActionsAgree : Part → List Action → Memories → Type 0
 ActionsAgree part [] m = ⊤
 ActionsAgree part (action ∷ actions) m =
     ActionAgrees part action m × ActionsAgree part actions (effects part (action_items action) m)
 
--- the comparisons of a plan agree, over a chip with these memories before the run
+-- The comparisons of a plan agree, if the chip has these memories before the run.
 abbrev pub Agrees : Plan → Memories → Type 0
 Agrees plan m = ActionsAgree plan.part (actions plan) m

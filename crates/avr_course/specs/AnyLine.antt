@@ -1,5 +1,5 @@
--- Section 4 of the page (avr_tool's specs/Headline): what the session of a plan did over a line, whatever that loses,
--- delays and spoils; by the turns of its frames, and over a wire to the emulated programmer by their fates.
+-- Section 4 of the page (avr_tool's specs/Headline): what the session of a plan did over a link, whatever the link
+-- loses, delays and spoils. By the turns of its frames, and over a wire to the emulated programmer by their fates.
 use Rattle.std.specs.Prelude.{ℕ, ◌+◌, ◌*◌, ◌≡◌, ◌≤◌, ◌⊎◌, true, false, List, [], ◌∷◌, ◌++◌, map, length}
 use Rattle.avr_desk.specs.Record.{DeskView, Passes}
 use Rattle.avr_desk.specs.Said.{Saying, after_all}
@@ -27,7 +27,7 @@ use Rattle.avr_course.specs.Outcome.{IsCourse, IsDone, MakesStrokes}
 use Rattle.avr_course.specs.Told.{IsTrue, SaidTrue}
 use Rattle.avr_course.specs.Written.{IsWritten}
 
--- what a body counts: 1 for the number of frames, its length for bytes, 1 or 0 for one command
+-- The weight of a body: 1 counts frames, its length counts bytes, 1 or 0 counts one command.
 abbrev pub Weight : Type 0
 Weight = List ℕ → ℕ
 
@@ -35,48 +35,47 @@ abbrev pub weighed : Weight → List (List ℕ) → ℕ
 weighed weight [] = 0
 weighed weight (first ∷ bodies) = weight first + weighed weight bodies
 
--- the commands of all steps, by their bodies
 abbrev pub bodies_in : List (List Command) → List (List ℕ)
 bodies_in [] = []
 bodies_in (commands ∷ steps) = map body commands ++ bodies_in steps
 
--- Whatever is reported among these events was true of the chip as the frames sent before had left it.
+-- Everything reported among these events was true of the chip as the frames sent before had left it.
 abbrev pub WereTrue : Plan → Programmer → List Turn → List (Event Saying) → Type 0
 WereTrue plan p turns events =
     SaidTrue device (λ q saying. IsTrue plan (memories_of p.chip) (memories_of q.chip) saying) events turns p
 
--- However a session of this plan ends, also if it is broken off or waits for ever: its frames had these turns and led
--- the programmer from the one to the other, these bytes were sent, and over what was heard it does these events.
+-- A session of this plan, however it ends, also if it breaks off or waits forever. Its frames had these turns and led
+-- the programmer from `p` to `q`, these bytes were sent, and over what was received it does these events.
 pub record OverTurns (plan : Plan) (p q : Programmer) (turns : List Turn) (bytes : List ℕ)
     (events : List (Event Saying)) : Type 0 where
-  -- the first strokes of the plan were made, those that were completed, and perhaps one more
+  -- the first writes of the plan were made: those completed, and perhaps one more
   pub strokes : MakesStrokes plan p turns (length (frames bytes)) (memories_of p.chip) (memories_of q.chip)
   -- at most four frames for each command of the plan's steps, by every weight of bodies
   pub four : (weight : Weight) → weighed weight (map body_of (frames bytes))
       ≤ 4 * weighed weight (bodies_in (run_steps plan))
-  -- each line that the session reports and each file that it writes was true of the chip at that moment
+  -- each line reported and each file written was true of the chip at that moment
   pub believable : WereTrue plan p turns events
-  -- and what it says is what the course says, or as much of that as actions came to their ends, and then the line of
-  -- the step that failed
+  -- the output is the expected run's, or that of the actions that ended and then the line of a failed step
   pub foretold : IsForetold plan (memories_of p.chip) (sayings events)
 
--- What is so too of a session that came to this status. A course is what is said, the status and the memories of the
--- same plan over a perfect line.
+-- What holds besides for a session with this status. The expected run is the output, the status and the memories of
+-- the same plan over a perfect link.
 pub record ComesOverTurns (plan : Plan) (before after : Memories) (turns : List Turn) (says : List Saying)
     (status : ℕ) : Type 0 where
-  -- with the line of a step that failed the status is 1
+  -- with the line of a failed step the status is 1
   pub said : EndsAsForetold plan before says status
-  -- status 0 can be trusted: nothing but the line's own trouble was hidden
+  -- status 0 can be trusted: only trouble of the link was hidden
   pub success : status ≡ 0 → IsCourse plan before after says status
   -- all that the plan writes was written, and all that it compares agreed
   pub done : status ≡ 0 → IsDone plan before after
-  -- each memory holds its images, later over earlier, and the rest is as it was, or as an erase leaves it
+  -- each memory holds its images, later over earlier; the rest is as it was, or as an erase leaves it
   pub images : status ≡ 0 → plan.switches.no_verify ≡ false
       → IsWritten plan.part (asked_items plan) before after
-  -- a line that is bad, but not too bad, changes nothing: where of any seven frames in a row at most three go wrong,
-  -- of which a reset counts four, the session is its course
+  -- few bad frames change nothing: the session is its expected run if at most three of any seven consecutive frames
+  -- go wrong, and a reset counts as four
   pub few_bad : AreFew turns → IsCourse plan before after says status
-  -- and then a plan that erases, and agrees on a chip of 00 and on one of FF, succeeds, whatever the chip was
+  -- then a plan that erases, and whose comparisons agree on a chip of 00 and on one of FF, succeeds, whatever the
+  -- chip held
   pub again : AreFew turns → has_erase (items plan) ≡ true → AgreesAnyway plan → status ≡ 0
 
 abbrev pub WholeOverTurns : Plan → Programmer → Programmer → List Turn → List ℕ → List (Event Saying) → ℕ → Type 0
@@ -86,7 +85,7 @@ WholeOverTurns plan p q turns bytes events status =
 
 -- ---- over a wire
 
--- the memories of the chip behind it; the frames that went out; all that the session does over what was heard
+-- The memories of its chip; below, the frames sent, and all events over what was received.
 abbrev pub memories : WiredState → Memories
 memories w = memories_of w.wire.programmer.chip
 
@@ -96,14 +95,14 @@ frames_over w = frames (sent w.talk)
 abbrev pub events_over : Plan → WiredState → List (Event Saying)
 events_over plan w = (played (session plan) 1 (heard w.talk)).events
 
--- It stopped as it was played: a device failed, by the count of its failures and as the first, or memory was refused
--- where an action takes it.
+-- The session stopped: a device failed, by its count of failures and as the first, or allocation failed at an action
+-- that allocates.
 abbrev pub Stopped : Plan → WiredState → WiredState → DeskView → DeskView → Type 0
 Stopped plan before after old now =
     StopsSession plan (devices (wired_view before) old) (devices (wired_view after) now)
 
--- What a session of this plan did from one state of a wire to another, whatever the fates of its frames: it came to
--- its status, and all that it said was done at the desk; or it stopped, with status 1.
+-- What a session of this plan did between these states of a wire, whatever the fates of its frames. It ran to its
+-- status, and all its output was done at the desk; or it stopped with status 1.
 pub record OverAnyLine (plan : Plan) (before after : WiredState) (old now : DeskView) (status : ℕ) : Type 0 where
   pub line : OverTurns plan (fresh_programmer before.wire.programmer.chip) after.wire.programmer
       (turns_of before.wire.fates) (sent after.talk) (events_over plan after)

@@ -7,7 +7,7 @@ use Rattle.stk_host.specs.Talk.{Talk, Got, sent, heard}
 use Rattle.stk_host.specs.Tape.{Tape, limit}
 use Rattle.stk_host.specs.declared.link.Item.TheVariants.{Byte, Silence, End}
 
--- how often nothing came, and how many bytes did
+-- The number of timeouts; below, the number of bytes.
 abbrev pub silences : Tape → ℕ
 silences [] = 0
 silences (Silence ∷ tape) = suc (silences tape)
@@ -20,9 +20,9 @@ bytes_on (Byte b ∷ tape) = suc (bytes_on tape)
 bytes_on (Silence ∷ tape) = bytes_on tape
 bytes_on (End ∷ tape) = bytes_on tape
 
--- A dialog that sends at most n frames listens at most so long: in a whole play at most one silence comes for each
--- frame, and 4,096 bytes, but for those that are left; and wherever it listens, also in a play that breaks off later,
--- fewer came till then.
+-- A dialog that sends at most `n` frames. In a whole run at most one timeout occurs for each frame, and at most 4,096
+-- bytes are read for each, except those left unread. Wherever it listens, also in a run that breaks off later, fewer
+-- came before.
 pub record ListensAtMost {E R : Type 0} (n : ℕ) (dialog : Dialog E R) : Type 0 where
   pub whole : (first : Position) (talk : Talk) (events : List (Event E)) (result : R) (last : Position)
       → Plays dialog first talk events result last

@@ -1,5 +1,4 @@
--- The course of a run over a line on which few frames go wrong: no frames, no answers, only what is said and what
--- becomes of the memories.
+-- The expected run, `course` in names: a run over a link on which few frames go wrong, as output and memories alone.
 use Rattle.std.specs.Prelude.{ℕ, List, [], ◌∷◌, ◌++◌, Result, Ok}
 use Rattle.avr_cli.specs.declared.settings.Switches.{Switches}
 use Rattle.avr_desk.specs.Said.{Saying}
@@ -12,17 +11,16 @@ use Rattle.avr_session.specs.Standing.{Standing, Fine}
 use Rattle.avr_session.specs.Actions.{Action, OpenSession, EraseChip, WriteImage, CompareImage, SaveMemory, LeaveOut, actions}
 use Rattle.avr_session.specs.Session.{standing, fault_or, opening_says, left_out_says, erased_says, written_says, verified_says, closed_says, read_says, status_of}
 
--- what is said, how the session stands after it, and the memories then
+-- The output, and the session's state and the memories after it.
 pub record Course : Type 0 where
   pub says : List Saying
   pub standing : Standing
   pub memories : Memories
 
--- without a fault
 abbrev pub fine : List Saying → Memories → Course
 fine says m = record { says = says; standing = Fine; memories = m }
 
--- an operation of this outcome, which leaves these memories
+-- An operation with this outcome, which leaves these memories.
 abbrev pub reported_course : {A : Type 0} → (Result A HostFault → List Saying) → Result A HostFault → Memories → Course
 reported_course outcome_says outcome m = record {
   says = outcome_says outcome;
@@ -30,7 +28,7 @@ reported_course outcome_says outcome m = record {
   memories = m;
 }
 
--- the next action, which is left out after a fault
+-- The next action, which a fault skips.
 abbrev pub then_from : Course → Standing → (Memories → Course) → Course
 then_from first Fine next = record {
   says = first.says ++ (next first.memories).says;
@@ -43,7 +41,7 @@ infixl 10 ◌then◌
 abbrev pub ◌then◌ : Course → (Memories → Course) → Course
 first then next = then_from first first.standing next
 
--- what each action comes to; the signature is the part's
+-- What each action leads to; the signature is the part's.
 abbrev pub action_course : Part → Switches → Action → Memories → Course
 action_course part s OpenSession m = reported_course (opening_says s.quiet part) (Ok part.signature) m
 action_course part s EraseChip m = reported_course (erased_says s.quiet part) (Ok tt) (effect part Erase m)
@@ -59,16 +57,14 @@ abbrev pub actions_course : Part → Switches → List Action → Memories → C
 actions_course part s [] m = fine [] m
 actions_course part s (action ∷ actions) m = action_course part s action m then actions_course part s actions
 
--- all of a session but its end
 abbrev pub working_course : Plan → Memories → Course
 working_course plan m = actions_course plan.part plan.switches (actions plan) m
 
--- what is said at its end: a second fault is not reported, and there is none
+-- The output at its end: nothing after a fault, because a second fault is not reported.
 abbrev pub ending_says : Plan → Standing → List Saying
 ending_says plan Fine = closed_says plan.switches.quiet plan.part (Ok tt)
 ending_says plan _ = []
 
--- all that is said, the status, and the memories at the end
 pub record WholeCourse : Type 0 where
   pub says : List Saying
   pub status : ℕ

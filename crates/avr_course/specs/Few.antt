@@ -1,9 +1,9 @@
--- A line on which few frames go wrong.
+-- A link on which few frames go wrong.
 use Rattle.std.specs.Prelude.{◌≡◌, ℕ, zero, suc, ◌+◌, ◌≤◌, List, [], ◌∷◌}
 use Rattle.stk_emu.specs.Turn.{Turn, Became, Kept, Obeyed, Anew, Instead, Refusal, Nothing, Babble, Ending, Right, Wrong, first_turn, other_turns}
 
--- One, where a question goes wrong; four, where a programmer begins anew or the line ends, since no attempt can succeed
--- after it.
+-- A question that goes wrong counts 1. A restart of the programmer or the end of the link counts 4, because no
+-- attempt can succeed after it.
 abbrev pub bad_became : Became → ℕ
 bad_became Kept = 1
 bad_became Obeyed = 1
@@ -19,30 +19,28 @@ abbrev pub bad : Turn → ℕ
 bad Right = 0
 bad (Wrong became instead) = bad_became became + bad_instead instead
 
--- how badly the first so many frames go wrong
+-- How badly the first `n` frames go wrong.
 abbrev pub bad_in : ℕ → List Turn → ℕ
 bad_in zero turns = 0
 bad_in (suc n) turns = bad (first_turn turns) + bad_in n (other_turns turns)
 
--- of any so many frames in a row at most three go wrong
+-- At most three of any `n` consecutive frames go wrong.
 abbrev pub FewOf : ℕ → List Turn → Type 0
 FewOf n [] = Unit {0}
 FewOf n (turn ∷ turns) = (bad_in n (turn ∷ turns) ≤ 3) × FewOf n turns
 
--- Of any seven frames in a row at most three go wrong: where four attempts of at most two commands fail, four of seven
--- do.
+-- At most three of any seven consecutive frames go wrong. If four attempts of at most two commands fail, four of
+-- seven frames go wrong.
 abbrev pub AreFew : List Turn → Type 0
 AreFew = FewOf 7
 
--- a command is lost
 abbrev pub lost : Turn
 lost = Wrong Kept Nothing
 
--- Each second command is lost: of any six frames in a row three go wrong, and of these seven four.
+-- Every second command is lost: three of any six consecutive frames go wrong, and four of these seven.
 abbrev pub each_second : List Turn
 each_second = lost ∷ Right ∷ lost ∷ Right ∷ lost ∷ Right ∷ lost ∷ []
 
--- all turns to come are right
 abbrev pub AreGood : List Turn → Type 0
 AreGood [] = Unit {0}
 AreGood (turn ∷ turns) = (turn ≡ Right) × AreGood turns

@@ -1,9 +1,9 @@
--- what a line does to a conversation with the emulated programmer, and what holds along it
+-- what a link does to a conversation with the emulated programmer, and what holds along it
 pub mod AnyTape
 pub mod NoFrame
 pub mod Few
 pub mod Tallies
--- what a run makes of a chip, does and says, over any line
+-- what a run makes of a chip, does and reports, over any link
 pub mod Items
 pub mod Bound
 pub mod Agrees
@@ -15,7 +15,7 @@ pub mod Told
 pub mod Outcome
 pub mod Again
 pub mod AnyLine
--- of the crates below, what public contracts name
+-- of the crates below, the definitions that public contracts cite
 pub use Rattle.avr_desk.specs.Record
 pub use Rattle.avr_desk.specs.Said
 pub use Rattle.avr_image.specs.Image

@@ -1,4 +1,4 @@
--- How many strokes of a plan have been completed along a line, each by all of its commands.
+-- The writes of a plan that have been completed along a link, each by all of its commands.
 use Rattle.std.specs.Prelude.{ℕ, suc, List, [], ◌∷◌, Ok, Err}
 use Rattle.avr_cli.specs.declared.settings.Switches.{Switches}
 use Rattle.avr_part.specs.Part.{Part}
@@ -17,15 +17,14 @@ use Rattle.stk_emu.specs.Strokes.{all_steps}
 use Rattle.avr_course.specs.Tallies.{Count, then_count}
 use Rattle.avr_course.specs.Items.{action_items}
 
--- one more step, where it was completed
+-- Counts a step if it was completed.
 abbrev pub step_count : Dialog ⊥ StepOutcome → ℕ → ℕ
 step_count (Done (Ok bytes)) more = suc more
 step_count (Done (Err fault)) more = 0
 step_count (Say e dialog) more = 0
 step_count (Ask bytes go_on) more = 0
 
--- How many steps have been completed after so many questions, along the line: by what its turns bring, not by what
--- somebody heard.
+-- The steps completed after `k` questions along the link, by what its turns bring, not by what was received.
 abbrev pub steps_done : {P : Type 0} → Device P → List (List Command) → ℕ → P → List Turn → ℕ
 steps_done m [] k p turns = 0
 steps_done m (commands ∷ steps) k p turns =
@@ -35,11 +34,11 @@ steps_done m (commands ∷ steps) k p turns =
 abbrev pub none_made : Count Programmer
 none_made k p turns = 0
 
--- an action makes the strokes of its items, and to open, to compare and to save makes none
+-- An action makes the writes of its items; opening, comparing and saving make none.
 abbrev pub action_made : Part → Action → Count Programmer
 action_made part action = steps_done device (all_steps part (action_items action))
 
--- the next actions, which are left out after a fault
+-- The next actions, which a fault skips.
 abbrev pub made_unless_fault : Count Programmer → Standing → Count Programmer
 made_unless_fault next Fine = next
 made_unless_fault next _ = none_made
@@ -49,6 +48,6 @@ actions_made part s [] = none_made
 actions_made part s (action ∷ actions) =
     then_count device (phase part s action) (action_made part action) (made_unless_fault (actions_made part s actions))
 
--- the end of a session makes none
+-- The end of a session makes none.
 abbrev pub made_by : Plan → Count Programmer
 made_by plan = actions_made plan.part plan.switches (actions plan)

@@ -1,4 +1,4 @@
--- What a run leaves in a chip, whatever the line did.
+-- What a run leaves in a chip, whatever the link did.
 use Rattle.std.specs.Prelude.{ℕ, suc, ◌≡◌, ◌≤◌, ◌-◌, List, take}
 use Rattle.avr_desk.specs.Said.{Saying}
 use Rattle.avr_plan.specs.Plan.{Plan}
@@ -11,17 +11,18 @@ use Rattle.avr_course.specs.Agrees.{Agrees}
 use Rattle.avr_course.specs.Course.{course}
 use Rattle.avr_course.specs.Made.{made_by}
 
--- what the steps of a plan write, one after another: its erase, and the parts of its writes
+-- The single writes of a plan, `strokes` in names: its erase, and the parts of its writes.
 abbrev pub strokes : Plan → List Item
 strokes plan = strokes_of (all_steps plan.part (items plan))
 
--- Memories before a run and after it: those of the first so many strokes.
+-- The memories after some number of first writes.
 pub record IsTouched (plan : Plan) (before after : Memories) : Type 0 where
   pub count : ℕ
   pub memories : after ≡ effects plan.part (take count (strokes plan)) before
 
--- The same, sharper, after so many frames over a line of these turns: at least as many strokes as have been completed
--- by then, and at most one more than had before the last frame, whose answer may not have come; none without a frame.
+-- The same, sharper, after this many frames over a link with these turns. At least the writes completed by then were
+-- made. At most one more was made than had been completed before the last frame, whose answer may not have come.
+-- Without a frame none was made.
 pub record MakesStrokes (plan : Plan) (p : Programmer) (turns : List Turn) (frames : ℕ)
     (before after : Memories) : Type 0 where
   pub count : ℕ
@@ -30,12 +31,12 @@ pub record MakesStrokes (plan : Plan) (p : Programmer) (turns : List Turn) (fram
   pub none : frames ≡ 0 → count ≡ 0
   pub memories : after ≡ effects plan.part (take count (strokes plan)) before
 
--- After a run of status 0: all that the plan writes was written, and all that it compares agreed.
+-- After status 0: all that the plan writes was written, and all that it compares agreed.
 pub record IsDone (plan : Plan) (before after : Memories) : Type 0 where
   pub memories : after ≡ effects plan.part (items plan) before
   pub agrees : Agrees plan before
 
--- A run that went as its course says, over a perfect line: what was said, its status, and the memories.
+-- The output, the status and the memories are those of the expected run.
 pub record IsCourse (plan : Plan) (before after : Memories) (says : List Saying) (status : ℕ) : Type 0 where
   pub said : says ≡ (course plan before).says
   pub status_is : status ≡ (course plan before).status

@@ -1,4 +1,4 @@
--- That what a run tells is true of the chip where it tells it.
+-- What a run reports is true of the chip when it is reported.
 use Rattle.std.specs.Prelude.{ℕ, zero, suc, ◌≡◌, ◌⊎◌, List, [], ◌∷◌, ◌++◌, length, Contains, Err, ⊤, codes, decimal}
 use Rattle.avr_desk.specs.Record.{Bytes}
 use Rattle.avr_cli.specs.declared.update.Format.{Format}
@@ -22,7 +22,7 @@ use Rattle.stk_emu.specs.Turn.{Turn, after_turn, turn_reading, first_turn, other
 use Rattle.avr_course.specs.Agrees.{Shows}
 use Rattle.avr_course.specs.Items.{items}
 
--- Whatever a dialog says along a line holds of the programmer that obeyed what was asked before.
+-- Each output of a dialog along a link holds of the programmer that obeyed the questions before it.
 abbrev pub TellsTrue : {E R P : Type 0} → Device P → (P → E → Type 0) → ℕ → Dialog E R → P → List Turn → Type 0
 TellsTrue m IsTrue k (Done r) p turns = ⊤
 TellsTrue m IsTrue k (Say e dialog) p turns = IsTrue p e × TellsTrue m IsTrue k dialog p turns
@@ -31,19 +31,20 @@ TellsTrue m IsTrue (suc k) (Ask bytes go_on) p turns =
     TellsTrue m IsTrue k (go_on (turn_reading (first_turn turns) (m.answer bytes p)))
     (after_turn (first_turn turns) (m.after bytes p) p m.reset) (other_turns turns)
 
--- the line of a memory: so many bytes were written, verified or read
+-- The line for `count` bytes of a memory that were written, verified or read.
 abbrev pub count_line : Mem → ℕ → Bytes → Saying
 count_line mem count done = Line (information (name_of mem ∷ codes ": " ∷ decimal count ∷ done ∷ []))
 
--- what a plan keeps of a memory that it reads: the chip's bytes
+-- What a plan keeps of a memory that it reads: the chip's bytes.
 abbrev pub kept_in : Plan → Mem → Memories → List ℕ
 kept_in plan mem now = kept_of mem plan.switches.all (memory_in plan.part mem now)
 
--- What is reported in a run of a plan, and what of it holds of the memories now, by those before the run. That the chip
--- is erased: the plan's erase has been done, and nothing else. That bytes are written: the plan's items up to this
--- write have been done. That they are verified: the plan compares the memory with this image, and the memory holds it.
--- What is saved, and counted as read, is what the memory has; and a difference reported is one that is there. Else: the
--- chip's signature, what the plan leaves out, why a step has failed, and the end.
+-- What a run of a plan reports, and what it means for the memories now, given those before the run.
+--
+-- ChipErased: the plan's erase has been done, and nothing else. BytesWritten: the plan's items up to this write have
+-- been done. BytesVerified: the plan compares the memory with this image, and the memory holds it. BytesSaved,
+-- BytesRead: the memory has what is saved. Differed: the reported difference exists. The others report the chip's
+-- signature, what the plan skips, why a step failed, and the end.
 pub data IsTrue (plan : Plan) (before now : Memories) (saying : Saying) : Type 0 where
   SignatureRead : saying ≡ Line (information (codes "device signature = " ∷ spaced_digits plan.part.signature ∷ []))
       → IsTrue plan before now saying
@@ -72,7 +73,7 @@ pub data IsTrue (plan : Plan) (before now : Memories) (saying : Saying) : Type 0
       → IsTrue plan before now saying
   SessionDone : saying ≡ Line (information (codes "done" ∷ [])) → IsTrue plan before now saying
 
--- Whatever is said among events holds of the programmer as the frames sent before it left it, by their turns.
+-- Each output among the events holds of the programmer as the frames sent before it left it, by their turns.
 abbrev pub SaidTrue : {E P : Type 0} → Device P → (P → E → Type 0) → List (Event E) → List Turn → P → Type 0
 SaidTrue m IsTrue [] turns p = ⊤
 SaidTrue m IsTrue (Frame bytes ∷ events) turns p =

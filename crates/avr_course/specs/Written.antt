@@ -1,4 +1,4 @@
--- What the memories hold after a verified run of status 0, address by address.
+-- What the memories hold after a verified run with status 0, address by address.
 use Rattle.std.specs.Prelude.{ℕ, true, false, ◌≡◌, ◌==◌, ◌<◌, ◌⊎◌, ◌&&◌, not, bit_and, List, [], ◌∷◌, length, slice_index, Some, None, if◌then◌else◌, ⊤}
 use Rattle.avr_image.specs.Image.{empty, byte_at, over}
 use Rattle.avr_part.specs.Part.{Part, size_of}
@@ -18,7 +18,7 @@ memory_number Lock = 5
 memory_number Signature = 6
 memory_number Calibration = 7
 
--- the images that items write to a memory, laid over each other: a later one's byte stands
+-- The images that items write to a memory, later over earlier.
 abbrev pub written_to : Part → Mem → List Item → Image
 written_to part mem [] = empty (size_of mem part)
 written_to part mem (Erase ∷ items) = written_to part mem items
@@ -29,9 +29,9 @@ written_to part mem (Write other image ∷ items) =
 abbrev pub byte_in : Part → Mem → ℕ → Memories → ℕ
 byte_in part mem addr m = slice_index (memory_in part mem m) addr
 
--- After these items each memory has its size, and holds the images written to it. Elsewhere flash is FF where the chip
--- was erased, and EEPROM too, unless its fuse keeps it; else they are as before. A fuse that wasn't written is as
--- before, and a lock that wasn't is open after an erase.
+-- After these items each memory has its size, and holds the images written to it. The rest of flash is FF if the chip
+-- was erased, and so is the rest of EEPROM unless its fuse keeps it; otherwise both are as before. A fuse that wasn't
+-- written is as before, and a lock that wasn't written is open after an erase.
 pub record IsWritten (part : Part) (items : List Item) (before after : Memories) : Type 0 where
   pub flash_size : length after.flash ≡ part.flash_size
   pub eeprom_size : length after.eeprom ≡ part.eeprom_size
@@ -51,12 +51,11 @@ pub record IsWritten (part : Part) (items : List Item) (before after : Memories)
   pub lock : byte_at (written_to part Lock items) 0 ≡ None
       → after.lock ≡ (if has_erase items then 255 else before.lock)
 
--- an item writes an image to flash that has this byte at an address
+-- An item writes an image to flash with this byte at this address.
 abbrev pub Brings : Item → ℕ → ℕ → Type 0
 Brings (Write Flash image) addr byte = byte_at image addr ≡ Some byte
 Brings item addr byte = ⊥
 
--- one of some items does
 abbrev pub IsThere : List Item → ℕ → ℕ → Type 0
 IsThere [] addr byte = ⊥
 IsThere (item ∷ items) addr byte = Brings item addr byte ⊎ IsThere items addr byte
@@ -69,8 +68,8 @@ abbrev pub and_all : ℕ → List ℕ → ℕ
 and_all first [] = first
 and_all first (byte ∷ bytes) = and_all (bit_and first byte) bytes
 
--- A byte of flash before some items and after them: it is the one before, or the FF of an erase, AND the bytes that
--- none, one or more of the images have there that are written to flash.
+-- A byte of flash before and after some items. It is the byte before, or the FF of an erase, AND the bytes at this
+-- address of none, one or more images written to flash.
 pub record IsMade (items : List Item) (addr before after : ℕ) : Type 0 where
   pub first : ℕ
   pub bytes : List ℕ
@@ -78,20 +77,21 @@ pub record IsMade (items : List Item) (addr before after : ℕ) : Type 0 where
   pub are_there : AreThere items addr bytes
   pub is : after ≡ and_all first bytes
 
--- no image among these items has a byte of this memory at an address
+-- No image among these items has a byte of this memory at this address.
 abbrev pub LeaveFree : List Item → Mem → ℕ → Type 0
 LeaveFree [] mem addr = ⊤
 LeaveFree (Erase ∷ items) mem addr = LeaveFree items mem addr
 LeaveFree (Write other image ∷ items) mem addr =
     (memory_number other ≡ memory_number mem → byte_at image addr ≡ None) × LeaveFree items mem addr
 
--- These items erase the chip, and lay no other image where this one has bytes.
+-- These items erase the chip, and write no other image at the addresses of this one.
 abbrev pub IsErasedFor : Mem → Image → List Item → Type 0
 IsErasedFor mem image items = (has_erase items ≡ true)
     × ((addr byte : ℕ) → byte_at image addr ≡ Some byte → LeaveFree items mem addr)
 
--- What lets a memory take an image after some items that left the chip so: it isn't locked, and where a write can only
--- clear bits, in flash and in the lock, it was erased for the image. What can't be written takes none.
+-- When a memory takes an image after some items that left the chip like this. Flash, EEPROM and fuses must not be
+-- locked. Flash and the lock, in which a write only clears bits, must be erased for the image. A memory that can't be
+-- written takes none.
 abbrev pub IsTaken : Mem → Image → List Item → Memories → Type 0
 IsTaken Flash image items m = (are_locked m ≡ false) × IsErasedFor Flash image items
 IsTaken Eeprom image items m = are_locked m ≡ false

@@ -1,4 +1,4 @@
-//! When the same run again comes to what one run comes to, and when it succeeds whatever the chip was. No code.
+//! Laws of running the same run again, and of succeeding whatever the chip held. No code.
 #![tactic(auto)]
 
 ghost use Rattle.std.specs.Prelude.{◌≡◌, ℕ, true, take, All};
@@ -12,8 +12,8 @@ ghost use Rattle.avr_course.specs.Course.{course};
 ghost use Rattle.avr_course.specs.Items.{items, has_erase};
 ghost use Rattle.avr_course.specs.Outcome.{strokes, IsTouched, IsDone};
 
-/// A plan comes, over the memories that any first strokes of it left, to what it comes to over those before. Only where
-/// it erases and the chip keeps EEPROM at an erase, each byte that it writes to the high fuse must keep it too.
+/// States that a plan leaves the same memories if some of its first writes were made before. If the plan erases and
+/// the chip keeps EEPROM at an erase, each byte that it writes to the high fuse must keep it too.
 pub fn a_second_run_heals_the_first()
     ensures { (plan : Plan) (k : ℕ) (m : Memories) → IsPart plan.part → All (IsFitted plan.part) plan.tasks
         → FitsPart plan.part m
@@ -23,8 +23,9 @@ pub fn a_second_run_heals_the_first()
         ≡ effects plan.part (items plan) m }
 {}
 
-/// A plan that erases, and whose comparisons agree on a chip of nothing but 00 and on one of nothing but FF, agrees on
-/// every chip: so its course has status 0, whatever the chip was. What agrees on every chip agrees on these two.
+/// States that a plan with an erase agrees on every chip if its comparisons agree on a chip of 00 and on one of FF.
+/// Its expected run then has status 0, whatever the chip held. `needed`: a plan that agrees on every chip agrees on
+/// these two.
 pub fn what_agrees_on_two_chips_agrees_on_all()
     ensures agrees { (plan : Plan) (m : Memories) → FitsPart plan.part m
         → has_erase (items plan) ≡ true → AgreesAnyway plan → Agrees plan m }
@@ -34,9 +35,9 @@ pub fn what_agrees_on_two_chips_agrees_on_all()
     ensures needed { (plan : Plan) → ((m : Memories) → FitsPart plan.part m → Agrees plan m) → AgreesAnyway plan }
 {}
 
-/// Whatever a run left that was broken off: the course of the same run again has status 0, and the memories that one
-/// run would have left. And a second run of status 0, whatever its line does, has left what a first one does that is
-/// not broken off.
+/// States that the same run again heals what a broken-off run left. Its expected run has status 0, and leaves the
+/// memories that one run would have left. `done`: a second run with status 0, whatever its link does, leaves what a
+/// first run leaves that is not broken off.
 pub fn the_same_run_again_heals()
     ensures touched { (plan : Plan) (before after : Memories) → IsPart plan.part → All (IsFitted plan.part) plan.tasks
         → FitsPart plan.part before

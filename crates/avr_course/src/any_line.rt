@@ -1,4 +1,4 @@
-//! What a run leaves in a chip, whatever the line does, and in which order; and how much it sends. No code.
+//! Laws of what a run leaves in a chip and how much it sends, whatever the link does. No code.
 #![tactic(auto)]
 
 ghost use Rattle.std.specs.Prelude.{◌≡◌, ◌*◌, ◌++◌, ℕ, Bool, List, [], All, Some, take};
@@ -39,8 +39,8 @@ ghost use Rattle.avr_course.specs.Made.{made_by};
 ghost use Rattle.avr_course.specs.Told.{TellsTrue, IsTrue};
 ghost use Rattle.avr_course.specs.Outcome.{strokes};
 
-/// At each moment of a session the memories are those of the first strokes of its plan, in their order: of those that
-/// were completed, and perhaps of one more.
+/// States that at each moment of a session the memories are those of the first writes of its plan, in order: those
+/// completed, and perhaps one more.
 pub fn a_run_makes_its_strokes_in_order()
     ensures { (plan : Plan) (m : Memories) (p : Programmer) (turns : List Turn)
         → IsPart plan.part → All (IsFitted plan.part) plan.tasks → FitsPart plan.part m → Idle plan.part m p
@@ -48,30 +48,31 @@ pub fn a_run_makes_its_strokes_in_order()
         ≡ effects plan.part (take j (strokes plan)) m) p turns }
 {}
 
-/// Whatever the line does, a run sends at most four times as many frames as there are commands in all the steps that
-/// its plan may take, also where it breaks off.
+/// States that a run sends at most four frames for each command in the steps of its plan, counted over all steps.
+/// This holds whatever the link does, and also if the run breaks off.
 pub fn a_run_sends_at_most_four_times_its_commands()
     ensures { (plan : Plan) → SendsAtMost SaidPart (4 * commands_in (run_steps plan)) (session plan) }
 {}
 
-/// How long a run can take, without a clock: whatever the line does, at most one silence comes for each frame sent, so
-/// at most four times as many as its steps have commands; and at most 4,096 bytes are read for each.
+/// Bounds how long a run can take, without a clock, whatever the link does. At most one timeout occurs for each frame
+/// sent, so at most four times as many as the steps have commands. At most 4,096 bytes are read for each frame.
 pub fn a_run_listens_at_most_once_for_each_frame()
     ensures { (plan : Plan) → IsPart plan.part → All (IsFitted plan.part) plan.tasks
         → ListensAtMost (4 * commands_in (run_steps plan)) (session plan) }
 {}
 
-/// Whatever the line does and whatever the status: each thing reported is true of the chip as it then is, so each line
-/// of a run that failed later can be believed. What was written is there as the plan's writes so far make it, what was
-/// verified is held, what was read and saved is what the chip has, and a difference reported is one.
+/// States that everything reported is true of the chip at that moment, whatever the link does and whatever the
+/// status. So each line of a run that failed later can be trusted. What was written is there as the plan's writes so
+/// far make it, and what was verified is held. What was read and saved is what the chip has, and a reported
+/// difference exists.
 pub fn what_a_run_tells_is_true()
     ensures { (plan : Plan) (m : Memories) (k : ℕ) (p : Programmer) (turns : List Turn)
         → IsPart plan.part → All (IsFitted plan.part) plan.tasks → FitsPart plan.part m → Idle plan.part m p
         → TellsTrue device (λ q saying. IsTrue plan m (memories_of q.chip) saying) k (session plan) p turns }
 {}
 
-/// Whatever was reported over a wire was true of the chip when it was told: of a session that was played to its end all
-/// of it, and of one that stopped all that it did whole.
+/// States that everything reported over a wire was true of the chip at that moment. This covers all output of a
+/// session that ran whole, and all whole events of one that stopped.
 pub fn what_was_told_was_true()
     ensures played { (plan : Plan) (w v : WiredState) (d e : DeskView) (status : ℕ)
         → w.talk ≡ [] → OverAnyLine plan w v d e status
@@ -83,10 +84,12 @@ pub fn what_was_told_was_true()
         → WereTrue plan (fresh_programmer w.wire.programmer.chip) (turns_of w.wire.fates) stopped.breaks.prefix.whole }
 {}
 
-/// Whatever the line does, and at each moment: a session has said what its course says, or as much of it as its first
-/// actions say, each of which came to its end, or after that the line of the step that failed, and no more. With a
-/// status it has said the first, with the status of its course, or the last, with status 1. And what first actions say
-/// is the course's, from its beginning.
+/// States that a session outputs its expected run up to a fault, at each moment and whatever the link does. Its
+/// output so far is that of the expected run, or of its first actions, each of which ended. After these at most the
+/// line of a failed step follows.
+///
+/// With a status the output is all of the expected run, with its status, or the output up to a failed step, with
+/// status 1. The output of first actions is a prefix of the expected run's.
 pub fn a_session_says_its_course_up_to_a_fault()
     ensures moment { (plan : Plan) (m : Memories) (k : ℕ) (p : Programmer) (turns : List Turn)
         → IsPart plan.part → All (IsFitted plan.part) plan.tasks → FitsPart plan.part m → Idle plan.part m p
@@ -100,12 +103,14 @@ pub fn a_session_says_its_course_up_to_a_fault()
         → (later : List Saying) × ((course plan m).says ≡ says ++ later) }
 {}
 
-/// Over any link at all, as long as it makes no answer: it may lose, spoil, cut, delay, hold and repeat what it likes.
-/// The session goes along the turns of its questions, which what was read and what became of the programmer make, and
-/// did what the page says. In bytes: whatever bytes the programmer got, of whose good frames each is one of those sent,
-/// in their order, and whatever tape came back, on which each good frame that the host cuts is one of the programmer's
-/// last answers or a refusal. And however a session ends, so that any prefix of its bytes was sent: the memories are
-/// those of its first strokes, and it has said no more than its course says, up to the line of a step that failed.
+/// States what a session does over any link that forges no answer. The link may lose, spoil, cut, delay, hold and
+/// repeat anything. The session goes along the turns of its questions, which follow from what was read and what
+/// happened to the programmer. It does what the page says.
+///
+/// `bytes` states this in bytes. The programmer may have got any bytes whose good frames are some of those sent, in
+/// order. The tape that came back is any on which each good frame that the host cuts is one of the programmer's last
+/// answers, or a refusal. `end` holds however a session ends, so that any prefix of its bytes was sent. The memories
+/// are those of its first writes. Its output is the expected run's, up to the line of a failed step.
 pub fn a_session_over_any_line()
     ensures turns { (plan : Plan) (s : Chip) (becames : List Became) (bytes : List ℕ)
         (tape left : Tape) (events : List (Event Saying)) (status next : ℕ)
@@ -132,10 +137,9 @@ pub fn a_session_over_any_line()
         (turns_heard (session plan) 1 tape becames) bytes (played (session plan) 1 tape).events }
 {}
 
-/// Whatever becomes of a session over a link over which nothing had passed, so that it is played or breaks off, also
-/// since that link failed: as long as no frame is made, the memories are those of its first strokes, as many as was
-/// completed by what was heard and at most one more, and it has said no more than its course says, up to the line of a
-/// step that failed.
+/// States what a session leaves that ran whole or broke off, also because its link failed, over a link over which
+/// nothing had passed. If no frame is forged, the memories are those of its first writes: as many as were completed
+/// by what was received, and at most one more. Its output is the expected run's, up to the line of a failed step.
 pub fn whatever_becomes_of_a_session_its_first_strokes_were_made()
     ensures { (plan : Plan) (s : Chip) (got : List ℕ) (through : List Bool) (old new : Devices) (status : ℕ)
         → IsSoundChip s → s.part ≡ plan.part → All (IsFitted plan.part) plan.tasks

@@ -1,5 +1,5 @@
-//! Laws of a conversation with the emulated programmer over a bad line: what a line does to a question is a turn, and a
-//! conversation goes along the turns question by question, over a wire and over any tape on which no frame is made.
+//! Laws of a conversation with the emulated programmer over a bad link. What a link does to a question is a turn. A
+//! conversation goes along the turns question by question, over a wire and over any tape without forged frames.
 
 ghost use Rattle.std.specs.Prelude.{filter, true, ◌≡◌, ◌++◌, ℕ, List, [], ◌∷◌, Ok, Bool, length, replicate, ◌<◌, ◌≤◌, Err};
 ghost use Rattle.avr_part.specs.Part.{Part, IsPart};
@@ -26,9 +26,9 @@ ghost use Rattle.avr_course.specs.Few.{AreFew, FewOf, lost, each_second, AreGood
 ghost use Rattle.stk_host.specs.declared.fault.StepFault.TheVariants.{NoAnswer};
 ghost use Rattle.stk_frame.specs.declared.command.Command.TheVariants.{LoadAddress};
 
-/// Where of any seven frames in a row at most three go wrong, a step comes to what it gives, and the line after it is
-/// such a line; so a play of steps comes to all that they give. A good line is the simplest one. The bound is sharp:
-/// four lost commands in a row are too many, and of any six frames three are, where each second one is lost.
+/// States that steps bring all their data if at most three of any seven consecutive frames go wrong. After each step
+/// the link is still such a link. A good link is the simplest case. The bound is sharp: four lost commands in a row
+/// are too many, and so are three lost of any six, if every second one is lost.
 pub fn few_bad_fates_bring_all_data()
     ensures step { (part : Part) (commands : List Command) (m : Memories) (k : ℕ) (p : Programmer) (turns : List Turn)
         → IsPart part → IsStep part commands → FitsPart part m → Ready part m p → AreFew turns → 8 ≤ k
@@ -50,10 +50,9 @@ pub fn few_bad_fates_bring_all_data()
         ≡ Done (Err NoAnswer) }
 {}
 
-/// Whatever the line does, as long as it makes no answer: a conversation that is played over any tape goes along turns,
-/// one for each frame sent. The programmer, whatever bytes it got, of whose good frames each is one of those sent, in
-/// their order, stands as along these turns; and what the conversation says and comes to is what it says and comes to
-/// there.
+/// States that a conversation over any tape goes along turns, one for each frame sent, as long as the link forges no
+/// answer. The programmer may have got any bytes whose good frames are some of those sent, in order. Then it is the
+/// programmer along these turns, and the conversation has the same output and result as along them.
 pub fn over_any_tape_a_conversation_goes_along_turns<E, R>()
     ensures goes { (d : Dialog E R) (n : ℕ) (tape : Tape) (p : Programmer) (becames : List Became)
         → AsksBodies d → AreHonest device d n tape p becames → GoesAs device d n tape p becames }
@@ -62,15 +61,15 @@ pub fn over_any_tape_a_conversation_goes_along_turns<E, R>()
         → after_frames device (frames got) p ≡ after_sent device sent (became_by through) p }
 {}
 
-/// On a line that makes no frame all that is read is honest, from the first frame on: an answer that is taken has the
-/// number of its question, and among the last 256 answers only the one to that question has it.
+/// States that everything read on a link that forges no frame is honest, from the first frame on. An answer that is
+/// taken has the number of its question, and of the last 256 answers only the one to that question has it.
 pub fn a_line_that_makes_no_frame_is_honest<E, R>()
     ensures { (d : Dialog E R) (n : ℕ) (tape : Tape) (p : Programmer) (becames : List Became)
         → MakesNoFrame device d n tape p becames [] → AreHonest device d n tape p becames }
 {}
 
-/// A wire with fates is such a line, and a programmer that got a prefix of the bytes sent, as over a line that keeps
-/// their order, got some of the frames.
+/// States that a wire with fates is such a link. A programmer that got a prefix of the bytes sent, as over a link
+/// that keeps their order, got some of the frames.
 pub fn a_wire_is_an_honest_line<E, R>()
     ensures wire { (d : Dialog E R) (n : ℕ) (w : Wire Programmer) (sent more : List (List ℕ)) → AsksBodies d
         → IsClear n w.late → AreLawful w.fates

@@ -1,4 +1,4 @@
-//! What a run does over a line on which few frames go wrong. No code.
+//! Laws of a run over a link on which few frames go wrong. No code.
 #![tactic(auto)]
 
 ghost use Rattle.std.specs.Prelude.{◌≡◌, ◌≤◌, ◌*◌, ℕ, List, All};
@@ -17,9 +17,9 @@ ghost use Rattle.stk_emu.specs.Turn.{Turn};
 ghost use Rattle.avr_session.specs.PlanSteps.{run_steps};
 ghost use Rattle.avr_course.specs.Course.{course};
 
-/// Where of any seven frames in a row at most three go wrong (a reset of the programmer counts four), a session is done
-/// after at most four times its commands, and one that is done has said what its course says, and no more, with its
-/// status and its memories.
+/// States when a session is its expected run: if at most three of any seven consecutive frames go wrong, and a
+/// restart of the programmer counts as four. It is done after at most four times its commands, with the expected
+/// run's output, status and memories.
 pub fn a_run_with_few_bad_frames_has_its_course()
     ensures done { (plan : Plan) (m : Memories) (k : ℕ) (p : Programmer) (turns : List Turn)
         → IsPart plan.part → All (IsFitted plan.part) plan.tasks → FitsPart plan.part m → Idle plan.part m p

@@ -1,17 +1,17 @@
-//! Laws of what a run leaves in the chip, whatever the line loses, delays and spoils: its course.
+//! Laws of what a run leaves in the chip, whatever the link loses, delays and spoils: its expected run.
 //!
-//! No code stands here: a law is a function with an empty body, and its contract a theorem on definitions alone. The
-//! one idea: the session of a plan goes along the turns of its line command by command, and at each moment the memories
-//! are what its first strokes make of them.
+//! There is no code here: a law is a function with an empty body, and its contract is a theorem about definitions
+//! alone. The session of a plan goes along the turns of its link command by command, and at each moment the memories
+//! are those of its first writes.
 #![tactic(auto)]
 
-// what a second run makes of what a first one left
+// a second run after a first one
 mod again;
-// what a run leaves, tells and sends over any line
+// what a run leaves, reports and sends over any link
 mod any_line;
-// what it does over a line on which few frames go wrong
+// a run over a link on which few frames go wrong
 mod few_bad_frames;
-// what becomes of a conversation over any line
+// a conversation over any link
 mod conversations;
 // what a plan writes, address by address
 mod written;

@@ -1,4 +1,4 @@
-//! What a plan writes, and what the memories hold after a verified run, address by address. No code.
+//! Laws of what a plan writes, and what the memories hold after a verified run, address by address. No code.
 #![tactic(auto)]
 
 ghost use Rattle.std.specs.Prelude.{◌≡◌, ◌↔◌, ◌<◌, ◌++◌, ◌∷◌, [], ℕ, false, List, All, length, map};
@@ -17,22 +17,23 @@ ghost use Rattle.avr_course.specs.Items.{asked_items, items};
 ghost use Rattle.avr_course.specs.Outcome.{strokes, IsTouched, IsDone};
 ghost use Rattle.avr_course.specs.Written.{IsMade, IsTaken, IsWritten, byte_in, written_to};
 
-/// What a plan does to a chip, by its switches and its tasks: nothing in a dry run; else an erase, where that is due,
-/// and the writes of its tasks in their order.
+/// States what a plan does to a chip, in terms of its switches and tasks. A dry run does nothing. Any other run
+/// erases if an erase is due, and then makes the writes of its tasks in order.
 pub fn a_plan_writes_what_its_tasks_write()
     ensures { (plan : Plan) → items plan ≡ asked_items plan }
 {}
 
-/// The status of a course is 0 exactly where its comparisons agree, and then it has done all that its plan writes.
+/// States that an expected run has status 0 if and only if its comparisons agree. Then it has done all that its plan
+/// writes.
 pub fn a_course_succeeds_where_it_agrees()
     ensures status { (plan : Plan) (m : Memories) → (course plan m).status ≡ 0 ↔ Agrees plan m }
     ensures memories { (plan : Plan) (m : Memories) → Agrees plan m
         → (course plan m).memories ≡ effects plan.part (items plan) m }
 {}
 
-/// After a verified run of status 0 each memory holds the images that were written to it, laid over each other, and
-/// nothing else changed but what an erase erased; and a further run that compares memories with these images succeeds
-/// over a good line.
+/// States that after a verified run with status 0 each memory holds the images written to it, later over earlier.
+/// Nothing else changed except what an erase erased. A further run that compares memories with these images succeeds
+/// over a good link.
 pub fn a_verified_run_leaves_its_images()
     ensures images { (plan : Plan) (before after : Memories)
         → IsPart plan.part → All (IsFitted plan.part) plan.tasks → FitsPart plan.part before
@@ -49,9 +50,9 @@ pub fn a_verified_run_leaves_its_images()
         }) after).status ≡ 0 }
 {}
 
-/// A byte of flash, whatever was done: the one before or the FF of an erase, AND the bytes that none, one or more of
-/// the images have there that are written to flash. After a run that did all of its plan these are the plan's images;
-/// after any other, those of its strokes, each a page.
+/// States how a byte of flash is made, whatever was done. It is the byte before, or the FF of an erase, AND the bytes
+/// at this address of none, one or more images written to flash. After a run that did its whole plan these are the
+/// plan's images; after any other run they are those of its page writes.
 pub fn a_byte_of_flash_is_made_by_images()
     ensures items { (part : Part) (items : List Item) (m : Memories) (addr : ℕ) → addr < length m.flash
         → IsMade items addr (byte_in part Flash addr m) (byte_in part Flash addr (effects part items m)) }
@@ -63,9 +64,10 @@ pub fn a_byte_of_flash_is_made_by_images()
         → IsMade (strokes plan) addr (byte_in plan.part Flash addr before) (byte_in plan.part Flash addr after) }
 {}
 
-/// After the line that an image was written the memory holds it, where it can: unless the memory was locked then, or
-/// is flash or the lock and was not erased by the same plan before, or had another image laid over the same place
-/// since. Elsewhere `written` says that each command was answered with OK, and only `verified` what is there.
+/// States when a memory holds an image after the line that it was written. EEPROM and fuses: the chip was not locked.
+/// Flash: moreover, the same plan erased it before, and wrote no other image at the same addresses. The lock: the
+/// plan did the same for it. Otherwise `written` means only that each command was answered with OK, and `verified`
+/// what is there.
 pub fn what_is_written_is_there()
     ensures { (part : Part) (before now : Memories) (mem : Mem) (image : Image) (first : List Item)
         → HoldsBytes image → now ≡ effects part (first ++ Write mem image ∷ []) before

@@ -23,23 +23,23 @@ use Rattle.avr_session.specs.Run.{RunsSession}
 use Rattle.avr_session.specs.Runs.{devices}
 use Rattle.avr_course.specs.AnyLine.{OverAnyLine}
 
--- The chip's file is replaced if anything was sent, else only released; where it can't be, the status is 1.
+-- The chip's file is replaced if anything was sent, otherwise only unlocked. If it can't be replaced, the status is
+-- 1.
 abbrev pub IsSaved : List ℕ → DeskView → DeskView → Bytes → Bytes → ℕ → ℕ → Type 0
 IsSaved [] old now file bytes ran status = (now ≡ released old) × (status ≡ ran)
 IsSaved (byte ∷ sent) old now file bytes ran status =
     (Saves old now file bytes (Ok tt) × (status ≡ ran))
     ⊎ ((fault : ℕ) × Saves old now file bytes (Err fault) × (status ≡ 1))
 
--- a wire to a chip as it begins: nothing is held, waits or has passed, and these are the fates of its frames
+-- A fresh wire to a chip, with these fates.
 abbrev pub new_wire : Chip → List Fate → WiredState
 new_wire chip fates =
     record { held = []; wire = fresh_wire (fresh_programmer chip) fates; waits = []; talk = []; failures = 0 }
 
--- A plan was made, whose images have the sizes of their memories; then the file was held, and a chip of its part, with
--- memories of its sizes, was loaded from it. The session was run, to a status, as over any link, over a new wire to
--- that chip, on which no frame goes wrong: so it is its course, unless it stopped. Then, if anything was sent, the chip
--- as the wire left it was saved to the file; it is held no longer. A failure of the desk in a stage is one since the
--- stage before it.
+-- A plan was made, whose images have the sizes of their memories. The file was locked, and a chip of the plan's part,
+-- with memories of its sizes, was loaded from it. The session ran to a status over a new wire to that chip, on which
+-- no frame goes wrong. Unless it stopped, it is the expected run. If anything was sent, the chip as the wire left it
+-- was saved to the file, which was then unlocked. A failure of the desk in a stage is one since the stage before it.
 pub record RunsOverEmulator (settings : Settings) (file : Bytes) (old now : DeskView) (status : ℕ) : Type 0 where
   pub plan : Plan
   pub chip : Chip
@@ -60,20 +60,19 @@ pub record RunsOverEmulator (settings : Settings) (file : Bytes) (old now : Desk
   pub saved : IsSaved (sent after.talk) played_desk now file (chip_file after.wire.programmer.chip) ran status
   pub in_order : Follows loaded_desk played_desk × Follows played_desk now
 
--- there is a plan, but no chip: nothing was sent
+-- There is a plan but no chip: nothing was sent.
 pub record LacksChip (settings : Settings) (file : Bytes) (old now : DeskView) (status : ℕ) : Type 0 where
   pub plan : Plan
   pub between : DeskView
   pub made : Went (planned settings) old between (Made plan)
   pub refused : HoldsAndLoads plan.part file between now (Err status)
 
--- There is no plan: nothing was sent. Without a part file and updates it is only that no part has the name.
+-- There is no plan: nothing was sent. Without a part file and updates the only fault is an unknown part.
 abbrev pub LacksPlan : Settings → DeskView → DeskView → ℕ → Type 0
 LacksPlan settings old now status =
     Goes (AtUpdate settings) (planned settings) old now (Err status)
     × (settings.parts ≡ None → settings.updates ≡ [] → LacksPart settings.part [] old now)
 
--- a whole run; or there is no chip, or no plan, and the status is 1
 abbrev pub RunsEmulator : Settings → Bytes → DeskView → DeskView → ℕ → Type 0
 RunsEmulator settings file old now status =
     RunsOverEmulator settings file old now status

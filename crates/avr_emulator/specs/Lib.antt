@@ -3,13 +3,13 @@ pub mod Holding
 pub mod Lines
 pub mod Loading
 pub mod Saving
--- serving, and inside, what inner functions promise one another
+-- serving, and inside, contracts of private functions
 pub mod Serving
 pub mod ServedRun
 pub mod Replying
 -- a run over the emulator
 pub mod Emulated
--- of the crates below, what public contracts name
+-- of the crates below, the definitions that public contracts cite
 pub use Rattle.avr_course.specs.AnyLine
 pub use Rattle.avr_desk.specs.Fault
 pub use Rattle.avr_desk.specs.Playing

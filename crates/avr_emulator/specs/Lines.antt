@@ -1,16 +1,14 @@
--- The lines of a chip file that is in use, or of another length. (Lines that any file has stand in avr_desk.)
+-- The lines for a chip file that is in use or has the wrong length. The lines of any file are in avr_desk.
 use Rattle.std.specs.Prelude.{ℕ, List, [], ◌∷◌, codes, decimal}
 use Rattle.avr_desk.specs.Record.{Bytes}
 use Rattle.avr_desk.specs.Lines.{error}
 
--- another one holds it
 abbrev pub in_use_pieces : Bytes → List Bytes
 in_use_pieces file = file ∷ codes ": in use by another run" ∷ []
 
 abbrev pub in_use_line : Bytes → Bytes
 in_use_line file = error (in_use_pieces file)
 
--- it has this many bytes, and a file of the part another number
 abbrev pub length_pieces : Bytes → ℕ → ℕ → List Bytes
 length_pieces file found expected =
     file ∷ codes ": " ∷ decimal found ∷ codes " bytes, " ∷ decimal expected ∷ codes " expected" ∷ []

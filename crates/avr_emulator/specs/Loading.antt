@@ -1,4 +1,4 @@
--- A chip that is loaded, as a function of what the opening of its file gives.
+-- The chip loaded, as a function of what opening its file gives.
 use Rattle.std.specs.Prelude.{◌≡◌, ◌==◌, nat_le, [], ◌∷◌, length, Result, Ok, Err, if◌then◌else◌}
 use Rattle.avr_desk.specs.Record.{Bytes}
 use Rattle.avr_desk.specs.declared.record.Opening.{Opening}
@@ -13,27 +13,26 @@ use Rattle.avr_desk.specs.Stage.{Stage, ◌>>=◌, verdict_stage, open_stage, co
 use Rattle.avr_emulator.specs.declared.loading.TheConstants.{LARGEST_CHIP_FILE}
 use Rattle.avr_emulator.specs.Lines.{length_line}
 
--- the chip of these bytes; another length than the part's is refused
+-- The chip with these bytes; any length but the part's is refused.
 abbrev pub chip_or_line : Part → Bytes → Bytes → Result ChipState Bytes
 chip_or_line part file bytes =
     if length bytes == chip_file_size part then Ok (state_in part bytes)
     else Err (length_line file (length bytes) (chip_file_size part))
 
--- a file past the limit is refused, whatever the part
+-- A file past the limit is refused, whatever the part.
 abbrev pub judged_chip : Part → Bytes → Bytes → Result ChipState Bytes
 judged_chip part file bytes =
     if nat_le (length bytes) LARGEST_CHIP_FILE then chip_or_line part file bytes
     else Err (too_long_line file LARGEST_CHIP_FILE)
 
--- where there is no such file the chip is fresh
+-- If the file doesn't exist, the chip is fresh.
 abbrev pub chip_given : Part → Bytes → Opening → Stage ChipState
 chip_given part file (Absent name) = verdict_stage (Ok (fresh_state part))
 chip_given part file (Found reading) = content_stage file LARGEST_CHIP_FILE (judged_chip part file) (Found reading)
 
--- the chip of this part that its file holds
 abbrev pub chip_stage : Part → Bytes → Stage ChipState
 chip_stage part file = open_stage file >>= chip_given part file
 
--- where memory is taken for it: once its file was opened, or isn't there
+-- Allocation can fail after the file was opened or found missing.
 abbrev pub AtOpened : Taking
 AtOpened passed said = (opening : Opening) × (passed ≡ opening ∷ []) × (said ≡ Opens opening ∷ [])

@@ -21,35 +21,34 @@ use Rattle.avr_emulator.specs.declared.served_run.TheConstants.{READS}
 use Rattle.avr_emulator.specs.declared.serving.Served.{Served}
 use Rattle.avr_emulator.specs.declared.serving.Served.TheVariants.{Ended, RecvFailed, SendFailed, TooManyReads}
 
--- the part of the settings: looked up in the part file, if one is given, before the built-in parts
+-- The part of the settings: in the part file, if one is given, then in the built-in parts.
 abbrev pub settings_part : Settings → Stage Part
 settings_part s = parts_stage s.parts >>= λ parts. part_stage s.part parts
 
--- the file was held, it holds a chip of this part, and it is held no longer
+-- The file was locked, a chip of this part was loaded from it, and it was unlocked.
 pub record JudgedChip (part : Part) (file : Bytes) (old new : DeskView) : Type 0 where
   pub chip : chips.ChipState
   pub loaded_desk : DeskView
   pub loaded : Loaded part file old loaded_desk chip
   pub released_is : new ≡ released loaded_desk
 
--- a file is judged as that of a chip of this part, which stays
 abbrev pub JudgesChip : Part → Bytes → DeskView → DeskView → Result Part ℕ → Type 0
 JudgesChip part file old new (Ok judged) = (judged ≡ part) × JudgedChip part file old new
 JudgesChip part file old new (Err status) = HoldsAndLoads part file old new (Err status)
 
--- the part of the settings was found, and what is said of it there
+-- The part of the settings was found, and then this holds.
 pub record WithPart (settings : Settings) (old : DeskView) (Then : Part → DeskView → Type 0) : Type 0 where
   pub part : Part
   pub part_desk : DeskView
   pub found : Went (settings_part settings) old part_desk (Made part)
   pub then_is : Then part part_desk
 
--- There is no part. Without a part file that is only since no built-in part has the name.
+-- There is no part. Without a part file the only reason is that no built-in part has the name.
 pub record FindsNoPart (settings : Settings) (old new : DeskView) (status : ℕ) : Type 0 where
   pub refused : Goes (AtStart false) (settings_part settings) old new (Err status)
   pub bare : settings.parts ≡ None → LacksPart settings.part [] old new
 
--- The part of the settings was found, and this file judged as that of a chip of it; or the one or the other is refused.
+-- The part of the settings was found and this file judged as a chip of it, or one of these is refused.
 abbrev pub JudgesPart : Settings → Bytes → DeskView → DeskView → Result Part ℕ → Type 0
 JudgesPart settings file old new (Ok judged) =
     WithPart settings old (λ part desk. JudgesChip part file desk new (Ok judged))
@@ -57,18 +56,17 @@ JudgesPart settings file old new (Err status) =
     FindsNoPart settings old new status
     ⊎ WithPart settings old (λ part desk. JudgesChip part file desk new (Err status))
 
--- an emulator with this chip that was fed nothing
 abbrev pub fresh_machine : chips.ChipState → Machine
 fresh_machine chip = record { held = []; programmer = fresh_programmer chip }
 
--- what is reported of how serving ended; of an end that was heard nothing is
+-- The message for how serving ended; the end of the link has none.
 abbrev pub end_pieces : Served → Option (List Bytes)
 end_pieces Ended = None
 end_pieces RecvFailed = Some (codes "link cannot be read" ∷ [])
 end_pieces SendFailed = Some (codes "link cannot be written" ∷ [])
 end_pieces TooManyReads = Some (codes "too many reads" ∷ [])
 
--- where there is a message its line was printed, or a write to the messages failed and a prefix of it was
+-- If there is a message, its line was printed; or a write to the messages failed after a prefix of it.
 abbrev pub TellsIfAny : Option (List Bytes) → DeskView → DeskView → Type 0
 TellsIfAny None old new = new ≡ old
 TellsIfAny (Some pieces) old new = Tells old new (error pieces)
@@ -76,22 +74,22 @@ TellsIfAny (Some pieces) old new = Tells old new (error pieces)
 abbrev pub TellsEnd : Served → DeskView → DeskView → Type 0
 TellsEnd served = TellsIfAny (end_pieces served)
 
--- the status, where the chip was saved
 abbrev pub status_of_end : Served → ℕ
 status_of_end Ended = 0
 status_of_end RecvFailed = 1
 status_of_end SendFailed = 1
 status_of_end TooManyReads = 1
 
--- The chip's file was written, and the status is that of how serving ended; or it couldn't be, and the status is 1.
+-- The chip's file was written, and the status is that of how serving ended; or it could not be written, and the
+-- status is 1.
 abbrev pub SavesAfterServing : Served → DeskView → DeskView → Bytes → Bytes → ℕ → Type 0
 SavesAfterServing served old new file bytes status =
     (Saves old new file bytes (Ok tt) × (status ≡ status_of_end served))
     ⊎ ((fault : ℕ) × Saves old new file bytes (Err fault) × (status ≡ 1))
 
--- A fresh emulator with this chip served a link in at most so many reads: what was sent are its answers to what was
--- heard, all of them before the next read, unless a send failed. How that ended was reported, and whatever it was, the
--- chip was saved as it is after the frames that came.
+-- A fresh emulator with this chip served a link in at most `turns` reads. It sent its answers to what was received,
+-- all of them before the next read, unless a send failed. How serving ended was reported. In each case the chip was
+-- saved as the frames received have left it.
 pub record ServesChip (chip : chips.ChipState) (file : Bytes) (turns : ℕ) (old new : Devices) (status : ℕ)
     : Type 0 where
   pub served : Served
@@ -106,29 +104,28 @@ pub record ServesChip (chip : chips.ChipState) (file : Bytes) (turns : ℕ) (old
   pub saved : SavesAfterServing served told_desk new.desk file (chip_file left.programmer.chip) status
   pub follows : Follows told_desk new.desk
 
--- The file was held and the chip of this part loaded from it, and it was served.
+-- The file was locked, the chip of this part was loaded from it, and it was served.
 pub record ServesLoaded (part : Part) (file : Bytes) (turns : ℕ) (old new : Devices) (status : ℕ) : Type 0 where
   pub chip : chips.ChipState
   pub loaded_desk : DeskView
   pub loaded : Loaded part file old.desk loaded_desk chip
   pub serves : ServesChip chip file turns (devices old.link loaded_desk) new status
 
--- There is no chip, which was told: nothing was heard or sent.
+-- There is no chip, which was reported. Nothing was received or sent.
 pub record ServesNoChip (part : Part) (file : Bytes) (old new : Devices) (status : ℕ) : Type 0 where
   pub refused : HoldsAndLoads part file old.desk new.desk (Err status)
   pub silent : new.link ≡ old.link
 
--- the one or the other
 abbrev pub ServesPart : Part → Bytes → ℕ → Devices → Devices → ℕ → Type 0
 ServesPart part file turns old new status =
     ServesLoaded part file turns old new status ⊎ ServesNoChip part file old new status
 
--- There is no part, which was told: nothing was heard or sent.
+-- There is no part, which was reported. Nothing was received or sent.
 pub record ServesNoPart (settings : Settings) (old new : Devices) (status : ℕ) : Type 0 where
   pub finds : FindsNoPart settings old.desk new.desk status
   pub silent : new.link ≡ old.link
 
--- so with the part of the settings, in at most `READS` reads
+-- The part of the settings was served in at most `READS` reads.
 abbrev pub RunsServed : Settings → Bytes → Devices → Devices → ℕ → Type 0
 RunsServed settings file old new status =
     WithPart settings old.desk (λ part desk. ServesPart part file READS (devices old.link desk) new status)

@@ -1,4 +1,4 @@
--- An emulated programmer that answers what it hears on a link.
+-- An emulated programmer that answers what it receives on a link.
 use Rattle.std.specs.Prelude.{ℕ, List, [], ◌∷◌, ◌++◌, ◌+◌, ◌≡◌, ◌<◌, ◌≤◌, length}
 use Rattle.stk_frame.specs.Cut.{frames}
 use Rattle.stk_host.specs.declared.link.Item.TheVariants.{Byte, Silence, End}
@@ -11,21 +11,18 @@ use Rattle.stk_emu.specs.Emulator.{Machine, IsFed, emulate}
 use Rattle.avr_emulator.specs.declared.serving.Served.{Served}
 use Rattle.avr_emulator.specs.declared.serving.Served.TheVariants.{Ended, RecvFailed, SendFailed, TooManyReads}
 
--- no end is among its items
 abbrev pub HasNoEnd : Tape → Type 0
 HasNoEnd [] = Unit {0}
 HasNoEnd (Byte byte ∷ tape) = HasNoEnd tape
 HasNoEnd (Silence ∷ tape) = HasNoEnd tape
 HasNoEnd (End ∷ tape) = ⊥
 
--- how many pieces were heard
 abbrev pub reads : Talk → ℕ
 reads [] = 0
 reads (Sent bytes ∷ talk) = reads talk
 reads (Got tape ∷ talk) = reads talk + 1
 
--- What was heard, in at most so many reads, by how serving ended: the end was heard last where it ended with it, and
--- never where it didn't.
+-- What was received in at most `turns` reads: an end only as its last item, and only if serving ended with it.
 abbrev pub HearsUntil : Served → ℕ → Talk → Type 0
 HearsUntil Ended turns talk = (before : Tape) × HasNoEnd before × (heard talk ≡ before ++ End ∷ [])
     × (reads talk ≤ turns)
@@ -33,21 +30,21 @@ HearsUntil RecvFailed turns talk = HasNoEnd (heard talk) × (reads talk < turns)
 HearsUntil SendFailed turns talk = HasNoEnd (heard talk) × (reads talk ≤ turns)
 HearsUntil TooManyReads turns talk = HasNoEnd (heard talk) × (reads talk ≡ turns)
 
--- At each piece heard, all answers to what was fed before it had been sent: by a programmer that was fed this text and
--- had sent these answers when the talk began.
+-- Before each piece received, all answers to what was fed before had been sent. The programmer was fed `text` and had
+-- sent `answered` when the transcript began.
 abbrev pub AnswersInTurn : Programmer → List ℕ → List ℕ → Talk → Type 0
 AnswersInTurn p text answered [] = Unit {0}
 AnswersInTurn p text answered (Sent bytes ∷ talk) = AnswersInTurn p text (answered ++ bytes) talk
 AnswersInTurn p text answered (Got tape ∷ talk) =
     (answered ≡ emulate p text) × AnswersInTurn p (text ++ bytes_of tape) answered talk
 
--- An emulator that had been fed a text was fed these bytes after it, and these are exactly its answers to them.
+-- An emulator that was fed `text` was fed these bytes, and `out` is exactly its answers to them.
 pub record AnswersAll (p : Programmer) (text bytes out : List ℕ) (now : Machine) : Type 0 where
   pub fed : IsFed p (text ++ bytes) now
   pub answered : emulate p (text ++ bytes) ≡ emulate p text ++ out
 
--- It was fed a prefix of these bytes, and the answer to the last frame that ends in it was not sent whole: what was
--- sent is all answers to the frames before, and a part of this one.
+-- The emulator was fed a prefix of these bytes, and the answer to the last frame in it was not sent whole. All
+-- answers to the frames before were sent, and a part of this one.
 pub record BreaksOff (p : Programmer) (text bytes out : List ℕ) (now : Machine) : Type 0 where
   pub used : List ℕ
   pub unused : List ℕ
@@ -62,16 +59,15 @@ pub record BreaksOff (p : Programmer) (text bytes out : List ℕ) (now : Machine
   pub not_whole : 0 < length unsent
   pub sent_is : emulate p text ++ out ≡ answers device earlier p ++ part
 
--- What was sent, and what became of the emulator, by how serving ended: where a send failed only a prefix of all
--- answers was sent.
+-- What was sent, and the emulator after it. If a send failed, only a prefix of all answers was sent.
 abbrev pub ServingLeaves : Served → Programmer → List ℕ → Talk → Machine → Type 0
 ServingLeaves SendFailed p text talk now =
     IsPrefixOf (emulate p text ++ sent talk) (emulate p (text ++ bytes_of (heard talk)))
     × BreaksOff p text (bytes_of (heard talk)) (sent talk) now
 ServingLeaves _ p text talk now = AnswersAll p text (bytes_of (heard talk)) (sent talk) now
 
--- An emulator served a link that showed this before and after it, in at most so many reads, and this is how it ended:
--- so it is whatever programmer it began with and whatever text it was fed before.
+-- An emulator served a link between these states, in at most `turns` reads, and ended like this. This holds whatever
+-- programmer it began with and whatever text it was fed before.
 pub record Serves (old : Machine) (turns : ℕ) (served : Served) (before after : LinkView)
     (now : Machine) : Type 0 where
   pub during : Talk
@@ -80,8 +76,7 @@ pub record Serves (old : Machine) (turns : ℕ) (served : Served) (before after 
   pub in_turn : (p : Programmer) (text : List ℕ) → IsFed p text old → AnswersInTurn p text (emulate p text) during
   pub leaves : (p : Programmer) (text : List ℕ) → IsFed p text old → ServingLeaves served p text during now
 
--- Where the link is said to have failed, its count of failures rose or stands at its end; where it isn't, the count is
--- what it was.
+-- If the link failed, its count of failures rose or is at its end. Otherwise the count is what it was.
 abbrev pub FailsBy : Served → LinkView → LinkView → Type 0
 FailsBy Ended before after = after.failures ≡ before.failures
 FailsBy RecvFailed before after = HasFailed before after

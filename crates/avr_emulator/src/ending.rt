@@ -1,4 +1,4 @@
-//! How serving ended is reported, and the chip is saved.
+//! Reports how serving ended, and saves the chip.
 ghost use Rattle.std.specs.Prelude.{◌≡◌};
 ghost use Rattle.avr_desk.specs.Fault.{Follows};
 ghost use Rattle.avr_part.specs.ChipFile.{chip_file};
@@ -11,7 +11,7 @@ use avr_desk::{Desk, Message, refuse};
 use avr_part::Chip;
 use std::alloc::Global;
 
-/// What is reported of how serving ended; of an end that was heard nothing is.
+/// Returns the message for how serving ended; the end of the link has none.
 fn end_message(served: Served) -> Option<Message<'static>>
     ensures { result ≡ end_pieces served }
 {
@@ -23,7 +23,7 @@ fn end_message(served: Served) -> Option<Message<'static>>
     }
 }
 
-/// Tells how serving ended, if not with an end that was heard.
+/// Reports how serving ended, unless the link ended.
 pub(crate) fn tell_end<D: Desk>(desk: &mut D, served: Served)
     ensures told { TellsEnd served (D.view desk.old) (D.view desk.new) }
     ensures follows { Follows (D.view desk.old) (D.view desk.new) }
@@ -43,7 +43,7 @@ fn status_of(served: Served) -> u8
     }
 }
 
-/// Saves the chip that was served, and answers the status.
+/// Saves the chip that was served, and returns the status.
 pub(crate) fn save_served<D: Desk>(
     alloc: Global,
     chip: &Chip,

@@ -1,4 +1,4 @@
-//! A chip file is held for one run, and its chip is loaded.
+//! Locks a chip file for one run, and loads its chip.
 ghost use Rattle.std.specs.Prelude.{◌≡◌, IfOk};
 ghost use Rattle.avr_desk.specs.Fault.{Follows};
 ghost use Rattle.avr_emulator.specs.Holding.{HoldsFile, HoldsAndLoads};
@@ -22,12 +22,14 @@ fn hold_file<D: Desk>(file: &str, desk: &mut D) -> Result<(), u8>
     }
 }
 
-/// Holds the file of this name until [`crate::save_chip`] or [`Desk::release`], so that no other run has it, and loads
-/// the chip of this part from it, as [`load_chip`] does.
+/// Locks this file, so that no other run can use it, and loads the chip of this part from it, as [`load_chip`] does.
+/// The lock lasts until [`crate::save_chip`] or [`Desk::release`].
 ///
-/// The answer is `Err(1)` where another one holds the file, where it could not be saved later, as its folder isn't
-/// there or can't be written, and where [`load_chip`] refuses it. Then the line that tells why was printed, as far as
-/// the desk takes it, and the file isn't held.
+/// # Errors
+///
+/// The status 1 if another run has locked the file, or if [`load_chip`] refuses it. It is also 1 if the file could
+/// not be saved later, because its folder is missing or read-only. The line of the reason was printed, as far as the
+/// desk takes it, and the file isn't locked.
 pub fn hold_chip<D: Desk>(alloc: Global, part: &Part, file: &str, desk: &mut D) -> Result<Chip, u8>
     ensures loads { HoldsAndLoads part.now file.now (D.view desk.old) (D.view desk.new) result }
     ensures part { IfOk result (λ c. c.part ≡ part.now) }

@@ -1,14 +1,14 @@
-//! The emulated programmer with the chip file of its part: a run over it, and serving it on a line.
+//! The emulated programmer with the chip file of its part: runs over it, and serving it on a link.
 //!
-//! A chip file holds flash, EEPROM, the low, high and extended fuse and the lock, byte after byte. The ideas:
+//! A chip file holds flash, EEPROM, the low, high and extended fuse and the lock, byte after byte.
 //!
-//! - Which chip is loaded is a function of what the opening of the file gives. A chip is saved whole: until it is, the
-//!   file is as it was. The file is held from loading to saving, so that no other run loads what this one is about to
+//! - The chip loaded is a function of what opening its file gives. A chip is saved whole; until then the file is as
+//!   it was. The file is locked from loading to saving, so no other run loads a chip that this one is about to
 //!   replace.
-//! - What a run leaves in the chip, whatever the wire loses, delays and spoils, is said of its session alone, by the
-//!   laws of [`avr_course`]; here the session is played.
-//! - When the emulator is served, whatever pieces the bytes come in, what is sent are exactly its answers to what was
-//!   heard. Before the link is read again all answers to what was heard before have been sent.
+//! - What a run leaves in the chip, whatever the wire loses, delays and spoils, depends on its session alone. The
+//!   laws of [`avr_course`] state this; this crate runs the session.
+//! - A served emulator sends exactly its answers to what was received, however the bytes are cut. All answers are
+//!   sent before the link is read again.
 #![tactic(auto)]
 
 // the chip file
@@ -18,7 +18,7 @@ mod messages;
 mod saving;
 // a run
 mod run;
-// serving: the answers to what is heard; from settings to status
+// serving: the answers to what is received; from settings to status
 mod ending;
 mod served_run;
 mod serving;

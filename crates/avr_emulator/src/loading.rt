@@ -1,4 +1,4 @@
-//! A chip is loaded from its file.
+//! Loads a chip from its file.
 ghost use Rattle.std.specs.Prelude.{◌≡◌, ◌≤◌, true, IfOk, Ok, length};
 ghost use Rattle.avr_desk.specs.Fault.{Follows};
 ghost use Rattle.avr_desk.specs.Files.{FileBreaks, IsCounted};
@@ -16,10 +16,8 @@ use avr_desk::{
 use avr_part::{Chip, Part, PartFault};
 use std::alloc::Global;
 
-/// The most bytes that are read of a file.
 const LARGEST_CHIP_FILE: usize = 4_194_304;
 
-/// A chip of this part as it comes new.
 fn fresh_chip<D: Desk>(alloc: Global, part: &Part, desk: &mut D) -> Result<Chip, u8>
     ensures goes { Goes (AtStart true) (verdict_stage (Ok (fresh_state part.now))) (D.view desk.old)
         (D.view desk.new) result }
@@ -32,7 +30,7 @@ fn fresh_chip<D: Desk>(alloc: Global, part: &Part, desk: &mut D) -> Result<Chip,
     }
 }
 
-/// The chip of the bytes of its file.
+/// Makes the chip from the bytes of its file.
 fn chip_of<D: Desk>(
     alloc: Global,
     part: &Part,
@@ -52,12 +50,12 @@ fn chip_of<D: Desk>(
             let found = bytes.len() as u32;
             Err(refuse(desk, &length_message(file, found, part.chip_file_size())))
         }
-        // the only other one is the want of memory
+        // the only other fault is that allocation failed
         Err(_) => Err(refuse(desk, &memory_message())),
     }
 }
 
-/// The chip of a file that was not read, for this fault: where there is no such file it is fresh.
+/// Returns the chip if its file was not read: a fresh one if the file doesn't exist.
 fn unread_chip<D: Desk>(
     alloc: Global,
     part: &Part,
@@ -78,13 +76,15 @@ fn unread_chip<D: Desk>(
     }
 }
 
-/// Loads the chip of this part that its file holds; where there is no such file the chip is fresh.
+/// Loads the chip of this part from its file, or a fresh chip if the file doesn't exist.
 ///
-/// The file is read to its end, or until more than 4,194,304 bytes came. The chip that is loaded has empty buffers.
+/// The file is read to its end, or until more than 4,194,304 bytes have come. The chip loaded has empty buffers.
 ///
-/// The answer is `Err(1)` where the file has another length than the part's flash, EEPROM and 4 bytes (33,796 for
-/// `m328p`), also where it is empty, where it can't be opened or read on, and where memory is refused. Then the line
-/// that tells why was printed, as far as the desk takes it.
+/// # Errors
+///
+/// The status 1 if the file can't be opened or can't be read to its end, or if allocation fails. It is also 1 if the
+/// file has any length but the part's: flash, EEPROM and 4 bytes, 33,796 for `m328p`. The line of the reason was
+/// printed, as far as the desk takes it.
 pub fn load_chip<D: Desk>(alloc: Global, part: &Part, file: &str, desk: &mut D) -> Result<Chip, u8>
     ensures goes { Goes AtOpened (chip_stage part.now file.now) (D.view desk.old) (D.view desk.new) result }
     ensures part { IfOk result (λ c. c.part ≡ part.now) }

@@ -1,17 +1,17 @@
-//! Why a file is no chip, beside what any file has.
+//! Why a file is no chip, beside the faults of any file.
 ghost use Rattle.std.specs.Prelude.{◌≡◌};
 ghost use Rattle.avr_emulator.specs.Lines.{in_use_pieces, length_pieces};
 
 use avr_desk::{Message, Piece};
 
-/// Another run holds a file: `FILE: in use by another run`.
+/// Reports a file that another run has locked: `FILE: in use by another run`.
 pub(crate) fn in_use_message<'a>(file: &'a str) -> Message<'a>
     ensures { result ≡ in_use_pieces file.now }
 {
     Message::about(file, ": in use by another run")
 }
 
-/// A file has another number of bytes than is expected: `FILE: 100 bytes, 33796 expected`.
+/// Reports a file of the wrong length: `FILE: 100 bytes, 33796 expected`.
 pub(crate) fn length_message<'a>(file: &'a str, found: u32, expected: u32) -> Message<'a>
     ensures { result ≡ length_pieces file.now found expected }
 {

@@ -19,31 +19,32 @@ use avr_session::drive;
 use std::alloc::Global;
 use stk_emu::{Fates, Wired};
 
-/// Plays the session of a plan over a wire to the emulated programmer, as [`avr_session::drive`] does over any link.
+/// Runs the session of a plan over a wire to the emulated programmer, as [`avr_session::drive`] does over any link.
+/// Returns the status: 0 if there was no fault, otherwise 1.
 ///
-/// Nothing has passed over the wire yet. A chip of another part than the plan's is met as any programmer is.
+/// Nothing has passed over the wire yet. The chip may be of another part than the plan's.
 pub fn drive_wired<D: Desk>(alloc: Global, plan: &Plan, desk: &mut D, wire: &mut Wired) -> u8
     requires fresh { IsFresh wire.old }
-    // What is sent, said and answered is the play of the session.
+    // It is a run of the session: what is sent, output and returned.
     ensures runs { RunsSession plan.now (devices (wired_view wire.old) (D.view desk.old))
         (devices (wired_view wire.new) (D.view desk.new)) result }
-    // The count of the desk's failures never falls.
+    // The counts of the desk's failures never fall.
     ensures follows { Follows (D.view desk.old) (D.view desk.new) }
-    // Whatever the wire began as, it is still one that did.
+    // The wire stays what it came from.
     ensures comes { Stays ComesOf wire.old wire.new }
-    // With a chip of the plan's part this is what became of it, whatever the line loses, delays and spoils.
+    // With a chip of the plan's part this is the result, whatever the wire loses, delays and spoils.
     ensures line { wire.old.wire.programmer.chip.part ≡ plan.now.part
         → OverAnyLine plan.now wire.old wire.new (D.view desk.old) (D.view desk.new) result }
     ensures stays { Stays D.comes_of desk.old desk.new }
 {
-    // What the clauses rest on: each image has the size of its memory, and the chip's memories those of its part.
+    // Ghost calls: bring into scope that each image has its memory's size, and the chip's memories their part's
+    // sizes.
     let _tasks = plan.tasks();
     let _part = wire.chip().part();
     drive(alloc, plan, desk, wire)
 }
 
-/// Saves the chip of a wire if anything was sent over it, releases its file, and answers the status of a run of this
-/// one.
+/// Saves the chip of a wire if anything was sent over it, unlocks its file, and returns the run's status.
 fn save_if_sent<D: Desk>(alloc: Global, wire: &Wired, file: &str, desk: &mut D, status: u8) -> u8
     ensures saved { IsSaved (sent wire.now.talk) (D.view desk.old) (D.view desk.new) file.now
         (chip_file wire.now.wire.programmer.chip) status result }
@@ -60,12 +61,12 @@ fn save_if_sent<D: Desk>(alloc: Global, wire: &Wired, file: &str, desk: &mut D, 
     }
 }
 
-/// Plans what the settings ask for and runs it over the emulated programmer, whose part is loaded from the file of this
-/// name (a fresh one, where there is no such file) and saved to it again if a frame was sent. From then to then the
-/// file is held: another run that wants it is refused.
+/// Makes the plan of a run, and runs it over an emulated programmer. Its chip is loaded from this file, or fresh if
+/// the file doesn't exist, and saved to it if a frame was sent. The file is locked from loading to saving: another
+/// run is refused.
 ///
-/// The status is 0 where no fault came, else 1. Every fault has its line; what is refused is reported before any frame
-/// is sent.
+/// Returns the status: 0 if there was no fault, otherwise 1. Every fault has its line, and a refusal is reported
+/// before any frame is sent.
 ///
 /// ```text
 /// let settings = Settings::for_link(alloc, "m328p")?;
@@ -85,7 +86,7 @@ pub fn run_emu<D: Desk>(alloc: Global, settings: &Settings, file: &str, desk: &m
         Ok(chip) => chip,
         Err(status) => return status,
     };
-    // What the clause rests on: each image has the size of its memory, and the chip's memories those of its part.
+    // Ghost calls, as above.
     let _tasks = plan.tasks();
     let _part = chip.part();
     let mut wire = Wired::new(alloc, chip, Fates::none(alloc));

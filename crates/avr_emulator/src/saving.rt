@@ -1,4 +1,4 @@
-//! A chip is saved to its file.
+//! Saves a chip to its file.
 ghost use Rattle.avr_desk.specs.Fault.{Follows};
 ghost use Rattle.avr_part.specs.ChipFile.{chip_file};
 ghost use Rattle.avr_emulator.specs.Saving.{Saves};
@@ -8,7 +8,7 @@ use avr_desk::{Desk, memory_message, not_written_message, refuse};
 use avr_part::Chip;
 use std::alloc::Global;
 
-/// Replaces the file of this name by one of these bytes.
+/// Replaces the file by these bytes.
 fn save_bytes<D: Desk>(file: &str, bytes: &[u8], desk: &mut D) -> Result<(), u8>
     ensures saves { Saves (D.view desk.old) (D.view desk.new) file.now bytes.now result }
     ensures rises { Follows (D.view desk.old) (D.view desk.new) }
@@ -23,11 +23,13 @@ fn save_bytes<D: Desk>(file: &str, bytes: &[u8], desk: &mut D) -> Result<(), u8>
     }
 }
 
-/// Saves a chip: replaces the file of this name by one of the chip's memories, whole, as [`crate::load_chip`] reads
-/// them. Nothing is held any more then.
+/// Saves a chip: replaces the file by the chip's memories, whole, as [`crate::load_chip`] reads them. The file is
+/// then unlocked.
 ///
-/// The answer is `Err(1)` where the file can't be replaced, and where memory is refused. Then the line that tells why
-/// was printed, as far as the desk takes it, and the file is as it was.
+/// # Errors
+///
+/// The status 1 if the file can't be replaced or allocation fails. The line of the reason was printed, as far as the
+/// desk takes it, and the file is as it was.
 pub fn save_chip<D: Desk>(alloc: Global, chip: &Chip, file: &str, desk: &mut D) -> Result<(), u8>
     ensures saves { Saves (D.view desk.old) (D.view desk.new) file.now (chip_file chip.now) result }
     ensures rises { Follows (D.view desk.old) (D.view desk.new) }

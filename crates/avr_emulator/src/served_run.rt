@@ -1,4 +1,4 @@
-//! Serving an emulated programmer, from settings to status.
+//! Serves an emulated programmer, from settings to status.
 ghost use Rattle.std.specs.Prelude.{◌≡◌, ◌≤◌, [], None, IfErr, false};
 ghost use Rattle.avr_desk.specs.Fault.{Follows};
 ghost use Rattle.avr_desk.specs.Playing.{AtStart, Goes};
@@ -19,10 +19,10 @@ use std::alloc::Global;
 use stk_emu::Emulator;
 use stk_host::Link;
 
-/// How many reads [`serve`] allows.
+/// The reads that [`serve`] allows.
 pub const READS: u32 = 16_777_216;
 
-/// The part of the settings: looked up in their part file, where they have one, before the built-in parts.
+/// Finds the part of the settings: in their part file, if there is one, then in the built-in parts.
 fn find_part<D: Desk>(alloc: Global, desk: &mut D, settings: &Settings) -> Result<Part, u8>
     ensures goes { Goes (AtStart false) (settings_part settings.now) (D.view desk.old) (D.view desk.new) result }
     ensures bare { settings.now.parts ≡ None
@@ -36,7 +36,7 @@ fn find_part<D: Desk>(alloc: Global, desk: &mut D, settings: &Settings) -> Resul
     chosen_part(desk, &parts, settings.part.as_str())
 }
 
-/// The part, once the file of this name was judged as that of a chip of it.
+/// Checks that a chip of this part can be loaded from the file, and returns the part.
 fn judge_chip<D: Desk>(alloc: Global, part: Part, file: &str, desk: &mut D) -> Result<Part, u8>
     ensures judges { JudgesChip part file.now (D.view desk.old) (D.view desk.new) result }
     ensures stays { Stays D.comes_of desk.old desk.new }
@@ -49,12 +49,14 @@ fn judge_chip<D: Desk>(alloc: Global, part: Part, file: &str, desk: &mut D) -> R
     Ok(part)
 }
 
-/// The part of the settings, once the file of this name was judged as that of a chip of it, for a chip that is loaded
-/// later: all that refuses a chip before a caller comes.
+/// Returns the part of the settings after checking that a chip of it can be loaded from the file. A server calls this
+/// before a client connects; the chip itself is loaded later.
 ///
-/// Where the part file, the name of the part or the chip file is refused, where another run has the chip file or it
-/// could not be saved, where the desk fails or memory is refused, the answer is `Err(1)`, and the line that tells why
-/// was printed as far as the desk takes it.
+/// # Errors
+///
+/// The status 1 if the part file, the part's name or the chip file is refused, or if another run has locked the chip
+/// file. It is also 1 if the chip file could not be saved later, or if the desk or allocation fails. The line of the
+/// reason was printed, as far as the desk takes it.
 pub fn judge_part<D: Desk>(
     alloc: Global,
     settings: &Settings,
@@ -70,14 +72,13 @@ pub fn judge_part<D: Desk>(
     }
 }
 
-/// Serves a chip over a link, in at most `turns` reads, tells how that ended, and saves the chip to the file of this
-/// name.
+/// Serves a chip over a link in at most `turns` reads, reports how that ended, and saves the chip to this file.
 ///
-/// What is sent are the answers of a fresh programmer with this chip to what is heard, and all of them are sent before
-/// the next read. An end that was heard has no line, any other its own; whichever it is, the chip is saved as the
-/// frames that came had left it.
+/// It sends the answers of a fresh programmer with this chip to what is received, and all of them before the next
+/// read. The end of the link prints no line; any other ending prints its own. In each case the chip is saved as the
+/// frames received have left it.
 ///
-/// The status is 0 where an end was heard and the chip was saved, else 1.
+/// Returns the status: 0 if the link ended and the chip was saved, otherwise 1.
 pub fn serve_chip<D: Desk, L: Link>(
     alloc: Global,
     chip: Chip,
@@ -99,11 +100,10 @@ pub fn serve_chip<D: Desk, L: Link>(
     save_served(alloc, emulator.chip(), file, desk, served)
 }
 
-/// Holds the file of this name, loads the chip of this part from it, fresh where there is no such file, and serves it
-/// over a link as [`serve_chip`] does. Until the chip was saved no other run has the file.
+/// Serves the chip of this part over a link as [`serve_chip`] does. The chip is loaded from this file, or fresh if
+/// the file doesn't exist. The file is locked until the chip is saved.
 ///
-/// The status is 0 where an end was heard and the chip was saved, else 1. Where the chip file is refused nothing is
-/// heard or sent, and no file is written.
+/// If the chip file is refused, the status is 1. Nothing is received or sent, and no file is written.
 pub fn serve_part<D: Desk, L: Link>(
     alloc: Global,
     part: &Part,
@@ -125,15 +125,10 @@ pub fn serve_part<D: Desk, L: Link>(
     }
 }
 
-/// Serves the emulated programmer of the settings' part over a link, in at most 16,777,216 reads.
+/// Serves the emulated programmer of the settings' part over a link, as [`serve_part`] does, in at most 16,777,216
+/// reads.
 ///
-/// The chip is loaded from the file of this name, which is held until the chip was saved, and is fresh if there is no
-/// such file. What is sent are the answers of a fresh programmer with this chip to what is heard, and all of them are
-/// sent before the next read. However that ends, its line is printed, but for an end that was heard, and the chip is
-/// saved to the file.
-///
-/// The status is 0 if an end was heard and the chip was saved, else 1. If the part or the chip file is refused, nothing
-/// is heard or sent, and no file is written.
+/// If the part is refused, the status is 1. Nothing is received or sent, and no file is written.
 ///
 /// ```text
 /// let settings = Settings::for_link(alloc, "m328p")?;

@@ -13,17 +13,17 @@ use stk_host::{Heard, Link, LinkFault, send_all};
 /// How serving a link ended.
 #[derive(Clone, Copy, Debug, PartialEq, Eq)]
 pub enum Served {
-    /// The end was heard, and all answers were sent.
+    /// The link ended, and all answers were sent.
     Ended,
-    /// The link failed at listening, when all answers were sent.
+    /// The link failed at listening, after all answers were sent.
     RecvFailed,
     /// The link failed at sending an answer, or took none of its bytes.
     SendFailed,
-    /// So many pieces were heard as were allowed, and no end; all answers were sent.
+    /// All allowed reads were used without an end; all answers were sent.
     TooManyReads,
 }
 
-/// Feeds a piece to the emulator, and sends each answer before it feeds what follows.
+/// Feeds a piece to the emulator, and sends each answer before it feeds more.
 fn answer_piece<L: Link>(
     emulator: &mut Emulator,
     link: &mut L,
@@ -45,7 +45,7 @@ fn answer_piece<L: Link>(
     Ok(())
 }
 
-/// Serves one read of the link, which is one too many where it brings no end.
+/// Serves one read of the link. The result is `TooManyReads` unless this read is the last.
 #[tactic(auto, using(crate::proofs::ReadByRead::read_answered, crate::proofs::ReadByRead::read_broken))]
 fn answer_next<L: Link>(emulator: &mut Emulator, link: &mut L) -> Served
     ensures serves { Serves emulator.old 1 result (L.view link.old) (L.view link.new) emulator.new }
@@ -67,10 +67,10 @@ fn answer_next<L: Link>(emulator: &mut Emulator, link: &mut L) -> Served
     }
 }
 
-/// Serves a link in at most `turns` reads: feeds what is heard to the emulator, and sends all answers before the next
-/// read.
+/// Serves a link in at most `turns` reads: feeds what is received to the emulator, and sends all answers before the
+/// next read.
 ///
-/// A silence counts for nothing but the read that it took. What the last read brings is still answered.
+/// A timeout uses up a read. What the last read brings is still answered.
 pub fn answer_all<L: Link>(emulator: &mut Emulator, link: &mut L, turns: u32) -> Served
     ensures serves { Serves emulator.old turns result (L.view link.old) (L.view link.new) emulator.new }
     ensures counted { (L.view link.old).failures ≤ (L.view link.new).failures }

@@ -1,4 +1,4 @@
--- Which files planning reads, and planning over these files.
+-- The files that planning reads, and planning over them.
 use Rattle.std.specs.Prelude.{true, List, [], ◌∷◌, ◌++◌, map, Option, Some, None, if◌then◌else◌}
 use Rattle.avr_cli.specs.declared.settings.Settings.{Settings}
 use Rattle.avr_cli.specs.declared.update.Format.{Format}
@@ -17,17 +17,16 @@ use Rattle.avr_part.specs.Mem.{is_writable}
 use Rattle.avr_plan.specs.Plan.{Plan}
 use Rattle.avr_plan.specs.Planning.{planned}
 
--- the part file, if one is given
 abbrev pub part_file : Option Bytes → List Bytes
 part_file None = []
 part_file (Some file) = file ∷ []
 
--- the file of an image, unless its values stand in the words of the command
+-- The file of an image, unless its values are on the command line.
 abbrev pub image_file : Bytes → Format → List Bytes
 image_file file Immediate = []
 image_file file format = file ∷ []
 
--- the file of an update that is to be written or compared; none where the memory can't be written
+-- The file of an update that writes or compares; none if the memory can't be written.
 abbrev pub file_of_op : Update → Op → List Bytes
 file_of_op u op.Write = if is_writable u.memory then image_file u.file u.format else []
 file_of_op u op.Verify = image_file u.file u.format
@@ -37,30 +36,27 @@ abbrev pub files_of : List Update → List Bytes
 files_of [] = []
 files_of (u ∷ updates) = file_of_op u u.op ++ files_of updates
 
--- the names of the files that planning reads, in their order, unless it is refused before
+-- The names of the files that planning reads, in order, unless it is refused before.
 abbrev pub files_read : Settings → List Bytes
 files_read s = part_file s.parts ++ files_of s.updates
 
--- what the opening of a name gives that stands for this, read whole
+-- What opening a name gives if it has these contents and is read whole.
 abbrev pub read_whole : Bytes → Option Bytes → Opening
 read_whole name None = Absent name
 read_whole name (Some bytes) = Found (record { name = name; bytes = bytes; ended = true })
 
--- what these files give, before any other was made
 abbrev pub files_give : Stock → List Bytes → List Opening
 files_give stock names = map (λ name. read_whole name (stood_for stock [] name)) names
 
--- planning over these files
 abbrev pub planned_of : Settings → Stock → StageResult Plan
 planned_of s stock = planned s (files_give stock (files_read s))
 
--- the lines among these sayings
 abbrev pub lines_in : List Saying → List Bytes
 lines_in [] = []
 lines_in (Line bytes ∷ sayings) = bytes ∷ lines_in sayings
 lines_in (saying ∷ sayings) = lines_in sayings
 
--- each of the openings among them was true of these files
+-- Each opening among these output events was true of these files.
 abbrev pub AreSeen : Stock → List Saying → Type 0
 AreSeen stock [] = Unit {0}
 AreSeen stock (Opens opening ∷ sayings) = IsTrueOpening stock [] opening × AreSeen stock sayings

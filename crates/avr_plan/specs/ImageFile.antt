@@ -1,4 +1,4 @@
--- The image that the bytes of a file are.
+-- The image in the bytes of a file.
 use Rattle.std.specs.Prelude.{ℕ, List, length, take, nat_le, Option, Some, None, Result, Ok, Err, if◌then◌else◌}
 use Rattle.avr_cli.specs.declared.update.Format.{Format}
 use Rattle.avr_cli.specs.declared.update.Format.TheVariants as letter
@@ -17,7 +17,7 @@ use Rattle.avr_records.specs.declared.fault.RecordFault.{RecordFault}
 use Rattle.avr_plan.specs.declared.intake.BadFile.{BadFile}
 use Rattle.avr_plan.specs.declared.intake.BadFile.TheVariants.{Record, Raw, Elf, TooLong}
 
--- an image, and whether its file had an end record; or what is wrong with the file
+-- An image, and whether its file had an end record; or the fault of the file.
 abbrev pub Given : Type 0
 Given = Result (List (Option ℕ) × Ending) BadFile
 
@@ -25,12 +25,12 @@ abbrev pub of_records : Result (List (Option ℕ) × Ending) RecordFault → Giv
 of_records (Ok good) = Ok good
 of_records (Err fault) = Err (Record fault)
 
--- raw bytes lack no end record
+-- Raw bytes need no end record.
 abbrev pub of_raw : Result (List (Option ℕ)) ImageFault → Given
 of_raw (Ok image) = Ok (image, Ended)
 of_raw (Err fault) = Err (Raw fault)
 
--- what a file of this kind is to a memory of this size
+-- What a file of this kind is, for a memory of this size.
 abbrev pub whole_file : Found → Bytes → ℕ → Given
 whole_file file.Ihex bytes size = of_records (image_in_text records.Ihex bytes size)
 whole_file file.Srec bytes size = of_records (image_in_text records.Srec bytes size)
@@ -41,26 +41,22 @@ abbrev pub or_too_long : Option RecordFault → BadFile
 or_too_long (Some fault) = Record fault
 or_too_long None = TooLong
 
--- What is wrong with a longer file which begins so: the first fault of a line that ends there, or the
--- length.
+-- The fault of a longer file that begins like this: the first fault of a line that ends there, or its length.
 abbrev pub long_file : Found → Bytes → ℕ → BadFile
 long_file file.Ihex prefix size = or_too_long (closed_fault records.Ihex prefix size)
 long_file file.Srec prefix size = or_too_long (closed_fault records.Srec prefix size)
 long_file found prefix size = TooLong
 
--- what a file is that may have as many bytes as the limit says
 abbrev pub file_within : ℕ → Found → Bytes → ℕ → Given
 file_within limit found bytes size =
     if nat_le (length bytes) limit then whole_file found bytes size
     else Err (long_file found (take limit bytes) size)
 
--- the kind of a file: the one given, or what its first bytes show
 abbrev pub kind_of : Format → Bytes → Found
 kind_of letter.Ihex bytes = file.Ihex
 kind_of letter.Srec bytes = file.Srec
 kind_of letter.Raw bytes = file.Raw
 kind_of format bytes = kind_of_file bytes
 
--- what a file of this format is
 abbrev pub image_within : ℕ → Format → Bytes → ℕ → Given
 image_within limit format bytes size = file_within limit (kind_of format bytes) bytes size

@@ -1,4 +1,4 @@
--- What passes at a desk as an image file is read.
+-- What passes at a desk while an image file is read.
 use Rattle.std.specs.Prelude.{◌≡◌, ◌≤◌, ◌+◌, ℕ, List, ◌++◌, length, Option, Bool, false, Result, Ok, Err, MatchBool}
 use Rattle.avr_cli.specs.declared.update.Format.{Format}
 use Rattle.avr_desk.specs.Fault.{HasSameCounts}
@@ -15,27 +15,26 @@ use Rattle.avr_plan.specs.declared.image_file.FirstBytes.{FirstBytes}
 use Rattle.avr_plan.specs.declared.image_file.ReadFault.{ReadFault}
 use Rattle.avr_plan.specs.declared.image_file.ReadFault.TheVariants.{File, Image}
 
--- an image, or why none came
 abbrev pub ImageOrFault : Type 0
 ImageOrFault = Result (List (Option ℕ) × Ending) ReadFault
 
--- what came is what the bytes are
+-- The result is what the bytes are.
 abbrev pub IsGiven : Given → ImageOrFault → Type 0
 IsGiven given (Ok good) = Ok good ≡ given
 IsGiven given (Err (Image bad)) = Err bad ≡ given
 IsGiven given (Err (File fault)) = ⊥
 
--- what the counts of failures say of a fault
+-- How a fault changes the counts of failures.
 abbrev pub IsCountedRead : DeskView → DeskView → ReadFault → Type 0
 IsCountedRead old new (File fault) = IsCounted old new fault
 IsCountedRead old new (Image bad) = HasSameCounts old new
 
--- all that the open file has was read, or so much of it as shows its format
+-- The open file was read to its end, or far enough to show its format.
 pub record ReadsFirstBytes (old new : DeskView) (prefix : FirstBytes) : Type 0 where
   pub kept : Passes (after_reading prefix.bytes.items prefix.ended) old new
   pub enough : MatchBool prefix.ended (length prefix.bytes.items ≤ 1024) (length prefix.bytes.items ≡ 1024)
 
--- the open file gave some bytes, and no end
+-- The open file gave some bytes, and no end.
 abbrev pub IsReadInPart : DeskView → DeskView → Type 0
 IsReadInPart old new = (bytes : Bytes) × Passes (after_reading bytes false) old new
 
@@ -43,7 +42,7 @@ abbrev pub FirstBytesAreRead : DeskView → DeskView → Result FirstBytes FileF
 FirstBytesAreRead old new (Ok prefix) = ReadsFirstBytes old new prefix
 FirstBytesAreRead old new (Err fault) = (fault ≡ NotRead) × IsReadInPart old new
 
--- After these bytes of the open file the others were read, to its end or past the limit, and the whole is this.
+-- After these bytes the rest of the open file was read, to its end or past the limit. The whole is this.
 pub record ReadsRest (limit : ℕ) (found : Found) (size : ℕ) (before : Bytes) (old new : DeskView)
     (given : Given) : Type 0 where
   pub bytes : Bytes
@@ -66,7 +65,7 @@ pub record ReadsOpenImage (limit : ℕ) (format : Format) (size : ℕ) (old new 
   pub whole : IsWhole limit (record { bytes = bytes; ended = ended })
   pub gives : given ≡ image_within limit format bytes size
 
--- no file is missing or can't be opened where one is open
+-- An open file is never missing and never fails to open.
 abbrev pub OpenBreaks : DeskView → DeskView → FileFault → Type 0
 OpenBreaks old new Absent = ⊥
 OpenBreaks old new NotOpened = ⊥
@@ -92,7 +91,7 @@ ImageIsRead limit format size name old new (Ok good) = ReadsImage limit format s
 ImageIsRead limit format size name old new (Err (Image bad)) = ReadsImage limit format size name old new (Err bad)
 ImageIsRead limit format size name old new (Err (File fault)) = FileBreaks name old new fault
 
--- The open file gave some bytes, as many as fewer are left, and they were fed.
+-- The open file gave some bytes, which were fed. Together with those left they fill the room.
 pub record Going (old now : DeskView) (first last : Intake) (room left : ℕ) : Type 0 where
   pub bytes : Bytes
   pub kept : Passes (after_reading bytes false) old now

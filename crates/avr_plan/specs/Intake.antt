@@ -1,4 +1,4 @@
--- What is made of the bytes of a file as they come, and the bytes that may have come.
+-- The bytes of a file so far, and the texts that they can be.
 use Rattle.std.specs.Prelude.{◌≡◌, ℕ, length, ◌++◌, Err}
 use Rattle.avr_image.specs.Raw as raw_file
 use Rattle.avr_desk.specs.Record.{Bytes}
@@ -17,12 +17,12 @@ abbrev pub found_as : Kind → Found
 found_as records.Ihex = file.Ihex
 found_as records.Srec = file.Srec
 
--- what is reported of a longer file with this fault in its first bytes
+-- What is reported of a longer file with this fault in its first bytes.
 abbrev pub in_long_file : BadFile → BadFile
 in_long_file (Record fault) = Record fault
 in_long_file fault = TooLong
 
--- This is the fault of a file that begins with this text, whatever follows.
+-- Every file that begins with this text has this fault.
 pub record Decides (found : Found) (size : ℕ) (fault : BadFile) (text : Bytes) : Type 0 where
   pub whole : (more : Bytes) → whole_file found (text ++ more) size ≡ Err fault
   pub long : (more : Bytes) → long_file found (text ++ more) size ≡ in_long_file fault
@@ -37,13 +37,12 @@ pub record TakesRaw (found : Found) (size : ℕ) (reader : raw_file.Holding) (te
   pub of_size : length reader.image ≡ size
   pub stands : raw_file.HoldsText reader text
 
--- it may have been fed this text, of a file of this kind, for a memory of this size
+-- It was fed this text, of a file of this kind, for a memory of this size.
 abbrev pub Takes : Found → ℕ → Intake → Bytes → Type 0
 Takes found size (intake.Records reader) text = TakesRecords found size reader text
 Takes found size (intake.Raw reader) text = TakesRaw found size reader text
 Takes found size (intake.Faulty fault) text = Decides found size fault text
 
--- how many bytes a reader of records counts
 abbrev pub fed_count : Intake → ℕ
 fed_count (intake.Records reader) = reader.fed
 fed_count taken = 0

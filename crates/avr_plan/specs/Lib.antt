@@ -1,4 +1,4 @@
--- the meaning: what contracts of public calls cite
+-- the definitions that contracts of public calls cite
 pub mod Faults
 pub mod Lines
 pub mod ImageFile
@@ -9,9 +9,9 @@ pub mod PlanFaults
 pub mod Taking
 pub mod OnlyReading
 pub mod FilesRead
--- inside: how things are kept, and what inner functions promise one another
+-- inside: representations, and contracts of private functions
 pub mod Intake
--- of the crates below, what public contracts name
+-- of the crates below, the definitions that public contracts cite
 pub use Rattle.avr_desk.specs.Fault
 pub use Rattle.avr_desk.specs.Memory
 pub use Rattle.avr_desk.specs.Playing

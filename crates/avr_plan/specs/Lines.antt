@@ -24,11 +24,10 @@ no_end_line file = warning (file ∷ codes ": no end record" ∷ [])
 
 -- ---- parts
 
--- what is wrong with a field of the file
 abbrev pub field_pieces : Bytes → Field → Bytes → List Bytes
 field_pieces file field text = file ∷ codes ": " ∷ field_name field ∷ text ∷ []
 
--- (the last two come of no part file)
+-- No part file has the faults of the last equation.
 abbrev pub part_file_pieces : Bytes → PartFault → List Bytes
 part_file_pieces file part_fault.NotToml = file ∷ codes ": not TOML" ∷ []
 part_file_pieces file (part_fault.Missing field) = field_pieces file field (codes " is missing")
@@ -47,7 +46,6 @@ no_part_line id = error (no_part_pieces id)
 
 -- ---- images
 
--- in this line of the file
 abbrev pub in_line_pieces : Bytes → ℕ → Bytes → List Bytes
 in_line_pieces file line text = file ∷ codes ": line " ∷ decimal line ∷ text ∷ []
 
@@ -56,7 +54,7 @@ line_range_pieces file line address =
     file ∷ codes ": line " ∷ decimal line ∷ codes ": address " ∷ digits (big_bytes 4 address)
     ∷ codes " out of range" ∷ []
 
--- (the others come of no file that is read in pieces)
+-- No file that is read in pieces has the faults of the last equation.
 abbrev pub record_pieces : Bytes → RecordFault → List Bytes
 record_pieces file (record_fault.BadMark line) = in_line_pieces file line (codes ": no record mark")
 record_pieces file (record_fault.BadDigit line) = in_line_pieces file line (codes ": bad digit")
@@ -68,11 +66,11 @@ record_pieces file (record_fault.LineTooLong line) = in_line_pieces file line (c
 record_pieces file (record_fault.BadCount line) = in_line_pieces file line (codes ": bad record count")
 record_pieces file fault = memory_pieces
 
--- what these bytes, of a file or the values for a memory, were to hold
+-- An address is outside the memory that the file or the values are for.
 abbrev pub range_pieces : Bytes → ℕ → List Bytes
 range_pieces name address = name ∷ codes ": address " ∷ digits (big_bytes 4 address) ∷ codes " out of range" ∷ []
 
--- (raw bytes go past the memory, and nothing else is wrong with them)
+-- Raw bytes have no fault but going past the memory.
 abbrev pub raw_pieces : Bytes → ImageFault → List Bytes
 raw_pieces file (image_fault.OutOfRange address) = range_pieces file address
 raw_pieces file fault = memory_pieces
@@ -86,7 +84,6 @@ bad_file_pieces file bad_file.TooLong = too_long_pieces file LARGEST_IMAGE_FILE
 abbrev pub bad_file_line : Bytes → BadFile → Bytes
 bad_file_line file bad = error (bad_file_pieces file bad)
 
--- why no image came of a file
 abbrev pub image_pieces : Bytes → ReadFault → List Bytes
 image_pieces file (read_fault.File fault) = file_pieces file fault
 image_pieces file (read_fault.Image bad) = bad_file_pieces file bad
@@ -94,11 +91,10 @@ image_pieces file (read_fault.Image bad) = bad_file_pieces file bad
 abbrev pub image_line : Bytes → ReadFault → Bytes
 image_line file fault = error (image_pieces file fault)
 
--- what is wrong with the value at this place
 abbrev pub value_pieces : Mem → ℕ → Bytes → List Bytes
 value_pieces memory place text = name_of memory ∷ codes ": value " ∷ decimal place ∷ text ∷ []
 
--- (the others come of no values)
+-- No values have the faults of the last equation.
 abbrev pub values_pieces : Mem → ImageFault → List Bytes
 values_pieces memory (image_fault.OutOfRange address) = range_pieces (name_of memory) address
 values_pieces memory (image_fault.BadNumber place) = value_pieces memory place (codes ": not a number")

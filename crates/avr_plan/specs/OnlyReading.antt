@@ -1,5 +1,4 @@
--- What only reads and tells: files are opened to be read, and lines are printed; nothing is created, written or put
--- out.
+-- Output events that only open files for reading and print lines. Nothing is created, written or output.
 use Rattle.std.specs.Prelude.{List, [], ◌∷◌}
 use Rattle.avr_desk.specs.Said.{Saying, Opens, Line, Creates, Writes, Outs}
 

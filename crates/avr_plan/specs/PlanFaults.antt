@@ -1,4 +1,4 @@
--- What was reported of a plan that is refused, by the fault that its call returns.
+-- The line that was printed for each fault of a plan.
 use Rattle.std.specs.Prelude.{◌≡◌, ℕ, List, Option, Some, None, Result, slice_get}
 use Rattle.std.specs.Result.{result_map_both}
 use Rattle.avr_cli.specs.declared.settings.Settings.{Settings}
@@ -16,11 +16,10 @@ use Rattle.avr_plan.specs.declared.plan_fault.PlanFault.TheVariants.{PartFile, N
 use Rattle.avr_plan.specs.declared.plan_fault.TaskFault.{TaskFault}
 use Rattle.avr_plan.specs.declared.plan_fault.TaskFault.TheVariants.{ReadOnly, Values, File, Memory, Unwarned}
 
--- the same, with the status of a run that is refused in the place of the fault
 abbrev pub with_status : {A E : Type 0} → Result A E → Result A ℕ
 with_status result = result_map_both (λ a. a) (λ fault. 1) result
 
--- This line was reported last, whole, unless a write to the messages failed.
+-- This line was printed last and whole, unless a write to the messages failed.
 abbrev pub LastTold : Bytes → DeskView → DeskView → Type 0
 LastTold line old new = (between : DeskView) × (Follows old between × Tells between new line)
 
@@ -29,12 +28,12 @@ part_file_fault_line file (of_parts.File fault) = file_fault_line file fault
 part_file_fault_line file of_parts.TooLong = too_long_line file LARGEST_PART_FILE
 part_file_fault_line file (of_parts.Parts fault) = part_file_line file fault
 
--- (a fault comes only of a file that is given)
+-- Only a given file has a fault.
 abbrev pub TellsPartsFault : Option Bytes → DeskView → DeskView → PartsFault → Type 0
 TellsPartsFault (Some file) old new fault = LastTold (part_file_fault_line file fault) old new
 TellsPartsFault None old new fault = ⊥
 
--- (the line that could not be printed is a warning)
+-- For `Unwarned` the line that could not be printed is a warning.
 abbrev pub TellsTaskFault : Update → DeskView → DeskView → TaskFault → Type 0
 TellsTaskFault u old new ReadOnly = LastTold (read_only_line u.memory) old new
 TellsTaskFault u old new (Values fault) = LastTold (values_line u.memory fault) old new
@@ -42,7 +41,6 @@ TellsTaskFault u old new (File fault) = LastTold (image_line u.file fault) old n
 TellsTaskFault u old new Memory = LastTold memory_line old new
 TellsTaskFault u old new Unwarned = HasFailedToSay old new
 
--- an update with this number, and its fault
 abbrev pub TellsTasksFault : List Update → DeskView → DeskView → PlanFault → Type 0
 TellsTasksFault updates old new (OfUpdate index fault) =
     (u : Update) × ((slice_get updates index ≡ Some u) × TellsTaskFault u old new fault)

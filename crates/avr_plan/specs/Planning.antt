@@ -1,4 +1,4 @@
--- The plan of a run, in its order: the part file, the part, and each update with its file.
+-- The plan of a run, in order: the part file, the part, and each update with its file.
 use Rattle.std.specs.Prelude.{ℕ, Bool, false, nat_le, nat_lt, List, [], ◌∷◌, ◌++◌, length, Option, Some, None, Result, Ok, Err, IsErr, if◌then◌else◌}
 use Rattle.avr_desk.specs.Record.{DeskView, Bytes}
 use Rattle.avr_cli.specs.declared.settings.Settings.{Settings}
@@ -40,7 +40,6 @@ judged_parts file bytes =
     if nat_le (length bytes) LARGEST_PART_FILE then parts_or_line file (parts_of bytes)
     else Err (too_long_line file LARGEST_PART_FILE)
 
--- the parts of the part file, if one is given
 abbrev pub parts_stage : Option Bytes → Stage (List Part)
 parts_stage None = verdict_stage (Ok [])
 parts_stage (Some file) = file_stage file LARGEST_PART_FILE (judged_parts file)
@@ -49,17 +48,16 @@ abbrev pub part_or_line : Bytes → Result Part PartFault → Result Part Bytes
 part_or_line id (Ok part) = Ok part
 part_or_line id (Err fault) = Err (no_part_line id)
 
--- the part of this id, in the file before the built-in ones
+-- The part with this id; those of the file come before the built-in ones.
 abbrev pub part_stage : Bytes → List Part → Stage Part
 part_stage id parts = verdict_stage (part_or_line id (part_of_id id parts))
 
--- no part has this id, and that was reported
 abbrev pub LacksPart : Bytes → List Part → DeskView → DeskView → Type 0
 LacksPart id parts old new = IsErr (part_of_id id parts) × Tells old new (no_part_line id)
 
 -- ---- the image of an update
 
--- a missing end record is warned of, but not where warnings are off
+-- A missing end record causes a warning, unless warnings are off.
 abbrev pub is_warned : Switches → Ending → Bool
 is_warned switches Ended = false
 is_warned switches NoEnd = nat_lt switches.quiet 2
@@ -74,7 +72,6 @@ image_or_line file (Err bad) = Err (bad_file_line file bad)
 abbrev pub judged_image : Bytes → Format → ℕ → Bytes → Result (List (Option ℕ) × Ending) Bytes
 judged_image file format size bytes = image_or_line file (image_within LARGEST_IMAGE_FILE format bytes size)
 
--- the image in a file
 abbrev pub file_image_stage : Switches → Bytes → Format → ℕ → Stage (List (Option ℕ))
 file_image_stage switches file format size = do
   given ← file_stage file LARGEST_IMAGE_FILE (judged_image file format size)
@@ -85,7 +82,7 @@ abbrev pub values_or_line : Mem → Result (List (Option ℕ)) ImageFault → Re
 values_or_line memory (Ok image) = Ok image
 values_or_line memory (Err fault) = Err (values_line memory fault)
 
--- values stand in the words of the command, any other image in a file
+-- Values are on the command line; any other image is in a file.
 abbrev pub image_stage : Switches → Mem → ℕ → Bytes → Format → Stage (List (Option ℕ))
 image_stage switches memory size file Immediate = verdict_stage (values_or_line memory (values file size))
 image_stage switches memory size file format = file_image_stage switches file format size
@@ -109,7 +106,7 @@ op_stage switches part u op.Read = verdict_stage (Ok (Read u.memory u.format u.f
 abbrev pub task_stage : Switches → Part → Update → Stage Task
 task_stage switches part u = op_stage switches part u u.op
 
--- the tasks so far, and those of the updates after them
+-- The tasks so far, and then those of the updates.
 abbrev pub tasks_stage : Switches → Part → List Task → List Update → Stage (List Task)
 tasks_stage switches part tasks [] = verdict_stage (Ok tasks)
 tasks_stage switches part tasks (u ∷ updates) =

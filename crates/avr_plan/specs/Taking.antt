@@ -1,5 +1,5 @@
--- Where want of memory may stop a plan while no file is open. (Where one is open, that file was due: avr_desk's
--- `NoMemoryFor`.)
+-- When a failed allocation may stop a plan while no file is open. If a file is open, avr_desk's `NoMemoryFor`
+-- applies.
 use Rattle.std.specs.Prelude.{◌≡◌, Bool, true, false, List, [], ◌∷◌, ◌++◌, if◌then◌else◌}
 use Rattle.avr_cli.specs.declared.settings.Settings.{Settings}
 use Rattle.avr_cli.specs.declared.settings.Switches.{Switches}
@@ -17,19 +17,19 @@ use Rattle.avr_plan.specs.Plan.{Plan}
 use Rattle.avr_plan.specs.Planning.{planned, tasks_stage}
 use Rattle.avr_plan.specs.declared.planned.Task.{Task}
 
--- the values stand in the words of the command
+-- The values are on the command line.
 abbrev pub has_values : Format → Bool
 has_values Immediate = true
 has_values format = false
 
--- Memory is taken for the image of values, and for the name of the file that a read makes.
+-- The image of values is allocated, and the name of the file that a read creates.
 abbrev pub op_takes_memory : Update → Op → Bool
 op_takes_memory u op.Write = if is_writable u.memory then has_values u.format else false
 op_takes_memory u op.Verify = has_values u.format
 op_takes_memory u op.Read = true
 
--- An update that takes memory without a file was due. The updates before it were planned, of all that passed, and
--- what was said is all that their plan says.
+-- An update that allocates without a file is next. The updates before it were planned from all openings so far, and
+-- the output so far is all that their plan has.
 pub record AtUpdate (s : Settings) (passed : List Opening) (said : List Saying) : Type 0 where
   pub done : List Update
   pub due : Update
@@ -40,7 +40,7 @@ pub record AtUpdate (s : Settings) (passed : List Opening) (said : List Saying) 
   pub is_planned : planned (record s { updates = done }) passed
       ≡ record { says = said; answer = Made plan; left = [] }
 
--- inside: the same of the tasks of these updates, which follow other tasks
+-- inside: the same for the tasks of these updates, which follow other tasks
 pub record AtTask (switches : Switches) (part : Part) (tasks : List Task) (updates : List Update)
     (passed : List Opening) (said : List Saying) : Type 0 where
   pub done : List Update

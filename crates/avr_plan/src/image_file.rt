@@ -1,4 +1,4 @@
-//! An image file over a desk: read in pieces to its end, or past the limit, and only then judged.
+//! Reads an image file over a desk: in pieces to its end, or past the limit, and judges it only then.
 ghost use Rattle.std.specs.Prelude.{◌≡◌, ◌+◌, ◌<◌, ◌≤◌, ◌^◌, ℕ, IfErr, OnOk, length};
 ghost use Rattle.avr_desk.specs.Fault.{Follows, HasSameCounts};
 ghost use Rattle.avr_desk.specs.Record.{DeskView, Bytes};
@@ -23,22 +23,22 @@ use thiserror::Error;
 /// The most bytes of an image file.
 pub(crate) const LARGEST_IMAGE_FILE: usize = 4_194_304;
 
-/// The most bytes that are asked of a desk at a time. The file's first bytes are held beside them, so 4,096 in all.
+/// The most bytes read at a time. The file's first bytes are held besides, so 4,096 in all.
 const PIECE: usize = 4096 - FIRST_BYTES;
 
-/// Why no image came of a file. It shows as the reason alone, without the file's name.
+/// Why a file gave no image. Its text is the reason alone, without the file's name.
 #[derive(Clone, Copy, Debug, PartialEq, Eq, Error)]
 pub enum ReadFault {
     /// The file was not read to its end.
     #[error("{0}")]
     File(FileFault),
-    /// It was, and is no image.
+    /// The file was read, and is no image.
     #[error("{0}")]
     Image(BadFile),
 }
 
 impl ReadFault {
-    /// The fault's number, from 1 on, which no later version changes.
+    /// Returns the fault's number, which never changes.
     pub fn number(&self) -> u8
         ensures { result ≡ read_fault_number self.now }
     {
@@ -49,14 +49,14 @@ impl ReadFault {
     }
 }
 
-/// The first bytes of a file: all that it has, or enough to show its format.
+/// The first bytes of a file: the whole file, or enough to show its format.
 #[derive(Drop)]
 pub(crate) struct FirstBytes {
     pub bytes: ArrayVec<u8, FIRST_BYTES>,
     pub ended: bool,
 }
 
-/// The kind of a file of this format, by its first bytes where no kind is given.
+/// Returns the kind of a file of this format; `Auto` and its like are detected from the first bytes.
 fn file_kind(format: Format, prefix: &[u8]) -> Found
     ensures { result ≡ kind_of format prefix.now }
 {
@@ -93,7 +93,6 @@ fn read_first_bytes<D: Desk>(desk: &mut D) -> Result<FirstBytes, FileFault>
     })
 }
 
-/// What the whole file is.
 fn finish(intake: Intake) -> Result<(Image, Ending), ReadFault>
     ensures given { (found : AnyFound) (size : ℕ) (text : Bytes) → Takes found size intake text
         → IsGiven (whole_file found text size) result }
@@ -106,7 +105,7 @@ fn finish(intake: Intake) -> Result<(Image, Ending), ReadFault>
     }
 }
 
-/// Reads the rest of the open file, which may have `left` more bytes, and judges the whole.
+/// Reads the rest of the open file, of at most `left` bytes, and judges the whole.
 fn read_rest<D: Desk>(
     desk: &mut D,
     mut intake: Intake,
@@ -168,17 +167,18 @@ fn read_open<D: Desk>(
     read_rest(desk, intake, limit - bytes.len())
 }
 
-/// Reads an image file: opens it, reads it to its end or until more than 4,194,304 bytes came, in pieces of at most
-/// 3,072, and then tells what it is to a memory of `size` bytes. Of the file no more than 4,096 bytes are held at a
-/// time.
+/// Reads an image file for a memory of `size` bytes. The file is opened and read to its end, or until more than
+/// 4,194,304 bytes have come, and judged only then. It is read in pieces of at most 3,072 bytes, and at most 4,096
+/// bytes of it are held at a time.
 ///
-/// The name `-` is standard input. Intel HEX, S-records and raw bytes are read as such; for any other `format` the
-/// first 1,024 bytes show which of them it is, or that it is ELF. Where the answer is an image, it has a place for each
-/// byte of the memory.
+/// The name `-` is standard input. Intel HEX, S-records and raw bytes are read as such. For any other `format` the
+/// first 1,024 bytes show which of these the file is, or that it is ELF. The image has exactly `size` places.
 ///
-/// The answer is `ReadFault::File` where the file is not there or can't be opened or read on, and where memory is
-/// refused; else `ReadFault::Image` of the first thing wrong with it. Of a file past the limit only a line that ends
-/// within it is judged; where none is at fault it is `BadFile::TooLong`.
+/// # Errors
+///
+/// `ReadFault::File` if the file doesn't exist, can't be opened or can't be read to its end, or if allocation fails.
+/// Otherwise `ReadFault::Image` with the first fault of the file. In a file past the limit only the lines that end
+/// within the limit are judged; if none has a fault, it is `BadFile::TooLong`.
 ///
 /// ```text
 /// let (image, ending) = read_image(alloc, &mut desk, "app.hex", Format::Auto, 32_768)?;

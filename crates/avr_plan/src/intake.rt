@@ -1,4 +1,4 @@
-//! An image that is made of the bytes of a file as they come, and why they are none.
+//! Makes an image from the bytes of a file as they come, or reports why they are no image.
 ghost use Rattle.std.specs.Prelude.{◌≡◌, ◌+◌, ◌<◌, ◌≤◌, ◌^◌, ◌++◌, ℕ, List, [], Ok, Err, length, MatchResult};
 ghost use Rattle.avr_plan.specs.Faults.{bad_file_number};
 ghost use Rattle.avr_desk.specs.Record.{Bytes};
@@ -15,22 +15,22 @@ use thiserror::Error;
 /// Why the bytes of a file are no image of a memory.
 #[derive(Clone, Copy, Debug, Drop, PartialEq, Eq, Error)]
 pub enum BadFile {
-    /// A line of a record file is at fault: the first one, by its number from 1.
+    /// A line of a record file has a fault: the first such line, counted from 1.
     #[error("{0}")]
     Record(RecordFault),
-    /// Raw bytes go past the memory, first at this address.
+    /// Raw bytes go past the memory; the address is the first one outside.
     #[error("{0}")]
     Raw(ImageFault),
-    /// It is an executable in the ELF format.
+    /// The file is an executable in the ELF format.
     #[error("ELF is not read")]
     Elf,
-    /// It has more than 4,194,304 bytes.
+    /// The file has more than 4,194,304 bytes.
     #[error("longer than 4194304 bytes")]
     TooLong,
 }
 
 impl BadFile {
-    /// The fault's number, from 1 on, which no later version changes.
+    /// Returns the fault's number, which never changes.
     pub fn number(&self) -> u8
         ensures { result ≡ bad_file_number self.now }
     {
@@ -43,7 +43,7 @@ impl BadFile {
     }
 }
 
-/// What is made of the bytes of a file as they come: a reader's work, or the fault that it met.
+/// The bytes of a file so far: a reader, or the fault that it met.
 #[derive(Drop)]
 pub(crate) enum Intake {
     Records(RecordReader),
@@ -71,7 +71,7 @@ fn raw_intake(alloc: Global, size: u32) -> Result<Intake, FileFault>
     }
 }
 
-/// What is wrong with a file that is too long, with this fault in its first bytes.
+/// Returns the fault of a file that is too long and has this fault in its first bytes.
 fn in_long_file(fault: BadFile) -> BadFile
     ensures { result ≡ in_long_file fault }
 {
@@ -82,7 +82,6 @@ fn in_long_file(fault: BadFile) -> BadFile
 }
 
 impl Intake {
-    /// For a file of this kind and a memory of this size, before any byte.
     pub(crate) fn new(alloc: Global, found: Found, size: u32) -> Result<Intake, FileFault>
         ensures { MatchResult result (λ intake. Takes found size intake [] × (fed_count intake ≡ 0))
             (λ fault. fault ≡ FileFault.Memory) }
@@ -95,7 +94,7 @@ impl Intake {
         }
     }
 
-    /// With the next bytes of the file. The first fault is kept.
+    /// Takes the next bytes of the file. The first fault is kept.
     pub(crate) fn fed(self, piece: &[u8]) -> Intake
         requires { fed_count self + length piece.now < 2 ^ 32 }
         ensures takes { (found : AnyFound) (size : ℕ) (text : Bytes) → Takes found size self text
@@ -115,7 +114,6 @@ impl Intake {
         }
     }
 
-    /// What the whole file is.
     pub(crate) fn finish(self) -> Result<(Image, Ending), BadFile>
         ensures { (found : AnyFound) (size : ℕ) (text : Bytes) → Takes found size self text
             → result ≡ whole_file found text size }
@@ -130,7 +128,7 @@ impl Intake {
         }
     }
 
-    /// What is wrong with the file, which began so.
+    /// Returns the fault of a longer file that begins with these bytes.
     pub(crate) fn exceeded(self) -> BadFile
         ensures { (found : AnyFound) (size : ℕ) (text : Bytes) → Takes found size self text
             → result ≡ long_file found text size }

@@ -1,4 +1,4 @@
-//! Laws of planning, over the definitions alone. No code.
+//! Laws of planning, over the definitions alone; no code.
 ghost use Rattle.std.specs.Prelude.{◌≡◌, ◌++◌, ℕ, List, Some, Err};
 ghost use Rattle.avr_cli.specs.declared.settings.Settings.{Settings};
 ghost use Rattle.ghosts.specs.Failures.{HasStood};
@@ -13,14 +13,14 @@ ghost use Rattle.avr_plan.specs.Taking.{AtUpdate};
 ghost use Rattle.avr_desk.specs.Playing.{Goes, WentRefused};
 ghost use Rattle.avr_desk.specs.Stage.{Unread, told_in};
 
-/// Whatever files give, planning opens files to be read and prints lines: nothing is created, written or put out. (That
-/// it sends nothing is so by its type: a stage knows of no line.)
+/// States that planning only opens files for reading and prints lines, whatever the files give. Nothing is created,
+/// written or output. It sends nothing by its type: a stage knows of no link.
 pub fn a_plan_only_reads_and_warns()
     ensures { (s : Settings) (openings : List Opening) → OnlyReads (told_in (planned s openings)) }
 {}
 
-/// Where the desk did not fail, by its count of all failures, a plan that is not made is refused as planning says, with
-/// its line, or the messages end with the line of memory.
+/// States what happens if a plan fails although the desk's failure counts didn't rise. Either the plan is refused as
+/// planning says, with its line, or the messages end with the out-of-memory line.
 pub fn a_sound_plan_is_refused_aloud()
     ensures { (s : Settings) (before after : Record) (k l m n status : ℕ) → HasStood k l
         → ((prefix : Bytes) → after.messages ≡ prefix ++ memory_line → ⊥)
@@ -28,8 +28,8 @@ pub fn a_sound_plan_is_refused_aloud()
         → WentRefused (planned s) (showing before k m) (showing after l n) }
 {}
 
-/// Planning is a function of the files: where each opening was true of them, and none was left before its end or its
-/// limit, what came of it, and each line that was reported, are those of planning over the files whole.
+/// States that planning is a function of the files, if each opening was true of them, and each file was read to its
+/// end or past its limit. The result and the printed lines are those of planning over the whole files.
 pub fn a_plan_is_of_whole_files()
     ensures { (s : Settings) (stock : Stock) (openings : List Opening) → AreSeen stock (planned s openings).says
         → ((planned s openings).answer ≡ Unread → ⊥)

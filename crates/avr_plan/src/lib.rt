@@ -1,9 +1,8 @@
-//! The plan of a run: what the settings ask for is read and judged, before any frame is sent or file created.
+//! The plan of a run: reads and judges all that the settings ask for, before any frame is sent or file created.
 //!
-//! The rules are those of AVRDUDE's `-U`: a part is looked up, in the part file before the built-in parts, and the file
-//! of each update becomes an image of its memory. The one idea: planning is a function of what the openings of files
-//! give, and what a call does at the desk and answers is that function, over the openings that passed and whatever
-//! might follow.
+//! The rules are those of AVRDUDE's `-U`. A part is looked up in the part file, then in the built-in parts, and the
+//! file of each update becomes an image of its memory. Planning is a function of what the openings of files give, and
+//! a call returns that function of the openings that passed.
 //!
 //! ```text
 //! match plan(alloc, &settings, &mut desk) {
@@ -19,9 +18,9 @@ mod intake;
 // the part, and the image of an update
 mod part_choice;
 mod update_image;
-// what is to be done
+// the tasks of a run
 mod planned;
-// the plan, and why there is none
+// the plan, or why there is none
 mod messages;
 mod plan_fault;
 mod planning;

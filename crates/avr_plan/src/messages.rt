@@ -1,4 +1,4 @@
-//! Why there is no plan: the messages of refusals.
+//! The messages of refusals.
 ghost use Rattle.std.specs.Prelude.{◌≡◌};
 ghost use Rattle.avr_plan.specs.Lines.{bad_file_pieces, field_pieces, image_pieces, in_line_pieces, line_range_pieces, no_part_pieces, part_file_pieces, range_pieces, raw_pieces, read_only_pieces, record_pieces, value_pieces, values_pieces};
 
@@ -28,7 +28,7 @@ pub(crate) fn part_file_message<'a>(file: &'a str, fault: PartFault) -> Message<
         PartFault::Missing(field) => field_message(file, field, " is missing"),
         PartFault::BadValue(field) => field_message(file, field, " has a bad value"),
         PartFault::BadSizes => Message::about(file, ": sizes do not fit"),
-        // the other faults come of no part file, but for the want of memory
+        // no part file has the other faults; they mean that allocation failed
         _ => memory_message(),
     }
 }
@@ -50,7 +50,6 @@ fn in_line_message<'a>(file: &'a str, line: u32, wrong: &'a str) -> Message<'a>
     ])
 }
 
-/// A line of a file goes past the memory.
 fn line_range_message<'a>(file: &'a str, line: u32, address: u32) -> Message<'a>
     ensures { result ≡ line_range_pieces file.now line address }
 {
@@ -81,7 +80,6 @@ fn record_message<'a>(file: &'a str, fault: RecordFault) -> Message<'a>
     }
 }
 
-/// An address lies outside a memory.
 fn range_message<'a>(name: &'a str, address: u32) -> Message<'a>
     ensures { result ≡ range_pieces name.now address }
 {
@@ -103,7 +101,6 @@ fn raw_message<'a>(file: &'a str, fault: ImageFault) -> Message<'a>
     }
 }
 
-/// Why a file is no image.
 fn bad_file_message<'a>(file: &'a str, fault: BadFile) -> Message<'a>
     ensures { result ≡ bad_file_pieces file.now fault }
 {
@@ -115,7 +112,6 @@ fn bad_file_message<'a>(file: &'a str, fault: BadFile) -> Message<'a>
     }
 }
 
-/// Why no image came of a file.
 pub(crate) fn image_message<'a>(file: &'a str, fault: ReadFault) -> Message<'a>
     ensures { result ≡ image_pieces file.now fault }
 {
@@ -125,7 +121,6 @@ pub(crate) fn image_message<'a>(file: &'a str, fault: ReadFault) -> Message<'a>
     }
 }
 
-/// What is wrong with the value at this place.
 fn value_message<'a>(memory: Mem, place: u32, wrong: &'a str) -> Message<'a>
     ensures { result ≡ value_pieces memory place wrong.now }
 {
@@ -144,12 +139,12 @@ pub(crate) fn values_message(memory: Mem, fault: ImageFault) -> Message<'static>
         ImageFault::OutOfRange(address) => range_message(memory.name(), address),
         ImageFault::BadNumber(place) => value_message(memory, place, ": not a number"),
         ImageFault::TooLarge(place) => value_message(memory, place, ": above 255"),
-        // no values have these, but for the want of memory
+        // no values have these, unless allocation fails
         ImageFault::Failed | ImageFault::Memory | ImageFault::OtherSize => memory_message(),
     }
 }
 
-/// A memory can't be written: `signature is read-only`.
+/// Returns the message for a memory that can't be written, such as `signature is read-only`.
 pub fn read_only_message<'a>(memory: Mem) -> Message<'a>
     ensures { result ≡ read_only_pieces memory }
 {

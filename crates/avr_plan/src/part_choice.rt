@@ -1,4 +1,4 @@
-//! The part: the part file is read and judged, and the part looked up.
+//! The part: reads and judges the part file, and looks the part up.
 ghost use Rattle.std.specs.Prelude.{◌≡◌, false, [], Some, None, Ok, IfErr};
 ghost use Rattle.avr_plan.specs.PlanFaults.{LastTold, TellsPartsFault, part_file_fault_line, with_status};
 ghost use Rattle.avr_plan.specs.Planning.{LacksPart, parts_stage, part_stage};
@@ -12,7 +12,6 @@ use avr_desk::{Desk, FileFault, file_message, read_file, refuse, too_long_messag
 use avr_part::{Part, PartFault, Parts, parse_parts};
 use std::alloc::Global;
 
-/// The most bytes of a part file.
 const LARGEST_PART_FILE: usize = 65_536;
 
 fn file_parts<D: Desk>(alloc: Global, desk: &mut D, file: &str) -> Result<Parts, PartsFault>
@@ -43,12 +42,12 @@ fn file_parts<D: Desk>(alloc: Global, desk: &mut D, file: &str) -> Result<Parts,
     }
 }
 
-/// Returns the parts of the part file, or none if no file is given.
+/// Returns the parts of the part file, or an empty list if no file is given.
 ///
 /// # Errors
 ///
 /// The file has at most 65,536 bytes. A fault is returned if it can't be read, is longer or isn't a part file, or if
-/// memory is refused. Its line was printed, as far as the desk takes it.
+/// allocation fails. The fault's line was printed, as far as the desk takes it.
 pub fn given_parts<D: Desk>(
     alloc: Global,
     desk: &mut D,
@@ -66,10 +65,12 @@ pub fn given_parts<D: Desk>(
     }
 }
 
-/// The part of this id, in the parts of the part file before the built-in ones.
+/// Returns the part with this id. The parts of the part file come before the built-in ones.
 ///
-/// Where there is none the line `avrstk: error: no part ID` was printed, as far as the desk takes it, and the answer is
-/// the status, 1.
+/// # Errors
+///
+/// The status 1 if no part has this id. The line `avrstk: error: no part ID` was printed, as far as the desk takes
+/// it.
 ///
 /// ```text
 /// let parts = given_parts(alloc, &mut desk, &settings.parts)?;

@@ -9,9 +9,9 @@ use avr_part::PartFault;
 pub enum PartsFault {
     /// The file was not read to its end.
     File(FileFault),
-    /// It has more than 65,536 bytes.
+    /// The file has more than 65,536 bytes.
     TooLong,
-    /// It was read, and isn't a part file.
+    /// The file was read, and isn't a part file.
     Parts(PartFault),
 }
 
@@ -20,23 +20,23 @@ pub enum PartsFault {
 pub enum TaskFault {
     /// The memory can't be written.
     ReadOnly,
-    /// The values of the command line are no image of the memory.
+    /// The values on the command line are no image of the memory.
     Values(ImageFault),
-    /// No image came of the file.
+    /// The file gave no image.
     File(ReadFault),
-    /// Memory was refused.
+    /// Allocation failed.
     Memory,
-    /// The warning that the file lacks an end record could not be printed.
+    /// The warning about a missing end record could not be printed.
     Unwarned,
 }
 
-/// Why there is no plan. Its line was printed last, as far as the desk took it.
+/// Why there is no plan. The fault's line was printed last, as far as the desk took it.
 #[derive(Clone, Copy, Debug, PartialEq, Eq)]
 pub enum PlanFault {
     /// The part file gave no parts.
     PartFile(PartsFault),
-    /// No part has the id of the settings.
+    /// No part has the id in the settings.
     NoPart,
-    /// The update with this number is refused. Updates count from 0.
+    /// The update with this number, counted from 0, is refused.
     Update(usize, TaskFault),
 }

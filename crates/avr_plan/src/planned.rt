@@ -1,4 +1,4 @@
-//! What a run is to do: a part, and tasks in their order.
+//! The work of a run: a part, and tasks in order.
 ghost use Rattle.std.specs.Prelude.{◌≡◌, All};
 ghost use Rattle.avr_plan.specs.Plan.{IsFitted};
 
@@ -7,24 +7,24 @@ use avr_image::Image;
 use avr_part::{Mem, Part};
 use std::marker::Model;
 
-/// What a session does with one memory. An image has a place for each byte of the memory; at some it may hold none.
+/// What a run does with one memory. An image has a place for each byte of the memory, and some places may be gaps.
 #[derive(Debug, Drop)]
 pub enum Task {
-    /// The bytes of the image are written to the memory.
+    /// Writes the bytes of the image to the memory.
     Write(Mem, Image),
-    /// The memory is compared with the bytes of the image.
+    /// Compares the memory with the bytes of the image.
     Verify(Mem, Image),
-    /// The memory is read, and written to a file that is created then.
+    /// Reads the memory, and writes it to a file that is created then.
     Read {
         memory: Mem,
-        /// How the file shows the bytes.
+        /// The format of the file.
         format: Format,
-        /// The file's name as given, `-` for standard output.
+        /// The file's name as given; `-` is standard output.
         file: Text,
     },
 }
 
-/// What is to be done, in its order. Contracts see it as the list of the tasks.
+/// The tasks in order. Contracts see the list.
 #[derive(Debug, Drop)]
 pub(crate) struct Tasks {
     items: Vec<Task>,
@@ -53,7 +53,7 @@ impl Tasks {
     }
 }
 
-/// What a run is to do. Where there is a plan, everything that it needs was read and judged.
+/// The work of a run. All that it needs was read and judged.
 #[derive(Debug, Drop)]
 pub struct Plan {
     part: Part,
@@ -84,14 +84,14 @@ impl Plan {
         }
     }
 
-    /// The part that the run works on.
+    /// Returns the part that the run works on.
     pub fn part(&self) -> &Part
         ensures { result.now ≡ self.now.part }
     {
         &self.part
     }
 
-    /// What is done with its memories, in the order given. Each image has the size of its memory.
+    /// Returns the tasks in the order given. Each image has the size of its memory.
     pub fn tasks(&self) -> &[Task]
         ensures value { result.now ≡ self.now.tasks }
         ensures fitted { All (IsFitted self.now.part) self.now.tasks }
@@ -99,7 +99,7 @@ impl Plan {
         self.tasks.as_slice()
     }
 
-    /// The options that are on or off.
+    /// Returns the options that are on or off.
     pub fn switches(&self) -> Switches
         ensures { result ≡ self.now.switches }
     {

@@ -1,4 +1,4 @@
-//! The plan of a run: everything that it needs is read and judged, before any frame is sent.
+//! Makes the plan of a run: reads and judges all that it needs, before any frame is sent.
 ghost use Rattle.std.specs.Prelude.{◌≡◌, ◌<◌, [], None, All, IfOk, IfErr, IsOk, OnOk, vec_len, vec_capacity};
 ghost use Rattle.avr_cli.specs.declared.settings.Switches.{Switches as AnySwitches};
 ghost use Rattle.avr_part.specs.Part.{Part as PartData};
@@ -101,7 +101,7 @@ fn read_task<D: Desk>(
     }
 }
 
-/// The task of an update, and room for it behind the others.
+/// Returns the task of an update, and makes room for it in `tasks`.
 fn update_task<D: Desk>(
     alloc: Global,
     desk: &mut D,
@@ -126,7 +126,6 @@ fn update_task<D: Desk>(
     }
 }
 
-/// The tasks of the updates, in their order.
 fn update_tasks<D: Desk>(
     alloc: Global,
     desk: &mut D,
@@ -138,7 +137,7 @@ fn update_tasks<D: Desk>(
         (tasks_stage switches part.now [] updates.now) (D.view desk.old) (D.view desk.new) (with_status result) }
     ensures told { IfErr result (TellsTasksFault updates.now (D.view desk.old) (D.view desk.new)) }
     ensures fitted { IfOk result (All (IsFitted part.now)) }
-    // Without updates no memory is taken.
+    // Without updates nothing is allocated.
     ensures none { updates.now ≡ [] → IsOk result }
     ensures stays { Stays D.comes_of desk.old desk.new }
 {
@@ -153,7 +152,11 @@ fn update_tasks<D: Desk>(
     Ok(Tasks::of(tasks))
 }
 
-/// Makes the plan of a run as [`plan`] does, and returns why there is none in place of a status.
+/// Makes the plan of a run as [`plan`] does, and returns the fault in place of a status.
+///
+/// # Errors
+///
+/// The fault whose line was printed last, as far as the desk takes it.
 ///
 /// ```text
 /// match plan_or_fault(alloc, &settings, &mut desk) {
@@ -170,7 +173,7 @@ pub fn plan_or_fault<D: Desk>(
     ensures goes { Goes (AtUpdate settings.now) (planned settings.now) (D.view desk.old)
         (D.view desk.new) (with_status result) }
     ensures told { IfErr result (TellsPlanFault settings.now (D.view desk.old) (D.view desk.new)) }
-    // Without a part file and updates nothing is read: only the part can be wanting.
+    // Without a part file and updates nothing is read: the only fault is an unknown part.
     ensures bare { settings.now.parts ≡ None → settings.now.updates ≡ []
         → IfErr result (λ fault. LacksPart settings.now.part [] (D.view desk.old) (D.view desk.new)) }
     ensures stays { Stays D.comes_of desk.old desk.new }
@@ -191,20 +194,20 @@ pub fn plan_or_fault<D: Desk>(
     Ok(Plan::new(part, tasks, switches))
 }
 
-/// Makes the plan of a run: reads and judges the part file, looks the part up, and then reads and judges the file of
-/// each update in order. A missing end record is warned of, unless warnings are off.
+/// Makes the plan of a run: reads and judges the part file, finds the part, and then reads and judges the file of
+/// each update in order. Warns about a missing end record, unless warnings are off.
 ///
 /// Every file is opened anew and read to its end, or past its limit, before it is judged. No file is created.
 ///
 /// # Errors
 ///
-/// The first refusal prints its line, and the status 1 is returned. It is also 1 if the desk fails or memory is
-/// refused. Then nothing more is opened, and the line of that was printed as far as the desk takes it. Memory is taken
-/// while a file is read, and before anything is done of an update of values or of a read.
+/// The status is always 1. The first refusal prints its line, as far as the desk takes it, and nothing more is
+/// opened. This is also so if the desk fails or allocation fails. Allocation happens while a file is read, and at the
+/// start of an update that has values or reads a memory.
 pub fn plan<D: Desk>(alloc: Global, settings: &Settings, desk: &mut D) -> Result<Plan, u8>
     ensures goes { Goes (AtUpdate settings.now) (planned settings.now) (D.view desk.old)
         (D.view desk.new) result }
-    // Without a part file and updates nothing is read: only the part can be wanting.
+    // Without a part file and updates nothing is read: the only fault is an unknown part.
     ensures bare { settings.now.parts ≡ None → settings.now.updates ≡ []
         → IfErr result (λ status. LacksPart settings.now.part [] (D.view desk.old) (D.view desk.new)) }
     ensures stays { Stays D.comes_of desk.old desk.new }

@@ -1,4 +1,4 @@
-//! The image of an update, in a file or in the words of the command.
+//! The image of an update, from a file or from values on the command line.
 ghost use Rattle.std.specs.Prelude.{◌≡◌, ◌<◌, true, false, length, IfErr, IfOk, OnOk, vec_len, vec_capacity};
 ghost use Rattle.avr_cli.specs.declared.settings.Switches.{Switches as AnySwitches};
 ghost use Rattle.avr_part.specs.Part.{size_of};
@@ -21,7 +21,7 @@ use avr_part::{Mem, Part};
 use avr_records::Ending;
 use std::alloc::Global;
 
-/// Whether the ending of a file is warned of: no end record came, and warnings are not off.
+/// Returns whether the ending of a file causes a warning: no end record came, and warnings are not off.
 fn is_warned(switches: Switches, ending: Ending) -> bool
     ensures { result ≡ is_warned switches ending }
 {
@@ -31,7 +31,7 @@ fn is_warned(switches: Switches, ending: Ending) -> bool
     }
 }
 
-/// Warns of a missing end record, unless warnings are off.
+/// Warns about a missing end record, unless warnings are off.
 fn warn_of_ending<D: Desk>(
     desk: &mut D,
     switches: Switches,
@@ -53,7 +53,7 @@ fn warn_of_ending<D: Desk>(
     }
 }
 
-/// The image in a file. Room for its task is made as soon as the file was read.
+/// Reads the image in a file. It makes room for the task as soon as the file is read.
 fn file_image<D: Desk>(
     alloc: Global,
     desk: &mut D,
@@ -90,7 +90,7 @@ fn file_image<D: Desk>(
     }
 }
 
-/// The image of values in the words of the command, after room for its task.
+/// Makes room for the task, and reads the image of values on the command line.
 fn values_image<D: Desk>(
     alloc: Global,
     desk: &mut D,
@@ -122,8 +122,8 @@ fn values_image<D: Desk>(
     }
 }
 
-/// The image of an update, and room for its task behind the others. Memory is refused before anything is said of an
-/// update of values, and for any other while its file is read.
+/// Reads the image of an update, and makes room for its task in `tasks`. For values, allocation fails before anything
+/// is printed; for a file, while it is read.
 pub(crate) fn update_image<D: Desk>(
     alloc: Global,
     desk: &mut D,

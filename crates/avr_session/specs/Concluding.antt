@@ -1,4 +1,4 @@
--- How a session goes on after an operation of the host. (For contracts inside this crate.)
+-- How a session goes on after an operation of the host: for contracts inside this crate.
 use Rattle.std.specs.Prelude.{◌≡◌, Option, None, Result, Ok, Err, ⊤}
 use Rattle.avr_desk.specs.declared.desk.DeskFault.{DeskFault}
 use Rattle.stk_host.specs.declared.fault.HostFault.{HostFault}
@@ -7,7 +7,7 @@ use Rattle.avr_session.specs.declared.ending.End.{End}
 use Rattle.avr_session.specs.declared.ending.End.TheVariants as ends
 use Rattle.avr_session.specs.Standing.{Standing, Fine, Faulty, Over}
 
--- a failed link and memory that is refused stop the run; no other fault does
+-- A failed link and a failed allocation stop the run; no other fault does.
 abbrev pub ended_by : HostFault → End
 ended_by LinkEnded = ends.Over LinkEnded
 ended_by SendFailed = ends.Stopped
@@ -19,19 +19,19 @@ abbrev pub after_outcome : {A : Type 0} → Result A HostFault → Result ⊤ En
 after_outcome (Ok a) = Ok tt
 after_outcome (Err fault) = Err (ended_by fault)
 
--- a desk that fails as it reports the outcome stops it too
+-- A desk that fails while it reports the outcome stops the run too.
 abbrev pub conclusion : {A : Type 0} → Result A HostFault → Result ⊤ DeskFault → Result ⊤ End
 conclusion outcome (Ok done) = after_outcome outcome
 conclusion outcome (Err _) = Err ends.Stopped
 
--- how a session stands that came to this, unless it stopped
+-- The state of a session after this result, unless it stopped.
 abbrev pub stands : Result ⊤ End → Result Standing ⊤
 stands (Ok done) = Ok Fine
 stands (Err (ends.Faulty fault)) = Ok Faulty
 stands (Err (ends.Over fault)) = Ok Over
 stands (Err ends.Stopped) = Err tt
 
--- after any phase that leaves the line, the host serves
+-- After a phase that leaves the link usable, the host is usable.
 abbrev pub HostServes : Result Standing ⊤ → Option HostFault → Type 0
 HostServes (Ok Fine) broken = broken ≡ None
 HostServes (Ok Faulty) broken = broken ≡ None

@@ -8,7 +8,7 @@ use Rattle.avr_image.specs.declared.list.Base.TheVariants.{Dec, Hex, Oct, Bin}
 use Rattle.avr_records.specs.Sparse.{image_text, run_at}
 use Rattle.avr_records.specs.declared.kind.Kind.TheVariants as kind
 
--- the text of a file in a format; any other than these is raw: the bytes themselves
+-- The text of a file in a format; in any other format the bytes themselves.
 unfoldable pub file_text : Format → Bytes → Bytes
 file_text Ihex bytes = image_text kind.Ihex (run_at 0 bytes)
 file_text Srec bytes = image_text kind.Srec (run_at 0 bytes)
@@ -18,11 +18,10 @@ file_text Octal bytes = list_text Oct bytes
 file_text Binary bytes = list_text Bin bytes
 file_text format bytes = bytes
 
--- how many bytes there are up to the last that isn't FF
 abbrev pub used_length : Bytes → ℕ
 used_length [] = 0
 used_length (byte ∷ bytes) = if used_length bytes == 0 && byte == 255 then 0 else 1 + used_length bytes
 
--- what is kept of a flash that was read: no trailing FF, but one where the length would be odd
+-- Flash bytes without the trailing FF, of which one stays if the length would be odd.
 abbrev pub trimmed : Bytes → Bytes
 trimmed bytes = take ((used_length bytes + 1) / 2 * 2) bytes

@@ -1,4 +1,4 @@
--- What a session holds, before a call of it and after. (For contracts inside this crate.)
+-- What a session holds before and after a call: for contracts inside this crate.
 use Rattle.std.specs.Prelude.{◌≡◌, List, Result, ⊤}
 use Rattle.avr_desk.specs.Record.{DeskView}
 use Rattle.avr_session.specs.declared.phases.Session.{Session}
@@ -11,18 +11,17 @@ use Rattle.avr_session.specs.Runs.{Devices, devices}
 use Rattle.ghosts.specs.Stays.{Stays}
 use Rattle.stk_host.specs.Talk.{LinkView}
 
--- what its devices show
 abbrev pub shown : {D L : Type 0} → (L → LinkView) → (D → DeskView) → Session D L → Devices
 shown link desk session = devices (link session.link.now) (desk session.desk.now)
 
--- these actions of its plan were done in their order, up to the first fault
+-- These actions of its plan were done in order, up to the first fault.
 abbrev pub SessionDoes : {D L : Type 0} → (L → LinkView) → (D → DeskView) → List Action → Session D L → Session D L
     → Result ⊤ End → Type 0
 SessionDoes link desk actions old new result =
     Does old.plan.now actions old.host new.host (shown link desk old) (shown link desk new)
     (stands result)
 
--- It has the same plan and devices, which come of what they came of.
+-- The plan and the devices are the same, and the devices stay what they came from.
 pub record Keeps {LinkStart DeskStart D L : Type 0} (LinkComes : LinkStart → L → Type 0)
     (DeskComes : DeskStart → D → Type 0) (old new : Session D L) : Type 0 where
   pub plan : new.plan ≡ old.plan
@@ -31,6 +30,5 @@ pub record Keeps {LinkStart DeskStart D L : Type 0} (LinkComes : LinkStart → L
   pub comes : Stays LinkComes old.link.now new.link.now
   pub stays : Stays DeskComes old.desk.now new.desk.now
 
--- if a fault ends it, the line of this fault is the last one reported
 abbrev pub TellsLast : {D L : Type 0} → (D → DeskView) → Session D L → Result ⊤ End → Type 0
 TellsLast desk session result = EndsTold session.plan.now.part (desk session.desk.now) result

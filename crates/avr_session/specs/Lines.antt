@@ -1,4 +1,4 @@
--- What a session says: lines of information, warnings, and the lines of faults.
+-- The lines of a session: information, warnings, and faults.
 use Rattle.std.specs.Prelude.{ℕ, List, [], ◌∷◌, codes, nat_lt, if◌then◌else◌}
 use Rattle.byteorder.specs.Endian.{big_bytes}
 use Rattle.avr_desk.specs.Record.{Bytes}
@@ -11,42 +11,37 @@ use Rattle.avr_plan.specs.Lines.{read_only_pieces}
 use Rattle.stk_host.specs.declared.fault.HostFault.{HostFault}
 use Rattle.stk_host.specs.declared.fault.HostFault.TheVariants.{NoAnswer, LinkEnded, SendFailed, Babble, Refused, BadAnswer, WrongSignature, Differs, ReadOnly, Memory, RecvFailed}
 
--- information is reported unless the run is quiet, a warning unless it is quiet twice
+-- Information is printed if `quiet` is 0; a warning also if it is 1.
 abbrev pub informs : ℕ → List Bytes → List Saying
 informs quiet pieces = if nat_lt 0 quiet then [] else Line (information pieces) ∷ []
 
 abbrev pub warns : ℕ → List Bytes → List Saying
 warns quiet pieces = if nat_lt 1 quiet then [] else Line (warning pieces) ∷ []
 
--- a signature is another than the part's
 abbrev pub other_signature : Part → Bytes → List Bytes
 other_signature part found =
     codes "signature is " ∷ spaced_digits found ∷ codes ", " ∷ part.id ∷ codes " has " ∷ spaced_digits part.signature
     ∷ []
 
--- a command was refused
 abbrev pub refused_pieces : ℕ → ℕ → List Bytes
 refused_pieces command status =
     codes "command " ∷ digits (command ∷ []) ∷ codes " refused with status " ∷ digits (status ∷ []) ∷ []
 
--- or answered by what is no answer to it
 abbrev pub bad_answer_pieces : ℕ → List Bytes
 bad_answer_pieces command = codes "command " ∷ digits (command ∷ []) ∷ codes ": bad answer" ∷ []
 
--- a memory differs from an image
 abbrev pub differs_pieces : Mem → ℕ → ℕ → ℕ → List Bytes
 differs_pieces mem address want found =
     name_of mem ∷ codes ": address " ∷ digits (big_bytes 4 address) ∷ codes ": " ∷ digits (want ∷ [])
     ∷ codes " expected, " ∷ digits (found ∷ []) ∷ codes " found" ∷ []
 
--- the link failed as it sent, and as it listened
+-- The link failed at sending; below, at listening.
 abbrev pub unsent_pieces : List Bytes
 unsent_pieces = codes "link cannot be written" ∷ []
 
 abbrev pub unheard_pieces : List Bytes
 unheard_pieces = codes "link cannot be read" ∷ []
 
--- a host's fault in the work on a part
 abbrev pub fault_pieces : Part → HostFault → List Bytes
 fault_pieces part NoAnswer = codes "no answer" ∷ []
 fault_pieces part LinkEnded = codes "link ended" ∷ []

@@ -1,4 +1,4 @@
--- What came of a session, and the fault whose line was reported.
+-- The outcome of a session, and the fault whose line was reported.
 use Rattle.std.specs.Prelude.{ℕ, ◌≡◌, ◌++◌, Result, Ok, Err, ⊤}
 use Rattle.avr_desk.specs.Record.{Bytes, DeskView}
 use Rattle.avr_part.specs.Part.{Part}
@@ -13,18 +13,16 @@ use Rattle.avr_session.specs.Runs.{Devices}
 use Rattle.avr_session.specs.Session.{session}
 use Rattle.avr_session.specs.Stopping.{IsPlayed}
 
--- the status of a run whose session came to this
 abbrev pub outcome_status : Outcome → ℕ
 outcome_status outcome.Done = 0
 outcome_status (outcome.Faulty fault) = 1
 outcome_status outcome.Stopped = 1
 
--- these messages end with this line
 abbrev pub EndWith : Bytes → Bytes → Type 0
 EndWith line messages = (before : Bytes) × (messages ≡ before ++ line)
 
--- A session came to this: it was played whole, and no fault came; it was played whole, and the last line that was
--- reported is that of this fault; or it stopped where it stood.
+-- Done: it ran whole, without a fault. Faulty: it ran whole, and this fault's line is the last one. Stopped: it
+-- stopped at once.
 abbrev pub ComesTo : Plan → Devices → Devices → Outcome → Type 0
 ComesTo plan old new outcome.Done = IsPlayed (session plan) old new 0
 ComesTo plan old new (outcome.Faulty fault) =
@@ -33,7 +31,7 @@ ComesTo plan old new outcome.Stopped = StopsSession plan old new
 
 -- ---- inside: how a session ended
 
--- if a fault ended it, the line of this fault is the last one reported
+-- If a fault ended the session, the fault's line is the last one reported.
 abbrev pub EndsTold : Part → DeskView → Result ⊤ End → Type 0
 EndsTold part view (Ok done) = ⊤
 EndsTold part view (Err (ends.Faulty fault)) = EndWith (fault_line part fault) view.kept.messages

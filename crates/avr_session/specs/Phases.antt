@@ -1,4 +1,4 @@
--- How a phase of a session ends. (For contracts inside this crate.)
+-- How a phase of a session ends: for contracts inside this crate.
 use Rattle.std.specs.Prelude.{Bool, true, false, ◌≡◌, ◌≤◌, List, Result, Ok, Err, ⊤}
 use Rattle.std.specs.List.{list_any}
 use Rattle.avr_desk.specs.Fault.{Follows}
@@ -18,18 +18,17 @@ use Rattle.avr_session.specs.Reporting.{PrintStops, Reports}
 use Rattle.avr_session.specs.Session.{phases}
 use Rattle.avr_session.specs.Taking.{AtOnce, AtTaking}
 
--- whether a fault was reported, by how a session stands
 abbrev pub is_told : Standing → Bool
 is_told Fine = false
 is_told standing = true
 
--- the one or the other, as a call answers
+-- The result of a call: the dialog ran whole, or it broke off.
 abbrev pub Runs : {R : Type 0} → Dialog Saying R → Position → Devices → Devices → Terms → Lacking → Result R ⊤
     → Position → Type 0
 Runs dialog before old new terms Lacks (Ok result) after = Ran dialog before old new result after
 Runs dialog before old new terms Lacks (Err stopped) after = BrokeOff dialog before old new terms Lacks
 
--- A phase was played on these terms by a host, over devices that showed this before and after it.
+-- A host ran this phase on these terms, between these states of the devices.
 pub record PerformsBehind (terms : Terms) (Lacks : Lacking) (dialog : Dialog Saying Standing)
     (host_old host_new : HostState) (old new : Devices) (result : Result Standing ⊤) : Type 0 where
   pub runs : Runs dialog host_old.progress old new terms Lacks result host_new.progress
@@ -38,19 +37,20 @@ pub record PerformsBehind (terms : Terms) (Lacks : Lacking) (dialog : Dialog Say
   pub link : old.link.failures ≤ new.link.failures
   pub desk : Follows old.desk new.desk
 
--- the same where no fault was reported before it, and memory is taken at once if at all
+-- The same, if no fault was reported before, and the phase allocates at its start or never.
 abbrev pub Performs : Bool → Dialog Saying Standing → HostState → HostState → Devices → Devices
     → Result Standing ⊤ → Type 0
 Performs takes dialog host_old host_new old new result =
     PerformsBehind (untold takes) (AtOnce takes) dialog host_old host_new old new result
 
--- these actions of a plan were done in their order, up to the first fault, and memory is taken only where one does
+-- These actions of a plan were done in order, up to the first fault. Allocation can fail only at an action that
+-- allocates.
 abbrev pub Does : Plan → List Action → HostState → HostState → Devices → Devices → Result Standing ⊤ → Type 0
 Does plan actions host_old host_new old new result =
     PerformsBehind (untold (list_any action_takes_memory actions)) (AtTaking plan.part plan.switches actions)
     (phases plan.part plan.switches actions) host_old host_new old new result
 
--- something was said in place of an action
+-- These events were output in place of an action.
 pub record LeavesOut (sayings : List Saying) (old new : DeskView) (result : Result ⊤ End) : Type 0 where
   pub told : Result ⊤ DeskFault
   pub reports : Reports PrintStops old new sayings told

@@ -8,7 +8,7 @@ use Rattle.stk_host.specs.Bound.{opening_steps, erasing_steps, closing_steps}
 use Rattle.stk_host.specs.ReadSteps.{read_steps}
 use Rattle.stk_host.specs.WriteSteps.{write_steps}
 
--- the steps of one action: a comparison reads its memory, and what is left out takes none
+-- The steps of one action. A comparison reads its memory, and a skipped action takes no steps.
 abbrev pub action_steps : Part → Action → List (List Command)
 action_steps part OpenSession = opening_steps
 action_steps part EraseChip = erasing_steps
@@ -21,6 +21,6 @@ abbrev pub actions_steps : Part → List Action → List (List Command)
 actions_steps part [] = []
 actions_steps part (action ∷ actions) = action_steps part action ++ actions_steps part actions
 
--- its actions in their order, and the closing
+-- The steps of all actions in order, and the closing.
 abbrev pub run_steps : Plan → List (List Command)
 run_steps plan = actions_steps plan.part (actions plan) ++ closing_steps

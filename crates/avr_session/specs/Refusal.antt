@@ -1,4 +1,4 @@
--- The message of a fault of the settings.
+-- The messages of faults of the settings.
 use Rattle.std.specs.Prelude.{ℕ, List, [], ◌∷◌, Option, Some, None, codes, decimal}
 use Rattle.avr_desk.specs.Record.{Bytes}
 use Rattle.avr_cli.specs.declared.settings.SettingsFault.{SettingsFault}
@@ -7,7 +7,6 @@ use Rattle.avr_cli.specs.declared.update.UpdateFault.{UpdateFault}
 use Rattle.avr_cli.specs.declared.update.UpdateFault.TheVariants as update
 use Rattle.avr_desk.specs.Lines.{error, memory_pieces}
 
--- in the update of this number
 abbrev pub in_update_pieces : ℕ → Bytes → List Bytes
 in_update_pieces n text = codes "update " ∷ decimal n ∷ text ∷ []
 
@@ -18,7 +17,6 @@ update_pieces n update.BadFormat = in_update_pieces n (codes ": no such format h
 update_pieces n update.NoFile = in_update_pieces n (codes ": no file named")
 update_pieces n update.Memory = memory_pieces
 
--- something that was given
 abbrev pub unknown_pieces : Bytes → Bytes → List Bytes
 unknown_pieces what name = what ∷ name ∷ codes " is not known" ∷ []
 
@@ -36,6 +34,5 @@ refusal_pieces (BadUpdate n fault) = update_pieces n fault
 refusal_pieces StandardTaken = codes "standard streams are taken" ∷ []
 refusal_pieces Memory = memory_pieces
 
--- the line of a fault
 unfoldable pub refusal_line : SettingsFault → Bytes
 refusal_line fault = error (refusal_pieces fault)

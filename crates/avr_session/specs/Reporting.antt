@@ -1,4 +1,4 @@
--- How a report ends: said whole, or up to where the desk failed. (For contracts inside this crate.)
+-- How a report ends, whole or at a failure of the desk: for contracts inside this crate.
 use Rattle.std.specs.Prelude.{List, map, ◌≡◌, ◌++◌, [], Result, Ok, Err, ⊤}
 use Rattle.avr_desk.specs.Fault as desk
 use Rattle.avr_desk.specs.Fault.{Follows, HasSameCounts}
@@ -8,13 +8,13 @@ use Rattle.stk_host.specs.Dialog.{Said}
 use Rattle.avr_desk.specs.declared.desk.DeskFault.{DeskFault}
 use Rattle.avr_session.specs.Runs.{Cause, OfFile, OfPrinting, FileTrouble, cause_line, StopsAt}
 
--- only the desk stops what is said
+-- Only a failure of the desk stops output.
 abbrev pub IsOfDesk : Cause → Type 0
 IsOfDesk (OfFile file trouble) = Unit {0}
 IsOfDesk OfPrinting = Unit {0}
 IsOfDesk cause = ⊥
 
--- A prefix of the sayings was done: some of them, and perhaps a part of the next, where this cause stops them.
+-- A prefix of the output events was done, and perhaps a part of the next one, at which this cause stops them.
 pub record SaysPrefix (cause : Cause) (old new : DeskView) (sayings : List Saying) : Type 0 where
   pub whole : List Saying
   pub begun : List Saying
@@ -24,7 +24,7 @@ pub record SaysPrefix (cause : Cause) (old new : DeskView) (sayings : List Sayin
   pub by_desk : IsOfDesk cause
   pub kept : Passes (after_all (whole ++ begun)) old new
 
--- A prefix of the sayings was done, and after it stands what was reported of the cause; such a cause may stop them.
+-- A prefix of the output events was done, and then the report of the cause. Such a cause may stop them.
 pub record SaidSome (By : DeskView → DeskView → Cause → Bytes → Type 0) (old new : DeskView)
     (sayings : List Saying) : Type 0 where
   pub between : DeskView
@@ -34,33 +34,31 @@ pub record SaidSome (By : DeskView → DeskView → Cause → Bytes → Type 0) 
   pub stops : By old new cause told
   pub kept : Passes (after_err told) between new
 
--- the sayings were done, and no call failed; or a prefix of them was
+-- All output events were done and no call failed, or a prefix of them was done.
 abbrev pub SaysOrStops : (DeskView → DeskView → Cause → Bytes → Type 0) → DeskView → DeskView → List Saying
     → Result ⊤ DeskFault → Type 0
 SaysOrStops By old new sayings (Ok done) = Passes (after_all sayings) old new × HasSameCounts old new
 SaysOrStops By old new sayings (Err _) = SaidSome By old new sayings
 
--- the same, and the desk follows
 pub record Reports (By : DeskView → DeskView → Cause → Bytes → Type 0) (old new : DeskView) (sayings : List Saying)
     (result : Result ⊤ DeskFault) : Type 0 where
   pub says : SaysOrStops By old new sayings result
   pub follows : Follows old new
 
--- a write to the messages failed, and nothing is reported of that
+-- A write to the messages failed; nothing reports this.
 abbrev pub PrintStops : DeskView → DeskView → Cause → Bytes → Type 0
 PrintStops old new OfPrinting told = desk.HasFailedToSay old new × (told ≡ [])
 PrintStops old new cause told = ⊥
 
--- the desk failed at a file, and from then on that was reported
+-- The desk failed at a file, and this was reported.
 abbrev pub FileStops : DeskView → DeskView → Bytes → FileTrouble → Bytes → Type 0
 FileStops old new file trouble told = TellsFailure (cause_line (OfFile file trouble)) told old new
 
--- the desk failed, at a file or as it printed
 abbrev pub DeskStops : DeskView → DeskView → Cause → Bytes → Type 0
 DeskStops old new (OfFile file trouble) told = FileStops old new file trouble told
 DeskStops old new cause told = PrintStops old new cause told
 
--- at a file only where there is something to save
+-- It fails at a file only if there is something to save.
 abbrev pub ReadStops : {A Fault : Type 0} → Result A Fault → DeskView → DeskView → Cause → Bytes → Type 0
 ReadStops (Ok read) = DeskStops
 ReadStops (Err fault) = PrintStops

@@ -15,28 +15,27 @@ use Rattle.avr_session.specs.Taking.{AtTaking}
 use Rattle.ghosts.specs.Stays.{Stays}
 use Rattle.stk_host.specs.Talk.{LinkView}
 
--- The session of a plan was run: it was played to its status, or it broke off, and want of memory stopped it only where
--- an action takes memory.
+-- The session of a plan was run whole to its status, or it broke off. Allocation can fail only at an action that
+-- allocates.
 abbrev pub RunsSession : Plan → Devices → Devices → ℕ → Type 0
 RunsSession plan old new status =
     RunsTo (session plan) old new (takes_memory plan) (AtTaking plan.part plan.switches (actions plan)) status
 
--- it broke off so
 abbrev pub StopsSession : Plan → Devices → Devices → Type 0
 StopsSession plan old new =
     BrokeOff (session plan) start old new (untold (takes_memory plan))
     (AtTaking plan.part plan.switches (actions plan))
 
--- the plan was made, of what the files gave, up to where the desk stood so, and its session was run from there
+-- The plan was made from what the files gave, up to `between`, and its session was run from there.
 pub record RunsPlan (settings : Settings) (old : Devices) (between : DeskView) (new : Devices)
     (status : ℕ) : Type 0 where
   pub plan : Plan
   pub made : Went (planned settings) old.desk between (Made plan)
   pub runs : RunsSession plan (devices old.link between) new status
 
--- There is no plan, or planning broke off: nothing was sent or heard, and the status is 1. Memory was refused only for
--- the file that was due, or where an update was due that takes it without a file. Without a part file and updates it is
--- only that no part has the name, and that was reported.
+-- There is no plan, or planning broke off. Nothing was sent or received, and the status is 1. Allocation failed only
+-- for the next file, or at an update that allocates without a file. Without a part file and updates the only fault is
+-- an unknown part, which was reported.
 pub record RunsNone (settings : Settings) (old new : Devices) (status : ℕ) : Type 0 where
   pub refused : WentRefused (planned settings) old.desk new.desk
       ⊎ planning.StageBrokeOff (AtUpdate settings) (planned settings) old.desk new.desk
@@ -48,7 +47,7 @@ abbrev pub RunsSettings : Settings → Devices → DeskView → Devices → ℕ 
 RunsSettings settings old between new status =
     RunsPlan settings old between new status ⊎ RunsNone settings old new status
 
--- The same of a link and a desk: the desk stood so in between, and stays what it came of.
+-- The same for a link and a desk, with the desk `between`, which stays what it came from.
 pub record RunsBetween {D Start : Type 0} (view : D → DeskView) (ComesOf : Start → D → Type 0) (settings : Settings)
     (link_old link_new : LinkView) (old new : D) (status : ℕ) : Type 0 where
   pub between : D

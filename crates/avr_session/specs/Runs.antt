@@ -1,4 +1,4 @@
--- What a call over a link and a desk comes to: its dialog played whole, or broken off.
+-- The result of a call over a link and a desk: its dialog ran whole, or it broke off.
 use Rattle.std.specs.Prelude.{ℕ, Bool, true, false, ◌||◌, List, [], ◌∷◌, ◌++◌, ◌≡◌, ◌<◌, ◌≤◌, ◌⊎◌, length, nat_eq, Option, None, codes}
 use Rattle.std.specs.List.{list_any, starts_with}
 use Rattle.avr_desk.specs.Record.{DeskView, Passes, after_err, Bytes}
@@ -14,7 +14,7 @@ use Rattle.avr_desk.specs.Lines.{error, memory_line, not_created_pieces, not_wri
 use Rattle.avr_session.specs.Lines.{unsent_pieces, unheard_pieces}
 use Rattle.avr_desk.specs.Said.{Saying, Line, Creates, Writes, Outs, SaidPart, IsPrefixOf, TellsLine, after_all}
 
--- what a link and a desk show
+-- The state of a link and a desk.
 pub record Devices : Type 0 where
   pub link : LinkView
   pub desk : DeskView
@@ -22,21 +22,18 @@ pub record Devices : Type 0 where
 abbrev pub devices : LinkView → DeskView → Devices
 devices link desk = record { link = link; desk = desk }
 
--- no call of the link or of the desk failed
 abbrev pub NoneFailed : Devices → Devices → Type 0
 NoneFailed old new = (new.link.failures ≡ old.link.failures) × HasSameCounts old.desk new.desk
 
--- where a conversation begins
 abbrev pub start : Position
 start = record { next = 1; unread = [] }
 
--- what a desk can't do with a file of a session
 pub data FileTrouble : Type 0 where
   NotCreated : FileTrouble
   NotWritten : FileTrouble
 
--- Why a run stops where it stands: the link failed as it sent or as it listened; the desk failed, at a file or as it
--- printed; or memory was refused.
+-- Why a run stops: the link failed at sending or at listening, the desk failed at a file or at printing, or
+-- allocation failed.
 pub data Cause : Type 0 where
   OfSending : Cause
   OfListening : Cause
@@ -44,7 +41,7 @@ pub data Cause : Type 0 where
   OfPrinting : Cause
   OfMemory : Cause
 
--- the line that tells it, if one can be printed
+-- The line that reports the cause, if one can be printed.
 unfoldable pub cause_line : Cause → Bytes
 cause_line OfSending = error unsent_pieces
 cause_line OfListening = error unheard_pieces
@@ -53,16 +50,14 @@ cause_line (OfFile file NotWritten) = error (not_written_pieces file)
 cause_line OfPrinting = []
 cause_line OfMemory = memory_line
 
--- whether it is the line of an error
 abbrev pub is_error : Saying → Bool
 is_error (Line bytes) = starts_with nat_eq bytes (codes "avrstk: error: ")
 is_error saying = false
 
--- whether a fault is reported among these sayings
 abbrev pub tells_fault : List Saying → Bool
 tells_fault sayings = list_any is_error sayings
 
--- of a frame that was due a prefix was sent, perhaps nothing, and not the whole
+-- Only a prefix of the next frame was sent, perhaps nothing.
 pub record AtFrame (begun later : List (Event Saying)) : Type 0 where
   pub done : Bytes
   pub unsent : Bytes
@@ -71,7 +66,7 @@ pub record AtFrame (begun later : List (Event Saying)) : Type 0 where
   pub part : begun ≡ Frame done ∷ []
   pub not_whole : 0 < length unsent
 
--- a prefix of these bytes was printed or written, and they were due
+-- A prefix of the next bytes was printed or written.
 pub record AtPart (event : Bytes → Saying) (begun later : List (Event Saying)) : Type 0 where
   pub bytes : Bytes
   pub done : Bytes
@@ -80,19 +75,17 @@ pub record AtPart (event : Bytes → Saying) (begun later : List (Event Saying))
   pub part : begun ≡ Said (event done) ∷ []
   pub prefix : IsPrefixOf done bytes
 
--- nothing was done, and a file of this name was due to be created
+-- Nothing was done of the next event, the creation of this file.
 pub record AtCreation (file : Bytes) (begun later : List (Event Saying)) : Type 0 where
   pub more : List (Event Saying)
   pub due : later ≡ Said (Creates file) ∷ more
   pub none : begun ≡ []
 
--- a file of this name was created last
 abbrev pub CreatesLast : Bytes → List (Event Saying) → Type 0
 CreatesLast file whole = (before : List (Event Saying)) × (whole ≡ before ++ Said (Creates file) ∷ [])
 
--- Where a cause stops a run: after the events that happened whole, in the first of those that were due, of which a
--- part may have happened. Bytes are due to a file that was created just before, or to standard output, which is named
--- `-`.
+-- A cause stops a run after the whole events, in the next one, of which a part may have happened. Bytes are written
+-- to a file that was created just before, or to standard output, whose name is `-`.
 abbrev pub StopsAt : Cause → List (Event Saying) → List (Event Saying) → List (Event Saying) → Type 0
 StopsAt OfSending whole begun later = AtFrame begun later
 StopsAt OfListening whole begun later = (begun ≡ []) × (later ≡ [])
@@ -102,13 +95,13 @@ StopsAt (OfFile file NotWritten) whole begun later =
 StopsAt OfPrinting whole begun later = AtPart Line begun later
 StopsAt OfMemory whole begun later = begun ≡ []
 
--- where listening failed, all that was due has happened, and the play waits
+-- If listening failed, all events so far have happened, and the run waits.
 abbrev pub Listens : {A : Type 0} → Cause → Option A → Type 0
 Listens OfListening outcome = outcome ≡ None
 Listens cause outcome = Unit {0}
 
--- The cause has come, and it is the first: that device has failed at that, by the counts of their failures before and
--- then, and nothing else has. No count shows that memory was refused; that comes only where memory is taken (`takes`).
+-- The cause occurred first: by the counts of failures this device has failed at this, and nothing else has. No count
+-- shows a failed allocation, which occurs only if the dialog allocates (`takes`).
 abbrev pub HasCome : Bool → Devices → Devices → Cause → Type 0
 HasCome takes old then OfSending = link.HasFailed old.link then.link × HasSameCounts old.desk then.desk
 HasCome takes old then OfListening = link.HasFailed old.link then.link × HasSameCounts old.desk then.desk
@@ -117,7 +110,7 @@ HasCome takes old then OfPrinting =
     desk.HasFailedToSay old.desk then.desk × (then.link.failures ≡ old.link.failures)
 HasCome takes old then cause = HasFailedAt File old.desk then.desk × (then.link.failures ≡ old.link.failures)
 
--- The cause's line was reported. But after the line of a fault only the link or the printing fails, and nothing more is
+-- The cause's line was reported. After a fault's line only the link or the printing can fail, and nothing more is
 -- reported.
 abbrev pub TellsCause : Bool → Cause → Bytes → DeskView → DeskView → Type 0
 TellsCause false cause told old new = TellsLine (cause_line cause) told old new
@@ -126,21 +119,20 @@ TellsCause true OfListening told old new = told ≡ []
 TellsCause true OfPrinting told old new = told ≡ []
 TellsCause true cause told old new = ⊥
 
--- on what terms a dialog is played: whether memory is taken in it, and whether a fault was reported before it
+-- The terms of a run: whether it allocates, and whether a fault was reported before.
 pub record Terms : Type 0 where
   pub takes : Bool
   pub was_told : Bool
 
--- no fault was reported before it
 abbrev pub untold : Bool → Terms
 untold takes = record { takes = takes; was_told = false }
 
--- where want of memory may stop a dialog: by where it began, what passed and what happened
+-- When allocation can fail: a predicate of the start, the transcript and the events so far.
 abbrev pub Lacking : Type 1
 Lacking = Position → Talk → List (Event Saying) → Type 0
 
--- Why it stops after these sayings, and what is reported of it: the cause has come while the desk stood so between, and
--- from then on it was reported.
+-- Why a run stops after this output, and what is reported: the cause occurred by `between`, and was reported from
+-- there on.
 pub record StopsBehind (terms : Terms) (old new : Devices) (said : List Saying) (cause : Cause)
     (told : Bytes) : Type 0 where
   pub between : DeskView
@@ -149,9 +141,9 @@ pub record StopsBehind (terms : Terms) (old new : Devices) (said : List Saying) 
   pub since : Follows old.desk between
   pub until : Follows between new.desk
 
--- The dialog was played whole over what was unread and what was heard: what was sent, said and answered is its play's,
--- whatever may follow on the line, and at most one piece heard is left. No call of a device failed: what fails stops a
--- run.
+-- The dialog ran whole over the unread bytes and the items received. What was sent, output and returned is its run's,
+-- whatever follows on the tape. At most one piece is left unread. No call of a device failed, because a failure stops
+-- a run.
 pub record Ran {R : Type 0} (dialog : Dialog Saying R) (before : Position) (old new : Devices) (result : R)
     (after : Position) : Type 0 where
   pub during : Talk
@@ -162,8 +154,8 @@ pub record Ran {R : Type 0} (dialog : Dialog Saying R) (before : Position) (old 
   pub kept : Passes (after_all (sayings events)) old.desk new.desk
   pub sound : NoneFailed old new
 
--- The dialog broke off: what was sent and said is a prefix of its events, the last one perhaps in part, where its cause
--- stops it; and after it stands what was reported of the cause. Want of memory stops it only where it may.
+-- The dialog broke off. What was sent and output is a prefix of its events, the last one perhaps in part, and then
+-- the report of the cause. If allocation failed, it did so at a moment that `Lacks` allows.
 pub record BrokeOff {R : Type 0} (dialog : Dialog Saying R) (before : Position) (old new : Devices)
     (terms : Terms) (Lacks : Lacking) : Type 0 where
   pub during : Talk
@@ -178,7 +170,7 @@ pub record BrokeOff {R : Type 0} (dialog : Dialog Saying R) (before : Position) 
   pub lacks : cause ≡ OfMemory → Lacks before during shown
   pub kept : Passes (λ r. after_err told (after_all (sayings shown) r)) old.desk new.desk
 
--- A whole run: it was played to its status, or it broke off, and then the status is 1.
+-- A whole run: it ran to its status, or it broke off with status 1.
 abbrev pub RunsTo : Dialog Saying ℕ → Devices → Devices → Bool → Lacking → ℕ → Type 0
 RunsTo dialog old new takes Lacks status =
     ((after : Position) × Ran dialog start old new status after)

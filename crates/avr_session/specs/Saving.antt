@@ -1,4 +1,4 @@
--- Bytes that go to a file or to standard output. (For contracts inside this crate.)
+-- Bytes written to a file or to standard output: for contracts inside this crate.
 use Rattle.std.specs.Prelude.{◌≡◌, ◌++◌, Result, Ok, Err, ⊤}
 use Rattle.avr_desk.specs.Fault.{HasSameCounts}
 use Rattle.avr_desk.specs.Record.{DeskView, Passes, after_err, Bytes}
@@ -9,23 +9,22 @@ use Rattle.avr_session.specs.Runs.{Cause, OfFile, NotCreated, NotWritten}
 use Rattle.avr_session.specs.Reporting.{FileStops}
 use Rattle.avr_desk.specs.declared.desk.DeskFault.{DeskFault}
 
--- a file and standard output are written to, and not the messages
 abbrev pub IsForData : Stream → Type 0
 IsForData Messages = ⊥
 IsForData stream = Unit {0}
 
--- of these bytes those went there that stand before the ones that wait
+-- The bytes before those that wait were sent.
 abbrev pub SendsPrefix : Stream → DeskView → DeskView → Bytes → Bytes → Type 0
 SendsPrefix stream old new bytes waiting =
     (sent : Bytes) × (bytes ≡ sent ++ waiting) × Passes (after_sent stream sent) old new
 
--- the desk failed at this file, as it was created or written, and that was reported
+-- The desk failed at creating or writing this file, and this was reported.
 abbrev pub SaveStops : Bytes → DeskView → DeskView → Cause → Bytes → Type 0
 SaveStops file old new (OfFile named NotCreated) told = (named ≡ file) × FileStops old new named NotCreated told
 SaveStops file old new (OfFile named NotWritten) told = (named ≡ file) × FileStops old new named NotWritten told
 SaveStops file old new cause told = ⊥
 
--- a prefix of the bytes went there, and then the desk failed and that was reported of this file
+-- A prefix of the bytes was written. Then the desk failed, and this was reported for this file.
 pub record WritesSome (stream : Stream) (file : Bytes) (old new : DeskView) (bytes : Bytes) : Type 0 where
   pub between : DeskView
   pub part : SendsPart stream old between bytes
@@ -33,7 +32,7 @@ pub record WritesSome (stream : Stream) (file : Bytes) (old new : DeskView) (byt
   pub stops : FileStops old new file NotWritten told
   pub kept : Passes (after_err told) between new
 
--- the bytes went there, and no call failed; or a prefix of them did
+-- All bytes were written and no call failed, or a prefix of them was written.
 abbrev pub WritesAll : Stream → Bytes → DeskView → DeskView → Bytes → Result ⊤ DeskFault → Type 0
 WritesAll stream file old new bytes (Ok done) = Passes (after_sent stream bytes) old new × HasSameCounts old new
 WritesAll stream file old new bytes (Err _) = WritesSome stream file old new bytes

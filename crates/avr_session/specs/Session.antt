@@ -1,4 +1,4 @@
--- The session of a run, as one dialog: what goes over the line and what is said at the desk.
+-- The session of a run as one dialog: the frames on the link, and the output events at the desk.
 use Rattle.std.specs.Prelude.{ℕ, Bool, false, List, [], ◌∷◌, ◌++◌, length, Option, Result, Ok, Err, ⊤, codes, decimal, if◌then◌else◌}
 use Rattle.std.specs.Str.{bytes_eq}
 use Rattle.avr_desk.specs.Record.{Bytes}
@@ -25,30 +25,29 @@ use Rattle.avr_session.specs.Lines.{informs, warns, other_signature, fault_line}
 
 -- ---- dialogs
 
--- sayings in their order, and what follows them
+-- The output events in order, and then the dialog.
 abbrev pub says : {R : Type 0} → List Saying → Dialog Saying R → Dialog Saying R
 says [] dialog = dialog
 says (saying ∷ sayings) dialog = Say saying (says sayings dialog)
 
--- how a session stands after an operation of the host
+-- The state of a session after an operation of the host.
 abbrev pub standing : {A : Type 0} → Result A HostFault → Standing
 standing (Ok a) = Fine
 standing (Err LinkEnded) = Over
 standing (Err fault) = Faulty
 
--- an operation of the host, and what is said of its outcome
+-- An operation of the host, and the output for its outcome.
 abbrev pub reported : {A : Type 0} → Dialog ⊥ (Result A HostFault) → (Result A HostFault → List Saying)
     → Dialog Saying Standing
 reported operation outcome_says = lifted operation >>= λ outcome. says (outcome_says outcome) (Done (standing outcome))
 
--- the next phase of a session, which is left out after a fault
+-- The next phase of a session, which a fault skips.
 abbrev pub unless_fault : Dialog Saying Standing → Standing → Dialog Saying Standing
 unless_fault next Fine = next
 unless_fault next fault = Done fault
 
--- ---- what is said of outcomes
+-- ---- the output for outcomes
 
--- a fault has its line
 abbrev pub fault_or : {A : Type 0} → Part → (A → List Saying) → Result A HostFault → List Saying
 fault_or part good (Ok a) = good a
 fault_or part good (Err fault) = Line (fault_line part fault) ∷ []
@@ -56,7 +55,7 @@ fault_or part good (Err fault) = Line (fault_line part fault) ∷ []
 abbrev pub signature_says : ℕ → Bytes → List Saying
 signature_says quiet found = informs quiet (codes "device signature = " ∷ spaced_digits found ∷ [])
 
--- another signature than the part's is reported, though it be taken
+-- A signature that isn't the part's is reported even if it is accepted.
 abbrev pub warns_of_signature : ℕ → Part → Bytes → List Saying
 warns_of_signature quiet part found =
     if bytes_eq found part.signature then [] else warns quiet (other_signature part found)
@@ -73,15 +72,14 @@ done_text NotWritten = codes " bytes not written"
 done_text Verified = codes " bytes verified"
 done_text Read = codes " bytes read"
 
--- of so many bytes of a memory this was done
 abbrev pub bytes_say : ℕ → Mem → ℕ → Bytes → List Saying
 bytes_say quiet mem count done = informs quiet (name_of mem ∷ codes ": " ∷ decimal count ∷ done ∷ [])
 
--- standard output is named `-`
+-- The name `-` is standard output.
 abbrev pub saving_says : Bytes → Bytes → List Saying
 saving_says file text = if bytes_eq file (codes "-") then Outs text ∷ [] else Creates file ∷ Writes text ∷ []
 
--- what is kept of what was read: trailing FF of flash are dropped, unless all is wanted
+-- Trailing FF of flash are dropped, unless `all` is set.
 abbrev pub kept_of : Mem → Bool → Bytes → Bytes
 kept_of Flash false bytes = trimmed bytes
 kept_of mem all bytes = bytes
@@ -104,14 +102,14 @@ read_says s mem format file bytes =
     let kept = kept_of mem s.all bytes in
     saving_says file (file_text format kept) ++ bytes_say s.quiet mem (length kept) (done_text Read)
 
--- what is said in place of an erase, and of a write
+-- The output in place of an erase, and of a write.
 abbrev pub left_out_says : ℕ → LeftOut → List Saying
 left_out_says quiet TheErase = warns quiet (codes "chip not erased because of -n" ∷ [])
 left_out_says quiet (TheWrite mem image) = bytes_say quiet mem (byte_count image) (done_text NotWritten)
 
 -- ---- the phases of a session
 
--- what a session does at one action, and what it says of it
+-- What a session does at one action, and its output.
 abbrev pub phase : Part → Switches → Action → Dialog Saying Standing
 phase part s OpenSession = reported (opening part.signature s.force) (opening_says s.quiet part)
 phase part s EraseChip = reported erasing (erased_says s.quiet part)
@@ -120,13 +118,12 @@ phase part s (CompareImage mem image) = reported (verifying part mem image) (ver
 phase part s (SaveMemory mem format file) = reported (reading part mem) (fault_or part (read_says s mem format file))
 phase part s (LeaveOut what) = says (left_out_says s.quiet what) (Done Fine)
 
--- one after another, up to the first fault
 abbrev pub phases : Part → Switches → List Action → Dialog Saying Standing
 phases part s [] = Done Fine
 phases part s (action ∷ actions) = phase part s action >>= unless_fault (phases part s actions)
 
--- The end of a session: programming mode is left, also after a fault, but not where the line has ended. A second fault
--- is not reported.
+-- The end of a session: programming mode is left, also after a fault, unless the link has ended. A second fault is
+-- not reported.
 abbrev pub ending : Part → Switches → Standing → Dialog Saying Standing
 ending part s Fine = reported closing (closed_says s.quiet part)
 ending part s Faulty = reported closing (λ _. []) >>= λ closed. Done Over
@@ -135,7 +132,7 @@ ending part s Over = Done Over
 abbrev pub playing : Plan → Dialog Saying Standing
 playing plan = phases plan.part plan.switches (actions plan) >>= ending plan.part plan.switches
 
--- the status of a run: 0 where no fault came, else 1
+-- The status of a run: 0 if there was no fault, otherwise 1.
 abbrev pub status_of : Standing → ℕ
 status_of Fine = 0
 status_of _ = 1

@@ -1,4 +1,4 @@
--- What the contract of a run says where no device failed.
+-- What the contract of a run says if no device failed.
 use Rattle.std.specs.Prelude.{ℕ, ◌++◌, ◌≡◌}
 use Rattle.ghosts.specs.Failures.{HasStood}
 use Rattle.avr_desk.specs.Record.{Record, DeskView, showing, Bytes}
@@ -8,23 +8,21 @@ use Rattle.stk_host.specs.Play.{Position}
 use Rattle.avr_desk.specs.Said.{Saying}
 use Rattle.avr_session.specs.Runs.{Devices, OfMemory, cause_line, start, Ran}
 
--- what a desk shows that keeps this, and has failed so often, by its two counts
 abbrev pub keeping : Record → ℕ × ℕ → DeskView
 keeping kept counts = showing kept counts.0 counts.1
 
--- what a link shows over which this passed, and which has failed so often
 abbrev pub talking : Talk → ℕ → LinkView
 talking talk failures = record { talk = talk; failures = failures }
 
--- no device failed, by the counts of failures before and now, which have not come to their end
+-- No device failed, by counts of failures that have not reached their end.
 pub record IsSound (old new : Devices) : Type 0 where
   pub link : HasStood old.link.failures new.link.failures
   pub desk : HasStood old.desk.failures new.desk.failures
 
--- the messages end with the line that memory was refused
+-- The messages end with the out-of-memory line.
 abbrev pub LacksMemory : Bytes → Type 0
 LacksMemory messages = (before : Bytes) × (messages ≡ before ++ cause_line OfMemory)
 
--- a run was played whole to this status
+-- A run that ran whole to this status.
 abbrev pub IsPlayed : Dialog Saying ℕ → Devices → Devices → ℕ → Type 0
 IsPlayed dialog old new status = (after : Position) × Ran dialog start old new status after

@@ -1,4 +1,4 @@
--- Where want of memory may stop a session: at an action that takes memory, before anything of it has happened.
+-- When allocation can fail in a session: at an action that allocates, before anything of it has happened.
 use Rattle.std.specs.Prelude.{ℕ, Bool, true, List, [], ◌∷◌, ◌++◌, ◌≡◌, Some}
 use Rattle.avr_cli.specs.declared.settings.Switches.{Switches}
 use Rattle.avr_desk.specs.Said.{Saying}
@@ -11,12 +11,11 @@ use Rattle.avr_session.specs.Standing.{Fine}
 use Rattle.avr_session.specs.Actions.{Action, action_takes_memory}
 use Rattle.avr_session.specs.Session.{phases}
 
--- at once, where memory is taken
+-- At the start, if the dialog allocates.
 abbrev pub AtOnce : Bool → Position → Talk → List (Event Saying) → Type 0
 AtOnce takes before during shown = (takes ≡ true) × (shown ≡ [])
 
--- An action that takes memory was due, and what happened is all that those before it are, which were played to their
--- end over what was heard.
+-- An action that allocates is next, and what happened so far is the whole run of the actions before it.
 pub record AtTaking (part : Part) (switches : Switches) (actions : List Action) (before : Position) (during : Talk)
     (shown : List (Event Saying)) : Type 0 where
   pub done : List Action

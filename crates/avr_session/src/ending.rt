@@ -1,22 +1,22 @@
-//! How a session ends before all of its plan is done.
+//! How a session ends before its whole plan is done.
 ghost use Rattle.std.specs.Prelude.{◌≡◌};
 ghost use Rattle.avr_session.specs.Concluding.{conclusion};
 
 use avr_desk::DeskFault;
 use stk_host::HostFault;
 
-/// Why a session goes no further.
+/// Why a session ends early.
 #[derive(Clone, Copy)]
 pub(crate) enum End {
-    /// This fault was reported; the line still serves.
+    /// This fault was reported, and the link can still be used.
     Faulty(HostFault),
-    /// This fault was reported, and nothing more goes over the line: it has ended, or programming mode was left.
+    /// This fault was reported, and nothing more is sent: the link has ended, or programming mode was left.
     Over(HostFault),
-    /// The link or the desk failed, or memory was refused: nothing more is sent or reported.
+    /// The link or the desk failed, or allocation failed: nothing more is sent or reported.
     Stopped,
 }
 
-/// Returns whether a session goes on after an operation of the host whose outcome was reported so.
+/// Returns whether a session goes on after an operation with this outcome and this result of reporting it.
 pub(crate) fn conclude<T>(
     outcome: &Result<T, HostFault>,
     reported: Result<(), DeskFault>,

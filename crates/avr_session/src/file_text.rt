@@ -1,4 +1,4 @@
-//! The text of a file, in any format, to where it goes.
+//! Writes a file in any format.
 ghost use Rattle.std.specs.Prelude.{◌≡◌, ◌+◌, ◌≤◌, ◌^◌, length, OnOk, OnErr, IfErr};
 ghost use Rattle.avr_desk.specs.Fault.{Counts};
 ghost use Rattle.avr_desk.specs.Record.{Passes};
@@ -13,7 +13,7 @@ use avr_desk::{Desk, DeskFault, Stream, write_all};
 use avr_image::{Base, ListWriter, Pieces};
 use avr_records::{Kind, Run, Writer};
 
-/// Makes room for so many bytes after those that wait: where they don't fit, what waits is written.
+/// Makes room for `count` bytes behind those that wait. If they don't fit, it writes what waits.
 fn make_room<D: Desk>(
     desk: &mut D,
     stream: Stream,
@@ -38,7 +38,7 @@ fn make_room<D: Desk>(
     Ok(())
 }
 
-/// Writes all pieces of a text, many at once. After a fault a prefix of it was written.
+/// Writes all pieces of a text, collected into larger writes. After a fault a prefix of it was written.
 fn write_pieces<D: Desk, P: Pieces + Drop>(
     desk: &mut D,
     stream: Stream,
@@ -61,7 +61,7 @@ fn write_pieces<D: Desk, P: Pieces + Drop>(
     write_all(desk, stream, rest)
 }
 
-/// Writes the text that these bytes are in a format. After a fault a prefix of it was written.
+/// Writes these bytes as text in a format. After a fault a prefix of it was written.
 #[tactic(auto, unfolding(crate::specs::FileText::file_text))]
 pub(crate) fn write_text<D: Desk>(
     desk: &mut D,
@@ -89,7 +89,7 @@ pub(crate) fn write_text<D: Desk>(
     }
 }
 
-/// How many bytes there are up to the last that isn't FF.
+/// Returns how many bytes there are up to the last that isn't FF.
 fn used(bytes: &[u8]) -> usize
     ensures value { result ≡ used_length bytes.now }
     ensures within { result ≤ length bytes.now }
@@ -101,7 +101,7 @@ fn used(bytes: &[u8]) -> usize
     count
 }
 
-/// What is kept of a flash that was read: no trailing FF, but one where the length would be odd.
+/// Drops the trailing FF of flash bytes, but keeps one if the length would be odd.
 pub(crate) fn trimmed(bytes: &[u8]) -> &[u8]
     ensures { result.now ≡ trimmed bytes.now }
 {

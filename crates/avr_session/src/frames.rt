@@ -1,4 +1,4 @@
-//! How many frames a plan asks for, so that a caller can show how far its session is.
+//! Counts the frames of a plan, so that a caller can show a session's progress.
 ghost use Rattle.std.specs.Prelude.{◌≡◌, ◌≤◌, ◌<◌, ◌/◌, ◌^◌, ◌-◌, min};
 ghost use Rattle.avr_part.specs.Part.{Part as AnyPart};
 ghost use Rattle.avr_session.specs.Actions.{erase_actions, task_actions};
@@ -13,13 +13,13 @@ use avr_image::Image;
 use avr_part::{Mem, Part};
 use avr_plan::{Plan, Task};
 
-/// To sign on, to enter programming mode, and three bytes of the signature.
+/// Signing on, entering programming mode, and three bytes of the signature.
 const OPENING: u64 = 5;
 
-/// To leave programming mode.
+/// Leaving programming mode.
 const CLOSING: u64 = 1;
 
-/// How many bytes one command reads.
+/// The bytes that one command reads.
 const BLOCK: u32 = 256;
 
 fn read_frames(part: &Part, mem: Mem) -> u64
@@ -34,7 +34,7 @@ fn read_frames(part: &Part, mem: Mem) -> u64
     }
 }
 
-/// Two if the image holds a byte in the page of flash with this number.
+/// Returns 2 if the image holds a byte in this page of flash, otherwise 0.
 fn page_frames(part: &Part, image: &Image, page: u32) -> u64
     requires { page < part.now.flash_size / part.now.flash_page }
     ensures value { result ≡ commands_in (page_steps part.now image.now page) }
@@ -60,7 +60,7 @@ fn flash_frames(part: &Part, image: &Image) -> u64
     count
 }
 
-/// Two if a run of the image's bytes begins at this address of EEPROM.
+/// Returns 2 if a run of the image's bytes begins at this address of EEPROM, otherwise 0.
 fn run_frames(part: &Part, image: &Image, addr: u32) -> u64
     ensures value { result ≡ commands_in (run_steps_at part.now image.now addr) }
     ensures few { result ≤ 2 }
@@ -112,11 +112,10 @@ fn erase_frames(switches: Switches, tasks: &[Task]) -> u64
     u64::from(!switches.dry && is_erase_due(switches, tasks))
 }
 
-/// Returns how many frames a session of `plan` sends over a line that loses nothing, and at most `u64::MAX`.
+/// Returns how many frames a session of `plan` sends over a link that loses nothing, or `u64::MAX` if they are more.
 ///
-/// A session sends fewer if a fault ends it, as a comparison that finds another byte. Over a line that loses it sends at
-/// most four times as many. With a [`stk_host::WatchedLink`], which counts the frames that went out, a caller can draw
-/// how far a session is.
+/// A session sends fewer frames if a fault ends it, such as a byte that differs. Over a link that loses frames it
+/// sends at most four times as many. To draw progress, count the frames sent with a [`stk_host::WatchedLink`].
 ///
 /// ```text
 /// let all = frame_count(&plan);

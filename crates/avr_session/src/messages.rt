@@ -1,4 +1,4 @@
-//! The messages of faults: of the host in its work on a part, and of the settings.
+//! The messages of faults: those of the host, and those of the settings.
 ghost use Rattle.std.specs.Prelude.{◌≡◌};
 ghost use Rattle.avr_desk.specs.Said.{Tells};
 ghost use Rattle.avr_session.specs.Lines.{bad_answer_pieces, differs_pieces, fault_pieces, other_signature, refused_pieces};
@@ -22,7 +22,6 @@ fn refused_message<'a>(command: u8, status: u8) -> Message<'a>
     ])
 }
 
-/// What answered a command is no answer to it.
 fn bad_answer_message<'a>(command: u8) -> Message<'a>
     ensures { result ≡ bad_answer_pieces command }
 {
@@ -61,7 +60,6 @@ fn differs_message<'a>(mem: Mem, address: u32, want: u8, found: u8) -> Message<'
     ])
 }
 
-/// A fault of the host in its work on a part.
 pub(crate) fn fault_message<'a>(part: &'a Part, fault: HostFault) -> Message<'a>
     ensures { result ≡ fault_pieces part.now fault }
 {
@@ -85,7 +83,6 @@ pub(crate) fn fault_message<'a>(part: &'a Part, fault: HostFault) -> Message<'a>
     }
 }
 
-/// What is wrong with the update of this number.
 fn in_update_message<'a>(number: u8, wrong: &'a str) -> Message<'a>
     ensures { result ≡ in_update_pieces number wrong.now }
 {
@@ -118,7 +115,6 @@ fn unknown_message<'a>(what: &'a str, name: &'a str) -> Message<'a>
     ])
 }
 
-/// A port is not known, or none is given.
 fn port_message<'a>(port: &'a Option<Text>) -> Message<'a>
     ensures { result ≡ port_pieces port.now }
 {
@@ -143,8 +139,9 @@ fn settings_message<'a>(fault: &'a SettingsFault) -> Message<'a>
     }
 }
 
-/// Prints the line of a fault on the desk's messages, and answers the status, 1. Where the desk fails a prefix of the
-/// line was printed, and nothing more is.
+/// Prints the line of a fault of the settings on the desk's messages, and returns the status 1.
+///
+/// If the desk fails, a prefix of the line was printed, and nothing more is.
 #[tactic(auto, unfolding(crate::specs::Refusal::refusal_line))]
 pub fn refuse<D: Desk>(fault: &SettingsFault, desk: &mut D) -> u8
     ensures status { result ≡ 1 }

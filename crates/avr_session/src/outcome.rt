@@ -1,23 +1,23 @@
-//! What came of a session.
+//! The outcome of a session.
 ghost use Rattle.std.specs.Prelude.{◌≡◌};
 ghost use Rattle.avr_session.specs.Outcomes.{outcome_status, outcome_of};
 
 use crate::ending::End;
 use stk_host::HostFault;
 
-/// What came of a session.
+/// How a session ended.
 #[derive(Clone, Copy, Debug, PartialEq, Eq)]
 pub enum Outcome {
-    /// It was played to its end, and no fault came.
+    /// The session ran to its end without a fault.
     Done,
-    /// This fault came, its line was reported, and the session was ended, as far as the line served.
+    /// This fault occurred and its line was reported. The session was closed, if the link could still be used.
     Faulty(HostFault),
-    /// It stopped where it stood: the link or the desk failed, or memory was refused.
+    /// The session stopped at once: the link or the desk failed, or allocation failed.
     Stopped,
 }
 
 impl Outcome {
-    /// The status of a run that came to this: 0 where no fault came, else 1.
+    /// Returns the status of a run with this outcome: 0 for `Done`, otherwise 1.
     ///
     /// ```text
     /// assert_eq!(rt; Outcome::Faulty(HostFault::NoAnswer).status(), 1);
@@ -32,7 +32,6 @@ impl Outcome {
     }
 }
 
-/// Returns what came of a session that was done, or ended so.
 pub(crate) fn outcome_of(session: Result<(), End>) -> Outcome
     ensures { result ≡ outcome_of session }
 {

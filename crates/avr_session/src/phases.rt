@@ -1,5 +1,5 @@
-//! A session of a plan, and its phases: each is an operation of the host and its report. If one ends in a fault, its
-//! line is the last one that was reported.
+//! The phases of a session: each is an operation of the host and its report. If one ends in a fault, the fault's line
+//! is the last one reported.
 ghost use Rattle.std.specs.Prelude.{◌≡◌, ◌∷◌, ◌≤◌, [], None, length, All};
 ghost use Rattle.std.specs.List.{list_any};
 ghost use Rattle.avr_part.specs.Part.{size_of};
@@ -22,7 +22,6 @@ use avr_plan::{Plan, Task};
 use std::alloc::Global;
 use stk_host::{Host, Link};
 
-/// Leaves out an erase that was asked for, with a warning.
 fn leave_out_erase<D: Desk>(desk: &mut D, quiet: u8) -> Result<(), End>
     ensures leaves_out { LeavesOut (left_out_says quiet TheErase) (D.view desk.old) (D.view desk.new) result }
     ensures stays { Stays D.comes_of desk.old desk.new }
@@ -43,14 +42,13 @@ fn any_writes_flash(tasks: &[Task]) -> bool
     tasks.iter().any(|task| writes_flash(task))
 }
 
-/// Whether an erase is asked for, or due because flash is written.
+/// Returns whether an erase is asked for, or due because flash is written.
 pub(crate) fn is_erase_due(switches: Switches, tasks: &[Task]) -> bool
     ensures { result ≡ is_erase_due switches tasks.now }
 {
     switches.erase || (any_writes_flash(tasks) && !switches.keep_flash)
 }
 
-/// Leaves out a write, and says so.
 fn leave_out_write<D: Desk>(desk: &mut D, plan: &Plan, mem: Mem, image: &Image) -> Result<(), End>
     ensures leaves_out { LeavesOut (left_out_says plan.now.switches.quiet (TheWrite mem image.now))
         (D.view desk.old) (D.view desk.new) result }
@@ -116,7 +114,7 @@ impl<'a, D: Desk, L: Link> Session<'a, D, L> {
         conclude(&erased, reported)
     }
 
-    /// Erases the chip where that is due; in a dry run that is left out.
+    /// Erases the chip if an erase is due; a dry run skips it.
     pub(crate) fn erase_if_due(&mut self) -> Result<(), End>
         requires sound { self.old.host.broken ≡ None }
         ensures performs { SessionDoes L.view D.view
@@ -163,7 +161,7 @@ impl<'a, D: Desk, L: Link> Session<'a, D, L> {
         conclude(&written, reported)
     }
 
-    /// Reads back what was written, unless that isn't wanted.
+    /// Reads back what was written, unless verifying is off.
     fn read_back(&mut self, mem: Mem, image: &Image) -> Result<(), End>
         requires sound { self.old.host.broken ≡ None }
         requires part { self.old.host.part ≡ self.old.plan.now.part }
@@ -179,7 +177,7 @@ impl<'a, D: Desk, L: Link> Session<'a, D, L> {
         self.verify(mem, image)
     }
 
-    /// Writes an image and reads it back; in a dry run that is left out.
+    /// Writes an image and reads it back; a dry run skips both.
     fn write_and_verify(&mut self, mem: Mem, image: &Image) -> Result<(), End>
         requires sound { self.old.host.broken ≡ None }
         requires part { self.old.host.part ≡ self.old.plan.now.part }
@@ -243,7 +241,7 @@ impl<'a, D: Desk, L: Link> Session<'a, D, L> {
         }
     }
 
-    /// Does what the updates ask for, in their order and up to the first fault.
+    /// Does the tasks in order, up to the first fault.
     pub(crate) fn perform_all(&mut self, tasks: &[Task]) -> Result<(), End>
         requires sound { self.old.host.broken ≡ None }
         requires part { self.old.host.part ≡ self.old.plan.now.part }

@@ -37,7 +37,7 @@ impl Done {
     }
 }
 
-/// Prints a line of information, unless the run is quiet.
+/// Prints a line of information, unless `quiet` is 1 or more.
 pub(crate) fn inform<D: Desk>(
     desk: &mut D,
     quiet: u8,
@@ -53,7 +53,7 @@ pub(crate) fn inform<D: Desk>(
     print_information(desk, pieces)
 }
 
-/// Prints a warning, unless the run is quiet twice.
+/// Prints a warning, unless `quiet` is 2 or more.
 pub(crate) fn warn<D: Desk>(desk: &mut D, quiet: u8, pieces: &[Piece<'_>]) -> Result<(), DeskFault>
     ensures reports { Reports PrintStops (D.view desk.old) (D.view desk.new)
         (warns quiet (map text_of pieces.now)) result }
@@ -65,7 +65,6 @@ pub(crate) fn warn<D: Desk>(desk: &mut D, quiet: u8, pieces: &[Piece<'_>]) -> Re
     print_warning(desk, pieces)
 }
 
-/// Prints an error.
 pub(crate) fn tell<D: Desk>(desk: &mut D, message: &Message<'_>) -> Result<(), DeskFault>
     ensures reports { Reports PrintStops (D.view desk.old) (D.view desk.new) (Line (error message.now) ∷ []) result }
     ensures stays { Stays D.comes_of desk.old desk.new }
@@ -73,7 +72,7 @@ pub(crate) fn tell<D: Desk>(desk: &mut D, message: &Message<'_>) -> Result<(), D
     print_error(desk, message.pieces())
 }
 
-/// Prints for how many bytes of a memory this was done.
+/// Prints what was done with how many bytes of a memory.
 pub(crate) fn report_bytes<D: Desk>(
     desk: &mut D,
     quiet: u8,
@@ -94,7 +93,6 @@ pub(crate) fn report_bytes<D: Desk>(
     inform(desk, quiet, &pieces)
 }
 
-/// Prints the line of a fault of the host.
 #[tactic(auto, unfolding(crate::specs::Lines::fault_line))]
 pub(crate) fn tell_fault<D: Desk>(
     desk: &mut D,
@@ -116,7 +114,6 @@ fn report_found<D: Desk>(desk: &mut D, quiet: u8, found: [u8; 3]) -> Result<(), 
     inform(desk, quiet, &pieces)
 }
 
-/// Warns of a signature if it is another than the part's.
 fn warn_of_signature<D: Desk>(
     desk: &mut D,
     quiet: u8,
@@ -135,7 +132,7 @@ fn warn_of_signature<D: Desk>(
     }
 }
 
-/// Prints the signature that was taken, with a warning if it isn't the part's.
+/// Prints the signature that was accepted, with a warning if it isn't the part's.
 fn report_taken<D: Desk>(
     desk: &mut D,
     quiet: u8,
@@ -197,7 +194,7 @@ pub(crate) fn report_erased<D: Desk>(
     }
 }
 
-/// Reports that this was done with the bytes of an image, or the fault.
+/// Reports what was done with the bytes of an image, or the fault.
 pub(crate) fn report_image<D: Desk>(
     desk: &mut D,
     plan: &Plan,
@@ -217,7 +214,7 @@ pub(crate) fn report_image<D: Desk>(
     }
 }
 
-/// Reports what closing a session came to in which no fault was reported.
+/// Reports the closing of a session in which no fault was reported.
 pub(crate) fn report_closing<D: Desk>(
     desk: &mut D,
     plan: &Plan,

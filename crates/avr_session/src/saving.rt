@@ -1,4 +1,4 @@
-//! What was read of a memory becomes a file.
+//! Saves what was read of a memory.
 ghost use Rattle.std.specs.Prelude.{◌≡◌, ◌∷◌, ◌≤◌, ◌<◌, ◌^◌, [], length};
 ghost use Rattle.avr_desk.specs.Fault.{Follows};
 ghost use Rattle.avr_desk.specs.Said.{Creates, Writes};
@@ -17,14 +17,14 @@ use avr_part::Mem;
 use avr_plan::Plan;
 use stk_host::HostFault;
 
-/// Where bytes are saved: the name of a file, `-` for standard output, and the format.
+/// The name of a file, or `-` for standard output, and the format.
 #[derive(Clone, Copy)]
 pub(crate) struct Target<'a> {
     pub(crate) file: &'a str,
     pub(crate) format: Format,
 }
 
-/// Writes the text that these bytes are in a format to the file that was created, or to standard output.
+/// Writes these bytes in the target's format to the file just created, or to standard output.
 fn write_file<D: Desk>(
     desk: &mut D,
     stream: Stream,
@@ -47,7 +47,6 @@ fn write_file<D: Desk>(
     }
 }
 
-/// Creates the file of this name and writes it.
 fn create_file<D: Desk>(desk: &mut D, target: Target<'_>, bytes: &[u8]) -> Result<(), DeskFault>
     requires { length bytes.now ≤ 2 ^ 32 }
     ensures reports { Reports (SaveStops target.entry.file.now) (D.view desk.old) (D.view desk.new)
@@ -63,7 +62,7 @@ fn create_file<D: Desk>(desk: &mut D, target: Target<'_>, bytes: &[u8]) -> Resul
     }
 }
 
-/// Saves bytes in a format: in the file of the target's name, or on standard output.
+/// Saves bytes in the target's format, in its file or on standard output.
 pub(crate) fn save<D: Desk>(desk: &mut D, target: Target<'_>, bytes: &[u8]) -> Result<(), DeskFault>
     requires { length bytes.now ≤ 2 ^ 32 }
     ensures reports { Reports (SaveStops target.entry.file.now) (D.view desk.old) (D.view desk.new)
@@ -77,7 +76,7 @@ pub(crate) fn save<D: Desk>(desk: &mut D, target: Target<'_>, bytes: &[u8]) -> R
     }
 }
 
-/// What is kept of what was read: trailing FF of flash are dropped, unless `all` is wanted.
+/// Drops the trailing FF of flash, unless `all` is set.
 fn kept_of(mem: Mem, all: bool, bytes: &[u8]) -> &[u8]
     ensures { result.now ≡ kept_of mem all bytes.now }
 {

@@ -1,4 +1,4 @@
-//! The session of a plan, which asks a programmer and reports at the desk; and a run, from settings to status.
+//! The session of a plan, over a link and at a desk; and a run, from settings to status.
 ghost use Rattle.std.specs.Prelude.{◌≡◌, None, Err, true, false};
 ghost use Rattle.avr_desk.specs.Fault.{Follows};
 ghost use Rattle.avr_session.specs.Standing.{Fine, Faulty};
@@ -24,7 +24,7 @@ use std::alloc::Global;
 use stk_host::{HostFault, Link};
 
 impl<'a, D: Desk, L: Link> Session<'a, D, L> {
-    /// Does all that the plan asks for: opens a session, erases the chip where that is due, and performs the tasks.
+    /// Does all that the plan asks for: opens a session, erases the chip if an erase is due, and does the tasks.
     fn work(&mut self) -> Result<(), End>
         requires sound { self.old.host.broken ≡ None }
         requires part { self.old.host.part ≡ self.old.plan.now.part }
@@ -37,7 +37,7 @@ impl<'a, D: Desk, L: Link> Session<'a, D, L> {
         self.perform_all(self.plan.tasks())
     }
 
-    /// Ends a session in which no fault came.
+    /// Closes a session without a fault.
     fn close(&mut self) -> Result<(), End>
         requires { self.old.host.broken ≡ None }
         ensures performs { Performs false (ending self.old.plan.now.part self.old.plan.now.switches Fine)
@@ -51,7 +51,7 @@ impl<'a, D: Desk, L: Link> Session<'a, D, L> {
         conclude(&closed, reported)
     }
 
-    /// Leaves programming mode after this fault was reported; a second one is not reported.
+    /// Leaves programming mode after this fault was reported; a second fault is not reported.
     fn leave(&mut self, fault: HostFault) -> End
         requires serves { self.old.host.broken ≡ None }
         requires told { TellsLast D.view self.old (Err (End.Faulty fault)) }
@@ -88,7 +88,6 @@ impl<'a, D: Desk, L: Link> Session<'a, D, L> {
         }
     }
 
-    /// Plays the session, and returns what came of it.
     fn drive(&mut self) -> Outcome
         requires sound { self.old.host.broken ≡ None }
         requires part { self.old.host.part ≡ self.old.plan.now.part }
@@ -103,13 +102,14 @@ impl<'a, D: Desk, L: Link> Session<'a, D, L> {
     }
 }
 
-/// Plays the session of a plan over a link, reports it at the desk, writes the files that were read, and answers what
-/// came of it.
+/// Runs the session of a plan over a link, reports it at the desk, saves the memories read, and returns the outcome.
 ///
-/// It is done only where no call of a device failed. After a fault of the link or the desk, or where memory was refused
-/// before a read or a comparison, its line is printed, whole unless the desk fails, and nothing more is sent or said.
-/// After the line of a fault a second one is not reported, so the fault that is answered is the one of the last line.
-/// Which device stopped a session is told to those that watch them (`WatchedLink`, `WatchedDesk`).
+/// The outcome is `Done` only if no call of a device failed. If the link or the desk fails, or if allocation fails
+/// before a read or a comparison, its line is printed. The line is whole unless the desk fails, and nothing more is
+/// sent or reported.
+///
+/// After the line of a fault no second fault is reported, so the fault returned is that of the last line. To learn
+/// which device stopped a session, watch both with `WatchedLink` and `WatchedDesk`.
 ///
 /// ```text
 /// match drive_outcome(alloc, &plan, &mut desk, &mut link) {
@@ -133,7 +133,8 @@ pub fn drive_outcome<D: Desk, L: Link>(
     session.drive()
 }
 
-/// Plays the session of a plan as [`drive_outcome`] does, and answers the status: 0 where no fault came, else 1.
+/// Runs the session of a plan as [`drive_outcome`] does, and returns the status: 0 if there was no fault, otherwise
+/// 1.
 pub fn drive<D: Desk, L: Link>(alloc: Global, plan: &Plan, desk: &mut D, link: &mut L) -> u8
     ensures runs { RunsSession plan.now (devices (L.view link.old) (D.view desk.old))
         (devices (L.view link.new) (D.view desk.new)) result }
@@ -144,8 +145,8 @@ pub fn drive<D: Desk, L: Link>(alloc: Global, plan: &Plan, desk: &mut D, link: &
     drive_outcome(alloc, plan, desk, link).status()
 }
 
-/// Plans what the settings ask for, runs it over a link, reports it at the desk, and answers the status: 0 where no
-/// fault came, else 1. What is refused is reported before any frame is sent or file created.
+/// Makes the plan of a run, runs its session over a link, and reports it at the desk. Returns the status: 0 if there
+/// was no fault, otherwise 1. A refusal is reported before any frame is sent or file created.
 pub fn run<D: Desk, L: Link>(alloc: Global, settings: &Settings, desk: &mut D, link: &mut L) -> u8
     ensures runs { RunsBetween D.view D.comes_of settings.now (L.view link.old) (L.view link.new)
         desk.old desk.new result }

@@ -1,4 +1,4 @@
-//! What the contract of a run says where no device failed: a law of the contract alone.
+//! What the contract of a run says if no device failed: a law of the contract alone.
 ghost use Rattle.std.specs.Prelude.{◌≡◌, ℕ, false};
 ghost use Rattle.avr_desk.specs.Record.{Record};
 ghost use Rattle.stk_host.specs.Talk.{LinkView};
@@ -9,8 +9,8 @@ ghost use Rattle.avr_session.specs.Run.{RunsSession};
 ghost use Rattle.avr_session.specs.Session.{session};
 ghost use Rattle.avr_session.specs.Stopping.{IsSound, LacksMemory, IsPlayed, keeping};
 
-/// Where no device failed, a run was played whole, if the messages do not say that memory was refused, or if its plan
-/// takes none.
+/// States when a session without a failed device ran whole: if its messages do not end with the out-of-memory line, or
+/// if its plan never allocates.
 pub fn a_sound_run_is_played()
     ensures played { (plan : Plan) (o p : LinkView) (before after : Record) (a b : ℕ × ℕ)
         (status : ℕ)

@@ -1,4 +1,4 @@
--- What the words of a command line ask for.
+-- What a command line asks for.
 use Rattle.std.specs.Prelude.{◌≡◌, ℕ, true, List, [], Result, Ok, Err}
 use Rattle.clap.specs.Words.{takes, fault_of, kind_of, HasKind}
 use Rattle.clap.specs.declared.error.kind.ErrorKind.TheVariants.{OutOfMemory}
@@ -12,7 +12,7 @@ use Rattle.avr_session.specs.Refusal.{refusal_line}
 use Rattle.avr_tool.specs.declared.asking.NotAsked.{NotAsked}
 use Rattle.avr_tool.specs.declared.asking.NotAsked.TheVariants.{Words, Refused}
 
--- That fault, or that memory was refused, has its line, and the status is 1.
+-- The fault, or a failed allocation, was reported, and the status is 1.
 pub record IsRefused (words : List Bytes) (old new : DeskView) (status : ℕ) : Type 0 where
   pub fault : SettingsFault
   pub is : GivesOrMemory (asked_by words) (Err fault)
@@ -20,8 +20,9 @@ pub record IsRefused (words : List Bytes) (old new : DeskView) (status : ℕ) : 
   pub told : Tells old new (refusal_line fault)
   pub status_is : status ≡ 1
 
--- Settings are those of words that the command takes. A fault of them was reported. Other words have an error of a kind
--- that they call for; words that the command takes, only for want of memory; and then nothing was done at the desk.
+-- The settings are those of a command line that the command takes. A fault of them was reported. Any other command
+-- line has an error of a kind that it calls for. A command line that the command takes has an error only if
+-- allocation failed. With an error nothing was done at the desk.
 abbrev pub Asks : List Bytes → DeskView → DeskView → Result Settings NotAsked → Type 0
 Asks words old new (Ok settings) = (Ok settings ≡ asked_by words) × (fault_of avrstk words ≡ []) × (new ≡ old)
 Asks words old new (Err (Refused status)) = IsRefused words old new status

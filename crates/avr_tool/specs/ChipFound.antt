@@ -6,11 +6,11 @@ use Rattle.avr_part.specs.ChipFile.{chip_file_size, state_in}
 use Rattle.avr_part.specs.Part.{Part}
 use Rattle.avr_part.specs.State.{ChipState as Chip, fresh_state}
 
--- what the file of this name holds at a desk in memory that keeps this, if there is one
+-- The contents of the file of this name at a desk in memory with this record, if it exists.
 abbrev pub file_held : Stock → Record → Bytes → Option Bytes
 file_held stock kept name = stood_for stock (all_files kept) name
 
--- the chip of a file: of its bytes, which are as many as the part's; where there is no file it is fresh
+-- The chip in a file: its bytes, which have the part's length, or a fresh chip if the file doesn't exist.
 abbrev pub IsChipOf : Part → Option Bytes → Chip → Type 0
 IsChipOf part None chip = chip ≡ fresh_state part
 IsChipOf part (Some bytes) chip = (length bytes ≡ chip_file_size part) × (chip ≡ state_in part bytes)

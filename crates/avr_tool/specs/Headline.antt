@@ -1,20 +1,21 @@
--- THE HEADLINE. What the program does is `RunsProgram` (specs/Program): from the words of a command line to a status.
--- It rests on this page: what a run does, from settings to status, and what it leaves in a chip behind a line that
--- loses, delays and spoils, as long as it makes no frame. Read it from top to bottom: each word is defined here, or one
--- step below in the file that its `use` names. What a run is, what a call does of it and how it stops (1 to 3) is what
--- `ActsAtPort` says of `stdio:`. What the session of a plan leaves (4) is avr_course's specs/AnyLine, and 5 the same
--- from settings on. A run over a chip file (6), which `ActsAtPort` says of `emu:`, is avr_emulator's specs/Emulated. Of
--- `net:` and of a server it has specs/OverNet and ServedNet. From bytes to bytes (7) is specs/InMemory.
+-- THE HEADLINE. What the program does is `RunsProgram` (specs/Program): from a command line to a status. It rests on
+-- this page, which says what a run does, from settings to status. It also says what a run leaves in a chip behind a
+-- link that loses, delays and spoils bytes but forges no frame. Read it from top to bottom: each term is defined
+-- here, or one step below in the file that its `use` names. Sections 1 to 3 say what a run is, that a call does it,
+-- and how it stops; `ActsAtPort` states this of `stdio:`. What the session of a plan leaves (4) is avr_course's
+-- specs/AnyLine, and 5 is the same from settings on. A run over a chip file (6), which `ActsAtPort` states of `emu:`,
+-- is avr_emulator's specs/Emulated. For `net:` and for a server it uses specs/OverNet and specs/ServedNet. From bytes
+-- to bytes (7) is specs/InMemory.
 --
--- What it does not say. Every desk and every link keeps a record, the real ones for proofs alone: what passed there is
--- what their calls answered, and what a reader gave and a writer took (stk_host's Links, avr_desk's Shown), and
--- nothing says what a file or a socket made of it. A talk and a desk's record are two, so no clause orders a line and
--- a frame, but as events of the run. That a run succeeds is said only of a line on which few frames go wrong. Whether
--- memory was refused nothing counts; but its line is reported whole, unless a write to the messages failed, which is
--- counted apart. Of a line that makes a frame, which the programmer obeys or the host takes for an answer, nothing is
--- said: noise can make one, and a pause inside an answer, out of the bytes that it carries. That bytes are reported as
--- written says that their commands were obeyed: what a locked chip made of them the memories tell. Nothing is said of
--- time, nor of a chip that loses its power in the middle of a write.
+-- What it does not say. Every desk and every link keeps a record; the real ones keep it for proofs alone. It holds
+-- what their calls returned, and what a reader gave and a writer took (stk_host's Links, avr_desk's Shown). Nothing
+-- says what a file or a socket made of it. Transcript and desk record are separate, so a line and a frame are ordered
+-- only as events of the run. A run is promised to succeed only on a link on which few frames go wrong. No count shows
+-- a failed allocation, but its line is reported whole unless a write to the messages failed, which has its own count.
+-- Nothing is said of a link that forges a frame, which the programmer obeys or the host takes for an answer. Noise
+-- can forge one, and so can a pause inside an answer, from the bytes that it carries. Bytes reported as written mean
+-- that their commands were obeyed; what a locked chip made of them, its memories show. Nothing is said of time, nor
+-- of a chip that loses power during a write.
 use Rattle.std.specs.Prelude.{ℕ, ◌≡◌, ◌≤◌, ◌⊎◌, List, [], ◌∷◌, ◌++◌, map, length, Some, None}
 use Rattle.avr_cli.specs.declared.settings.Settings.{Settings}
 use Rattle.avr_desk.specs.Fault.{Follows}
@@ -41,9 +42,9 @@ use Rattle.stk_host.specs.Play.{InTurn, IsPrefixOfEvents}
 use Rattle.stk_host.specs.Talk.{Talk, sent, heard, Grows}
 use Rattle.stk_host.specs.Tape.{Tape, on_tape}
 
--- ---- 1. The run, as one function of the settings, of what the openings of files give, and of what comes over the line
+-- ---- 1. The run, as one function of the settings, of what opening files gives, and of what the link gives
 
--- a plan is played; a refusal is reported, and comes to status 1; a file that was not read to its end can't be judged
+-- A plan is run. A refusal is reported, with status 1. A file that was not read to its end can't be judged.
 abbrev pub after_answer : StageAnswer Plan → Tape → Played Saying ℕ
 after_answer (Made plan) tape = played (session plan) 1 tape
 after_answer (Refused line) tape = record { events = Said (Line line) ∷ []; outcome = Some (1, 1, tape) }
@@ -52,21 +53,22 @@ after_answer Unread tape = record { events = []; outcome = None }
 abbrev pub after_planning : stage.StageResult Plan → Tape → Played Saying ℕ
 after_planning p tape = behind (map Said p.says) (after_answer p.answer tape)
 
--- THE RUN: all that is sent and said, and the status
+-- THE RUN: all that is sent and output, and the status
 abbrev pub run : Settings → List Opening → Tape → Played Saying ℕ
 run settings openings tape = after_planning (planned settings openings) tape
 
 -- ---- 2. What a call does is the run
 
--- at each piece heard the session of the plan was waiting, with all its frames sent; without a plan nothing was heard
+-- Before each piece received the plan's session was waiting, with all its frames sent. Without a plan nothing was
+-- received.
 abbrev pub IsInTurn : StageAnswer Plan → Talk → Type 0
 IsInTurn (Made plan) talk = InTurn (session plan) start talk
 IsInTurn (Refused line) talk = heard talk ≡ []
 IsInTurn Unread talk = heard talk ≡ []
 
--- For these openings and what was heard, whatever follows on either, the run is these events and this status. What was
--- sent are its frames, what the desk was given to do are its sayings, in their order, and at most one piece heard is
--- left. And no call of a device failed: what fails stops a run.
+-- For these openings and what was received, whatever follows on either, the run is these events and this status. The
+-- bytes sent are its frames, and the desk did its output events, in order. At most one piece is left unread. No call
+-- of a device failed, because a failure stops a run.
 pub record IsRun (settings : Settings) (before now : Devices) (status : ℕ) : Type 0 where
   pub openings : List Opening
   pub during : Talk
@@ -82,12 +84,11 @@ pub record IsRun (settings : Settings) (before now : Devices) (status : ℕ) : T
   pub few : length left ≤ 281
   pub sound : NoneFailed before now
 
--- ---- 3. Or it stopped: a device failed, as the first since the run began, or memory was refused, in a session only
--- where an action that takes memory was due. The status is 1. The line that tells why (after the line of a fault there
--- is none) is cut short only where a write to the messages has failed: a failure at a file excuses no silence.
+-- ---- 3. Or it stopped: a device failed, as the first since the run began, or allocation failed, in a session only
+-- at an action that allocates. The status is 1. The line of the reason is cut short only if a write to the messages
+-- failed; a failure at a file excuses no missing line. After a fault's line there is none.
 
--- As its plan was played: a prefix of what the session sends and says went out, and then what was reported of the
--- cause.
+-- It stopped while its plan was run: a prefix of the session was sent and output, and then the cause was reported.
 pub record StoppedPlaying (settings : Settings) (before now : Devices) (status : ℕ) : Type 0 where
   pub plan : Plan
   pub between : DeskView
@@ -95,9 +96,9 @@ pub record StoppedPlaying (settings : Settings) (before now : Devices) (status :
   pub broke : StopsSession plan (devices before.link between) now
   pub status_is : status ≡ 1
 
--- As it was planned: a prefix of what planning says was done, and nothing was sent or heard. Memory was refused only
--- for the file that was due, or where an update was due that takes it without a file. Without a part file and updates
--- it is only that no part has the name, and that was told.
+-- It stopped while it was planned: a prefix of planning's output was done, and nothing was sent or received.
+-- Allocation failed only for the next file, or at an update that allocates without a file. Without a part file and
+-- updates the only fault is an unknown part, which was reported.
 pub record StoppedPlanning (settings : Settings) (before now : Devices) (status : ℕ) : Type 0 where
   pub broke : planning.StageBrokeOff (AtUpdate settings) (planned settings) before.desk now.desk
   pub bare : settings.parts ≡ None → settings.updates ≡ [] → LacksPart settings.part [] before.desk now.desk
@@ -108,7 +109,7 @@ abbrev pub IsStopped : Settings → Devices → Devices → ℕ → Type 0
 IsStopped settings before now status =
     StoppedPlaying settings before now status ⊎ StoppedPlanning settings before now status
 
--- So what happened of a stop is a prefix of the run over what was heard, the last event perhaps in part.
+-- What a stopped run did is a prefix of the run over what was received; only the last event may be incomplete.
 pub record IsPrefixOfRun (settings : Settings) (before now : Devices) : Type 0 where
   pub openings : List Opening
   pub during : Talk
@@ -119,18 +120,18 @@ pub record IsPrefixOfRun (settings : Settings) (before now : Devices) : Type 0 w
   pub all_sent : bytes_sent shown ≡ sent during
   pub grows : Grows before.link.talk during now.link.talk
 
--- ---- 4. Over any line to the emulated programmer, as long as it makes no frame: avr_course's specs/AnyLine
+-- ---- 4. Over any link to the emulated programmer, as long as it forges no frame: avr_course's specs/AnyLine
 --
--- `OverTurns`: however the session of a plan ends, the first strokes of the plan were made, few frames went out, what
--- is reported was true then, and is what the course says, up to a step that failed. `ComesOverTurns`: if it came to
--- status 0, it said what it says over a perfect line, all was written, all comparisons agreed, and a verified chip
--- holds its images; and if few frames go wrong, it does as over a perfect line. `OverAnyLine` is both over a wire, by
--- the fates of its frames, unless a device failed or memory was refused.
+-- `OverTurns`: however the session of a plan ends, the plan's first writes were made, few frames were sent, and what
+-- was reported was true then. It is what the expected run reports, up to a step that failed. `ComesOverTurns`: if the
+-- status is 0, the output is that over a perfect link, all was written, all comparisons agreed, and a verified chip
+-- holds its images. If few frames go wrong, the session does what it does over a perfect link. `OverAnyLine` states
+-- both over a wire, by the fates of its frames, unless a device or an allocation failed.
 
--- ---- 5. From settings to the bytes of the chip, over a wire that is new
+-- ---- 5. From settings to the bytes of the chip, over a new wire
 
--- Nothing is held of a frame, nothing waits to be heard, comes late or has passed; the programmer has done nothing yet;
--- and whatever spoils an answer doesn't make another good frame of it.
+-- No part of a frame is held; nothing waits to be received, is late or has passed. The programmer has done nothing
+-- yet. Noise in place of an answer has no good frame.
 pub record IsNew (w : WiredState) : Type 0 where
   pub none_held : w.held ≡ []
   pub none_waits : w.waits ≡ []
@@ -139,12 +140,11 @@ pub record IsNew (w : WiredState) : Type 0 where
   pub programmer : w.wire.programmer ≡ fresh_programmer w.wire.programmer.chip
   pub lawful : AreLawful w.wire.fates
 
--- a wire and a desk
 abbrev pub wire_and_desk : WiredState → DeskView → Devices
 wire_and_desk w desk = devices (wired_view w) desk
 
--- A plan was made of these openings; its session was run, or stopped; and if the chip is of the plan's part, that is
--- what became of it. A failure of the desk that stopped it is one since before the run.
+-- A plan was made from these openings, and its session was run, or stopped. If the chip is of the plan's part, `line`
+-- states what happened to it. A failure of the desk that stopped it is one since before the run.
 pub record PlaysOverWire (settings : Settings) (before after : WiredState) (desk_before desk_now : DeskView)
     (status : ℕ) : Type 0 where
   pub plan : Plan
@@ -156,7 +156,7 @@ pub record PlaysOverWire (settings : Settings) (before after : WiredState) (desk
       ⊎ (Stopped plan before after between desk_now × (status ≡ 1))
   pub line : before.wire.programmer.chip.part ≡ plan.part → OverAnyLine plan before after between desk_now status
 
--- There is no plan: that was reported, or planning stopped, and the wire is untouched.
+-- There is no plan: this was reported, or planning stopped. The wire is untouched.
 pub record HasNoPlan (settings : Settings) (before after : WiredState) (desk_before desk_now : DeskView)
     (status : ℕ) : Type 0 where
   pub runs : IsRun settings (wire_and_desk before desk_before) (wire_and_desk after desk_now) status
@@ -171,11 +171,11 @@ RunsWired settings before after desk_before desk_now status =
 
 -- ---- 6. Over the emulator, whose chip has a file: avr_emulator's specs/Emulated
 --
--- `RunsEmulator`: a plan is made, the file is held and a chip loaded from it, the session is run as section 4 has it
--- over a new wire on which no frame goes wrong, and if anything was sent the file is replaced by the chip, whole, or is
+-- `RunsEmulator`: a plan is made, the file is locked and a chip loaded from it. The session is run as in section 4,
+-- over a new wire on which no frame goes wrong. If anything was sent, the file is replaced by the whole chip, or is
 -- as it was.
 
 -- ---- 7. From bytes to bytes: specs/InMemory
 --
--- `Leaves`: over files, a standard input and a tape that are known, the status, the bytes sent, the messages, the
--- output and the files made are a function of the settings and these; no device is in it.
+-- `Leaves`: over known files, standard input and tape, what a run leaves is a function of the settings and these. It
+-- leaves its status, the bytes sent, the messages, the output and the files created. No device is in it.

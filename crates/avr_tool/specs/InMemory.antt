@@ -1,5 +1,5 @@
--- FROM BYTES TO BYTES. What a run leaves whose files, standard input and answers are known: a function of these, and
--- nothing of devices is in it.
+-- FROM BYTES TO BYTES. What a run leaves is a function of its settings, files, standard input and answers, if these
+-- are known. No device is in it.
 use Rattle.std.specs.Io.KnownBytes.{Appends, Consumes}
 use Rattle.std.specs.Prelude.{◌≡◌, ℕ, List, [], ◌++◌, replicate, Option, Some, None}
 use Rattle.avr_cli.specs.declared.settings.Settings.{Settings}
@@ -15,8 +15,8 @@ use Rattle.stk_host.specs.Tape.{Tape, bytes_of}
 use Rattle.stk_host.specs.declared.link.Item.TheVariants.{End}
 use Rattle.avr_tool.specs.Headline.{run}
 
--- all that a run leaves: its status, the bytes sent, the messages, the output, and the files that were made, in their
--- order, of which a later one of a name takes the place of an earlier one
+-- All that a run leaves: its status, the bytes sent, the messages, the output, and the files created, in order. A
+-- later file replaces an earlier one of the same name.
 pub record RunOutcome : Type 0 where
   pub status : ℕ
   pub sent : Bytes
@@ -24,11 +24,10 @@ pub record RunOutcome : Type 0 where
   pub output : Bytes
   pub files : List Writing
 
--- THE RUN of some files and a tape: over what each file gives that the settings name, read whole as it was before
+-- THE RUN over some files and a tape: each file that the settings name is read whole, as it was before.
 abbrev pub run_of : Settings → Stock → Tape → Played Saying ℕ
 run_of settings stock tape = run settings (files_give stock (files_read settings)) tape
 
--- what events leave that come to this status
 abbrev pub left_by : List (Event Saying) → ℕ → RunOutcome
 left_by events status =
     let made = after_all (sayings events) nothing_kept in
@@ -44,21 +43,21 @@ abbrev pub left_at : List (Event Saying) → Option (ℕ × ℕ × Tape) → Opt
 left_at events None = None
 left_at events (Some end) = Some (left_by events end.0)
 
--- what a run leaves, if it comes to an end
+-- What a run leaves, if it ends.
 abbrev pub run_outcome : Played Saying ℕ → Option RunOutcome
 run_outcome p = left_at p.events p.outcome
 
--- The run of these files over this tape leaves this, whatever more might follow on it.
+-- The run of these files over this tape leaves this outcome, whatever follows on the tape.
 abbrev pub IsLeft : Settings → Stock → Tape → RunOutcome → Type 0
 IsLeft settings stock tape outcome = (more : Tape) → run_outcome (run_of settings stock (tape ++ more)) ≡ Some outcome
 
--- The same of a tape after whose last item there come ends, as many as the run asks for.
+-- The same for a tape followed by as many ends as the run reads.
 pub record Leaves (settings : Settings) (stock : Stock) (tape : Tape) (outcome : RunOutcome) : Type 0 where
   pub ends : ℕ
   pub is : IsLeft settings stock (tape ++ replicate ends End) outcome
 
--- And of a reader and a writer: some tape was heard, whose bytes are those that the reader gave, where it is known
--- which these are; and the writer took what was sent. (Where a reader is silent or ends, its bytes don't tell.)
+-- The same for a reader and a writer. Some tape was received, whose bytes are those that the reader gave, if these
+-- are known. The writer took what was sent. A reader's bytes don't show its timeouts and its end.
 pub record LeavesStreams {R W : Type 0} (remaining : R → Option Bytes) (contents : W → Option Bytes)
     (settings : Settings) (stock : Stock) (old new : StreamState R W) (outcome : RunOutcome) : Type 0 where
   pub tape : Tape
@@ -66,12 +65,11 @@ pub record LeavesStreams {R W : Type 0} (remaining : R → Option Bytes) (conten
   pub took : Appends (contents old.writer) (contents new.writer) outcome.sent
   pub is : IsLeft settings stock tape outcome
 
--- nothing has passed over a desk and a link, which never failed
+-- Nothing has passed over the desk and the link, and they never failed.
 pub record AreUnused (desk : MemDeskState) (link : LinkView) : Type 0 where
   pub desk_is : desk.kept ≡ nothing_kept
   pub link_is : link ≡ record { talk = []; failures = 0 }
 
--- what a run with this status has left, by all that a desk keeps and that passed over a link
 abbrev pub shown_by : ℕ → Record → Talk → RunOutcome
 shown_by status kept talk = record {
   status = status;

@@ -3,7 +3,7 @@ use Rattle.std.specs.Prelude.{List, [], ◌∷◌, codes}
 use Rattle.avr_desk.specs.Record.{Bytes}
 use Rattle.avr_desk.specs.Lines.{error}
 
--- the port as it was given: what stands before its name, `net:` of `-P` and nothing of `--serve`, and the name
+-- The port as it was given: `net:` and a name for `-P`, nothing and a name for `--serve`.
 abbrev pub unopened_pieces : Bytes → Bytes → List Bytes
 unopened_pieces scheme name = codes "port " ∷ scheme ∷ name ∷ codes " cannot be opened" ∷ []
 

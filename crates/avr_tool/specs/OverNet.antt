@@ -13,8 +13,7 @@ use Rattle.avr_session.specs.Runs.{devices}
 use Rattle.stk_host.specs.Talk.{Talk, LinkView}
 use Rattle.avr_tool.specs.Lines.{unopened_line}
 
--- what a connection shows as a link: what passed over it, which is kept for proofs alone, and its failures, which it
--- counts from 0
+-- A connection as a link: its transcript, kept for proofs alone, and its failures, counted from 0.
 abbrev pub connection : Talk → ℕ → LinkView
 connection talk failures = record { talk = talk; failures = failures }
 
@@ -28,7 +27,7 @@ pub record PlaysOverNet (settings : Settings) (old new : DeskView) (status : ℕ
   pub runs : RunsSession plan (devices (connection [] 0) planned_desk) (devices (connection talk link_failures) new)
       status
 
--- The plan was made, but the port could not be opened: that was reported, nothing else was done at the desk, and the
+-- The plan was made, but the port could not be opened. This was reported, nothing else was done at the desk, and the
 -- status is 1.
 pub record LacksPort (settings : Settings) (address : Bytes) (old new : DeskView) (status : ℕ) : Type 0 where
   pub plan : Plan
@@ -37,8 +36,9 @@ pub record LacksPort (settings : Settings) (address : Bytes) (old new : DeskView
   pub told : Tells planned_desk new (unopened_line (codes "net:") address)
   pub status_is : status ≡ 1
 
--- The one or the other, and `over` says what came of the socket (as `IsOverAddress` does); or there is no plan. Without
--- a part file and updates that is only since no part has the name. (That the port was left alone then, no clause says.)
+-- The session was run, or the port could not be opened, and `over` states what happened to the socket, as
+-- `IsOverAddress` does. Or there is no plan; without a part file and updates the only reason is an unknown part. No
+-- clause states that the port was left alone then.
 abbrev pub RunsOverNet : (Option LinkView → Type 0) → Settings → Bytes → DeskView → DeskView → ℕ → Type 0
 RunsOverNet over settings address old new status =
     ((plays : PlaysOverNet settings old new status) × over (Some (connection plays.talk plays.link_failures)))

@@ -1,4 +1,4 @@
--- THE PROGRAM. What it does with the words of a command line, on its standard streams and at its desk, and its status.
+-- THE PROGRAM. What it does with a command line, on its standard streams and at its desk, and its status.
 use Rattle.std.specs.Prelude.{◌≡◌, ◌≢◌, ◌⊎◌, ℕ, Bool, true, List, [], Result, Ok, Err}
 use Rattle.clap.specs.Words.{fault_of, kind_of, takes, HasKind}
 use Rattle.clap.specs.declared.error.Error.{Error}
@@ -25,8 +25,9 @@ use Rattle.avr_tool.specs.Sockets.{Peers}
 use Rattle.avr_tool.specs.Texts.{PrintsText, ReportsText}
 use Rattle.stk_host.specs.Talk.{LinkView}
 
--- The port of the settings decides: standard input and output, which is the link; the emulator over a chip file; a
--- connection to the address; or a service at the port, which looks at the chip file, port and part alone.
+-- The port of the settings decides. It is standard input and output, which is the link; the emulator over a chip
+-- file; a connection to the address; or a service at the port. A service uses only the chip file, the port and the
+-- part.
 abbrev pub ActsAtPort : Peers → Port → Settings → Devices → Devices → ℕ → Type 0
 ActsAtPort peers Stdio settings old new status = IsRun settings old new status ⊎ IsStopped settings old new status
 ActsAtPort peers (Emulated file) settings old new status =
@@ -36,7 +37,7 @@ ActsAtPort peers (Network address) settings old new status =
 ActsAtPort peers (Served port chip) settings old new status =
     ServesNet (peers.at_port (port_number port)) settings port chip old.desk new.desk status × (new.link ≡ old.link)
 
--- The command takes the words, which ask for these settings, and that is what was run.
+-- The command takes the command line, which asks for these settings, and they were run.
 pub record TakesWords (peers : Peers) (words : List Bytes) (before after : LinkView) (old new : DeskView) (status : ℕ)
     : Type 0 where
   pub settings : Settings
@@ -44,14 +45,14 @@ pub record TakesWords (peers : Peers) (words : List Bytes) (before after : LinkV
   pub taken : fault_of avrstk words ≡ []
   pub runs : ActsAtPort peers settings.port settings (devices before old) (devices after new) status
 
--- What they ask for has a fault, or memory was refused: that was reported, and nothing else was done.
+-- The settings have a fault, or allocation failed. This was reported, and nothing else was done.
 pub record RefusesWords (words : List Bytes) (before after : LinkView) (old new : DeskView) (status : ℕ) : Type 0 where
   pub why : IsRefused words old new status ⊎ Tells old new (refusal_line Memory)
   pub untouched : after ≡ before
   pub status_is : status ≡ 1
 
--- The command doesn't take the words, or they ask for help: an error of a kind that they call for is left to be
--- printed, and nothing was done.
+-- The command refuses the command line, or this asks for help. The error is of a kind that it calls for and is left
+-- to be printed; nothing was done.
 pub record LeavesError (words : List Bytes) (before after : LinkView) (old new : DeskView) (error : Error)
     : Type 0 where
   pub kind : HasKind (fault_of avrstk words) error
@@ -65,26 +66,25 @@ ActsOnWords peers words before after old new (Ok status) =
     TakesWords peers words before after old new status ⊎ RefusesWords words before after old new status
 ActsOnWords peers words before after old new (Err error) = LeavesError words before after old new error
 
--- an error of `clap`: that memory was refused is reported, any other is left
+-- An error of `clap`: a failed allocation is reported, any other error is left.
 abbrev pub LeavesWords : Error → DeskView → DeskView → Result ℕ Error → Type 0
 LeavesWords error old new (Ok status) =
     (kind_of error ≡ OutOfMemory) × Tells old new (refusal_line Memory) × (status ≡ 1)
 LeavesWords error old new (Err left) = (kind_of error ≢ OutOfMemory) × (left ≡ error) × (new ≡ old)
 
--- help and the version that were printed are no mistake
+-- Help and the version are no mistake if they were printed.
 abbrev pub usage_status : ErrorKind → Bool → ℕ
 usage_status DisplayHelp true = 0
 usage_status DisplayVersion true = 0
 usage_status kind printed = 1
 
--- where `clap` has its text
 abbrev pub usage_stream : ErrorKind → Stream
 usage_stream DisplayHelp = Output
 usage_stream DisplayVersion = Output
 usage_stream kind = Messages
 
--- Its text was printed there, or could not be, and nothing else was done. The status is its own. (No clause says which
--- text it is.)
+-- The text of the error was printed there, or printing failed, and nothing else was done. The status follows from the
+-- error. No clause knows the text.
 pub record TellsUsage (words : List Bytes) (before after : LinkView) (old new : DeskView) (status : ℕ) : Type 0 where
   pub error : Error
   pub leaves : LeavesError words before after old old error
@@ -92,13 +92,13 @@ pub record TellsUsage (words : List Bytes) (before after : LinkView) (old new : 
   pub prints : PrintsText (usage_stream (kind_of error)) old new printed
   pub status_is : status ≡ usage_status (kind_of error) printed
 
--- From words to a status.
+-- From a command line to a status.
 abbrev pub RunsProgram : Peers → List Bytes → LinkView → LinkView → DeskView → DeskView → ℕ → Type 0
 RunsProgram peers words before after old new status =
     ActsOnWords peers words before after old new (Ok status) ⊎ TellsUsage words before after old new status
 
--- From the start of a process: its words, which no clause knows, were read and run, or could not be read, and then
--- that was reported, and the status is 1.
+-- From the start of a process: its command line, which no clause knows, was read and run. Or it could not be read,
+-- this was reported, and the status is 1.
 abbrev pub StartsProgram : Peers → LinkView → LinkView → DeskView → DeskView → ℕ → Type 0
 StartsProgram peers before after old new status =
     ((words : List Bytes) × RunsProgram peers words before after old new status)

@@ -1,4 +1,4 @@
--- Serving an emulated programmer to a caller at a port of this machine, from settings to status.
+-- Serving an emulated programmer to a client at a port of this machine, from settings to status.
 use Rattle.std.specs.Prelude.{ℕ, ◌≡◌, ◌⊎◌, [], Option, Some, None, Ok, Err}
 use Rattle.avr_cli.specs.declared.settings.Settings.{Settings}
 use Rattle.avr_desk.specs.Record.{DeskView, Bytes}
@@ -11,25 +11,27 @@ use Rattle.avr_tool.specs.Lines.{unopened_line}
 use Rattle.avr_tool.specs.OverNet.{connection}
 use Rattle.stk_host.specs.Talk.{Talk, LinkView}
 
--- A connection was accepted, and then the chip file was held, its chip loaded and served over it, or refused.
+-- A connection was accepted. Then the chip file was locked and its chip loaded and served over it, or the chip was
+-- refused.
 pub record ServesCaller (part : Part) (file : Bytes) (old new : DeskView) (status : ℕ) : Type 0 where
   pub talk : Talk
   pub link_failures : ℕ
   pub serves : ServesPart part file READS (devices (connection [] 0) old)
       (devices (connection talk link_failures) new) status
 
--- No connection could be accepted: that was reported, nothing else was done at the desk, and the status is 1.
+-- No connection could be accepted. This was reported, nothing else was done at the desk, and the status is 1.
 pub record LacksCaller (port : Bytes) (old new : DeskView) (status : ℕ) : Type 0 where
   pub told : Tells old new (unopened_line [] port)
   pub status_is : status ≡ 1
 
--- the one or the other, and `over` says what came of the socket (as `IsOverCaller` and `IsOverPort` do)
+-- A client was served or none was accepted, and `over` states what happened to the socket, as `IsOverCaller` and
+-- `IsOverPort` do.
 abbrev pub ServesOn : (Option LinkView → Type 0) → Part → Bytes → Bytes → DeskView → DeskView → ℕ → Type 0
 ServesOn over part port file old new status =
     ((serves : ServesCaller part file old new status) × over (Some (connection serves.talk serves.link_failures)))
     ⊎ (LacksCaller port old new status × over None)
 
--- The part and the chip file of the settings were judged; then a caller was served, or none could be accepted.
+-- The part and the chip file of the settings were judged; then a client was served, or none could be accepted.
 pub record ServesJudged (Over : Option LinkView → Type 0) (settings : Settings) (port file : Bytes)
     (old new : DeskView) (status : ℕ) : Type 0 where
   pub part : Part
@@ -37,7 +39,7 @@ pub record ServesJudged (Over : Option LinkView → Type 0) (settings : Settings
   pub judged : JudgesPart settings file old judged_desk (Ok part)
   pub serves : ServesOn Over part port file judged_desk new status
 
--- so it was, or they are refused (that the port was left alone then, no clause says)
+-- The same, or the part or the chip file is refused. No clause states that the port was left alone then.
 abbrev pub ServesNet : (Option LinkView → Type 0) → Settings → Bytes → Bytes → DeskView → DeskView → ℕ → Type 0
 ServesNet over settings port file old new status =
     ServesJudged over settings port file old new status ⊎ JudgesPart settings file old new (Err status)

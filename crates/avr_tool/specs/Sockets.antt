@@ -1,4 +1,4 @@
--- Links over sockets: whose they are, and what passed over them.
+-- Links over sockets: their other side, and what passed over them.
 use Rattle.std.specs.Prelude.{ℕ, ◌≡◌, ◌⊎◌, [], Option, Some, None}
 use Rattle.std.specs.declared.io.Read.{Ghosts as Reads}
 use Rattle.std.specs.declared.io.Write.{Ghosts as Writes}
@@ -8,15 +8,15 @@ use Rattle.avr_tool.specs.declared.network.Network.{Ghosts as Networks}
 use Rattle.stk_host.specs.Links.{IsTrueSince, StreamState, stream_view}
 use Rattle.stk_host.specs.Talk.{LinkView}
 
--- a link over two sides of this socket, over which nothing has passed
+-- A link over two sides of this socket, over which nothing has passed.
 pub record IsNewLink {S : Type 0} (IsSide : S → Type 0) (link : StreamState S S) : Type 0 where
   pub reader : IsSide link.reader
   pub writer : IsSide link.writer
   pub fresh : link.failures ≡ 0
   pub quiet : link.talk ≡ []
 
--- This was shown by a link over two sides of this socket that was new: what it heard its reader gave, and what it sent
--- its writer took.
+-- The state of a link that was new over two sides of this socket. Its reader gave what it received, and its writer
+-- took what it sent.
 pub record IsOver {S : Type 0} (reads : Reads S) (writes : Writes S) (IsSide : S → Type 0) (now : LinkView)
     : Type 0 where
   pub before : StreamState S S
@@ -25,26 +25,26 @@ pub record IsOver {S : Type 0} (reads : Reads S) (writes : Writes S) (IsSide : S
   pub shows : stream_view after ≡ now
   pub truly : IsTrueSince reads.remaining writes.contents before after
 
--- What came of a socket: a link over it showed this, or, where there is none, it could not be had.
+-- What happened to a socket: a link over it has this state, or there was none.
 
--- a connection to this address
+-- A connection to this address.
 abbrev pub IsOverAddress : {N S L : Type 0} → Networks N S L → Reads S → Writes S → Bytes → Option LinkView → Type 0
 IsOverAddress network reads writes address (Some now) =
     IsOver reads writes (λ side. network.reaches side address) now
 IsOverAddress network reads writes address None = network.misses address
 
--- that of a caller at this listener
+-- A connection accepted at this listener.
 abbrev pub IsOverCaller : {L S : Type 0} → Called L S → Reads S → Writes S → L → Option LinkView → Type 0
 IsOverCaller called reads writes listener (Some now) = IsOver reads writes (called.calls listener) now
 IsOverCaller called reads writes listener None = called.lacks listener
 
--- or at a listener at this port
+-- A connection accepted at a listener at this port.
 abbrev pub IsAtPort : {N S L : Type 0} → Networks N S L → Called L S → Reads S → Writes S → ℕ → Option LinkView
     → Type 0
 IsAtPort {L = L} network called reads writes port seen =
     (listener : L) × network.listens listener port × IsOverCaller called reads writes listener seen
 
--- where there is none, there was no listener either, or nobody could be accepted, or the port's text is no number
+-- Without a link there was no listener, or no client could be accepted, or the port's text is no number.
 abbrev pub IsOverPort : {N S L : Type 0} → Networks N S L → Called L S → Reads S → Writes S → Option ℕ → Option LinkView
     → Type 0
 IsOverPort network called reads writes (Some port) (Some now) = IsAtPort network called reads writes port (Some now)
@@ -53,7 +53,7 @@ IsOverPort network called reads writes (Some port) None =
 IsOverPort network called reads writes None (Some now) = ⊥
 IsOverPort network called reads writes None None = Unit {0}
 
--- whom a run meets on the network: at an address, and at a port
+-- The other sides that a run may connect to: at an address, and at a port.
 pub record Peers : Type 1 where
   pub at_address : Bytes → Option LinkView → Type 0
   pub at_port : Option ℕ → Option LinkView → Type 0

@@ -6,33 +6,32 @@ use Rattle.avr_desk.specs.Said.{IsPrefixOf}
 use Rattle.avr_desk.specs.Stream.{after_sent}
 use Rattle.avr_desk.specs.declared.stream.Stream.{Stream}
 
--- a text of some bytes was printed, or there was none, or a write has failed
+-- A nonempty text was printed whole; or it is empty, or a write has failed.
 abbrev pub ComesOut : Stream → Bytes → DeskView → DeskView → Bool → Type 0
 ComesOut stream text old new true = (text ≢ []) × HasSameCounts old new
 ComesOut stream text old new false = ((text ≡ []) × HasSameCounts old new) ⊎ HasFailedAt stream old new
 
--- So much of a text was printed there, and nothing else happened.
+-- This text was printed, and nothing else happened.
 pub record PrintsText (stream : Stream) (old new : DeskView) (printed : Bool) : Type 0 where
   pub text : Bytes
   pub kept : Passes (after_sent stream text) old new
   pub comes : ComesOut stream text old new printed
   pub follows : Follows old new
 
--- Something more was printed there, or nothing, and nothing else happened.
+-- Something more was printed, or nothing, and nothing else happened.
 pub record PrintsMore (old new : DeskView) : Type 0 where
   pub told : Bytes
   pub kept : Passes (after_err told) old new
   pub follows : Follows old new
 
--- An error was reported of which no clause knows the text, or where a write to the messages failed a part of it, and
--- nothing else happened.
+-- An error was reported whose text no clause knows, in part if a write to the messages failed. Nothing else happened.
 pub record ReportsText (old new : DeskView) : Type 0 where
   pub told : Bytes
   pub kept : Passes (after_err told) old new
   pub tells : IsPrefixOf (codes "avrstk: error: ") told ⊎ HasFailedToSay old new
   pub follows : Follows old new
 
--- in between: all that was tried so far, some of it where the count is not 0
+-- inside: all that was printed so far; it is nonempty if `count` isn't 0
 pub record HasPrinted (stream : Stream) (old new : DeskView) (count : ℕ) : Type 0 where
   pub text : Bytes
   pub kept : Passes (after_sent stream text) old new

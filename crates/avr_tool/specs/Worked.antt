@@ -1,5 +1,5 @@
--- Worked runs: `-p m328p` over a programmer that answers each frame at once; with a part file that isn't there; and a
--- session over a line that makes a frame.
+-- Worked runs: `-p m328p` over a programmer that answers each frame at once, and with a part file that doesn't exist.
+-- Also a session over a link that forges a frame.
 use Rattle.std.specs.Prelude.{ℕ, List, [], ◌∷◌, ◌++◌, Some, None, false, codes}
 use Rattle.avr_cli.specs.declared.settings.Settings.{Settings}
 use Rattle.avr_cli.specs.declared.settings.Port.TheVariants.{Stdio}
@@ -32,7 +32,7 @@ worked_settings = record {
   };
 }
 
--- the answers: a name, programming mode, the signature 1E 95 0F, and out of it
+-- The answers: a name, programming mode, the signature 1E 95 0F, and leaving.
 abbrev pub worked_answers : Tape
 worked_answers = on_tape (
     0x1B ∷ 0x01 ∷ 0x00 ∷ 0x0B ∷ 0x0E ∷ 0x01 ∷ 0x00 ∷ 0x08 ∷ 0x53 ∷ 0x54 ∷ 0x4B ∷ 0x35 ∷ 0x30 ∷ 0x30 ∷ 0x5F ∷ 0x32 ∷ 0x02
@@ -43,7 +43,7 @@ worked_answers = on_tape (
     ∷ 0x1B ∷ 0x06 ∷ 0x00 ∷ 0x02 ∷ 0x0E ∷ 0x11 ∷ 0x00 ∷ 0x00 ∷ []
     )
 
--- the frames: SIGN_ON, ENTER, three bytes of the signature, LEAVE
+-- The frames: SIGN_ON, ENTER, three bytes of the signature, LEAVE.
 abbrev pub frames_due : List ℕ
 frames_due =
     0x1B ∷ 0x01 ∷ 0x00 ∷ 0x01 ∷ 0x0E ∷ 0x01 ∷ 0x14
@@ -54,13 +54,13 @@ frames_due =
     ∷ 0x1B ∷ 0x05 ∷ 0x00 ∷ 0x06 ∷ 0x0E ∷ 0x1B ∷ 0x04 ∷ 0x30 ∷ 0x00 ∷ 0x02 ∷ 0x00 ∷ 0x3B
     ∷ 0x1B ∷ 0x06 ∷ 0x00 ∷ 0x03 ∷ 0x0E ∷ 0x11 ∷ 0x01 ∷ 0x01 ∷ 0x01 ∷ []
 
--- the lines: the signature, and the end
+-- The lines: the signature, and the end.
 abbrev pub lines_due : List Saying
 lines_due =
     informs 0 (codes "device signature = " ∷ spaced_digits (0x1E ∷ 0x95 ∷ 0x0F ∷ []) ∷ [])
     ++ informs 0 (codes "done" ∷ [])
 
--- what the run leaves, whatever files are there
+-- What the run leaves, whatever files exist.
 abbrev pub worked_outcome : RunOutcome
 worked_outcome = record {
   status = 0;
@@ -71,7 +71,7 @@ worked_outcome = record {
   files = [];
 }
 
--- the same words with a part file in front, and nothing there that it could be
+-- The same settings with a part file, which doesn't exist.
 abbrev pub absent_settings : Settings
 absent_settings = record worked_settings { parts = Some (codes "parts.toml") }
 
@@ -87,7 +87,7 @@ absent_outcome = record {
   files = [];
 }
 
--- a comparison of the low fuse with E2
+-- A comparison of the low fuse with E2.
 abbrev pub fuse_plan : Plan
 fuse_plan = record {
   part = m328p;
@@ -95,7 +95,7 @@ fuse_plan = record {
   switches = worked_settings.switches;
 }
 
--- a tape for it on which a frame was made: the answer to the fuse is E2, whatever the chip has
+-- A tape for it with a forged frame: the answer for the fuse is E2, whatever the chip has.
 abbrev pub made_answers : Tape
 made_answers = on_tape (
     frame 1 (0x01 ∷ 0x00 ∷ 0x08 ∷ codes "STK500_2") ++ frame 2 (0x10 ∷ 0x00 ∷ [])

@@ -1,4 +1,4 @@
-//! From the words of a command line to settings.
+//! From a command line to settings.
 ghost use Rattle.std.specs.Prelude.{◌≡◌, map, string_bytes};
 ghost use Rattle.avr_tool.specs.Asked.{Asks, not_asked_number};
 ghost use Rattle.ghosts.specs.Stays.{Stays};
@@ -23,16 +23,17 @@ use thiserror::Error;
 /// ```
 #[derive(Debug, Drop, Error)]
 pub enum NotAsked {
-    /// `clap` doesn't take the words, or they ask for help: its own error, which is not printed yet, and its text.
+    /// `clap` refuses the command line, this asks for help or the version, or an allocation fails in `clap`. This is
+    /// clap's own error with its text, which is not printed yet.
     #[error(transparent)]
     Words(clap::Error),
-    /// What they ask for has a fault, whose line was printed as far as the desk takes it: the status, 1.
+    /// The settings have a fault, whose line was printed as far as the desk takes it. The status is 1.
     #[error("the command line asks for no run: status {0}")]
     Refused(u8),
 }
 
 impl NotAsked {
-    /// The fault's number, from 1 on, which no later version changes.
+    /// Returns the fault's number, which never changes.
     pub fn number(&self) -> u8
         ensures { result ≡ not_asked_number self.now }
     {
@@ -43,7 +44,12 @@ impl NotAsked {
     }
 }
 
-/// The settings that the words of a command line ask for, the program's name first.
+/// Reads settings from a command line, whose first element is the program's name.
+///
+/// # Errors
+///
+/// [`NotAsked::Words`] with the error of `clap`, which isn't printed. [`NotAsked::Refused`] if the settings have a
+/// fault or allocation fails, after the line was printed.
 ///
 /// ```text
 /// let mut words = Vec::new(alloc);

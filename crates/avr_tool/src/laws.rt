@@ -1,4 +1,4 @@
-//! Laws of runs. No code.
+//! Laws of runs; no code.
 
 ghost use Rattle.std.specs.Prelude.{◌≡◌, ◌<◌, ◌*◌, ◌⊎◌, ℕ, Bool, true, false, List, [], All, Some, map};
 ghost use Rattle.avr_cli.specs.declared.settings.Settings.{Settings as AnySettings};
@@ -44,14 +44,14 @@ ghost use Rattle.stk_host.specs.Dialog.{Event, played, bytes_sent, sayings};
 ghost use Rattle.stk_host.specs.Talk.{Talk, heard, sent};
 ghost use Rattle.stk_host.specs.Tape.{Tape};
 
-/// What runs as the settings say is the one function, or it stopped.
+/// States that a run of settings is the one function `run`, or that it stopped.
 #[tactic(auto, using(crate::proofs::Runs::Joined::is_run))]
 pub fn a_run_is_one_function()
     ensures { (s : AnySettings) (x : Devices) (between : DeskView) (y : Devices) (status : ℕ)
         → RunsSettings s x between y status → IsRun s x y status ⊎ IsStopped s x y status }
 {}
 
-/// What stopped as it was played did a prefix of the run; and a run comes to one status.
+/// States that a run which stopped did a prefix of the whole run, and that a run has one status.
 pub fn a_stop_is_a_prefix()
     ensures prefix { (s : AnySettings) (x y : Devices) (status : ℕ) → StoppedPlaying s x y status
         → IsPrefixOfRun s x y }
@@ -59,9 +59,9 @@ pub fn a_stop_is_a_prefix()
         → x.openings ≡ y.openings → heard x.during ≡ heard y.during → m ≡ n }
 {}
 
-/// What the page refuses of a run over a wire: with status 0 other memories than all that was to be written leaves, or
-/// other sayings than those of a perfect line; with any status a chip that changed though no frame went out, or more
-/// frames than four for each command, by any weight of them.
+/// States what the page refuses of a run over a wire. With status 0: memories that the plan's writes don't leave, or
+/// output other than over a perfect link. With any status: a chip that changed though no frame was sent, or more than
+/// four frames for each command, by any weight.
 pub fn a_wrong_outcome_is_refused()
     ensures memories { (plan : Plan) (w v : WiredState) (d e : DeskView)
         → (memories v ≡ effects plan.part (items plan) (memories w) → ⊥) → OverAnyLine plan w v d e 0 → ⊥ }
@@ -75,9 +75,11 @@ pub fn a_wrong_outcome_is_refused()
         → OverAnyLine plan w v d e status → ⊥ }
 {}
 
-/// Where of any seven frames in a row at most three go wrong (a reset counts four), no device fails, and the messages
-/// do not say that memory was refused: a session is its course; and that of a plan that erases, and agrees on a chip of
-/// 00 and on one of FF, has status 0 and, verified, leaves its images, whatever the chip was.
+/// States when a session over a wire is its expected run. At most three of any seven consecutive frames go wrong, and
+/// a reset counts as four. No device fails, and the messages report no failed allocation.
+///
+/// If such a plan erases and verifies, and its comparisons agree on a chip of 00 and on one of FF, its status is 0.
+/// The chip then holds its images, whatever it held before.
 pub fn a_sound_run_is_its_course()
     ensures course { (plan : Plan) (w v : WiredState) (d e : Record) (a b : ℕ × ℕ) (status : ℕ)
         → AreFew (turns_of w.wire.fates) → IsSound (wire_and_desk w (keeping d a)) (wire_and_desk v (keeping e b))
@@ -93,11 +95,13 @@ pub fn a_sound_run_is_its_course()
         → (status ≡ 0) × IsWritten plan.part (asked_items plan) (memories w) (memories v) }
 {}
 
-/// The same run once more, over the chip that a first one left, whatever became of that one: where of any seven frames
-/// in a row at most three go wrong (a reset counts four), a plan that erases, and agrees on a chip of 00 and on one of
-/// FF, comes to status 0, and leaves what one run would have left of the chip before both. Only where the chip keeps
-/// EEPROM at an erase must each byte that the plan writes to the high fuse keep it too. So over a wire; and over any
-/// link that makes no frame, by the turns that were heard, however the first session ended, without a word on devices.
+/// States that a further run heals: the same run again, over the chip that a first one left, however that one ended.
+/// At most three of any seven consecutive frames go wrong, and a reset counts as four. The plan erases, and its
+/// comparisons agree on a chip of 00 and on one of FF. Then its status is 0, and the chip is as one run would have
+/// left it before both.
+///
+/// If the chip keeps EEPROM at an erase, each byte that the plan writes to the high fuse must keep it too. `wire`
+/// states this over a wire, `link` over any link that forges no frame, by the turns and without regard to devices.
 pub fn a_further_run_heals()
     ensures wire { (plan : Plan) (w v x y : WiredState) (d e f g : DeskView) (status further : ℕ)
         → IsPart plan.part → All (IsFitted plan.part) plan.tasks → FitsPart plan.part (memories w)
@@ -116,9 +120,9 @@ pub fn a_further_run_heals()
         → (further ≡ 0) × IsDone plan (memories_of p.chip) (memories_of y.chip) }
 {}
 
-/// Over a desk in memory a run over the emulator begins with the chip of its file, as the file stood before the run: of
-/// its bytes, which are as many as the part's, or fresh where there is no file. And with status 0 it leaves its chip
-/// there. (A file that is named `-` is standard input where it is read, so none that is left.)
+/// States which chip a run over the emulator begins with, over a desk in memory: the one in its file, or a fresh one
+/// if the file doesn't exist. The file is as it was before the run, and has the part's length. With status 0 the run
+/// leaves its chip there. A file named `-` is read from standard input, so no chip is left in it.
 pub fn a_run_finds_and_leaves_the_chip_of_its_file()
     ensures finds { (settings : AnySettings) (file : Bytes) (stock : Stock) (old new : MemDeskState) (status : ℕ)
         → HoldsTrue stock new → (r : RunsOverEmulator settings file (memory_view old) (memory_view new) status)
@@ -129,11 +133,12 @@ pub fn a_run_finds_and_leaves_the_chip_of_its_file()
         → file_held stock new.kept file ≡ Some (chip_file r.after.wire.programmer.chip) }
 {}
 
-/// The same run once more, over the chip file that a first one left, whatever became of that one and of its saving: a
-/// plan that erases, and agrees on a chip of 00 and on one of FF, comes to status 0, unless a device failed or memory
-/// was refused, and leaves what one run would have left of the chip before both. Only where that chip keeps EEPROM at
-/// an erase must each byte that the plan writes to the high fuse keep it too; and no update of the first run may be
-/// read into the chip's own file.
+/// States that a further run over its chip file heals, for a plan as in [`a_further_run_heals`], however the first
+/// run and the saving of its chip ended. Unless a device or an allocation failed, the run's status is 0, and the chip
+/// is as one run would have left it before both.
+///
+/// The EEPROM condition is that of [`a_further_run_heals`]. No update of the first run may be read into the chip's
+/// own file.
 pub fn a_further_run_over_its_chip_file_heals()
     ensures { (settings : AnySettings) (file : Bytes) (stock : Stock) (old mid new : MemDeskState) (status further : ℕ)
         → is_dash file ≡ false → HoldsTrue stock old → Stays HoldsTrue old mid → Stays HoldsTrue mid new
@@ -147,7 +152,8 @@ pub fn a_further_run_over_its_chip_file_heals()
         ⊎ Stopped one.plan (new_wire two.chip []) two.after two.loaded_desk two.played_desk }
 {}
 
-/// A worked run, `-p m328p`, to which all answers came: another status, another frame or another line is no run.
+/// States that a worked run, `-p m328p` with all its answers, has one outcome: with another status, frame or line it
+/// is no run.
 pub fn a_worked_run_has_one_outcome()
     ensures status { (talk : Talk) (a b : ℕ) (d e : DeskView)
         → heard talk ≡ worked_answers → IsRun worked_settings (devices (talking [] a) d) (devices (talking talk b) e) 1
@@ -160,8 +166,8 @@ pub fn a_worked_run_has_one_outcome()
         → IsRun worked_settings (devices (talking [] a) d) (devices (talking talk b) e) status → ⊥ }
 {}
 
-/// From bytes to bytes: what a run leaves over some files and a tape is one outcome. Of `-p m328p`, to which all
-/// answers came, it is this one; and where the part file isn't there, that this is reported and nothing sent.
+/// States that what a run leaves over some files and a tape is one outcome. For `-p m328p` with all its answers it is
+/// the one below. If the part file doesn't exist, the outcome reports this, and nothing is sent.
 pub fn a_run_in_memory_has_one_outcome()
     ensures one { (s : AnySettings) (stock : Stock) (tape : Tape) (a b : RunOutcome)
         → Leaves s stock tape a → Leaves s stock tape b → a ≡ b }
@@ -169,9 +175,9 @@ pub fn a_run_in_memory_has_one_outcome()
     ensures absent { (tape : Tape) → Leaves absent_settings no_stock tape absent_outcome }
 {}
 
-/// That no frame is made is needed: over a tape with one that nobody sent a comparison of the low fuse with E2 ends
-/// with status 0 whatever the chip has, and of a chip with another fuse the promise fails. So no line that makes no
-/// frame brings this tape.
+/// States that the promise needs a link without forged frames. Over a tape with one, comparing the low fuse with E2
+/// ends with status 0 whatever the chip has. For a chip with another fuse the promise fails. No link without forged
+/// frames gives this tape.
 pub fn a_made_frame_voids_the_promise()
     ensures ends { (played (session fuse_plan) 1 made_answers).outcome ≡ Some (0, 8, []) }
     ensures void { (p q : Programmer) (turns : List Turn) (bytes : List ℕ) (events : List (Event Saying))

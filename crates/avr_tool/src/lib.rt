@@ -1,11 +1,11 @@
 //! The front door: AVRDUDE over a programmer of the STK500 protocol, version 2, as one crate.
 //!
-//! The words of a command line become settings, the settings a plan, and the plan a run over a line, which answers a
-//! status: 0 where no fault came, else 1. Most of it is made by the crates below; here their calls have one roof, and
-//! runs over the network are made. A socket is a reader and a writer, so such a run is that over any link, and serving
-//! is that of the emulator, over a [`stk_host::StreamLink`].
+//! A command line becomes settings, the settings a plan, and the plan a run over a link. A run returns a status: 0 if
+//! there was no fault, otherwise 1. The crates below do most of it; this one gathers their calls and adds the
+//! network. A socket is a reader and a writer, so it is used through a [`stk_host::StreamLink`].
 //!
-//! A program's `main` calls [`run_program`], which does all of it on two writers, a reader and the words. Step by step:
+//! A program's `main` calls [`run_program`], which does all of it with two writers, a reader and the command line.
+//! Step by step:
 //!
 //! ```text
 //! let settings = read_settings(alloc, &read_words(alloc, &words)?)?;
@@ -26,17 +26,17 @@ mod network;
 mod over_net;
 mod ports;
 mod serving;
-// from words to settings
+// from a command line to settings
 mod asking;
-// from words to status
+// from a command line to a status
 mod program;
 mod texts;
-// runs by the words of the headline
+// the runs of the headline
 mod running;
-// laws, and no code
+// laws, without code
 mod laws;
 
-// from words to settings
+// from a command line to settings
 pub use asking::{NotAsked, asked};
 pub use avr_cli::{
     Format, Op, Port, Settings, SettingsFault, Switches, Text, Update, UpdateFault, Updates,
@@ -49,13 +49,13 @@ pub use laws::{
     a_run_is_one_function, a_sound_run_is_its_course, a_stop_is_a_prefix,
     a_worked_run_has_one_outcome, a_wrong_outcome_is_refused,
 };
-// what a run reads and writes beside its line
+// what a run reads and writes beside its link
 pub use avr_desk::{
     Bounded, Bytes, Desk, DeskCall, DeskFault, FailingDesk, FileUse, MemDesk, Opening, Piece,
     Reading, Stream, SystemDesk, WatchDesk, WatchedDesk, Writing, print_error, print_information,
     print_warning, write_all,
 };
-// from settings to status, over any line
+// from settings to a status, over any link
 pub use avr_emulator::{drive_wired, run_emu, serve};
 pub use avr_plan::{PartsFault, Plan, PlanFault, Task, TaskFault, plan, plan_or_fault};
 pub use avr_session::{Outcome, drive, drive_outcome, frame_count};
@@ -66,10 +66,10 @@ pub use program::{run_program, run_words};
 pub use running::{run, run_in_memory, run_streams, run_streams_in_memory, run_wired};
 pub use serving::{serve_net, serve_on};
 pub use texts::refuse_text;
-// parts, their chips and what is in their memories
+// parts, their chips and the contents of their memories
 pub use avr_image::Image;
 pub use avr_part::{Chip, Mem, Part, PartFault, Parts};
-// lines
+// links
 pub use stk_emu::{Fate, Fates, FatesFault, Wired, noise_is_lawful};
 pub use stk_host::{
     FailingLink, Heard, HostFault, Item, Link, LinkCall, LinkFault, StreamLink, TapeLink,

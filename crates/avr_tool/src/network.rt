@@ -1,4 +1,4 @@
-//! The network, by the addresses and the ports that it is asked for.
+//! The network: connections to an address, and listeners at a port.
 ghost use Rattle.std.specs.Prelude.{ℕ, ⊤, IfOk, OnErr};
 ghost use Rattle.avr_desk.specs.Record.{Bytes};
 
@@ -7,31 +7,34 @@ use std::io::{Read, Write};
 use std::net::{Net, OpenListener, OpenStream, TcpListener, TcpStream};
 use std::time::Duration;
 
-/// How long a read waits before it is a silence.
+/// The timeout of a read.
 const SECONDS_OF_SILENCE: u64 = 1;
 
-/// The two sides of a socket, where each piece goes out at once.
+/// Returns the two sides of a socket, which sends each piece at once.
 fn sides_of<S: OpenStream + Drop>(stream: S) -> io::Result<(S, S)> {
     stream.set_nodelay(true)?;
     let writer = stream.try_clone()?;
     Ok((stream, writer))
 }
 
-/// Accepts who calls at a listener. Only a call here can say what the ghost members say of a stream or a listener.
+/// Accepts connections at a listener. Only this call produces what the ghost members state.
 ///
-/// Any listener of the system is one.
+/// Every listener of the system implements it.
 pub trait Callers {
     /// One side of a connection.
     type Stream: Read + Write + Drop;
 
-    /// The stream is that of a caller at this listener.
+    /// The stream is a connection accepted at this listener.
     ghost calls: { Self → Self.Stream → Type 0 };
 
-    /// A caller at this listener could not be accepted.
+    /// This listener could not accept a connection.
     ghost lacks: { Self → Type 0 };
 
-    /// Accepts one connection, and returns its reader and its writer. A read of it waits for as long as it takes. The
-    /// error is the system's.
+    /// Accepts one connection, and returns its reader and its writer. A read of it has no timeout.
+    ///
+    /// # Errors
+    ///
+    /// The system's error, if no connection can be accepted.
     fn accept_sides(&self) -> io::Result<(Self::Stream, Self::Stream)>
         ensures reader { IfOk result (λ sides. calls self.now sides.0) }
         ensures writer { IfOk result (λ sides. calls self.now sides.1) }
@@ -54,11 +57,11 @@ where
     }
 }
 
-/// Connects to an address or listens at a port, once: the call uses the network up, so whoever is handed one has one
-/// connection, or one listener, at most.
+/// Connects to an address or listens at a port, once. The call consumes the network, so its owner makes at most one
+/// connection or one listener.
 ///
-/// Only a call here can say what the ghost members say of an address, a port, a stream or a listener. A reference to a
-/// runtime with the system's network is a `Network`. Tests show that it connects and listens where it was asked to.
+/// Only these calls produce what the ghost members state. A reference to a runtime with the system's network is a
+/// `Network`. That it connects and listens as asked is tested, not proved.
 pub trait Network {
     /// One side of a connection.
     type Stream: Read + Write + Drop;
@@ -66,26 +69,33 @@ pub trait Network {
     /// A listener at a port.
     type Listener: Callers<Stream = Self::Stream> + Drop;
 
-    /// The stream is one to `HOST:PORT`.
+    /// The stream is a connection to `HOST:PORT`.
     ghost reaches: { Self.Stream → Bytes → Type 0 };
 
-    /// `HOST:PORT` could not be connected to.
+    /// No connection to `HOST:PORT` could be made.
     ghost misses: { Bytes → Type 0 };
 
-    /// It listens at this port of this machine, to this machine alone.
+    /// It listens at this port, for clients on this machine alone.
     ghost listens: { Self.Listener → ℕ → Type 0 };
 
-    /// This port of this machine could not be listened at.
+    /// Listening at this port failed.
     ghost is_shut: { ℕ → Type 0 };
 
-    /// Connects to `HOST:PORT`, and returns the reader and the writer. A read that waits for a second times out. The
-    /// error is the system's.
+    /// Connects to `HOST:PORT`, and returns the reader and the writer. A read times out after one second.
+    ///
+    /// # Errors
+    ///
+    /// The system's error, if the connection can't be made.
     fn connect_sides(self, address: &str) -> io::Result<(Self::Stream, Self::Stream)>
         ensures reader { IfOk result (λ sides. reaches sides.0 address.now) }
         ensures writer { IfOk result (λ sides. reaches sides.1 address.now) }
         ensures missed { OnErr result (misses address.now) };
 
-    /// Listens at a port to this machine alone; 0 is any port that is free. The error is the system's.
+    /// Listens at a port, for clients on this machine alone; 0 means any free port.
+    ///
+    /// # Errors
+    ///
+    /// The system's error, such as for a port in use.
     fn listen_here(self, port: u16) -> io::Result<Self::Listener>
         ensures listens { IfOk result (λ listener. listens listener port) }
         ensures shut { OnErr result (is_shut port) };

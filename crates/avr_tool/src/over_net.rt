@@ -12,10 +12,11 @@ use avr_plan::plan;
 use avr_session::drive;
 use std::alloc::Global;
 
-/// Plans what the settings ask for and runs it over the programmer behind `HOST:PORT`.
+/// Makes the plan of a run, and runs it over the programmer behind `HOST:PORT`.
 ///
-/// The status is 0 where no fault came, else 1. Every fault has its line; what is refused is reported before the port
-/// is opened. There a read that waits for a second is a silence; a connection that was reset is a failure of the link.
+/// Returns the status: 0 if there was no fault, otherwise 1. Every fault has its line, and a refusal is reported
+/// before the port is opened. A read times out after one second. A connection that was reset is a failure of the
+/// link.
 ///
 /// ```text
 /// let settings = Settings::for_link(alloc, "nobody")?;

@@ -1,4 +1,4 @@
-//! Links over sockets, whoever called.
+//! Links over sockets.
 ghost use Rattle.std.specs.Prelude.{IfOk, OnErr};
 ghost use Rattle.avr_tool.specs.Sockets.{IsNewLink};
 
@@ -6,7 +6,7 @@ use crate::network::{Callers, Network};
 use std::io;
 use stk_host::StreamLink;
 
-/// Connects to `HOST:PORT`. A silence on this link takes a second.
+/// Connects to `HOST:PORT`. The timeout of this link is one second.
 pub(crate) fn connect<N: Network>(
     network: N,
     address: &str,
@@ -18,8 +18,11 @@ pub(crate) fn connect<N: Network>(
     Ok(StreamLink::new(reader, writer))
 }
 
-/// Listens at a port to this machine alone; 0 stands for any that is free. The error is the system's, as where the port
-/// is taken.
+/// Listens at a port, for clients on this machine alone; 0 means any free port.
+///
+/// # Errors
+///
+/// The system's error, such as for a port in use.
 pub fn listen<N: Network>(network: N, port: u16) -> io::Result<N::Listener>
     ensures listens { IfOk result (λ listener. N.listens listener port) }
     ensures shut { OnErr result (N.is_shut port) }
@@ -27,7 +30,11 @@ pub fn listen<N: Network>(network: N, port: u16) -> io::Result<N::Listener>
     network.listen_here(port)
 }
 
-/// Accepts one connection, as a link that waits for as long as it takes. The error is the system's.
+/// Accepts one connection, and returns a link over it, which has no timeout.
+///
+/// # Errors
+///
+/// The system's error, if no connection can be accepted.
 pub fn accept<L: Callers>(listener: &L) -> io::Result<StreamLink<L::Stream, L::Stream>>
     ensures new { IfOk result (IsNewLink (L.calls listener.now)) }
     ensures missed { OnErr result (L.lacks listener.now) }

@@ -1,4 +1,4 @@
-//! The program: from the words of a command line to a status.
+//! The program: from a command line to a status.
 ghost use Rattle.std.specs.Prelude.{◌≡◌, map, string_bytes};
 ghost use Rattle.clap.specs.Words.{kind_of};
 ghost use Rattle.avr_tool.specs.Program.{LeavesWords, ActsAtPort, RunsProgram, ActsOnWords, usage_status, usage_stream};
@@ -23,8 +23,8 @@ use std::alloc::Global;
 use std::io::{Read, Write};
 use stk_host::StreamLink;
 
-/// Runs over the port of the settings: `stdio:` has its frames on the link, `emu:` is the emulator, `net:` a
-/// connection; or serves the emulator.
+/// Runs over the port of the settings, or serves the emulator: `stdio:` is the link, `emu:` the emulator, `net:` a
+/// connection.
 fn run_port<N: Network + Drop, D: Desk, R: Read + Drop, W: Write + Drop>(
     network: N,
     alloc: Global,
@@ -48,7 +48,7 @@ fn run_port<N: Network + Drop, D: Desk, R: Read + Drop, W: Write + Drop>(
     }
 }
 
-/// Tells that memory was refused to `clap`, and leaves any other error as it is.
+/// Reports that allocation failed in `clap`, and returns any other error as it is.
 fn words_untaken<D: Desk>(error: Error, desk: &mut D) -> Result<u8, Error>
     ensures leaves { LeavesWords error (D.view desk.old) (D.view desk.new) result }
     ensures stays { Stays D.comes_of desk.old desk.new }
@@ -59,13 +59,15 @@ fn words_untaken<D: Desk>(error: Error, desk: &mut D) -> Result<u8, Error>
     Err(error)
 }
 
-/// Runs what the words of a command line ask for, the program's name first, with a link for `stdio:`.
+/// Runs what a command line asks for. Its first element is the program's name, and `link` is the port `stdio:`.
 ///
-/// The status is 0 where no fault came, else 1; a fault of what they ask for, and that memory was refused, has its
-/// line.
+/// Returns the status: 0 if there was no fault, otherwise 1. A fault of the settings has its line, and so has a
+/// failed allocation.
 ///
-/// `Err` is an error of `clap`, not printed yet: it doesn't take the words, or they ask for help or the version.
-/// Nothing was done then.
+/// # Errors
+///
+/// The error of `clap`, not printed yet, if it refuses the command line, or if this asks for help or the version.
+/// Nothing was done.
 ///
 /// ```text
 /// let mut words = Vec::new(alloc);
@@ -97,7 +99,7 @@ pub fn run_words<N: Network + Drop, D: Desk, R: Read + Drop, W: Write + Drop>(
     }
 }
 
-/// The status of an error of `clap`: help and the version that were printed are no mistake.
+/// Returns the status for an error of `clap`: 0 if it is help or the version and was printed, otherwise 1.
 fn status_of_usage(error: &Error, was_printed: bool) -> u8
     ensures { result ≡ usage_status (kind_of error.now) was_printed }
 {
@@ -107,7 +109,7 @@ fn status_of_usage(error: &Error, was_printed: bool) -> u8
     }
 }
 
-/// Where `clap` has the text of an error: help and the version are output.
+/// Returns the stream for the text of an error of `clap`: output for help and the version, otherwise messages.
 fn stream_of_usage(error: &Error) -> Stream
     ensures { result ≡ usage_stream (kind_of error.now) }
 {
@@ -117,9 +119,9 @@ fn stream_of_usage(error: &Error) -> Stream
     }
 }
 
-/// The program: runs what the words of a command line ask for as [`run_words`] does, and prints an error of `clap`.
+/// Runs what a command line asks for as [`run_words`] does, and prints an error of `clap`.
 ///
-/// The status of help and of the version that were printed is 0, that of any other such error 1.
+/// Returns the status of the run. For an error of `clap` it is 0 if help or the version was printed, otherwise 1.
 ///
 /// ```text
 /// let mut words = Vec::new(alloc);

@@ -1,5 +1,5 @@
-//! Runs by the words of the headline: over any line, over files and a tape in memory, and over the emulated programmer
-//! behind a line of any fates.
+//! The runs of the headline: over any link, over files and a tape in memory, and over the emulated programmer behind
+//! a faulty wire.
 ghost use Rattle.std.specs.Prelude.{◌⊎◌};
 ghost use Rattle.avr_desk.specs.Fault.{Follows};
 ghost use Rattle.avr_desk.specs.Memory.{memory_view, stock_of};
@@ -20,8 +20,8 @@ use std::io::{Read, Write};
 use stk_emu::Wired;
 use stk_host::{Link, StreamLink, TapeLink};
 
-/// Plans what the settings ask for, runs it over a link, reports it at the desk, and answers the status: 0 where no
-/// fault came, else 1. What is refused is reported before any frame is sent or file created.
+/// Makes the plan of a run, runs its session over a link, and reports it at the desk. Returns the status: 0 if there
+/// was no fault, otherwise 1. A refusal is reported before any frame is sent or file created.
 ///
 /// ```text
 /// let settings = Settings::for_link(alloc, "m328p")?;
@@ -45,8 +45,8 @@ pub fn run<D: Desk, L: Link>(alloc: Global, settings: &Settings, desk: &mut D, l
     run_over(alloc, settings, desk, link)
 }
 
-/// [`run`] over a reader and a writer. What the link keeps of the run, for proofs alone, is true: the bytes heard are
-/// those that the reader gave, and while it has never failed the bytes sent are those that the writer took.
+/// Runs as [`run`] does, over a reader and a writer. The link's record of the run, kept for proofs alone, is true: it
+/// received what the reader gave, and while it has never failed, it sent what the writer took.
 ///
 /// ```text
 /// let settings = Settings::for_link(alloc, "m328p")?;
@@ -72,12 +72,12 @@ pub fn run_streams<D: Desk, R: Read + Drop, W: Write + Drop>(
     run(alloc, settings, desk, link)
 }
 
-/// [`run`] over files, standard input and a tape that are known, from bytes to bytes: where it is played to its status,
-/// that, the bytes sent, the messages, the output and the files made are a function of the settings, the files and the
-/// tape. Or it stopped, as any run may: devices in memory fail where memory is refused.
+/// Runs as [`run`] does, over known files, standard input and tape. The status, the bytes sent, the messages, the
+/// output and the files created are a function of these and the settings. Like any run it may stop instead: devices
+/// in memory fail if allocation fails.
 ///
-/// Nothing has passed over the desk and the link yet. Each file is read as it was before the run, also one that the run
-/// makes anew.
+/// Nothing has passed over the desk and the link yet. Each file is read as it was before the run, also one that the
+/// run creates anew.
 ///
 /// ```text
 /// let settings = Settings::for_link(alloc, "m328p")?;
@@ -104,8 +104,8 @@ pub fn run_in_memory(
     run_over(alloc, settings, desk, tape)
 }
 
-/// The same over a reader and a writer, as a slice of bytes and a `Vec`: what is left is a function of the settings,
-/// the files and what came from the reader, and the writer has taken what was sent.
+/// Runs as [`run_in_memory`] does, over a reader and a writer such as a slice of bytes and a `Vec`. The outcome is a
+/// function of the settings, the files and what the reader gave, and the writer has taken what was sent.
 ///
 /// ```text
 /// let settings = Settings::for_link(alloc, "m328p")?;
@@ -132,10 +132,11 @@ pub fn run_streams_in_memory<R: Read + Drop, W: Write + Drop>(
     run_over(alloc, settings, desk, streams)
 }
 
-/// Runs what the settings ask for over a wire to the emulated programmer, whatever its line loses, delays and spoils.
+/// Runs what the settings ask for over a wire to the emulated programmer, as [`run`] does over a link, whatever the
+/// wire loses, delays and spoils.
 ///
-/// Nothing has passed over the wire yet. What is promised of the chip is so where it is of the plan's part; a chip of
-/// another part is met as any programmer is.
+/// Nothing has passed over the wire yet. The promises about the chip hold if it is of the plan's part; it may be of
+/// another part.
 ///
 /// ```text
 /// let settings = Settings::for_link(alloc, "m328p")?;

@@ -1,4 +1,4 @@
-//! Serving an emulated programmer at a port of this machine, from settings to status.
+//! Serves an emulated programmer at a port of this machine, from settings to status.
 ghost use Rattle.std.specs.Prelude.{IfOk, OnErr};
 ghost use Rattle.avr_cli.specs.Port.{port_number as number_of};
 ghost use Rattle.avr_tool.specs.ServedNet.{ServesNet, ServesOn};
@@ -16,9 +16,9 @@ use std::alloc::Global;
 use std::io;
 use stk_host::StreamLink;
 
-/// Serves a chip of this part to a caller whom a listener accepted, or reports that it accepted none.
+/// Serves a chip of this part to the client that a listener accepted, or reports that it accepted none.
 ///
-/// The chip is loaded once the connection is there, so that what other runs saved before is in it.
+/// The chip is loaded after the client has connected, so it holds what other runs saved before.
 fn serve_called<L: Callers, D: Desk>(
     alloc: Global,
     part: &Part,
@@ -39,13 +39,14 @@ fn serve_called<L: Callers, D: Desk>(
     serve_part(alloc, part, file, desk, &mut link, READS)
 }
 
-/// Serves the emulated programmer of the settings' part to the first caller of a listener, in at most 16,777,216 reads.
+/// Serves the emulated programmer of the settings' part to the first client of a listener, in at most 16,777,216
+/// reads.
 ///
-/// The part and the chip file are judged before a connection is accepted: if they are refused, nobody is waited for.
-/// The chip is loaded from the file when the connection is accepted, and saved to it when the caller is gone. If no
-/// connection can be accepted, that is reported of `port`, the text of `--serve`, and no file is written.
+/// The part and the chip file are checked before a connection is accepted; if they are refused, no client is waited
+/// for. The chip is loaded from the file when the client has connected, and saved to it when the client is gone. If
+/// no connection can be accepted, this is reported for `port`, the text of `--serve`, and no file is written.
 ///
-/// The status is 0 if the caller ended it and the chip was saved, else 1.
+/// Returns the status: 0 if the client closed the connection and the chip was saved, otherwise 1.
 pub fn serve_on<L: Callers, D: Desk>(
     alloc: Global,
     settings: &Settings,
@@ -65,8 +66,8 @@ pub fn serve_on<L: Callers, D: Desk>(
     serve_called::<L, D>(alloc, &part, port, file, accept(listener), desk)
 }
 
-/// Opens the port and serves a chip of this part there, to the first caller and nobody after him: the port is closed
-/// once he is there, so that a second caller is refused at once.
+/// Opens the port and serves a chip of this part to the first client. The port is closed when that client has
+/// connected, so a second one is refused at once.
 fn serve_at<N: Network + Drop, D: Desk>(
     network: N,
     alloc: Global,
@@ -91,12 +92,11 @@ fn serve_at<N: Network + Drop, D: Desk>(
     serve_called::<N::Listener, D>(alloc, part, port, file, called, desk)
 }
 
-/// Serves the emulated programmer of the settings' part at a port of 127.0.0.1, to the first caller, as [`serve_on`]
-/// does.
+/// Serves the emulated programmer of the settings' part at a port of 127.0.0.1, to the first client, as [`serve_on`]
+/// does. The part and the chip file are checked before the port is opened.
 ///
-/// The part and the chip file are judged before the port is opened. The port is closed as soon as the caller is there,
-/// so a second one is refused. `port` is the text of `--serve`; a port that cannot be opened is reported, and no file
-/// is written.
+/// The port is closed when the first client has connected, so a second one is refused. `port` is the text of
+/// `--serve`. A port that can't be opened is reported, and no file is written.
 ///
 /// ```text
 /// let settings = Settings::for_link(alloc, "nobody")?;

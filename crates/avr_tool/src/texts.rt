@@ -1,5 +1,4 @@
-//! Texts that no clause knows, of `clap` and of the system, printed at a desk: so that whoever prints them can print
-//! nowhere else.
+//! Prints texts of `clap` and of the system, which no clause knows, at a desk. So these calls can print nowhere else.
 ghost use Rattle.std.specs.Prelude.{◌≡◌};
 ghost use Rattle.avr_tool.specs.Texts.{PrintsMore, PrintsText, ReportsText};
 ghost use Rattle.ghosts.specs.Stays.{Stays};
@@ -9,10 +8,10 @@ use avr_desk::{Desk, Stream, write_all};
 use std::fmt;
 use std::fmt::{Display, Write};
 
-/// How much of a text is held at a time.
+/// The most bytes of a text held at a time.
 const ROOM: usize = 512;
 
-/// The bytes of a text behind the first `skip` of them, as far as there is room: it takes the whole text.
+/// The bytes of a text after the first `skip`, as far as there is room. It accepts the whole text.
 #[derive(Drop)]
 struct Part {
     skip: usize,
@@ -32,7 +31,7 @@ impl Write for Part {
     }
 }
 
-/// Some bytes of a text behind the first so many; none at its end.
+/// Returns some bytes of a text after the first `skip`, or none at its end.
 fn part_of<T: Display>(text: &T, skip: usize) -> ArrayVec<u8, ROOM> {
     let mut part = Part {
         skip,
@@ -44,7 +43,7 @@ fn part_of<T: Display>(text: &T, skip: usize) -> ArrayVec<u8, ROOM> {
 }
 
 #[tactic(auto, using(crate::proofs::Printed::printed_none, crate::proofs::Printed::printed_end))]
-/// Prints a text; whether all of it was printed, and there was some. No memory is asked for.
+/// Prints a text without allocating, and returns whether it is nonempty and was printed whole.
 pub(crate) fn print_text<D: Desk, T: Display>(desk: &mut D, stream: Stream, text: &T) -> bool
     ensures prints { PrintsText stream (D.view desk.old) (D.view desk.new) result }
     ensures stays { Stays D.comes_of desk.old desk.new }
@@ -63,7 +62,7 @@ pub(crate) fn print_text<D: Desk, T: Display>(desk: &mut D, stream: Stream, text
     at > 0
 }
 
-/// Prints a text and the end of its line.
+/// Prints a text and a line end.
 fn print_rest<D: Desk, T: Display>(desk: &mut D, text: &T)
     ensures prints { PrintsMore (D.view desk.old) (D.view desk.new) }
     ensures stays { Stays D.comes_of desk.old desk.new }
@@ -75,7 +74,7 @@ fn print_rest<D: Desk, T: Display>(desk: &mut D, text: &T)
     }
 }
 
-/// Reports an error that isn't this program's own, as `avrstk: error: ` and its text, with status 1.
+/// Reports an error that isn't this program's own as `avrstk: error: ` and its text, and returns the status 1.
 pub fn refuse_text<D: Desk, T: Display>(desk: &mut D, error: &T) -> u8
     ensures reports { ReportsText (D.view desk.old) (D.view desk.new) }
     ensures stays { Stays D.comes_of desk.old desk.new }

@@ -23,13 +23,14 @@ fn main(rt: HostRuntime) -> ExitCode {
     ExitCode::from(run(&rt, &rt, &mut desk, &mut link))
 }
 
-/// Takes the places of standard streams that were closed, as long as the program runs: else a file or a connection that
-/// is opened later would have one, and what is printed would go there. A folder can be neither read nor written.
+/// Opens a folder in place of each closed standard stream, and keeps it open while the program runs. Otherwise a file
+/// or a connection opened later would take that place, and output would go there. A folder can be neither read nor
+/// written.
 fn take_closed_streams(rt: &HostRuntime) -> [io::Result<File>; 3] {
     [fs::open(rt, "/"), fs::open(rt, "/"), fs::open(rt, "/")]
 }
 
-/// Opens the file that the standard stream of this name goes to, if it is a regular one. Nothing is written to it here.
+/// Opens the file behind this standard stream, if it is a regular one. Nothing is written to it here.
 fn file_of(rt: &HostRuntime, name: &str) -> Option<File> {
     match fs::metadata(rt, name) {
         Ok(there) if there.is_file() => OpenOptions::new()
@@ -41,7 +42,7 @@ fn file_of(rt: &HostRuntime, name: &str) -> Option<File> {
     }
 }
 
-/// Runs what the words of the command line ask for.
+/// Runs what the command line asks for.
 fn run<E: Env + Alloc<A = Global>, N: Network + Drop, D: Desk, R: Read + Drop, W: Write + Drop>(
     rt: &E,
     network: N,
@@ -57,7 +58,7 @@ fn run<E: Env + Alloc<A = Global>, N: Network + Drop, D: Desk, R: Read + Drop, W
     }
 }
 
-/// The words of the command line, the program's name first.
+/// Returns the command line, whose first element is the program's name.
 fn read_arguments<E: Env + Alloc<A = Global>>(rt: &E) -> io::Result<Vec<String>> {
     Ok(env::args(rt)?.collect(rt.alloc())?)
 }

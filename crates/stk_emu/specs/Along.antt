@@ -1,4 +1,4 @@
--- A dialog over a line, question by question: neither bytes nor sequence numbers, and no late answers.
+-- A dialog over a link, question by question: without bytes, sequence numbers and late answers.
 use Rattle.std.specs.Prelude.{ℕ, zero, suc, List, [], ◌∷◌, ◌≡◌, Some, length}
 use Rattle.stk_host.specs.Tape.{Tape, Reading}
 use Rattle.stk_host.specs.Dialog.{Dialog, Done, Say, Ask, played}
@@ -7,14 +7,14 @@ use Rattle.stk_emu.specs.Device.{Device}
 use Rattle.stk_emu.specs.Lawful.{IsBody}
 use Rattle.stk_emu.specs.Wire.{Wire, turns_of, tape_of, wire_after}
 
--- How a dialog stands: what is left of it, the programmer, the turns to come, and the questions that it may still ask.
+-- The rest of a dialog, the programmer, the turns to come, and the questions that it may still ask.
 pub record LineState (E R P : Type 0) : Type 0 where
   pub dialog : Dialog E R
   pub programmer : P
   pub turns : List Turn
   pub left : ℕ
 
--- after at most so many questions
+-- The state after at most `k` questions.
 abbrev pub along : {E R P : Type 0} → Device P → ℕ → Dialog E R → P → List Turn → LineState E R P
 along m k (Done r) p turns = record { dialog = Done r; programmer = p; turns = turns; left = k }
 along m k (Say e dialog) p turns = along m k dialog p turns
@@ -23,7 +23,7 @@ along m (suc k) (Ask bytes go_on) p turns =
     along m k (go_on (turn_reading (first_turn turns) (m.answer bytes p)))
     (after_turn (first_turn turns) (m.after bytes p) p m.reset) (other_turns turns)
 
--- what a dialog says beside the line in at most so many questions
+-- The output events of at most `k` questions.
 abbrev pub said_along : {E R P : Type 0} → Device P → ℕ → Dialog E R → P → List Turn → List E
 said_along m k (Done r) p turns = []
 said_along m k (Say e dialog) p turns = e ∷ said_along m k dialog p turns
@@ -32,15 +32,14 @@ said_along m (suc k) (Ask bytes go_on) p turns =
     said_along m k (go_on (turn_reading (first_turn turns) (m.answer bytes p)))
     (after_turn (first_turn turns) (m.after bytes p) p m.reset) (other_turns turns)
 
--- each question is a body that a frame can carry
+-- Each question is a body that a frame can carry.
 abbrev pub AsksBodies : {E R : Type 0} → Dialog E R → Type 0
 AsksBodies (Done r) = Unit {0}
 AsksBodies (Say e dialog) = AsksBodies dialog
 AsksBodies (Ask bytes go_on) = IsBody bytes × ((reading : Reading) → AsksBodies (go_on reading))
 
--- A dialog whose frames went out over a wire, some of them, in their order: the programmer stands as along the line,
--- and where the play over the tape that they bring is done, so is the dialog, with the same result, and nothing of the
--- tape is left.
+-- A dialog of which the first frames, in order, were sent over a wire. The programmer is the one of `along`. If the
+-- run over the tape that they bring is done, the dialog is done with the same result, and no tape is left.
 pub record Fused {E R P : Type 0} (m : Device P) (d : Dialog E R) (n : ℕ) (w : Wire P)
     (sent : List (List ℕ)) : Type 0 where
   pub programmer : (wire_after m sent w).programmer

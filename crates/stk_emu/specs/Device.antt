@@ -4,7 +4,7 @@ use Rattle.stk_frame.specs.Frame.{frame}
 use Rattle.stk_frame.specs.Cut.{is_good, seq_of, body_of}
 use Rattle.stk_emu.specs.Programmer.{Programmer, obey, restarted_programmer}
 
--- the body of the answer to a body, what is there afterwards, and what is there when it begins anew
+-- The body of the answer to a body, the device after it, and the device after a restart.
 pub record Device (P : Type 0) : Type 0 where
   pub answer : List ℕ → P → List ℕ
   pub after : List ℕ → P → P
@@ -17,22 +17,21 @@ device = record {
   reset = restarted_programmer;
 }
 
--- the body that tells of a wrong XOR
 abbrev pub refusal : List ℕ
 refusal = 0xB0 ∷ 0xC1 ∷ []
 
--- A good frame is obeyed; a spoiled one is refused, and changes nothing.
+-- A good frame is obeyed; any other is refused, and changes nothing.
 abbrev pub answer_body : {P : Type 0} → Device P → List ℕ → P → List ℕ
 answer_body m piece p = if is_good piece then m.answer (body_of piece) p else refusal
 
 abbrev pub after_frame : {P : Type 0} → Device P → List ℕ → P → P
 after_frame m piece p = if is_good piece then m.after (body_of piece) p else p
 
--- the frame of the answer, which carries the frame's own number
+-- The frame of the answer, which has the frame's own sequence number.
 abbrev pub answer_frame : {P : Type 0} → Device P → List ℕ → P → List ℕ
 answer_frame m piece p = frame (seq_of piece) (answer_body m piece p)
 
--- the answers to whole frames, joined, and what is there after them
+-- The answers to whole frames, joined; below, the device after them.
 abbrev pub answers : {P : Type 0} → Device P → List (List ℕ) → P → List ℕ
 answers m [] p = []
 answers m (piece ∷ pieces) p = answer_frame m piece p ++ answers m pieces (after_frame m piece p)

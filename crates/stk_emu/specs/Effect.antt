@@ -1,4 +1,4 @@
--- What an erase and a write do to the memories of a part: no pages, frames, word addresses or instructions.
+-- What erasing and writing do to the memories of a part, without pages, frames, word addresses and instructions.
 use Rattle.std.specs.Prelude.{ℕ, Bool, List, [], ◌∷◌, ◌==◌, bit_and, Option, Some, None, unwrap_or, if◌then◌else◌}
 use Rattle.std.specs.Int.{bit_at}
 use Rattle.avr_image.specs.Image.{byte_at}
@@ -20,7 +20,7 @@ abbrev pub memories_of : ChipState → Memories
 memories_of s =
     record { flash = s.flash; eeprom = s.eeprom; lfuse = s.lfuse; hfuse = s.hfuse; efuse = s.efuse; lock = s.lock }
 
--- for each address a byte, or none
+-- A byte or None for each address.
 abbrev pub Image : Type 0
 Image = List (Option ℕ)
 
@@ -28,7 +28,6 @@ pub data Item : Type 0 where
   Erase : Item
   Write : Mem → Image → Item
 
--- an image laid over a memory
 abbrev pub with_image : Image → List ℕ → List ℕ
 with_image image [] = []
 with_image [] (x ∷ xs) = x ∷ xs
@@ -38,17 +37,17 @@ abbrev pub and_with : Option ℕ → ℕ → ℕ
 and_with (Some b) x = bit_and x b
 and_with None x = x
 
--- each byte at an address of the image becomes itself AND the image's
+-- Each byte at an address of the image becomes itself AND the image's byte.
 abbrev pub and_in : Image → List ℕ → List ℕ
 and_in image [] = []
 and_in [] (x ∷ xs) = x ∷ xs
 and_in (b ∷ image) (x ∷ xs) = and_with b x ∷ and_in image xs
 
--- lock bit 0 is 0: nothing but an erase changes flash, EEPROM and fuses
+-- Lock bit 0 is 0: only an erase changes flash, EEPROM and fuses.
 abbrev pub are_locked : Memories → Bool
 are_locked m = bit_at m.lock 0 == 0
 
--- the EESAVE bit is 0
+-- The EESAVE bit is 0.
 abbrev pub erase_keeps_eeprom : Part → Memories → Bool
 erase_keeps_eeprom part m = bit_at m.hfuse part.eesave_bit == 0
 
@@ -62,7 +61,6 @@ write_effect Lock image m = record m { lock = and_with (byte_at image 0) m.lock 
 write_effect Signature image m = m
 write_effect Calibration image m = m
 
--- what an item does to the memories of a part
 abbrev pub effect : Part → Item → Memories → Memories
 effect part Erase m = record m {
   flash = blank m.flash;
@@ -71,12 +69,10 @@ effect part Erase m = record m {
 }
 effect part (Write mem image) m = write_effect mem image m
 
--- items, one after another
 abbrev pub effects : Part → List Item → Memories → Memories
 effects part [] m = m
 effects part (item ∷ items) m = effects part items (effect part item m)
 
--- the bytes of a memory
 abbrev pub memory_in : Part → Mem → Memories → List ℕ
 memory_in part Flash m = m.flash
 memory_in part Eeprom m = m.eeprom

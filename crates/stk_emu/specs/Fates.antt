@@ -1,4 +1,4 @@
--- Why a fate is not taken.
+-- Why a fate is not added.
 use Rattle.std.specs.Prelude.{ℕ}
 use Rattle.stk_emu.specs.declared.fate.Fate.{Fate}
 use Rattle.stk_emu.specs.declared.fates.FatesFault.{FatesFault}
@@ -9,7 +9,7 @@ abbrev pub fates_fault_number : FatesFault → ℕ
 fates_fault_number UnlawfulNoise = 1
 fates_fault_number Memory = 2
 
--- memory may be wanting for a lawful fate only
+-- Only a lawful fate is refused for want of memory.
 abbrev pub Refuses : FatesFault → Fate → Type 0
 Refuses UnlawfulNoise fate = IsLawfulFate fate → ⊥
 Refuses Memory fate = IsLawfulFate fate

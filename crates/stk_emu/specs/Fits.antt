@@ -1,4 +1,4 @@
--- Commands that are cut short and begun again, on a device that may begin anew.
+-- Commands that are cut short and started again, on a device that may restart.
 use Rattle.std.specs.Prelude.{ℕ, zero, suc, ◌⊎◌, ◌≡◌, List, [], ◌∷◌, length}
 use Rattle.stk_frame.specs.declared.command.Command.{Command}
 use Rattle.stk_frame.specs.Commands.{body}
@@ -6,15 +6,15 @@ use Rattle.stk_host.specs.Steps.{Data}
 use Rattle.stk_emu.specs.Device.{Device}
 use Rattle.stk_emu.specs.Given.{joined_reply}
 
--- what is there after the first so many of these commands
+-- The device after the first `i` commands.
 abbrev pub after_commands : {P : Type 0} → Device P → ℕ → List Command → P → P
 after_commands m zero commands p = p
 after_commands m (suc i) [] p = p
 after_commands m (suc i) (command ∷ commands) p = after_commands m i commands (m.after (body command) p)
 
--- The commands lead from the one condition to the other, also where they are cut short and begun again: from the first
--- any prefix leaves the one or the other, the second is kept by any prefix, and all of them, where each brought its
--- data, lead to the second. A device that begins anew keeps either.
+-- The commands lead from one condition to the other, also if they are cut short and started again. From the first,
+-- any prefix leaves either condition. From the second, any prefix leaves the second. All of them, if each brought its
+-- data, lead to the second. A restart keeps both.
 pub record Fits {P : Type 0} (m : Device P) (commands : List Command) (Before After : P → Type 0) : Type 0 where
   pub prefix : (p : P) (i : ℕ) → Before p → Before (after_commands m i commands p)
       ⊎ After (after_commands m i commands p)

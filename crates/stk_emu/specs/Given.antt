@@ -1,4 +1,4 @@
--- What each step of a host gives.
+-- The data that each step of a host brings.
 use Rattle.std.specs.Prelude.{ℕ, ◌*◌, ◌%◌, ◌^◌, ◌≡◌, ◌⊎◌, List, [], ◌∷◌, ◌++◌, take, drop, ◌<◌, length, slice_index, Some}
 use Rattle.avr_part.specs.declared.instruction.Fuse.TheVariants as fuse
 use Rattle.avr_part.specs.declared.instruction.Instruction.{Instruction}
@@ -15,7 +15,7 @@ use Rattle.avr_image.specs.Image.{byte_at}
 use Rattle.stk_emu.specs.Effect.{Memories, Image}
 use Rattle.stk_emu.specs.Strokes.{struck}
 
--- the byte that an instruction reads by itself
+-- The byte that an instruction reads without an address.
 abbrev pub read_by : Part → Instruction → Memories → List ℕ
 read_by part (instruction.ReadFuse fuse.Low) m = m.lfuse ∷ []
 read_by part (instruction.ReadFuse fuse.High) m = m.hfuse ∷ []
@@ -25,13 +25,13 @@ read_by part (instruction.ReadSignature place) m = take 1 (drop place part.signa
 read_by part instruction.ReadCalibration m = 255 ∷ []
 read_by part i m = []
 
--- a block that is read at an address, which counts words of flash and bytes of EEPROM
+-- A block read at an address, which counts words of flash and bytes of EEPROM.
 abbrev pub read_at : ℕ → List Command → Memories → List ℕ
 read_at address (ReadFlash f ∷ []) m = take f.count (drop (address % 2 ^ 31 * 2) m.flash)
 read_at address (ReadEeprom f ∷ []) m = take f.count (drop address m.eeprom)
 read_at address commands m = []
 
--- the data of a step, from these memories of a part; a step that writes gives none
+-- The data of a step, from these memories; a step that writes brings none.
 abbrev pub given_by : Part → List Command → Memories → List ℕ
 given_by part (LoadAddress address ∷ commands) m = read_at address commands m
 given_by part (ReadFuse f ∷ []) m = read_by part (instruction_of f.instruction) m
@@ -40,35 +40,31 @@ given_by part (ReadSignature f ∷ []) m = read_by part (instruction_of f.instru
 given_by part (ReadOsccal f ∷ []) m = read_by part (instruction_of f.instruction) m
 given_by part commands m = []
 
--- the data of steps, joined, each from the memories that those before it leave
 abbrev pub all_given : Part → List (List Command) → Memories → List ℕ
 all_given part [] m = []
 all_given part (commands ∷ steps) m = given_by part commands m ++ all_given part steps (struck part commands m)
 
--- goes on with the data
 abbrev pub on_data : Reply → (List ℕ → Reply) → Reply
 on_data (Data bytes) go_on = go_on bytes
 on_data (Again fault) go_on = Again fault
 on_data (Stop fault) go_on = Stop fault
 
--- how a command is answered
 abbrev pub reply_to : {P : Type 0} → Device P → Command → P → Reply
 reply_to m command p = reading_reply command (Answered (m.answer (body command) p))
 
--- what commands come to of which each is obeyed and answered: all data joined, after those before
+-- The result of commands that are each obeyed and answered: all data joined, after `before`.
 abbrev pub joined_reply : {P : Type 0} → Device P → List Command → List ℕ → P → Reply
 joined_reply m [] before p = Data before
 joined_reply m (command ∷ commands) before p =
     on_data (reply_to m command p) (λ bytes. joined_reply m commands (before ++ bytes) (m.after (body command) p))
 
--- The data of a step are those of one attempt, all of whose commands were obeyed in order, from under the one condition
--- or the other.
+-- The data of a step are those of one attempt, all of whose commands were obeyed in order, from either condition.
 pub record Gives {P : Type 0} (m : Device P) (commands : List Command) (Before After : P → Type 0)
     (bytes : List ℕ) : Type 0 where
   pub from : P
   pub stood : Before from ⊎ After from
   pub is : joined_reply m commands [] from ≡ Data bytes
 
--- the bytes of a memory are those of the image, at each address where it holds one
+-- The memory has the image's byte at each address that the image holds.
 abbrev pub Holds : Image → List ℕ → Type 0
 Holds image bytes = (i b : ℕ) → byte_at image i ≡ Some b → i < length bytes → slice_index bytes i ≡ b

@@ -1,15 +1,15 @@
--- A port behind which a programmer stands: what is written to it is fed to the programmer, and what it answers is read.
+-- A port with a programmer behind it: it takes what is written, and its answers are read.
 use Rattle.std.specs.Prelude.{ℕ, List, ◌++◌, ◌≡◌}
 use Rattle.stk_emu.specs.Programmer.{Programmer}
 use Rattle.stk_emu.specs.Emulator.{Machine, IsFed, emulate}
 
--- the emulator, and what it has answered and nobody has read yet
+-- The emulator, and its answers that are not yet read.
 pub record PortState : Type 0 where
   pub machine : Machine
   pub waits : List ℕ
 
--- A port to a programmer that began so: this is all that was fed to it, and what was read of its answers and what
--- waits are all of them, in their order.
+-- A port that began with this programmer: `written` is all that was fed to it. What was read and then what waits are
+-- all its answers, in order.
 pub record IsPassed (p : Programmer) (written read : List ℕ) (port : PortState) : Type 0 where
   pub fed : IsFed p written port.machine
   pub answers : read ++ port.waits ≡ emulate p written

@@ -1,4 +1,4 @@
--- The programmer, and what each command makes it do.
+-- The programmer, and what each command does.
 use Rattle.std.specs.Prelude.{ℕ, Bool, true, false, zero, suc, List, [], ◌∷◌, ◌++◌, ◌+◌, ◌-◌, ◌/◌, ◌%◌, length, ◌==◌, ◌&&◌, ◌||◌, not, nat_le, nat_lt, if◌then◌else◌, slice_index, slice_set, bit_or, take, drop, replicate, Option, Some, None}
 use Rattle.std.specs.Int.{bit_at}
 use Rattle.avr_part.specs.State.{ChipState, spi_of, with_empty_buffers}
@@ -12,16 +12,14 @@ use Rattle.stk_frame.specs.Decoding.{command_of}
 use Rattle.stk_emu.specs.declared.programmer.TheConstants.{LARGEST_READ}
 
 pub record Programmer : Type 0 where
-  -- it is in programming mode
   pub mode : Bool
-  -- of 31 bits
+  -- 31 bits
   pub address : ℕ
-  -- the extended address is sent, too
+  -- The extended address is sent too.
   pub wide : Bool
   pub parameters : List ℕ
   pub chip : ChipState
 
--- a programmer as it begins, with this chip
 abbrev pub fresh_programmer : ChipState → Programmer
 fresh_programmer chip = record {
   mode = false;
@@ -31,23 +29,22 @@ fresh_programmer chip = record {
   chip = chip;
 }
 
--- A programmer that begins anew: the memories of its part stay, and all else is lost, the page buffers too.
+-- A restart: the memories of the part stay, and all else is lost, the page buffers too.
 abbrev pub restarted_programmer : Programmer → Programmer
 restarted_programmer p = fresh_programmer (with_empty_buffers p.chip)
 
--- the body of an answer, and the programmer after the command
+-- The body of an answer, and the programmer after the command.
 abbrev pub Response : Type 0
 Response = List ℕ × Programmer
 
--- a command that fails changes nothing
+-- A command that fails changes nothing.
 abbrev pub fail : ℕ → Programmer → Response
 fail code p = (code ∷ 0xC0 ∷ [], p)
 
--- outside programming mode a command fails
+-- Outside programming mode a command fails.
 abbrev pub in_mode : ℕ → Programmer → Response → Response
 in_mode code p done = if p.mode then done else fail code p
 
--- serial programming instructions, one after another
 abbrev pub sent_to : List (List ℕ) → ChipState → ChipState
 sent_to [] chip = chip
 sent_to (x ∷ xs) chip = sent_to xs ((spi_of x chip).1)
@@ -55,34 +52,33 @@ sent_to (x ∷ xs) chip = sent_to xs ((spi_of x chip).1)
 abbrev pub with_instructions : List (List ℕ) → Programmer → Programmer
 with_instructions xs p = record p { chip = sent_to xs p.chip }
 
--- addresses are below this, and a LOAD_ADDRESS from it on asks for the extended address
+-- Addresses are below this. A LOAD_ADDRESS at or above it asks for the extended address.
 abbrev pub bit_31 : ℕ
 bit_31 = 2147483648
 
 abbrev pub with_address_moved : ℕ → Programmer → Programmer
 with_address_moved count p = record p { address = (p.address + count) % bit_31 }
 
--- bits 15 to 8, and 7 to 0, of an address
+-- Bits 15 to 8 and bits 7 to 0 of an address.
 abbrev pub high : ℕ → ℕ
 high address = address / 256 % 256
 
 abbrev pub low : ℕ → ℕ
 low address = address % 256
 
--- an instruction at an address
 abbrev pub at_address : ℕ → ℕ → ℕ → List ℕ
 at_address cmd address byte = cmd ∷ high address ∷ low address ∷ byte ∷ []
 
--- what goes out in front of one for flash, while the extended address is sent
+-- The instruction sent before one for flash, if the extended address is used.
 abbrev pub extension : Bool → ℕ → List (List ℕ)
 extension true address = (0x4D ∷ 0 ∷ (address / 65536 % 256) ∷ 0 ∷ []) ∷ []
 extension false address = []
 
--- the instruction for the low or the high byte of a word
+-- The instruction for the low or the high byte of a word.
 abbrev pub for_half : ℕ → ℕ → ℕ
 for_half cmd i = if i % 2 == 0 then cmd else bit_or cmd 8
 
--- the address of the byte i after the one at which a command begins: of its word in flash, of itself in EEPROM
+-- The address of byte `i` after the command's address: of its word in flash, of the byte itself in EEPROM.
 abbrev pub word_at : ℕ → ℕ → ℕ
 word_at address i = (address + i / 2) % bit_31
 
@@ -101,7 +97,7 @@ get_parameter number p = (0x03 ∷ 0 ∷ slice_index p.parameters number ∷ [],
 abbrev pub load_address : ℕ → Programmer → Response
 load_address address p = (0x06 ∷ 0 ∷ [], record p { address = address % bit_31; wide = nat_le bit_31 address })
 
--- the byte out that is asked for is as the poll wants it
+-- The polled output byte has the wanted value; poll index 0 polls nothing.
 abbrev pub is_polled : ℕ → ℕ → List ℕ → Bool
 is_polled value index out = index == 0 || slice_index out (index - 1) == value
 
@@ -146,7 +142,7 @@ abbrev pub flash_writes : Bool → ℕ → ℕ → Bool → List (List ℕ)
 flash_writes wide cmd address true = extension wide address ++ (at_address cmd address 0 ∷ [])
 flash_writes wide cmd address false = []
 
--- page mode, and the page is written
+-- Page mode is asked for; below, writing the page.
 abbrev pub is_paged : ProgramBlock → Bool
 is_paged f = bit_at f.mode 0 == 1
 
@@ -191,14 +187,13 @@ program_eeprom f p =
     )
     else fail 0x15 p)
 
--- bytes read, and the chip after the instructions that read them
 abbrev pub Looked : Type 0
 Looked = List ℕ × ChipState
 
 abbrev pub behind_byte : ℕ → Looked → Looked
 behind_byte b looked = (b ∷ looked.0, looked.1)
 
--- the fourth byte out of an instruction, and then what is read from the chip after it
+-- The fourth output byte of an instruction, and then what is read from the chip after it.
 abbrev pub look : List ℕ → ChipState → (ChipState → Looked) → Looked
 look x chip more = behind_byte (slice_index (spi_of x chip).0 3) (more (spi_of x chip).1)
 
@@ -213,7 +208,6 @@ eeprom_looks cmd address i zero chip = ([], chip)
 eeprom_looks cmd address i (suc n) chip =
     look (at_address cmd (byte_address address i) 0) chip (eeprom_looks cmd address (suc i) n)
 
--- a block that was read
 abbrev pub block : ℕ → Looked → Programmer → Response
 block code looked p = (code ∷ 0 ∷ (looked.0 ++ 0 ∷ []), record p { chip = looked.1 })
 
@@ -260,11 +254,10 @@ obey_command (ReadOsccal f) p = read_byte 0x1C f p
 obey_command (SpiMulti send_count receive_count receive_start bytes) p =
     spi_multi send_count receive_count receive_start bytes p
 
--- the byte of a command
 abbrev pub is_known : ℕ → Bool
 is_known code = nat_le 0x01 code && nat_le code 0x03 || code == 0x06 || nat_le 0x10 code && nat_le code 0x1D
 
--- A body that is no command's: the answer tells whether its first byte is.
+-- The answer to a body that is no command depends on whether its first byte is a command's.
 abbrev pub not_read : ℕ → Programmer → Response
 not_read code p = (code ∷ (if is_known code then 0xC0 else 0xC9) ∷ [], p)
 
@@ -272,6 +265,6 @@ abbrev pub read_as : Option Command → List ℕ → Programmer → Response
 read_as (Some command) bytes p = obey_command command p
 read_as None bytes p = not_read (slice_index bytes 0) p
 
--- what the body of a frame makes the programmer answer and become
+-- The programmer's answer to the body of a frame, and the programmer after it.
 abbrev pub obey : List ℕ → Programmer → Response
 obey bytes p = read_as (command_of bytes) bytes p

@@ -16,31 +16,30 @@ use Rattle.stk_host.specs.Places.{load_flash, load_eeprom}
 use Rattle.stk_host.specs.WriteSteps.{write_steps}
 use Rattle.stk_emu.specs.Effect.{Image, Item, Erase, Write, Memories, effects}
 
--- these bytes from this address on, and nothing else
+-- An image of these bytes from this address on.
 abbrev pub image_at : ℕ → List ℕ → Image
 image_at start bytes = replicate start None ++ map Some bytes
 
--- the memory of a fuse
 abbrev pub memory_of_fuse : instruction_fuse.Fuse → Mem
 memory_of_fuse fuse.Low = Lfuse
 memory_of_fuse fuse.High = Hfuse
 memory_of_fuse fuse.Extended = Efuse
 
--- what one instruction writes by itself
+-- What one instruction writes without an address.
 abbrev pub written_by : Instruction → List Item
 written_by instruction.Erase = Erase ∷ []
 written_by (instruction.WriteFuse f byte) = Write (memory_of_fuse f) (Some byte ∷ []) ∷ []
 written_by (instruction.WriteLock byte) = Write Lock (Some byte ∷ []) ∷ []
 written_by i = []
 
--- what is written at an address: a block of flash, whose address counts words and may ask for the extended one by bit
--- 31, or of EEPROM
+-- What is written at an address: a block of flash or of EEPROM. For flash the address counts words, and bit 31 asks
+-- for the extended address.
 abbrev pub written_at : ℕ → List Command → List Item
 written_at address (ProgramFlash f ∷ []) = Write Flash (image_at (address % 2 ^ 31 * 2) f.bytes) ∷ []
 written_at address (ProgramEeprom f ∷ []) = Write Eeprom (image_at address f.bytes) ∷ []
 written_at address commands = []
 
--- what the commands of a step write: one part of an item, or nothing
+-- What the commands of a step write: one part of an item, or nothing.
 abbrev pub stroke_of : List Command → List Item
 stroke_of (LoadAddress address ∷ commands) = written_at address commands
 stroke_of (ChipErase erase_delay poll_method bytes ∷ []) = written_by (instruction_of bytes)
@@ -48,22 +47,18 @@ stroke_of (ProgramFuse bytes ∷ []) = written_by (instruction_of bytes)
 stroke_of (ProgramLock bytes ∷ []) = written_by (instruction_of bytes)
 stroke_of commands = []
 
--- and those of steps, in their order
 abbrev pub strokes_of : List (List Command) → List Item
 strokes_of [] = []
 strokes_of (commands ∷ steps) = stroke_of commands ++ strokes_of steps
 
--- the memories after a step
 abbrev pub struck : Part → List Command → Memories → Memories
 struck part commands m = effects part (stroke_of commands) m
 
--- the memories after the first so many steps
 abbrev pub struck_by : Part → ℕ → List (List Command) → Memories → Memories
 struck_by part zero steps m = m
 struck_by part (suc count) [] m = m
 struck_by part (suc count) (commands ∷ steps) m = struck_by part count steps (struck part commands m)
 
--- the steps of items
 abbrev pub steps_of : Part → Item → List (List Command)
 steps_of part Erase = (erase ∷ []) ∷ []
 steps_of part (Write mem image) = write_steps part mem image
@@ -72,7 +67,6 @@ abbrev pub all_steps : Part → List Item → List (List Command)
 all_steps part [] = []
 all_steps part (item ∷ items) = steps_of part item ++ all_steps part items
 
--- an image is no longer than its memory
 abbrev pub FitsItem : Part → Item → Type 0
 FitsItem part Erase = Unit {0}
 FitsItem part (Write mem image) = length image ≤ size_of mem part
@@ -83,29 +77,28 @@ AllFitItems part (item ∷ items) = FitsItem part item × AllFitItems part items
 
 -- What steps may carry.
 
--- a page of bytes, by its number
+-- The bytes of a page, by its number.
 pub record IsPage (part : Part) (number : ℕ) (bytes : List ℕ) : Type 0 where
   pub whole : length bytes ≡ part.flash_page
   pub inside : number * part.flash_page + part.flash_page ≤ part.flash_size
 
--- some bytes of EEPROM inside one page
+-- Some bytes of EEPROM within one page.
 pub record FitsEepromPage (part : Part) (address : ℕ) (bytes : List ℕ) : Type 0 where
   pub some : 0 < length bytes
   pub within : address % part.eeprom_page + length bytes ≤ part.eeprom_page
   pub inside : address + length bytes ≤ part.eeprom_size
 
--- a block of a memory
 pub record IsBlock (part : Part) (mem : Mem) (start count : ℕ) : Type 0 where
   pub some : 0 < count
   pub few : count ≤ 256
   pub inside : start + count ≤ size_of mem part
 
--- flash is read by words
+-- Flash is read in words.
 pub record AreWords (start count : ℕ) : Type 0 where
   pub start_even : start % 2 ≡ 0
   pub count_even : count % 2 ≡ 0
 
--- the steps that a host takes in programming mode: each writes one part of an item, or reads
+-- The steps that a host takes in programming mode: each writes one part of an item, or reads.
 pub data IsStep (part : Part) (commands : List Command) : Type 0 where
   Erases : commands ≡ erase ∷ [] → IsStep part commands
   ProgramsPage : (number : ℕ) (bytes : List ℕ) → IsPage part number bytes

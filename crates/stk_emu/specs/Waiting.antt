@@ -1,4 +1,4 @@
--- What waits to be heard, as it is kept: bytes, and None for a silence.
+-- What waits to be received, as it is kept: bytes, and None for a timeout.
 use Rattle.std.specs.Prelude.{ℕ, List, [], ◌∷◌, map, Option, Some, None}
 use Rattle.stk_host.specs.declared.link.Item.{Item}
 use Rattle.stk_host.specs.declared.link.Item.TheVariants.{Byte, Silence}
@@ -11,7 +11,7 @@ item_of None = Silence
 abbrev pub tape_in : List (Option ℕ) → Tape
 tape_in = map item_of
 
--- no byte comes first
+-- There is no leading byte.
 abbrev pub BeginsSilent : List (Option ℕ) → Type 0
 BeginsSilent [] = Unit {0}
 BeginsSilent (Some b ∷ items) = ⊥

@@ -1,4 +1,4 @@
--- A line to a programmer that loses, delays and spoils.
+-- A faulty wire to a programmer.
 use Rattle.std.specs.Prelude.{ℕ, zero, suc, Bool, true, false, List, [], ◌∷◌, ◌++◌, if◌then◌else◌, All}
 use Rattle.stk_frame.specs.Frame.{frame}
 use Rattle.stk_frame.specs.Cut.{seq_of}
@@ -17,7 +17,7 @@ IsLawfulFate _ = Unit {0}
 abbrev pub AreLawful : List Fate → Type 0
 AreLawful = All IsLawfulFate
 
--- after the list all fates are good
+-- After the list all fates are good.
 abbrev pub first_fate : List Fate → Fate
 first_fate [] = Good
 first_fate (fate ∷ fates) = fate
@@ -26,7 +26,6 @@ abbrev pub other_fates : List Fate → List Fate
 other_fates [] = []
 other_fates (fate ∷ fates) = fates
 
--- what becomes of a question whose frame has this fate
 abbrev pub turn_of : Fate → Turn
 turn_of Good = Right
 turn_of LostCommand = Wrong Kept Nothing
@@ -38,46 +37,43 @@ abbrev pub turns_of : List Fate → List Turn
 turns_of [] = []
 turns_of (fate ∷ fates) = turn_of fate ∷ turns_of fates
 
--- what becomes of the programmer at the next so many frames
+-- What happens to the programmer at each of the next `k` frames.
 abbrev pub becames_of : ℕ → List Fate → List Became
 becames_of zero fates = []
 becames_of (suc k) fates = became_in (turn_of (first_fate fates)) ∷ becames_of k (other_fates fates)
 
--- what comes back, by the frames of its answer and of the refusal
+-- What a fate brings back, from the frames of the answer and of the refusal.
 abbrev pub back : Fate → List ℕ → List ℕ → Tape
 back Good answered refused = on_tape answered
 back CommandRefused answered refused = on_tape refused
 back (AnswerSpoiled noise) answered refused = on_tape noise.items ++ Silence ∷ []
 back _ answered refused = Silence ∷ []
 
--- those that wait go on waiting
 abbrev pub is_held : Fate → Bool
 is_held HeldAnswer = true
 is_held _ = false
 
--- what comes in front, of those that wait
+-- The answers that arrive before what this frame brings.
 abbrev pub let_go : Fate → Late → List ℕ
 let_go fate late = if is_held fate then [] else waiting late
 
--- and what comes later
+-- The answers that wait after it.
 abbrev pub late_of : Fate → List ℕ → Late → Late
 late_of LateAnswer answered late = behind_late none_late answered
 late_of HeldAnswer answered late = behind_late late answered
 late_of _ answered late = none_late
 
--- the programmer, the fates to come, and the late answers that wait
+-- The programmer, the fates to come, and the late answers that wait.
 pub record Wire (P : Type 0) : Type 0 where
   pub programmer : P
   pub fates : List Fate
   pub late : Late
 
--- what a whole frame brings
 abbrev pub segment : {P : Type 0} → Device P → List ℕ → Wire P → Tape
 segment m piece w =
     on_tape (let_go (first_fate w.fates) w.late)
     ++ back (first_fate w.fates) (answer_frame m piece w.programmer) (frame (seq_of piece) refusal)
 
--- and what it leaves
 abbrev pub wire_behind : {P : Type 0} → Device P → List ℕ → Wire P → Wire P
 wire_behind m piece w = record {
   programmer = after_turn (turn_of (first_fate w.fates)) (after_frame m piece w.programmer) w.programmer m.reset;
@@ -85,7 +81,7 @@ wire_behind m piece w = record {
   late = late_of (first_fate w.fates) (answer_frame m piece w.programmer) w.late;
 }
 
--- the segments of whole frames, joined, and the wire after them
+-- The segments of whole frames, joined; below, the wire after them.
 abbrev pub tape_of : {P : Type 0} → Device P → List (List ℕ) → Wire P → Tape
 tape_of m [] w = []
 tape_of m (piece ∷ pieces) w = segment m piece w ++ tape_of m pieces (wire_behind m piece w)
@@ -94,6 +90,5 @@ abbrev pub wire_after : {P : Type 0} → Device P → List (List ℕ) → Wire P
 wire_after m [] w = w
 wire_after m (piece ∷ pieces) w = wire_after m pieces (wire_behind m piece w)
 
--- a wire that nothing passed yet
 abbrev pub fresh_wire : {P : Type 0} → P → List Fate → Wire P
 fresh_wire p fates = record { programmer = p; fates = fates; late = none_late }

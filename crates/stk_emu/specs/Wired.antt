@@ -1,4 +1,4 @@
--- A wire as a link, and that what passes over it is what the fates say.
+-- A wire as a link: what passes over it is what the fates say.
 use Rattle.std.specs.Prelude.{ℕ, List, [], ◌∷◌, ◌++◌, ◌≡◌, ◌≢◌, length, take, drop, ◌<◌, ◌≤◌, filter}
 use Rattle.stk_frame.specs.Cut.{frames, is_frame}
 use Rattle.stk_frame.specs.Reader.{Stands, Fed}
@@ -10,7 +10,7 @@ use Rattle.stk_emu.specs.Programmer.{Programmer, fresh_programmer}
 use Rattle.stk_emu.specs.Device.{device}
 use Rattle.stk_emu.specs.Wire.{Wire, AreLawful, fresh_wire, tape_of, wire_after}
 
--- the bytes of a frame that has not ended; the wire; the items that wait to be heard; what passed; and the failures
+-- The bytes of a frame that has not ended, the wire, the items that wait, the transcript, and the failures.
 pub record WiredState : Type 0 where
   pub held : List ℕ
   pub wire : Wire Programmer
@@ -18,28 +18,27 @@ pub record WiredState : Type 0 where
   pub talk : Talk
   pub failures : ℕ
 
--- it keeps all that passed
 abbrev pub wired_view : WiredState → LinkView
 wired_view wired = record { talk = wired.talk; failures = wired.failures }
 
--- what the frames of these bytes bring over a wire that nothing passed yet
+-- What the frames of these bytes bring over a fresh wire.
 abbrev pub brought : Programmer → List Fate → List ℕ → Tape
 brought p fates bytes = tape_of device (frames bytes) (fresh_wire p fates)
 
--- Nobody listened where all that was brought had been heard.
+-- Nobody listened when nothing waited.
 abbrev pub NeverIdle : Programmer → List Fate → Talk → Type 0
 NeverIdle p fates talk =
     (before after : Talk) (items : Tape) → talk ≡ before ++ Got items ∷ after
     → brought p fates (sent before) ≢ heard before
 
--- A wire that began with this programmer and these fates: it stands where the frames sent have brought it, and, unless
--- somebody listened where nothing waited, what was heard and what waits are what these frames bring.
+-- A wire that began with this programmer and these fates. It is what the frames sent have made of it. Unless somebody
+-- listened when nothing waited, the items received and those that wait are what these frames bring.
 pub record Keeps (p : Programmer) (fates : List Fate) (w : WiredState) : Type 0 where
   pub held : Stands w.held (sent w.talk)
   pub stands : w.wire ≡ wire_after device (frames (sent w.talk)) (fresh_wire p fates)
   pub brings : NeverIdle p fates w.talk → brought p fates (sent w.talk) ≡ heard w.talk ++ w.waits
 
--- how a wire began: its programmer, and the fates of its frames
+-- The programmer of a wire at its start, and the fates of its frames.
 pub record Start : Type 0 where
   pub programmer : Programmer
   pub fates : List Fate
@@ -53,8 +52,7 @@ pub record IsFresh (w : WiredState) : Type 0 where
   pub begins : Keeps (fresh_programmer w.wire.programmer.chip) w.wire.fates w
   pub lawful : AreLawful w.wire.fates
 
--- Bytes were sent, in which these frames ended: after what waited now waits what they bring, and the wire stands
--- after them.
+-- Bytes were sent, in which these frames ended. What they bring waits behind what waited.
 pub record PassesBytes (old new : WiredState) (used : List ℕ) : Type 0 where
   pub found : List (List ℕ)
   pub are_frames : filter is_frame found ≡ found
@@ -63,17 +61,17 @@ pub record PassesBytes (old new : WiredState) (used : List ℕ) : Type 0 where
   pub wire : new.wire ≡ wire_after device found old.wire
   pub talk : new.talk ≡ old.talk ++ Sent used ∷ []
 
--- So many of these bytes were passed, up to the end of the first frame.
+-- Passes the first `count` bytes, up to the end of the first frame.
 pub record PassesSome (bytes : List ℕ) (old new : WiredState) (count : ℕ) : Type 0 where
   pub within : count ≤ length bytes
   pub progress : 0 < length bytes → 0 < count
   pub passes : PassesBytes old new (take count bytes)
 
--- items are heard, and wait no more
+-- These items are received, and wait no more.
 abbrev pub after_hearing : Tape → WiredState → WiredState
 after_hearing items w = record w { talk = w.talk ++ Got items ∷ []; waits = drop (length items) w.waits }
 
--- what is heard next: some of the items that wait first, or a silence where nothing waits
+-- What is received next: some of the first items that wait, or a timeout if nothing waits.
 abbrev pub IsNext : Tape → Tape → Type 0
 IsNext items [] = items ≡ Silence ∷ []
 IsNext items (item ∷ waits) = (0 < length items) × (items ≡ take (length items) (item ∷ waits))

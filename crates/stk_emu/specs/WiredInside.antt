@@ -1,4 +1,4 @@
--- The fields of a wire, as its state. (For contracts inside this crate.)
+-- The fields of a wire as its state, for contracts inside this crate.
 use Rattle.std.specs.Prelude.{drop, length, ◌≤◌}
 use Rattle.stk_emu.specs.Waiting.{tape_in}
 use Rattle.stk_emu.specs.Wired.{WiredState}

@@ -17,13 +17,12 @@ use std::marker::Model;
 use stk_frame::protocol::{ANSWER_CKSUM_ERROR, STATUS_CKSUM_ERROR};
 use stk_frame::{Event, FrameReader, LARGEST_FRAME, put_frame};
 
-/// The body that tells of a wrong XOR.
+/// The body that reports a wrong XOR.
 const REFUSAL: [u8; 2] = [ANSWER_CKSUM_ERROR, STATUS_CKSUM_ERROR];
 
-/// A frame.
 pub(crate) type Frame = ArrayVec<u8, LARGEST_FRAME>;
 
-/// The refusal of the frame that the reader holds.
+/// Makes `out` the refusal of the frame that the reader holds.
 pub(crate) fn refuse(reader: &FrameReader, out: &mut Frame)
     requires { HoldsFrame reader.now }
     ensures { out.new.items ≡ frame (seq_of reader.now) refusal }
@@ -42,7 +41,7 @@ fn obey_frame(reader: &FrameReader, programmer: &mut Programmer, out: &mut Frame
     put_frame(reader.seq(), body.as_slice(), out);
 }
 
-/// Answers the frame that the reader holds: it is obeyed if it is good, and else refused.
+/// Answers the frame that the reader holds: obeys it if it is good, and refuses it otherwise.
 pub(crate) fn answer(reader: &FrameReader, good: bool, programmer: &mut Programmer, out: &mut Frame)
     requires holds { HoldsFrame reader.now }
     requires tells { is_good reader.now ≡ good }
@@ -56,7 +55,7 @@ pub(crate) fn answer(reader: &FrameReader, good: bool, programmer: &mut Programm
     }
 }
 
-/// Answers the frame of which the event tells; `out` becomes empty where it tells of none.
+/// Answers the frame that the event reports; if it reports none, `out` becomes empty.
 fn answer_event(reader: &FrameReader, event: Event, programmer: &mut Programmer, out: &mut Frame)
     requires { TellsEvent event reader.now }
     ensures answers { out.new.items ≡ answers device (frames_of_event event reader.now) programmer.old }
@@ -69,7 +68,6 @@ fn answer_event(reader: &FrameReader, event: Event, programmer: &mut Programmer,
     }
 }
 
-/// Appends bytes, for which there is room.
 fn append(answers: &mut Vec<u8>, bytes: &[u8])
     requires { vec_len answers.old + length bytes.now ≤ vec_capacity answers.old }
     ensures { answers.new.items ≡ answers.old.items ++ bytes.now }
@@ -77,10 +75,10 @@ fn append(answers: &mut Vec<u8>, bytes: &[u8])
     let _there_is_room = answers.extend_from_slice(bytes);
 }
 
-/// A programmer with its part, which is fed what comes over a line and answers each frame.
+/// A programmer with its part: takes the bytes of a link and answers each frame.
 ///
-/// A good frame is obeyed, and a frame whose XOR is wrong is answered with the body `B0 C1`. An answer carries the
-/// number of its frame, whatever the numbers before it were. Only the part of a frame that has come is held.
+/// It obeys a good frame, and answers a frame with a wrong XOR with the body `B0 C1`. An answer has the sequence
+/// number of its frame, whatever the numbers before. Only the part of a frame that has arrived is held.
 ///
 /// ```text
 /// let chip = Chip::fresh(alloc, Parts::none().find("t85")?)?;
@@ -105,7 +103,7 @@ impl Model for Emulator {
 }
 
 impl Emulator {
-    /// A programmer with this chip, out of programming mode, that was fed nothing.
+    /// Creates a programmer with this chip, out of programming mode, that was fed nothing.
     ///
     /// ```text
     /// let chip = Chip::fresh(alloc, Parts::none().find("t85")?)?;
@@ -123,7 +121,7 @@ impl Emulator {
         }
     }
 
-    /// The chip, as it is after the frames so far.
+    /// Returns the chip as the frames so far have left it.
     ///
     /// ```text
     /// let chip = Chip::fresh(alloc, Parts::none().find("t85")?)?;
@@ -135,7 +133,7 @@ impl Emulator {
         self.programmer.chip()
     }
 
-    /// The chip, as the frames so far have left it.
+    /// Returns the chip as the frames so far have left it.
     ///
     /// ```text
     /// let chip = Chip::fresh(alloc, Parts::none().find("t85")?)?;
@@ -149,8 +147,8 @@ impl Emulator {
         programmer.into_chip()
     }
 
-    /// Uses bytes up to the end of the first frame that is answered, whose answer `out` becomes, and says how many.
-    /// Where no frame ends all bytes are used, and `out` is empty.
+    /// Uses bytes up to the end of the first frame, and returns how many; `out` becomes that frame's answer. If no
+    /// frame ends, it uses all bytes and leaves `out` empty.
     ///
     /// ```text
     /// let chip = Chip::fresh(alloc, Parts::none().find("t85")?)?;
@@ -165,7 +163,7 @@ impl Emulator {
         ensures all { out.new.items ≡ [] → result ≡ length piece.now }
         ensures progress { 0 < length piece.now → 0 < result }
         ensures one { Answers self.old (take result piece.now) self.new out.new.items }
-        // Whatever it began with and was fed: all answers are those to the whole text, however it was cut.
+        // However the text was cut into pieces, the answers are those to the whole text.
         ensures fed { (p : ProgrammerState) (text : List ℕ) → IsFed p text self.old
             → IsFed p (text ++ take result piece.now) self.new }
         ensures emulated { (p : ProgrammerState) (text : List ℕ) → IsFed p text self.old
@@ -176,8 +174,8 @@ impl Emulator {
         used
     }
 
-    /// Uses bytes up to the end of the first frame, or all of them, appends the answer, and says how many. Where memory
-    /// is refused nothing changes.
+    /// Uses bytes up to the end of the first frame, or all of them, appends the answer, and returns how many it used.
+    /// If allocation fails, nothing changes.
     fn answer_next(&mut self, bytes: &[u8], answers: &mut Vec<u8>) -> Result<usize, AllocError>
         ensures within { IfOk result (λ n. n ≤ length bytes.now) }
         ensures progress { IfOk result (λ n. 0 < length bytes.now → 0 < n) }
@@ -193,10 +191,12 @@ impl Emulator {
         Ok(used)
     }
 
-    /// Uses all of these bytes, whatever frames end in them, and appends the answers to `answers`, in their order.
+    /// Uses all of these bytes, and appends the answers to their frames to `answers`, in order.
     ///
-    /// `AllocError` where memory is refused: then a prefix of the bytes was used and not all of them, all answers to
-    /// that prefix were appended, and no answer in part.
+    /// # Errors
+    ///
+    /// `AllocError` if allocation fails. A proper prefix of the bytes was used, and all answers to that prefix were
+    /// appended, none of them in part.
     ///
     /// ```text
     /// let chip = Chip::fresh(alloc, Parts::none().find("t85")?)?;
@@ -212,7 +212,7 @@ impl Emulator {
             answers.old.items answers.new.items) }
         ensures prefix { OnErr result (AnswersPrefix self.old bytes.now self.new
             answers.old.items answers.new.items) }
-        // Whatever it began with and was fed: a list of all answers to that becomes one of all answers.
+        // A list of all answers so far becomes a list of all answers.
         ensures fed { (p : ProgrammerState) (text : List ℕ) → IsFed p text self.old
             → OnOk result (IsFed p (text ++ bytes.now) self.new) }
         ensures all { (p : ProgrammerState) (text : List ℕ) → IsFed p text self.old

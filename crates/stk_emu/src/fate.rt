@@ -1,4 +1,4 @@
-//! What can happen to a frame and its answer, and noise on the line.
+//! What can happen to a frame and its answer, and noise on the wire.
 ghost use Rattle.std.specs.Prelude.{◌≡◌, ◌≢◌, ◌↔◌, [], ◌∷◌, IsTrue, true, false, filter};
 ghost use Rattle.stk_frame.specs.Cut.{cut, is_good};
 ghost use Rattle.stk_frame.specs.Reader.{TellsEvent, frames_of_event};
@@ -19,31 +19,30 @@ use stk_frame::{Event, FrameReader};
 /// ```
 #[derive(Debug, Drop, PartialEq, Eq)]
 pub enum Fate {
-    /// The frame is obeyed, and the answer comes.
+    /// The frame is obeyed, and the answer arrives.
     Good,
-    /// The frame is not obeyed, and a silence comes.
+    /// The frame is not obeyed, and a timeout follows.
     LostCommand,
-    /// The frame is obeyed, and a silence comes.
+    /// The frame is obeyed, and a timeout follows.
     LostAnswer,
-    /// The frame is obeyed, and a silence comes; the answer comes in front of what the next frame brings.
+    /// The frame is obeyed, and a timeout follows. The answer arrives before what the next frame brings.
     LateAnswer,
-    /// The frame is obeyed, and a silence comes; the answer waits after those that wait already, and all of them come
-    /// in front of what the first later frame of another fate brings. Three can wait: of a fourth one the first is
-    /// lost.
+    /// The frame is obeyed, and a timeout follows. The answer waits behind those that wait already. All of them
+    /// arrive before what the first later frame of another fate brings. Three can wait; a fourth one drops the first.
     HeldAnswer,
-    /// The frame is not obeyed, and the programmer begins anew: its memories stay, and programming mode, address,
-    /// parameters and page buffers are lost. A silence comes.
+    /// The frame is not obeyed, and the programmer restarts: its memories stay, and programming mode, address,
+    /// parameters and page buffers are lost. A timeout follows.
     Reset,
-    /// The frame is not obeyed: the answer tells of a wrong XOR, under the frame's number.
+    /// The frame is not obeyed. The answer reports a wrong XOR, with the frame's sequence number.
     CommandRefused,
-    /// The frame is obeyed, and this noise comes in place of the answer, and then a silence.
+    /// The frame is obeyed. This noise arrives in place of the answer, and then a timeout.
     AnswerSpoiled(Vec<u8>),
 }
 
-/// The most bytes that noise may have.
+/// The most bytes of noise.
 pub(crate) const LARGEST_NOISE: usize = 2048;
 
-/// Whether the event tells of a good frame.
+/// Returns whether the event reports a good frame.
 fn tells_of_good(reader: &FrameReader, event: Event) -> bool
     requires { TellsEvent event reader.now }
     ensures no { result ≡ false → filter is_good (frames_of_event event reader.now) ≡ [] }
@@ -55,7 +54,7 @@ fn tells_of_good(reader: &FrameReader, event: Event) -> bool
     }
 }
 
-/// Whether a good frame stands in the noise, cut from its left.
+/// Returns whether the noise has a good frame, cut from the left.
 fn has_good_frame(noise: &[u8]) -> bool
     ensures none { result ≡ false → filter is_good (cut noise.now) ≡ [] }
     ensures some { result ≡ true → filter is_good (cut noise.now) ≢ [] }
@@ -72,11 +71,11 @@ fn has_good_frame(noise: &[u8]) -> bool
     false
 }
 
-/// Whether noise can be told from an answer: it has at most 2,048 bytes, and no good frame where it is cut from its
-/// left.
+/// Returns whether noise can't be taken for an answer: it has at most 2,048 bytes and, cut from the left, no good
+/// frame.
 ///
-/// The noise of every [`crate::Fate::AnswerSpoiled`] of a [`crate::Wired`] is lawful: [`crate::Fates::push`] refuses
-/// any other.
+/// [`crate::Fates::push`] refuses any other noise, so every [`crate::Fate::AnswerSpoiled`] of a [`crate::Wired`] has
+/// lawful noise.
 ///
 /// ```text
 /// assert!(rt; noise_is_lawful(b"\xFF\x1B\x01"));

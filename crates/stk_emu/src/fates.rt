@@ -1,4 +1,4 @@
-//! The fates of a wire's frames, judged when they are made.
+//! The fates of a wire's frames, checked when they are added.
 ghost use Rattle.std.specs.Prelude.{◌≡◌, ◌++◌, ◌∷◌, ◌↔◌, [], length, IsTrue, IfErr, OnOk, OnErr};
 ghost use Rattle.stk_emu.specs.Wire.{AreLawful, IsLawfulFate};
 ghost use Rattle.stk_emu.specs.Fates.{Refuses, fates_fault_number};
@@ -8,7 +8,7 @@ use std::alloc::Global;
 use std::marker::Model;
 use thiserror::Error;
 
-/// Why a fate was not taken.
+/// Why a fate was not added.
 ///
 /// ```text
 /// let answer = b"\x1B\x01\x00\x02\x0E\x01\x00\x17";
@@ -17,16 +17,16 @@ use thiserror::Error;
 /// ```
 #[derive(Clone, Copy, Debug, Drop, PartialEq, Eq, Error)]
 pub enum FatesFault {
-    /// The noise in place of an answer is not lawful: [`noise_is_lawful`] refuses it.
+    /// The noise is not lawful: [`noise_is_lawful`] refuses it.
     #[error("noise is not lawful")]
     UnlawfulNoise,
-    /// There was no memory for one fate more.
+    /// Allocation failed.
     #[error("out of memory")]
     Memory,
 }
 
 impl FatesFault {
-    /// Returns the fault's number, from 1 on, which no later version changes.
+    /// Returns the fault's number, which never changes.
     ///
     /// ```text
     /// assert_eq!(rt; FatesFault::UnlawfulNoise.number(), 1);
@@ -41,9 +41,9 @@ impl FatesFault {
     }
 }
 
-/// What happens to the first frames that are sent over a [`crate::Wired`], one after the other.
+/// The fates of the first frames sent over a [`crate::Wired`], in order.
 ///
-/// Noise in place of an answer is judged when its fate is pushed, so that of all these fates it is lawful.
+/// All noise in them is lawful, because `push` checks it.
 ///
 /// ```text
 /// let mut fates = Fates::none(alloc);
@@ -68,7 +68,6 @@ impl Model for Fates {
     ghost invariant = { λ fates. AreLawful fates.all.items };
 }
 
-/// Whether the noise of a fate is lawful; where it has none, it is.
 fn is_lawful(fate: &Fate) -> bool
     ensures { IsTrue result ↔ IsLawfulFate fate.now }
 {
@@ -79,7 +78,7 @@ fn is_lawful(fate: &Fate) -> bool
 }
 
 impl Fates {
-    /// No fates: every frame is obeyed, and its answer comes.
+    /// Creates an empty list: every frame is obeyed, and its answer arrives.
     ///
     /// ```text
     /// let fates = Fates::none(alloc);
@@ -93,7 +92,12 @@ impl Fates {
         }
     }
 
-    /// One fate more, of the frame after those that have one. Where it is refused nothing changes.
+    /// Adds the fate of the next frame without one. After a fault nothing has changed.
+    ///
+    /// # Errors
+    ///
+    /// [`FatesFault::UnlawfulNoise`] if the fate has noise that could be taken for an answer. [`FatesFault::Memory`]
+    /// if allocation fails.
     ///
     /// ```text
     /// let mut fates = Fates::none(alloc);
@@ -119,7 +123,7 @@ impl Fates {
         }
     }
 
-    /// How many frames have a fate.
+    /// Returns how many frames have a fate.
     ///
     /// ```text
     /// let mut fates = Fates::none(alloc);
@@ -132,7 +136,7 @@ impl Fates {
         self.all.len()
     }
 
-    /// Whether no frame has a fate.
+    /// Returns whether no frame has a fate.
     ///
     /// ```text
     /// assert!(rt; Fates::none(alloc).is_empty());
@@ -143,7 +147,7 @@ impl Fates {
         self.all.is_empty()
     }
 
-    /// The fates, all lawful.
+    /// Returns the fates, all lawful.
     pub(crate) fn into_all(self) -> Vec<Fate>
         ensures all { result.items ≡ self }
         ensures lawful { AreLawful result.items }

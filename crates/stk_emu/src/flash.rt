@@ -8,7 +8,7 @@ use crate::programmer::Body;
 use crate::spi::{at_address, extend, for_half, word_at};
 use avr_part::Chip;
 
-/// The instructions of which the chip obeys a block at once: load a byte of the page buffer, and read one of flash.
+/// The instructions that the chip obeys a block at a time: load a byte of the page buffer, and read a byte of flash.
 const LOAD: u8 = 0x40;
 
 const READ: u8 = 0x20;
@@ -24,7 +24,7 @@ pub(crate) fn load_page(chip: &mut Chip, wide: bool, command: u8, address: u32, 
     }
 }
 
-/// Loads all the bytes at once, where the chip can, and says whether it did: else nothing changes.
+/// Loads all the bytes at once if the chip can, and returns whether it did. Otherwise nothing changes.
 fn load_at_once(chip: &mut Chip, wide: bool, command: u8, address: u32, bytes: &[u8]) -> bool
     requires address { address < bit_31 }
     requires count { length bytes.now < 65536 }
@@ -41,7 +41,6 @@ fn load_at_once(chip: &mut Chip, wide: bool, command: u8, address: u32, bytes: &
     is_loaded
 }
 
-/// Loads the bytes one by one.
 fn load_in_turn(chip: &mut Chip, wide: bool, command: u8, address: u32, bytes: &[u8])
     requires address { address < bit_31 }
     requires count { length bytes.now < 65536 }
@@ -55,7 +54,6 @@ fn load_in_turn(chip: &mut Chip, wide: bool, command: u8, address: u32, bytes: &
     }
 }
 
-/// Writes the page, if that is asked for.
 pub(crate) fn write_page(chip: &mut Chip, wide: bool, command: u8, address: u32, is_asked: bool)
     ensures { chip.new ≡ sent_to (flash_writes wide command address is_asked) chip.old }
 {
@@ -65,7 +63,7 @@ pub(crate) fn write_page(chip: &mut Chip, wide: bool, command: u8, address: u32,
     }
 }
 
-/// Reads so many bytes, and puts them after those of `out`.
+/// Reads `count` bytes and appends them to `out`.
 pub(crate) fn read(
     chip: &mut Chip,
     wide: bool,
@@ -85,7 +83,6 @@ pub(crate) fn read(
     }
 }
 
-/// Appends bytes, for which there is room.
 fn append(out: &mut Body, bytes: &[u8])
     requires { length out.old.items + length bytes.now ≤ LARGEST_BODY }
     ensures { out.new.items ≡ out.old.items ++ bytes.now }
@@ -93,8 +90,8 @@ fn append(out: &mut Body, bytes: &[u8])
     let _ = out.try_extend_from_slice(bytes);
 }
 
-/// Reads all the bytes at once, where the chip can, and says whether it did: else nothing changes but the extended
-/// address, which is sent again with the first instruction.
+/// Reads all the bytes at once if the chip can, and returns whether it did. Otherwise only the extended address
+/// changes, which the first instruction sends again.
 fn read_at_once(
     chip: &mut Chip,
     wide: bool,
@@ -124,7 +121,6 @@ fn read_at_once(
     true
 }
 
-/// Reads the bytes one by one.
 fn read_in_turn(chip: &mut Chip, wide: bool, command: u8, address: u32, count: u16, out: &mut Body)
     requires address { address < bit_31 }
     requires room { length out.old.items + count ≤ LARGEST_BODY }

@@ -17,12 +17,11 @@ use std::io::{ErrorKind, Read, Write};
 use std::marker::Model;
 use stk_frame::LARGEST_FRAME;
 
-/// A port with an emulated programmer behind it, for a client that speaks over `Read` and `Write`: what is written is
-/// fed to the programmer, and its answers are read.
+/// A port for a client that uses `Read` and `Write`: it writes to an emulated programmer and reads the answers.
 ///
-/// A write takes bytes up to the end of the first frame, so `write_all` writes a whole text. Where no answer waits a
-/// read fails with `ErrorKind::WouldBlock`, as that of a serial port does whose time is over; it never ends. A flush
-/// does nothing.
+/// A write takes bytes up to the end of the first frame, so `write_all` writes a whole text. If no answer waits, a
+/// read fails with `ErrorKind::WouldBlock`, as a serial port does after its timeout. A read never reports the end. A
+/// flush does nothing.
 ///
 /// ```text
 /// let chip = Chip::fresh(alloc, Parts::none().find("t85")?)?;
@@ -46,7 +45,6 @@ impl Model for EmulatedPort {
     ghost view = { λ port. record { machine = port.emulator; waits = port.waits.items } };
 }
 
-/// Appends bytes, for which there is room.
 fn append(waits: &mut VecDeque<u8>, bytes: &[u8])
     requires { deque_len waits.old + length bytes.now ≤ deque_capacity waits.old }
     ensures { waits.new.items ≡ waits.old.items ++ bytes.now }
@@ -57,7 +55,7 @@ fn append(waits: &mut VecDeque<u8>, bytes: &[u8])
 }
 
 impl EmulatedPort {
-    /// A port to this emulator, of which no answer waits.
+    /// Creates a port to this emulator; no answer waits.
     ///
     /// ```text
     /// let chip = Chip::fresh(alloc, Parts::none().find("t85")?)?;
@@ -74,7 +72,7 @@ impl EmulatedPort {
         }
     }
 
-    /// The chip, as it is after the whole frames written so far.
+    /// Returns the chip as the whole frames written so far have left it.
     ///
     /// ```text
     /// let chip = Chip::fresh(alloc, Parts::none().find("t85")?)?;
@@ -87,7 +85,7 @@ impl EmulatedPort {
         self.emulator.chip()
     }
 
-    /// The emulator, as what was written has left it. Answers that nobody has read are gone.
+    /// Returns the emulator as what was written has left it. Answers not yet read are lost.
     ///
     /// ```text
     /// let chip = Chip::fresh(alloc, Parts::none().find("t85")?)?;
@@ -109,12 +107,12 @@ impl Read for EmulatedPort {
         ensures bound { ReadsAtMost result buf.new }
         ensures bytes { ReadConsumes (Some self.old.waits) (Some self.new.waits) result buf.new }
         ensures machine { self.new.machine ≡ self.old.machine }
-        // Where nothing waits it would block, and in no other case it fails.
+        // A read fails only with `WouldBlock`, and only if no answer waits.
         ensures dry { self.old.waits ≡ [] → IsErr result }
         ensures blocks { OnErr result (self.old.waits ≡ []) }
         ensures kind { IfErr result (λ e. error_kind e ≡ ErrorKind.WouldBlock) }
         ensures some { IfOk result (λ n. 0 < length buf.new → 0 < n) }
-        // Whatever was written and read before: what is read are the next ones of all answers.
+        // The bytes read are the next ones of all answers.
         ensures passed { (p : ProgrammerState) (written given : List ℕ) → IsPassed p written given self.old
             → IfOk result (λ n. IsPassed p written (given ++ take n buf.new) self.new) }
     {
@@ -130,7 +128,7 @@ impl Write for EmulatedPort {
         ensures bound { WritesAtMost result buf.now }
         ensures bytes { WriteAppends None None result buf.now }
         ensures some { IfOk result (λ n. 0 < length buf.now → 0 < n) }
-        // What is written is fed, and the answers wait after those that wait already.
+        // The bytes written are fed, and their answers wait behind those that wait already.
         ensures answers { IfOk result (λ n. AppendsAnswers self.old.machine (take n buf.now) self.new.machine
             self.old.waits self.new.waits) }
         ensures passed { (p : ProgrammerState) (written given : List ℕ) → IsPassed p written given self.old

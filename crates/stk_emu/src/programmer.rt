@@ -1,4 +1,4 @@
-//! The programmer, and what each command makes it do.
+//! The programmer, and what each command does.
 
 ghost use Rattle.std.specs.Prelude.{◌≡◌, ◌<◌, ◌≤◌, ◌∷◌, [], ◌+◌, ◌%◌, ℕ, length, slice_index, if◌then◌else◌, false, true};
 ghost use Rattle.avr_part.specs.State.{spi_of};
@@ -19,16 +19,15 @@ use stk_frame::protocol::{
 };
 use stk_frame::{Command, EnterProgmode, ProgramBlock, ReadBlock, ReadByte};
 
-/// The body of an answer.
 pub(crate) type Body = ArrayVec<u8, LARGEST_BODY>;
 
-/// The most bytes of a block that is read: its answer's body has the command's byte and two statuses around them.
+/// The most bytes of a block read: the answer's body has the command byte and two statuses around them.
 const LARGEST_READ: u16 = (LARGEST_BODY - 3) as u16;
 
 /// The instruction that empties the part's page buffers.
 const PROGRAMMING_ENABLE: [u8; 4] = [0xAC, 0x53, 0x00, 0x00];
 
-/// The bits of a block's mode that ask for page mode, and for the page to be written.
+/// The bits of a block's mode for page mode, and for writing the page.
 const MODE_PAGE: u8 = 0x01;
 
 const MODE_WRITE: u8 = 0x80;
@@ -60,7 +59,6 @@ impl Model for Programmer {
     ghost invariant = { λ p. p.address < bit_31 };
 }
 
-/// Makes the answer these bytes.
 fn answer_with(out: &mut Body, bytes: &[u8])
     requires { length bytes.now ≤ LARGEST_BODY }
     ensures { out.new.items ≡ bytes.now }
@@ -75,14 +73,12 @@ fn fail(out: &mut Body, code: u8)
     answer_with(out, &[code, STATUS_CMD_FAILED]);
 }
 
-/// Whether this is the byte of a command.
 fn is_known(code: u8) -> bool
     ensures { result ≡ is_known code }
 {
     matches!(code, CMD_SIGN_ON..=CMD_GET_PARAMETER | CMD_LOAD_ADDRESS | CMD_ENTER_PROGMODE_ISP..=CMD_SPI_MULTI)
 }
 
-/// The byte that names the command.
 fn code_of(body: &[u8]) -> u8
     ensures { result ≡ slice_index body.now 0 }
 {
@@ -92,7 +88,6 @@ fn code_of(body: &[u8]) -> u8
     }
 }
 
-/// The status of a body that is no command's.
 fn status_of(code: u8) -> u8
     ensures { result ≡ (if is_known code then STATUS_CMD_FAILED else STATUS_CMD_UNKNOWN) }
 {
@@ -103,7 +98,7 @@ fn status_of(code: u8) -> u8
     }
 }
 
-/// The answer to a body that is no command's.
+/// Answers a body that is no command.
 fn not_read(body: &[u8], out: &mut Body)
     ensures { out.new.items ≡ slice_index body.now 0
         ∷ (if is_known (slice_index body.now 0) then STATUS_CMD_FAILED else STATUS_CMD_UNKNOWN) ∷ [] }
@@ -112,7 +107,7 @@ fn not_read(body: &[u8], out: &mut Body)
     answer_with(out, &[code, status_of(code)]);
 }
 
-/// Whether the byte out that is asked for is as the poll wants it.
+/// Returns whether the polled output byte has the wanted value; poll index 0 polls nothing.
 fn is_polled(fields: &EnterProgmode, bytes: [u8; 4]) -> bool
     requires { fields.now.poll_index ≤ 4 }
     ensures { result ≡ is_polled fields.now.poll_value fields.now.poll_index bytes }
@@ -156,7 +151,7 @@ fn eeprom_fits(fields: &ProgramBlock<'_>) -> bool
 }
 
 impl Programmer {
-    /// A programmer out of programming mode, with this chip.
+    /// Creates a programmer with this chip, out of programming mode.
     pub fn new(chip: Chip) -> Programmer
         ensures { result ≡ fresh_programmer chip }
     {
@@ -182,7 +177,7 @@ impl Programmer {
         chip
     }
 
-    /// Begins anew: the memories of its part stay, and all else is lost, the page buffers too.
+    /// Restarts: the memories of the part stay, and all else is lost, the page buffers too.
     pub fn restart(&mut self)
         ensures { self.new ≡ restarted_programmer self.old }
     {
@@ -221,7 +216,6 @@ impl Programmer {
         answer_with(out, &[CMD_LOAD_ADDRESS, STATUS_CMD_OK]);
     }
 
-    /// The mode is on or off now.
     fn entered(&mut self, ok: bool, out: &mut Body)
         ensures { (out.new.items, self.new) ≡ enter_response ok self.old }
     {
@@ -286,7 +280,6 @@ impl Programmer {
         );
     }
 
-    /// The address moves on.
     fn move_on(&mut self, count: u16)
         ensures { self.new ≡ record self.old { address = (self.old.address + count) % bit_31 } }
     {

@@ -1,4 +1,4 @@
-//! What a frame brings, and the answers that wait: bytes, and a `None` for each silence.
+//! What a frame brings, and the answers that wait: bytes, and a `None` for each timeout.
 ghost use Rattle.std.specs.Prelude.{◌≡◌, ◌+◌, ◌*◌, ◌<◌, ◌≤◌, ◌++◌, ◌∷◌, [], length, take};
 ghost use Rattle.stk_emu.specs.declared.segment.TheConstants.{ROOM};
 ghost use Rattle.stk_frame.specs.declared.protocol.TheConstants.{LARGEST_FRAME};
@@ -14,13 +14,11 @@ use std::marker::Model;
 use std::mem;
 use stk_frame::LARGEST_FRAME;
 
-/// Room for all that one frame can bring: three late answers, noise, and a silence.
+/// Room for all that one frame can bring: three late answers, noise, and a timeout.
 pub(crate) const ROOM: usize = 3 * LARGEST_FRAME + LARGEST_NOISE + 1;
 
-/// What one frame brings.
 pub(crate) type Segment = ArrayVec<Option<u8>, ROOM>;
 
-/// Puts bytes after the items.
 pub(crate) fn put_bytes(segment: &mut Segment, bytes: &[u8])
     requires { length segment.old.items + length bytes.now ≤ ROOM }
     ensures items { tape_in segment.new.items ≡ tape_in segment.old.items ++ on_tape bytes.now }
@@ -31,7 +29,7 @@ pub(crate) fn put_bytes(segment: &mut Segment, bytes: &[u8])
     }
 }
 
-/// Puts a silence after the items.
+/// Appends a timeout.
 pub(crate) fn put_silence(segment: &mut Segment)
     requires { length segment.old.items + 1 ≤ ROOM }
     ensures { tape_in segment.new.items ≡ tape_in segment.old.items ++ item.Silence ∷ [] }
@@ -39,7 +37,7 @@ pub(crate) fn put_silence(segment: &mut Segment)
     segment.push(None);
 }
 
-/// Puts the bytes that stand first among the items into the buffer, and says how many.
+/// Copies the leading bytes of the items into the buffer, and returns how many.
 pub(crate) fn take_bytes(items: &[Option<u8>], buffer: &mut [u8]) -> usize
     ensures within { result ≤ length buffer.new }
     ensures taken { on_tape (take result buffer.new) ≡ take result (tape_in items.now) }
@@ -57,7 +55,7 @@ pub(crate) fn take_bytes(items: &[Option<u8>], buffer: &mut [u8]) -> usize
     count
 }
 
-/// The answers that wait, the last three at most, in their order; each is empty where there is none.
+/// The last three answers that wait, in order; an absent one is empty.
 #[derive(Drop)]
 pub(crate) struct Late {
     first: Frame,
@@ -78,7 +76,6 @@ impl Model for Late {
 }
 
 impl Late {
-    /// No answer waits.
     pub fn new() -> Late
         ensures { result ≡ none_late }
     {
@@ -89,7 +86,6 @@ impl Late {
         }
     }
 
-    /// No answer waits any more.
     pub fn clear(&mut self)
         ensures { self.new ≡ none_late }
     {
@@ -98,7 +94,7 @@ impl Late {
         self.third.clear();
     }
 
-    /// One more waits after them: of a fourth one the first is lost.
+    /// Adds an answer; a fourth one drops the first.
     pub fn hold(&mut self, answered: Frame)
         ensures { self.new ≡ behind_late self.old answered.items }
     {

@@ -6,7 +6,7 @@ ghost use Rattle.stk_emu.specs.Programmer.{bit_31, at_address, word_at, byte_add
 use avr_part::Chip;
 use stk_frame::protocol::EXTENDED_ADDRESS;
 
-/// An instruction at an address, with the bits 15 to 0 of it.
+/// Returns an instruction at an address, of which it carries bits 15 to 0.
 pub(crate) fn at_address(command: u8, address: u32, byte: u8) -> [u8; 4]
     ensures { result ≡ at_address command address byte }
 {
@@ -15,14 +15,13 @@ pub(crate) fn at_address(command: u8, address: u32, byte: u8) -> [u8; 4]
     [command, high, low, byte]
 }
 
-/// The instruction for the low or the high byte of a word.
 pub(crate) fn for_half(command: u8, place: u16) -> u8
     ensures { result ≡ for_half command place }
 {
     if place % 2 == 0 { command } else { command | 8 }
 }
 
-/// The address of the word in which the byte of this place lies.
+/// Returns the address of the word that holds the byte at `place`.
 pub(crate) fn word_at(address: u32, place: u16) -> u32
     requires { address < bit_31 }
     ensures value { result ≡ word_at address place }
@@ -31,7 +30,7 @@ pub(crate) fn word_at(address: u32, place: u16) -> u32
     (address + u32::from(place / 2)) % EXTENDED_ADDRESS
 }
 
-/// The address of the byte of this place.
+/// Returns the address of the byte at `place`.
 pub(crate) fn byte_at(address: u32, place: u16) -> u32
     requires { address < bit_31 }
     ensures value { result ≡ byte_address address place }
@@ -40,7 +39,7 @@ pub(crate) fn byte_at(address: u32, place: u16) -> u32
     (address + u32::from(place)) % EXTENDED_ADDRESS
 }
 
-/// Sends the bits 23 to 16 of an address, where the extended address is sent.
+/// Sends bits 23 to 16 of an address if the extended address is used.
 pub(crate) fn extend(chip: &mut Chip, wide: bool, address: u32)
     ensures { chip.new ≡ sent_to (extension wide address) chip.old }
 {

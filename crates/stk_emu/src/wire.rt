@@ -20,7 +20,7 @@ use avr_part::Chip;
 use std::marker::Model;
 use stk_frame::{Event, FrameReader};
 
-/// The programmer at the end of a wire, and what is still to happen on it.
+/// The programmer at the end of a wire, the fates to come, and the late answers.
 #[derive(Drop)]
 pub(crate) struct Wire {
     programmer: Programmer,
@@ -45,14 +45,14 @@ impl Model for Wire {
     ghost invariant = { λ wire. AreLawful wire.fates.items };
 }
 
-/// Whether the answers that wait go on waiting.
+/// Returns whether the answers that wait go on waiting.
 fn is_held(fate: &Fate) -> bool
     ensures { result ≡ is_held fate.now }
 {
     matches!(fate, Fate::HeldAnswer)
 }
 
-/// Brings the answers that wait, unless they go on waiting: `out`, which is empty, becomes these.
+/// Puts the answers that wait into the empty `out`, unless they go on waiting.
 fn bring_late(fate: &Fate, late: &mut Late, out: &mut Segment)
     requires { out.old.items ≡ [] }
     ensures items { tape_in out.new.items ≡ on_tape (let_go fate.now late.old) }
@@ -65,7 +65,7 @@ fn bring_late(fate: &Fate, late: &mut Late, out: &mut Segment)
     }
 }
 
-/// Passes the frame that the reader holds, with this fate: `out` becomes what it brings, after the answers that wait.
+/// Passes the frame that the reader holds, with this fate. `out` becomes what it brings, after the answers that wait.
 fn pass_with(
     fate: &Fate,
     programmer: &mut Programmer,
@@ -118,8 +118,7 @@ fn pass_with(
 }
 
 impl Wire {
-    /// A programmer with this chip, out of programming mode, and what will happen to each frame; after these fates all
-    /// are good.
+    /// Creates a wire to a programmer with this chip. After these fates all are good.
     pub fn new(chip: Chip, fates: Vec<Fate>) -> Wire
         requires { AreLawful fates.items }
         ensures { result ≡ fresh_wire (fresh_programmer chip) fates.items }
@@ -179,7 +178,7 @@ impl Wire {
         }
     }
 
-    /// Passes the frame of which the event tells, if it tells of one.
+    /// Passes the frame that the event reports, if it reports one.
     pub fn pass_event(&mut self, reader: &FrameReader, event: Event, out: &mut Segment)
         requires empty { out.old.items ≡ [] }
         requires tells { TellsEvent event reader.now }

@@ -22,11 +22,11 @@ use std::marker::Model;
 use stk_frame::FrameReader;
 use stk_host::{Heard, Link, LinkFault, Log};
 
-/// A link to an emulated programmer over a wire that loses, delays and spoils: the nth whole frame that is sent has the
-/// nth fate, and after the list all are [`Fate::Good`].
+/// A link to an emulated programmer over a faulty wire: the nth whole frame sent has the nth fate, and after the list
+/// all are [`Fate::Good`].
 ///
-/// What a frame brings waits until it is heard; where nothing waits a silence is heard. Memory that is refused is a
-/// failure of the link, which is counted and changes nothing else. It keeps all that passed.
+/// What a frame brings waits until it is received; if nothing waits, a timeout is received. If allocation fails, the
+/// link has failed: it counts this, and nothing else changes. It keeps the transcript.
 ///
 /// ```text
 /// let part = Parts::none().find("t85")?;
@@ -43,7 +43,7 @@ pub struct Wired {
     wire: Wire,
     waits: Vec<Option<u8>>,
     at: usize,
-    /// What the frame that is passed brings; kept, so that its room is made once.
+    /// What the current frame brings: a field, so that its room is made once.
     brought: Segment,
     log: Log,
     failures: u64,
@@ -61,7 +61,7 @@ impl Model for Wired {
     ghost invariant = { IsSoundWired };
 }
 
-/// Makes room for all that a frame can bring, and for a piece of so many bytes that is sent.
+/// Makes room for all that a frame can bring, and for a piece of `count` bytes sent.
 fn make_room(waits: &mut Vec<Option<u8>>, log: &mut Log, count: usize) -> Result<(), AllocError>
     ensures waits { waits.new.items ≡ waits.old.items }
     ensures talk { log.new.talk ≡ log.old.talk }
@@ -86,7 +86,7 @@ fn keep(waits: &mut Vec<Option<u8>>, log: &mut Log, brought: &Segment, sent: &[u
     log.say(sent);
 }
 
-/// Takes so many of the items that wait.
+/// Takes `count` of the items that wait.
 fn consume(waits: &mut Vec<Option<u8>>, at: usize, count: usize) -> usize
     ensures left { drop result waits.new.items ≡ drop count (drop at waits.old.items) }
     ensures inside { result ≤ length waits.new.items }
@@ -100,7 +100,7 @@ fn consume(waits: &mut Vec<Option<u8>>, at: usize, count: usize) -> usize
 }
 
 impl Wired {
-    /// A wire to a programmer with this chip, out of programming mode, over which nothing has passed.
+    /// Creates a wire to a programmer with this chip, out of programming mode.
     ///
     /// ```text
     /// let part = Parts::none().find("t85")?;
@@ -129,7 +129,7 @@ impl Wired {
         }
     }
 
-    /// The chip, as it is after all whole frames that were sent.
+    /// Returns the chip as all whole frames sent have left it.
     ///
     /// ```text
     /// let chip = Chip::fresh(alloc, Parts::none().find("t85")?)?;
@@ -142,7 +142,7 @@ impl Wired {
         self.wire.chip()
     }
 
-    /// The chip, as all whole frames that were sent have left it.
+    /// Returns the chip as all whole frames sent have left it.
     ///
     /// ```text
     /// let chip = Chip::fresh(alloc, Parts::none().find("t85")?)?;
@@ -157,7 +157,7 @@ impl Wired {
         wire.into_chip()
     }
 
-    /// How many calls have failed so far.
+    /// Returns how many calls have failed so far.
     ///
     /// ```text
     /// let chip = Chip::fresh(alloc, Parts::none().find("t85")?)?;
@@ -170,7 +170,7 @@ impl Wired {
         self.failures
     }
 
-    /// The bytes sent.
+    /// Returns the bytes sent.
     ///
     /// ```text
     /// let chip = Chip::fresh(alloc, Parts::none().find("t85")?)?;
@@ -184,7 +184,7 @@ impl Wired {
         self.log.sent()
     }
 
-    /// The bytes heard; silences are none.
+    /// Returns the bytes received, without the timeouts.
     ///
     /// ```text
     /// let chip = Chip::fresh(alloc, Parts::none().find("t85")?)?;
@@ -199,7 +199,6 @@ impl Wired {
         self.log.heard()
     }
 
-    /// Counts a failure.
     fn fail(&mut self)
         ensures same { self.new ≡ record self.old { failures = self.new.failures } }
         ensures counted { HasRisen self.old.failures self.new.failures }
@@ -208,7 +207,7 @@ impl Wired {
         self.failures = self.failures.saturating_add(1);
     }
 
-    /// Passes bytes up to the end of the first frame, and says how many. Where memory is refused nothing changes.
+    /// Passes bytes up to the end of the first frame, and returns how many. If allocation fails, nothing changes.
     fn pass(&mut self, bytes: &[u8]) -> Result<usize, AllocError>
         ensures passes { IfOk result (λ n. PassesSome bytes.now self.old self.new n) }
         ensures failures { self.new.failures ≡ self.old.failures }
@@ -228,7 +227,7 @@ impl Wired {
         Ok(used)
     }
 
-    /// Hears what waits first, or a silence where nothing does. Where memory is refused nothing changes.
+    /// Receives what waits first, or a timeout if nothing waits. If allocation fails, nothing changes.
     fn listen(&mut self, buffer: &mut [u8]) -> Result<Heard, AllocError>
         requires { 0 < length buffer.old }
         ensures within { IfOk result (λ heard. FitsBuffer heard (length buffer.new)) }
@@ -245,7 +244,7 @@ impl Wired {
         Ok(Heard::Bytes(count))
     }
 
-    /// Hears these bytes, which wait first.
+    /// Receives these bytes, which wait first.
     fn hear(&mut self, bytes: &[u8]) -> Result<(), AllocError>
         requires { 0 < length bytes.now }
         ensures ok { OnOk result (self.new ≡ after_hearing (on_tape bytes.now) self.old) }
@@ -256,7 +255,7 @@ impl Wired {
         Ok(())
     }
 
-    /// Hears a silence: the one that waits, or none.
+    /// Receives a timeout, whether one waits or not.
     fn hear_silence(&mut self) -> Result<(), AllocError>
         ensures ok { OnOk result (self.new ≡ after_hearing (item.Silence ∷ []) self.old) }
         ensures err { OnErr result (self.new ≡ self.old) }
@@ -277,11 +276,10 @@ impl Link for Wired {
     fn send(&mut self, bytes: &[u8]) -> Result<usize, LinkFault>
         ensures sends { Sends bytes.now (wired_view self.old) (wired_view self.new) result }
         ensures sound { OnOk result (self.new.failures ≡ self.old.failures) }
-        // Whatever was sent and heard before, and whoever listened idly, what the frames bring waits after what
-        // waited.
+        // In every state, what the frames bring waits behind what waited.
         ensures passes { IfOk result (λ n. PassesBytes self.old self.new (take n bytes.now)) }
         ensures same { OnErr result (self.new ≡ record self.old { failures = self.new.failures }) }
-        // Sent and heard stay what the fates say.
+        // What passes stays what the fates say.
         ensures comes { Stays ComesOf self.old self.new }
     {
         match self.pass(bytes) {
@@ -296,7 +294,7 @@ impl Link for Wired {
     fn recv(&mut self, buffer: &mut [u8]) -> Result<Heard, LinkFault>
         requires { 0 < length buffer.old }
         ensures receives { Receives buffer.new (wired_view self.old) (wired_view self.new) result }
-        // What is heard is what waited first; where nothing waited, a silence.
+        // It receives what waited first; if nothing waited, a timeout.
         ensures heard { IfOk result (λ heard. self.new ≡ after_hearing (items_of heard buffer.new) self.old) }
         ensures next { IfOk result (λ heard. IsNext (items_of heard buffer.new) self.old.waits) }
         ensures same { OnErr result (self.new ≡ record self.old { failures = self.new.failures }) }

@@ -1,4 +1,4 @@
--- How much is asked, and how many frames go out.
+-- Bounds on the commands and the frames sent.
 use Rattle.std.specs.Prelude.{ℕ, zero, suc, ◌+◌, ◌*◌, ◌≤◌, List, [], ◌∷◌, length}
 use Rattle.stk_frame.specs.declared.command.Command.{Command}
 use Rattle.stk_frame.specs.declared.command.Command.TheVariants.{SignOn}
@@ -9,14 +9,14 @@ use Rattle.stk_host.specs.Dialog.{Dialog, Done, Say, Ask, Event, played, frames_
 use Rattle.stk_host.specs.Play.{Position, Plays, Breaks, NoPart}
 use Rattle.stk_host.specs.ReadSteps.{signature_steps}
 
--- whatever is read, at most so many questions are asked
+-- For every reading the dialog asks at most `n` times.
 abbrev pub AsksAtMost : {E R : Type 0} → ℕ → Dialog E R → Type 0
 AsksAtMost n (Done r) = Unit {0}
 AsksAtMost n (Say e dialog) = AsksAtMost n dialog
 AsksAtMost zero (Ask body answered) = ⊥
 AsksAtMost (suc n) (Ask body answered) = (reading : Reading) → AsksAtMost n (answered reading)
 
--- At most so many frames go out: over every tape, in every talk that is the whole play, and in every one that broke
+-- At most `n` frames are sent: over every tape, in every transcript of the whole run, and in every one that broke
 -- off.
 pub record SendsAtMost {E R : Type 0} (SaidPart : E → E → Type 0) (n : ℕ) (dialog : Dialog E R) : Type 0 where
   pub over_tape : (seq : ℕ) (tape : Tape) → length (frames_in (played dialog seq tape).events) ≤ n
@@ -25,24 +25,20 @@ pub record SendsAtMost {E R : Type 0} (SaidPart : E → E → Type 0) (n : ℕ) 
   pub broken_off : (before : Position) (talk : Talk) (shown : List (Event E))
       → Breaks SaidPart dialog before talk shown → length (frames_in shown) ≤ n
 
--- how many commands steps have
 abbrev pub commands_in : List (List Command) → ℕ
 commands_in [] = 0
 commands_in (commands ∷ steps) = length commands + commands_in steps
 
--- to sign on, enter programming mode and read the signature
 abbrev pub opening_steps : List (List Command)
 opening_steps = (SignOn ∷ []) ∷ (enter ∷ []) ∷ signature_steps
 
--- to erase the chip
 abbrev pub erasing_steps : List (List Command)
 erasing_steps = (erase ∷ []) ∷ []
 
--- to leave programming mode
 abbrev pub closing_steps : List (List Command)
 closing_steps = (leave ∷ []) ∷ []
 
--- A dialog over these steps asks, and sends, at most four times their commands.
+-- A dialog over these steps asks and sends at most four times for each command.
 pub record IsBoundedBy {R : Type 0} (steps : List (List Command)) (dialog : Dialog ⊥ R) : Type 0 where
   pub asks : AsksAtMost (4 * commands_in steps) dialog
   pub sends : SendsAtMost NoPart (4 * commands_in steps) dialog

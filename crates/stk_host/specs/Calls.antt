@@ -1,4 +1,4 @@
--- Words for the contracts of calls.
+-- Terms for the contracts of calls.
 use Rattle.std.specs.Prelude.{ℕ, Bool, List, [], ◌∷◌, ◌++◌, ◌≡◌, ◌<◌, ◌≤◌, length, Option, None, Some, Result, Ok, Err, IfOk, IfErr, IfSome, IsOkAnd, OnErr}
 use Rattle.avr_part.specs.declared.part.Mem.{Mem}
 use Rattle.stk_frame.specs.declared.protocol.TheConstants.{LARGEST_BODY, LARGEST_FRAME}
@@ -34,17 +34,17 @@ use Rattle.stk_host.specs.Play.{Position, PlaysOver, FailsOver}
 use Rattle.stk_host.specs.Reach.{Reaches, Hears, HearsNone}
 use Rattle.stk_host.specs.State.{ConversationState, HostState, data_held, lasting_fault}
 
--- of what was heard at most one piece is left
+-- At most one piece is unread.
 abbrev pub HasFewUnread : Position → Type 0
 HasFewUnread progress = length progress.unread ≤ LARGEST_FRAME
 
--- what was heard; bytes are unread now
+-- What was received; bytes become unread.
 abbrev pub HearsPiece : Heard → List ℕ → LinkView → LinkView → Type 0
 HearsPiece (heard.Bytes n) unread old new = (0 < length unread) × Grows old.talk (Got (on_tape unread) ∷ []) new.talk
 HearsPiece heard.Silence unread old new = (unread ≡ []) × Grows old.talk (Got (item.Silence ∷ []) ∷ []) new.talk
 HearsPiece heard.End unread old new = (unread ≡ []) × Grows old.talk (Got (item.End ∷ []) ∷ []) new.talk
 
--- How listening for the next piece ends: it has at most so many bytes, and they alone are unread then.
+-- Receives the next piece, of at most `most` bytes, which alone is unread then.
 pub record HearsNext (most : ℕ) (old new : LinkView) (unread : List ℕ) (result : Result Heard LinkFault) : Type 0 where
   pub within : length unread ≤ most
   pub fits : length unread ≤ LARGEST_FRAME
@@ -52,7 +52,7 @@ pub record HearsNext (most : ℕ) (old new : LinkView) (unread : List ℕ) (resu
   pub err : OnErr result (Grows old.talk [] new.talk)
   pub counts : LinkCounts old new result
 
--- how listening ended, by the reader that holds the answer
+-- How listening ended; the reader holds the answer.
 abbrev pub reading_of : Reading → List ℕ → tape.Reading
 reading_of read.Answered held = tape.Answered (body_of held)
 reading_of read.Silent held = tape.Silent
@@ -65,7 +65,7 @@ HoldsAnswer read.Silent held = Unit {0}
 HoldsAnswer read.Ended held = Unit {0}
 HoldsAnswer read.Babbled held = Unit {0}
 
--- How listening for the answer to a frame ends, by what the reader holds and what is unread then.
+-- How listening for the answer to a frame ends, with what the reader holds and what is unread then.
 pub record HearsAnswer (seq : ℕ) (before : List ℕ) (old new : LinkView) (result : Result Reading LinkFault)
     (held after : List ℕ) : Type 0 where
   pub ok : IfOk result (λ reading. Hears seq before old new (reading_of reading held) after)
@@ -74,39 +74,38 @@ pub record HearsAnswer (seq : ℕ) (before : List ℕ) (old new : LinkView) (res
   pub counts : LinkCounts old new result
   pub fits : length after ≤ LARGEST_FRAME
 
--- what the answer to a command comes to, by its data
+-- What follows from the answer, with its data.
 abbrev pub reply_of : Reply → List ℕ → steps.Reply
 reply_of said.Data bytes = steps.Data bytes
 reply_of (said.Again fault) bytes = steps.Again fault
 reply_of (said.Stop fault) bytes = steps.Stop fault
 
--- How steps end that stop: they were played up to a fault, or their play broke off where the link failed.
+-- Steps that stop: their run ended with a fault, or it broke off because the link failed.
 abbrev pub StopsSteps : Dialog ⊥ steps.StepOutcome → Position → LinkView → LinkView → Stop → Position → Type 0
 StopsSteps dialog before old new (Fault fault) after = PlaysOver dialog before old new (Err fault) after
 StopsSteps dialog before old new (Link broken) after = FailsOver broken dialog before old new
 
--- How steps end that were asked to give these data: they were played whole, or they stop.
+-- Steps that ended: they returned these data, or they stopped.
 abbrev pub EndsSteps : {A : Type 0} → Dialog ⊥ steps.StepOutcome → (A → List ℕ) → Position → LinkView → LinkView
     → Result A Stop → Position → Type 0
 EndsSteps dialog bytes before old new (Ok a) after = PlaysOver dialog before old new (Ok (bytes a)) after
 EndsSteps dialog bytes before old new (Err stop) after = StopsSteps dialog before old new stop after
 
--- the play of a list of steps after such data, whatever steps they are
+-- The run of any list of steps after some data.
 abbrev pub Playing : Type 0
 Playing = List (List Command) → Dialog ⊥ steps.StepOutcome
 
--- these are the first of the steps
+-- The run of these steps and then the others.
 abbrev pub with_steps : List (List Command) → List ℕ → Playing
 with_steps these before steps = play (these ++ steps) before
 
 abbrev pub with_step : List Command → List ℕ → Playing
 with_step commands before = with_steps (commands ∷ []) before
 
--- they are all the steps
 abbrev pub without_step : List ℕ → Playing
 without_step before steps = play steps before
 
--- How a step ends that others follow: they are left to play, after all data so far; or with it all of them stop.
+-- A step that others follow: they remain, after all data so far, or all stop with it.
 abbrev pub EndsInnerStep : Playing → Playing → Position → LinkView → LinkView → Result (Unit {0}) Stop → Position
     → Type 0
 EndsInnerStep whole rest before old new (Ok done) after =
@@ -114,7 +113,7 @@ EndsInnerStep whole rest before old new (Ok done) after =
 EndsInnerStep whole rest before old new (Err stop) after =
     (steps : List (List Command)) → StopsSteps (whole steps) before old new stop after
 
--- how many data bytes an answer of this shape brings, if the shape says it
+-- The data bytes that an answer of this shape brings, if the shape fixes them.
 abbrev pub data_count : Shape → ℕ
 data_count Name = 0
 data_count (Bytes n) = n
@@ -125,33 +124,31 @@ IsSizedShape Name = ⊥
 IsSizedShape (Bytes n) = Unit {0}
 IsSizedShape (Closed n) = Unit {0}
 
--- the count of failures rose where the link is said to have failed, and is what it was where it isn't
 abbrev pub FailsByLink : {A : Type 0} → LinkView → LinkView → Result A Stop → Type 0
 FailsByLink old new (Ok done) = new.failures ≡ old.failures
 FailsByLink old new (Err (Fault fault)) = new.failures ≡ old.failures
 FailsByLink old new (Err (Link broken)) = HasFailed old new
 
--- and it never falls
 abbrev pub CountsLink : {A : Type 0} → LinkView → LinkView → Result A Stop → Type 0
 CountsLink old new result = (old.failures ≤ new.failures) × FailsByLink old new result
 
--- A call of a conversation that asks: it ends so, the failures of its link are counted, and of what was heard at most
--- one piece is left.
+-- A call of a conversation that asks. It ends like this, counts the failures of its link, and leaves at most one
+-- piece unread.
 pub record AsksLink {A : Type 0} (Ends : Position → LinkView → LinkView → Result A Stop → Position → Type 0)
     (before : Position) (old new : LinkView) (result : Result A Stop) (after : Position) : Type 0 where
   pub played : Ends before old new result after
   pub counted : CountsLink old new result
   pub bound : HasFewUnread after
 
--- And one that may have nothing to ask.
+-- A call that may have nothing to ask.
 pub record MayAsk {A : Type 0} (Ends : Position → LinkView → LinkView → Result A Stop → Position → Type 0)
     (before : Position) (old new : LinkView) (result : Result A Stop) (after : Position) : Type 0 where
   pub played : Ends before old new result after
   pub counted : CountsLink old new result
   pub bound : HasFewUnread before → HasFewUnread after
 
--- How one command or more are answered, by what is held then: their play came to this reply, or it broke off as the
--- link failed. Data have the size that the last command asks for.
+-- How some commands are answered: their run returned this reply, or it broke off because the link failed. Data have
+-- the size that the last command asks for.
 pub record GetsReply (dialog : Dialog ⊥ steps.Reply) (last : Command) (before : Position) (old new : LinkView)
     (result : Result Reply Broken) (after : ConversationState) : Type 0 where
   pub ok : IfOk result (λ reply. PlaysOver dialog before old new (reply_of reply (data_held last after.held))
@@ -161,8 +158,8 @@ pub record GetsReply (dialog : Dialog ⊥ steps.Reply) (last : Command) (before 
   pub counts : LinkCounts old new result
   pub bound : HasFewUnread after.progress
 
--- How a call of a host ends: after a fault of the link its dialog broke off, in a frame that wasn't sent whole or where
--- it listened; else it was played whole.
+-- How a call of a host ends. If the link failed, its dialog broke off at sending or at listening; otherwise it was
+-- run whole.
 abbrev pub EndsCall : {A : Type 0} → Dialog ⊥ (Result A HostFault) → Position → LinkView → LinkView
     → Result A HostFault → Position → Type 0
 EndsCall dialog before old new (Ok a) after = PlaysOver dialog before old new (Ok a) after
@@ -170,75 +167,69 @@ EndsCall dialog before old new (Err SendFailed) after = FailsOver broken.Send di
 EndsCall dialog before old new (Err RecvFailed) after = FailsOver broken.Recv dialog before old new
 EndsCall dialog before old new (Err fault) after = PlaysOver dialog before old new (Err fault) after
 
--- How a call ends that takes its memory first: where that was refused nothing was said or heard.
+-- A call that allocates first: if that fails, nothing is sent or received.
 abbrev pub EndsOrLacks : {A : Type 0} → Dialog ⊥ (Result A HostFault) → Position → LinkView → LinkView
     → Result A HostFault → Position → Type 0
 EndsOrLacks dialog before old new (Err Memory) after = (new ≡ old) × (after ≡ before)
 EndsOrLacks dialog before old new result after = EndsCall dialog before old new result after
 
--- what a vector was given, or the fault in place of it
 abbrev pub given_or_fault : {A : Type 0} → A → Result (Unit {0}) HostFault → Result A HostFault
 given_or_fault a (Ok done) = Ok a
 given_or_fault a (Err fault) = Err fault
 
--- the link failed
 abbrev pub IsBroken : {A : Type 0} → Result A HostFault → Type 0
 IsBroken (Ok a) = ⊥
 IsBroken (Err SendFailed) = Unit {0}
 IsBroken (Err RecvFailed) = Unit {0}
 IsBroken (Err fault) = ⊥
 
--- what holds unless the link failed
 abbrev pub UnlessBroken : {A : Type 0} → Result A HostFault → Type 0 → Type 0
 UnlessBroken (Ok a) P = P
 UnlessBroken (Err SendFailed) P = Unit {0}
 UnlessBroken (Err RecvFailed) P = Unit {0}
 UnlessBroken (Err fault) P = P
 
--- the command fits a frame
 abbrev pub FitsFrame : Command → Type 0
 FitsFrame command = length (body command) ≤ LARGEST_BODY
 
--- it does, and its answer brings no data
+-- The command fits a frame, and its answer brings no data.
 pub record BringsNoData (command : Command) : Type 0 where
   pub fits : FitsFrame command
   pub quiet : shape command ≡ Bytes 0
 
--- how many bytes a step brings whose last command is this
 abbrev pub step_brings : Command → ℕ
 step_brings last = data_count (shape last)
 
--- the commands of a step: the first one brings no data, and the last one as many bytes as its shape says
+-- A step whose first command brings no data, and whose last brings as many bytes as its shape fixes.
 pub record IsSizedStep (first : Option Command) (last : Command) : Type 0 where
   pub quiet : IfSome first BringsNoData
   pub fits : FitsFrame last
   pub counted : IsSizedShape (shape last)
 
--- A call of a host that says and hears what ends so.
+-- A call of a host that ends like this.
 pub record CallsBy {A : Type 0} (Ends : Position → LinkView → LinkView → Result A HostFault → Position → Type 0)
     (old new : HostState) (before after : LinkView) (result : Result A HostFault) : Type 0 where
-  -- After the link's end or a fault of it the same fault is answered, and the host stays as it is.
+  -- After a lasting fault each call returns that fault and changes nothing.
   pub stays : (fault : HostFault) → old.broken ≡ Some fault → (result ≡ Err fault) × (new ≡ old) × (after ≡ before)
   pub played : old.broken ≡ None → Ends old.progress before after result new.progress
   pub lasts : old.broken ≡ None → new.broken ≡ lasting_fault result
   pub part : new.part ≡ old.part
-  -- A fault of the link is reported where the link has failed, and only there.
+  -- A fault of the link is reported if and only if the link has failed.
   pub failed : old.broken ≡ None → IsBroken result → HasFailed before after
   pub sound : old.broken ≡ None → UnlessBroken result (after.failures ≡ before.failures)
   pub counted : before.failures ≤ after.failures
   pub bound : old.broken ≡ None → HasFewUnread new.progress
 
--- A call of this dialog: its play, or after a fault of the link a prefix of it.
+-- A call runs this dialog, or if the link fails a prefix of it.
 abbrev pub Calls : {A : Type 0} → Dialog ⊥ (Result A HostFault) → HostState → HostState → LinkView → LinkView
     → Result A HostFault → Type 0
 Calls dialog old new before after result = CallsBy (EndsCall dialog) old new before after result
 
--- A call of it that takes its memory first.
+-- A call that allocates first.
 abbrev pub CallsOrLacks : {A : Type 0} → Dialog ⊥ (Result A HostFault) → HostState → HostState → LinkView → LinkView
     → Result A HostFault → Type 0
 CallsOrLacks dialog old new before after result = CallsBy (EndsOrLacks dialog) old new before after result
 
--- the faults' numbers
 abbrev pub host_fault_number : HostFault → ℕ
 host_fault_number NoAnswer = 1
 host_fault_number LinkEnded = 2
@@ -252,7 +243,7 @@ host_fault_number (ReadOnly mem) = 9
 host_fault_number Memory = 10
 host_fault_number RecvFailed = 11
 
--- the name that AVR068 gives the command that a fault is about, and the status that it was refused with
+-- AVR068's names of the command and the status of a fault.
 abbrev pub command_named : HostFault → Option (List ℕ)
 command_named (Refused command status) = name_in command_names command
 command_named (BadAnswer command) = name_in command_names command
@@ -262,28 +253,23 @@ abbrev pub status_named : HostFault → Option (List ℕ)
 status_named (Refused command status) = name_in status_names status
 status_named fault = None
 
--- a stop, as the host tells it
 abbrev pub fault_of_stop : Stop → HostFault
 fault_of_stop (Fault fault) = host_fault fault
 fault_of_stop (Link broken.Send) = SendFailed
 fault_of_stop (Link broken.Recv) = RecvFailed
 
--- what opening a session comes to
 abbrev pub opening_result : List ℕ → Bool → Result (List ℕ) Stop → Result (List ℕ) HostFault
 opening_result wanted force (Ok found) = signature_judged wanted force (Ok found)
 opening_result wanted force (Err stop) = Err (fault_of_stop stop)
 
--- what closing it comes to
 abbrev pub closing_result : Result (Unit {0}) Stop → Result (Unit {0}) HostFault
 closing_result (Ok done) = Ok done
 closing_result (Err stop) = Err (fault_of_stop stop)
 
--- what a vector holds after a call: nothing after a fault
 abbrev pub vector_after : Result (Unit {0}) HostFault → List ℕ → List ℕ
 vector_after (Ok done) bytes = bytes
 vector_after (Err fault) bytes = []
 
--- what reading a memory comes to, where it is compared with an image
 abbrev pub verifying_result : Mem → List (Option ℕ) → List ℕ → Result (Unit {0}) Stop → Result (Unit {0}) HostFault
 verifying_result mem image bytes (Ok done) = comparison mem image bytes
 verifying_result mem image bytes (Err stop) = Err (fault_of_stop stop)

@@ -1,65 +1,61 @@
--- What a conversation says and asks, and its one meaning: the play over a tape of answers.
+-- Dialogs, and their one meaning: the run over a tape of answers, `played` in names.
 use Rattle.std.specs.Prelude.{ℕ, ◌+◌, ◌%◌, List, [], ◌∷◌, ◌++◌, Option, Some, None}
 use Rattle.stk_frame.specs.Frame.{frame}
 use Rattle.stk_host.specs.Tape.{Tape, Reading, answer}
 
--- A dialog has come to a result; or it says something beside the line, as a message; or it asks, by the body of a
--- command, and goes on as the answer is read.
+-- A dialog is done, or it outputs an event beside the link, such as a message, or it asks. To ask, it sends a
+-- command's body, and goes on with the reading of its answer.
 pub data Dialog (E R : Type 0) : Type 0 where
   Done : R → Dialog E R
   Say : E → Dialog E R → Dialog E R
   Ask : List ℕ → (Reading → Dialog E R) → Dialog E R
 
--- one dialog, and then the one that its result chooses
+-- A dialog, and then the one that its result chooses.
 infixl 10 ◌>>=◌
 abbrev pub ◌>>=◌ : {E A B : Type 0} → Dialog E A → (A → Dialog E B) → Dialog E B
 (Done a) >>= go_on = go_on a
 (Say e dialog) >>= go_on = Say e (dialog >>= go_on)
 (Ask body answered) >>= go_on = Ask body (λ reading. answered reading >>= go_on)
 
--- a dialog that says nothing beside the line, as a part of one that does
+-- A dialog without output events, as a part of one that has them.
 abbrev pub lifted : {E R : Type 0} → Dialog ⊥ R → Dialog E R
 lifted (Done r) = Done r
 lifted (Say e dialog) = absurd e
 lifted (Ask body answered) = Ask body (λ reading. lifted (answered reading))
 
--- what happens in a play: a frame is sent, or something is said beside the line
+-- A frame is sent, or an event is output beside the link.
 pub data Event (E : Type 0) : Type 0 where
   Frame : List ℕ → Event E
   Said : E → Event E
 
--- What happened, and the result with the next sequence number and the tape that remains. None: it waits for more.
+-- The events, and the result with the next sequence number and the tape that remains. None: it waits for more.
 pub record Played (E R : Type 0) : Type 0 where
   pub events : List (Event E)
   pub outcome : Option (R × ℕ × Tape)
 
--- a play after these events
 abbrev pub behind : {E R : Type 0} → List (Event E) → Played E R → Played E R
 behind events p = record { events = events ++ p.events; outcome = p.outcome }
 
--- the play after an answer; where there is none yet, it waits
 abbrev pub by_answer : {E R : Type 0} → (Reading → Tape → Played E R) → Option (Reading × Tape) → Played E R
 by_answer go_on None = record { events = []; outcome = None }
 by_answer go_on (Some (reading, tape)) = go_on reading tape
 
--- the sequence number after this one
 abbrev pub next : ℕ → ℕ
 next seq = (seq + 1) % 256
 
--- The play of a dialog over a tape, its frames numbered from this number on.
+-- The run of a dialog over a tape, with its frames numbered from `seq`.
 abbrev pub played : {E R : Type 0} → Dialog E R → ℕ → Tape → Played E R
 played (Done r) seq tape = record { events = []; outcome = Some (r, seq, tape) }
 played (Say e dialog) seq tape = behind (Said e ∷ []) (played dialog seq tape)
 played (Ask body answered) seq tape =
     behind (Frame (frame seq body) ∷ []) (by_answer (λ reading. played (answered reading) (next seq)) (answer seq tape))
 
--- the frames that were sent
 abbrev pub frames_in : {E : Type 0} → List (Event E) → List (List ℕ)
 frames_in [] = []
 frames_in (Frame bytes ∷ events) = bytes ∷ frames_in events
 frames_in (Said e ∷ events) = frames_in events
 
--- the bytes of the frames, and what was said beside the line
+-- The bytes of the frames; below, the output events.
 abbrev pub bytes_sent : {E : Type 0} → List (Event E) → List ℕ
 bytes_sent [] = []
 bytes_sent (Frame bytes ∷ events) = bytes ++ bytes_sent events

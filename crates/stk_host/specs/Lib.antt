@@ -1,4 +1,4 @@
--- the meaning: what contracts of public calls cite
+-- the definitions that contracts of public calls cite
 pub mod Tape
 pub mod Talk
 pub mod Dialog
@@ -14,8 +14,8 @@ pub mod Calls
 pub mod State
 pub mod Links
 pub mod Watching
--- inside: how things are kept, and what inner functions promise one another
+-- inside: representations, and contracts of private functions
 pub mod Log
--- of the crates below, what public contracts name
+-- of the crates below, the definitions that public contracts cite
 pub use Rattle.avr_part.specs.Part
 pub use Rattle.ghosts.specs.Stays

@@ -1,4 +1,4 @@
--- What the links of this crate hold, and what one call takes of it.
+-- The states of this crate's links, and what one call does.
 use Rattle.std.specs.Prelude.{ℕ, Bool, List, [], ◌∷◌, ◌++◌, ◌≡◌, ◌≢◌, ◌==◌, ◌≤◌, ◌<◌, ◌+◌, ◌-◌, ◌^◌, replicate, take, min, Option, Some, None, Result, Err, OnErr}
 use Rattle.std.specs.Io.KnownBytes.{Keeps, Appends, Consumes, IsAtEnd}
 use Rattle.std.specs.declared.io.ErrorKind.{ErrorKind}
@@ -14,21 +14,20 @@ use Rattle.ghosts.specs.Failures.{HasRisen}
 use Rattle.stk_host.specs.Talk.{Talk, LinkView, HasFailed, heard, sent}
 use Rattle.stk_host.specs.Play.{IsPrefixOf}
 
--- a log: what passed, and the room that is left in it, for so many pieces and for so many bytes that are sent
+-- A log: the transcript, and its room for pieces and for bytes sent.
 pub record LogState : Type 0 where
   pub talk : Talk
   pub piece_room : ℕ
   pub byte_room : ℕ
 
--- a link over a tape: the items that are left, the most bytes of a piece, what passed, and how often it has failed
+-- A tape link: the items left, the most bytes of a piece, the transcript, and the count of failures.
 pub record TapeState : Type 0 where
   pub left : Tape
   pub cut : ℕ
   pub talk : Talk
   pub failures : ℕ
 
--- What was heard over a link over a tape since it was `old`, and then what is left of it, are the items that it had,
--- and after the last of them ends.
+-- The items received since `old` and then those left are the items that were left; after the last come only ends.
 pub record IsOfTape (old new : TapeState) : Type 0 where
   pub during : Talk
   pub grows : new.talk ≡ old.talk ++ during
@@ -36,26 +35,23 @@ pub record IsOfTape (old new : TapeState) : Type 0 where
   pub gave : heard during ++ new.left ≡ old.left ++ replicate ends End
   pub over : 0 < ends → new.left ≡ []
 
--- it keeps all that passed
 abbrev pub tape_view : TapeState → LinkView
 tape_view link = record { talk = link.talk; failures = link.failures }
 
--- the next piece of a tape, of at most so many bytes; after the last item comes an end
+-- The next piece of a tape, of at most `most` bytes; an end if no item is left.
 abbrev pub next_piece : ℕ → Tape → Tape
 next_piece most [] = End ∷ []
 next_piece most (End ∷ tape) = End ∷ []
 next_piece most (Silence ∷ tape) = Silence ∷ []
 next_piece most (Byte byte ∷ tape) = on_tape (take most (byte ∷ bytes_in tape))
 
--- the byte that an item is
 abbrev pub byte_of : Option Item → Option ℕ
 byte_of (Some (Byte byte)) = Some byte
 byte_of (Some Silence) = None
 byte_of (Some End) = None
 byte_of None = None
 
--- a link over a reader and a writer, how often it has failed, the kind of the last error of theirs that it failed for,
--- and what passed, which is kept for proofs alone
+-- A stream link: reader, writer, failures, the kind of the last error, and the transcript for proofs alone.
 pub record StreamState (R W : Type 0) : Type 0 where
   pub reader : R
   pub writer : W
@@ -66,8 +62,8 @@ pub record StreamState (R W : Type 0) : Type 0 where
 abbrev pub stream_view : {R W : Type 0} → StreamState R W → LinkView
 stream_view link = record { talk = link.talk; failures = link.failures }
 
--- What a link over streams keeps of what passed since it was `old` is true: the bytes heard are those that its reader
--- gave, in their order and none lost; and while it has never failed the bytes sent are those that its writer took.
+-- The record since `old` is true. The bytes received are those that the reader gave, in order and none lost. While
+-- nothing has failed, the bytes sent are those that the writer took.
 pub record IsTrueSince {R W : Type 0} (remaining : R → Option (List ℕ)) (contents : W → Option (List ℕ))
     (old new : StreamState R W) : Type 0 where
   pub during : Talk
@@ -76,30 +72,29 @@ pub record IsTrueSince {R W : Type 0} (remaining : R → Option (List ℕ)) (con
   pub took : new.failures ≡ 0 → Appends (contents old.writer) (contents new.writer) (sent during)
   pub counted : old.failures ≤ new.failures
 
--- the kind of an error that a link fails for where it listens: no silence, and nothing that is tried again
+-- An error kind that is a failure of listening: no timeout, and nothing that is retried.
 abbrev pub IsOfListening : Option ErrorKind → Type 0
 IsOfListening None = ⊥
 IsOfListening (Some kind) = (kind ≢ WouldBlock) × (kind ≢ TimedOut) × (kind ≢ Interrupted)
 
--- what was heard of a reader whose bytes are known: they are its next ones, and an end comes only after the last
+-- Received from a reader whose bytes are known: its next bytes, or an end after the last.
 abbrev pub HearsKnown : Heard → List ℕ → Option (List ℕ) → Option (List ℕ) → Type 0
 HearsKnown (hears.Bytes count) buffer old new = Consumes old new (take count buffer)
 HearsKnown hears.Silence buffer old new = Keeps old new
 HearsKnown hears.End buffer old new = Keeps old new × IsAtEnd new
 
--- a writer whose bytes are known took a prefix of these
+-- A writer whose bytes are known took a prefix of these.
 abbrev pub AppendsPrefix : Option (List ℕ) → Option (List ℕ) → List ℕ → Type 0
 AppendsPrefix old new bytes = (prefix : List ℕ) × IsPrefixOf prefix bytes × Appends old new prefix
 
--- a link that fails once: the one below it, how many calls come before that and with it (0: it doesn't), the most bytes
--- of a piece, and how often it has failed itself
+-- A failing link: the inner link, the calls up to the one that fails (0: none does), the most bytes of a piece, and
+-- its own failures.
 pub record FailingState (L : Type 0) : Type 0 where
   pub inner : L
   pub due : ℕ
   pub cut : ℕ
   pub failed : ℕ
 
--- A call of it is counted: whether it is the one that is due, which is a failure.
 pub record CountsCall {L : Type 0} (old new : FailingState L) (is_due : Bool) : Type 0 where
   pub value : is_due ≡ (old.due == 1)
   pub due : new.due ≡ old.due - 1
@@ -109,7 +104,7 @@ pub record CountsCall {L : Type 0} (old new : FailingState L) (is_due : Bool) : 
   pub sound : old.due ≢ 1 → new.failed ≡ old.failed
   pub counted : old.failed ≤ new.failed
 
--- One call of it: the one that is due fails, and the link below isn't called; every other fails only with that.
+-- The due call fails without calling the inner link. Any other fails only if the inner link does.
 pub record FailsAsPlanned {A L : Type 0} (view : L → LinkView) (old new : FailingState L)
     (result : Result A LinkFault) : Type 0 where
   pub due : new.due ≡ old.due - 1
@@ -117,11 +112,9 @@ pub record FailsAsPlanned {A L : Type 0} (view : L → LinkView) (old new : Fail
   pub chosen : old.due ≡ 1 → (result ≡ Err Failed) × (new.inner ≡ old.inner)
   pub others : old.due ≢ 1 → (new.failed ≡ old.failed) × OnErr result (HasFailed (view old.inner) (view new.inner))
 
--- the failures of a link and of the one below it, as many as are counted
 abbrev pub total_failures : ℕ → ℕ → ℕ
 total_failures inner own = min (inner + own) (2 ^ 64 - 1)
 
--- what passed is what passed over the link below
 abbrev pub failing_link_view : {L : Type 0} → (L → LinkView) → FailingState L → LinkView
 failing_link_view view link = record {
   talk = (view link.inner).talk;

@@ -16,7 +16,6 @@ use Rattle.stk_host.specs.Steps.{StepOutcome, if_done, step, play}
 use Rattle.stk_host.specs.WriteSteps.{write_steps}
 use Rattle.stk_host.specs.ReadSteps.{signature_steps, read_steps}
 
--- a step's fault, as the host tells it
 abbrev pub host_fault : StepFault → HostFault
 host_fault of_step.NoAnswer = NoAnswer
 host_fault of_step.LinkEnded = LinkEnded
@@ -24,65 +23,54 @@ host_fault of_step.Babble = Babble
 host_fault (of_step.Refused command status) = Refused command status
 host_fault (of_step.BadAnswer command) = BadAnswer command
 
--- to sign on, enter programming mode and read the signature
 unfoldable pub handshake : Dialog ⊥ StepOutcome
 handshake =
     step (SignOn ∷ []) >>= if_done (λ name. step (enter ∷ []) >>= if_done (λ nothing. play signature_steps []))
 
--- the signature found is the part's, or is taken all the same
 abbrev pub signature_judged : List ℕ → Bool → StepOutcome → Result (List ℕ) HostFault
 signature_judged wanted force (Ok found) =
     if force then Ok found else if bytes_eq found wanted then Ok found else Err (WrongSignature found)
 signature_judged wanted force (Err fault) = Err (host_fault fault)
 
--- to open a session with a part of this signature
 unfoldable pub opening : List ℕ → Bool → Dialog ⊥ (Result (List ℕ) HostFault)
 opening wanted force = handshake >>= λ outcome. Done (signature_judged wanted force outcome)
 
--- a step without data
 abbrev pub without_bytes : StepOutcome → Result ⊤ HostFault
 without_bytes (Ok bytes) = Ok tt
 without_bytes (Err fault) = Err (host_fault fault)
 
--- to leave programming mode
 unfoldable pub closing : Dialog ⊥ (Result ⊤ HostFault)
 closing = step (leave ∷ []) >>= λ outcome. Done (without_bytes outcome)
 
--- what the steps of an operation come to: what its data are judged to be, or the fault of a step
 abbrev pub judged_by : {A : Type 0} → (List ℕ → Result A HostFault) → StepOutcome → Result A HostFault
 judged_by judge (Ok bytes) = judge bytes
 judged_by judge (Err fault) = Err (host_fault fault)
 
--- to play the steps of an operation
 unfoldable pub operation : {A : Type 0} → List (List Command) → (List ℕ → Result A HostFault)
     → Dialog ⊥ (Result A HostFault)
 operation steps judge = play steps [] >>= λ outcome. Done (judged_by judge outcome)
 
--- nothing is read
 abbrev pub no_result : List ℕ → Result ⊤ HostFault
 no_result bytes = Ok tt
 
--- to erase the chip
 abbrev pub erasing : Dialog ⊥ (Result ⊤ HostFault)
 erasing = operation ((erase ∷ []) ∷ []) no_result
 
--- to write an image to a memory, if it can be written
 abbrev pub writing : Part → Mem → List (Option ℕ) → Dialog ⊥ (Result ⊤ HostFault)
 writing part mem image =
     if is_writable mem then operation (write_steps part mem image) no_result else Done (Err (ReadOnly mem))
 
--- to read a whole memory
 abbrev pub reading : Part → Mem → Dialog ⊥ (Result (List ℕ) HostFault)
 reading part mem = operation (read_steps part mem) Ok
 
--- where the image and a memory differ: the address, what the image has there and what the memory has
+-- The address, the image's byte and the memory's byte.
 pub record Difference : Type 0 where
   pub addr : ℕ
   pub want : ℕ
   pub found : ℕ
 
--- The lowest address, from this one on, at which the image holds a byte and the memory another. The lists are what the
--- image and the memory have from there on.
+-- The lowest address, from `addr` on, at which the image holds a byte and the memory another. Both lists begin at
+-- `addr`.
 abbrev pub difference_from : ℕ → List (Option ℕ) → List ℕ → Option Difference
 difference_from addr [] bytes = None
 difference_from addr (byte ∷ image) [] = None
@@ -95,10 +83,8 @@ abbrev pub differs : Mem → Option Difference → Result ⊤ HostFault
 differs mem None = Ok tt
 differs mem (Some d) = Err (Differs mem d.addr d.want d.found)
 
--- what the bytes of a memory are found to be
 abbrev pub comparison : Mem → List (Option ℕ) → List ℕ → Result ⊤ HostFault
 comparison mem image bytes = differs mem (difference_from 0 image bytes)
 
--- to compare a memory with an image
 abbrev pub verifying : Part → Mem → List (Option ℕ) → Dialog ⊥ (Result ⊤ HostFault)
 verifying part mem image = operation (read_steps part mem) (comparison mem image)

@@ -6,13 +6,12 @@ use Rattle.stk_frame.specs.declared.command.Command.{Command}
 use Rattle.stk_frame.specs.declared.command.Command.TheVariants.{LoadAddress}
 use Rattle.stk_host.specs.declared.places.TheConstants.{NARROW_FLASH}
 
--- the steps at so many places, from this one on
+-- The steps at `count` places, from this one on.
 abbrev pub each_from : (ℕ → List (List Command)) → ℕ → ℕ → List (List Command)
 each_from steps_at place zero = []
 each_from steps_at place (suc count) = steps_at place ++ each_from steps_at (place + 1) count
 
--- The address of a byte of flash counts words. Flash of more bytes than words of 16 bits can address needs the extended
--- address.
+-- The address of a byte of flash counts words. Flash of more than 131,072 bytes needs the extended address.
 abbrev pub flash_address : Part → ℕ → ℕ
 flash_address part start = if nat_lt NARROW_FLASH part.flash_size then start / 2 + EXTENDED_ADDRESS else start / 2
 

@@ -1,4 +1,4 @@
--- A talk over a link as the play of a dialog: whole, or broken off.
+-- A transcript of a link as the run of a dialog: whole, or broken off.
 use Rattle.std.specs.Prelude.{ℕ, List, [], ◌∷◌, ◌++◌, ◌≡◌, ◌<◌, length, Some, None}
 use Rattle.stk_host.specs.declared.fault.Broken.{Broken}
 use Rattle.stk_host.specs.declared.fault.Broken.TheVariants.{Send, Recv}
@@ -6,37 +6,36 @@ use Rattle.stk_host.specs.Tape.{Tape, on_tape}
 use Rattle.stk_host.specs.Talk.{Talk, LinkView, Sent, Got, sent, heard, Grows}
 use Rattle.stk_host.specs.Dialog.{Dialog, Event, Frame, Said, Played, played, bytes_sent}
 
--- how far a conversation is: the next sequence number, and the bytes that were heard and not read yet
+-- A conversation's state: the next sequence number, and the bytes received and not yet read.
 pub record Position : Type 0 where
   pub next : ℕ
   pub unread : List ℕ
 
--- such a position
 abbrev pub position : ℕ → List ℕ → Position
 position next unread = record { next = next; unread = unread }
 
--- The dialog waits, and its frames are exactly these bytes: so it is due to listen.
+-- The dialog waits, and its frames are exactly these bytes: it is time to listen.
 pub record IsDue {E R : Type 0} (dialog : Dialog E R) (seq : ℕ) (tape : Tape) (bytes : List ℕ) : Type 0 where
   pub waits : (played dialog seq tape).outcome ≡ None
   pub all_sent : bytes_sent (played dialog seq tape).events ≡ bytes
 
--- At each piece heard the dialog, played over all that was heard before, was due to listen.
+-- Before each piece received it was time to listen: the dialog's run over all received so far waits.
 abbrev pub TurnsFrom : {E R : Type 0} → Dialog E R → ℕ → Tape → List ℕ → Talk → Type 0
 TurnsFrom dialog seq tape bytes [] = Unit {0}
 TurnsFrom dialog seq tape bytes (Sent more ∷ talk) = TurnsFrom dialog seq tape (bytes ++ more) talk
 TurnsFrom dialog seq tape bytes (Got items ∷ talk) =
     IsDue dialog seq tape bytes × TurnsFrom dialog seq (tape ++ items) bytes talk
 
--- a talk in turn, from a position on
+-- The dialog sends and listens in turn, from a state on.
 abbrev pub InTurn : {E R : Type 0} → Dialog E R → Position → Talk → Type 0
 InTurn dialog before talk = TurnsFrom dialog before.next (on_tape before.unread) [] talk
 
--- the play of a dialog over what was unread and what a talk heard
+-- The run over the unread bytes and the items received.
 abbrev pub played_over : {E R : Type 0} → Dialog E R → Position → Talk → Played E R
 played_over dialog before talk = played dialog before.next (on_tape before.unread ++ heard talk)
 
--- The talk is the whole play of the dialog over what was unread before it and what it heard: these events happened and
--- no others, and it came to this result at this position, whatever may follow on the tape.
+-- The transcript is the dialog's whole run over the unread bytes and the items received. Exactly these events
+-- happened, with this result and this state after them, whatever follows on the tape.
 pub record Plays {E R : Type 0} (dialog : Dialog E R) (before : Position) (talk : Talk) (events : List (Event E))
     (result : R) (after : Position) : Type 0 where
   pub plays : (more : Tape) → played dialog before.next (on_tape before.unread ++ (heard talk ++ more))
@@ -44,23 +43,22 @@ pub record Plays {E R : Type 0} (dialog : Dialog E R) (before : Position) (talk 
   pub all_sent : bytes_sent events ≡ sent talk
   pub in_turn : InTurn dialog before talk
 
--- these bytes are a prefix of those
 abbrev pub IsPrefixOf : List ℕ → List ℕ → Type 0
 IsPrefixOf prefix bytes = (back : List ℕ) × (prefix ++ back ≡ bytes)
 
--- an event is a part of another: a prefix of its frame, or a part of what is said
+-- A part of an event: a prefix of its frame, or a part of its output.
 abbrev pub IsPartOf : {E : Type 0} → (E → E → Type 0) → Event E → Event E → Type 0
 IsPartOf SaidPart (Frame part) (Frame whole) = IsPrefixOf part whole
 IsPartOf SaidPart (Said part) (Said whole) = SaidPart part whole
 IsPartOf SaidPart _ _ = ⊥
 
--- nothing, or a part of the first of the events
+-- Nothing, or a part of the first event.
 abbrev pub IsBegun : {E : Type 0} → (E → E → Type 0) → List (Event E) → List (Event E) → Type 0
 IsBegun SaidPart [] events = Unit {0}
 IsBegun SaidPart (part ∷ []) (event ∷ events) = IsPartOf SaidPart part event
 IsBegun SaidPart _ _ = ⊥
 
--- some of the events in their order, and perhaps a part of the next one
+-- A prefix of the events, and perhaps a part of the next one.
 pub record IsPrefixOfEvents {E : Type 0} (SaidPart : E → E → Type 0) (shown events : List (Event E)) : Type 0 where
   pub whole : List (Event E)
   pub begun : List (Event E)
@@ -69,15 +67,15 @@ pub record IsPrefixOfEvents {E : Type 0} (SaidPart : E → E → Type 0) (shown 
   pub events_are : events ≡ whole ++ later
   pub part : IsBegun SaidPart begun later
 
--- The talk broke off in the play of the dialog: what happened is a prefix of its events over what was heard.
+-- The run broke off: what happened is a prefix of its events over the items received.
 pub record Breaks {E R : Type 0} (SaidPart : E → E → Type 0) (dialog : Dialog E R) (before : Position) (talk : Talk)
     (shown : List (Event E)) : Type 0 where
   pub prefix : IsPrefixOfEvents SaidPart shown (played_over dialog before talk).events
   pub all_sent : bytes_sent shown ≡ sent talk
   pub in_turn : InTurn dialog before talk
 
--- The talk broke off in a frame: what happened is a prefix of the events over what was heard, up to a frame of which
--- only a part was sent, perhaps nothing.
+-- The run broke off at sending. What happened is a prefix of its events, up to a frame that was sent in part, or not
+-- at all.
 pub record BreaksSending {E R : Type 0} (dialog : Dialog E R) (before : Position) (talk : Talk)
     (shown : List (Event E)) : Type 0 where
   pub whole : List (Event E)
@@ -90,7 +88,7 @@ pub record BreaksSending {E R : Type 0} (dialog : Dialog E R) (before : Position
   pub all_sent : bytes_sent shown ≡ sent talk
   pub in_turn : InTurn dialog before talk
 
--- The talk broke off in listening: the play over what was heard waits, and all its events have happened.
+-- The run broke off at listening: it waits, and all its events happened.
 pub record BreaksListening {E R : Type 0} (dialog : Dialog E R) (before : Position) (talk : Talk)
     (shown : List (Event E)) : Type 0 where
   pub waits : (played_over dialog before talk).outcome ≡ None
@@ -98,16 +96,15 @@ pub record BreaksListening {E R : Type 0} (dialog : Dialog E R) (before : Positi
   pub all_sent : bytes_sent shown ≡ sent talk
   pub in_turn : InTurn dialog before talk
 
--- the talk broke off as the link failed at this
 abbrev pub BreaksBy : {E R : Type 0} → Broken → Dialog E R → Position → Talk → List (Event E) → Type 0
 BreaksBy Send dialog before talk shown = BreaksSending dialog before talk shown
 BreaksBy Recv dialog before talk shown = BreaksListening dialog before talk shown
 
--- where nothing is said beside the line
+-- For dialogs without output events.
 abbrev pub NoPart : ⊥ → ⊥ → Type 0
 NoPart part whole = ⊥
 
--- a call that played a dialog whole, over a link that showed this before and after it
+-- A call that ran a dialog whole, between these states of the link.
 pub record PlaysOver {R : Type 0} (dialog : Dialog ⊥ R) (before : Position) (old new : LinkView) (result : R)
     (after : Position) : Type 0 where
   pub during : Talk
@@ -115,7 +112,7 @@ pub record PlaysOver {R : Type 0} (dialog : Dialog ⊥ R) (before : Position) (o
   pub grows : Grows old.talk during new.talk
   pub plays : Plays dialog before during events result after
 
--- a call that broke off as the link failed at this
+-- A call that broke off because the link failed at this.
 pub record FailsOver {R : Type 0} (broken : Broken) (dialog : Dialog ⊥ R) (before : Position)
     (old new : LinkView) : Type 0 where
   pub during : Talk

@@ -1,13 +1,13 @@
--- How far a call has come in a dialog. (For contracts below a host's calls, and of who sends and listens without a
--- host.)
+-- How far a call has come in a dialog: for contracts of inner calls, and of code that sends and listens without a
+-- host.
 use Rattle.std.specs.Prelude.{ℕ, List, [], ◌∷◌, ◌++◌, ◌+◌, ◌≡◌, ◌<◌, ◌≤◌, length, Some, None, Result, OnOk, OnErr}
 use Rattle.stk_host.specs.Tape.{Tape, Reading, on_tape, answer, limit}
 use Rattle.stk_host.specs.Talk.{Talk, LinkView, Sent, Got, sent, heard, Grows, LinkCounts}
 use Rattle.stk_host.specs.Dialog.{Dialog, Event, played, behind, bytes_sent}
 use Rattle.stk_host.specs.Play.{InTurn, Position}
 
--- A talk leads from one dialog to what is left of it: whatever follows on the tape, the one plays as the other does
--- from there, after these events.
+-- A transcript leads from a dialog to its rest: the dialog's run is these events and then the run of the rest,
+-- whatever follows on the tape.
 pub record TalkLeads {E R : Type 0} (dialog : Dialog E R) (before : Position) (talk : Talk)
     (events : List (Event E)) (rest : Dialog E R) (after : Position) : Type 0 where
   pub goes_on : (more : Tape) → played dialog before.next (on_tape before.unread ++ (heard talk ++ more))
@@ -15,7 +15,7 @@ pub record TalkLeads {E R : Type 0} (dialog : Dialog E R) (before : Position) (t
   pub all_sent : bytes_sent events ≡ sent talk
   pub in_turn : InTurn dialog before talk
 
--- a call has come so far, over a link that showed this before and after it
+-- A call has come this far, between these states of the link.
 pub record Reaches {R : Type 0} (dialog : Dialog ⊥ R) (before : Position) (old : LinkView)
     (rest : Dialog ⊥ R) (after : Position) (new : LinkView) : Type 0 where
   pub during : Talk
@@ -23,20 +23,20 @@ pub record Reaches {R : Type 0} (dialog : Dialog ⊥ R) (before : Position) (old
   pub grows : Grows old.talk during new.talk
   pub leads : TalkLeads dialog before during events rest after
 
--- nothing was heard
+-- Nothing was received.
 abbrev pub IsQuiet : Talk → Type 0
 IsQuiet [] = Unit {0}
 IsQuiet (Sent bytes ∷ talk) = IsQuiet talk
 IsQuiet (Got tape ∷ talk) = ⊥
 
--- these bytes were sent, and nothing was heard
+-- These bytes were sent, and nothing was received.
 pub record Says (bytes : List ℕ) (old new : Talk) : Type 0 where
   pub during : Talk
   pub grows : Grows old during new
   pub quiet : IsQuiet during
   pub bytes_sent : sent during ≡ bytes
 
--- a part of these bytes was sent, and not the whole, and nothing was heard
+-- Only a part of these bytes was sent, perhaps nothing, and nothing was received.
 pub record SaysPart (bytes : List ℕ) (old new : Talk) : Type 0 where
   pub part : List ℕ
   pub unsent : List ℕ
@@ -44,19 +44,19 @@ pub record SaysPart (bytes : List ℕ) (old new : Talk) : Type 0 where
   pub not_whole : 0 < length unsent
   pub says : Says part old new
 
--- a call that sends all of these bytes, or at a fault of the link a part of them
+-- Sends all of these bytes, or a part if the link fails.
 pub record SendsAll {E : Type 0} (bytes : List ℕ) (old new : LinkView) (result : Result (Unit {0}) E) : Type 0 where
   pub ok : OnOk result (Says bytes old.talk new.talk)
   pub err : OnErr result (SaysPart bytes old.talk new.talk)
   pub counts : LinkCounts old new result
 
--- at each piece heard there was no answer yet, and nothing was sent
+-- At each piece received there was no answer yet, and nothing was sent.
 abbrev pub WaitsFrom : ℕ → Tape → Talk → Type 0
 WaitsFrom seq tape [] = Unit {0}
 WaitsFrom seq tape (Sent bytes ∷ talk) = ⊥
 WaitsFrom seq tape (Got items ∷ talk) = (answer seq tape ≡ None) × WaitsFrom seq (tape ++ items) talk
 
--- the answer was listened for, in no more bytes than are read for one
+-- The answer was waited for, within the limit of bytes.
 pub record Hears (seq : ℕ) (unread : List ℕ) (old new : LinkView) (reading : Reading) (left : List ℕ) : Type 0 where
   pub during : Talk
   pub grows : Grows old.talk during new.talk
@@ -65,7 +65,7 @@ pub record Hears (seq : ℕ) (unread : List ℕ) (old new : LinkView) (reading :
   pub answers : (more : Tape) → answer seq (on_tape unread ++ (heard during ++ more))
       ≡ Some (reading, on_tape left ++ more)
 
--- listening for it broke off, and it had not come
+-- The wait broke off before the answer arrived.
 pub record HearsNone (seq : ℕ) (unread : List ℕ) (old new : LinkView) : Type 0 where
   pub during : Talk
   pub grows : Grows old.talk during new.talk

@@ -10,27 +10,23 @@ use Rattle.stk_frame.specs.HostCommands.{read_flash_block, read_eeprom_block, re
 use Rattle.stk_host.specs.Steps.{commands_by}
 use Rattle.stk_host.specs.Places.{each_from, load_flash, load_eeprom}
 
--- how many bytes a step reads: flash and EEPROM are read in blocks, the last of which may be shorter
+-- The bytes that a step reads. The last block of flash or EEPROM may be shorter.
 abbrev pub read_unit : Mem → ℕ
 read_unit Flash = 256
 read_unit Eeprom = 256
 read_unit mem = 1
 
--- how many steps read a memory
 abbrev pub read_count : Part → Mem → ℕ
 read_count part mem = div_ceil (size_of mem part) (read_unit mem)
 
--- the size of the block that begins here
 abbrev pub block_size : ℕ → ℕ → ℕ
 block_size size start = min 256 (size - start)
 
--- the command that loads the address of the block with this number
 abbrev pub load_at : Part → Mem → ℕ → Option Command
 load_at part Flash number = Some (load_flash part (number * 256))
 load_at part Eeprom number = Some (load_eeprom (number * 256))
 load_at part mem number = None
 
--- the command that brings the bytes of the step with this number
 abbrev pub read_at : Part → Mem → ℕ → Command
 read_at part Flash number = read_flash_block (block_size part.flash_size (number * 256))
 read_at part Eeprom number = read_eeprom_block (block_size part.eeprom_size (number * 256))
@@ -41,13 +37,12 @@ read_at part Lock number = read_lock
 read_at part Signature number = read_signature number
 read_at part Calibration number = read_calibration
 
--- the step with this number
 abbrev pub read_step : Part → Mem → ℕ → List (List Command)
 read_step part mem number = commands_by (load_at part mem number) (read_at part mem number) ∷ []
 
 abbrev pub read_steps : Part → Mem → List (List Command)
 read_steps part mem = each_from (read_step part mem) 0 (read_count part mem)
 
--- the signature is read a byte a step
+-- Each step reads one byte of the signature.
 abbrev pub signature_steps : List (List Command)
 signature_steps = (read_signature 0 ∷ []) ∷ (read_signature 1 ∷ []) ∷ (read_signature 2 ∷ []) ∷ []

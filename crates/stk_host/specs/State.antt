@@ -9,12 +9,12 @@ use Rattle.stk_host.specs.declared.fault.HostFault.{HostFault}
 use Rattle.stk_host.specs.declared.fault.HostFault.TheVariants.{LinkEnded, SendFailed, RecvFailed}
 use Rattle.stk_host.specs.Play.{Position}
 
--- a conversation: how far it is, and the last frame or what is held of it
+-- A conversation's state, and the last frame or the part of one that is held.
 pub record ConversationState : Type 0 where
   pub progress : Position
   pub held : List ℕ
 
--- a host: its part, its conversation, and the fault that every further call answers
+-- A host's part, its conversation's state, and its lasting fault.
 pub record HostState : Type 0 where
   pub part : Part
   pub progress : Position
@@ -24,11 +24,11 @@ abbrev pub data_in : Result (List ℕ) FrameFault → List ℕ
 data_in (Ok bytes) = bytes
 data_in (Err fault) = []
 
--- the data of the answer to this command, if this is held
+-- The data of the answer to this command, if this is held.
 abbrev pub data_held : Command → List ℕ → List ℕ
 data_held command held = data_in (judge command (body_of held))
 
--- the fault that a call leaves for all later ones
+-- The fault that every later call returns.
 abbrev pub lasting_fault : {A : Type 0} → Result A HostFault → Option HostFault
 lasting_fault (Ok a) = None
 lasting_fault (Err LinkEnded) = Some LinkEnded

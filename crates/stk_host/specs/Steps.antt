@@ -10,8 +10,8 @@ use Rattle.stk_host.specs.declared.fault.StepFault.TheVariants.{NoAnswer, LinkEn
 use Rattle.stk_host.specs.Tape.{Reading, Answered, Silent, Ended, Babbled}
 use Rattle.stk_host.specs.Dialog.{Dialog, Done, Ask, ◌>>=◌}
 
--- What the answer to a command comes to: its data; a fault after which the commands may be sent again; or one that ends
--- the step.
+-- What follows from an answer: its data, a fault after which the commands are sent again, or a fault that ends the
+-- step.
 pub data Reply : Type 0 where
   Data : List ℕ → Reply
   Again : StepFault → Reply
@@ -30,53 +30,46 @@ reading_reply command Silent = Again NoAnswer
 reading_reply command Babbled = Again Babble
 reading_reply command Ended = Stop LinkEnded
 
--- one command, and what its answer comes to
 unfoldable pub exchange : Command → Dialog ⊥ Reply
 exchange command = Ask (body command) (λ reading. Done (reading_reply command reading))
 
--- goes on with the data, or has come to its end
 abbrev pub with_data : (List ℕ → Dialog ⊥ Reply) → Reply → Dialog ⊥ Reply
 with_data go_on (Data bytes) = go_on bytes
 with_data go_on (Again fault) = Done (Again fault)
 with_data go_on (Stop fault) = Done (Stop fault)
 
--- An attempt: the commands in order, up to the first whose answer brings no data. It comes to all data joined, after
--- those before it, or to what that answer comes to.
+-- Sends the commands in order, up to the first whose answer brings no data. The result is all data joined, or what
+-- that answer led to.
 unfoldable pub attempt : List Command → List ℕ → Dialog ⊥ Reply
 attempt [] data_before = Done (Data data_before)
 attempt (command ∷ commands) data_before =
     exchange command >>= with_data (λ bytes. attempt commands (data_before ++ bytes))
 
--- what a step comes to: its data, or its fault
 abbrev pub StepOutcome : Type 0
 StepOutcome = Result (List ℕ) StepFault
 
--- ends the step, or tries again
 abbrev pub end_or_again : (StepFault → Dialog ⊥ StepOutcome) → Reply → Dialog ⊥ StepOutcome
 end_or_again again (Data bytes) = Done (Ok bytes)
 end_or_again again (Again fault) = again fault
 end_or_again again (Stop fault) = Done (Err fault)
 
--- so many attempts, after one that ended with a fault
+-- This many attempts, after one that ended with `fault`.
 unfoldable pub tries : ℕ → List Command → StepFault → Dialog ⊥ StepOutcome
 tries zero commands fault = Done (Err fault)
 tries (suc more) commands fault = attempt commands [] >>= end_or_again (tries more commands)
 
--- the commands of a step: a last one, and perhaps one before it
 abbrev pub commands_by : Option Command → Command → List Command
 commands_by None last = last ∷ []
 commands_by (Some first) last = first ∷ last ∷ []
 
--- a step has at most four attempts
 abbrev pub step : List Command → Dialog ⊥ StepOutcome
 step commands = tries 4 commands NoAnswer
 
--- goes on with the data, or has come to its end
 abbrev pub if_done : (List ℕ → Dialog ⊥ StepOutcome) → StepOutcome → Dialog ⊥ StepOutcome
 if_done go_on (Ok bytes) = go_on bytes
 if_done go_on (Err fault) = Done (Err fault)
 
--- the steps in order up to the first fault: all data joined, or the fault
+-- The steps in order up to the first fault. The result is all data joined, or the fault.
 unfoldable pub play : List (List Command) → List ℕ → Dialog ⊥ StepOutcome
 play [] data_before = Done (Ok data_before)
 play (commands ∷ steps) data_before = step commands >>= if_done (λ bytes. play steps (data_before ++ bytes))

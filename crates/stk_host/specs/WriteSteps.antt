@@ -10,42 +10,39 @@ use Rattle.stk_frame.specs.declared.host_command.Fuse.TheVariants.{Low, High, Ex
 use Rattle.stk_frame.specs.HostCommands.{program_page, program_eeprom_block, program_fuse, program_lock}
 use Rattle.stk_host.specs.Places.{each_from, load_flash, load_eeprom}
 
--- the image holds a byte in the page that begins here
+-- The image holds a byte in the page that begins here.
 abbrev pub is_used : ℕ → List (Option ℕ) → ℕ → Bool
 is_used page image start = list_any is_some (take page (drop start image))
 
--- to program the whole page of flash that begins here, FF in gaps
+-- Programs the whole page of flash that begins here, with FF in gaps.
 abbrev pub page_step : Part → List (Option ℕ) → ℕ → List Command
 page_step part image start = load_flash part start ∷ program_page (filled_bytes image start part.flash_page) ∷ []
 
--- the step of the page with this number, if the image holds a byte in it
 abbrev pub page_steps : Part → List (Option ℕ) → ℕ → List (List Command)
 page_steps part image number =
     if is_used part.flash_page image (number * part.flash_page)
     then page_step part image (number * part.flash_page) ∷ []
     else []
 
--- The end of the page that an address lies in.
 abbrev pub page_end : ℕ → ℕ → ℕ
 page_end page addr = addr - addr % page + page
 
--- a run of bytes begins at an address that holds one, if a page begins there or the address before holds none
+-- A run begins at a byte of the image, if a page begins there or the address before is a gap.
 abbrev pub begins_run : ℕ → List (Option ℕ) → ℕ → Bool
 begins_run page image addr =
     is_some (byte_at image addr) && (addr % page == 0 || not (is_some (byte_at image (addr - 1))))
 
--- to program the longest run of bytes inside one page that begins here
+-- Programs the longest run of bytes that begins here, within one page.
 abbrev pub run_step : Part → List (Option ℕ) → ℕ → List Command
 run_step part image addr =
     load_eeprom addr ∷ program_eeprom_block
     (filled_bytes image addr (run_end image addr (page_end part.eeprom_page addr) - addr))
     ∷ []
 
--- the step of the run that begins at this address, if one does
 abbrev pub run_steps_at : Part → List (Option ℕ) → ℕ → List (List Command)
 run_steps_at part image addr = if begins_run part.eeprom_page image addr then run_step part image addr ∷ [] else []
 
--- the places of flash are its pages, and those of EEPROM its bytes
+-- The places of flash are its pages, and those of EEPROM its bytes.
 abbrev pub place_count : Part → Mem → ℕ
 place_count part Flash = part.flash_size / part.flash_page
 place_count part mem = part.eeprom_size
@@ -54,12 +51,11 @@ abbrev pub place_steps : Part → Mem → List (Option ℕ) → ℕ → List (Li
 place_steps part Flash image number = page_steps part image number
 place_steps part mem image addr = run_steps_at part image addr
 
--- the step of a memory of one byte, if the image holds it
 abbrev pub byte_steps : (ℕ → Command) → Option ℕ → List (List Command)
 byte_steps program None = []
 byte_steps program (Some byte) = (program byte ∷ []) ∷ []
 
--- pages of flash and runs of EEPROM come in rising order
+-- Pages of flash and runs of EEPROM are in rising order.
 abbrev pub write_steps : Part → Mem → List (Option ℕ) → List (List Command)
 write_steps part Flash image = each_from (page_steps part image) 0 (part.flash_size / part.flash_page)
 write_steps part Eeprom image = each_from (run_steps_at part image) 0 part.eeprom_size

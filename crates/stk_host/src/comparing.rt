@@ -6,7 +6,7 @@ use crate::fault::HostFault;
 use avr_image::Image;
 use avr_part::Mem;
 
-/// Compares the bytes of a memory from an address on with the run of an image that begins there.
+/// Compares a run of an image, which begins at `addr`, with the memory's bytes from there on.
 fn compare_run(mem: Mem, addr: u32, run: &[u8], bytes: &[u8]) -> Result<(), HostFault>
     requires there { length run.now ≤ length bytes.now }
     requires short { addr + length run.now ≤ 2 ^ 32 }
@@ -31,7 +31,7 @@ pub(crate) fn compare(mem: Mem, image: &Image, bytes: &[u8]) -> Result<(), HostF
     requires { length image.now ≤ length bytes.now }
     ensures { result ≡ comparison mem image.now bytes.now }
 {
-    // The memory may go on after the image.
+    // The memory may be larger than the image.
     let found = &bytes[..image.size() as usize];
     for (addr, run) in image.runs() {
         compare_run(mem, addr, run, &found[addr as usize..])?;

@@ -1,4 +1,4 @@
-//! Commands and their answers, attempts, and steps, alone and among those of an operation.
+//! Commands and their answers, attempts, and steps.
 ghost use Rattle.std.specs.Prelude.{◌≡◌, ◌<◌, ◌≤◌, ◌++◌, ◌∷◌, [], length, IsOkAnd, OnOk, IfSome, ◌+◌, vec_capacity};
 ghost use Rattle.stk_frame.specs.Frame.{frame};
 ghost use Rattle.stk_frame.specs.Commands.{body, judge, shape, SizedBy};
@@ -16,16 +16,15 @@ use std::marker::Model;
 use stk_frame::protocol::STATUS_CKSUM_ERROR;
 use stk_frame::{Answer, Command, FrameFault, FrameReader};
 
-/// How many attempts a step has.
 const ATTEMPTS: u8 = 4;
 
-/// What the answer to a command comes to.
+/// What follows from the answer to a command.
 #[derive(Clone, Copy, Drop)]
 pub(crate) enum Reply {
     Data,
     /// The commands may be sent again.
     Again(StepFault),
-    /// The step is at its end.
+    /// The step ends.
     Stop(StepFault),
 }
 
@@ -84,7 +83,7 @@ fn judge_body(command: &Command<'_>, body: &[u8]) -> Reply
     }
 }
 
-/// What this end of listening comes to.
+/// Returns what follows from the way listening ended.
 fn reply_to(reader: &FrameReader, reading: Reading, command: &Command<'_>) -> Reply
     ensures reply { reply_of result (data_held command.now reader.now)
         ≡ reading_reply command.now (reading_of reading reader.now) }
@@ -99,7 +98,6 @@ fn reply_to(reader: &FrameReader, reading: Reading, command: &Command<'_>) -> Re
 }
 
 impl Conversation {
-    /// A conversation in which nothing was said.
     pub(crate) fn new() -> Self
         ensures next { result.progress.next ≡ 1 }
         ensures unread { result.progress.unread ≡ [] }
@@ -111,7 +109,7 @@ impl Conversation {
         }
     }
 
-    /// The data of the last answer, which was to this command.
+    /// Returns the data of the last answer, which was to `command`.
     pub(crate) fn data_read(&self, command: &Command<'_>) -> &[u8]
         ensures { result.now ≡ data_held command.now self.now.held }
     {
@@ -121,7 +119,6 @@ impl Conversation {
         }
     }
 
-    /// Sends a command and reads its answer.
     fn exchange<L: Link>(&mut self, link: &mut L, command: &Command<'_>) -> Result<Reply, Broken>
         requires { FitsFrame command.now }
         ensures replies { GetsReply (exchange command.now) command.now self.old.progress
@@ -141,7 +138,7 @@ impl Conversation {
         Ok(reply_to(&self.reader, reading, command))
     }
 
-    /// Sends the commands one after another, up to the first that brings no data.
+    /// Sends the commands in order, up to the first whose answer brings no data.
     fn attempt<L: Link>(
         &mut self,
         link: &mut L,
@@ -163,8 +160,8 @@ impl Conversation {
         }
     }
 
-    /// Plays a step: at most four attempts at the commands. Only the last one's answer brings data, which
-    /// `data_read` lends then.
+    /// Runs a step: at most four attempts at the commands. Only the last command's answer brings data, which
+    /// `data_read` then lends.
     pub(crate) fn step<L: Link>(
         &mut self,
         link: &mut L,
@@ -179,7 +176,7 @@ impl Conversation {
         ensures sized { OnOk result (SizedBy (shape last.now) (data_held last.now self.new.held)) }
         ensures comes { Stays L.comes_of link.old link.new }
     {
-        // It is returned only after an attempt has replaced it.
+        // Every attempt that doesn't return replaces it.
         let mut fault = StepFault::NoAnswer;
         for _tried in 0..ATTEMPTS {
             match self.attempt(link, first, last) {
@@ -193,7 +190,6 @@ impl Conversation {
     }
 }
 
-/// Puts bytes after those of a vector that has room for them.
 fn append(out: &mut Vec<u8>, bytes: &[u8])
     requires { length out.old.items + length bytes.now ≤ vec_capacity out.old }
     ensures items { out.new.items ≡ out.old.items ++ bytes.now }
@@ -202,7 +198,7 @@ fn append(out: &mut Vec<u8>, bytes: &[u8])
     let _there_is_room = out.extend_from_slice(bytes);
 }
 
-/// Plays a step that brings no data.
+/// Runs a step that brings no data.
 pub(crate) fn play_step<L: Link>(
     conversation: &mut Conversation,
     link: &mut L,
@@ -218,7 +214,7 @@ pub(crate) fn play_step<L: Link>(
     conversation.step(link, first, last)
 }
 
-/// Plays a step and puts its data after those of a vector that has room for them.
+/// Runs a step and appends its data to a vector that has room for them.
 pub(crate) fn read_step<L: Link>(
     conversation: &mut Conversation,
     link: &mut L,

@@ -1,4 +1,4 @@
-//! A link that fails once, at a call that is chosen: for tests of what stands on links.
+//! A link that fails once, at a chosen call: for tests of code that uses links.
 ghost use Rattle.std.specs.Prelude.{◌≡◌, ◌==◌, ◌<◌, ◌≤◌, ◌+◌, ◌-◌, ◌^◌, ◌∷◌, [], ℕ, length, take, min, Err, IfOk, OnOk};
 ghost use Rattle.stk_host.specs.Links.{failing_link_view, CountsCall, FailsAsPlanned};
 ghost use Rattle.ghosts.specs.Stays.{Stays};
@@ -7,11 +7,11 @@ ghost use Rattle.stk_host.specs.Talk.{Sends, Receives, FitsBuffer};
 use crate::link::{Heard, Link, LinkFault};
 use std::marker::Model;
 
-/// A link over another, which fails at one call and cuts what passes into short pieces.
+/// Wraps a link, fails at one call, and cuts what passes into short pieces.
 ///
-/// Calls of `send` and `recv` are counted together from 1. The chosen one answers [`LinkFault::Failed`], is counted as
-/// a failure and changes nothing else; all others go to the inner link, `send` with at most `cut` bytes and `recv` with
-/// a buffer of at most `cut` bytes.
+/// Calls of `send` and `recv` are counted together from 1. The chosen call returns [`LinkFault::Failed`], counts as a
+/// failure and changes nothing else. All other calls go to the inner link: `send` with at most `cut` bytes, `recv`
+/// with a buffer of at most `cut` bytes.
 ///
 /// ```text
 /// let tape = TapeLink::new(alloc, Vec::new(alloc), 281);
@@ -39,7 +39,8 @@ impl<L> Model for FailingLink<L> {
 }
 
 impl<L> FailingLink<L> {
-    /// A link over `inner` whose call number `n`, from 1, fails (0: none), in pieces of at most `cut` bytes.
+    /// Wraps `inner`, in pieces of at most `cut` bytes, so that call `n` fails. Calls are counted from 1; if `n` is
+    /// 0, none fails.
     ///
     /// ```text
     /// let tape = TapeLink::new(alloc, Vec::new(alloc), 281);
@@ -59,7 +60,7 @@ impl<L> FailingLink<L> {
         }
     }
 
-    /// The inner link.
+    /// Returns the inner link.
     ///
     /// ```text
     /// let tape = TapeLink::new(alloc, Vec::new(alloc), 281);
@@ -73,7 +74,7 @@ impl<L> FailingLink<L> {
         &self.inner
     }
 
-    /// Counts a call, and says whether it is the one that fails.
+    /// Counts a call, and returns whether it is the one that fails.
     fn is_due(&mut self) -> bool
         ensures counts { CountsCall self.old self.new result }
         ensures some { 0 < self.new.cut }

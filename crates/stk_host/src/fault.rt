@@ -1,4 +1,4 @@
-//! Why a host could not do what was asked.
+//! Why a call of a host failed.
 ghost use Rattle.std.specs.Prelude.{◌≡◌, option_map};
 ghost use Rattle.stk_host.specs.Calls.{command_named, host_fault_number, status_named};
 ghost use Rattle.stk_host.specs.Operations.{host_fault};
@@ -7,24 +7,24 @@ use avr_part::Mem;
 use std::fmt;
 use thiserror::Error;
 
-/// Why a step failed. [`crate::Host`] reports it as the [`HostFault`] of the same name. It is public for the
-/// definitions of steps, which contracts of other crates cite.
+/// Why a step failed. [`crate::Host`] reports it as the [`HostFault`] of the same name. It is public because
+/// definitions that other crates' contracts cite use it.
 #[derive(Clone, Copy, Debug, Drop, PartialEq, Eq)]
 pub enum StepFault {
-    /// No answer came to the last attempt.
+    /// The last attempt got no answer.
     NoAnswer,
-    /// The line is at its end.
+    /// The link has ended.
     LinkEnded,
-    /// 4,096 bytes came to the last attempt, and no answer was among them.
+    /// The last attempt got 4,096 bytes without an answer.
     Babble,
-    /// The command with this byte was answered with this status.
+    /// The programmer refused this command with this status.
     Refused { command: u8, status: u8 },
-    /// The command with this byte was answered by what is no answer to it.
+    /// The reply to this command is no answer to it.
     BadAnswer(u8),
 }
 
 impl StepFault {
-    /// The fault's number, which no later version changes: that of the [`HostFault`] that it is reported as.
+    /// Returns the number of the [`HostFault`] of the same name, which never changes.
     ///
     /// ```text
     /// assert_eq!(rt; StepFault::NoAnswer.number(), HostFault::NoAnswer.number());
@@ -42,23 +42,23 @@ impl StepFault {
     }
 }
 
-/// What the link could not do. It is public, as [`StepFault`] is, for definitions: of where a call breaks off.
+/// What the link failed to do. It is public for definitions, as [`StepFault`] is.
 #[derive(Clone, Copy, Debug, Drop, PartialEq, Eq)]
 pub enum Broken {
-    /// Send a frame whole.
+    /// Send a whole frame.
     Send,
-    /// Hear the answer to one.
+    /// Receive the answer to one.
     Recv,
 }
 
-/// Why a step stopped: for what was heard, or since the link failed.
+/// Why a step stopped: because of what was received, or because the link failed.
 #[derive(Clone, Copy, Drop)]
 pub(crate) enum Stop {
     Fault(StepFault),
     Link(Broken),
 }
 
-/// Why a host could not do what was asked.
+/// Why a call of a host failed.
 ///
 /// ```text
 /// let fault = HostFault::Differs { mem: Mem::Eeprom, addr: 0x10, want: 0x55, found: 0xFF };
@@ -70,31 +70,31 @@ pub(crate) enum Stop {
 /// ```
 #[derive(Clone, Copy, Drop, PartialEq, Eq, Error)]
 pub enum HostFault {
-    /// No answer came to the last of four attempts.
+    /// The last of four attempts got no answer.
     #[error("no answer")]
     NoAnswer,
-    /// The line is at its end: nothing more can be asked.
+    /// The link has ended.
     #[error("link ended")]
     LinkEnded,
-    /// The link failed at sending: the frames before went out whole, and of the next one a part, perhaps nothing.
+    /// The link failed at sending. The frames before were sent whole, and of this one only a part, perhaps nothing.
     #[error("link cannot be written")]
     SendFailed,
-    /// 4,096 bytes came to the last of four attempts, and no answer was among them.
+    /// The last of four attempts got 4,096 bytes without an answer.
     #[error("no answer in 4096 bytes")]
     Babble,
-    /// The programmer answered the command with this byte with this status (AVR068, "Status constants").
+    /// The programmer refused this command with this status (AVR068, "Status constants").
     #[error("command {command:02X} refused with status {status:02X}")]
     Refused {
         command: u8,
         status: u8,
     },
-    /// The command with this byte was answered by what is no answer to it.
+    /// The reply to this command is no answer to it.
     #[error("command {0:02X}: bad answer")]
     BadAnswer(u8),
-    /// The part has this signature, and not that of the part asked for.
+    /// The signature read from the part, which isn't the wanted one.
     #[error("signature is {:02X} {:02X} {:02X}", .0[0], .0[1], .0[2])]
     WrongSignature([u8; 3]),
-    /// At `addr` the image has the byte `want` and the memory the byte `found`. No lower address differs.
+    /// The lowest byte address at which image and memory differ. The image has `want`, the memory `found`.
     #[error("{}: address {addr:08X}: {want:02X} expected, {found:02X} found", .mem.name())]
     Differs {
         mem: Mem,
@@ -102,19 +102,19 @@ pub enum HostFault {
         want: u8,
         found: u8,
     },
-    /// The memory can't be written: the signature or the calibration.
+    /// The memory can't be written: it is the signature or the calibration.
     #[error("{} is read-only", .0.name())]
     ReadOnly(Mem),
-    /// Memory was refused.
+    /// Allocation failed.
     #[error("out of memory")]
     Memory,
-    /// The link failed at listening, where the answer to a frame that had gone out whole was due.
+    /// The link failed at listening, after a frame was sent whole.
     #[error("link cannot be read")]
     RecvFailed,
 }
 
 impl HostFault {
-    /// The fault's number, which no later version changes.
+    /// Returns the fault's number, which never changes.
     ///
     /// ```text
     /// assert_eq!(rt; HostFault::ReadOnly(Mem::Signature).number(), 9);
@@ -137,8 +137,8 @@ impl HostFault {
         }
     }
 
-    /// AVR068's name of the command that was refused or had a bad answer; None for every other fault, and where the
-    /// name of the byte isn't known.
+    /// Returns AVR068's name of the command that was refused or had a bad answer. Returns `None` for any other fault,
+    /// and if the command byte has no name.
     ///
     /// ```text
     /// let refused = HostFault::Refused { command: 0x12, status: 0xC0 };
@@ -156,8 +156,8 @@ impl HostFault {
         }
     }
 
-    /// AVR068's name of the status that a command was refused with; None for every fault but [`HostFault::Refused`],
-    /// and where the name of the byte isn't known.
+    /// Returns AVR068's name of the status of [`HostFault::Refused`]. Returns `None` for any other fault, and if the
+    /// status byte has no name.
     ///
     /// ```text
     /// let refused = HostFault::Refused { command: 0x12, status: 0xC0 };
@@ -174,7 +174,6 @@ impl HostFault {
     }
 }
 
-/// Shows the message.
 impl fmt::Debug for HostFault {
     fn fmt<W: fmt::Write>(&self, f: &mut fmt::Formatter<W>) -> fmt::Result {
         fmt::Display::fmt(self, f)

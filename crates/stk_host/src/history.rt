@@ -1,4 +1,4 @@
-//! What passed over a line, for proofs alone: it takes no memory, and its methods do nothing at run time.
+//! The transcript of a link, for proofs alone. It takes no memory, and its methods do nothing at run time.
 ghost use Rattle.std.specs.Prelude.{◌≡◌, [], ◌∷◌, ◌++◌, take};
 ghost use Rattle.std.specs.Borrow.{ftrue};
 ghost use Rattle.stk_host.specs.Talk.{Talk, Sent, Got, items_of};
@@ -6,7 +6,7 @@ ghost use Rattle.stk_host.specs.Talk.{Talk, Sent, Got, items_of};
 use crate::link::Heard;
 use std::marker::Model;
 
-/// All that was sent and heard over a line, in its order. Only clauses read it, as `items`.
+/// All pieces sent and received, in order. Only clauses read it, as `items`.
 #[derive(Drop)]
 pub struct History {
     pub ghost items: { Talk },
@@ -17,14 +17,13 @@ impl Model for History {
 }
 
 impl History {
-    /// Nothing has passed.
     pub fn new() -> History
         ensures { result.items ≡ [] }
     {
         History {}
     }
 
-    /// So many of these bytes were sent.
+    /// Adds the first `count` bytes as a piece sent.
     #[inline(always)]
     pub fn sent(&self, bytes: &[u8], count: usize) -> History
         ensures { result.items ≡ self.now.items ++ Sent (take count bytes.now) ∷ [] }
@@ -32,7 +31,7 @@ impl History {
         History {}
     }
 
-    /// This was heard, its bytes at the start of the buffer.
+    /// Adds what was received; its bytes are at the start of the buffer.
     #[inline(always)]
     pub fn heard(&self, heard: &Heard, buffer: &[u8]) -> History
         ensures { result.items ≡ self.now.items ++ Got (items_of heard.now buffer.now) ∷ [] }

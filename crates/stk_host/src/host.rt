@@ -1,4 +1,4 @@
-//! The host: operations over a link, and the fault after which it says nothing more.
+//! The host: operations over a link, and the fault after which nothing more is sent.
 ghost use Rattle.std.specs.Prelude.{◌≡◌, ◌<◌, ◌≤◌, ◌^◌, [], length, Some, None, Ok, Err, OnOk, OnErr, MatchOption};
 ghost use Rattle.avr_part.specs.Part.{size_of};
 ghost use Rattle.stk_host.specs.declared.fault.HostFault.{HostFault};
@@ -20,12 +20,12 @@ use std::alloc::Global;
 use std::fmt;
 use std::marker::Model;
 
-/// The host's side of the STK500v2 protocol: it asks a programmer, over any link, to work on a part.
+/// The host's side of the STK500v2 protocol: asks a programmer, over any link, to work on a part.
 ///
-/// A host keeps one conversation from its first call to its last: the sequence numbers run on, and bytes that were
-/// heard and not read are read by the next call. After [`HostFault::LinkEnded`], [`HostFault::SendFailed`] or
-/// [`HostFault::RecvFailed`] every call answers that fault again, and nothing is sent or heard; after every other fault
-/// the host goes on.
+/// A host keeps one conversation: sequence numbers run on from call to call, and the next call reads the bytes
+/// received and not yet read. [`HostFault::LinkEnded`], [`HostFault::SendFailed`] and [`HostFault::RecvFailed`] are
+/// lasting: every later call returns the same fault, and nothing is sent or received. After any other fault the host
+/// can be used.
 ///
 /// ```text
 /// let part = Parts::none().find("m328p")?;
@@ -82,7 +82,7 @@ fn fault_of(stop: Stop) -> HostFault
     }
 }
 
-/// The signature that was found, if it is the one wanted or `force` takes any.
+/// Returns the signature that was read, if it is `wanted` or `force` is set.
 fn judge_signature(
     wanted: [u8; 3],
     force: bool,
@@ -104,7 +104,6 @@ fn judge_end(ended: Result<(), Stop>) -> Result<(), HostFault>
     ended.map_err(fault_of)
 }
 
-/// Empties the vector after a fault.
 fn clear_on_fault(outcome: &Result<(), HostFault>, out: &mut Vec<u8>)
     ensures { out.new.items ≡ vector_after outcome.now out.old.items }
 {
@@ -113,7 +112,6 @@ fn clear_on_fault(outcome: &Result<(), HostFault>, out: &mut Vec<u8>)
     }
 }
 
-/// What was read, compared with the image.
 fn judge_comparison(
     taken: Result<(), Stop>,
     mem: Mem,
@@ -127,7 +125,7 @@ fn judge_comparison(
     compare(mem, image, found)
 }
 
-/// The fault that a call leaves for all later ones.
+/// Returns the fault that all later calls return, if this outcome leaves one.
 fn lasting<T>(outcome: &Result<T, HostFault>) -> Option<HostFault>
     ensures { result ≡ lasting_fault outcome.now }
 {
@@ -140,7 +138,7 @@ fn lasting<T>(outcome: &Result<T, HostFault>) -> Option<HostFault>
 }
 
 impl Host {
-    /// Returns the fault that lasts, if there was one.
+    /// Returns the lasting fault as an error, if there is one.
     fn check(&self) -> Result<(), HostFault>
         ensures { MatchOption self.now.broken (result ≡ Ok tt) (λ fault. result ≡ Err fault) }
     {
@@ -150,7 +148,7 @@ impl Host {
         }
     }
 
-    /// A host that has said nothing, for work on this part.
+    /// Creates a host for `part`. Nothing is sent yet.
     ///
     /// ```text
     /// let part = Parts::none().find("m328p")?;
@@ -166,11 +164,13 @@ impl Host {
         }
     }
 
-    /// Opens a session: signs on, enters programming mode, and reads the part's signature, which it answers, byte 0
+    /// Opens a session: signs on, enters programming mode, and returns the signature read from the part, byte 0
     /// first.
     ///
-    /// Where the signature is another than the part's the fault is [`HostFault::WrongSignature`], unless `force` takes
-    /// any.
+    /// # Errors
+    ///
+    /// [`HostFault::WrongSignature`] if the signature isn't the part's and `force` is false. Otherwise a fault of a
+    /// step or of the link, or the lasting fault.
     ///
     /// ```text
     /// let part = Parts::none().find("m328p")?;
@@ -192,7 +192,11 @@ impl Host {
         outcome
     }
 
-    /// Erases the chip: flash and lock, and EEPROM too unless the part's EESAVE fuse keeps it.
+    /// Erases the chip: flash and lock, and EEPROM unless the part's EESAVE fuse preserves it.
+    ///
+    /// # Errors
+    ///
+    /// A fault of a step or of the link, or the lasting fault.
     ///
     /// ```text
     /// let part = Parts::none().find("m328p")?;
@@ -212,11 +216,15 @@ impl Host {
         outcome
     }
 
-    /// Writes an image to a memory: whole pages of flash, FF where the image has gaps, and the image's bytes alone
-    /// elsewhere.
+    /// Writes an image to a memory. Flash is written in whole pages, with FF in the image's gaps; of any other memory
+    /// only the image's bytes are written.
     ///
-    /// A memory that can't be written is [`HostFault::ReadOnly`], and nothing is sent. The image is no larger than the
-    /// memory. The call never answers [`HostFault::Memory`].
+    /// The image is no larger than the memory.
+    ///
+    /// # Errors
+    ///
+    /// [`HostFault::ReadOnly`] if the memory can't be written; nothing is sent. Otherwise a fault of a step or of the
+    /// link, or the lasting fault. [`HostFault::Memory`] never occurs.
     ///
     /// ```text
     /// let part = Parts::none().find("m328p")?;
@@ -242,9 +250,12 @@ impl Host {
         outcome
     }
 
-    /// Reads a whole memory. The vector then holds its bytes and nothing else, and nothing at all after a fault.
+    /// Reads a whole memory into the vector, which is emptied first.
     ///
-    /// Its memory is taken before the first frame is sent; where it is refused the fault is [`HostFault::Memory`].
+    /// # Errors
+    ///
+    /// Memory is allocated before the first frame is sent; if that fails, the fault is [`HostFault::Memory`].
+    /// Otherwise it is a fault of a step or of the link, or the lasting fault. After any fault the vector is empty.
     ///
     /// ```text
     /// let part = Parts::none().find("m328p")?;
@@ -260,7 +271,7 @@ impl Host {
         mem: Mem,
         out: &mut Vec<u8>,
     ) -> Result<(), HostFault>
-        // Where memory was refused nothing was sent or heard.
+        // If allocation fails, nothing is sent or received.
         ensures calls { CallsOrLacks (reading self.old.part mem) self.old self.new (L.view link.old) (L.view link.new)
             (given_or_fault out.new.items result) }
         ensures empty { OnErr result (out.new.items ≡ []) }
@@ -281,10 +292,14 @@ impl Host {
         outcome
     }
 
-    /// Reads a whole memory and compares it with an image, no larger than the memory, at the addresses that the image
-    /// holds: the lowest at which they differ is reported as [`HostFault::Differs`].
+    /// Reads a whole memory and compares it with an image, at the addresses that the image holds. The image is no
+    /// larger than the memory.
     ///
-    /// Its memory is taken before the first frame is sent; where it is refused the fault is [`HostFault::Memory`].
+    /// # Errors
+    ///
+    /// [`HostFault::Differs`] at the lowest address that differs. Memory is allocated before the first frame is sent;
+    /// if that fails, the fault is [`HostFault::Memory`]. Otherwise it is a fault of a step or of the link, or the
+    /// lasting fault.
     ///
     /// ```text
     /// let part = Parts::none().find("m328p")?;
@@ -303,7 +318,7 @@ impl Host {
         image: &Image,
     ) -> Result<(), HostFault>
         requires { length image.now ≤ size_of mem self.old.part }
-        // Where memory was refused nothing was sent or heard.
+        // If allocation fails, nothing is sent or received.
         ensures calls { CallsOrLacks (verifying self.old.part mem image.now) self.old self.new
             (L.view link.old) (L.view link.new) result }
         ensures stays { (fault : HostFault) → self.old.broken ≡ Some fault → link.new ≡ link.old }
@@ -321,6 +336,10 @@ impl Host {
     }
 
     /// Closes the session: leaves programming mode.
+    ///
+    /// # Errors
+    ///
+    /// A fault of a step or of the link, or the lasting fault.
     ///
     /// ```text
     /// let part = Parts::none().find("m328p")?;

@@ -15,9 +15,8 @@ use crate::stream_link::StreamLink;
 use crate::tape_link::TapeLink;
 use std::io::{Read, Write};
 
-/// Whatever a programmer answers, and however its answers come, a play of steps, and so a call of a [`crate::Host`],
-/// asks at most four times as often as its steps have commands, and so many frames at most go out: also where the link
-/// fails.
+/// States that a call of a [`crate::Host`] sends at most four frames for each command of its steps. This holds for
+/// every programmer, for every way its answers arrive, and if the link fails.
 pub fn a_call_sends_at_most_four_times_its_commands()
     ensures plays { (steps : List (List Command)) (before : List ℕ) → IsBoundedBy steps (play steps before) }
     ensures opens { (signature : List ℕ) (force : Bool) → IsBoundedBy opening_steps (opening signature force) }
@@ -30,10 +29,10 @@ pub fn a_call_sends_at_most_four_times_its_commands()
     ensures closes { IsBoundedBy closing_steps closing }
 {}
 
-/// Whatever was done with a link over streams, its record is true: of what passed since, the bytes heard are those that
-/// the reader gave, and while nothing has failed the bytes sent are those that the writer took.
+/// States that the record of a stream link is true, whatever was done with the link. The bytes received since
+/// `before` are those that the reader gave. While nothing has failed, the bytes sent are those that the writer took.
 ///
-/// What it asks for is what each call over a [`crate::Link`] promises, and so all that is made of such calls.
+/// Each call over a [`crate::Link`] ensures the required fact, and so does all code made of such calls.
 pub fn a_record_of_streams_is_true<R: Read, W: Write>(
     before: &StreamLink<R, W>,
     after: &StreamLink<R, W>,
@@ -42,10 +41,10 @@ pub fn a_record_of_streams_is_true<R: Read, W: Write>(
     ensures { IsTrueSince R.remaining W.contents before.now after.now }
 {}
 
-/// Whatever was done with a link over a tape, what was heard over it and then what is left are the items that it had,
-/// and after the last of them ends.
+/// States that a tape link gives its own items, whatever was done with it. The items received and then those left are
+/// the items it had; after the last come only ends.
 ///
-/// What it asks for is what each call over a [`crate::Link`] promises, and so all that is made of such calls.
+/// Each call over a [`crate::Link`] ensures the required fact, and so does all code made of such calls.
 pub fn a_tape_gives_its_own_items(before: &TapeLink, after: &TapeLink)
     requires { Stays IsOfTape before.now after.now }
     ensures { IsOfTape before.now after.now }

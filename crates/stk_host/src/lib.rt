@@ -1,8 +1,7 @@
 //! The host's side of the STK500 protocol, version 2 (Atmel AVR068), as AVRDUDE speaks it with `-c stk500v2`.
 //!
-//! The one idea: an operation is a dialog of commands and of what their answers come to, and a call of [`Host`] is the
-//! play of its dialog over the tape of all that was heard: these frames and no others, whatever the pieces that it came
-//! in.
+//! An operation is a dialog: commands, and what follows from their answers. A call of [`Host`] runs its dialog over
+//! the tape of all items received. It sends exactly the dialog's frames, however the link cuts the bytes.
 //!
 //!     let mut link = StreamLink::new(reader, writer);
 //!     let mut host = Host::new(&part);
@@ -11,7 +10,7 @@
 //!     host.close(&mut link)?;
 #![tactic(auto)]
 
-// the line, and lines over a tape, over streams and for tests
+// links
 mod failing_link;
 mod history;
 mod link;
@@ -19,13 +18,13 @@ mod log;
 mod stream_link;
 mod tape_link;
 mod watched_link;
-// a frame goes out, and its answer is listened for
+// waiting for an answer
 mod listen;
 // commands, attempts and steps
 mod conversation;
 mod fault;
 mod places;
-// the steps of the operations, and the operations
+// operations
 mod comparing;
 mod host;
 mod opening;

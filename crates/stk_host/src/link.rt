@@ -1,4 +1,4 @@
-//! The line between the host and a programmer.
+//! The link between the host and a programmer.
 ghost use Rattle.std.specs.Prelude.{◌≡◌, ◌<◌, length, ◌≤◌, ℕ, OnOk, OnErr};
 ghost use Rattle.ghosts.specs.Stays.{Stays};
 ghost use Rattle.stk_host.specs.Talk.{LinkView, Sends, Receives};
@@ -6,7 +6,7 @@ ghost use Rattle.stk_host.specs.Reach.{SendsAll};
 
 use thiserror::Error;
 
-/// Why a link could not do what was asked.
+/// Why a link failed.
 ///
 /// ```text
 /// let tape = TapeLink::new(alloc, Vec::new(alloc), 281);
@@ -15,13 +15,13 @@ use thiserror::Error;
 /// ```
 #[derive(Clone, Copy, Debug, Drop, PartialEq, Eq, Error)]
 pub enum LinkFault {
-    /// The device failed, or memory for what a link keeps was refused. The link has counted it.
+    /// The device failed, or memory for what a link keeps could not be allocated. The link has counted the failure.
     #[error("the link failed")]
     Failed,
 }
 
 impl LinkFault {
-    /// The fault's number, which no later version changes.
+    /// Returns the fault's number, which never changes.
     ///
     /// ```text
     /// assert_eq!(rt; LinkFault::Failed.number(), 1);
@@ -35,7 +35,7 @@ impl LinkFault {
     }
 }
 
-/// What one call of [`Link::recv`] heard.
+/// What one call of [`Link::recv`] received.
 ///
 /// ```text
 /// let mut tape = Vec::new(alloc);
@@ -49,11 +49,11 @@ impl LinkFault {
 /// ```
 #[derive(Clone, Copy, Debug, PartialEq, Eq)]
 pub enum Heard {
-    /// So many bytes, from 1 to the buffer's length, which stand at the buffer's start.
+    /// This many bytes, from 1 to the buffer's length, at the buffer's start.
     Bytes(usize),
-    /// Nothing came for as long as the link waits.
+    /// A timeout: nothing arrived for as long as the link waits.
     Silence,
-    /// Nothing will come any more.
+    /// The link has ended.
     End,
 }
 
@@ -72,49 +72,60 @@ pub enum Heard {
 pub enum Item {
     /// A byte.
     Byte(u8),
-    /// Nothing came for as long as the link waits.
+    /// A timeout: nothing arrived for as long as the link waits.
     Silence,
-    /// Nothing will come any more.
+    /// The link has ended.
     End,
 }
 
-/// A line to a programmer: a device that takes bytes, and gives bytes, silences and an end.
+/// A link to a programmer: a device that takes bytes, and gives bytes, timeouts and an end.
 ///
-/// Contracts see all that passed, as one list of the pieces sent and heard in their order, and how often the link has
-/// failed, at most 2^64 - 1. A fault is answered only where that count rose or stands at this end, and no call that
-/// answers none raises it, but for a `send` that took none of some bytes.
+/// Contracts see two things: the transcript, which lists the pieces sent and received in order, and the count of
+/// failures, which stops at 2^64 - 1. A call returns a fault only if the link has failed. A call that succeeds leaves
+/// the count, unless `send` took none of some bytes.
 ///
-/// For a device of one's own write an `impl Link`: `examples/library/a_link_of_ones_own.rs` is one whole.
+/// To connect your own device, write an `impl Link`: `examples/library/a_link_of_ones_own.rs` is a whole one.
 pub trait Link {
-    /// What was sent and heard, which a link may keep for proofs alone, and how often the link has failed.
+    /// The transcript and the count of failures. A link may keep the transcript for proofs alone.
     ghost view: { Self → LinkView };
 
-    /// What a link may begin with, where that tells what it does later on: for a wire its programmer and its fates.
+    /// The state a link may start from, if that state determines what the link does later: for a wire, its programmer
+    /// and its fates.
     ghost Start: { Type 0 };
 
-    /// The link has begun so, and is what it became of that. Whatever is sent and heard, it stays so.
+    /// This link came from this start. Every call keeps this true.
     ghost comes_of: { Start → Self → Type 0 };
 
-    /// Sends the bytes or a prefix of them, and says how many.
+    /// Sends a prefix of the bytes, and returns how many.
     ///
-    /// It is 0 for bytes that aren't none only where the link has failed. After a fault no byte counts as sent: a link
-    /// that keeps what passed has passed nothing, and one that doesn't may have passed a prefix of them.
+    /// It returns 0 for a nonempty slice only if the link has failed. After a fault no byte counts as sent: a link
+    /// that records its transcript has sent nothing, and any other may have sent a prefix.
+    ///
+    /// # Errors
+    ///
+    /// [`LinkFault::Failed`] if the link has failed.
     fn send(&mut self, bytes: &[u8]) -> Result<usize, LinkFault>
         ensures sends { Sends bytes.now (view self.old) (view self.new) result }
         ensures comes { Stays comes_of self.old self.new };
 
-    /// Listens: for at least one byte and as many as the buffer holds, a silence or the end.
+    /// Receives at least one byte and at most as many as the buffer holds, or a timeout, or the end.
     ///
-    /// The buffer isn't empty. After a fault nothing was heard.
+    /// The buffer must not be empty.
+    ///
+    /// # Errors
+    ///
+    /// [`LinkFault::Failed`] if the link has failed. Nothing was received.
     fn recv(&mut self, buffer: &mut [u8]) -> Result<Heard, LinkFault>
         requires { 0 < length buffer.old }
         ensures receives { Receives buffer.new (view self.old) (view self.new) result }
         ensures comes { Stays comes_of self.old self.new };
 }
 
-/// Sends all of the bytes, in as many pieces as the link takes them.
+/// Sends all of the bytes, in as many calls of [`Link::send`] as the link needs. Nothing is sent twice.
 ///
-/// A link that takes none of them has failed; nothing is sent twice.
+/// # Errors
+///
+/// [`LinkFault::Failed`] if the link fails or takes no byte. A part of the bytes may have been sent, but not all.
 ///
 /// ```text
 /// let mut link = TapeLink::new(alloc, Vec::new(alloc), 2);

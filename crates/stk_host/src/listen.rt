@@ -1,4 +1,4 @@
-//! Listening for an answer, and the bytes that were heard and not read yet.
+//! Waits for an answer, and keeps the bytes received and not yet read.
 ghost use Rattle.std.specs.Prelude.{◌≡◌, ◌<◌, ◌≤◌, ◌↔◌, IsTrue, ℕ, length, take, drop, [], ◌∷◌, ◌++◌, OnOk, List, true, false, None};
 ghost use Rattle.ghosts.specs.Stays.{Stays};
 ghost use Rattle.stk_host.specs.Calls.{HearsNext, HearsAnswer};
@@ -10,7 +10,7 @@ use crate::link::{Heard, Link, LinkFault};
 use std::marker::Model;
 use stk_frame::{Event, FrameReader, LARGEST_FRAME};
 
-/// The rest of a piece that was heard.
+/// The bytes received and not yet read.
 #[derive(Drop)]
 pub(crate) struct Unread {
     piece: [u8; LARGEST_FRAME],
@@ -30,7 +30,7 @@ impl Model for Unread {
 }
 
 impl Unread {
-    /// Nothing.
+    /// Creates an empty buffer.
     pub(crate) fn new() -> Self
         ensures { result ≡ [] }
     {
@@ -41,21 +41,19 @@ impl Unread {
         }
     }
 
-    /// Whether everything was read.
     pub(crate) fn is_empty(&self) -> bool
         ensures { IsTrue result ↔ (length self.now ≡ 0) }
     {
         self.start == self.end
     }
 
-    /// How many they are.
     pub(crate) fn len(&self) -> usize
         ensures { result ≡ length self.now }
     {
         self.end - self.start
     }
 
-    /// The first bytes, at most so many.
+    /// Returns the first `most` bytes, or all if there are fewer.
     pub(crate) fn prefix(&self, most: usize) -> &[u8]
         ensures { result.now ≡ take most self.now }
     {
@@ -63,7 +61,7 @@ impl Unread {
         &self.piece[self.start..self.start + size]
     }
 
-    /// So many bytes were read.
+    /// Marks the next `count` bytes as read.
     pub(crate) fn consume(&mut self, count: usize)
         requires { count ≤ length self.old }
         ensures left { self.new ≡ drop count self.old }
@@ -72,7 +70,7 @@ impl Unread {
         self.start += count;
     }
 
-    /// Listens for the next piece, of at most so many bytes.
+    /// Receives the next piece, of at most `most` bytes.
     pub(crate) fn hear<L: Link>(&mut self, link: &mut L, most: usize) -> Result<Heard, LinkFault>
         requires empty { length self.old ≡ 0 }
         requires room { 0 < most }
@@ -90,10 +88,9 @@ impl Unread {
     }
 }
 
-/// How many bytes are read for one answer. [`crate::HostFault::Babble`] names the number in its message.
+/// The most bytes read for one answer. The message of [`crate::HostFault::Babble`] names this number.
 const MOST_BYTES_PER_ANSWER: usize = 4096;
 
-/// How listening ended.
 #[derive(Clone, Copy)]
 pub(crate) enum Reading {
     /// The reader holds the answer.
@@ -103,7 +100,7 @@ pub(crate) enum Reading {
     Babbled,
 }
 
-/// Reads unread bytes, at most so many, up to the end of a frame.
+/// Reads at most `most` unread bytes, up to the end of a frame, and returns how many.
 fn read_on(reader: &mut FrameReader, unread: &mut Unread, most: usize) -> (usize, Event)
     requires some { 0 < length unread.old }
     requires room { 0 < most }
@@ -119,7 +116,7 @@ fn read_on(reader: &mut FrameReader, unread: &mut Unread, most: usize) -> (usize
     (used, event)
 }
 
-/// Whether the event tells of the answer to the frame of this sequence.
+/// Returns whether the reader holds the answer to the frame numbered `seq`.
 fn is_answer(reader: &FrameReader, event: Event, seq: u8) -> bool
     requires { TellsEvent event reader.now }
     ensures yes { result ≡ true → (event ≡ Event.Frame) × HoldsFrame reader.now × (is_answer seq reader.now ≡ true) }
@@ -131,8 +128,8 @@ fn is_answer(reader: &FrameReader, event: Event, seq: u8) -> bool
     }
 }
 
-/// Listens for the answer to the frame of this sequence, from a fresh start. With what was unread it hears at most
-/// 4,096 bytes.
+/// Waits for the answer to the frame numbered `seq`, and drops any part of a frame the reader holds. It reads at most
+/// 4,096 bytes, the unread ones included.
 pub(crate) fn listen<L: Link>(
     reader: &mut FrameReader,
     unread: &mut Unread,

@@ -1,4 +1,4 @@
-//! A talk that is kept.
+//! A transcript that is kept.
 ghost use Rattle.std.specs.Prelude.{◌≡◌, ◌<◌, ◌≤◌, ◌++◌, ◌∷◌, [], length, OnOk, OnErr};
 ghost use Rattle.stk_host.specs.declared.link.Item.TheVariants as item;
 ghost use Rattle.stk_host.specs.Tape.{on_tape, bytes_of};
@@ -8,7 +8,7 @@ use crate::link::Heard;
 use std::alloc::{AllocError, Global};
 use std::marker::Model;
 
-/// What passed, but for its bytes.
+/// A piece that passed, without its bytes.
 #[derive(Clone, Copy)]
 pub enum Mark {
     Sent(usize),
@@ -17,9 +17,9 @@ pub enum Mark {
     End,
 }
 
-/// All that was sent and heard over a link, in its order.
+/// The transcript of a link: all pieces sent and received, in order.
 ///
-/// Contracts see what passed as one list of pieces, and the room that [`Log::reserve`] has made.
+/// Contracts see the list of pieces, and the room that [`Log::reserve`] has made.
 #[derive(Drop)]
 pub struct Log {
     marks: Vec<Mark>,
@@ -40,7 +40,7 @@ impl Model for Log {
 }
 
 impl Log {
-    /// Nothing has passed.
+    /// Creates an empty transcript.
     pub fn new(alloc: Global) -> Self
         ensures { result.talk ≡ [] }
     {
@@ -51,22 +51,21 @@ impl Log {
         }
     }
 
-    /// The bytes sent.
+    /// Returns the bytes sent.
     pub fn sent(&self) -> &[u8]
         ensures { result.now ≡ talk.sent self.now.talk }
     {
         self.out.as_slice()
     }
 
-    /// The bytes heard.
+    /// Returns the bytes received.
     pub fn heard(&self) -> &[u8]
         ensures { result.now ≡ bytes_of (talk.heard self.now.talk) }
     {
         self.back.as_slice()
     }
 
-    /// Makes room for one piece more, of at most so many bytes if it is sent. Where memory is refused nothing has
-    /// passed.
+    /// Makes room for one more piece of at most `count` bytes sent. The transcript stays, also if allocation fails.
     pub fn reserve(&mut self, count: usize) -> Result<(), AllocError>
         ensures talk { self.new.talk ≡ self.old.talk }
         ensures piece { OnOk result (0 < self.new.piece_room) }
@@ -77,7 +76,7 @@ impl Log {
         Ok(())
     }
 
-    /// These bytes were sent. There is room for them.
+    /// Adds these bytes as sent. There is room for them.
     pub fn say(&mut self, bytes: &[u8])
         requires piece { 0 < self.old.piece_room }
         requires bytes { length bytes.now ≤ self.old.byte_room }
@@ -113,7 +112,7 @@ impl Log {
         Ok(())
     }
 
-    /// This was heard, its bytes at the start of the buffer. Where memory is refused nothing has passed.
+    /// Adds what was received; its bytes are at the start of the buffer. If allocation fails, the transcript stays.
     pub fn hear(&mut self, heard: Heard, buffer: &[u8]) -> Result<(), AllocError>
         requires { talk.FitsBuffer heard (length buffer.now) }
         ensures ok { OnOk result (self.new.talk ≡ self.old.talk ++ talk.Got (talk.items_of heard buffer.now) ∷ []) }

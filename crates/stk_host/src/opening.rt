@@ -39,7 +39,6 @@ pub(crate) fn begin<L: Link>(conversation: &mut Conversation, link: &mut L) -> R
     Ok([first, second, third])
 }
 
-/// Leaves programming mode.
 pub(crate) fn end<L: Link>(conversation: &mut Conversation, link: &mut L) -> Result<(), Stop>
     ensures asks { AsksLink (EndsSteps (step (leave ∷ [])) (λ done. [])) conversation.old.progress
         (L.view link.old) (L.view link.new) result conversation.new.progress }

@@ -8,10 +8,10 @@ use avr_part::{Mem, Part};
 use stk_frame::Command;
 use stk_frame::protocol::EXTENDED_ADDRESS;
 
-/// How many bytes of flash words of 16 bits can address.
+/// The bytes of flash that 16-bit word addresses reach.
 const NARROW_FLASH: u32 = 131_072;
 
-/// How many bytes of a memory are written at once.
+/// Returns how many bytes of a memory are written at once.
 pub(crate) fn page_size(part: &Part, mem: Mem) -> u32
     ensures value { result ≡ page_of mem part.now }
     ensures some { 0 < result }
@@ -21,7 +21,7 @@ pub(crate) fn page_size(part: &Part, mem: Mem) -> u32
     part.page_of(mem)
 }
 
-/// The word address of a byte of flash.
+/// Returns the word address of a byte of flash.
 fn flash_address(part: &Part, start: u32) -> u32
     requires { start < 2 ^ 20 }
     ensures { result ≡ flash_address part.now start }
@@ -33,7 +33,6 @@ fn flash_address(part: &Part, start: u32) -> u32
     }
 }
 
-/// Loads the address of a byte of flash.
 pub(crate) fn load_flash<'a>(part: &Part, start: u32) -> Command<'a>
     requires { start < 2 ^ 20 }
     ensures value { result ≡ load_flash part.now start }
@@ -44,7 +43,6 @@ pub(crate) fn load_flash<'a>(part: &Part, start: u32) -> Command<'a>
     }
 }
 
-/// Loads the address of a byte of EEPROM.
 pub(crate) fn load_eeprom<'a>(start: u32) -> Command<'a>
     ensures value { result ≡ load_eeprom start }
     ensures quiet { BringsNoData result }

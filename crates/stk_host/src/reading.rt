@@ -14,10 +14,10 @@ use crate::places::{load_eeprom, load_flash};
 use avr_part::{Mem, Part};
 use stk_frame::{Command, Fuse};
 
-/// How many bytes are read at once.
+/// The bytes that one command reads.
 const BLOCK: u32 = 256;
 
-/// Returns how many bytes a step reads at most.
+/// Returns the most bytes that a step reads.
 fn read_unit(mem: Mem) -> u32
     ensures value { result ≡ read_unit mem }
     ensures some { 0 < result }
@@ -36,7 +36,7 @@ fn read_count(part: &Part, mem: Mem) -> u32
     part.size_of(mem).div_ceil(read_unit(mem))
 }
 
-/// Returns the command that loads the address of the block with this number, if the memory is read in blocks.
+/// Returns the command that loads the address of block `number`, if the memory is read in blocks.
 fn load_at<'a>(part: &Part, mem: Mem, number: u32) -> Option<Command<'a>>
     requires { number < 1024 }
     ensures value { result ≡ load_at part.now mem number }
@@ -49,7 +49,6 @@ fn load_at<'a>(part: &Part, mem: Mem, number: u32) -> Option<Command<'a>>
     }
 }
 
-/// Returns how many bytes the block of this number has.
 fn block_size(size: u32, number: u32) -> u16
     requires few { number < 1024 }
     ensures { result ≡ block_size size (number * 256) }
@@ -57,7 +56,7 @@ fn block_size(size: u32, number: u32) -> u16
     BLOCK.min(size.saturating_sub(number * BLOCK)) as u16
 }
 
-/// Returns the command of the step of this number that brings its bytes.
+/// Returns the command that reads the bytes of step `number`.
 fn read_at<'a>(part: &Part, mem: Mem, number: u32) -> Command<'a>
     requires few { number < 1024 }
     requires within { number < read_count part.now mem }
@@ -77,7 +76,7 @@ fn read_at<'a>(part: &Part, mem: Mem, number: u32) -> Command<'a>
     }
 }
 
-/// Reads a whole memory into a vector that is empty and has room for it.
+/// Reads a whole memory into an empty vector that has room for it.
 pub(crate) fn read_memory<L: Link>(
     conversation: &mut Conversation,
     link: &mut L,

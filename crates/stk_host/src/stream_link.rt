@@ -16,11 +16,11 @@ use std::io::{ErrorKind, Read, Write};
 use std::marker::Model;
 use std::{fmt, io};
 
-/// A link over a reader and a writer, as standard input and output or the two sides of a socket.
+/// A link over a reader and a writer, such as standard input and output or the two sides of a socket.
 ///
-/// What passed is kept for proofs alone, and takes no memory. A read that timed out or would block is a silence, and a
-/// read of no bytes is the end; a call that was interrupted is made again. Every other fault of a read, a write or a
-/// flush, and a write of no bytes, is a failure. Each piece sent is flushed.
+/// A read that times out or would block is a timeout, and a read of 0 bytes is the end. An interrupted call is
+/// retried. Any other error of a read, write or flush is a failure, and so is a write of 0 bytes. Each piece sent is
+/// flushed. The transcript is kept for proofs alone, and takes no memory.
 ///
 /// ```text
 /// let mut link = StreamLink::new(b"".as_slice(), Vec::new(alloc));
@@ -53,7 +53,7 @@ impl<R, W> Model for StreamLink<R, W> {
     } };
 }
 
-/// Writes a prefix of the bytes, at least one where there is one, and flushes.
+/// Writes a prefix of the bytes, at least one unless they are empty, and flushes.
 fn put_bytes<W: Outlet>(writer: &mut W, bytes: &[u8]) -> io::Result<usize>
     ensures within { IfOk result (λ n. n ≤ length bytes.now) }
     ensures some { IfOk result (λ n. 0 < length bytes.now → 0 < n) }
@@ -66,7 +66,6 @@ fn put_bytes<W: Outlet>(writer: &mut W, bytes: &[u8]) -> io::Result<usize>
     Ok(count)
 }
 
-/// Listens to a reader.
 fn hear_bytes<R: Inlet>(reader: &mut R, buffer: &mut [u8]) -> io::Result<Heard>
     requires { 0 < length buffer.old }
     ensures within { IfOk result (λ heard. FitsBuffer heard (length buffer.new)) }
@@ -86,7 +85,7 @@ fn hear_bytes<R: Inlet>(reader: &mut R, buffer: &mut [u8]) -> io::Result<Heard>
 }
 
 impl<R, W> StreamLink<R, W> {
-    /// A link that hears what the reader gives and sends what the writer takes.
+    /// Creates a link that receives from the reader and sends to the writer.
     ///
     /// ```text
     /// let mut link = StreamLink::new(b"\x1B".as_slice(), Vec::new(alloc));
@@ -106,7 +105,7 @@ impl<R, W> StreamLink<R, W> {
         }
     }
 
-    /// How many calls have failed so far.
+    /// Returns how many calls have failed so far.
     ///
     /// ```text
     /// let link = StreamLink::new(b"".as_slice(), Vec::<u8>::new(alloc));
@@ -118,9 +117,11 @@ impl<R, W> StreamLink<R, W> {
         self.failures
     }
 
-    /// The kind of the error for which the last call failed that did: that of the reader, of the writer or of its flush
-    /// (`BrokenPipe`: nobody reads any more), or `WriteZero` where the writer took no byte. None while no call has
-    /// failed; a call that succeeds leaves it. A silence and an end are no failures.
+    /// Returns the error kind of the last call that failed: that of the reader, of the writer or of its flush.
+    /// `BrokenPipe` means that the other side has closed, and `WriteZero` that the writer took no byte.
+    ///
+    /// Returns `None` while no call has failed. A call that succeeds leaves the kind. Timeouts and the end are no
+    /// failures.
     ///
     /// ```text
     /// let mut room = [0; 1];
@@ -136,7 +137,7 @@ impl<R, W> StreamLink<R, W> {
         self.last_error
     }
 
-    /// The reader and the writer, as the calls so far have left them.
+    /// Returns the reader and the writer, as the calls so far have left them.
     ///
     /// ```text
     /// let mut link = StreamLink::new(b"".as_slice(), Vec::new(alloc));
@@ -163,16 +164,16 @@ impl<R: Inlet + Drop, W: Outlet + Drop> Link for StreamLink<R, W> {
     fn send(&mut self, bytes: &[u8]) -> Result<usize, LinkFault>
         ensures sends { Sends bytes.now (stream_view self.old) (stream_view self.new) result }
         ensures comes { Stays (IsTrueSince R.remaining W.contents) self.old self.new }
-        // The writer took the bytes that are said to be sent, or at a failure a prefix of them.
+        // The writer took the bytes reported as sent, or on failure a prefix of them.
         ensures written { IfOk result (λ n. Appends (W.contents self.old.writer) (W.contents self.new.writer)
             (take n bytes.now)) }
         ensures broken { OnErr result (AppendsPrefix (W.contents self.old.writer) (W.contents self.new.writer)
             bytes.now) }
-        // Bytes that are said to be sent were flushed.
+        // Bytes reported as sent were flushed.
         ensures out { OnOk result (W.is_out self.new.writer) }
         ensures reader { self.new.reader ≡ self.old.reader }
         ensures sound { OnOk result (self.new.failures ≡ self.old.failures) }
-        // A failure has an error, and a success leaves the last one.
+        // A failure records an error kind, and a success leaves the last one.
         ensures fault { OnErr result (IsSome self.new.last_error) }
         ensures leaves { OnOk result (self.new.last_error ≡ self.old.last_error) }
     {
@@ -193,14 +194,14 @@ impl<R: Inlet + Drop, W: Outlet + Drop> Link for StreamLink<R, W> {
         requires { 0 < length buffer.old }
         ensures receives { Receives buffer.new (stream_view self.old) (stream_view self.new) result }
         ensures comes { Stays (IsTrueSince R.remaining W.contents) self.old self.new }
-        // The bytes heard are the reader's next ones, none is lost, and an end comes only after the last.
+        // The bytes received are the reader's next ones, none is lost, and an end comes only after the last.
         ensures read { IfOk result (λ heard. HearsKnown heard buffer.new (R.remaining self.old.reader)
             (R.remaining self.new.reader)) }
-        // It was silent only where a read timed out.
+        // A timeout comes only if a read timed out or would block.
         ensures silent { IfOk result (λ heard. heard ≡ Silence → R.is_silent self.new.reader) }
         ensures kept { OnErr result (Keeps (R.remaining self.old.reader) (R.remaining self.new.reader)) }
         ensures writer { self.new.writer ≡ self.old.writer }
-        // A failure has an error, which is no silence, and a success leaves the last one.
+        // The error kind of a failure is no timeout.
         ensures fault { OnErr result (IsOfListening self.new.last_error) }
         ensures leaves { OnOk result (self.new.last_error ≡ self.old.last_error) }
     {
@@ -218,7 +219,7 @@ impl<R: Inlet + Drop, W: Outlet + Drop> Link for StreamLink<R, W> {
     }
 }
 
-/// Shows how often the link has failed and for which error last, and neither the reader nor the writer.
+/// Shows the failures and the last error kind, but neither the reader nor the writer.
 impl<R, W> fmt::Debug for StreamLink<R, W> {
     fn fmt<F: fmt::Write>(&self, f: &mut fmt::Formatter<F>) -> fmt::Result {
         f.debug_struct("StreamLink")

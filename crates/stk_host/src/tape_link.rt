@@ -12,10 +12,10 @@ use std::alloc::Global;
 use std::fmt;
 use std::marker::Model;
 
-/// A link that gives the items of a tape in their order, and keeps what passed.
+/// A link that gives the items of a tape in order, and keeps the transcript.
 ///
-/// A call of `send` takes, and one of `recv` gives, at most `cut` bytes. A silence or an end comes alone; after the
-/// last item every call of `recv` gives an end. The link fails only where memory for what passed was refused.
+/// `send` takes at most `cut` bytes, and `recv` gives at most `cut`. A timeout or an end comes alone. After the last
+/// item every `recv` gives an end. The link fails only if allocation for the transcript fails.
 ///
 /// ```text
 /// let mut link = TapeLink::new(alloc, vec![in alloc; Item::Silence; 1]?, 281);
@@ -49,7 +49,7 @@ impl Model for TapeLink {
     ghost invariant = { λ link. (0 < link.cut) × (link.at ≤ length link.items.items) };
 }
 
-/// The byte at a place of a tape, if a byte stands there.
+/// Returns the byte at a place of a tape, if that item is a byte.
 fn byte_at(tape: &[Item], place: usize) -> Option<u8>
     ensures { result ≡ byte_of (slice_get tape.now place) }
 {
@@ -59,7 +59,7 @@ fn byte_at(tape: &[Item], place: usize) -> Option<u8>
     }
 }
 
-/// Copies the bytes in front of a tape, as many as the buffer holds, and says how many.
+/// Copies the bytes at the front of a tape, as many as the buffer holds, and returns how many.
 fn copy_bytes(tape: &[Item], buffer: &mut [u8]) -> usize
     ensures within { result ≤ length buffer.new }
     ensures bytes { take result buffer.new ≡ take (length buffer.new) (bytes_in tape.now) }
@@ -75,7 +75,7 @@ fn copy_bytes(tape: &[Item], buffer: &mut [u8]) -> usize
     count
 }
 
-/// Gives the next piece of a tape, its bytes at the start of the buffer.
+/// Gives the next piece of a tape; its bytes are at the start of the buffer.
 fn give_piece(tape: &[Item], buffer: &mut [u8]) -> Heard
     requires { 0 < length buffer.old }
     ensures within { FitsBuffer result (length buffer.new) }
@@ -88,7 +88,6 @@ fn give_piece(tape: &[Item], buffer: &mut [u8]) -> Heard
     }
 }
 
-/// How many items a piece has.
 fn item_count(heard: Heard) -> usize
     ensures { (buffer : List ℕ) → FitsBuffer heard (length buffer) → result ≡ length (items_of heard buffer) }
 {
@@ -99,7 +98,7 @@ fn item_count(heard: Heard) -> usize
 }
 
 impl TapeLink {
-    /// A link over these items, in pieces of at most `cut` bytes.
+    /// Creates a link over these items, in pieces of at most `cut` bytes.
     ///
     /// ```text
     /// let mut tape = Vec::new(alloc);
@@ -122,7 +121,7 @@ impl TapeLink {
         }
     }
 
-    /// The bytes sent.
+    /// Returns the bytes sent.
     ///
     /// ```text
     /// let mut link = TapeLink::new(alloc, Vec::new(alloc), 281);
@@ -135,7 +134,6 @@ impl TapeLink {
         self.log.sent()
     }
 
-    /// Gives the next piece of the tape.
     fn give(&mut self, buffer: &mut [u8]) -> Result<Heard, LinkFault>
         requires { 0 < length buffer.old }
         ensures receives { Receives buffer.new (tape_view self.old) (tape_view self.new) result }
@@ -151,7 +149,7 @@ impl TapeLink {
             self.failures = self.failures.saturating_add(1);
             return Err(LinkFault::Failed);
         };
-        // Behind the last item an end is heard that is none of the tape's.
+        // The ends after the last item are not on the tape.
         let next = self.at.saturating_add(item_count(heard));
         self.at = next.min(self.items.len());
         Ok(heard)
@@ -169,7 +167,7 @@ impl Link for TapeLink {
     fn send(&mut self, bytes: &[u8]) -> Result<usize, LinkFault>
         ensures sends { Sends bytes.now (tape_view self.old) (tape_view self.new) result }
         ensures sound { OnOk result (self.new.failures ≡ self.old.failures) }
-        // As many bytes are taken as a piece may have.
+        // It takes as many bytes as a piece may have.
         ensures count { IfOk result (λ n. n ≡ min self.old.cut (length bytes.now)) }
         ensures left { self.new.left ≡ self.old.left }
         ensures cut { self.new.cut ≡ self.old.cut }
@@ -187,7 +185,7 @@ impl Link for TapeLink {
     fn recv(&mut self, buffer: &mut [u8]) -> Result<Heard, LinkFault>
         requires { 0 < length buffer.old }
         ensures receives { Receives buffer.new (tape_view self.old) (tape_view self.new) result }
-        // The next piece of the tape is heard, and is no longer there.
+        // It takes the next piece off the tape.
         ensures piece { IfOk result (λ heard. items_of heard buffer.new
             ≡ next_piece (min self.old.cut (length buffer.new)) self.old.left) }
         ensures left { IfOk result (λ heard. self.new.left ≡ drop (length (items_of heard buffer.new)) self.old.left) }

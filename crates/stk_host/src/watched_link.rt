@@ -11,15 +11,15 @@ use crate::link::{Heard, Link, LinkFault};
 pub enum LinkCall<'a> {
     /// [`Link::send`] was called with these bytes and returned this.
     Sent(&'a [u8], Result<usize, LinkFault>),
-    /// [`Link::recv`] returned this; the buffer begins with the bytes that were heard.
+    /// [`Link::recv`] returned this; the buffer begins with the bytes received.
     Listened(&'a [u8], Result<Heard, LinkFault>),
 }
 
-/// A watcher of the calls of a link. It can't change the link or what a call returns.
+/// Watches the calls of a link. It can't change the link or what a call returns.
 ///
-/// Proofs about what a watcher does with a call say it by `after`. All other watchers give `λ call old new. Unit {0}`.
+/// Use `after` to prove what a watcher does with a call. Any other watcher gives `λ call old new. Unit {0}`.
 pub trait WatchLink {
-    /// What this call makes of the watcher.
+    /// What a call does to the watcher.
     ghost after: { ToldOfLink → Self → Self → Type 0 };
 
     /// Called once for each call of the link, after it has returned.
@@ -27,8 +27,7 @@ pub trait WatchLink {
         ensures { after (link_told call.now) self.old self.new };
 }
 
-/// A link and its watcher, which hears of each call once, after the call has returned. As a link it does what the link
-/// within does.
+/// Wraps a link and reports each call to a watcher. As a link it behaves as the inner one.
 ///
 /// ```text
 /// #[derive(Drop)]
@@ -48,9 +47,9 @@ pub trait WatchLink {
 /// ```
 #[derive(Debug, Drop)]
 pub struct WatchedLink<L, W> {
-    /// The link within.
+    /// The inner link.
     pub link: L,
-    /// Its watcher.
+    /// The watcher.
     pub watcher: W,
 }
 

@@ -36,10 +36,10 @@ fn place_count(part: &Part, mem: Mem) -> u32
     }
 }
 
-/// The most bytes that a page has.
+/// The most bytes of a page.
 const LARGEST_PAGE: usize = 256;
 
-/// Programs the page of flash that begins at `start`, FF where the image has gaps.
+/// Programs the page of flash that begins at `start`, with FF in the image's gaps.
 fn program_page<L: Link>(
     conversation: &mut Conversation,
     link: &mut L,
@@ -60,7 +60,7 @@ fn program_page<L: Link>(
     play_step(conversation, link, &Some(load), &program)
 }
 
-/// Programs the image's bytes from `start` to `end`, which lie in one page of EEPROM.
+/// Programs the image's bytes from `start` to `end`, which are in one page of EEPROM.
 fn program_run<L: Link>(
     conversation: &mut Conversation,
     link: &mut L,
@@ -106,7 +106,7 @@ fn begins_run(page: u32, image: &Image, addr: u32) -> bool
     image.get(addr).is_some() && (addr % page == 0 || image.get(addr - 1).is_none())
 }
 
-/// Programs the page of flash with this number, if the image has a byte in it.
+/// Programs page `number` of flash, if the image has a byte in it.
 fn write_page<L: Link>(
     conversation: &mut Conversation,
     link: &mut L,
@@ -148,7 +148,6 @@ fn write_run<L: Link>(
     program_run(conversation, link, image, addr, end)
 }
 
-/// Programs what the image has at this place of flash or EEPROM.
 fn write_place<L: Link>(
     conversation: &mut Conversation,
     link: &mut L,
@@ -187,7 +186,6 @@ fn write_places<L: Link>(
     Ok(())
 }
 
-/// Writes a fuse, if the image holds its byte.
 fn write_fuse<L: Link>(
     conversation: &mut Conversation,
     link: &mut L,
@@ -209,7 +207,6 @@ fn write_fuse<L: Link>(
     }
 }
 
-/// Writes the lock, if the image holds its byte.
 fn write_lock<L: Link>(
     conversation: &mut Conversation,
     link: &mut L,
@@ -225,7 +222,7 @@ fn write_lock<L: Link>(
     }
 }
 
-/// Writes the image to a memory that can be written, and nothing to another.
+/// Writes the image to a memory that can be written, and nothing to any other.
 pub(crate) fn write_memory<L: Link>(
     conversation: &mut Conversation,
     link: &mut L,
