@@ -3,7 +3,7 @@ use Rattle.std.proofs.Common.{◌≡◌, ℕ, List, [], ◌∷◌, sym, subst, a
 use Rattle.avr_part.specs.Part.{Part, IsPart}
 use Rattle.stk_frame.specs.declared.command.Command.{Command}
 use Rattle.stk_frame.specs.declared.host_command.Fuse.{Fuse}
-use Rattle.stk_frame.specs.declared.host_command.Fuse.TheVariants.{Low, High, Extended}
+use Rattle.stk_frame.specs.declared.host_command.Fuse.TheVariants.{Low}
 use Rattle.stk_frame.specs.Commands.{body}
 use Rattle.stk_frame.specs.HostCommands.{program_fuse, read_fuse}
 use Rattle.stk_host.proofs.ImagePlaces.PagesAndRuns.{page_most}
@@ -21,13 +21,11 @@ EachSendable (commands ∷ steps) = AreSendable commands × EachSendable steps
 module _ (part : Part) (sound : IsPart part) where
   fuse_sendable : (f : Fuse) (v : ℕ) → AreSendable (program_fuse f v ∷ [])
   fuse_sendable Low v = (record { some = omega arith; few = omega arith }, tt)
-  fuse_sendable High v = (record { some = omega arith; few = omega arith }, tt)
-  fuse_sendable Extended v = (record { some = omega arith; few = omega arith }, tt)
+  fuse_sendable f v = (record { some = omega arith; few = omega arith }, tt)
 
   fuse_read_sendable : (f : Fuse) → AreSendable (read_fuse f ∷ [])
   fuse_read_sendable Low = (record { some = omega arith; few = omega arith }, tt)
-  fuse_read_sendable High = (record { some = omega arith; few = omega arith }, tt)
-  fuse_read_sendable Extended = (record { some = omega arith; few = omega arith }, tt)
+  fuse_read_sendable f = (record { some = omega arith; few = omega arith }, tt)
 
   by_commands : (written commands : List Command) → commands ≡ written → AreSendable written → AreSendable commands
   by_commands written commands e s = subst AreSendable (sym e) s

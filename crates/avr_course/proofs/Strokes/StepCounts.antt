@@ -2,7 +2,7 @@
 use Rattle.std.proofs.Common.{◌≡◌, ℕ, zero, suc, ◌+◌, ◌*◌, ◌/◌, List, [], ◌∷◌, ◌++◌, length, take, refl, arith, Bool, true, false, cond, Option, Some, None}
 use Rattle.avr_image.specs.Image.{byte_at}
 use Rattle.avr_part.specs.declared.part.Mem.{Mem}
-use Rattle.avr_part.specs.declared.part.Mem.TheVariants.{Flash, Eeprom, Lfuse, Hfuse, Efuse, Lock, Signature, Calibration}
+use Rattle.avr_part.specs.declared.part.Mem.TheVariants.{Flash, Eeprom, Lfuse, Hfuse, Efuse, Lock}
 use Rattle.avr_part.specs.Part.{Part}
 use Rattle.stk_frame.specs.declared.command.Command.{Command}
 use Rattle.stk_frame.specs.declared.host_command.Fuse.TheVariants.{Low, High, Extended}
@@ -65,8 +65,7 @@ write_strokes part Lfuse image = byte_strokes (program_fuse Low) (byte_at image 
 write_strokes part Hfuse image = byte_strokes (program_fuse High) (byte_at image 0) (λ v. refl)
 write_strokes part Efuse image = byte_strokes (program_fuse Extended) (byte_at image 0) (λ v. refl)
 write_strokes part Lock image = byte_strokes program_lock (byte_at image 0) (λ v. refl)
-write_strokes part Signature image = tt
-write_strokes part Calibration image = tt
+write_strokes part mem image = tt
 
 pub all_strokes : (part : Part) (items : List Item) → AreStrokes (all_steps part items)
 all_strokes part [] = tt
