@@ -5,12 +5,12 @@ use Rattle.avr_part.specs.declared.part.Mem.{Mem}
 use Rattle.avr_part.specs.declared.part.Mem.TheVariants.{Flash, Eeprom, Signature}
 use Rattle.avr_part.specs.Part.{Part, IsPart}
 use Rattle.stk_frame.specs.declared.command.Command.{Command}
-use Rattle.stk_host.specs.Places.{each_from}
 use Rattle.stk_host.specs.ReadSteps.{read_count, read_step, read_steps}
 use Rattle.stk_emu.specs.Programmer.{Programmer}
 use Rattle.stk_emu.specs.Effect.{Memories, Item, effect, effects}
 use Rattle.stk_emu.specs.Settled.{Idle, FitsPart}
 use Rattle.stk_emu.specs.Strokes.{struck, struck_by, stroke_of, steps_of, all_steps, AllFitItems}
+use Rattle.avr_course.proofs.Each.{Each, each_of}
 use Rattle.avr_course.proofs.Leads.{Reached}
 use Rattle.stk_emu.proofs.Answers.Commands.{settled_idle}
 use Rattle.avr_course.proofs.Strokes.Items.{items_do, struck_all, effect_sizes}
@@ -115,8 +115,7 @@ module _ (part : Part) where
 
 -- steps that write nothing
 abbrev pub AreQuiet : List (List Command) → Type 0
-AreQuiet [] = Unit {0}
-AreQuiet (commands ∷ steps) = (stroke_of commands ≡ []) × AreQuiet steps
+AreQuiet steps = Each (λ commands. stroke_of commands ≡ []) steps
 
 pub quiet_stays : (part : Part) (count : ℕ) (steps : List (List Command)) (m : Memories) → AreQuiet steps
     → struck_by part count steps m ≡ m
@@ -125,20 +124,9 @@ quiet_stays part (suc count) [] m quiet = refl
 quiet_stays part (suc count) (commands ∷ steps) m quiet =
     ap (λ items. struck_by part count steps (effects part items m)) quiet.0 ∙ quiet_stays part count steps m quiet.1
 
-quiet_on : (xs ys : List (List Command)) → AreQuiet xs → AreQuiet ys → AreQuiet (xs ++ ys)
-quiet_on [] ys f g = g
-quiet_on (commands ∷ xs) ys f g = (f.0, quiet_on xs ys f.1 g)
-
-each_quiet : (steps_at : ℕ → List (List Command)) (place count : ℕ) → ((i : ℕ) → AreQuiet (steps_at i))
-    → AreQuiet (each_from steps_at place count)
-each_quiet steps_at place zero each = tt
-each_quiet steps_at place (suc count) each =
-    quiet_on (steps_at place) (each_from steps_at (place + 1) count) (each place)
-    (each_quiet steps_at (place + 1) count each)
-
 -- to read writes nothing
 pub read_quiet : (part : Part) (mem : Mem) → AreQuiet (read_steps part mem)
-read_quiet part Flash = each_quiet (read_step part Flash) 0 (read_count part Flash) (λ i. (refl, tt))
-read_quiet part Eeprom = each_quiet (read_step part Eeprom) 0 (read_count part Eeprom) (λ i. (refl, tt))
-read_quiet part Signature = each_quiet (read_step part Signature) 0 3 (λ i. (refl, tt))
+read_quiet part Flash = each_of (λ commands. stroke_of commands ≡ []) (read_step part Flash) 0 (read_count part Flash) (λ i. (refl, tt))
+read_quiet part Eeprom = each_of (λ commands. stroke_of commands ≡ []) (read_step part Eeprom) 0 (read_count part Eeprom) (λ i. (refl, tt))
+read_quiet part Signature = each_of (λ commands. stroke_of commands ≡ []) (read_step part Signature) 0 3 (λ i. (refl, tt))
 read_quiet part mem = (refl, tt)

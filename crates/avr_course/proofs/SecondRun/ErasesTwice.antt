@@ -22,6 +22,7 @@ use Rattle.avr_course.specs.Again.{is_keeping, AreKeeping}
 use Rattle.avr_course.specs.Items.{items, has_erase}
 use Rattle.avr_course.specs.Outcome.{strokes}
 use Rattle.avr_course.proofs.Strokes.NetWrites.{first_again, first_writes_again}
+use Rattle.avr_course.proofs.Each.{Each, each_on}
 use Rattle.avr_course.proofs.Plans.Fits.{work, work_fits, items_fit}
 use Rattle.avr_course.proofs.Plans.Items.{writes, erase_if, tasks_write, items_are}
 use Rattle.avr_course.proofs.AnyLine.FirstSteps.{effects_sizes}
@@ -33,13 +34,7 @@ Mild part want (Write Hfuse image) = want → is_keeping part (byte_at image 0) 
 Mild part want (Write mem image) = ⊤
 
 abbrev AllMild : Part → Type 0 → List Item → Type 0
-AllMild part want [] = ⊤
-AllMild part want (item ∷ items) = Mild part want item × AllMild part want items
-
-mild_on : (part : Part) (want : Type 0) (xs ys : List Item) → AllMild part want xs → AllMild part want ys
-    → AllMild part want (xs ++ ys)
-mild_on part want [] ys f g = g
-mild_on part want (x ∷ xs) ys f g = (f.0, mild_on part want xs ys f.1 g)
+AllMild part want items = Each (Mild part want) items
 
 mild_take : (part : Part) (want : Type 0) (k : ℕ) (xs : List Item) → AllMild part want xs
     → AllMild part want (take k xs)
@@ -99,7 +94,7 @@ module _ (part : Part) where
 
     steps_join : (xs ys : List (List Command)) → MildSteps xs → MildSteps ys → MildSteps (xs ++ ys)
     steps_join xs ys f g = subst (AllMild part want) (sym (strokes_on xs ys))
-        (mild_on part want (strokes_of xs) (strokes_of ys) f g)
+        (each_on (Mild part want) (strokes_of xs) (strokes_of ys) f g)
 
     each_mild : (steps_at : ℕ → List (List Command)) (place count : ℕ) → ((i : ℕ) → MildSteps (steps_at i))
         → MildSteps (each_from steps_at place count)
