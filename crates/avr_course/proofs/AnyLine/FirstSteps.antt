@@ -114,8 +114,11 @@ module _ (part : Part) where
   fits_on (item ∷ xs) ys f g = (f.0, fits_on xs ys f.1 g)
 
 -- steps that write nothing
+abbrev IsQuiet : List Command → Type 0
+IsQuiet commands = stroke_of commands ≡ []
+
 abbrev pub AreQuiet : List (List Command) → Type 0
-AreQuiet steps = Each (λ commands. stroke_of commands ≡ []) steps
+AreQuiet steps = Each IsQuiet steps
 
 pub quiet_stays : (part : Part) (count : ℕ) (steps : List (List Command)) (m : Memories) → AreQuiet steps
     → struck_by part count steps m ≡ m
@@ -126,7 +129,7 @@ quiet_stays part (suc count) (commands ∷ steps) m quiet =
 
 -- to read writes nothing
 pub read_quiet : (part : Part) (mem : Mem) → AreQuiet (read_steps part mem)
-read_quiet part Flash = each_of (λ commands. stroke_of commands ≡ []) (read_step part Flash) 0 (read_count part Flash) (λ i. (refl, tt))
-read_quiet part Eeprom = each_of (λ commands. stroke_of commands ≡ []) (read_step part Eeprom) 0 (read_count part Eeprom) (λ i. (refl, tt))
-read_quiet part Signature = each_of (λ commands. stroke_of commands ≡ []) (read_step part Signature) 0 3 (λ i. (refl, tt))
+read_quiet part Flash = each_of IsQuiet (read_step part Flash) 0 (read_count part Flash) (λ i. (refl, tt))
+read_quiet part Eeprom = each_of IsQuiet (read_step part Eeprom) 0 (read_count part Eeprom) (λ i. (refl, tt))
+read_quiet part Signature = each_of IsQuiet (read_step part Signature) 0 3 (λ i. (refl, tt))
 read_quiet part mem = (refl, tt)

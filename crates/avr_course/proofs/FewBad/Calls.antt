@@ -130,7 +130,8 @@ module _ (part : Part) (sound : IsPart part) where
       ends_operation ((erase ∷ []) ∷ []) no_result m (effect part Erase m) (item_are_steps part sound Erase tt) refl
       (effect_sizes part sound Erase m s.sizes) p turns s
 
-  pub ends_writing : (mem : Mem) (image : Image) (m : Memories) → length image ≤ size_of mem part → is_writable mem ≡ true
+  pub ends_writing : (mem : Mem) (image : Image) (m : Memories) → length image ≤ size_of mem part
+      → is_writable mem ≡ true
       → Few (Stands part m) (host.writing part mem image) (Ok tt) (Stands part (effect part (Write mem image) m))
   ends_writing mem image m fits can p turns s =
       subst (λ d. Ends AreFew d (Ok tt) [] (Stands part (effect part (Write mem image) m)) p turns)

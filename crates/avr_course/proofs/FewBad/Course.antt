@@ -87,8 +87,8 @@ module _ (part : Part) (sound : IsPart part) where
     opening_follows : (m : Memories) (p : Programmer) (turns : List Turn) → FitsPart part m → Idle part m p
         → Follows (phase part s OpenSession) (action_course part s OpenSession m) p turns
     opening_follows m p turns sizes idle =
-        ends_reported (host.opening part.signature s.force) (opening_says s.quiet part) (Ok part.signature) (Stands part m)
-        p turns (ends_opening part sound s.force m sizes p turns idle)
+        ends_reported (host.opening part.signature s.force) (opening_says s.quiet part) (Ok part.signature)
+        (Stands part m) p turns (ends_opening part sound s.force m sizes p turns idle)
 
     action_goes : (action : Action) (m : Memories) → FitsAction part action
         → Goes (phase part s action) m (action_course part s action m)
@@ -140,7 +140,8 @@ module _ (plan : Plan) (sound : IsPart plan.part) (fitted : All (IsFitted plan.p
   ending_ends Faulty m p turns idle =
       ends_bind AreFew others_few (λ closed. Done Over) Fine Over [] [] (Idle plan.part m) (Idle plan.part m)
       (reported host.closing (λ outcome. [])) p turns
-      (ends_reported host.closing (λ outcome. []) (Ok tt) (Idle plan.part m) p turns (ends_closing plan.part m p turns idle))
+      (ends_reported host.closing (λ outcome. []) (Ok tt) (Idle plan.part m) p turns
+      (ends_closing plan.part m p turns idle))
       (λ q fs i. ends_done AreFew Over (Idle plan.part m) q fs i)
   ending_ends Over m p turns idle = ends_done AreFew Over (Idle plan.part m) p turns idle
 
@@ -160,8 +161,8 @@ module _ (plan : Plan) (sound : IsPart plan.part) (fitted : All (IsFitted plan.p
       (working_follows m p turns sizes idle)
       (λ q fs t. ending_ends c.standing c.memories q fs (ready_idle plan.part c.memories q t.ready)) in
       let told : Ends AreFew (session.session plan) (status_of (at_end c.standing)) (said ++ []) rest p turns =
-      ends_bind AreFew others_few (λ at. Done (status_of at)) (at_end c.standing) (status_of (at_end c.standing)) said []
-      rest rest (playing plan) p turns played
+      ends_bind AreFew others_few (λ at. Done (status_of at)) (at_end c.standing) (status_of (at_end c.standing)) said
+      [] rest rest (playing plan) p turns played
       (λ q fs i. ends_done AreFew (status_of (at_end c.standing)) rest q fs i) in
       ends_wider AreFew (session.session plan) (status_of c.standing) said rest (λ q. memories_of q.chip ≡ c.memories) p
       turns (λ q i. i.memories)

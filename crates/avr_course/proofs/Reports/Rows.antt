@@ -101,16 +101,19 @@ never_written (ChipErased has e now) = let clash : 101 ≡ 99 = ap (byte 8) e in
 never_written (EraseLeftOut has e) = let clash : 101 ≡ 119 = ap (byte 8) e in omega (arith, clash)
 never_written (BytesWritten mem bytes first later e order now) = not_begun mem bytes first later order now
 never_written (WriteLeftOut mem bytes has e) = let clash : 115 ≡ 116 =
-    ap (λ l. slice_index l 9) (sym (written_ends Eeprom 1) ∙ (ap ends e ∙ line_ends mem (byte_count bytes) (codes " bytes not written") (omega arith))) in
+    ap (λ l. slice_index l 9) (sym (written_ends Eeprom 1)
+    ∙ (ap ends e ∙ line_ends mem (byte_count bytes) (codes " bytes not written") (omega arith))) in
     omega (arith, clash)
 never_written (BytesVerified mem bytes has e shows) = let clash : 110 ≡ 100 =
-    ap (λ l. slice_index l 1) (sym (written_ends Eeprom 1) ∙ (ap ends e ∙ line_ends mem (byte_count bytes) (codes " bytes verified") (omega arith))) in
+    ap (λ l. slice_index l 1) (sym (written_ends Eeprom 1)
+    ∙ (ap ends e ∙ line_ends mem (byte_count bytes) (codes " bytes verified") (omega arith))) in
     omega (arith, clash)
 never_written (Differed mem bytes fault has e differs) = let clash : 101 ≡ 114 = ap (byte 9) e in omega (arith, clash)
 never_written (BytesSaved mem format file has e) = not_saved _ file _ e
 never_written (BytesRead mem format file has e) = let clash : 110 ≡ 100 =
     ap (λ l. slice_index l 1) (sym (written_ends Eeprom 1)
-    ∙ (ap ends e ∙ line_ends mem (length (kept_in plan mem zeros)) (codes " bytes read") (omega arith))) in omega (arith, clash)
+    ∙ (ap ends e ∙ line_ends mem (length (kept_in plan mem zeros)) (codes " bytes read") (omega arith))) in
+    omega (arith, clash)
 never_written (StepFailed fault e) = let clash : 101 ≡ 114 = ap (byte 9) e in omega (arith, clash)
 never_written (SessionDone e) = let clash : 101 ≡ 100 = ap (byte 8) e in omega (arith, clash)
 
@@ -121,12 +124,16 @@ never_erased (ChipErased has e now) = let lock : 0 ≡ 255 = ap (λ (m : Memorie
 never_erased (EraseLeftOut has e) = let clash : 99 ≡ 119 = ap (byte 8) e in omega (arith, clash)
 never_erased (BytesWritten mem bytes first later e order now) = not_begun mem bytes first later order now
 never_erased (WriteLeftOut mem bytes has e) = let clash : 100 ≡ 110 =
-    ap (λ l. slice_index l 1) (ap ends e ∙ line_ends mem (byte_count bytes) (codes " bytes not written") (omega arith)) in omega (arith, clash)
+    ap (λ l. slice_index l 1) (ap ends e
+    ∙ line_ends mem (byte_count bytes) (codes " bytes not written") (omega arith)) in
+    omega (arith, clash)
 never_erased (BytesVerified mem bytes has e shows) = let clash : 115 ≡ 105 =
-    ap (λ l. slice_index l 3) (ap ends e ∙ line_ends mem (byte_count bytes) (codes " bytes verified") (omega arith)) in omega (arith, clash)
+    ap (λ l. slice_index l 3) (ap ends e ∙ line_ends mem (byte_count bytes) (codes " bytes verified") (omega arith)) in
+    omega (arith, clash)
 never_erased (Differed mem bytes fault has e differs) = let clash : 99 ≡ 101 = ap (byte 8) e in omega (arith, clash)
 never_erased (BytesSaved mem format file has e) = not_saved _ file _ e
 never_erased (BytesRead mem format file has e) = let clash : 101 ≡ 97 =
-    ap (λ l. slice_index l 2) (ap ends e ∙ line_ends mem (length (kept_in plan mem zeros)) (codes " bytes read") (omega arith)) in omega (arith, clash)
+    ap (λ l. slice_index l 2) (ap ends e
+    ∙ line_ends mem (length (kept_in plan mem zeros)) (codes " bytes read") (omega arith)) in omega (arith, clash)
 never_erased (StepFailed fault e) = let clash : 99 ≡ 101 = ap (byte 8) e in omega (arith, clash)
 never_erased (SessionDone e) = let clash : 99 ≡ 100 = ap (byte 8) e in omega (arith, clash)

@@ -276,7 +276,8 @@ module _ (plan : Plan) (sound : IsPart plan.part) where
       subst (λ call. TellsPhase (Settled part m) (reported call (written_says s.quiet part mem image))
       (action_course part s (WriteImage mem image) m))
       (sym (cond-true (is_writable mem) (operation steps no_result) (Done (Err (ReadOnly mem))) fits.1))
-      (call_tells steps no_result (written_says s.quiet part mem image) m (action_course part s (WriteImage mem image) m)
+      (call_tells steps no_result (written_says s.quiet part mem image) m
+      (action_course part s (WriteImage mem image) m)
       (item_are_steps part sound (item.Write mem image) size) f
       (struck_all part steps m ∙ item_does part sound (item.Write mem image) m size f) refl refl (λ fault. refl))
   action_tells (CompareImage mem image) m fits f =

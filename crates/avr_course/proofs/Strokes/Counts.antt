@@ -26,7 +26,7 @@ none_left m (Say s d) p turns = none_left m d p turns
 none_left m (Ask bytes go_on) p turns = refl
 
 module _ {P : Type 0} (m : Device P) where
-  -- where nothing is made
+  -- if nothing is made
   abbrev pub tallies_none : {E R : Type 0} (d : Dialog E R) (At : ℕ → P → Type 0) (p : P) (turns : List Turn)
       → ((k : ℕ) → At 0 (along m k d p turns).programmer) → Tallies m d (λ k q fs. 0) At p turns
   tallies_none d At p turns at = record {
@@ -38,8 +38,8 @@ module _ {P : Type 0} (m : Device P) where
   }
 
   -- a count in other words, of what is counted alike
-  abbrev pub tallies_as : {E F Q R : Type 0} (d : Dialog E Q) (e : Dialog F R) (made other : Count P) (At At' : ℕ → P → Type 0)
-      (p : P) (turns : List Turn) → ((k : ℕ) → made k p turns ≡ other k p turns)
+  abbrev pub tallies_as : {E F Q R : Type 0} (d : Dialog E Q) (e : Dialog F R) (made other : Count P)
+      (At At' : ℕ → P → Type 0) (p : P) (turns : List Turn) → ((k : ℕ) → made k p turns ≡ other k p turns)
       → ((k j : ℕ) → At j (along m k d p turns).programmer → At' j (along m k e p turns).programmer)
       → Tallies m d made At p turns → Tallies m e other At' p turns
   tallies_as d e made other At At' p turns same at t = record {

@@ -34,7 +34,7 @@ same_memory Signature Signature e = refl
 same_memory Calibration Calibration e = refl
 same_memory other mem e = absurd (true≢false (sym e))
 
--- a write can't turn its zeros into ones; so it is also with what can't be written
+-- whether no write turns a zero of the memory into a one: flash, the lock, and what can't be written
 abbrev pub keeps_zeros : Mem → Bool
 keeps_zeros Eeprom = false
 keeps_zeros Lfuse = false
@@ -50,11 +50,12 @@ pub length_laid : (zeros : Bool) (image : Image) (xs : List ℕ) → length (lai
 length_laid true image xs = length-and_in image xs
 length_laid false image xs = length-laid image xs
 
-pub laid_again : (zeros : Bool) (image : Image) (xs : List ℕ) → laid zeros image (laid zeros image xs) ≡ laid zeros image xs
+pub laid_again : (zeros : Bool) (image : Image) (xs : List ℕ)
+    → laid zeros image (laid zeros image xs) ≡ laid zeros image xs
 laid_again true image xs = and_in_twice image xs
 laid_again false image xs = laid_twice image xs
 
--- whether a memory can't be written, by whether the chip is locked
+-- whether a memory can't be written, given whether the chip is locked
 abbrev pub is_barred : Mem → Bool → Bool
 is_barred Lock locked = false
 is_barred Signature locked = true
@@ -66,7 +67,8 @@ abbrev pub spares : Mem → Mem → Bool → Bool
 spares other mem locked = not (memory_number other == memory_number mem) || is_barred mem locked
 
 one_byte : (locked : Bool) (image : Image) (x : ℕ)
-    → (if locked then x else unwrap_or (byte_at image 0) x) ∷ [] ≡ (if locked then x ∷ [] else with_image image (x ∷ []))
+    → (if locked then x else unwrap_or (byte_at image 0) x) ∷ []
+    ≡ (if locked then x ∷ [] else with_image image (x ∷ []))
 one_byte true image x = refl
 one_byte false [] x = refl
 one_byte false (b ∷ image) x = refl
@@ -94,7 +96,7 @@ written_size : (spared zeros : Bool) (image : Image) (xs : List ℕ)
 written_size true zeros image xs = refl
 written_size false zeros image xs = length_laid zeros image xs
 
--- each memory stays as large, and another than the one that is written stays whole
+-- a write keeps the size of each memory, and changes no other memory
 pub size_stays : (part : Part) (other mem : Mem) (image : Image) (m : Memories)
     → length (memory_in part mem (write_effect other image m)) ≡ length (memory_in part mem m)
 size_stays part other mem image m = ap (λ (xs : List ℕ). length xs) (write_is part other mem image m)

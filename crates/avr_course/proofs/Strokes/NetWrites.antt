@@ -115,11 +115,12 @@ module _ (part : Part) where
         unless true more xs = refl
         unless false more xs = laid_joined (keeps_zeros mem) image more xs
 
-    -- where they are barred alike, they come to the same
+    -- if both are barred alike, the writes come to the same
     abbrev Alike : List Item → Memories → Memories → Type 0
     Alike [] m n = ⊤
     Alike (item ∷ items) m n =
-        (is_barred mem (are_locked m) ≡ is_barred mem (are_locked n)) × Alike items (effect part item m) (effect part item n)
+        (is_barred mem (are_locked m) ≡ is_barred mem (are_locked n))
+        × Alike items (effect part item m) (effect part item n)
 
     same_net : (items : List Item) (m n : Memories) → Alike items m n → net items m ≡ net items n
     same_net [] m n alike = refl
@@ -166,7 +167,7 @@ module _ (part : Part) where
         (or_right (not (memory_number other == memory_number mem)) (is_barred mem (are_locked m))
         (ap (is_barred mem) e ∙ barred)))
 
-    -- what comes to the same is the same twice
+    -- if what they leave bars them alike, writing twice is writing once
     net_again : (items : List Item) (m : Memories) → has_erase items ≡ false → Alike items (effects part items m) m
         → memory_in part mem (effects part items (effects part items m)) ≡ memory_in part mem (effects part items m)
     net_again items m w alike =
