@@ -1,5 +1,5 @@
 -- A session over a line on which few frames go wrong goes as its course.
 pub mod DialogEnds
-pub mod Course
 pub mod Calls
+pub mod Course
 pub mod Sessions

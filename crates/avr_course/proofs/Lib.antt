@@ -1,4 +1,5 @@
 -- in the order in which to read; the list of a folder says what it holds
+pub mod Each
 pub mod Leads
 pub mod Lines
 pub mod Given

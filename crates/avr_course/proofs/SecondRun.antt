@@ -1,6 +1,4 @@
 -- A second run of the same plan, over what the first one left.
-pub mod NetWrites
-pub mod WritesTwice
 pub mod ErasesTwice
 pub mod EveryChip
 pub mod Status

@@ -37,8 +37,7 @@ module _ {P : Type 0} (m : Device P) where
     on_programmer : (left : ℕ) (turns : List Turn) (p : P) (d : Dialog Saying (Result A HostFault))
         → (onward m telling left turns p d).programmer ≡ p
     on_programmer left turns p (Done outcome) = says_programmer left (outcome_says outcome) (standing outcome) p turns
-    on_programmer left turns p (Say s d) = refl
-    on_programmer left turns p (Ask bytes go_on) = refl
+    on_programmer left turns p d = refl
 
     -- what is said moves nothing
     pub reported_programmer : (k : ℕ) (p : P) (turns : List Turn)

@@ -1,15 +1,16 @@
 -- The memories of some first steps of items, and of items one after another.
-use Rattle.std.proofs.Common.{◌≡◌, ℕ, zero, suc, ◌+◌, List, [], ◌∷◌, ◌++◌, length, refl, sym, ap, ◌∙◌, subst, append_assoc}
+use Rattle.std.proofs.Common.{◌≡◌, ℕ, zero, suc, ◌+◌, ◌≤◌, List, [], ◌∷◌, ◌++◌, length, refl, sym, ap, ◌∙◌, subst, append_assoc, arith}
+use Rattle.std.specs.Prelude.{min}
 use Rattle.avr_part.specs.declared.part.Mem.{Mem}
-use Rattle.avr_part.specs.declared.part.Mem.TheVariants.{Flash, Eeprom, Lfuse, Hfuse, Efuse, Lock, Signature, Calibration}
+use Rattle.avr_part.specs.declared.part.Mem.TheVariants.{Flash, Eeprom, Signature}
 use Rattle.avr_part.specs.Part.{Part, IsPart}
 use Rattle.stk_frame.specs.declared.command.Command.{Command}
-use Rattle.stk_host.specs.Places.{each_from}
 use Rattle.stk_host.specs.ReadSteps.{read_count, read_step, read_steps}
 use Rattle.stk_emu.specs.Programmer.{Programmer}
 use Rattle.stk_emu.specs.Effect.{Memories, Item, effect, effects}
 use Rattle.stk_emu.specs.Settled.{Idle, FitsPart}
 use Rattle.stk_emu.specs.Strokes.{struck, struck_by, stroke_of, steps_of, all_steps, AllFitItems}
+use Rattle.avr_course.proofs.Each.{Each, each_of}
 use Rattle.avr_course.proofs.Leads.{Reached}
 use Rattle.stk_emu.proofs.Answers.Commands.{settled_idle}
 use Rattle.avr_course.proofs.Strokes.Items.{items_do, struck_all, effect_sizes}
@@ -19,27 +20,32 @@ pub record Rests (part : Part) (steps : List (List Command)) (m : Memories) (q :
   pub count : ℕ
   pub stands : Idle part (struck_by part count steps m) q
 
+-- counted past the last step nothing is struck
+pub struck_min : (part : Part) (count : ℕ) (steps : List (List Command)) (m : Memories)
+    → struck_by part (min count (length steps)) steps m ≡ struck_by part count steps m
+struck_min part zero steps m = ap (λ n. struck_by part n steps m) (let e : min 0 (length steps) ≡ 0 = omega arith in e)
+struck_min part (suc count) [] m = ap (λ n. struck_by part n [] m) (let e : min (suc count) 0 ≡ 0 = omega arith in e)
+struck_min part (suc count) (commands ∷ steps) m =
+    ap (λ n. struck_by part n (commands ∷ steps) m)
+    (let e : min (suc count) (suc (length steps)) ≡ suc (min count (length steps)) = omega arith in e)
+    ∙ struck_min part count steps (struck part commands m)
+
 -- so many of the first steps, in front of others
-abbrev pub prefix : ℕ → List (List Command) → ℕ
-prefix zero steps = zero
-prefix (suc count) [] = zero
-prefix (suc count) (commands ∷ steps) = suc (prefix count steps)
+pub struck_prefix : (part : Part) (count : ℕ) (xs ys : List (List Command)) (m : Memories) → count ≤ length xs
+    → struck_by part count (xs ++ ys) m ≡ struck_by part count xs m
+struck_prefix part zero xs ys m few = refl
+struck_prefix part (suc count) [] ys m few = absurd (omega (arith, few))
+struck_prefix part (suc count) (commands ∷ xs) ys m few =
+    struck_prefix part count xs ys (struck part commands m) (omega (arith, few))
 
 -- all of these, and so many more
-abbrev pub behind : List (List Command) → ℕ → ℕ
-behind [] count = count
-behind (commands ∷ steps) count = suc (behind steps count)
-
-pub struck_prefix : (part : Part) (count : ℕ) (xs ys : List (List Command)) (m : Memories)
-    → struck_by part (prefix count xs) (xs ++ ys) m ≡ struck_by part count xs m
-struck_prefix part zero xs ys m = refl
-struck_prefix part (suc count) [] ys m = refl
-struck_prefix part (suc count) (commands ∷ xs) ys m = struck_prefix part count xs ys (struck part commands m)
-
 pub struck_behind : (part : Part) (count : ℕ) (xs ys : List (List Command)) (m : Memories)
-    → struck_by part (behind xs count) (xs ++ ys) m ≡ struck_by part count ys (struck_by part (length xs) xs m)
-struck_behind part count [] ys m = refl
-struck_behind part count (commands ∷ xs) ys m = struck_behind part count xs ys (struck part commands m)
+    → struck_by part (count + length xs) (xs ++ ys) m ≡ struck_by part count ys (struck_by part (length xs) xs m)
+struck_behind part count [] ys m = ap (λ n. struck_by part n ys m) (let e : count + 0 ≡ count = omega arith in e)
+struck_behind part count (commands ∷ xs) ys m =
+    ap (λ n. struck_by part n (commands ∷ xs ++ ys) m)
+    (let e : count + suc (length xs) ≡ suc (count + length xs) = omega arith in e)
+    ∙ struck_behind part count xs ys (struck part commands m)
 
 pub all_on : (part : Part) (xs ys : List Item) → all_steps part (xs ++ ys) ≡ all_steps part xs ++ all_steps part ys
 all_on part [] ys = refl
@@ -64,8 +70,10 @@ module _ (part : Part) where
   rests_before xs ys m q r =
       let steps = all_steps part xs in
       subst (λ all. Rests part all m q) (sym (all_on part xs ys)) (record {
-        count = prefix r.count steps;
-        stands = subst (λ z. Idle part z q) (sym (struck_prefix part r.count steps (all_steps part ys) m)) r.stands;
+        count = min r.count (length steps);
+        stands = subst (λ z. Idle part z q)
+            (sym (struck_prefix part (min r.count (length steps)) steps (all_steps part ys) m (omega arith)
+            ∙ struck_min part r.count steps m)) r.stands;
       })
 
   pub effects_sizes : (sound : IsPart part) (items : List Item) (m : Memories) → FitsPart part m
@@ -95,7 +103,7 @@ module _ (part : Part) where
   rests_behind sound xs ys m q fits f r =
       let steps = all_steps part xs in
       subst (λ all. Rests part all m q) (sym (all_on part xs ys)) (record {
-        count = behind steps r.count;
+        count = r.count + length steps;
         stands = subst (λ z. Idle part z q)
             (sym (struck_behind part r.count steps (all_steps part ys) m
             ∙ ap (struck_by part r.count (all_steps part ys)) (all_struck sound xs m fits f))) r.stands;
@@ -106,9 +114,11 @@ module _ (part : Part) where
   fits_on (item ∷ xs) ys f g = (f.0, fits_on xs ys f.1 g)
 
 -- steps that write nothing
+abbrev IsQuiet : List Command → Type 0
+IsQuiet commands = stroke_of commands ≡ []
+
 abbrev pub AreQuiet : List (List Command) → Type 0
-AreQuiet [] = Unit {0}
-AreQuiet (commands ∷ steps) = (stroke_of commands ≡ []) × AreQuiet steps
+AreQuiet steps = Each IsQuiet steps
 
 pub quiet_stays : (part : Part) (count : ℕ) (steps : List (List Command)) (m : Memories) → AreQuiet steps
     → struck_by part count steps m ≡ m
@@ -117,24 +127,9 @@ quiet_stays part (suc count) [] m quiet = refl
 quiet_stays part (suc count) (commands ∷ steps) m quiet =
     ap (λ items. struck_by part count steps (effects part items m)) quiet.0 ∙ quiet_stays part count steps m quiet.1
 
-quiet_on : (xs ys : List (List Command)) → AreQuiet xs → AreQuiet ys → AreQuiet (xs ++ ys)
-quiet_on [] ys f g = g
-quiet_on (commands ∷ xs) ys f g = (f.0, quiet_on xs ys f.1 g)
-
-each_quiet : (steps_at : ℕ → List (List Command)) (place count : ℕ) → ((i : ℕ) → AreQuiet (steps_at i))
-    → AreQuiet (each_from steps_at place count)
-each_quiet steps_at place zero each = tt
-each_quiet steps_at place (suc count) each =
-    quiet_on (steps_at place) (each_from steps_at (place + 1) count) (each place)
-    (each_quiet steps_at (place + 1) count each)
-
 -- to read writes nothing
 pub read_quiet : (part : Part) (mem : Mem) → AreQuiet (read_steps part mem)
-read_quiet part Flash = each_quiet (read_step part Flash) 0 (read_count part Flash) (λ i. (refl, tt))
-read_quiet part Eeprom = each_quiet (read_step part Eeprom) 0 (read_count part Eeprom) (λ i. (refl, tt))
-read_quiet part Lfuse = (refl, tt)
-read_quiet part Hfuse = (refl, tt)
-read_quiet part Efuse = (refl, tt)
-read_quiet part Lock = (refl, tt)
-read_quiet part Signature = each_quiet (read_step part Signature) 0 3 (λ i. (refl, tt))
-read_quiet part Calibration = (refl, tt)
+read_quiet part Flash = each_of IsQuiet (read_step part Flash) 0 (read_count part Flash) (λ i. (refl, tt))
+read_quiet part Eeprom = each_of IsQuiet (read_step part Eeprom) 0 (read_count part Eeprom) (λ i. (refl, tt))
+read_quiet part Signature = each_of IsQuiet (read_step part Signature) 0 3 (λ i. (refl, tt))
+read_quiet part mem = (refl, tt)

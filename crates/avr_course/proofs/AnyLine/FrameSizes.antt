@@ -14,6 +14,7 @@ use Rattle.stk_host.specs.WriteSteps.{write_steps}
 use Rattle.stk_emu.specs.Along.{AsksBodies}
 use Rattle.stk_emu.specs.Effect.{Erase}
 use Rattle.stk_emu.specs.Lawful.{IsBody}
+use Rattle.avr_course.proofs.Each.{each_on}
 use Rattle.avr_course.proofs.Hosts.FrameSizes.{AreSendable, EachSendable, all_sendable}
 use Rattle.avr_course.proofs.Strokes.Items.{write_are_steps, read_are_steps, item_are_steps}
 use Rattle.avr_session.specs.Actions.{Action, OpenSession, EraseChip, WriteImage, CompareImage, SaveMemory, LeaveOut}
@@ -55,10 +56,6 @@ steps_light (commands ∷ steps) s =
     let both = weighed_append unsendable (map body commands) (bodies_in steps) in
     omega (arith, first, more, both)
 
-both_sendable : (xs ys : List (List Command)) → EachSendable xs → EachSendable ys → EachSendable (xs ++ ys)
-both_sendable [] ys f g = g
-both_sendable (commands ∷ xs) ys f g = (f.0, both_sendable xs ys f.1 g)
-
 reads_sendable : (place : ℕ) → AreSendable (read_signature place ∷ [])
 reads_sendable place = (record { some = omega arith; few = omega arith }, tt)
 
@@ -90,14 +87,14 @@ module _ (part : Part) (sound : IsPart part) where
   actions_sendable : (actions : List Action) → AllFitActions part actions → EachSendable (actions_steps part actions)
   actions_sendable [] fits = tt
   actions_sendable (action ∷ actions) fits =
-      both_sendable (action_steps part action) (actions_steps part actions) (action_sendable action fits.0)
+      each_on AreSendable (action_steps part action) (actions_steps part actions) (action_sendable action fits.0)
       (actions_sendable actions fits.1)
 
 run_sendable : (plan : Plan) → IsPart plan.part → All (IsFitted plan.part) plan.tasks → EachSendable (run_steps plan)
 run_sendable plan sound fitted =
     let later = actions_steps plan.part (work plan) in
-    both_sendable (opening_steps ++ later) closing_steps
-    (both_sendable opening_steps later opening_sendable
+    each_on AreSendable (opening_steps ++ later) closing_steps
+    (each_on AreSendable opening_steps later opening_sendable
     (actions_sendable plan.part sound (work plan) (work_fits plan fitted))) closing_sendable
 
 -- every question of a session

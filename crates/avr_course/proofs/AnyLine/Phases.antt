@@ -1,7 +1,8 @@
 -- The phases of a session over any line: what they leave, where all that they say is true.
-use Rattle.std.proofs.Common.{◌≡◌, ℕ, ◌≤◌, List, [], ◌∷◌, ◌++◌, length, refl, sym, ap, ◌∙◌, subst, arith, inl, inr, ◌⊎◌, Ok, Err, Result, Bool, true, false, Option, Some, None}
+use Rattle.std.proofs.Common.{◌≡◌, ℕ, ◌≤◌, List, [], ◌∷◌, ◌++◌, length, refl, sym, ap, ◌∙◌, subst, arith, inl, inr, ◌⊎◌, Ok, Err, Result, Bool, Option, Some, None}
+use Rattle.std.proofs.lemmas.Bool.{cond-true}
 use Rattle.std.proofs.lemmas.List.{append-nil}
-use Rattle.std.specs.Prelude.{⊤, if◌then◌else◌}
+use Rattle.std.specs.Prelude.{⊤}
 use Rattle.avr_cli.specs.declared.settings.Switches.{Switches}
 use Rattle.avr_desk.specs.Said.{Saying}
 use Rattle.avr_part.specs.Mem.{is_writable}
@@ -16,7 +17,7 @@ use Rattle.stk_host.specs.ReadSteps.{read_steps}
 use Rattle.stk_host.specs.Operations.{Difference, opening, no_result, host_fault, signature_judged, difference_from, differs, comparison, operation}
 use Rattle.stk_emu.specs.Programmer.{Programmer}
 use Rattle.stk_emu.specs.Device.{device}
-use Rattle.stk_emu.specs.Effect.{Memories, Image, Item, Erase, Write, effects, memory_in}
+use Rattle.stk_emu.specs.Effect.{Memories, Item, Erase, Write, effects, memory_in}
 use Rattle.stk_emu.specs.Settled.{Idle, Settled, FitsPart}
 use Rattle.stk_emu.specs.Strokes.{struck_by, steps_of, all_steps, AreSteps, AllFitItems}
 use Rattle.stk_emu.specs.Given.{all_given}
@@ -32,7 +33,7 @@ use Rattle.avr_course.proofs.Strokes.Items.{write_are_steps, read_are_steps, ite
 use Rattle.avr_course.proofs.Given.WholeMemories.{read_gives}
 use Rattle.avr_course.proofs.Given.Comparisons.{no_difference}
 use Rattle.avr_course.proofs.Hosts.Operations.{AfterCall, operation_goes, beginning_goes}
-use Rattle.avr_session.specs.Standing.{Standing, Fine, Faulty, Over}
+use Rattle.avr_session.specs.Standing.{Standing, Fine}
 use Rattle.avr_session.specs.Actions.{Action, OpenSession, EraseChip, WriteImage, CompareImage, SaveMemory, LeaveOut}
 use Rattle.avr_session.specs.Session.{says, standing, reported, unless_fault, fault_or, opening_says, erased_says, written_says, verified_says, read_says, left_out_says, phase, phases}
 use Rattle.avr_course.specs.Items.{action_items, actions_items}
@@ -47,13 +48,11 @@ abbrev pub AllTrue : (Saying → Programmer → Type 0) → List Saying → Prog
 AllTrue True [] q = ⊤
 AllTrue True (saying ∷ sayings) q = True saying q × AllTrue True sayings q
 
--- After a phase of a session that does these items: where it is fine, it has done them all, and the check holds; after
--- a
+-- After a phase of a session that does these items: if it is fine, it has done them all, and the check holds; after a
 -- fault the memories are those of some first steps.
 abbrev pub Comes : Part → Memories → List Item → Type 0 → Standing → Programmer → Type 0
 Comes part m items Check Fine q = Settled part (effects part items m) q × Check
-Comes part m items Check Faulty q = Rests part (all_steps part items) m q
-Comes part m items Check Over q = Rests part (all_steps part items) m q
+Comes part m items Check at q = Rests part (all_steps part items) m q
 
 ok_is : {A : Type 0} (a : A) (fault : HostFault) → ◌≡◌ {A = Result A HostFault} (Ok a) (Err fault) → ⊥
 ok_is a fault e = cc
@@ -170,8 +169,7 @@ module _ (part : Part) (sound : IsPart part) (True : Saying → Programmer → T
       → Rests part (all_steps part items) m q × Comes part m items Check s q
   came_rests m items Check fits f Fine q came =
       (rests_all part sound items m q fits f (settled_idle part (effects part items m) q came.0), came)
-  came_rests m items Check fits f Faulty q came = (came, came)
-  came_rests m items Check fits f Over q came = (came, came)
+  came_rests m items Check fits f at q came = (came, came)
 
   pub goes_leads : {From : Programmer → Type 0} (m : Memories) (items : List Item) (Check : Type 0)
       (d : Dialog Saying Standing) (p : Programmer) (turns : List Turn) → AllFitItems part items → FitsPart part m
@@ -190,16 +188,14 @@ module _ (part : Part) (sound : IsPart part) (True : Saying → Programmer → T
       comes : Check → (s : Standing) (q : Programmer) → Comes part (effects part xs m) ys More s q
           → Comes part m (xs ++ ys) (Check × More) s q
       comes check Fine q came = (subst (λ z. Settled part z q) (sym (effects_on part xs ys m)) came.0, (check, came.1))
-      comes check Faulty q rests = rests_behind part sound xs ys m q fits f rests
-      comes check Over q rests = rests_behind part sound xs ys m q fits f rests
+      comes check at q rests = rests_behind part sound xs ys m q fits f rests
 
       on : (s : Standing) (q : Programmer) → Comes part m xs Check s q
           → Tells (Rests part (all_steps part (xs ++ ys)) m) (Comes part m (xs ++ ys) (Check × More))
           (unless_fault next s) q
       on Fine q came = wider (λ bytes z r. rests_behind part sound xs ys m z fits f r) (λ e z x. x) (comes came.1)
           (more q came.0)
-      on Faulty q rests = done (rests_before part xs ys m q rests)
-      on Over q rests = done (rests_before part xs ys m q rests)
+      on at q rests = done (rests_before part xs ys m q rests)
 
   -- nothing but what is said
   pub goes_saying : (m : Memories) (sayings : List Saying)
@@ -245,22 +241,6 @@ module _ (part : Part) (sound : IsPart part) (True : Saying → Programmer → T
         came r q (inl found) = inl found
         came r q (inr broke) = inr (broke.0, broke.1, rests_here part [] m q broke.2)
 
-    goes_writing : (mem : Mem) (image : Image) (m : Memories) → length image ≤ size_of mem part → is_writable mem ≡ true
-        → FitsPart part m
-        → SaysTrue (written_says s.quiet part mem image) (Write mem image ∷ []) (Ok tt) m
-        → Goes (Settled part m) m (Write mem image ∷ []) ⊤ (phase part s (WriteImage mem image))
-    goes_writing mem image m fits can f holds = by_kind (is_writable mem) can
-      where
-        by_kind : (b : Bool) → b ≡ true
-            → Goes (Settled part m) m (Write mem image ∷ []) ⊤
-            (reported (if b then operation (write_steps part mem image) no_result else Done (Err (ReadOnly mem)))
-            (written_says s.quiet part mem image))
-        by_kind true e =
-            goes_items m (Write mem image ∷ []) (write_steps part mem image) (written_says s.quiet part mem image)
-            (sym (append-nil (write_steps part mem image))) (fits, tt) f
-            (write_are_steps part sound mem image fits) holds
-        by_kind false e = absurd cc
-
     -- what a phase says is true
     abbrev pub PhaseTrue : Action → Memories → Type 0
     PhaseTrue OpenSession m = ⊤
@@ -282,7 +262,13 @@ module _ (part : Part) (sound : IsPart part) (True : Saying → Programmer → T
     goes_phase EraseChip m fits f holds = goes_items m (Erase ∷ []) (steps_of part Erase) (erased_says s.quiet part)
         refl (tt, tt) f (item_are_steps part sound Erase tt) holds
     goes_phase (WriteImage mem image) m fits f holds =
-        goes_writing mem image m (let size = fits.0 in omega (arith, size)) fits.1 f holds
+        let steps = write_steps part mem image in
+        let size : length image ≤ size_of mem part = let same = fits.0 in omega (arith, same) in
+        subst (λ call. Goes (Settled part m) m (Write mem image ∷ []) ⊤
+        (reported call (written_says s.quiet part mem image)))
+        (sym (cond-true (is_writable mem) (operation steps no_result) (Done (Err (ReadOnly mem))) fits.1))
+        (goes_items m (Write mem image ∷ []) steps (written_says s.quiet part mem image) (sym (append-nil steps))
+        (size, tt) f (write_are_steps part sound mem image size) holds)
     goes_phase (CompareImage mem image) m fits f holds =
         goes_reading m (Shows part mem image m) mem (comparison mem image) (verified_says s.quiet part mem image) f
         holds

@@ -26,7 +26,7 @@ use Rattle.avr_session.specs.Session.{opening_says, closed_says, phase, phases, 
 use Rattle.avr_course.specs.Items.{actions_items, items}
 use Rattle.avr_course.specs.Agrees.{ActionsAgree, Agrees}
 use Rattle.avr_course.specs.Outcome.{IsTouched, IsDone}
-use Rattle.avr_course.proofs.Plans.Standings.{faulty_fine, over_fine}
+use Rattle.avr_course.proofs.Plans.Standings.{over_fine}
 use Rattle.avr_course.proofs.Plans.Fits.{work, work_fits, items_fit}
 use Rattle.avr_course.proofs.AnyLine.FirstSteps.{Rests, rests_all}
 use Rattle.avr_course.proofs.AnyLine.Phases.{AllTrue, Comes, Tells, SaysTrue, PhasesTrue, tells_reported, goes_then, goes_opening, goes_phases}
@@ -57,14 +57,10 @@ module _ (part : Part) (sound : IsPart part) (True : Saying → Programmer → T
         wider (λ bytes q i. rests_all part sound all m q fits f i) (λ e q x. x)
         (λ t q x. (rests_all part sound all m q fits f x.0, λ e. (x.0, came.1)))
         (goes_ending (effects part all m) Fine p (settled_idle part (effects part all m) p came.0))
-    goes_to_end Faulty p r =
+    goes_to_end at p r =
         wider (λ bytes q i. record { count = r.count; stands = i }) (λ e q x. x)
-        (λ t q x. (record { count = r.count; stands = x.0 }, λ e. faulty_fine (x.1 e)))
-        (goes_ending (struck_by part r.count (all_steps part all) m) Faulty p r.stands)
-    goes_to_end Over p r =
-        wider (λ bytes q i. record { count = r.count; stands = i }) (λ e q x. x)
-        (λ t q x. (record { count = r.count; stands = x.0 }, λ e. over_fine (x.1 e)))
-        (goes_ending (struck_by part r.count (all_steps part all) m) Over p r.stands)
+        (λ t q x. (record { count = r.count; stands = x.0 }, λ e. let same : at ≡ Fine = x.1 e in absurd (cc)))
+        (goes_ending (struck_by part r.count (all_steps part all) m) at p r.stands)
 
 module _ (plan : Plan) (sound : IsPart plan.part) (fitted : All (IsFitted plan.part) plan.tasks) (m : Memories)
     (f : FitsPart plan.part m) where
@@ -105,8 +101,7 @@ module _ (plan : Plan) (sound : IsPart plan.part) (fitted : All (IsFitted plan.p
       left : (t : Standing) (q : Programmer) → Ended plan.part sound True plan.switches closed m f (items plan)
           (items_fit plan.part (work plan) (work_fits plan fitted)) (Agrees plan m) t q → Left (status_of t) q
       left Fine q x = (touched q x.0, λ e. let a = x.1 refl in record { memories = a.0.memories; agrees = a.1 })
-      left Faulty q x = (touched q x.0, λ e. absurd (omega (arith, e)))
-      left Over q x = (touched q x.0, λ e. absurd (omega (arith, e)))
+      left at q x = (touched q x.0, λ e. absurd (omega (arith, e)))
 
 -- along each line
 module _ {P : Type 0} (m : Device P) {E R : Type 0} (Asks : List ℕ → P → Type 0) (T : P → E → Type 0)

@@ -1,22 +1,22 @@
 -- A session makes the strokes of its plan in their order.
-use Rattle.std.proofs.Common.{◌≡◌, ℕ, ◌+◌, ◌-◌, ◌≤◌, List, [], ◌∷◌, ◌++◌, length, take, refl, sym, ◌∙◌, subst, arith, inr, Ok, Err, Bool, true, false}
+use Rattle.std.proofs.Common.{◌≡◌, ℕ, ◌+◌, ◌-◌, List, [], ◌∷◌, ◌++◌, take, refl, sym, ap, ◌∙◌, subst, arith, inr, Ok, Err}
+use Rattle.std.proofs.lemmas.Bool.{cond-true}
 use Rattle.std.proofs.lemmas.List.{append-nil}
-use Rattle.std.specs.Prelude.{All, ⊤, if◌then◌else◌}
+use Rattle.std.specs.Prelude.{All, ⊤}
 use Rattle.avr_cli.specs.declared.settings.Switches.{Switches}
 use Rattle.avr_desk.specs.Said.{Saying}
 use Rattle.avr_part.specs.Mem.{is_writable}
-use Rattle.avr_part.specs.declared.part.Mem.{Mem}
-use Rattle.avr_part.specs.Part.{Part, IsPart, size_of}
+use Rattle.avr_part.specs.Part.{Part, IsPart}
 use Rattle.avr_plan.specs.Plan.{Plan, IsFitted}
 use Rattle.stk_host.specs.declared.fault.HostFault.TheVariants.{ReadOnly}
-use Rattle.stk_host.specs.Dialog.{Dialog, Done, Say, Ask}
+use Rattle.stk_host.specs.Dialog.{Dialog, Done, ◌>>=◌}
 use Rattle.stk_host.specs.WriteSteps.{write_steps}
 use Rattle.stk_host.specs.Operations.{no_result, operation}
 use Rattle.stk_emu.specs.Turn.{Turn}
 use Rattle.stk_emu.specs.Programmer.{Programmer}
 use Rattle.stk_emu.specs.Device.{device}
 use Rattle.stk_emu.specs.Along.{along}
-use Rattle.stk_emu.specs.Effect.{Memories, Image, Item, Erase, Write, effects, memories_of}
+use Rattle.stk_emu.specs.Effect.{Memories, Item, Erase, Write, effects, memories_of}
 use Rattle.stk_emu.specs.Settled.{Idle, Settled, FitsPart}
 use Rattle.stk_emu.specs.Strokes.{struck_by, all_steps, AreSteps}
 use Rattle.avr_course.proofs.Leads.{Leads, GoesOn}
@@ -24,7 +24,8 @@ use Rattle.avr_course.specs.Tallies.{Count, with_next, then_count, Tallies}
 use Rattle.avr_course.proofs.Strokes.StepCounts.{items_counted}
 use Rattle.avr_course.proofs.Strokes.Items.{write_are_steps, item_are_steps}
 use Rattle.avr_course.proofs.Hosts.AnyTurn.{leads}
-use Rattle.avr_course.proofs.Strokes.Counts.{tallies_wider, tallies_told, tallies_bind}
+use Rattle.avr_course.proofs.Hosts.Operations.{along_told}
+use Rattle.avr_course.proofs.Strokes.Counts.{tallies_none, tallies_as, tallies_bind}
 use Rattle.avr_session.specs.Standing.{Standing, Fine}
 use Rattle.avr_session.specs.Actions.{Action, OpenSession, EraseChip, WriteImage, actions}
 use Rattle.avr_session.specs.Session.{reported, opening_says, erased_says, written_says, closed_says, phase, phases, ending, playing, status_of, session}
@@ -36,7 +37,7 @@ use Rattle.avr_course.proofs.Plans.Fits.{FitsAction, AllFitActions, work, work_f
 use Rattle.avr_course.proofs.AnyLine.FirstSteps.{effects_sizes}
 use Rattle.avr_course.proofs.AnyLine.Sessions.{goes_ending}
 use Rattle.avr_course.proofs.AnyLine.Phases.{Comes, Goes, goes_leads, goes_opening, goes_phase, goes_saying, Anything, any_sayings, any_says, any_phase}
-use Rattle.avr_course.proofs.AnyLine.Strokes.{Struck, Makes, tallies_same, makes_none, makes_items, makes_then}
+use Rattle.avr_course.proofs.AnyLine.Strokes.{Struck, Makes, makes_none, makes_items, makes_then}
 
 -- a phase makes the strokes of these items, from a programmer in programming mode with these memories
 abbrev Strikes : Part → Memories → List Item → Count Programmer → Dialog Saying Standing → Type 0
@@ -45,8 +46,7 @@ Strikes part m items made d = (p : Programmer) (turns : List Turn) → Settled p
 
 nothing_after : (x : Dialog Saying Standing) (n : ℕ) → with_next x n (λ s. 0) ≡ n
 nothing_after (Done s) n = omega arith
-nothing_after (Say s d) n = refl
-nothing_after (Ask bytes go_on) n = refl
+nothing_after d n = refl
 
 -- nothing is made where there are no items
 makes_quiet : (part : Part) (sound : IsPart part) (m : Memories) (Check : Type 0) (d : Dialog Saying Standing)
@@ -56,34 +56,21 @@ makes_quiet part sound m Check d f goes p turns settled =
     (goes_leads part sound Anything m [] Check d p turns tt f goes settled)
 
 module _ (part : Part) (sound : IsPart part) (s : Switches) where
-  makes_writing : (mem : Mem) (image : Image) (m : Memories) → length image ≤ size_of mem part → is_writable mem ≡ true
-      → Strikes part m (Write mem image ∷ []) (action_made part (WriteImage mem image))
-      (phase part s (WriteImage mem image))
-  makes_writing mem image m fits can p turns settled = by_kind (is_writable mem) can
-    where
-      only : write_steps part mem image ++ [] ≡ write_steps part mem image
-      only = append-nil (write_steps part mem image)
-
-      by_kind : (b : Bool) → b ≡ true
-          → Makes part m (Write mem image ∷ []) (reported
-          (if b then operation (write_steps part mem image) no_result else Done (Err (ReadOnly mem)))
-          (written_says s.quiet part mem image))
-          (action_made part (WriteImage mem image)) p turns
-      by_kind true e =
-          subst (λ steps. Makes part m (Write mem image ∷ [])
-          (reported (operation steps no_result) (written_says s.quiet part mem image))
-          (action_made part (WriteImage mem image)) p turns) only
-          (makes_items part sound m (Write mem image ∷ []) no_result (written_says s.quiet part mem image) p turns
-          (subst (AreSteps part) (sym only) (write_are_steps part sound mem image fits)) settled)
-      by_kind false e = absurd cc
-
   makes_phase : (action : Action) (m : Memories) → FitsAction part action → FitsPart part m
       → Strikes part m (action_items action) (action_made part action) (phase part s action)
   makes_phase EraseChip m fits f = λ p turns settled.
       makes_items part sound m (Erase ∷ []) no_result (erased_says s.quiet part) p turns
       (item_are_steps part sound Erase tt) settled
-  makes_phase (WriteImage mem image) m fits f =
-      makes_writing mem image m (let size = fits.0 in omega (arith, size)) fits.1
+  makes_phase (WriteImage mem image) m fits f = λ p turns settled.
+      let steps = write_steps part mem image in
+      let only : steps ++ [] ≡ steps = append-nil steps in
+      subst (λ call. Makes part m (Write mem image ∷ []) (reported call (written_says s.quiet part mem image))
+      (action_made part (WriteImage mem image)) p turns)
+      (ap (λ all. operation all no_result) only
+      ∙ sym (cond-true (is_writable mem) (operation steps no_result) (Done (Err (ReadOnly mem))) fits.1))
+      (makes_items part sound m (Write mem image ∷ []) no_result (written_says s.quiet part mem image) p turns
+      (subst (AreSteps part) (sym only)
+      (write_are_steps part sound mem image (let size = fits.0 in omega (arith, size)))) settled)
   makes_phase action m fits f = makes_quiet part sound m (ActionAgrees part action m) (phase part s action) f
       (goes_phase part sound Anything s action m fits f (any_phase part sound s action m))
 
@@ -145,32 +132,22 @@ module _ (plan : Plan) (sound : IsPart plan.part) (fitted : All (IsFitted plan.p
       let before = struck_by part made (all_steps part (items plan)) m in
       let keeps = ending_keeps part sound plan.switches before s z.programmer z.turns struck.stands in
       record {
-        rest = record {
-          count = λ l. 0;
-          none = refl;
-          at_least = λ l. omega arith;
-          at_most = λ l. omega arith;
-          stands = λ l. subst (λ i. At i (along device l (ending part plan.switches s) z.programmer z.turns).programmer)
-              (let same : made ≡ made + 0 = omega arith in same)
-              (record { few = struck.few; stands = keeps.during l });
-        };
+        rest = tallies_none device (ending part plan.switches s) (λ j. At (made + j)) z.programmer z.turns
+            (λ l. subst (λ i. At i (along device l (ending part plan.switches s) z.programmer z.turns).programmer)
+            (let same : made ≡ made + 0 = omega arith in same) (record { few = struck.few; stands = keeps.during l }));
         sharp = inr (λ l. refl);
       }
-
-  session_tallies : Tallies device (session plan) (made_by plan) At p turns
-  unfolding session
-  session_tallies =
-      tallies_told device (playing plan) status_of (made_by plan) At p turns
-      (tallies_same (playing plan) (then_count device all_phases (made_by plan) (λ t. none_made)) (made_by plan) At p
-      turns
-      (λ k. nothing_after (along device k all_phases p turns).dialog (made_by plan k p turns))
-      (tallies_bind device all_phases (ending plan.part plan.switches) (made_by plan) (λ t. none_made) At p turns
-      makes_actions.tally (λ k s e. ends k s e)))
 
   -- so many strokes of the plan, in their order
   pub session_makes : Tallies device (session plan) (made_by plan)
       (λ j q. memories_of q.chip ≡ effects plan.part (take j (strokes plan)) m) p turns
+  unfolding session
   session_makes =
-      tallies_wider device (session plan) (made_by plan) At
+      tallies_as device (playing plan) (playing plan >>= (λ t. Done (status_of t)))
+      (then_count device all_phases (made_by plan) (λ t. none_made)) (made_by plan) At
       (λ j q. memories_of q.chip ≡ effects plan.part (take j (strokes plan)) m) p turns
-      (λ j q struck. struck.stands.memories ∙ items_counted plan.part (items plan) j m) session_tallies
+      (λ k. nothing_after (along device k all_phases p turns).dialog (made_by plan k p turns))
+      (λ k j struck. ap (λ z. memories_of z.programmer.chip) (along_told device k (playing plan) status_of p turns)
+      ∙ (struck.stands.memories ∙ items_counted plan.part (items plan) j m))
+      (tallies_bind device all_phases (ending plan.part plan.switches) (made_by plan) (λ t. none_made) At p turns
+      makes_actions.tally (λ k s e. ends k s e))

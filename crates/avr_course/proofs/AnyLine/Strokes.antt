@@ -1,5 +1,5 @@
 -- The phases of a session, by the strokes that they make one after another.
-use Rattle.std.proofs.Common.{◌≡◌, ℕ, zero, suc, ◌+◌, ◌-◌, ◌≤◌, List, [], ◌∷◌, ◌++◌, length, refl, sym, ap, ◌∙◌, subst, arith, inl, inr, Ok, Err, Result}
+use Rattle.std.proofs.Common.{◌≡◌, ℕ, zero, suc, ◌+◌, ◌-◌, ◌≤◌, List, [], ◌∷◌, ◌++◌, length, refl, sym, ap, ◌∙◌, subst, arith, inl, inr, Ok, Result}
 use Rattle.std.proofs.lemmas.List.{length-append}
 use Rattle.std.specs.Prelude.{⊤, min}
 use Rattle.avr_desk.specs.Said.{Saying}
@@ -16,18 +16,17 @@ use Rattle.stk_emu.specs.Along.{along}
 use Rattle.avr_course.proofs.Leads.{Leads, GoesOn}
 use Rattle.stk_emu.specs.Effect.{Memories, Item, effects}
 use Rattle.stk_emu.specs.Settled.{Idle, Settled, FitsPart}
-use Rattle.stk_emu.specs.Strokes.{struck, struck_by, all_steps, AreSteps, AllFitItems}
+use Rattle.stk_emu.specs.Strokes.{struck_by, all_steps, AreSteps, AllFitItems}
 use Rattle.avr_course.specs.Tallies.{Count, with_next, then_count, Tallies}
 use Rattle.avr_course.proofs.Hosts.Attempts.{along_bind, onward}
 use Rattle.avr_course.proofs.Hosts.AnyTurn.{asks≢done, done_is}
 use Rattle.avr_course.proofs.Strokes.Conditions.{along_before}
 use Rattle.stk_emu.proofs.Answers.Commands.{settled_idle}
-use Rattle.avr_course.proofs.Strokes.Counts.{tallies_wider, tallies_bind, steps_all, tallies_play, none_left}
-use Rattle.avr_session.specs.Standing.{Standing, Fine, Faulty, Over}
+use Rattle.avr_course.proofs.Strokes.Counts.{tallies_none, tallies_as, tallies_bind, steps_all, tallies_play, none_left}
+use Rattle.avr_session.specs.Standing.{Standing, Fine}
 use Rattle.avr_session.specs.Session.{reported, unless_fault}
 use Rattle.avr_course.specs.Made.{none_made, made_unless_fault, step_count, steps_done}
-use Rattle.avr_course.proofs.Plans.Standings.{faulty_fine, over_fine}
-use Rattle.avr_course.proofs.AnyLine.FirstSteps.{Rests, prefix, behind, struck_prefix, struck_behind, all_on, all_struck}
+use Rattle.avr_course.proofs.AnyLine.FirstSteps.{Rests, struck_min, struck_prefix, struck_behind, all_on, all_struck}
 use Rattle.avr_course.proofs.AnyLine.Phases.{Comes}
 use Rattle.avr_course.proofs.AnyLine.Calls.{says≢done, reported_programmer, reported_fine, operation_programmer, operation_ok}
 
@@ -43,19 +42,6 @@ pub record Makes (part : Part) (m : Memories) (items : List Item) (d : Dialog Sa
   pub complete : (k : ℕ) → (along device k d p turns).dialog ≡ Done Fine
       → made k p turns ≡ length (all_steps part items)
 
--- a count in other words
-pub tallies_same : {E R : Type 0} (d : Dialog E R) (made other : Count Programmer) (At : ℕ → Programmer → Type 0)
-    (p : Programmer) (turns : List Turn)
-    → ((k : ℕ) → made k p turns ≡ other k p turns)
-    → Tallies device d made At p turns → Tallies device d other At p turns
-tallies_same d made other At p turns same t = record {
-  count = t.count;
-  none = t.none;
-  at_least = λ k. subst (λ n. n ≤ t.count k) (same k) (t.at_least k);
-  at_most = λ k. subst (λ n. t.count k ≤ suc n) (same (k - 1)) (t.at_most k);
-  stands = λ k. t.stands k;
-}
-
 struck_none : (part : Part) (count : ℕ) (m : Memories) → struck_by part count [] m ≡ m
 struck_none part zero m = refl
 struck_none part (suc count) m = refl
@@ -65,35 +51,19 @@ pub makes_none : (part : Part) (m : Memories) (d : Dialog Saying Standing) (p : 
     (After : Standing → Programmer → Type 0)
     → Leads device d p turns (Rests part [] m) After → Makes part m [] d none_made p turns
 makes_none part m d p turns After l = record {
-  tally = record {
-    count = λ k. 0;
-    none = refl;
-    at_least = λ k. omega arith;
-    at_most = λ k. omega arith;
-    stands = λ k. let r = l.during k in record {
-      few = omega arith;
-      stands = subst (λ z. Idle part z (along device k d p turns).programmer)
-          (struck_none part r.count m) r.stands;
-    };
-  };
+  tally = tallies_none device d (Struck part [] m) p turns (λ k.
+      let r = l.during k in
+      record {
+        few = omega arith;
+        stands = subst (λ z. Idle part z (along device k d p turns).programmer) (struck_none part r.count m) r.stands;
+      });
   complete = λ k e. refl;
 }
 
--- counted past the last step nothing is struck
-struck_min : (part : Part) (count : ℕ) (steps : List (List Command)) (m : Memories)
-    → struck_by part (min count (length steps)) steps m ≡ struck_by part count steps m
-struck_min part zero steps m = ap (λ n. struck_by part n steps m) (let e : min 0 (length steps) ≡ 0 = omega arith in e)
-struck_min part (suc count) [] m = ap (λ n. struck_by part n [] m) (let e : min (suc count) 0 ≡ 0 = omega arith in e)
-struck_min part (suc count) (commands ∷ steps) m =
-    ap (λ n. struck_by part n (commands ∷ steps) m)
-    (let e : min (suc count) (suc (length steps)) ≡ suc (min count (length steps)) = omega arith in e)
-    ∙ struck_min part count steps (struck part commands m)
-
 counted_most : (d : Dialog ⊥ StepOutcome) (n total : ℕ) → n ≤ total → step_count d n ≤ suc total
 counted_most (Done (Ok bytes)) n total l = omega (arith, l)
-counted_most (Done (Err fault)) n total l = omega arith
 counted_most (Say s d) n total l = absurd s
-counted_most (Ask bytes go_on) n total l = omega arith
+counted_most d n total l = omega arith
 
 steps_most : (steps : List (List Command)) (k : ℕ) (p : Programmer) (turns : List Turn)
     → steps_done device steps k p turns ≤ length steps
@@ -150,15 +120,6 @@ module _ (part : Part) (sound : IsPart part) where
     pub makes_items : Makes part m items told (steps_done device steps) p turns
     makes_items = record { tally = told_tally; complete = λ k e. all_done k e }
 
-  prefix_is : (count : ℕ) (steps : List (List Command)) → count ≤ length steps → prefix count steps ≡ count
-  prefix_is zero steps l = refl
-  prefix_is (suc count) [] l = absurd (omega (arith, l))
-  prefix_is (suc count) (commands ∷ steps) l = ap suc (prefix_is count steps (omega (arith, l)))
-
-  behind_is : (steps : List (List Command)) (count : ℕ) → behind steps count ≡ length steps + count
-  behind_is [] count = omega arith
-  behind_is (commands ∷ steps) count = let e = behind_is steps count in omega (arith, e)
-
   size_on : (xs ys : List Item) → length (all_steps part (xs ++ ys))
       ≡ length (all_steps part xs) + length (all_steps part ys)
   size_on xs ys = ap length (all_on part xs ys) ∙ length-append (all_steps part xs) (all_steps part ys)
@@ -173,8 +134,7 @@ module _ (part : Part) (sound : IsPart part) where
         few = omega (arith, size, few);
         stands = subst (λ z. Idle part z q)
             (sym (ap (λ all. struck_by part j all m) (all_on part xs ys)
-            ∙ (ap (λ n. struck_by part n (steps ++ all_steps part ys) m) (sym (prefix_is j steps s.few))
-            ∙ struck_prefix part j steps (all_steps part ys) m))) s.stands;
+            ∙ struck_prefix part j steps (all_steps part ys) m s.few)) s.stands;
       }
 
   struck_next : (xs ys : List Item) (m : Memories) (made j : ℕ) (q : Programmer) → AllFitItems part xs → FitsPart part m
@@ -185,7 +145,7 @@ module _ (part : Part) (sound : IsPart part) where
       let size = size_on xs ys in
       let few = s.few in
       let steps = all_steps part xs in
-      let past : made + j ≡ behind steps j = let e = behind_is steps j in omega (arith, e, whole) in
+      let past : made + j ≡ j + length steps = omega (arith, whole) in
       record {
         few = omega (arith, size, few, whole);
         stands = subst (λ z. Idle part z q)
@@ -227,16 +187,6 @@ module _ (part : Part) (sound : IsPart part) where
         let made_all = whole (suc k) e in
         subst (λ i. first.tally.count (suc k) ≤ made i p turns) (sym back) (omega (arith, all, made_all))
 
-    abbrev nothing_more : (n : ℕ) (s : Standing) (q : Programmer) (fs : List Turn) → At n q
-        → Tallies {E = Saying} device (Done s) none_made (λ j. At (n + j)) q fs
-    nothing_more n s q fs at = record {
-      count = λ k. 0;
-      none = refl;
-      at_least = λ k. omega arith;
-      at_most = λ k. omega arith;
-      stands = λ k. subst (λ i. At i q) (let e : n ≡ n + 0 = omega arith in e) at;
-    }
-
     abbrev GoesFrom : ℕ → Standing → Type 0
     GoesFrom k s = GoesOn device At (along device k d p turns) (first.tally.count k) (made (k - 1) p turns)
         (unless_fault next s) (after s)
@@ -247,47 +197,30 @@ module _ (part : Part) (sound : IsPart part) where
     goes_fine k e settled =
         let s = along device k d p turns in
         record {
-          rest = tallies_wider device next later (Struck part ys (effects part xs m))
-              (λ j. At (first.tally.count k + j)) s.programmer s.turns
-              (λ j q struck. struck_next xs ys m (first.tally.count k) j q fits f (whole k e) struck)
+          rest = tallies_as device next next later later (Struck part ys (effects part xs m))
+              (λ j. At (first.tally.count k + j)) s.programmer s.turns (λ i. refl)
+              (λ i j struck. struck_next xs ys m (first.tally.count k) j _ fits f (whole k e) struck)
               (more s.programmer s.turns settled).tally;
           sharp = inl (λ l n. sharp k l e n);
-        }
-
-    goes_faulty : (k : ℕ) → GoesFrom k Faulty
-    goes_faulty k =
-        let s = along device k d p turns in
-        record {
-          rest = nothing_more (first.tally.count k) Faulty s.programmer s.turns
-              (struck_first xs ys m (first.tally.count k) s.programmer (first.tally.stands k));
-          sharp = inr (λ l. refl);
-        }
-
-    goes_over : (k : ℕ) → GoesFrom k Over
-    goes_over k =
-        let s = along device k d p turns in
-        record {
-          rest = nothing_more (first.tally.count k) Over s.programmer s.turns
-              (struck_first xs ys m (first.tally.count k) s.programmer (first.tally.stands k));
-          sharp = inr (λ l. refl);
         }
 
     goes_on : (k : ℕ) (s : Standing) → (along device k d p turns).dialog ≡ Done s
         → Comes part m xs Check s (along device k d p turns).programmer → GoesFrom k s
     goes_on k Fine e came = goes_fine k e came.0
-    goes_on k Faulty e rests = goes_faulty k
-    goes_on k Over e rests = goes_over k
+    goes_on k at e rests =
+        let s = along device k d p turns in
+        record {
+          rest = tallies_none device (unless_fault next at) (λ j. At (first.tally.count k + j)) s.programmer s.turns
+              (λ l. subst (λ i. At i s.programmer)
+              (let e : first.tally.count k ≡ first.tally.count k + 0 = omega arith in e)
+              (struck_first xs ys m (first.tally.count k) s.programmer (first.tally.stands k)));
+          sharp = inr (λ l. refl);
+        }
 
     -- its strokes, as the first ones of both
     abbrev among : Tallies device d made At p turns
-    among = record {
-      count = first.tally.count;
-      none = first.tally.none;
-      at_least = first.tally.at_least;
-      at_most = first.tally.at_most;
-      stands = λ k. struck_first xs ys m (first.tally.count k) (along device k d p turns).programmer
-          (first.tally.stands k);
-    }
+    among = tallies_as device d d made made (Struck part xs m) At p turns (λ k. refl)
+        (λ k j struck. struck_first xs ys m j (along device k d p turns).programmer struck) first.tally
 
     tally : Tallies device (d >>= unless_fault next) (then_count device d made after) At p turns
     tally = tallies_bind device d (unless_fault next) made after At p turns among
@@ -306,8 +239,7 @@ module _ (part : Part) (sound : IsPart part) where
         let rest = (more t.programmer t.turns came.0).complete t.left done in
         let size = size_on xs ys in
         omega (arith, all, rest, size)
-    complete_fine k Faulty e rests = λ done. faulty_fine (done_is _ _ done)
-    complete_fine k Over e rests = λ done. over_fine (done_is _ _ done)
+    complete_fine k at e rests = λ done. let same : at ≡ Fine = done_is _ _ done in absurd (cc)
 
     complete_from : (k : ℕ) (x : Dialog Saying Standing) → (along device k d p turns).dialog ≡ x → Ends k x
     complete_from k (Done s) e = complete_fine k s e (leads.after k s e)

@@ -28,15 +28,13 @@ use Rattle.avr_course.proofs.Bounds.Questions.{session_most}
 
 silences_on : (x y : Tape) → silences (x ++ y) ≡ silences x + silences y
 silences_on [] y = omega arith
-silences_on (Byte b ∷ x) y = silences_on x y
 silences_on (Silence ∷ x) y = let more = silences_on x y in omega (arith, more)
-silences_on (End ∷ x) y = silences_on x y
+silences_on (item ∷ x) y = silences_on x y
 
 bytes_append : (x y : Tape) → bytes_on (x ++ y) ≡ bytes_on x + bytes_on y
 bytes_append [] y = omega arith
 bytes_append (Byte b ∷ x) y = let more = bytes_append x y in omega (arith, more)
-bytes_append (Silence ∷ x) y = bytes_append x y
-bytes_append (End ∷ x) y = bytes_append x y
+bytes_append (item ∷ x) y = bytes_append x y
 
 no_silences : (bytes : List ℕ) → silences (on_tape bytes) ≡ 0
 no_silences [] = refl
@@ -74,11 +72,9 @@ record Drops (n : ℕ) (tape left : Tape) : Type 0 where
 -- so many of the bytes in front
 drops : (n : ℕ) (tape : Tape) → n ≤ length (bytes_in tape) → Drops n tape (drop n tape)
 drops zero tape le = record { silent = refl; bytes = omega arith }
-drops (suc n) [] le = absurd (omega (arith, le))
 drops (suc n) (Byte b ∷ tape) le = let d = drops n tape (omega (arith, le)) in let bytes = d.bytes in
     record { silent = d.silent; bytes = omega (arith, bytes) }
-drops (suc n) (Silence ∷ tape) le = absurd (omega (arith, le))
-drops (suc n) (End ∷ tape) le = absurd (omega (arith, le))
+drops (suc n) tape le = absurd (omega (arith, le))
 
 abbrev left_of : Option (Reading × Tape) → Tape
 left_of None = []
@@ -92,14 +88,13 @@ cut_within bytes =
 
 stopped_costs : (tape : Tape) (reading : Reading) (left : Tape) → silence_or_end tape ≡ Some (reading, left)
     → (silences tape ≤ suc (silences left)) × (bytes_on tape ≡ bytes_on left)
-stopped_costs [] reading left e = absurd (cc)
-stopped_costs (Byte b ∷ tape) reading left e = absurd (cc)
 stopped_costs (Silence ∷ tape) reading left e =
     subst (λ t. (silences (Silence ∷ tape) ≤ suc (silences t)) × (bytes_on (Silence ∷ tape) ≡ bytes_on t))
     (ap left_of e) (omega arith, refl)
 stopped_costs (End ∷ tape) reading left e =
     subst (λ t. (silences (End ∷ tape) ≤ suc (silences t)) × (bytes_on (End ∷ tape) ≡ bytes_on t)) (ap left_of e)
     (omega arith, refl)
+stopped_costs tape reading left e = absurd (cc)
 
 dropped_costs : (n : ℕ) (tape left : Tape) → n ≤ limit → Drops n tape left → Costs tape left
 dropped_costs n tape left few d = let silent = d.silent in let bytes = d.bytes in
@@ -149,8 +144,7 @@ all_waiting : (tape : Tape) → silence_or_end (drop (length (bytes_in tape)) ta
     → (silences tape ≡ 0) × (bytes_on tape ≡ length (bytes_in tape))
 all_waiting [] e = (refl, refl)
 all_waiting (Byte b ∷ tape) e = let more = all_waiting tape e in let bytes = more.1 in (more.0, omega (arith, bytes))
-all_waiting (Silence ∷ tape) e = absurd (cc)
-all_waiting (End ∷ tape) e = absurd (cc)
+all_waiting (item ∷ tape) e = absurd (cc)
 
 read_waits : (tape : Tape) (found : Option (List ℕ × ℕ)) → read_to found (take limit (bytes_in tape)) tape ≡ None
     → (silences tape ≡ 0) × (bytes_on tape < limit)

@@ -31,12 +31,11 @@ use Rattle.stk_emu.specs.Given.{joined_reply, all_given}
 use Rattle.avr_course.specs.Few.{AreFew}
 use Rattle.avr_course.proofs.Given.FewBadTurns.{others_few, step_steady, play_few, play_ready}
 use Rattle.avr_course.proofs.Strokes.Items.{struck_all, item_does, item_are_steps, read_are_steps, effect_sizes}
-use Rattle.stk_emu.proofs.Answers.Commands.{steady, ready_idle}
+use Rattle.stk_emu.proofs.Answers.Commands.{steady}
 use Rattle.avr_course.proofs.Given.WholeMemories.{read_gives}
 use Rattle.avr_course.proofs.Strokes.Steps.{sign_on_steady, enter_ready, leave_steady}
 use Rattle.avr_course.proofs.AnyLine.FirstSteps.{quiet_stays, read_quiet}
 use Rattle.avr_course.proofs.FewBad.DialogEnds.{Ends, nothing_said, ends_done, ends_wider, ends_bind}
-use Rattle.avr_course.proofs.FewBad.Course.{Calls}
 
 -- the programmer in programming mode, with memories of the part's sizes
 pub record Stands (part : Part) (m : Memories) (q : Programmer) : Type 0 where
@@ -44,7 +43,7 @@ pub record Stands (part : Part) (m : Memories) (q : Programmer) : Type 0 where
   pub sizes : FitsPart part m
 
 -- over such a line, from each programmer under the one condition to one under the other
-abbrev Few : {R : Type 0} → (Programmer → Type 0) → Dialog ⊥ R → R → (Programmer → Type 0) → Type 0
+abbrev pub Few : {R : Type 0} → (Programmer → Type 0) → Dialog ⊥ R → R → (Programmer → Type 0) → Type 0
 Few Before d r After = (p : Programmer) (turns : List Turn) → Before p → Ends AreFew d r [] After p turns
 
 few_bind : {A B : Type 0} (next : A → Dialog ⊥ B) (a : A) (b : B) (Before Between After : Programmer → Type 0)
@@ -118,7 +117,7 @@ module _ (part : Part) (sound : IsPart part) where
       (ends_told (play steps []) (judged_by judge) (Ok (all_given part steps m)) (Stands part m)
       (Ready part (struck_by part (length steps) steps m)) (ends_play steps m are) p turns s)
 
-  ends_reads : {A : Type 0} (mem : Mem) (judge : List ℕ → Result A HostFault) (m : Memories)
+  pub ends_reads : {A : Type 0} (mem : Mem) (judge : List ℕ → Result A HostFault) (m : Memories)
       → Few (Stands part m) (operation (read_steps part mem) judge) (judge (memory_in part mem m)) (Stands part m)
   ends_reads mem judge m p turns s =
       subst (λ bytes. Ends AreFew (operation (read_steps part mem) judge) (judge bytes) [] (Stands part m) p turns)
@@ -126,21 +125,13 @@ module _ (part : Part) (sound : IsPart part) where
       (ends_operation (read_steps part mem) judge m m (read_are_steps part sound mem)
       (quiet_stays part (length (read_steps part mem)) (read_steps part mem) m (read_quiet part mem)) s.sizes p turns s)
 
-  ends_reading : (mem : Mem) (m : Memories)
-      → Few (Stands part m) (host.reading part mem) (Ok (memory_in part mem m)) (Stands part m)
-  ends_reading mem m p turns s = ends_reads mem Ok m p turns s
-
-  ends_verifying : (mem : Mem) (image : Image) (m : Memories)
-      → Few (Stands part m) (host.verifying part mem image) (comparison mem image (memory_in part mem m))
-      (Stands part m)
-  ends_verifying mem image m p turns s = ends_reads mem (comparison mem image) m p turns s
-
-  ends_erasing : (m : Memories) → Few (Stands part m) host.erasing (Ok tt) (Stands part (effect part Erase m))
+  pub ends_erasing : (m : Memories) → Few (Stands part m) host.erasing (Ok tt) (Stands part (effect part Erase m))
   ends_erasing m p turns s =
       ends_operation ((erase ∷ []) ∷ []) no_result m (effect part Erase m) (item_are_steps part sound Erase tt) refl
       (effect_sizes part sound Erase m s.sizes) p turns s
 
-  ends_writing : (mem : Mem) (image : Image) (m : Memories) → length image ≤ size_of mem part → is_writable mem ≡ true
+  pub ends_writing : (mem : Mem) (image : Image) (m : Memories) → length image ≤ size_of mem part
+      → is_writable mem ≡ true
       → Few (Stands part m) (host.writing part mem image) (Ok tt) (Stands part (effect part (Write mem image) m))
   ends_writing mem image m fits can p turns s =
       subst (λ d. Ends AreFew d (Ok tt) [] (Stands part (effect part (Write mem image) m)) p turns)
@@ -174,7 +165,7 @@ module _ (part : Part) (sound : IsPart part) where
       (ends_step (enter ∷ []) [] (Idle part m) (Ready part m) (enter_ready part m) (omega arith) (λ q stands. refl))
       (λ q fs s. ends_signature m q fs (record { ready = s; sizes = sizes })))
 
-  ends_opening : (force : Bool) (m : Memories) → FitsPart part m
+  pub ends_opening : (force : Bool) (m : Memories) → FitsPart part m
       → Few (Idle part m) (host.opening part.signature force) (Ok part.signature) (Stands part m)
   unfolding host.opening
   ends_opening force m sizes =
@@ -183,20 +174,8 @@ module _ (part : Part) (sound : IsPart part) where
       (ends_told host.handshake (signature_judged part.signature force) (Ok part.signature) (Idle part m)
       (Stands part m) (ends_beginning m sizes))
 
-ends_closing : (part : Part) (m : Memories) → Few (Idle part m) host.closing (Ok tt) (Idle part m)
+pub ends_closing : (part : Part) (m : Memories) → Few (Idle part m) host.closing (Ok tt) (Idle part m)
 unfolding host.closing
 ends_closing part m =
     ends_told (step (leave ∷ [])) without_bytes (Ok []) (Idle part m) (Idle part m)
     (ends_step (leave ∷ []) [] (Idle part m) (Idle part m) (leave_steady part m) (omega arith) (λ q stands. refl))
-
--- as the calls of a session
-pub few_calls : (part : Part) → IsPart part → Calls AreFew part (Stands part)
-few_calls part sound = record {
-  opening = λ force m p turns sizes idle. ends_opening part sound force m sizes p turns idle;
-  erasing = λ m p turns s. ends_erasing part sound m p turns s;
-  writing = λ mem image m p turns fits can s. ends_writing part sound mem image m fits can p turns s;
-  verifying = λ mem image m p turns s. ends_verifying part sound mem image m p turns s;
-  reading = λ mem m p turns s. ends_reading part sound mem m p turns s;
-  closing = λ m p turns idle. ends_closing part m p turns idle;
-  rests = λ m q s. ready_idle part m q s.ready;
-}

@@ -12,12 +12,11 @@ use Rattle.stk_emu.specs.Programmer.{Programmer}
 use Rattle.stk_emu.specs.Effect.{Memories, memories_of}
 use Rattle.stk_emu.specs.Settled.{Idle, FitsPart}
 use Rattle.avr_course.specs.Few.{AreFew}
-use Rattle.avr_course.proofs.Given.FewBadTurns.{others_few, done_within}
+use Rattle.avr_course.proofs.Given.FewBadTurns.{done_within}
 use Rattle.avr_session.specs.Session.{session}
 use Rattle.avr_session.specs.PlanSteps.{run_steps}
 use Rattle.avr_course.specs.Course.{course}
 use Rattle.avr_course.proofs.FewBad.DialogEnds.{Came}
-use Rattle.avr_course.proofs.FewBad.Calls.{few_calls}
 use Rattle.avr_course.proofs.FewBad.Course.{session_follows}
 use Rattle.avr_course.proofs.Bounds.Questions.{session_most}
 
@@ -28,7 +27,7 @@ module _ (plan : Plan) (sound : IsPart plan.part) (fitted : All (IsFitted plan.p
       → Came status (course plan m).status (said_along device k (session plan) p turns) (course plan m).says
       (memories_of (along device k (session plan) p turns).programmer.chip ≡ (course plan m).memories)
   session_ends m p turns sizes idle few k status e =
-      (session_follows AreFew others_few plan fitted _ (few_calls plan.part sound) m p turns sizes idle).ends few k
+      (session_follows plan sound fitted m p turns sizes idle).ends few k
       status e
 
   -- it is done after at most four times its commands

@@ -11,7 +11,7 @@ use Rattle.stk_host.specs.Dialog.{Dialog, Done, Say, Ask}
 use Rattle.stk_host.specs.Bound.{AsksAtMost}
 use Rattle.stk_host.specs.Steps.{Reply, Data, Again, Stop, StepOutcome, reading_reply, with_data, exchange, attempt, end_or_again, tries, step, if_done, play}
 use Rattle.stk_host.proofs.Dialogs.Questions.{step_most}
-use Rattle.stk_emu.specs.Turn.{Turn, Became, Kept, Obeyed, Anew, Instead, Refusal, Nothing, Babble, Ending, Right, Wrong, after_turn, turn_reading, first_turn, other_turns}
+use Rattle.stk_emu.specs.Turn.{Turn, Became, Kept, Anew, Instead, Ending, Right, Wrong, after_turn, turn_reading, first_turn, other_turns}
 use Rattle.stk_emu.specs.Programmer.{Programmer}
 use Rattle.stk_emu.specs.Device.{Device, device}
 use Rattle.stk_emu.specs.Along.{LineState, along}
@@ -165,15 +165,12 @@ none_wrong (suc (suc place)) turns le wrong c = omega (arith, le)
 -- ---- lines on which nothing begins anew, and which don't end
 
 abbrev Stands : Became → Type 0
-Stands Kept = Unit {0}
-Stands Obeyed = Unit {0}
 Stands (Anew became) = ⊥
+Stands became = Unit {0}
 
 abbrev GoesOn : Instead → Type 0
-GoesOn Refusal = Unit {0}
-GoesOn Nothing = Unit {0}
-GoesOn Babble = Unit {0}
 GoesOn Ending = ⊥
+GoesOn instead = Unit {0}
 
 abbrev IsSteady : Turn → Type 0
 IsSteady Right = Unit {0}
@@ -193,19 +190,15 @@ others_steady (turn ∷ turns) s = s.1
 
 some_bad : (became : Became) → 1 ≤ bad_became became
 some_bad Kept = omega arith
-some_bad Obeyed = omega arith
-some_bad (Anew became) = omega arith
+some_bad became = omega arith
 
 few_stands : (became : Became) → bad_became became ≤ 3 → Stands became
-few_stands Kept le = tt
-few_stands Obeyed le = tt
 few_stands (Anew became) le = omega (arith, le)
+few_stands became le = tt
 
 few_goes_on : (instead : Instead) → bad_instead instead ≤ 2 → GoesOn instead
-few_goes_on Refusal le = tt
-few_goes_on Nothing le = tt
-few_goes_on Babble le = tt
 few_goes_on Ending le = omega (arith, le)
+few_goes_on instead le = tt
 
 not_four : (turn : Turn) → bad turn ≤ 3 → IsSteady turn
 not_four Right le = tt
@@ -246,13 +239,9 @@ module _ {P : Type 0} (m : Device P) where
         (with_data go_on (reading_reply command (turn_reading turn (m.answer (body command) p))))
         (after_turn turn (m.after (body command) p) p m.reset)
     by_turn Right command p is calm each has e = answered (m.after (body command) p) (reply_to m command p) each has e
-    by_turn (Wrong became Refusal) command p is calm each has e =
-        wrong size turns got then _ (let some = some_bad became in omega (arith, is, some)) e
-    by_turn (Wrong became Nothing) command p is calm each has e =
-        wrong size turns got then _ (let some = some_bad became in omega (arith, is, some)) e
-    by_turn (Wrong became Babble) command p is calm each has e =
-        wrong size turns got then _ (let some = some_bad became in omega (arith, is, some)) e
     by_turn (Wrong became Ending) command p is calm each has e = absurd calm.1
+    by_turn (Wrong became instead) command p is calm each has e =
+        wrong size turns got then _ (let some = some_bad became in omega (arith, is, some)) e
 
   -- an attempt whose commands would all have data: they come, or a frame went wrong
   attempt_tried : (k : ℕ) (commands : List Command) (before : List ℕ) (p : P) (turns : List Turn) (got : List ℕ)
@@ -328,10 +317,8 @@ module _ {P : Type 0} (m : Device P) where
 
 same_after : {P : Type 0} (turn : Turn) (obeyed kept : P) (anew other : P → P) → IsSteady turn
     → after_turn turn obeyed kept anew ≡ after_turn turn obeyed kept other
-same_after Right obeyed kept anew other s = refl
-same_after (Wrong Kept instead) obeyed kept anew other s = refl
-same_after (Wrong Obeyed instead) obeyed kept anew other s = refl
 same_after (Wrong (Anew became) instead) obeyed kept anew other s = absurd s.0
+same_after turn obeyed kept anew other s = refl
 
 along_steady : {E R : Type 0} (k : ℕ) (d : Dialog E R) (p : Programmer) (turns : List Turn) → AreSteady turns
     → along device k d p turns ≡ along steady k d p turns

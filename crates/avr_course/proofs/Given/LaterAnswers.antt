@@ -26,8 +26,7 @@ split (End ∷ tape) = record { tail = End ∷ tape; is = refl; stops = refl }
 bytes_more : (t u : Tape) → (z : List ℕ) × (bytes_in (t ++ u) ≡ bytes_in t ++ z)
 bytes_more [] u = (bytes_in u, refl)
 bytes_more (Byte b ∷ t) u = let m = bytes_more t u in (m.0, ap (λ bs. b ∷ bs) m.1)
-bytes_more (Silence ∷ t) u = ([], refl)
-bytes_more (End ∷ t) u = ([], refl)
+bytes_more (item ∷ t) u = ([], refl)
 
 take_more_bytes : (n : ℕ) (x z : List ℕ) → (y : List ℕ) × (take n (x ++ z) ≡ take n x ++ y)
 take_more_bytes zero x z = ([], refl)
@@ -40,10 +39,8 @@ drop_more_tape (suc n) [] u le = absurd (omega arith)
 drop_more_tape (suc n) (i ∷ t) u le = drop_more_tape n t u (omega arith)
 
 bytes_few : (t : Tape) → length (bytes_in t) ≤ length t
-bytes_few [] = omega arith
 bytes_few (Byte b ∷ t) = let l = bytes_few t in omega arith
-bytes_few (Silence ∷ t) = omega arith
-bytes_few (End ∷ t) = omega arith
+bytes_few t = omega arith
 
 further_used : (a n : ℕ) (o : Option (List ℕ × ℕ)) (body : List ℕ) (used : ℕ) → further a o ≡ Some (body, used)
     → ((b : List ℕ) (k : ℕ) → o ≡ Some (b, k) → k ≤ n) → used ≤ a + n

@@ -85,8 +85,7 @@ run_reply run p mode some few =
 
 fuse_reply : (f : Fuse) (v : ℕ) (p : Programmer) → p.mode ≡ true → reply_to device (program_fuse f v) p ≡ Data []
 fuse_reply Low v p e = in_mode_reply (program_fuse Low v) p _ _ e
-fuse_reply High v p e = in_mode_reply (program_fuse High v) p _ _ e
-fuse_reply Extended v p e = in_mode_reply (program_fuse Extended v) p _ _ e
+fuse_reply f v p e = in_mode_reply (program_fuse f v) p _ _ e
 
 flash_read_reply : (count : ℕ) (bytes : List ℕ) (p : Programmer) → p.mode ≡ true → 0 < count → count % 2 ≡ 0
     → count ≤ 256 → (flash_looks p.wide 0x20 p.address 0 count p.chip).0 ≡ bytes → length bytes ≡ count
@@ -271,15 +270,13 @@ module _ (part : Part) (sound : IsPart part) where
   fuse_same : (f : Fuse) (m : Memories) → given_by part (read_fuse f ∷ []) (struck part (read_fuse f ∷ []) m)
       ≡ given_by part (read_fuse f ∷ []) m
   fuse_same Low m = refl
-  fuse_same High m = refl
-  fuse_same Extended m = refl
+  fuse_same f m = refl
 
   fuse_none : (f : Fuse) (v : ℕ) (m : Memories)
       → given_by part (program_fuse f v ∷ []) (struck part (program_fuse f v ∷ []) m)
       ≡ given_by part (program_fuse f v ∷ []) m
   fuse_none Low v m = refl
-  fuse_none High v m = refl
-  fuse_none Extended v m = refl
+  fuse_none f v m = refl
 
   pub given_same : (commands : List Command) (m : Memories) → IsStep part commands
       → given_by part commands (struck part commands m) ≡ given_by part commands m

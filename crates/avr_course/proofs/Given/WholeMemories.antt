@@ -3,7 +3,7 @@ use Rattle.std.proofs.Common.{◌≡◌, ℕ, zero, suc, ◌+◌, ◌-◌, ◌*�
 use Rattle.std.proofs.lemmas.List.{drop_all, length-drop, take-append-drop, take_min, drop-drop}
 use Rattle.std.specs.Prelude.{min}
 use Rattle.avr_part.specs.declared.part.Mem.{Mem}
-use Rattle.avr_part.specs.declared.part.Mem.TheVariants.{Flash, Eeprom, Lfuse, Hfuse, Efuse, Lock, Signature, Calibration}
+use Rattle.avr_part.specs.declared.part.Mem.TheVariants.{Flash, Eeprom, Signature}
 use Rattle.avr_part.specs.Part.{Part, IsPart}
 use Rattle.stk_host.specs.Places.{each_from}
 use Rattle.stk_host.specs.ReadSteps.{read_count, block_size, read_step, read_steps}
@@ -25,11 +25,8 @@ block_join xs start size long =
 
 pub one_by_one : (xs : List ℕ) → length xs ≡ 3
     → take 1 (drop 0 xs) ++ (take 1 (drop 1 xs) ++ (take 1 (drop 2 xs) ++ [])) ≡ xs
-one_by_one [] e = absurd (omega arith)
-one_by_one (a ∷ []) e = absurd (omega arith)
-one_by_one (a ∷ b ∷ []) e = absurd (omega arith)
 one_by_one (a ∷ b ∷ c ∷ []) e = refl
-one_by_one (a ∷ b ∷ c ∷ d ∷ xs) e = absurd (omega arith)
+one_by_one xs e = absurd (omega arith)
 
 module _ (part : Part) (sound : IsPart part) (m : Memories) (f : FitsPart part m) where
   flash_blocks : (n k : ℕ) → n + k ≡ read_count part Flash
@@ -62,9 +59,5 @@ module _ (part : Part) (sound : IsPart part) (m : Memories) (f : FitsPart part m
   pub read_gives : (mem : Mem) → all_given part (read_steps part mem) m ≡ memory_in part mem m
   read_gives Flash = flash_blocks 0 (read_count part Flash) (omega arith)
   read_gives Eeprom = eeprom_blocks 0 (read_count part Eeprom) (omega arith)
-  read_gives Lfuse = refl
-  read_gives Hfuse = refl
-  read_gives Efuse = refl
-  read_gives Lock = refl
   read_gives Signature = one_by_one part.signature sound.signature
-  read_gives Calibration = refl
+  read_gives mem = refl

@@ -9,7 +9,7 @@ use Rattle.stk_host.specs.Tape.{Reading}
 use Rattle.stk_host.specs.Dialog.{Dialog, Done, Say, Ask}
 use Rattle.stk_host.specs.Steps.{Reply, Data, Again, Stop, reading_reply, with_data, exchange, attempt, StepOutcome, step}
 use Rattle.stk_host.proofs.Dialogs.Logic.{World, HoldsFrom, Upholds, NoSays, OnReply, OnOutcome, done, ask, wider, attempts}
-use Rattle.stk_emu.specs.Turn.{Turn, Became, Kept, Obeyed, Anew, Refusal, Nothing, Babble, Ending, Right, Wrong}
+use Rattle.stk_emu.specs.Turn.{Turn, Became, Kept, Obeyed, Anew, Ending, Right, Wrong}
 use Rattle.stk_emu.specs.Turn.{after_became, after_turn, turn_reading, first_turn, other_turns}
 use Rattle.stk_emu.specs.Device.{Device}
 use Rattle.stk_emu.specs.Along.{along}
@@ -89,10 +89,8 @@ module _ {P : Type 0} (m : Device P) where
         → Tries (with_data go_on (reading_reply command (turn_reading turn (m.answer (body command) p))))
         (after_turn turn (m.after (body command) p) p m.reset)
     by_turn Right command go_on p o s right = right
-    by_turn (Wrong became Refusal) command go_on p o s right = done (lost became _ p o s)
-    by_turn (Wrong became Nothing) command go_on p o s right = done (lost became _ p o s)
-    by_turn (Wrong became Babble) command go_on p o s right = done (lost became _ p o s)
     by_turn (Wrong became Ending) command go_on p o s right = done (failed _ _ (lost became _ p o s))
+    by_turn (Wrong became instead) command go_on p o s right = done (lost became _ p o s)
 
     attempt_goes : (commands : List Command) (before : List ℕ) (p : P)
         → ((i : ℕ) → Stands (after_commands m i commands p))

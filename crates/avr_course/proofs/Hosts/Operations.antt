@@ -1,5 +1,5 @@
 -- The operations of a host over any line, in the logic of dialogs: what holds during and after them.
-use Rattle.std.proofs.Common.{◌≡◌, ℕ, zero, suc, arith, List, [], ◌∷◌, ◌++◌, length, append_assoc, refl, sym, ap, ◌∙◌, subst, ◌⊎◌, inl, inr, Ok, Err, Result}
+use Rattle.std.proofs.Common.{◌≡◌, ℕ, zero, suc, List, [], ◌∷◌, ◌++◌, length, append_assoc, refl, sym, ap, ◌∙◌, subst, ◌⊎◌, inl, inr, Ok, Err, Result}
 use Rattle.std.proofs.lemmas.List.{append-nil}
 use Rattle.std.specs.Prelude.{⊤}
 use Rattle.avr_part.specs.Part.{Part, IsPart}
@@ -21,7 +21,10 @@ use Rattle.stk_emu.specs.Effect.{Memories}
 use Rattle.stk_emu.specs.Fits.{Fits}
 use Rattle.stk_emu.specs.Given.{given_by, all_given, Gives}
 use Rattle.stk_emu.specs.Settled.{Idle, Settled, FitsPart}
-use Rattle.stk_emu.specs.Strokes.{struck, struck_by, AreSteps, ReadsSignature}
+use Rattle.avr_part.specs.declared.part.Mem.TheVariants.{Signature}
+use Rattle.stk_emu.specs.Strokes.{struck, struck_by, AreSteps}
+use Rattle.avr_course.proofs.Strokes.Items.{read_are_steps}
+use Rattle.avr_course.proofs.AnyLine.FirstSteps.{quiet_stays, read_quiet}
 use Rattle.avr_course.proofs.Leads.{Reached, AfterSteps, AfterBeginning}
 use Rattle.avr_course.proofs.Hosts.Attempts.{along_bind, onward}
 use Rattle.avr_course.proofs.Strokes.Steps.{sign_on_fits, enter_fits}
@@ -86,21 +89,9 @@ module _ (part : Part) (sound : IsPart part) where
       judged (Err fault) q a = inr (fault, refl, a)
 
   -- the signature
-  signature_are_steps : AreSteps part signature_steps
-  signature_are_steps = (
-    ReadsSignature 0 (omega arith) refl,
-    (ReadsSignature 1 (omega arith) refl, (ReadsSignature 2 (omega arith) refl, tt)),
-  )
-
   idle_reached : (m : Memories) (q : Programmer) → Reached part signature_steps m q → Idle part m q
-  idle_reached m q r = settled_idle part m q (subst (λ z. Settled part z q) (none_struck r.count) r.stands)
-    where
-      none_struck : (count : ℕ) → struck_by part count signature_steps m ≡ m
-      none_struck zero = refl
-      none_struck (suc zero) = refl
-      none_struck (suc (suc zero)) = refl
-      none_struck (suc (suc (suc zero))) = refl
-      none_struck (suc (suc (suc (suc count)))) = refl
+  idle_reached m q r = settled_idle part m q (subst (λ z. Settled part z q)
+      (quiet_stays part r.count signature_steps m (read_quiet part Signature)) r.stands)
 
   pub beginning_goes : (m : Memories) (p : Programmer) → FitsPart part m → Idle part m p
       → Keeps device (Idle part m) (AfterBeginning part m) handshake p
@@ -117,7 +108,7 @@ module _ (part : Part) (sound : IsPart part) where
       (AfterBeginning part m) q (λ r j. j) (λ r j. settled_idle part m r j) (λ fault r j. j) i.0)
       (on_data (any_turn device) (λ bytes q. Idle part m q) (λ nothing. play signature_steps [])
       (λ nothing r t. wider (λ bytes z y. idle_reached m z y) (λ e z y. y) begun
-      (play_goes signature_steps m [] r signature_are_steps f t.0)))))
+      (play_goes signature_steps m [] r (read_are_steps part sound Signature) f t.0)))))
     where
       begun : (o : StepOutcome) (q : Programmer) → AfterSteps part signature_steps m [] o q → AfterBeginning part m o q
       begun (Ok got) q a = (a.0, a.1 ∙ one_by_one part.signature sound.signature)
@@ -173,5 +164,4 @@ module _ {E P : Type 0} (m : Device P) where
           → onward {E = E} {A = A} {B = B} m (λ a. Done (tell a)) left fs q d
           ≡ reported tell (record { dialog = d; programmer = q; turns = fs; left = left })
       told (Done a) q fs left = refl
-      told (Say s d) q fs left = refl
-      told (Ask bytes go_on) q fs left = refl
+      told d q fs left = refl

@@ -8,11 +8,11 @@ use Rattle.std.specs.Str.{bytes_eq}
 use Rattle.stk_frame.specs.Frame.{frame}
 use Rattle.stk_frame.specs.Cut.{frames, is_good}
 use Rattle.stk_frame.proofs.Laws.{frame_is_good, body_of_frame}
-use Rattle.stk_host.specs.Tape.{Tape, Reading, Answered, Silent, Ended, Babbled, answer}
+use Rattle.stk_host.specs.Tape.{Tape, Reading, Answered, Silent, answer}
 use Rattle.stk_host.specs.Dialog.{Dialog, Done, Say, Ask, Frame, Said, Played, played, behind, by_answer, next, frames_in, sayings}
 use Rattle.stk_emu.specs.Device.{Device, after_frame, after_frames, refusal}
 use Rattle.stk_emu.specs.Lawful.{IsBody}
-use Rattle.stk_emu.specs.Turn.{Became, Kept, Obeyed, Anew, Refusal, Nothing, Babble, Ending, Turn, Right, Wrong, after_became, after_turn, became_in, turn_reading, IsHonest}
+use Rattle.stk_emu.specs.Turn.{Became, Kept, Obeyed, Anew, Refusal, Nothing, Turn, Right, Wrong, after_became, after_turn, became_in, turn_reading, IsHonest}
 use Rattle.stk_emu.specs.Along.{along, said_along, AsksBodies}
 use Rattle.avr_course.specs.AnyTape.{first_became, other_becames, on_answer, AreHonest, after_sent, turn_by, turns_from, turns_heard, GoesAs, let_through, CameThrough, became_by}
 use Rattle.avr_course.proofs.Given.LaterAnswers.{answer_extends}
@@ -23,9 +23,7 @@ pub turn_honest : {P : Type 0} (m : Device P) (bytes : List ℕ) (p : P) (turn :
     → IsHonest m bytes p (became_in turn) (turn_reading turn (m.answer bytes p))
 turn_honest m bytes p Right = inl (refl, refl)
 turn_honest m bytes p (Wrong became Refusal) = inr refl
-turn_honest m bytes p (Wrong became Nothing) = tt
-turn_honest m bytes p (Wrong became Babble) = tt
-turn_honest m bytes p (Wrong became Ending) = tt
+turn_honest m bytes p (Wrong became instead) = tt
 
 -- and whatever is honest is a turn
 abbrev IsTurn : {P : Type 0} → Device P → List ℕ → P → Became → Reading → Turn → Type 0
@@ -50,9 +48,7 @@ own_or_refused m bytes p body (inr is) other =
     never_both false holds fails = cc
 
 never_own : (became : Became) → became ≡ Obeyed → became ≡ Kept → ⊥
-never_own Kept e is = cc
-never_own Obeyed e is = cc
-never_own (Anew became) e is = cc
+never_own became e is = cc
 
 not_anew : (became : Became) → ◌≡◌ {A = Became} (Anew became) Obeyed → ⊥
 not_anew became e = cc
@@ -66,9 +62,7 @@ honest_turn m bytes p Kept (Answered body) (inl own) = absurd (never_own Kept ow
 honest_turn m bytes p Kept (Answered body) (inr e) = (ap (λ x. Answered x) (sym e), refl)
 honest_turn m bytes p (Anew became) (Answered body) (inl own) = absurd (not_anew became own.0)
 honest_turn m bytes p (Anew became) (Answered body) (inr e) = (ap (λ x. Answered x) (sym e), refl)
-honest_turn m bytes p became Silent h = (refl, refl)
-honest_turn m bytes p became Ended h = (refl, refl)
-honest_turn m bytes p became Babbled h = (refl, refl)
+honest_turn m bytes p became reading h = (refl, refl)
 
 -- where no question is asked any more, nothing becomes of the programmer
 none_asked : {E R P : Type 0} (m : Device P) (d : Dialog E R) (p : P) (turns : List Turn)

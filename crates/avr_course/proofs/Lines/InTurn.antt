@@ -176,18 +176,13 @@ frames_prefix (Frame f ∷ events) bytes back whole e = elim (cases_lt (length b
 begun_prefix : {E : Type 0} (SaidPart : E → E → Type 0) (begun later : List (Event E)) → IsBegun SaidPart begun later
     → IsPrefixOf (bytes_sent begun) (bytes_sent later)
 begun_prefix SaidPart [] later part = (bytes_sent later, refl)
-begun_prefix SaidPart (Frame x ∷ []) [] part = absurd part
-begun_prefix SaidPart (Said x ∷ []) [] part = absurd part
 begun_prefix SaidPart (Frame x ∷ []) (Frame y ∷ later) part = (
   part.0 ++ bytes_sent later,
   ap (λ bs. bs ++ (part.0 ++ bytes_sent later)) (append-nil x)
       ∙ (sym (append_assoc x part.0 (bytes_sent later)) ∙ ap (λ bs. bs ++ bytes_sent later) part.1),
 )
-begun_prefix SaidPart (Frame x ∷ []) (Said y ∷ later) part = absurd part
-begun_prefix SaidPart (Said x ∷ []) (Frame y ∷ later) part = absurd part
 begun_prefix SaidPart (Said x ∷ []) (Said y ∷ later) part = (bytes_sent later, refl)
-begun_prefix SaidPart (Frame x ∷ e ∷ begun) later part = absurd part
-begun_prefix SaidPart (Said x ∷ e ∷ begun) later part = absurd part
+begun_prefix SaidPart begun later part = absurd part
 
 pub shown_prefix : {E : Type 0} (SaidPart : E → E → Type 0) (shown events : List (Event E))
     → IsPrefixOfEvents SaidPart shown events → IsPrefixOf (bytes_sent shown) (bytes_sent events)

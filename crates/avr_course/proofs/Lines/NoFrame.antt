@@ -4,8 +4,8 @@ use Rattle.std.proofs.lemmas.Bool.{cases_Bool, and_parts, eqb-true, false≢true
 use Rattle.std.specs.Prelude.{◌==◌, nat_le, filter, replicate}
 use Rattle.stk_frame.specs.Cut.{cut, frames, is_good, seq_of, body_of}
 use Rattle.stk_frame.proofs.Laws.{body_of_frame}
-use Rattle.stk_host.specs.declared.link.Item.TheVariants.{Byte, Silence, End}
-use Rattle.stk_host.specs.Tape.{Tape, Reading, Answered, Silent, Ended, Babbled, answer, read_to, silence_or_end, first_answer, is_answer, further, bytes_in, limit}
+use Rattle.stk_host.specs.declared.link.Item.TheVariants.{Byte}
+use Rattle.stk_host.specs.Tape.{Tape, Reading, Answered, answer, read_to, silence_or_end, first_answer, is_answer, further, bytes_in, limit}
 use Rattle.stk_host.specs.Dialog.{Dialog, Done, Say, Ask, next}
 use Rattle.stk_emu.specs.Device.{Device, refusal}
 use Rattle.stk_emu.specs.Turn.{Became, Kept, Obeyed, Anew, after_became, IsHonest}
@@ -84,10 +84,8 @@ taken n sent (piece ∷ pieces) body used e were = elim (cases_Bool (is_answer n
 
 -- what is answered was found
 no_answer : (tape left : Tape) (body : List ℕ) → silence_or_end tape ≡ Some (Answered body, left) → ⊥
-no_answer [] left body e = false≢true (ap is_answered e)
 no_answer (Byte b ∷ tape) left body e = false≢true (ap is_answered e)
-no_answer (Silence ∷ tape) left body e = false≢true (ap is_answered e)
-no_answer (End ∷ tape) left body e = false≢true (ap is_answered e)
+no_answer tape left body e = false≢true (ap is_answered e)
 
 found_by : (o : Option (List ℕ × ℕ)) (bytes : List ℕ) (tape left : Tape) (body : List ℕ)
     → read_to o bytes tape ≡ Some (Answered body, left) → (used : ℕ) × (o ≡ Some (body, used))
@@ -121,9 +119,8 @@ module _ {P : Type 0} (m : Device P) where
       by_sent became (inl e) = inr (sym t.2 ∙ e)
       by_sent became (inr (inr among)) = absurd
           (not_past 255 n 1 before t.0 (omega arith) (omega arith) past good number among)
-      by_sent Kept (inr (inl same)) = absurd (none_good t.0 same good)
       by_sent Obeyed (inr (inl same)) = inl (refl, sym t.2 ∙ (ap body_of same ∙ body_of_frame n (m.answer bytes p)))
-      by_sent (Anew became) (inr (inl same)) = absurd (none_good t.0 same good)
+      by_sent became (inr (inl same)) = absurd (none_good t.0 same good)
 
   by_reading : (n : ℕ) (bytes : List ℕ) (p : P) (became : Became) (before : List (List ℕ)) (reading : Reading)
       (tape left : Tape) → answer n tape ≡ Some (reading, left) → Past n 1 before
@@ -133,9 +130,7 @@ module _ {P : Type 0} (m : Device P) where
       let f = found n tape left body e in
       own n bytes p became before body past (taken n (given m n bytes p became ∷ before)
       (cut (take limit (bytes_in tape))) body f.0 f.1 were)
-  by_reading n bytes p became before Silent tape left e past were = tt
-  by_reading n bytes p became before Ended tape left e past were = tt
-  by_reading n bytes p became before Babbled tape left e past were = tt
+  by_reading n bytes p became before reading tape left e past were = tt
 
   more_past : (n : ℕ) (bytes : List ℕ) (p : P) (became : Became) (before : List (List ℕ)) → Past n 1 before
       → Past (next n) 1 (given m n bytes p became ∷ before)

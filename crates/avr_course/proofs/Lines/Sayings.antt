@@ -8,8 +8,7 @@ use Rattle.stk_emu.specs.Turn.{Turn, after_turn, turn_reading, first_turn, other
 -- what the next dialog says from where one stands
 abbrev pub said_on : {E A B P : Type 0} → Device P → (A → Dialog E B) → ℕ → List Turn → P → Dialog E A → List E
 said_on m next left turns p (Done a) = said_along m left (next a) p turns
-said_on m next left turns p (Say e dialog) = []
-said_on m next left turns p (Ask bytes go_on) = []
+said_on m next left turns p d = []
 
 module _ {E P : Type 0} (m : Device P) where
   -- a dialog and the next one say what the one says, and the other from there

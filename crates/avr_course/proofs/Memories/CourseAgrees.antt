@@ -5,8 +5,8 @@ use Rattle.avr_cli.specs.declared.settings.Switches.{Switches}
 use Rattle.avr_part.specs.Part.{Part}
 use Rattle.avr_part.specs.declared.part.Mem.{Mem}
 use Rattle.avr_plan.specs.Plan.{Plan}
-use Rattle.avr_session.specs.Standing.{Standing, Fine, Faulty, Over}
-use Rattle.avr_session.specs.Actions.{Action, OpenSession, EraseChip, WriteImage, CompareImage, SaveMemory, LeaveOut, actions}
+use Rattle.avr_session.specs.Standing.{Standing, Fine}
+use Rattle.avr_session.specs.Actions.{Action, CompareImage, actions}
 use Rattle.avr_session.specs.Session.{standing, status_of}
 use Rattle.stk_host.specs.Operations.{Difference, difference_from, differs}
 use Rattle.stk_emu.specs.Effect.{Memories, effects, memory_in}
@@ -15,7 +15,7 @@ use Rattle.avr_course.proofs.Strokes.Pages.{effects_on}
 use Rattle.avr_course.specs.Agrees.{ActionAgrees, ActionsAgree, Agrees}
 use Rattle.avr_course.specs.Course.{Course, then_from, ◌then◌, action_course, actions_course, working_course, course}
 use Rattle.avr_course.specs.Items.{action_items, actions_items, items}
-use Rattle.avr_course.proofs.Plans.Standings.{faulty_fine, over_fine}
+use Rattle.avr_course.proofs.Plans.Standings.{faulty_fine}
 
 -- A course that stands fine exactly where something agrees, and then leaves these memories.
 record Turns (c : Course) (Agree : Type 0) (left : Memories) : Type 0 where
@@ -35,15 +35,10 @@ turns_on first next A B between left Fine e turns more =
       is_fine = λ agree. on.is_fine agree.1;
       memories = λ f. on.memories f;
     }
-turns_on first next A B between left Faulty e turns more = record {
-  if_fine = λ f. faulty_fine (sym e ∙ f);
+turns_on first next A B between left at e turns more = record {
+  if_fine = λ f. let same : at ≡ Fine = sym e ∙ f in absurd (cc);
   is_fine = λ agree. turns.is_fine agree.0;
-  memories = λ f. faulty_fine (sym e ∙ f);
-}
-turns_on first next A B between left Over e turns more = record {
-  if_fine = λ f. over_fine (sym e ∙ f);
-  is_fine = λ agree. turns.is_fine agree.0;
-  memories = λ f. over_fine (sym e ∙ f);
+  memories = λ f. let same : at ≡ Fine = sym e ∙ f in absurd (cc);
 }
 
 turns_then : (first : Course) (next : Memories → Course) (A B : Type 0) (between left : Memories)
@@ -62,17 +57,13 @@ turns_fine c is = record { if_fine = λ f. tt; is_fine = λ agree. is; memories 
 module _ (part : Part) (s : Switches) where
   turns_action : (action : Action) (m : Memories)
       → Turns (action_course part s action m) (ActionAgrees part action m) (effects part (action_items action) m)
-  turns_action OpenSession m = turns_fine (action_course part s OpenSession m) refl
-  turns_action EraseChip m = turns_fine (action_course part s EraseChip m) refl
-  turns_action (WriteImage mem image) m = turns_fine (action_course part s (WriteImage mem image) m) refl
   turns_action (CompareImage mem image) m = record {
     if_fine = λ f. no_difference 0 image (memory_in part mem m)
         (no_difference_if_fine mem (difference_from 0 image (memory_in part mem m)) f);
     is_fine = λ shows. ap (λ d. standing (differs mem d)) (held_same 0 image (memory_in part mem m) shows);
     memories = λ f. refl;
   }
-  turns_action (SaveMemory mem format file) m = turns_fine (action_course part s (SaveMemory mem format file) m) refl
-  turns_action (LeaveOut what) m = turns_fine (action_course part s (LeaveOut what) m) refl
+  turns_action action m = turns_fine (action_course part s action m) refl
 
   turns_actions : (actions : List Action) (m : Memories)
       → Turns (actions_course part s actions m) (ActionsAgree part actions m) (effects part (actions_items actions) m)
@@ -93,8 +84,7 @@ turns_working plan m = turns_actions plan.part plan.switches (actions plan) m
 
 fine_of_status : (s : Standing) → status_of s ≡ 0 → s ≡ Fine
 fine_of_status Fine e = refl
-fine_of_status Faulty e = absurd (let no : ⊥ = omega (arith, e) in no)
-fine_of_status Over e = absurd (let no : ⊥ = omega (arith, e) in no)
+fine_of_status at e = absurd (let no : ⊥ = omega (arith, e) in no)
 
 pub course_status : (plan : Plan) (m : Memories) → (course plan m).status ≡ 0 ↔ Agrees plan m
 course_status plan m =

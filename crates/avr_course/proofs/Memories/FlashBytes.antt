@@ -4,7 +4,7 @@ use Rattle.std.proofs.lemmas.Bool.{true≢false}
 use Rattle.std.proofs.lemmas.List.{length-replicate, get_or-replicate}
 use Rattle.avr_image.specs.Image.{byte_at}
 use Rattle.avr_part.specs.Part.{Part}
-use Rattle.avr_part.specs.declared.part.Mem.TheVariants.{Flash, Eeprom, Lfuse, Hfuse, Efuse, Lock, Signature, Calibration}
+use Rattle.avr_part.specs.declared.part.Mem.TheVariants.{Flash}
 use Rattle.avr_plan.specs.Plan.{Plan}
 use Rattle.stk_emu.specs.Effect.{Image, Item, Erase, Write, Memories, and_with, and_in, are_locked, effect, effects}
 use Rattle.stk_emu.proofs.Memories.LaidImages.{length-and_in, get_and_in}
@@ -112,20 +112,9 @@ module _ (part : Part) (addr : ℕ) where
       (byte (effects part xs (effect part (Write Flash image) m)))
       (writes image m.flash addr (are_locked m) l)
       (made xs (effect part (Write Flash image) m) (still_inside image m.flash addr (are_locked m) l))
-  made (Write Eeprom image ∷ xs) m l = later (Write Eeprom image) xs addr (byte m)
-      (byte (effects part xs (effect part (Write Eeprom image) m))) (made xs (effect part (Write Eeprom image) m) l)
-  made (Write Lfuse image ∷ xs) m l = later (Write Lfuse image) xs addr (byte m)
-      (byte (effects part xs (effect part (Write Lfuse image) m))) (made xs (effect part (Write Lfuse image) m) l)
-  made (Write Hfuse image ∷ xs) m l = later (Write Hfuse image) xs addr (byte m)
-      (byte (effects part xs (effect part (Write Hfuse image) m))) (made xs (effect part (Write Hfuse image) m) l)
-  made (Write Efuse image ∷ xs) m l = later (Write Efuse image) xs addr (byte m)
-      (byte (effects part xs (effect part (Write Efuse image) m))) (made xs (effect part (Write Efuse image) m) l)
-  made (Write Lock image ∷ xs) m l = later (Write Lock image) xs addr (byte m)
-      (byte (effects part xs (effect part (Write Lock image) m))) (made xs (effect part (Write Lock image) m) l)
-  made (Write Signature image ∷ xs) m l = later (Write Signature image) xs addr (byte m) (byte (effects part xs m))
-      (made xs m l)
-  made (Write Calibration image ∷ xs) m l =
-      later (Write Calibration image) xs addr (byte m) (byte (effects part xs m)) (made xs m l)
+  made (Write mem image ∷ xs) m l =
+      later (Write mem image) xs addr (byte m) (byte (effects part xs (effect part (Write mem image) m)))
+      (made xs (effect part (Write mem image) m) l)
 
 -- first items of some
 there_of : (k : ℕ) (xs : List Item) (addr byte : ℕ) → IsThere (take k xs) addr byte → IsThere xs addr byte

@@ -1,18 +1,18 @@
 -- What writes leave in a memory: their images laid over each other, and elsewhere what was there.
 use Rattle.std.proofs.Common.{◌≡◌, ℕ, zero, suc, ◌≤◌, ◌<◌, arith, refl, sym, ap, ◌∙◌, subst, List, [], ◌∷◌, ◌++◌, length, get_or, Bool, true, false, Option, Some, None, unwrap_or}
-use Rattle.std.proofs.lemmas.Bool.{true≢false, eqb-true}
+use Rattle.std.proofs.lemmas.Bool.{true≢false}
 use Rattle.std.proofs.lemmas.List.{length-replicate}
 use Rattle.std.specs.Prelude.{◌==◌, if◌then◌else◌}
 use Rattle.avr_cli.specs.declared.settings.Switches.{Switches}
 use Rattle.avr_image.specs.Image.{empty, byte_at, either, over}
 use Rattle.avr_part.specs.Part.{Part, size_of}
 use Rattle.avr_part.specs.declared.part.Mem.{Mem}
-use Rattle.avr_part.specs.declared.part.Mem.TheVariants.{Flash, Eeprom, Lfuse, Hfuse, Efuse, Lock, Signature, Calibration}
 use Rattle.avr_plan.specs.declared.planned.Task.{Task}
 use Rattle.avr_plan.specs.declared.planned.Task.TheVariants as task
-use Rattle.avr_session.specs.Actions.{TheWrite, Action, OpenSession, EraseChip, WriteImage, CompareImage, SaveMemory, LeaveOut, tasks_actions}
+use Rattle.avr_session.specs.Actions.{TheWrite, Action, WriteImage, CompareImage, LeaveOut, tasks_actions}
 use Rattle.stk_emu.specs.Effect.{Image, Memories, with_image, and_in, and_with, are_locked, write_effect, effects, memory_in}
 use Rattle.stk_emu.proofs.Memories.LaidImages.{length-laid, length-and_in}
+use Rattle.avr_course.proofs.Strokes.EachMemory.{same_memory, keeps_zeros, laid, spares, write_is, others_stay}
 use Rattle.avr_course.specs.Agrees.{Shows, ActionsAgree}
 use Rattle.avr_course.specs.Items.{actions_items}
 use Rattle.avr_course.specs.Written.{memory_number, written_to, byte_in}
@@ -50,9 +50,6 @@ pub record Keeps (image : Image) (old new : List ℕ) : Type 0 where
   pub size : length new ≡ length old
   pub rest : (i : ℕ) → byte_at image i ≡ None → get_or new i 0 ≡ get_or old i 0
 
-keeps_all : (image : Image) (xs : List ℕ) → Keeps image xs xs
-keeps_all image xs = record { size = refl; rest = λ i none. refl }
-
 kept_byte : (o : Option ℕ) (x : ℕ) → o ≡ None → unwrap_or o x ≡ x
 kept_byte None x e = refl
 kept_byte (Some b) x e = some_none b e
@@ -75,89 +72,17 @@ rest_anded [] (x ∷ xs) i e = refl
 rest_anded (b ∷ image) (x ∷ xs) zero e = kept_bits b x e
 rest_anded (b ∷ image) (x ∷ xs) (suc i) e = rest_anded image xs i e
 
-keeps_flash : (is_locked : Bool) (image : Image) (xs : List ℕ)
-    → Keeps image xs (if is_locked then xs else and_in image xs)
-keeps_flash true image xs = keeps_all image xs
-keeps_flash false image xs = record { size = length-and_in image xs; rest = λ i none. rest_anded image xs i none }
-
-keeps_eeprom_bytes : (is_locked : Bool) (image : Image) (xs : List ℕ)
-    → Keeps image xs (if is_locked then xs else with_image image xs)
-keeps_eeprom_bytes true image xs = keeps_all image xs
-keeps_eeprom_bytes false image xs = record { size = length-laid image xs; rest = λ i none. rest_laid image xs i none }
-
--- a memory of one byte
-keeps_one : (image : Image) (x y : ℕ) → (byte_at image 0 ≡ None → y ≡ x) → Keeps image (x ∷ []) (y ∷ [])
-keeps_one image x y kept = record { size = refl; rest = rest }
-  where
-    rest : (i : ℕ) → byte_at image i ≡ None → get_or (y ∷ []) i 0 ≡ get_or (x ∷ []) i 0
-    rest zero none = kept none
-    rest (suc i) none = refl
-
-kept_fuse : (is_locked : Bool) (image : Image) (x : ℕ) → byte_at image 0 ≡ None
-    → (if is_locked then x else unwrap_or (byte_at image 0) x) ≡ x
-kept_fuse true image x none = refl
-kept_fuse false image x none = kept_byte (byte_at image 0) x none
-
--- ---- a write to a memory
+keeps_written : (spared zeros : Bool) (image : Image) (xs : List ℕ)
+    → Keeps image xs (if spared then xs else laid zeros image xs)
+keeps_written true zeros image xs = record { size = refl; rest = λ i none. refl }
+keeps_written false true image xs =
+    record { size = length-and_in image xs; rest = λ i none. rest_anded image xs i none }
+keeps_written false false image xs = record { size = length-laid image xs; rest = λ i none. rest_laid image xs i none }
 
 pub write_keeps : (part : Part) (mem : Mem) (image : Image) (m : Memories)
     → Keeps image (memory_in part mem m) (memory_in part mem (write_effect mem image m))
-write_keeps part Flash image m = keeps_flash (are_locked m) image m.flash
-write_keeps part Eeprom image m = keeps_eeprom_bytes (are_locked m) image m.eeprom
-write_keeps part Lfuse image m = keeps_one image m.lfuse (write_effect Lfuse image m).lfuse
-    (λ none. kept_fuse (are_locked m) image m.lfuse none)
-write_keeps part Hfuse image m = keeps_one image m.hfuse (write_effect Hfuse image m).hfuse
-    (λ none. kept_fuse (are_locked m) image m.hfuse none)
-write_keeps part Efuse image m = keeps_one image m.efuse (write_effect Efuse image m).efuse
-    (λ none. kept_fuse (are_locked m) image m.efuse none)
-write_keeps part Lock image m = keeps_one image m.lock (write_effect Lock image m).lock
-    (λ none. kept_bits (byte_at image 0) m.lock none)
-write_keeps part Signature image m = keeps_all image part.signature
-write_keeps part Calibration image m = keeps_all image (255 ∷ [])
-
--- another memory stays whole
-pub others_stay : (part : Part) (other mem : Mem) (image : Image) (m : Memories)
-    → (memory_number other == memory_number mem) ≡ false
-    → memory_in part mem (write_effect other image m) ≡ memory_in part mem m
-others_stay part Flash Flash image m e = absurd (true≢false e)
-others_stay part Flash mem image m e = refl
-others_stay part Eeprom Eeprom image m e = absurd (true≢false e)
-others_stay part Eeprom mem image m e = refl
-others_stay part Lfuse Lfuse image m e = absurd (true≢false e)
-others_stay part Lfuse mem image m e = refl
-others_stay part Hfuse Hfuse image m e = absurd (true≢false e)
-others_stay part Hfuse mem image m e = refl
-others_stay part Efuse Efuse image m e = absurd (true≢false e)
-others_stay part Efuse mem image m e = refl
-others_stay part Lock Lock image m e = absurd (true≢false e)
-others_stay part Lock mem image m e = refl
-others_stay part Signature mem image m e = refl
-others_stay part Calibration mem image m e = refl
-
-abbrev numbered : ℕ → Mem
-numbered n =
-    if n == 0 then Flash
-    else if n == 1 then Eeprom
-    else if n == 2 then Lfuse
-    else if n == 3 then Hfuse
-    else if n == 4 then Efuse
-    else if n == 5 then Lock
-    else if n == 6 then Signature
-    else Calibration
-
-numbered_is : (mem : Mem) → numbered (memory_number mem) ≡ mem
-numbered_is Flash = refl
-numbered_is Eeprom = refl
-numbered_is Lfuse = refl
-numbered_is Hfuse = refl
-numbered_is Efuse = refl
-numbered_is Lock = refl
-numbered_is Signature = refl
-numbered_is Calibration = refl
-
-pub same_memory : (other mem : Mem) → (memory_number other == memory_number mem) ≡ true → other ≡ mem
-same_memory other mem e = sym (numbered_is other)
-    ∙ (ap numbered (eqb-true (memory_number other) (memory_number mem) e) ∙ numbered_is mem)
+write_keeps part mem image m = subst (Keeps image (memory_in part mem m)) (sym (write_is part mem mem image m))
+    (keeps_written (spares mem mem (are_locked m)) (keeps_zeros mem) image (memory_in part mem m))
 
 -- ---- what is left of one memory
 
@@ -225,11 +150,7 @@ module _ (part : Part) where
   length-written_to mem (WriteImage other image ∷ actions) fit =
       size_over mem other image (written_to part mem (actions_items actions)) (memory_number other == memory_number mem)
       refl fit.0.0 (length-written_to mem actions fit.1)
-  length-written_to mem (OpenSession ∷ actions) fit = length-written_to mem actions fit.1
-  length-written_to mem (EraseChip ∷ actions) fit = length-written_to mem actions fit.1
-  length-written_to mem (CompareImage other image ∷ actions) fit = length-written_to mem actions fit.1
-  length-written_to mem (SaveMemory other format file ∷ actions) fit = length-written_to mem actions fit.1
-  length-written_to mem (LeaveOut what ∷ actions) fit = length-written_to mem actions fit.1
+  length-written_to mem (action ∷ actions) fit = length-written_to mem actions fit.1
 
   -- a write, and what follows it
   write_left : (mem other : Mem) (image more : Image) (m new : Memories) (same : Bool)

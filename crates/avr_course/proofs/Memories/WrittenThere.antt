@@ -15,7 +15,8 @@ use Rattle.avr_course.proofs.Strokes.Pages.{effects_on}
 use Rattle.avr_course.specs.Agrees.{Shows}
 use Rattle.avr_course.specs.Items.{has_erase}
 use Rattle.avr_course.specs.Written.{memory_number, LeaveFree, IsErasedFor, IsTaken}
-use Rattle.avr_course.proofs.Memories.LaidImages.{write_keeps, others_stay, same_memory}
+use Rattle.avr_course.proofs.Strokes.EachMemory.{same_memory, size_stays, others_stay}
+use Rattle.avr_course.proofs.Memories.LaidImages.{write_keeps}
 
 -- ---- an erased place stays blank until an image has a byte for it
 
@@ -32,20 +33,11 @@ module _ (part : Part) (mem : Mem) (addr : ℕ)
   -- a write that has no byte there
   past_write : (other : Mem) (image : Image) (m : Memories)
       → (memory_number other ≡ memory_number mem → byte_at image addr ≡ None)
-      → (held (write_effect other image m) ≡ held m)
-      × (length (memory_in part mem (write_effect other image m)) ≡ length (memory_in part mem m))
+      → held (write_effect other image m) ≡ held m
   past_write other image m free = elim (cases_Bool (memory_number other == memory_number mem)) [
-    | inl same ↦
-        subst (λ (o : Mem). (held (write_effect o image m) ≡ held m)
-        × (length (memory_in part mem (write_effect o image m)) ≡ length (memory_in part mem m)))
-        (sym (same_memory other mem same)) (
-          (write_keeps part mem image m).rest addr (free (eqb-true (memory_number other) (memory_number mem) same)),
-          (write_keeps part mem image m).size,
-        )
-    | inr differ ↦ (
-      ap (λ (xs : List ℕ). get_or xs addr 0) (others_stay part other mem image m differ),
-      ap (λ (xs : List ℕ). length xs) (others_stay part other mem image m differ),
-    )
+    | inl same ↦ subst (λ (o : Mem). held (write_effect o image m) ≡ held m) (sym (same_memory other mem same))
+        ((write_keeps part mem image m).rest addr (free (eqb-true (memory_number other) (memory_number mem) same)))
+    | inr differ ↦ ap (λ (xs : List ℕ). get_or xs addr 0) (others_stay part other mem image m differ)
   ]
 
   stays_blank : (xs : List Item) (m : Memories) → IsInside m → LeaveFree xs mem addr → held m ≡ 255
@@ -54,8 +46,8 @@ module _ (part : Part) (mem : Mem) (addr : ℕ)
   stays_blank (Erase ∷ xs) m inside free blank =
       stays_blank xs (effect part Erase m) (omega (arith, inside, sized m)) free (blanked m inside)
   stays_blank (Write other image ∷ xs) m inside free blank =
-      let past = past_write other image m free.0 in
-      stays_blank xs (write_effect other image m) (omega (arith, inside, past.1)) free.1 (past.0 ∙ blank)
+      stays_blank xs (write_effect other image m) (omega (arith, inside, size_stays part other mem image m)) free.1
+      (past_write other image m free.0 ∙ blank)
 
   pub erased_is_blank : (xs : List Item) (m : Memories) → IsInside m → LeaveFree xs mem addr → has_erase xs ≡ true
       → held (effects part xs m) ≡ 255
@@ -63,23 +55,15 @@ module _ (part : Part) (mem : Mem) (addr : ℕ)
   erased_is_blank (Erase ∷ xs) m inside free has =
       stays_blank xs (effect part Erase m) (omega (arith, inside, sized m)) free (blanked m inside)
   erased_is_blank (Write other image ∷ xs) m inside free has =
-      let past = past_write other image m free.0 in
-      erased_is_blank xs (write_effect other image m) (omega (arith, inside, past.1)) free.1 has
+      erased_is_blank xs (write_effect other image m) (omega (arith, inside, size_stays part other mem image m)) free.1
+      has
 
-  pub size_stays : (xs : List Item) (m : Memories)
+  pub sizes_stay : (xs : List Item) (m : Memories)
       → length (memory_in part mem (effects part xs m)) ≡ length (memory_in part mem m)
-  size_stays [] m = refl
-  size_stays (Erase ∷ xs) m = size_stays xs (effect part Erase m) ∙ sized m
-  size_stays (Write other image ∷ xs) m = size_stays xs (write_effect other image m) ∙ same_size other
-    where
-      same_size : (o : Mem) → length (memory_in part mem (write_effect o image m)) ≡ length (memory_in part mem m)
-      same_size o = elim (cases_Bool (memory_number o == memory_number mem)) [
-        | inl same ↦
-            subst (λ (p : Mem). length (memory_in part mem (write_effect p image m)) ≡ length (memory_in part mem m))
-            (sym (same_memory o mem same))
-            (write_keeps part mem image m).size
-        | inr differ ↦ ap (λ (xs : List ℕ). length xs) (others_stay part o mem image m differ)
-      ]
+  sizes_stay [] m = refl
+  sizes_stay (Erase ∷ xs) m = sizes_stay xs (effect part Erase m) ∙ sized m
+  sizes_stay (Write other image ∷ xs) m =
+      sizes_stay xs (write_effect other image m) ∙ size_stays part other mem image m
 
 -- ---- and it takes the image's byte
 
@@ -124,7 +108,7 @@ module _ (part : Part) (image : Image) (first : List Item) (before : Memories) (
       let sized : (m : Memories) → length (memory_in part Flash (effect part Erase m)) ≡ length m.flash =
       λ m. length-replicate {A = ℕ} (length m.flash) 255 in
       erased_is_blank part Flash i blanked sized first before
-      (omega (arith, l, size_stays part Flash i blanked sized first before)) (erased.1 i b is) erased.0
+      (omega (arith, l, sizes_stay part Flash i blanked sized first before)) (erased.1 i b is) erased.0
 
   lock_blank : IsErasedFor Lock image first → (b : ℕ) → byte_at image 0 ≡ Some b → mid.lock ≡ 255
   lock_blank erased b is = erased_is_blank part Lock 0 (λ m inside. refl) (λ m. refl) first before (omega arith)

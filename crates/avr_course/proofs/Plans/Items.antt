@@ -8,11 +8,34 @@ use Rattle.avr_part.specs.declared.part.Mem.{Mem}
 use Rattle.avr_plan.specs.Plan.{Plan}
 use Rattle.avr_plan.specs.declared.planned.Task.{Task}
 use Rattle.avr_plan.specs.declared.planned.Task.TheVariants as task
-use Rattle.avr_session.specs.Actions.{TheErase, TheWrite, Action, EraseChip, WriteImage, CompareImage, LeaveOut, is_erase_due, erase_actions, tasks_actions}
+use Rattle.avr_session.specs.Actions.{TheErase, TheWrite, Action, EraseChip, WriteImage, CompareImage, LeaveOut, is_erase_due, erase_actions, write_actions, tasks_actions}
 use Rattle.stk_emu.specs.Effect.{Image, Memories, Item, Erase, Write, effects}
 use Rattle.avr_course.proofs.Strokes.Pages.{effects_on}
 use Rattle.avr_course.specs.Agrees.{ActionsAgree, Agrees}
 use Rattle.avr_course.specs.Items.{action_items, actions_items, items, has_erase, task_item, asked_items}
+
+-- what the erase of a session can be
+pub by_erase : (P : List Action → Type 0) (s : Switches) (tasks : List Task) → P [] → P (LeaveOut TheErase ∷ [])
+    → P (EraseChip ∷ []) → P (erase_actions s tasks)
+by_erase P s tasks none left_out done = by_switches s.dry s.erase (is_erase_due s tasks)
+  where
+    by_switches : (dry asked due : Bool) → P
+        (if dry then (if asked then LeaveOut TheErase ∷ [] else []) else if due then EraseChip ∷ [] else [])
+    by_switches true true due = left_out
+    by_switches false asked true = done
+    by_switches dry asked due = none
+
+-- and a write
+pub by_write : (P : List Action → Type 0) (s : Switches) (mem : Mem) (image : Image)
+    → P (LeaveOut (TheWrite mem image) ∷ []) → P (WriteImage mem image ∷ [])
+    → P (WriteImage mem image ∷ CompareImage mem image ∷ []) → P (write_actions s mem image)
+by_write P s mem image left_out alone compared = by_switches s.dry s.no_verify
+  where
+    by_switches : (dry unverified : Bool) → P (if dry then LeaveOut (TheWrite mem image) ∷ []
+        else WriteImage mem image ∷ (if unverified then [] else CompareImage mem image ∷ []))
+    by_switches true unverified = left_out
+    by_switches false true = alone
+    by_switches false false = compared
 
 abbrev pub writes : Plan → List Item
 writes plan = actions_items (tasks_actions plan.switches plan.tasks)
@@ -26,34 +49,21 @@ items_on [] ys = refl
 items_on (x ∷ xs) ys = ap (λ more. action_items x ++ more) (items_on xs ys)
     ∙ sym (append_assoc (action_items x) (actions_items xs) (actions_items ys))
 
-write_writes : (dry left_out : Bool) (mem : Mem) (image : Image) (more : List Action)
-    → has_erase (actions_items more) ≡ false
-    → has_erase (actions_items ((if dry then LeaveOut (TheWrite mem image) ∷ []
-    else WriteImage mem image ∷ (if left_out then [] else CompareImage mem image ∷ [])) ++ more)) ≡ false
-write_writes true left_out mem image more none = none
-write_writes false true mem image more none = none
-write_writes false false mem image more none = none
-
 pub tasks_write : (s : Switches) (tasks : List Task) → has_erase (actions_items (tasks_actions s tasks)) ≡ false
 tasks_write s [] = refl
 tasks_write s (task.Write mem image ∷ tasks) =
-    write_writes s.dry s.no_verify mem image (tasks_actions s tasks) (tasks_write s tasks)
+    let none = tasks_write s tasks in
+    by_write (λ xs. has_erase (actions_items (xs ++ tasks_actions s tasks)) ≡ false) s mem image none none none
 tasks_write s (task.Verify mem image ∷ tasks) = tasks_write s tasks
 tasks_write s (task.Read mem format file ∷ tasks) = tasks_write s tasks
 
-erase_is : (dry asked due : Bool) (more : List Action) → has_erase (actions_items more) ≡ false
-    → actions_items (if dry then (if asked then LeaveOut TheErase ∷ [] else []) else if due then EraseChip ∷ [] else [])
-    ≡ erase_if (has_erase (actions_items ((if dry then (if asked then LeaveOut TheErase ∷ [] else [])
-    else if due then EraseChip ∷ [] else []) ++ more)))
-erase_is true true due more none = ap erase_if (sym none)
-erase_is true false due more none = ap erase_if (sym none)
-erase_is false asked true more none = refl
-erase_is false asked false more none = ap erase_if (sym none)
-
 pub begins : (plan : Plan) → actions_items (erase_actions plan.switches plan.tasks) ≡ erase_if (has_erase (items plan))
 begins plan =
-    let s = plan.switches in
-    erase_is s.dry s.erase (is_erase_due s plan.tasks) (tasks_actions s plan.tasks) (tasks_write s plan.tasks)
+    let more = tasks_actions plan.switches plan.tasks in
+    let none : [] ≡ erase_if (has_erase (actions_items more)) =
+    ap erase_if (sym (tasks_write plan.switches plan.tasks)) in
+    by_erase (λ xs. actions_items xs ≡ erase_if (has_erase (actions_items (xs ++ more)))) plan.switches plan.tasks none
+    none refl
 
 pub items_are : (plan : Plan) → items plan ≡ erase_if (has_erase (items plan)) ++ writes plan
 items_are plan =
@@ -131,14 +141,7 @@ items_by_tasks plan =
 module _ (part : Part) where
   -- an erase compares nothing
   erasing_agrees : (s : Switches) (tasks : List Task) (m : Memories) → ActionsAgree part (erase_actions s tasks) m
-  erasing_agrees s tasks m = by_switches s.dry s.erase (is_erase_due s tasks)
-    where
-      by_switches : (dry asked due : Bool) → ActionsAgree part
-          (if dry then (if asked then LeaveOut TheErase ∷ [] else []) else if due then EraseChip ∷ [] else []) m
-      by_switches true true due = (tt, tt)
-      by_switches true false due = tt
-      by_switches false asked true = (tt, tt)
-      by_switches false asked false = tt
+  erasing_agrees s tasks m = by_erase (λ xs. ActionsAgree part xs m) s tasks tt (tt, tt) (tt, tt)
 
   agree_behind : (xs ys : List Action) (m : Memories) → ActionsAgree part (xs ++ ys) m
       → ActionsAgree part ys (effects part (actions_items xs) m)

@@ -1,24 +1,15 @@
 -- How a session stands: after an operation that failed, at its end, and that a fault is not fine.
 use Rattle.std.proofs.Common.{◌≡◌, refl, Err}
 use Rattle.stk_host.specs.declared.fault.HostFault.{HostFault}
-use Rattle.stk_host.specs.declared.fault.HostFault.TheVariants.{NoAnswer, LinkEnded, SendFailed, Babble, Refused, BadAnswer, WrongSignature, Differs, ReadOnly, Memory, RecvFailed}
+use Rattle.stk_host.specs.declared.fault.HostFault.TheVariants.{LinkEnded}
 use Rattle.avr_session.specs.Standing.{Standing, Fine, Faulty, Over}
 use Rattle.avr_session.specs.Session.{standing, status_of}
 
 -- after a fault a session is faulty or over
 pub after_fault : (A : Type 0) (P : Standing → Type 0) (fault : HostFault) → P Faulty → P Over
     → P (standing {A = A} (Err fault))
-after_fault A P NoAnswer faulty over = faulty
 after_fault A P LinkEnded faulty over = over
-after_fault A P SendFailed faulty over = faulty
-after_fault A P Babble faulty over = faulty
-after_fault A P (Refused command status) faulty over = faulty
-after_fault A P (BadAnswer command) faulty over = faulty
-after_fault A P (WrongSignature found) faulty over = faulty
-after_fault A P (Differs mem address want found) faulty over = faulty
-after_fault A P (ReadOnly mem) faulty over = faulty
-after_fault A P Memory faulty over = faulty
-after_fault A P RecvFailed faulty over = faulty
+after_fault A P fault faulty over = faulty
 
 pub faulty_fine : {A : Type 0} → ◌≡◌ {A = Standing} Faulty Fine → A
 faulty_fine e = absurd (let no : ⊥ = cc in no)
@@ -33,5 +24,4 @@ at_end _ = Over
 
 pub status_is : (at : Standing) → status_of (at_end at) ≡ status_of at
 status_is Fine = refl
-status_is Faulty = refl
-status_is Over = refl
+status_is at = refl

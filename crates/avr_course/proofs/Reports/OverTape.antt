@@ -3,7 +3,7 @@ use Rattle.std.proofs.Common.{◌≡◌, ◌∙◌, ℕ, zero, suc, Bool, true, 
 use Rattle.std.specs.Prelude.{if◌then◌else◌}
 use Rattle.std.specs.Str.{bytes_eq}
 use Rattle.stk_frame.specs.Frame.{frame}
-use Rattle.stk_host.specs.Tape.{Tape, Reading, Answered, Silent, Ended, Babbled, answer}
+use Rattle.stk_host.specs.Tape.{Tape, Reading, Answered, answer}
 use Rattle.stk_host.specs.Dialog.{Dialog, Done, Say, Ask, Event, Frame, Said, Played, played, by_answer, next, frames_in}
 use Rattle.stk_emu.specs.declared.fate.Fate.{Fate}
 use Rattle.stk_emu.specs.Device.{Device, after_frame, refusal}
@@ -36,9 +36,7 @@ by_reading : (became : Became) (reading : Reading) → became ≡ became_in (tur
 by_reading Obeyed (Answered body) = by_body (bytes_eq body refusal)
 by_reading Kept (Answered body) = refl
 by_reading (Anew became) (Answered body) = refl
-by_reading became Silent = refl
-by_reading became Ended = refl
-by_reading became Babbled = refl
+by_reading became reading = refl
 
 by_answered : {E R : Type 0} (becames : List Became) (go_on : Reading → Tape → Played E R)
     (more : Reading → Tape → List Turn) (o : Option (Reading × Tape))

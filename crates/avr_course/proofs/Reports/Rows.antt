@@ -6,7 +6,7 @@ use Rattle.std.specs.Prelude.{◌≤◌, codes, decimal, reverse, slice_index}
 use Rattle.avr_desk.specs.Record.{Bytes}
 use Rattle.avr_image.specs.Image.{byte_count}
 use Rattle.avr_desk.specs.Lines.{information}
-use Rattle.avr_desk.specs.Said.{Saying, Line, Creates, Writes, Outs, Opens}
+use Rattle.avr_desk.specs.Said.{Saying, Line, Creates, Writes, Outs}
 use Rattle.avr_part.specs.Mem.{name_of}
 use Rattle.avr_part.specs.declared.part.Mem.{Mem}
 use Rattle.avr_part.specs.declared.part.Mem.TheVariants.{Eeprom}
@@ -32,10 +32,7 @@ zeros = chip_of tiny 0
 -- the last bytes of a line, last first
 abbrev ends : Saying → List ℕ
 ends (Line bytes) = take 10 (reverse bytes)
-ends (Opens opening) = []
-ends (Creates name) = []
-ends (Writes bytes) = []
-ends (Outs bytes) = []
+ends saying = []
 
 joined : (m n c d e l : List ℕ) → m ++ ((n ++ (c ++ (d ++ (e ++ [])))) ++ l) ≡ (m ++ (n ++ (c ++ d))) ++ (e ++ l)
 joined (x ∷ m) n c d e l = ap (λ t. x ∷ t) (joined m n c d e l)
@@ -54,21 +51,9 @@ line_ends mem count words enough =
     ∙ (ap (take 10) (reverse-append prefix (words ++ 10 ∷ []))
     ∙ take-append-le 10 (reverse (words ++ 10 ∷ [])) (reverse prefix) enough)
 
-verified_ends : (mem : Mem) (count : ℕ) → ends (count_line mem count (codes " bytes verified"))
-    ≡ take 10 (reverse (codes " bytes verified" ++ 10 ∷ []))
-verified_ends mem count = line_ends mem count (codes " bytes verified") (omega arith)
-
-read_ends : (mem : Mem) (count : ℕ) → ends (count_line mem count (codes " bytes read"))
-    ≡ take 10 (reverse (codes " bytes read" ++ 10 ∷ []))
-read_ends mem count = line_ends mem count (codes " bytes read") (omega arith)
-
 written_ends : (mem : Mem) (count : ℕ) → ends (count_line mem count (codes " bytes written"))
     ≡ take 10 (reverse (codes " bytes written" ++ 10 ∷ []))
 written_ends mem count = line_ends mem count (codes " bytes written") (omega arith)
-
-left_ends : (mem : Mem) (count : ℕ) → ends (count_line mem count (codes " bytes not written"))
-    ≡ take 10 (reverse (codes " bytes not written" ++ 10 ∷ []))
-left_ends mem count = line_ends mem count (codes " bytes not written") (omega arith)
 
 -- an erase opens the lock
 first_item : (a b x : Item) (more : List Item) → a ∷ b ∷ [] ≡ x ∷ more → a ≡ x
@@ -101,10 +86,7 @@ not_begun mem bytes (x ∷ y ∷ rest) later order now =
 -- the byte of a line at this place, and whether it is a line
 abbrev byte : ℕ → Saying → ℕ
 byte place (Line bytes) = slice_index bytes place
-byte place (Opens opening) = 0
-byte place (Creates name) = 0
-byte place (Writes bytes) = 0
-byte place (Outs bytes) = 0
+byte place saying = 0
 
 not_saved : (line file text : Bytes) → (Line line ≡ Creates file)
     ⊎ ((Line line ≡ Writes text) ⊎ (Line line ≡ Outs text)) → ⊥
@@ -119,16 +101,19 @@ never_written (ChipErased has e now) = let clash : 101 ≡ 99 = ap (byte 8) e in
 never_written (EraseLeftOut has e) = let clash : 101 ≡ 119 = ap (byte 8) e in omega (arith, clash)
 never_written (BytesWritten mem bytes first later e order now) = not_begun mem bytes first later order now
 never_written (WriteLeftOut mem bytes has e) = let clash : 115 ≡ 116 =
-    ap (λ l. slice_index l 9) (sym (written_ends Eeprom 1) ∙ (ap ends e ∙ left_ends mem (byte_count bytes))) in
+    ap (λ l. slice_index l 9) (sym (written_ends Eeprom 1)
+    ∙ (ap ends e ∙ line_ends mem (byte_count bytes) (codes " bytes not written") (omega arith))) in
     omega (arith, clash)
 never_written (BytesVerified mem bytes has e shows) = let clash : 110 ≡ 100 =
-    ap (λ l. slice_index l 1) (sym (written_ends Eeprom 1) ∙ (ap ends e ∙ verified_ends mem (byte_count bytes))) in
+    ap (λ l. slice_index l 1) (sym (written_ends Eeprom 1)
+    ∙ (ap ends e ∙ line_ends mem (byte_count bytes) (codes " bytes verified") (omega arith))) in
     omega (arith, clash)
 never_written (Differed mem bytes fault has e differs) = let clash : 101 ≡ 114 = ap (byte 9) e in omega (arith, clash)
 never_written (BytesSaved mem format file has e) = not_saved _ file _ e
 never_written (BytesRead mem format file has e) = let clash : 110 ≡ 100 =
     ap (λ l. slice_index l 1) (sym (written_ends Eeprom 1)
-    ∙ (ap ends e ∙ read_ends mem (length (kept_in plan mem zeros)))) in omega (arith, clash)
+    ∙ (ap ends e ∙ line_ends mem (length (kept_in plan mem zeros)) (codes " bytes read") (omega arith))) in
+    omega (arith, clash)
 never_written (StepFailed fault e) = let clash : 101 ≡ 114 = ap (byte 9) e in omega (arith, clash)
 never_written (SessionDone e) = let clash : 101 ≡ 100 = ap (byte 8) e in omega (arith, clash)
 
@@ -139,12 +124,16 @@ never_erased (ChipErased has e now) = let lock : 0 ≡ 255 = ap (λ (m : Memorie
 never_erased (EraseLeftOut has e) = let clash : 99 ≡ 119 = ap (byte 8) e in omega (arith, clash)
 never_erased (BytesWritten mem bytes first later e order now) = not_begun mem bytes first later order now
 never_erased (WriteLeftOut mem bytes has e) = let clash : 100 ≡ 110 =
-    ap (λ l. slice_index l 1) (ap ends e ∙ left_ends mem (byte_count bytes)) in omega (arith, clash)
+    ap (λ l. slice_index l 1) (ap ends e
+    ∙ line_ends mem (byte_count bytes) (codes " bytes not written") (omega arith)) in
+    omega (arith, clash)
 never_erased (BytesVerified mem bytes has e shows) = let clash : 115 ≡ 105 =
-    ap (λ l. slice_index l 3) (ap ends e ∙ verified_ends mem (byte_count bytes)) in omega (arith, clash)
+    ap (λ l. slice_index l 3) (ap ends e ∙ line_ends mem (byte_count bytes) (codes " bytes verified") (omega arith)) in
+    omega (arith, clash)
 never_erased (Differed mem bytes fault has e differs) = let clash : 99 ≡ 101 = ap (byte 8) e in omega (arith, clash)
 never_erased (BytesSaved mem format file has e) = not_saved _ file _ e
 never_erased (BytesRead mem format file has e) = let clash : 101 ≡ 97 =
-    ap (λ l. slice_index l 2) (ap ends e ∙ read_ends mem (length (kept_in plan mem zeros))) in omega (arith, clash)
+    ap (λ l. slice_index l 2) (ap ends e
+    ∙ line_ends mem (length (kept_in plan mem zeros)) (codes " bytes read") (omega arith)) in omega (arith, clash)
 never_erased (StepFailed fault e) = let clash : 99 ≡ 101 = ap (byte 8) e in omega (arith, clash)
 never_erased (SessionDone e) = let clash : 99 ≡ 100 = ap (byte 8) e in omega (arith, clash)

@@ -76,10 +76,7 @@ module _ (plan : Plan) (sound : IsPart plan.part) (m0 : Memories) (f0 : FitsPart
   no_signature : (quiet : ℕ) (fault : StepFault) (q : Programmer)
       → AllTrue T (opening_says quiet plan.part (Err (host_fault fault))) q
   no_signature quiet of_step.NoAnswer q = failed of_step.NoAnswer q
-  no_signature quiet of_step.LinkEnded q = failed of_step.LinkEnded q
-  no_signature quiet of_step.Babble q = failed of_step.Babble q
-  no_signature quiet (of_step.Refused command status) q = failed (of_step.Refused command status) q
-  no_signature quiet (of_step.BadAnswer command) q = failed (of_step.BadAnswer command) q
+  no_signature quiet fault q = failed fault q
 
   own_signature : (quiet : ℕ) (q : Programmer) → AllTrue T (opening_says quiet plan.part (Ok plan.part.signature)) q
   own_signature quiet q =

@@ -1,12 +1,12 @@
 -- What a session says is what its course says, up to the first action that does not come to its end.
-use Rattle.std.proofs.Common.{◌≡◌, ℕ, List, [], ◌∷◌, ◌++◌, length, append_assoc, refl, sym, ap, ap₂, ◌∙◌, subst, inl, inr, ◌⊎◌, Ok, Err, Result, Bool, true, false, arith, All, Option, Some, None}
+use Rattle.std.proofs.Common.{◌≡◌, ℕ, List, [], ◌∷◌, ◌++◌, length, append_assoc, refl, sym, ap, ap₂, ◌∙◌, subst, inl, inr, ◌⊎◌, Ok, Err, Result, arith, All, Option, Some, None}
+use Rattle.std.proofs.lemmas.Bool.{cond-true}
 use Rattle.std.proofs.lemmas.List.{append-nil}
 use Rattle.std.specs.Prelude.{⊤, ◌≤◌, if◌then◌else◌}
 use Rattle.avr_cli.specs.declared.settings.Switches.{Switches}
 use Rattle.avr_desk.specs.Said.{Saying, Line}
 use Rattle.avr_part.specs.Mem.{is_writable}
 use Rattle.avr_part.specs.Part.{Part, IsPart, size_of}
-use Rattle.avr_part.specs.declared.part.Mem.{Mem}
 use Rattle.avr_plan.specs.Plan.{Plan, IsFitted}
 use Rattle.avr_session.specs.Actions.{Action, OpenSession, EraseChip, WriteImage, CompareImage, SaveMemory, LeaveOut, actions}
 use Rattle.avr_session.specs.Lines.{fault_line}
@@ -43,7 +43,7 @@ use Rattle.avr_course.proofs.Hosts.Attempts.{along_bind, onward}
 use Rattle.avr_course.proofs.Hosts.AnyTurn.{asks≢done, Keeps, leads_to, done_is}
 use Rattle.stk_host.proofs.Dialogs.Logic.{call}
 use Rattle.avr_course.proofs.Strokes.Items.{struck_all, item_does, item_are_steps, read_are_steps, effect_sizes}
-use Rattle.avr_course.proofs.Hosts.Operations.{AfterCall, operation_goes, IsClosed, closing_goes}
+use Rattle.avr_course.proofs.Hosts.Operations.{operation_goes, IsClosed, closing_goes}
 use Rattle.avr_course.proofs.Given.WholeMemories.{read_gives}
 use Rattle.avr_course.proofs.Lines.Sayings.{said_on, said_bind, said_lifted}
 use Rattle.avr_course.specs.Course.{Course, then_from, ◌then◌, action_course, actions_course, working_course, ending_says, course}
@@ -52,8 +52,8 @@ use Rattle.avr_course.proofs.AnyLine.FrameSizes.{session_asks}
 use Rattle.avr_course.proofs.AnyLine.FirstSteps.{quiet_stays, read_quiet}
 use Rattle.avr_course.proofs.AnyLine.Calls.{says≢done, says_programmer, says_dialog}
 use Rattle.avr_course.proofs.Plans.Fits.{FitsAction, AllFitActions, work, work_fits}
-use Rattle.avr_course.proofs.Plans.Standings.{after_fault, faulty_fine, over_fine}
-use Rattle.avr_course.proofs.AnyLine.Phases.{Opened, opening_comes}
+use Rattle.avr_course.proofs.Plans.Standings.{after_fault}
+use Rattle.avr_course.proofs.AnyLine.Phases.{opening_comes}
 
 -- ---- dialogs along a line, by what they have said at each moment, and where they are done
 
@@ -110,8 +110,7 @@ module _ {E A B : Type 0} (Now : List E → Type 0) (Between : A → List E → 
   now_on : (left : ℕ) (turns : List Turn) (q : Programmer) (said : List E) (d : Dialog E A) → Now said
       → ((a : A) → d ≡ Done a → Between a said q) → Now (said ++ said_on device next left turns q d)
   now_on left turns q said (Done a) n between = (more a said q turns (between a refl)).now left
-  now_on left turns q said (Say e dialog) n between = subst Now (sym (append-nil said)) n
-  now_on left turns q said (Ask bytes go_on) n between = subst Now (sym (append-nil said)) n
+  now_on left turns q said d n between = subst Now (sym (append-nil said)) n
 
   after_on : (left : ℕ) (turns : List Turn) (q : Programmer) (said : List E) (d : Dialog E A)
       → ((a : A) → d ≡ Done a → Between a said q)
@@ -203,8 +202,7 @@ module _ (plan : Plan) (sound : IsPart plan.part) where
 
   abbrev AfterPhase : Course → Standing → List Saying → Programmer → Type 0
   AfterPhase c Fine said q = (said ≡ c.says) × ((c.standing ≡ Fine) × Settled part c.memories q)
-  AfterPhase c Faulty said q = Failed c Faulty said
-  AfterPhase c Over said q = Failed c Over said
+  AfterPhase c at said q = Failed c at said
 
   abbrev TellsPhase : (Programmer → Type 0) → Dialog Saying Standing → Course → Type 0
   TellsPhase From d c = (p : Programmer) (turns : List Turn) → From p → Tells d p turns (NowPhase c) (AfterPhase c)
@@ -212,8 +210,7 @@ module _ (plan : Plan) (sound : IsPart plan.part) where
   came_phase : (c : Course) (at : Standing) (said : List Saying) (q : Programmer) → said ≡ c.says → c.standing ≡ at
       → Settled part c.memories q → AfterPhase c at said q
   came_phase c Fine said q is stands settled = (is, (stands, settled))
-  came_phase c Faulty said q is stands settled = inl (is, stands)
-  came_phase c Over said q is stands settled = inl (is, stands)
+  came_phase c at said q is stands settled = inl (is, stands)
 
   failed_phase : (A : Type 0) (c : Course) (fault : StepFault) (said : List Saying) (q : Programmer)
       → said ≡ fault_told fault → AfterPhase c (standing {A = A} (Err (host_fault fault))) said q
@@ -227,6 +224,31 @@ module _ (plan : Plan) (sound : IsPart plan.part) where
       let c : Course = record { says = sayings; standing = Fine; memories = m } in
       tells_says sayings Fine p turns (NowPhase c) (AfterPhase c) (inr (inl refl)) (refl, (refl, settled))
 
+  -- a call that comes to this result, or to a step's fault
+  came_tells : {A : Type 0} {During : Programmer → Type 0} {Came : Result A HostFault → Programmer → Type 0}
+      (call : Dialog ⊥ (Result A HostFault)) (outcome_says : Result A HostFault → List Saying) (c : Course)
+      (result : Result A HostFault) (p : Programmer) (turns : List Turn) → Keeps device During Came call p
+      → ((r : Result A HostFault) (q : Programmer) → Came r q
+      → (Settled part c.memories q × (r ≡ result)) ⊎ ((fault : StepFault) × (r ≡ Err (host_fault fault))))
+      → outcome_says result ≡ c.says → c.standing ≡ standing result
+      → ((fault : StepFault) → outcome_says (Err (host_fault fault)) ≡ fault_told fault)
+      → Tells (reported call outcome_says) p turns (NowPhase c) (AfterPhase c)
+  came_tells {A = A} call outcome_says c result p turns keeps comes says_are stands faults =
+      tells_reported call outcome_says p turns (NowPhase c) (AfterPhase c) keeps (inl refl)
+      (λ r q came. each r q (comes r q came))
+    where
+      each : (r : Result A HostFault) (q : Programmer)
+          → (Settled part c.memories q × (r ≡ result)) ⊎ ((fault : StepFault) × (r ≡ Err (host_fault fault)))
+          → NowPhase c (outcome_says r) × AfterPhase c (standing r) (outcome_says r) q
+      each r q (inl made) =
+          let is : outcome_says r ≡ c.says = ap outcome_says made.1 ∙ says_are in
+          (inr (inl is), came_phase c (standing r) (outcome_says r) q is (stands ∙ ap standing (sym made.1)) made.0)
+      each r q (inr broke) = (
+        inr (inr (broke.0, ap outcome_says broke.1 ∙ faults broke.0)),
+        subst (λ x. AfterPhase c (standing x) (outcome_says x) q) (sym broke.1)
+            (failed_phase A c broke.0 (outcome_says (Err (host_fault broke.0))) q (faults broke.0)),
+      )
+
   -- an operation, by its steps and what it judges of their data
   call_tells : {A : Type 0} (steps : List (List Command)) (judge : List ℕ → Result A HostFault)
       (outcome_says : Result A HostFault → List Saying) (m : Memories) (c : Course)
@@ -234,40 +256,13 @@ module _ (plan : Plan) (sound : IsPart plan.part) where
       → outcome_says (judge (all_given part steps m)) ≡ c.says → c.standing ≡ standing (judge (all_given part steps m))
       → ((fault : StepFault) → outcome_says (Err (host_fault fault)) ≡ fault_told fault)
       → TellsPhase (Settled part m) (reported (operation steps judge) outcome_says) c
-  call_tells {A = A} steps judge outcome_says m c are f leaves says_are stands faults p turns settled =
-      tells_reported (operation steps judge) outcome_says p turns (NowPhase c) (AfterPhase c)
-      (operation_goes part sound steps m judge p are f settled) (inl refl) each
-    where
-      each : SaysEach (AfterCall part sound steps m judge) outcome_says (NowPhase c) (AfterPhase c)
-      each r q (inl made) =
-          let is : outcome_says r ≡ c.says = ap outcome_says made.1 ∙ says_are in (
-            inr (inl is),
-            came_phase c (standing r) (outcome_says r) q is (stands ∙ ap standing (sym made.1))
-                (subst (λ z. Settled part z q) leaves made.0),
-          )
-      each r q (inr broke) = (
-        inr (inr (broke.0, ap outcome_says broke.1 ∙ faults broke.0)),
-        subst (λ x. AfterPhase c (standing x) (outcome_says x) q) (sym broke.1)
-            (failed_phase A c broke.0 (outcome_says (Err (host_fault broke.0))) q (faults broke.0)),
-      )
-
-  writing_tells : (mem : Mem) (image : Image) (m : Memories) → length image ≤ size_of mem part → is_writable mem ≡ true
-      → FitsPart part m
-      → TellsPhase (Settled part m) (phase part s (WriteImage mem image))
-      (action_course part s (WriteImage mem image) m)
-  writing_tells mem image m fits can f = by_kind (is_writable mem) can
-    where
-      by_kind : (b : Bool) → b ≡ true
-          → TellsPhase (Settled part m) (reported (if b then operation (write_steps part mem image) no_result
-          else Done (Err (ReadOnly mem))) (written_says s.quiet part mem image))
-          (action_course part s (WriteImage mem image) m)
-      by_kind true e =
-          call_tells (write_steps part mem image) no_result (written_says s.quiet part mem image) m
-          (action_course part s (WriteImage mem image) m)
-          (item_are_steps part sound (item.Write mem image) fits) f
-          (struck_all part (write_steps part mem image) m ∙ item_does part sound (item.Write mem image) m fits f)
-          refl refl (λ fault. refl)
-      by_kind false e = absurd (cc)
+  call_tells steps judge outcome_says m c are f leaves says_are stands faults p turns settled =
+      came_tells (operation steps judge) outcome_says c (judge (all_given part steps m)) p turns
+      (operation_goes part sound steps m judge p are f settled)
+      (λ r q came. elim came [
+        | inl made ↦ inl (subst (λ z. Settled part z q) leaves made.0, made.1)
+        | inr broke ↦ inr (broke.0, broke.1)
+      ]) says_are stands faults
 
   action_tells : (action : Action) (m : Memories) → FitsAction part action → FitsPart part m
       → TellsPhase (Settled part m) (phase part s action) (action_course part s action m)
@@ -276,7 +271,15 @@ module _ (plan : Plan) (sound : IsPart plan.part) where
       call_tells ((erase ∷ []) ∷ []) no_result (erased_says s.quiet part) m (action_course part s EraseChip m)
       (item_are_steps part sound item.Erase tt) f refl refl refl (λ fault. refl)
   action_tells (WriteImage mem image) m fits f =
-      writing_tells mem image m (let size = fits.0 in omega (arith, size)) fits.1 f
+      let steps = write_steps part mem image in
+      let size : length image ≤ size_of mem part = let same = fits.0 in omega (arith, same) in
+      subst (λ call. TellsPhase (Settled part m) (reported call (written_says s.quiet part mem image))
+      (action_course part s (WriteImage mem image) m))
+      (sym (cond-true (is_writable mem) (operation steps no_result) (Done (Err (ReadOnly mem))) fits.1))
+      (call_tells steps no_result (written_says s.quiet part mem image) m
+      (action_course part s (WriteImage mem image) m)
+      (item_are_steps part sound (item.Write mem image) size) f
+      (struck_all part steps m ∙ item_does part sound (item.Write mem image) m size f) refl refl (λ fault. refl))
   action_tells (CompareImage mem image) m fits f =
       let steps = read_steps part mem in
       call_tells steps (comparison mem image) (verified_says s.quiet part mem image) m
@@ -294,34 +297,14 @@ module _ (plan : Plan) (sound : IsPart plan.part) where
 
   no_opening : (fault : StepFault) → opening_says s.quiet part (Err (host_fault fault)) ≡ fault_told fault
   no_opening of_step.NoAnswer = refl
-  no_opening of_step.LinkEnded = refl
-  no_opening of_step.Babble = refl
-  no_opening (of_step.Refused command status) = refl
-  no_opening (of_step.BadAnswer command) = refl
+  no_opening fault = refl
 
   opening_tells : (m : Memories) → FitsPart part m
       → TellsPhase (Idle part m) (phase part s OpenSession) (action_course part s OpenSession m)
   opening_tells m f p turns idle =
-      let c = action_course part s OpenSession m in
-      tells_reported (host.opening part.signature s.force) (opening_says s.quiet part) p turns (NowPhase c)
-      (AfterPhase c) (opening_comes part sound s.force m f p idle) (inl refl) each
-    where
-      each : SaysEach (Opened part sound m) (opening_says s.quiet part) (NowPhase (action_course part s OpenSession m))
-          (AfterPhase (action_course part s OpenSession m))
-      each r q (inl found) =
-          let c = action_course part s OpenSession m in
-          let is : opening_says s.quiet part r ≡ c.says = ap (opening_says s.quiet part) found.1 in (
-            inr (inl is),
-            came_phase c (standing r) (opening_says s.quiet part r) q is (ap standing (sym found.1))
-                found.0,
-          )
-      each r q (inr broke) =
-          let c = action_course part s OpenSession m in (
-            inr (inr (broke.0, ap (opening_says s.quiet part) broke.1 ∙ no_opening broke.0)),
-            subst (λ x. AfterPhase c (standing x) (opening_says s.quiet part x) q) (sym broke.1)
-                (failed_phase (List ℕ) c broke.0 (opening_says s.quiet part (Err (host_fault broke.0))) q
-                (no_opening broke.0)),
-          )
+      came_tells (host.opening part.signature s.force) (opening_says s.quiet part)
+      (action_course part s OpenSession m) (Ok part.signature) p turns (opening_comes part sound s.force m f p idle)
+      (λ r q came. elim came [ inl found ↦ inl found | inr broke ↦ inr (broke.0, broke.1) ]) refl refl no_opening
 
   -- ---- the phases of actions
 
@@ -339,8 +322,7 @@ module _ (plan : Plan) (sound : IsPart plan.part) where
       (said ≡ (actions_course part s actions m).says)
       × (((actions_course part s actions m).standing ≡ Fine)
       × Settled part (actions_course part s actions m).memories q)
-  AfterPhases actions m Faulty said q = FailedIn actions m Faulty said
-  AfterPhases actions m Over said q = FailedIn actions m Over said
+  AfterPhases actions m at said q = FailedIn actions m at said
 
   none_done : (actions : List Action) (m : Memories) → SaysFirst part s actions m []
   none_done actions m = record { done = []; more = actions; actions_are = refl; fine = refl; says_are = refl }
@@ -365,10 +347,8 @@ module _ (plan : Plan) (sound : IsPart plan.part) where
           fine = ap (λ x. x.standing) alone;
           says_are = is ∙ (sym (append-nil c.says) ∙ sym (ap (λ x. x.says) alone));
         }))
-    one_done said is Faulty stands = inl (is
-        ∙ sym (ap (λ x. x.says) (then_at c (actions_course part s rest) Faulty stands)))
-    one_done said is Over stands = inl (is ∙ sym
-        (ap (λ x. x.says) (then_at c (actions_course part s rest) Over stands)))
+    one_done said is at stands =
+        inl (is ∙ sym (ap (λ x. x.says) (then_at c (actions_course part s rest) at stands)))
 
     now_one : (said : List Saying) → NowPhase c said → NowPhases (action ∷ rest) m said
     now_one said (inl none) = inr (inl (subst (SaysFirst part s (action ∷ rest) m) (sym none)
@@ -426,8 +406,7 @@ module _ (plan : Plan) (sound : IsPart plan.part) where
               subst (λ z. Settled part z q) (sym (ap (λ y. y.memories) on)) settled,
             ),
           )
-      after_behind Faulty x q failed = failed_behind Faulty x failed
-      after_behind Over x q failed = failed_behind Over x failed
+      after_behind at x q failed = failed_behind at x failed
 
     -- after a fault nothing more is said
     failed_end : (at : Standing) (said : List Saying) → (then_from c at (actions_course part s rest) ≡ c)
@@ -465,23 +444,16 @@ module _ (plan : Plan) (sound : IsPart plan.part) where
               after = λ k at e. after_behind said is fine at (said_along device k next q fs)
                   (along device k next q fs).programmer (t.after k at e);
             }
-        on Faulty said q fs failed =
-            let left = failed_end Faulty said refl failed in
-            tells_done Faulty q fs (λ x. NowPhases (action ∷ rest) m (said ++ x))
-            (λ b x z. AfterPhases (action ∷ rest) m b (said ++ x) z) (failed_now Faulty (said ++ []) left) left
-        on Over said q fs failed =
-            let left = failed_end Over said refl failed in
-            tells_done Over q fs (λ x. NowPhases (action ∷ rest) m (said ++ x))
-            (λ b x z. AfterPhases (action ∷ rest) m b (said ++ x) z) (failed_now Over (said ++ []) left) left
+        on at said q fs failed =
+            let left = failed_end at said refl failed in
+            tells_done at q fs (λ x. NowPhases (action ∷ rest) m (said ++ x))
+            (λ b x z. AfterPhases (action ∷ rest) m b (said ++ x) z) (failed_now at (said ++ []) left) left
 
   sizes_after : (action : Action) (m : Memories) → FitsPart part m
       → FitsPart part (action_course part s action m).memories
-  sizes_after OpenSession m f = f
   sizes_after EraseChip m f = effect_sizes part sound item.Erase m f
   sizes_after (WriteImage mem image) m f = effect_sizes part sound (item.Write mem image) m f
-  sizes_after (CompareImage mem image) m f = f
-  sizes_after (SaveMemory mem format file) m f = f
-  sizes_after (LeaveOut what) m f = f
+  sizes_after action m f = f
 
   actions_tell : (actions : List Action) (m : Memories) → AllFitActions part actions → FitsPart part m
       → (p : Programmer) (turns : List Turn) → Settled part m p
@@ -521,8 +493,7 @@ module _ (plan : Plan) (sound : IsPart plan.part) where
 
     by_standing : (said : List Saying) → said ≡ w.says → (at : Standing) → w.standing ≡ at → IsForetold plan m said
     by_standing said is Fine stands = inr (inl (all_done said is stands))
-    by_standing said is Faulty stands = inl (is ∙ course_says Faulty stands refl)
-    by_standing said is Over stands = inl (is ∙ course_says Over stands refl)
+    by_standing said is at stands = inl (is ∙ course_says at stands refl)
 
     working_now : (said : List Saying) → NowPhases (actions plan) m said → IsForetold plan m said
     working_now said (inl is) = by_standing said is w.standing refl
@@ -534,8 +505,7 @@ module _ (plan : Plan) (sound : IsPart plan.part) where
 
     abbrev AfterEnd : Standing → List Saying → Programmer → Type 0
     AfterEnd Fine said q = (said ≡ (course plan m).says) × ((w.standing ≡ Fine) × (memories_of q.chip ≡ w.memories))
-    AfterEnd Faulty said q = Ended said
-    AfterEnd Over said q = Ended said
+    AfterEnd at said q = Ended said
 
     ended_of : (at : Standing) (said : List Saying) → ending_says plan at ≡ [] → status_of at ≡ 1
         → FailedIn (actions plan) m at said → Ended said
@@ -627,8 +597,7 @@ module _ (plan : Plan) (sound : IsPart plan.part) where
         → IsForetold plan m (said ++ []) × AfterAll (status_of at) (said ++ []) q
     status_tells Fine said q (is, (fine, left)) =
         (inl (append-nil said ∙ is), (inl (append-nil said ∙ is, sym (ap status_of fine)), λ zero. left))
-    status_tells Faulty said q ended = ended_status said q ended
-    status_tells Over said q ended = ended_status said q ended
+    status_tells at said q ended = ended_status said q ended
 
     session_said : (p : Programmer) (turns : List Turn) → Idle part m p
         → Tells (session plan) p turns (IsForetold plan m) AfterAll
@@ -713,11 +682,10 @@ actions_prefix part s (action ∷ done) more m fine =
               ∙ (sym (append_assoc first.says (actions_course part s done first.memories).says rest.0)
               ∙ ap (λ xs. xs ++ rest.0) (sym (ap (λ x. x.says) on)))),
         )
-    by_first first prefix Faulty stands fine =
-        faulty_fine (sym (ap (λ x. x.standing) (then_at first (actions_course part s done) Faulty stands) ∙ stands)
-        ∙ fine)
-    by_first first prefix Over stands fine = over_fine
-        (sym (ap (λ x. x.standing) (then_at first (actions_course part s done) Over stands) ∙ stands) ∙ fine)
+    by_first first prefix at stands fine =
+        let same : at ≡ Fine =
+        sym (ap (λ x. x.standing) (then_at first (actions_course part s done) at stands) ∙ stands) ∙ fine in
+        absurd (cc)
 
 pub first_prefix : (plan : Plan) (m : Memories) (says : List Saying)
     → SaysFirst plan.part plan.switches (actions plan) m says

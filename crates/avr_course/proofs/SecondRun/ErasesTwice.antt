@@ -1,12 +1,12 @@
 -- The strokes of a plan that erases: an erase and writes, which keep EEPROM where the plan's do.
-use Rattle.std.proofs.Common.{◌≡◌, ℕ, zero, suc, ◌+◌, ◌*◌, ◌/◌, refl, sym, ◌∙◌, subst, List, [], ◌∷◌, ◌++◌, Bool, true, false, cond, Option, Some, None, unwrap_or}
+use Rattle.std.proofs.Common.{◌≡◌, ℕ, zero, suc, ◌+◌, ◌*◌, ◌/◌, refl, sym, ap, ◌∙◌, subst, List, [], ◌∷◌, ◌++◌, Bool, true, false, cond, Option, Some, None, unwrap_or}
 use Rattle.std.proofs.lemmas.Bool.{true≢false}
 use Rattle.std.specs.Prelude.{◌==◌, if◌then◌else◌, take, ⊤, All}
 use Rattle.std.specs.Int.{bit_at}
 use Rattle.avr_image.specs.Image.{byte_at}
 use Rattle.avr_part.specs.Part.{Part, IsPart}
 use Rattle.avr_part.specs.declared.part.Mem.{Mem}
-use Rattle.avr_part.specs.declared.part.Mem.TheVariants.{Flash, Eeprom, Lfuse, Hfuse, Efuse, Lock, Signature, Calibration}
+use Rattle.avr_part.specs.declared.part.Mem.TheVariants.{Flash, Eeprom, Lfuse, Hfuse, Efuse, Lock}
 use Rattle.avr_plan.specs.Plan.{Plan, IsFitted}
 use Rattle.stk_frame.specs.declared.command.Command.{Command}
 use Rattle.stk_frame.specs.declared.host_command.Fuse.TheVariants.{Low, High, Extended}
@@ -21,8 +21,8 @@ use Rattle.avr_course.proofs.Strokes.Pages.{strokes_on}
 use Rattle.avr_course.specs.Again.{is_keeping, AreKeeping}
 use Rattle.avr_course.specs.Items.{items, has_erase}
 use Rattle.avr_course.specs.Outcome.{strokes}
-use Rattle.avr_course.proofs.SecondRun.NetWrites.{first_again}
-use Rattle.avr_course.proofs.SecondRun.WritesTwice.{first_writes_again}
+use Rattle.avr_course.proofs.Strokes.NetWrites.{first_again, first_writes_again}
+use Rattle.avr_course.proofs.Each.{Each, each_on}
 use Rattle.avr_course.proofs.Plans.Fits.{work, work_fits, items_fit}
 use Rattle.avr_course.proofs.Plans.Items.{writes, erase_if, tasks_write, items_are}
 use Rattle.avr_course.proofs.AnyLine.FirstSteps.{effects_sizes}
@@ -34,13 +34,7 @@ Mild part want (Write Hfuse image) = want → is_keeping part (byte_at image 0) 
 Mild part want (Write mem image) = ⊤
 
 abbrev AllMild : Part → Type 0 → List Item → Type 0
-AllMild part want [] = ⊤
-AllMild part want (item ∷ items) = Mild part want item × AllMild part want items
-
-mild_on : (part : Part) (want : Type 0) (xs ys : List Item) → AllMild part want xs → AllMild part want ys
-    → AllMild part want (xs ++ ys)
-mild_on part want [] ys f g = g
-mild_on part want (x ∷ xs) ys f g = (f.0, mild_on part want xs ys f.1 g)
+AllMild part want items = Each (Mild part want) items
 
 mild_take : (part : Part) (want : Type 0) (k : ℕ) (xs : List Item) → AllMild part want xs
     → AllMild part want (take k xs)
@@ -55,14 +49,8 @@ mild_writes part want (Write mem image ∷ xs) f = mild_writes part want xs f.1
 
 mild_item : (part : Part) (want : Type 0) (mem : Mem) (image : Image) → (want → AreKeeping part (Write mem image ∷ []))
     → Mild part want (Write mem image)
-mild_item part want Flash image k = tt
-mild_item part want Eeprom image k = tt
-mild_item part want Lfuse image k = tt
 mild_item part want Hfuse image k = λ w. (k w).0
-mild_item part want Efuse image k = tt
-mild_item part want Lock image k = tt
-mild_item part want Signature image k = tt
-mild_item part want Calibration image k = tt
+mild_item part want mem image k = tt
 
 all_mild : (part : Part) (want : Type 0) (xs : List Item) → has_erase xs ≡ false → (want → AreKeeping part xs)
     → AllMild part want xs
@@ -83,15 +71,8 @@ module _ (part : Part) where
 
   item_keeps : (want : Type 0) → want → (item : Item) (m : Memories) → Mild part want item
       → erase_keeps_eeprom part m ≡ true → erase_keeps_eeprom part (effect part item m) ≡ true
-  item_keeps want w Erase m f e = e
-  item_keeps want w (Write Flash image) m f e = e
-  item_keeps want w (Write Eeprom image) m f e = e
-  item_keeps want w (Write Lfuse image) m f e = e
   item_keeps want w (Write Hfuse image) m f e = fuse_keeps (are_locked m) (byte_at image 0) m.hfuse e (f w)
-  item_keeps want w (Write Efuse image) m f e = e
-  item_keeps want w (Write Lock image) m f e = e
-  item_keeps want w (Write Signature image) m f e = e
-  item_keeps want w (Write Calibration image) m f e = e
+  item_keeps want w item m f e = e
 
   items_keep : (want : Type 0) → want → (xs : List Item) (m : Memories) → AllMild part want xs
       → erase_keeps_eeprom part m ≡ true → erase_keeps_eeprom part (effects part xs m) ≡ true
@@ -113,7 +94,7 @@ module _ (part : Part) where
 
     steps_join : (xs ys : List (List Command)) → MildSteps xs → MildSteps ys → MildSteps (xs ++ ys)
     steps_join xs ys f g = subst (AllMild part want) (sym (strokes_on xs ys))
-        (mild_on part want (strokes_of xs) (strokes_of ys) f g)
+        (each_on (Mild part want) (strokes_of xs) (strokes_of ys) f g)
 
     each_mild : (steps_at : ℕ → List (List Command)) (place count : ℕ) → ((i : ℕ) → MildSteps (steps_at i))
         → MildSteps (each_from steps_at place count)
@@ -126,21 +107,10 @@ module _ (part : Part) where
     either_mild true x f = f
     either_mild false x f = tt
 
-    low_mild : (o : Option ℕ) → MildSteps (byte_steps (program_fuse Low) o)
-    low_mild None = tt
-    low_mild (Some v) = (tt, tt)
-
-    high_mild : (o : Option ℕ) → (want → is_keeping part o ≡ true) → MildSteps (byte_steps (program_fuse High) o)
-    high_mild None k = tt
-    high_mild (Some v) k = (k, tt)
-
-    extended_mild : (o : Option ℕ) → MildSteps (byte_steps (program_fuse Extended) o)
-    extended_mild None = tt
-    extended_mild (Some v) = (tt, tt)
-
-    lock_mild : (o : Option ℕ) → MildSteps (byte_steps program_lock o)
-    lock_mild None = tt
-    lock_mild (Some v) = (tt, tt)
+    byte_mild : (program : ℕ → Command) (o : Option ℕ) → ((v : ℕ) → o ≡ Some v → MildSteps ((program v ∷ []) ∷ []))
+        → MildSteps (byte_steps program o)
+    byte_mild program None each = tt
+    byte_mild program (Some v) each = each v refl
 
     write_mild : (mem : Mem) (image : Image) → Mild part want (Write mem image) → MildSteps (write_steps part mem image)
     write_mild Flash image f =
@@ -149,12 +119,12 @@ module _ (part : Part) where
         (page_step part image (n * part.flash_page) ∷ []) (tt, tt))
     write_mild Eeprom image f = each_mild (run_steps_at part image) 0 part.eeprom_size
         (λ a. either_mild (begins_run part.eeprom_page image a) (run_step part image a ∷ []) (tt, tt))
-    write_mild Lfuse image f = low_mild (byte_at image 0)
-    write_mild Hfuse image f = high_mild (byte_at image 0) f
-    write_mild Efuse image f = extended_mild (byte_at image 0)
-    write_mild Lock image f = lock_mild (byte_at image 0)
-    write_mild Signature image f = tt
-    write_mild Calibration image f = tt
+    write_mild Lfuse image f = byte_mild (program_fuse Low) (byte_at image 0) (λ v e. (tt, tt))
+    write_mild Hfuse image f = byte_mild (program_fuse High) (byte_at image 0)
+        (λ v e. (λ w. ap (is_keeping part) (sym e) ∙ f w, tt))
+    write_mild Efuse image f = byte_mild (program_fuse Extended) (byte_at image 0) (λ v e. (tt, tt))
+    write_mild Lock image f = byte_mild program_lock (byte_at image 0) (λ v e. (tt, tt))
+    write_mild mem image f = tt
 
     strokes_mild : (xs : List Item) → AllMild part want xs → MildSteps (all_steps part xs)
     strokes_mild [] f = tt

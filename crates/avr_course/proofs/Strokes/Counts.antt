@@ -11,14 +11,13 @@ use Rattle.stk_emu.specs.Along.{LineState, along}
 use Rattle.stk_emu.specs.Effect.{Memories}
 use Rattle.stk_emu.specs.Settled.{Settled}
 use Rattle.avr_course.specs.Made.{step_count, steps_done}
-use Rattle.avr_course.proofs.Leads.{Climbs, Leads, GoesOn}
+use Rattle.avr_course.proofs.Leads.{Climbs, GoesOn}
 use Rattle.stk_emu.specs.Strokes.{struck_by, AreSteps}
 use Rattle.avr_course.specs.Tallies.{Count, with_next, then_count, Tallies}
 use Rattle.avr_course.proofs.Hosts.Attempts.{along_bind, onward, err≢ok}
 use Rattle.avr_course.proofs.Hosts.AnyTurn.{asks≢done}
 use Rattle.avr_course.proofs.Strokes.Conditions.{along_before}
 use Rattle.avr_course.proofs.Given.FirstSteps.{steps_climb}
-use Rattle.avr_course.proofs.Hosts.Operations.{along_told}
 
 pub none_left : {E R P : Type 0} (m : Device P) (d : Dialog E R) (p : P) (turns : List Turn)
     → (along m 0 d p turns).left ≡ 0
@@ -27,40 +26,28 @@ none_left m (Say s d) p turns = none_left m d p turns
 none_left m (Ask bytes go_on) p turns = refl
 
 module _ {P : Type 0} (m : Device P) where
-  -- where nothing is made
-  pub tallies_quiet : {E R : Type 0} (d : Dialog E R) (At During : ℕ → P → Type 0) (After : R → P → Type 0) (p : P)
-      (turns : List Turn) → ((q : P) → During 0 q → At 0 q) → Leads m d p turns (During 0) After
-      → Tallies m d (λ k q fs. 0) At p turns
-  tallies_quiet d At During After p turns at l = record {
+  -- if nothing is made
+  abbrev pub tallies_none : {E R : Type 0} (d : Dialog E R) (At : ℕ → P → Type 0) (p : P) (turns : List Turn)
+      → ((k : ℕ) → At 0 (along m k d p turns).programmer) → Tallies m d (λ k q fs. 0) At p turns
+  tallies_none d At p turns at = record {
     count = λ k. 0;
     none = refl;
     at_least = λ k. omega arith;
     at_most = λ k. omega arith;
-    stands = λ k. at _ (l.during k);
+    stands = at;
   }
 
-  pub tallies_wider : {E R : Type 0} (d : Dialog E R) (done : Count P) (At At' : ℕ → P → Type 0) (p : P)
-      (turns : List Turn) → ((j : ℕ) (q : P) → At j q → At' j q) → Tallies m d done At p turns
-      → Tallies m d done At' p turns
-  tallies_wider d done At At' p turns f t =
-      record {
-        count = t.count;
-        none = t.none;
-        at_least = t.at_least;
-        at_most = t.at_most;
-        stands =
-            λ k. f _ _ (t.stands k);
-      }
-
-  pub tallies_told : {E A B : Type 0} (d : Dialog E A) (tell : A → B) (done : Count P) (At : ℕ → P → Type 0) (p : P)
-      (turns : List Turn) → Tallies m d done At p turns → Tallies m (d >>= (λ a. Done (tell a))) done At p turns
-  tallies_told d tell done At p turns t = record {
+  -- a count in other words, of what is counted alike
+  abbrev pub tallies_as : {E F Q R : Type 0} (d : Dialog E Q) (e : Dialog F R) (made other : Count P)
+      (At At' : ℕ → P → Type 0) (p : P) (turns : List Turn) → ((k : ℕ) → made k p turns ≡ other k p turns)
+      → ((k j : ℕ) → At j (along m k d p turns).programmer → At' j (along m k e p turns).programmer)
+      → Tallies m d made At p turns → Tallies m e other At' p turns
+  tallies_as d e made other At At' p turns same at t = record {
     count = t.count;
     none = t.none;
-    at_least = t.at_least;
-    at_most = t.at_most;
-    stands = λ k. subst (λ q. At (t.count k) q) (sym (ap (λ s. s.programmer) (along_told m k d tell p turns)))
-        (t.stands k);
+    at_least = λ k. subst (λ n. n ≤ t.count k) (same k) (t.at_least k);
+    at_most = λ k. subst (λ n. t.count k ≤ suc n) (same (k - 1)) (t.at_most k);
+    stands = λ k. at k (t.count k) (t.stands k);
   }
 
   module _ {E A B : Type 0} (d : Dialog E A) (next : A → Dialog E B) (first : Count P) (more : A → Count P)
@@ -69,14 +56,12 @@ module _ {P : Type 0} (m : Device P) where
       → GoesOn m At (along m k d p turns) (t.count k) (first (k - 1) p turns) (next a) (more a)) where
     abbrev total : (k : ℕ) (x : Dialog E A) → (along m k d p turns).dialog ≡ x → ℕ
     total k (Done a) e = t.count k + (follow k a e).rest.count (along m k d p turns).left
-    total k (Say s dialog) e = t.count k
-    total k (Ask bytes go_on) e = t.count k
+    total k x e = t.count k
 
     with_more : (k : ℕ) (x : Dialog E A) → first k p turns ≤ with_next x (first k p turns)
         (λ a. more a (along m k d p turns).left (along m k d p turns).programmer (along m k d p turns).turns)
     with_more k (Done a) = omega arith
-    with_more k (Say s dialog) = omega arith
-    with_more k (Ask bytes go_on) = omega arith
+    with_more k x = omega arith
 
     first_below : (k : ℕ) → first k p turns ≤ then_count m d first more k p turns
     first_below k = with_more k (along m k d p turns).dialog
@@ -86,16 +71,14 @@ module _ {P : Type 0} (m : Device P) where
         let g = follow 0 a e in
         let r : g.rest.count (along m 0 d p turns).left ≡ 0 = ap g.rest.count (none_left m d p turns) ∙ g.rest.none in
         omega (arith, r, t.none)
-    none_from (Say s dialog) e = t.none
-    none_from (Ask bytes go_on) e = t.none
+    none_from x e = t.none
 
     at_least_from : (k : ℕ) (x : Dialog E A) (e : (along m k d p turns).dialog ≡ x)
         → with_next x (first k p turns) (λ a. more a (along m k d p turns).left (along m k d p turns).programmer
         (along m k d p turns).turns) ≤ total k x e
     at_least_from k (Done a) e = let l = t.at_least k in let r =
         (follow k a e).rest.at_least (along m k d p turns).left in omega (arith, l, r)
-    at_least_from k (Say s dialog) e = t.at_least k
-    at_least_from k (Ask bytes go_on) e = t.at_least k
+    at_least_from k x e = t.at_least k
 
     quiet_most : (k n : ℕ) → n ≡ 0 → t.count k + n ≤ suc (then_count m d first more (k - 1) p turns)
     quiet_most k n e = let l = t.at_most k in let b = first_below (k - 1) in omega (arith, l, b, e)
@@ -135,15 +118,13 @@ module _ {P : Type 0} (m : Device P) where
     at_most_from : (k : ℕ) (x : Dialog E A) (e : (along m k d p turns).dialog ≡ x)
         → total k x e ≤ suc (then_count m d first more (k - 1) p turns)
     at_most_from k (Done a) e = done_most k (along m k d p turns).left a e refl
-    at_most_from k (Say s dialog) e = let l = t.at_most k in let b = first_below (k - 1) in omega (arith, l, b)
-    at_most_from k (Ask bytes go_on) e = let l = t.at_most k in let b = first_below (k - 1) in omega (arith, l, b)
+    at_most_from k x e = let l = t.at_most k in let b = first_below (k - 1) in omega (arith, l, b)
 
     stands_from : (k : ℕ) (x : Dialog E A) (e : (along m k d p turns).dialog ≡ x)
         → At (total k x e) (onward m next (along m k d p turns).left (along m k d p turns).turns
         (along m k d p turns).programmer x).programmer
     stands_from k (Done a) e = (follow k a e).rest.stands (along m k d p turns).left
-    stands_from k (Say s dialog) e = t.stands k
-    stands_from k (Ask bytes go_on) e = t.stands k
+    stands_from k x e = t.stands k
 
     -- a dialog, and the next one
     pub tallies_bind : Tallies m (d >>= next) (then_count m d first more) At p turns

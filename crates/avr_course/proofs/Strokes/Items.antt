@@ -20,10 +20,10 @@ use Rattle.stk_frame.specs.HostCommands.{program_fuse, program_lock}
 use Rattle.stk_host.specs.Places.{each_from}
 use Rattle.stk_host.specs.WriteSteps.{is_used, page_step, page_steps, page_end, begins_run, run_step, run_steps_at, byte_steps, write_steps}
 use Rattle.stk_host.specs.ReadSteps.{read_count, block_size, read_step, read_steps}
-use Rattle.stk_emu.specs.Effect.{Memories, Image, Item, Erase, Write, effect, effects, with_image, and_in, and_with, are_locked, erase_keeps_eeprom}
+use Rattle.stk_emu.specs.Effect.{Memories, Image, Item, Erase, Write, effect, effects, and_in, and_with, are_locked, erase_keeps_eeprom}
 use Rattle.stk_emu.specs.Settled.{FitsPart}
 use Rattle.stk_emu.specs.Strokes.{struck, struck_by, stroke_of, strokes_of, IsStep, Erases, ProgramsPage, ProgramsRun, ProgramsFuse, ProgramsLock, ReadsFlash, ReadsEeprom, ReadsFuse, ReadsLock, ReadsSignature, ReadsCalibration, AreSteps, IsBlock, AreWords, steps_of, all_steps, FitsItem, AllFitItems}
-use Rattle.stk_emu.proofs.Memories.LaidImages.{length-laid, length-and_in}
+use Rattle.avr_course.proofs.Strokes.EachMemory.{size_stays}
 use Rattle.avr_course.proofs.Strokes.Pages.{strokes_on, effects_on, pages_effect, AllBelow, below_and_in}
 use Rattle.avr_course.proofs.Strokes.Runs.{runs_effect}
 
@@ -33,23 +33,13 @@ either_way true x = refl
 either_way false x = refl
 
 module _ (part : Part) where
-  lfuse_item : (o : Option ℕ) (m : Memories)
-      → effects part (strokes_of (byte_steps (program_fuse Low) o)) m
-      ≡ record m { lfuse = cond (are_locked m) m.lfuse (unwrap_or o m.lfuse) }
-  lfuse_item (Some v) m = refl
-  lfuse_item None m = ap (λ x. record m { lfuse = x }) (sym (either_way (are_locked m) m.lfuse))
-
-  hfuse_item : (o : Option ℕ) (m : Memories)
-      → effects part (strokes_of (byte_steps (program_fuse High) o)) m
-      ≡ record m { hfuse = cond (are_locked m) m.hfuse (unwrap_or o m.hfuse) }
-  hfuse_item (Some v) m = refl
-  hfuse_item None m = ap (λ x. record m { hfuse = x }) (sym (either_way (are_locked m) m.hfuse))
-
-  efuse_item : (o : Option ℕ) (m : Memories)
-      → effects part (strokes_of (byte_steps (program_fuse Extended) o)) m
-      ≡ record m { efuse = cond (are_locked m) m.efuse (unwrap_or o m.efuse) }
-  efuse_item (Some v) m = refl
-  efuse_item None m = ap (λ x. record m { efuse = x }) (sym (either_way (are_locked m) m.efuse))
+  -- a byte that is written, or none
+  byte_item : (m : Memories) (with_byte : ℕ → Memories) (is_locked : Bool) (x : ℕ) (program : ℕ → Command)
+      (o : Option ℕ) → ((v : ℕ) → effects part (strokes_of ((program v ∷ []) ∷ [])) m ≡ with_byte (cond is_locked x v))
+      → m ≡ with_byte x
+      → effects part (strokes_of (byte_steps program o)) m ≡ with_byte (cond is_locked x (unwrap_or o x))
+  byte_item m with_byte is_locked x program (Some v) each same = each v
+  byte_item m with_byte is_locked x program None each same = same ∙ ap with_byte (sym (either_way is_locked x))
 
   lock_item : (o : Option ℕ) (m : Memories)
       → effects part (strokes_of (byte_steps program_lock o)) m ≡ record m { lock = and_with o m.lock }
@@ -78,27 +68,11 @@ blank_below xs i l =
     omega (arith, e)
 
 module _ (part : Part) (sound : IsPart part) where
-  written_sizes : (mem : Mem) (image : Image) (m : Memories) → FitsPart part m
-      → FitsPart part (effect part (Write mem image) m)
-  written_sizes Flash image m f = record {
-    flash = either_length (are_locked m) m.flash (and_in image m.flash) part.flash_size f.flash
-        (length-and_in image m.flash ∙ f.flash);
-    eeprom = f.eeprom;
-    bytes = either_bytes (are_locked m) m.flash (and_in image m.flash) f.bytes
-        (all_below (and_in image m.flash) (below_and_in image m.flash (below_all m.flash f.bytes)));
-  }
-  written_sizes Eeprom image m f = record {
-    flash = f.flash;
-    eeprom = either_length (are_locked m) m.eeprom (with_image image m.eeprom) part.eeprom_size f.eeprom
-        (length-laid image m.eeprom ∙ f.eeprom);
-    bytes = f.bytes;
-  }
-  written_sizes Lfuse image m f = record { flash = f.flash; eeprom = f.eeprom; bytes = f.bytes }
-  written_sizes Hfuse image m f = record { flash = f.flash; eeprom = f.eeprom; bytes = f.bytes }
-  written_sizes Efuse image m f = record { flash = f.flash; eeprom = f.eeprom; bytes = f.bytes }
-  written_sizes Lock image m f = record { flash = f.flash; eeprom = f.eeprom; bytes = f.bytes }
-  written_sizes Signature image m f = f
-  written_sizes Calibration image m f = f
+  flash_bytes : (mem : Mem) (image : Image) (m : Memories) → AreBytes m.flash
+      → AreBytes (effect part (Write mem image) m).flash
+  flash_bytes Flash image m bytes = either_bytes (are_locked m) m.flash (and_in image m.flash) bytes
+      (all_below (and_in image m.flash) (below_and_in image m.flash (below_all m.flash bytes)))
+  flash_bytes mem image m bytes = bytes
 
   pub effect_sizes : (item : Item) (m : Memories) → FitsPart part m → FitsPart part (effect part item m)
   effect_sizes Erase m f = record {
@@ -107,19 +81,25 @@ module _ (part : Part) (sound : IsPart part) where
         (length-replicate (length m.eeprom) 255 ∙ f.eeprom);
     bytes = all_below (blank m.flash) (blank_below m.flash);
   }
-  effect_sizes (Write mem image) m f = written_sizes mem image m f
+  effect_sizes (Write mem image) m f = record {
+    flash = size_stays part mem Flash image m ∙ f.flash;
+    eeprom = size_stays part mem Eeprom image m ∙ f.eeprom;
+    bytes = flash_bytes mem image m f.bytes;
+  }
 
   -- the steps of an item do what it does
   write_does : (mem : Mem) (image : Image) (m : Memories) → length image ≤ size_of mem part → FitsPart part m
       → effects part (strokes_of (write_steps part mem image)) m ≡ effect part (Write mem image) m
   write_does Flash image m fits f = pages_effect part sound image m f.flash (below_all m.flash f.bytes)
   write_does Eeprom image m fits f = runs_effect part sound image m fits
-  write_does Lfuse image m fits f = lfuse_item part (byte_at image 0) m
-  write_does Hfuse image m fits f = hfuse_item part (byte_at image 0) m
-  write_does Efuse image m fits f = efuse_item part (byte_at image 0) m
+  write_does Lfuse image m fits f = byte_item part m (λ x. record m { lfuse = x }) (are_locked m) m.lfuse
+      (program_fuse Low) (byte_at image 0) (λ v. refl) refl
+  write_does Hfuse image m fits f = byte_item part m (λ x. record m { hfuse = x }) (are_locked m) m.hfuse
+      (program_fuse High) (byte_at image 0) (λ v. refl) refl
+  write_does Efuse image m fits f = byte_item part m (λ x. record m { efuse = x }) (are_locked m) m.efuse
+      (program_fuse Extended) (byte_at image 0) (λ v. refl) refl
   write_does Lock image m fits f = lock_item part (byte_at image 0) m
-  write_does Signature image m fits f = refl
-  write_does Calibration image m fits f = refl
+  write_does mem image m fits f = refl
 
   pub item_does : (item : Item) (m : Memories) → FitsItem part item → FitsPart part m
       → effects part (strokes_of (steps_of part item)) m ≡ effect part item m
@@ -229,8 +209,7 @@ module _ (part : Part) (sound : IsPart part) where
   write_are_steps Efuse image fits = byte_is_step (program_fuse Extended) (byte_at image 0)
       (λ v. ProgramsFuse Extended v refl)
   write_are_steps Lock image fits = byte_is_step program_lock (byte_at image 0) (λ v. ProgramsLock v refl)
-  write_are_steps Signature image fits = tt
-  write_are_steps Calibration image fits = tt
+  write_are_steps mem image fits = tt
 
   pub item_are_steps : (item : Item) → FitsItem part item → AreSteps part (steps_of part item)
   item_are_steps Erase fits = (Erases refl, tt)

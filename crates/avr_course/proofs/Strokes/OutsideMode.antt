@@ -6,14 +6,14 @@ use Rattle.avr_part.specs.Part.{Part, IsPart}
 use Rattle.stk_frame.specs.declared.command.Command.{Command}
 use Rattle.stk_frame.specs.declared.command.Command.TheVariants.{LoadAddress}
 use Rattle.stk_frame.specs.declared.host_command.Fuse.{Fuse}
-use Rattle.stk_frame.specs.declared.host_command.Fuse.TheVariants.{Low, High, Extended}
+use Rattle.stk_frame.specs.declared.host_command.Fuse.TheVariants.{Low}
 use Rattle.stk_frame.specs.Commands.{body}
 use Rattle.stk_frame.specs.HostCommands.{erase, program_page, program_eeprom_block, program_fuse, program_lock, read_flash_block, read_eeprom_block, read_fuse, read_lock, read_signature, read_calibration}
 use Rattle.stk_host.proofs.ImagePlaces.PagesAndRuns.{page_most}
 use Rattle.stk_host.specs.declared.fault.StepFault.{StepFault}
 use Rattle.stk_host.specs.declared.fault.StepFault.TheVariants.{Refused}
 use Rattle.stk_host.specs.Places.{flash_address}
-use Rattle.stk_host.specs.Steps.{Reply, Data, Again, Stop, reading_reply}
+use Rattle.stk_host.specs.Steps.{Reply, Data, Stop, reading_reply}
 use Rattle.stk_host.specs.Tape.{Answered}
 use Rattle.stk_emu.specs.Programmer.{Programmer, Response, fail, obey, obey_command}
 use Rattle.stk_emu.specs.Device.{device}
@@ -63,8 +63,7 @@ run_fails run few p off = fails_by (program_eeprom_block run) 0x15 (Refused 0x15
 
 fuse_fails : (f : Fuse) (v : ℕ) → FailsOutside (program_fuse f v)
 fuse_fails Low v p off = fails_by (program_fuse Low v) 0x17 (Refused 0x17 0xC0) p _ refl refl off
-fuse_fails High v p off = fails_by (program_fuse High v) 0x17 (Refused 0x17 0xC0) p _ refl refl off
-fuse_fails Extended v p off = fails_by (program_fuse Extended v) 0x17 (Refused 0x17 0xC0) p _ refl refl off
+fuse_fails f v p off = fails_by (program_fuse f v) 0x17 (Refused 0x17 0xC0) p _ refl refl off
 
 lock_fails : (v : ℕ) → FailsOutside (program_lock v)
 lock_fails v p off = fails_by (program_lock v) 0x19 (Refused 0x19 0xC0) p _ refl refl off
@@ -79,8 +78,7 @@ eeprom_read_fails count few p off = fails_by (read_eeprom_block count) 0x16 (Ref
 
 fuse_read_fails : (f : Fuse) → FailsOutside (read_fuse f)
 fuse_read_fails Low p off = fails_by (read_fuse Low) 0x18 (Refused 0x18 0xC0) p _ refl refl off
-fuse_read_fails High p off = fails_by (read_fuse High) 0x18 (Refused 0x18 0xC0) p _ refl refl off
-fuse_read_fails Extended p off = fails_by (read_fuse Extended) 0x18 (Refused 0x18 0xC0) p _ refl refl off
+fuse_read_fails f p off = fails_by (read_fuse f) 0x18 (Refused 0x18 0xC0) p _ refl refl off
 
 lock_read_fails : FailsOutside read_lock
 lock_read_fails p off = fails_by read_lock 0x1A (Refused 0x1A 0xC0) p _ refl refl off
@@ -167,8 +165,7 @@ obeyed_steady (suc i) (command ∷ commands) p = obeyed_steady i commands (devic
 same_on : (reply : Reply) (f g : List ℕ → Reply) → ((bytes : List ℕ) → f bytes ≡ g bytes)
     → on_data reply f ≡ on_data reply g
 same_on (Data bytes) f g each = each bytes
-same_on (Again fault) f g each = refl
-same_on (Stop fault) f g each = refl
+same_on reply f g each = refl
 
 pub gathered_steady : (commands : List Command) (before : List ℕ) (p : Programmer)
     → joined_reply steady commands before p ≡ joined_reply device commands before p

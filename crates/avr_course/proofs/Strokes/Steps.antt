@@ -1,13 +1,9 @@
 -- Each step leads from its memories to those that it leaves, also where it is cut short and begun again.
-use Rattle.std.proofs.Common.{◌≡◌, ℕ, ◌+◌, ◌*◌, ◌/◌, ◌<◌, ◌^◌, List, [], ◌∷◌, refl, sym, ap, ap₂, subst, arith, Bool, true, false, cond, Option, Some, unwrap_or, inl, inr}
+use Rattle.std.proofs.Common.{◌≡◌, ℕ, ◌+◌, ◌*◌, ◌/◌, ◌<◌, ◌^◌, List, [], ◌∷◌, refl, sym, subst, arith, Some, inl, inr}
 use Rattle.std.proofs.lemmas.Bool.{cases_Bool, cond-true, cond-false}
 use Rattle.std.specs.Prelude.{nat_lt}
-use Rattle.avr_image.specs.Image.{byte_at}
-use Rattle.avr_part.specs.declared.part.Mem.{Mem}
-use Rattle.avr_part.specs.declared.part.Mem.TheVariants.{Flash, Eeprom, Lfuse, Hfuse, Efuse, Lock, Signature, Calibration}
+use Rattle.avr_part.specs.declared.part.Mem.TheVariants.{Flash, Eeprom, Lfuse, Hfuse, Efuse, Lock}
 use Rattle.avr_part.specs.Part.{Part, IsPart}
-use Rattle.avr_part.specs.Memory.{blank}
-use Rattle.avr_part.proofs.Twice.{blank-blank}
 use Rattle.stk_frame.specs.declared.command.Command.{Command}
 use Rattle.stk_frame.specs.declared.command.Command.TheVariants.{SignOn}
 use Rattle.stk_frame.specs.declared.host_command.Fuse.{Fuse}
@@ -17,46 +13,22 @@ use Rattle.stk_frame.specs.HostCommands.{enter, leave, erase, program_page, prog
 use Rattle.stk_host.specs.Places.{flash_address, load_flash, load_eeprom}
 use Rattle.stk_emu.specs.Programmer.{Programmer}
 use Rattle.stk_emu.specs.Device.{device}
-use Rattle.stk_emu.specs.Effect.{Memories, Item, Erase, Write, effect, write_effect, with_image, and_in, are_locked, erase_keeps_eeprom}
+use Rattle.stk_emu.specs.Effect.{Memories, Item, Erase, Write, effect}
 use Rattle.stk_emu.specs.Settled.{Idle, Settled, Ready}
 use Rattle.stk_emu.specs.Fits.{Fits}
 use Rattle.avr_course.proofs.Leads.{AllFit}
 use Rattle.stk_emu.specs.Strokes.{struck, struck_by, IsStep, Erases, ProgramsPage, ProgramsRun, ProgramsFuse, ProgramsLock, ReadsFlash, ReadsEeprom, ReadsFuse, ReadsLock, ReadsSignature, ReadsCalibration, AreSteps, IsPage, FitsEepromPage, IsBlock, AreWords}
-use Rattle.stk_emu.proofs.Memories.LaidImages.{laid_twice, and_in_twice, and_byte, laid_byte}
+use Rattle.avr_course.proofs.Strokes.NetWrites.{written_again, erased_again}
 use Rattle.stk_emu.proofs.Answers.Commands.{one_fits, steady, one_steady, two_steady, settled_idle, ready_settled, ready_idle, anew_idle, anew_settled, sign_on_keeps, enter_does, leave_keeps, load_keeps, fuse_does, lock_does, erase_does, fuse_read_after, lock_read_after, signature_read_after, calibration_read_after}
 use Rattle.stk_emu.proofs.Memories.Runs.{run_does}
 use Rattle.stk_emu.proofs.Memories.Pages.{page_does}
 use Rattle.avr_course.proofs.Given.ReadAnswers.{flash_read_keeps, eeprom_read_keeps}
 
--- what is changed twice where it isn't locked
-changes_twice : {A : Type 0} (f : A → A) (b : Bool) (x : A) → f (f x) ≡ f x
-    → cond b (cond b x (f x)) (f (cond b x (f x))) ≡ cond b x (f x)
-changes_twice f true x e = refl
-changes_twice f false x e = e
-
-written_twice : (mem : Mem) (image : List (Option ℕ)) (m : Memories)
-    → write_effect mem image (write_effect mem image m) ≡ write_effect mem image m
-written_twice Flash image m = ap (λ x. record m { flash = x })
-    (changes_twice (and_in image) (are_locked m) m.flash (and_in_twice image m.flash))
-written_twice Eeprom image m = ap (λ x. record m { eeprom = x })
-    (changes_twice (with_image image) (are_locked m) m.eeprom (laid_twice image m.eeprom))
-written_twice Lfuse image m = ap (λ x. record m { lfuse = x })
-    (changes_twice (unwrap_or (byte_at image 0)) (are_locked m) m.lfuse (laid_byte (byte_at image 0) m.lfuse))
-written_twice Hfuse image m = ap (λ x. record m { hfuse = x })
-    (changes_twice (unwrap_or (byte_at image 0)) (are_locked m) m.hfuse (laid_byte (byte_at image 0) m.hfuse))
-written_twice Efuse image m = ap (λ x. record m { efuse = x })
-    (changes_twice (unwrap_or (byte_at image 0)) (are_locked m) m.efuse (laid_byte (byte_at image 0) m.efuse))
-written_twice Lock image m = ap (λ x. record m { lock = x }) (and_byte (byte_at image 0) m.lock)
-written_twice Signature image m = refl
-written_twice Calibration image m = refl
-
 -- twice is once
 pub effect_twice : (part : Part) (item : Item) (m : Memories)
     → effect part item (effect part item m) ≡ effect part item m
-effect_twice part Erase m =
-    ap₂ (λ flash eeprom. record m { flash = flash; eeprom = eeprom; lock = 255 }) (blank-blank m.flash)
-    (changes_twice blank (erase_keeps_eeprom part m) m.eeprom (blank-blank m.eeprom))
-effect_twice part (Write mem image) m = written_twice mem image m
+effect_twice part Erase m = erased_again part [] m refl (λ keeps. keeps)
+effect_twice part (Write mem image) m = written_again part (Write mem image ∷ []) m refl
 
 fuse_twice : (part : Part) (f : Fuse) (v : ℕ) (m : Memories)
     → struck part (program_fuse f v ∷ []) (struck part (program_fuse f v ∷ []) m)
