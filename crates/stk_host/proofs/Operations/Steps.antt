@@ -25,6 +25,7 @@ use Rattle.stk_host.specs.Places.{each_from}
 use Rattle.stk_host.specs.WriteSteps.{write_steps}
 use Rattle.stk_host.specs.Operations.{judged_by, operation, writing, Difference, difference_from, differs, comparison}
 use Rattle.stk_host.specs.Calls.{StopsSteps, EndsSteps, EndsCall, EndsOrLacks, EndsInnerStep, with_step, with_steps, without_step, IsSizedShape, data_count, fault_of_stop, closing_result, given_or_fault, vector_after, verifying_result}
+use Rattle.stk_host.proofs.ImagePlaces.PagesAndRuns.{next_place}
 use Rattle.stk_host.proofs.Talks.Reached.{reaches_here, reaches_on, played_from, then_reaches}
 use Rattle.stk_host.proofs.Operations.StepEnds.{stops_on, stop_ends, play_on, play_stops, play_done}
 
@@ -63,12 +64,6 @@ pub alone : (commands : List Command) (before after : List ℕ) (result : Result
     → EndsSteps (play (commands ∷ []) before) (λ done. after) m o p result n
 alone commands before after (Ok done) m n o p e = play_done after (e [])
 alone commands before after (Err stop) m n o p e = e []
-
--- the next of the places
-next_place : (steps_at : ℕ → List (List Command)) (place end : ℕ) → place < end
-    → each_from steps_at place (end - place) ≡ steps_at place ++ each_from steps_at (place + 1) (end - (place + 1))
-next_place steps_at place end before =
-    let left : end - place ≡ suc (end - (place + 1)) = omega (arith, before) in ap (each_from steps_at place) left
 
 -- no step at all
 pub none_played : (m : Position) (o : LinkView) → PlaysOver (play [] []) m o o (Ok []) m
@@ -136,27 +131,19 @@ pub writing_ends : (part : Part) (mem : Mem) (image : List (Option ℕ)) (result
     → EndsSteps (play (write_steps part mem image) []) (λ done. []) m o p result n
     → EndsCall (writing part mem image) m o p (closing_result result) n
 writing_ends part mem image result m n o p can e =
-    subst (λ (can : Bool). EndsCall (if can then operation (write_steps part mem image) (λ bytes. Ok tt)
-    else Done (Err (ReadOnly mem))) m o p (closing_result result) n) (sym can)
-    (done_ends (write_steps part mem image) result m n o p e)
+    rw can (done_ends (write_steps part mem image) result m n o p e)
 
 pub writes_nothing : (part : Part) (mem : Mem) (image : List (Option ℕ)) (m : Position) (o : LinkView)
     → is_writable mem ≡ false → EndsCall (writing part mem image) m o o (Err (ReadOnly mem)) m
 writes_nothing part mem image m o cannot =
-    subst (λ (can : Bool). PlaysOver (if can then operation (write_steps part mem image) (λ bytes. Ok tt)
-    else Done (Err (ReadOnly mem))) m o o (Err (ReadOnly mem)) m) (sym cannot)
-    (played_from (reaches_here (Done (Err (ReadOnly mem))) m o))
+    rw cannot (played_from (reaches_here (Done (Err (ReadOnly mem))) m o))
 
 -- a stop is no want of memory
 not_lacking : {A : Type 0} (dialog : Dialog ⊥ (Result A HostFault)) (stop : Stop) (m n : Position) (o p : LinkView)
     → EndsCall dialog m o p (Err (fault_of_stop stop)) n → EndsOrLacks dialog m o p (Err (fault_of_stop stop)) n
 not_lacking dialog (Fault of_step.NoAnswer) m n o p e = e
-not_lacking dialog (Fault of_step.LinkEnded) m n o p e = e
-not_lacking dialog (Fault of_step.Babble) m n o p e = e
-not_lacking dialog (Fault (of_step.Refused command status)) m n o p e = e
-not_lacking dialog (Fault (of_step.BadAnswer command)) m n o p e = e
 not_lacking dialog (Link broken.Send) m n o p e = e
-not_lacking dialog (Link broken.Recv) m n o p e = e
+not_lacking dialog _ m n o p e = e
 
 -- a read
 pub reading_ends : (steps : List (List Command)) (bytes : List ℕ) (result : Result (Unit {0}) Stop) (m n : Position)
@@ -209,9 +196,4 @@ read_short (Err stop) items n bound size = lit≤ tt
 pub size_fits : (mem : Mem) (part : Part) → IsPart part → size_of mem part < 2 ^ 32
 size_fits Flash part is = omega (arith, is.flash_most)
 size_fits Eeprom part is = omega (arith, is.eeprom_most)
-size_fits Lfuse part is = lit≤ tt
-size_fits Hfuse part is = lit≤ tt
-size_fits Efuse part is = lit≤ tt
-size_fits Lock part is = lit≤ tt
-size_fits Signature part is = lit≤ tt
-size_fits Calibration part is = lit≤ tt
+size_fits mem part is = lit≤ tt

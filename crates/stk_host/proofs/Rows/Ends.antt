@@ -114,8 +114,7 @@ unsent_at_all = record {
     later = [];
     shown_is = refl;
     events_are = refl;
-    not_whole =
-        omega arith;
+    not_whole = omega arith;
     all_sent = refl;
     in_turn = tt;
   };

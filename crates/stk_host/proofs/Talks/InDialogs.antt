@@ -108,10 +108,7 @@ due_bind : {E A B : Type 0} (dialog : Dialog E A) (go_on : A → Dialog E B) (se
     → IsDue dialog seq x bytes → IsDue (dialog >>= go_on) seq x bytes
 due_bind dialog go_on seq x bytes due =
     let e = waits_bind dialog go_on seq x due.waits in
-    record {
-      waits = ap (λ p. p.outcome) e;
-      all_sent = ap (λ p. bytes_sent p.events) e ∙ due.all_sent;
-    }
+    record { waits = ap (λ p. p.outcome) e; all_sent = ap (λ p. bytes_sent p.events) e ∙ due.all_sent }
 
 turns_bind : {E A B : Type 0} (dialog : Dialog E A) (go_on : A → Dialog E B) (m : Position) (talk : Talk)
     → InTurn dialog m talk → InTurn (dialog >>= go_on) m talk
@@ -151,9 +148,8 @@ turns_asking body answered seq u x y quiet is waits =
 begun_more : {E : Type 0} (SaidPart : E → E → Type 0) (begun later more : List (Event E)) → IsBegun SaidPart begun later
     → IsBegun SaidPart begun (later ++ more)
 begun_more SaidPart [] later more part = tt
-begun_more SaidPart (e ∷ []) [] more part = absurd part
 begun_more SaidPart (e ∷ []) (x ∷ later) more part = part
-begun_more SaidPart (e ∷ f ∷ begun) later more part = absurd part
+begun_more SaidPart _ _ more part = absurd part
 
 -- a prefix of the events is one where more follow
 pub prefix_more : {E : Type 0} (SaidPart : E → E → Type 0) {shown events : List (Event E)} (more : List (Event E))

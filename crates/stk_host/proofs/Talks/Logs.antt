@@ -44,16 +44,12 @@ log_more (mark.End ∷ marks) out back more_out more_back m o b =
 pub out_more : (marks : List Mark) (m : Mark) → out_count (marks ++ m ∷ []) ≡ out_count marks + out_count (m ∷ [])
 out_more [] m = omega arith
 out_more (mark.Sent n ∷ marks) m = omega (arith, out_more marks m)
-out_more (mark.Got n ∷ marks) m = out_more marks m
-out_more (mark.Silence ∷ marks) m = out_more marks m
-out_more (mark.End ∷ marks) m = out_more marks m
+out_more (other ∷ marks) m = out_more marks m
 
 pub back_more : (marks : List Mark) (m : Mark) → back_count (marks ++ m ∷ []) ≡ back_count marks + back_count (m ∷ [])
 back_more [] m = omega arith
-back_more (mark.Sent n ∷ marks) m = back_more marks m
 back_more (mark.Got n ∷ marks) m = omega (arith, back_more marks m)
-back_more (mark.Silence ∷ marks) m = back_more marks m
-back_more (mark.End ∷ marks) m = back_more marks m
+back_more (other ∷ marks) m = back_more marks m
 
 pub sent_in : (marks : List Mark) (out back : List ℕ) → out_count marks ≡ length out
     → sent (talk_of marks out back) ≡ out
@@ -63,8 +59,7 @@ sent_in (mark.Sent n ∷ marks) out back o =
     ap (λ bs. take n out ++ bs) (sent_in marks (drop n out) back (rw length-drop (omega arith)))
     ∙ take-append-drop n out
 sent_in (mark.Got n ∷ marks) out back o = sent_in marks out (drop n back) o
-sent_in (mark.Silence ∷ marks) out back o = sent_in marks out back o
-sent_in (mark.End ∷ marks) out back o = sent_in marks out back o
+sent_in (other ∷ marks) out back o = sent_in marks out back o
 
 pub heard_in : (marks : List Mark) (out back : List ℕ) → back_count marks ≡ length back
     → bytes_of (heard (talk_of marks out back)) ≡ back
@@ -76,8 +71,7 @@ heard_in (mark.Got n ∷ marks) out back b =
     ∙ (ap (λ bs. bs ++ bytes_of (heard (talk_of marks out (drop n back)))) (bytes_of_on_tape (take n back))
     ∙ (ap (λ bs. take n back ++ bs) (heard_in marks out (drop n back) (rw length-drop (omega arith)))
     ∙ take-append-drop n back))
-heard_in (mark.Silence ∷ marks) out back b = heard_in marks out back b
-heard_in (mark.End ∷ marks) out back b = heard_in marks out back b
+heard_in (other ∷ marks) out back b = heard_in marks out back b
 
 -- the whole of it, as the code goes on: this mark and these bytes are new
 module _ (marks new_marks : List Mark) (out new_out back new_back x y : List ℕ) (m : Mark)

@@ -16,8 +16,7 @@ use Rattle.stk_host.specs.Tape.{Tape, on_tape, bytes_of, bytes_in, answer, read_
 pub bytes_of_append : (x y : Tape) → bytes_of (x ++ y) ≡ bytes_of x ++ bytes_of y
 bytes_of_append [] y = refl
 bytes_of_append (Byte byte ∷ x) y = ap (λ bytes. byte ∷ bytes) (bytes_of_append x y)
-bytes_of_append (Silence ∷ x) y = bytes_of_append x y
-bytes_of_append (End ∷ x) y = bytes_of_append x y
+bytes_of_append (item ∷ x) y = bytes_of_append x y
 
 pub bytes_of_on_tape : (bytes : List ℕ) → bytes_of (on_tape bytes) ≡ bytes
 bytes_of_on_tape [] = refl
@@ -50,12 +49,8 @@ stopped_at : (seq : ℕ) (x : List ℕ) (tape : Tape) → first_answer seq (cut 
     → bytes_in tape ≡ [] → answer seq (on_tape x ++ tape) ≡ silence_or_end tape
 stopped_at seq x tape none few no_bytes =
     let bytes : take limit (bytes_in (on_tape x ++ tape)) ≡ x =
-    ap (take limit) (bytes_in_tape x tape ∙ (ap (λ bs. x ++ bs) no_bytes ∙ append-nil x))
-    ∙ take_all limit x (omega arith) in
-    answer_by seq (on_tape x ++ tape) x bytes
-    ∙ (ap (λ o. read_to o x (on_tape x ++ tape)) none
-    ∙ (cond-false (leb limit (length x)) _ _ (lt-leb limit (length x) few)
-    ∙ ap silence_or_end (drop_tape x tape)))
+    rw (bytes_in_tape x tape, no_bytes, append-nil x) (take_all limit x (omega arith)) in
+    answer_by seq (on_tape x ++ tape) x bytes ∙ rw (none, lt-leb limit (length x) few, drop_tape x tape) refl
 
 pub answer_silent : (seq : ℕ) (x : List ℕ) (more : Tape) → first_answer seq (cut x) ≡ None → length x < limit
     → answer seq (on_tape x ++ Silence ∷ more) ≡ Some (Silent, more)
@@ -76,10 +71,8 @@ answer_babbled seq x more none full =
     let bytes : take limit (bytes_in (on_tape x ++ more)) ≡ x =
     ap (take limit) (bytes_in_tape x more) ∙
     (take-append-le limit x (bytes_in more) (omega arith) ∙ take_all limit x (omega arith)) in
-    answer_by seq (on_tape x ++ more) x bytes
-    ∙ (ap (λ o. read_to o x (on_tape x ++ more)) none
-    ∙ (cond-true (leb limit (length x)) _ _ (le-leb limit (length x) (omega arith))
-    ∙ ap (λ t. Some (Babbled, t)) (ap (λ n. drop n (on_tape x ++ more)) (sym full) ∙ drop_tape x more)))
+    answer_by seq (on_tape x ++ more) x bytes ∙ rw (none, le-leb limit (length x) (omega arith))
+    (ap (λ t. Some (Babbled, t)) (ap (λ n. drop n (on_tape x ++ more)) (sym full) ∙ drop_tape x more))
 
 pub further_zero : (o : Option (List ℕ × ℕ)) → o ≡ further 0 o
 further_zero None = refl
@@ -98,16 +91,10 @@ pub first_answer_behind : (seq : ℕ) (xs ys : List (List ℕ)) → first_answer
     → first_answer seq (xs ++ ys) ≡ further (length (concat xs)) (first_answer seq ys)
 first_answer_behind seq [] ys none = further_zero (first_answer seq ys)
 first_answer_behind seq (x ∷ xs) ys none = elim (cases_Bool (is_answer seq x)) [
-  | inl is_it ↦ let e = sym (cond-true (is_answer seq x) (Some (body_of x, length x))
-      (further (length x) (first_answer seq xs)) is_it) ∙ none in cc
+  | inl is_it ↦ let e = rw is_it at none in cc
   | inr is_not ↦
-      let none' : first_answer seq xs ≡ None =
-      further_none (length x) (first_answer seq xs)
-      (sym (cond-false (is_answer seq x) (Some (body_of x, length x)) (further (length x) (first_answer seq xs))
-      is_not) ∙ none) in
-      cond-false (is_answer seq x) (Some (body_of x, length x)) (further (length x) (first_answer seq (xs ++ ys)))
-      is_not
-      ∙ (ap (further (length x)) (first_answer_behind seq xs ys none')
+      let none' = further_none (length x) (first_answer seq xs) (rw is_not at none) in
+      rw is_not (ap (further (length x)) (first_answer_behind seq xs ys none')
       ∙ (further_further (length x) (length (concat xs)) (first_answer seq ys)
       ∙ ap (λ n. further n (first_answer seq ys)) (sym (length-append x (concat xs)))))
 ]
@@ -122,30 +109,19 @@ pub first_answer_stays : (seq : ℕ) (xs ys : List (List ℕ)) (found : List ℕ
     → first_answer seq (xs ++ ys) ≡ Some found
 first_answer_stays seq [] ys found some = absurd (none-some found some)
 first_answer_stays seq (x ∷ xs) ys found some = elim (cases_Bool (is_answer seq x)) [
-  | inl is_it ↦
-      cond-true (is_answer seq x) (Some (body_of x, length x)) (further (length x) (first_answer seq (xs ++ ys))) is_it
-      ∙ (sym (cond-true (is_answer seq x) (Some (body_of x, length x)) (further (length x) (first_answer seq xs)) is_it)
-      ∙ some)
+  | inl is_it ↦ rw is_it (rw is_it at some)
   | inr is_not ↦
-      let inner : further (length x) (first_answer seq xs) ≡ Some found =
-      sym (cond-false (is_answer seq x) (Some (body_of x, length x)) (further (length x) (first_answer seq xs)) is_not)
-      ∙ some in
+      let inner = rw is_not at some in
       let at = some_inside (length x) (first_answer seq xs) found inner in
-      cond-false (is_answer seq x) (Some (body_of x, length x)) (further (length x) (first_answer seq (xs ++ ys)))
-      is_not
-      ∙ (ap (further (length x)) (first_answer_stays seq xs ys at.0 at.1 ∙ sym at.1) ∙ inner)
+      rw is_not (ap (further (length x)) (first_answer_stays seq xs ys at.0 at.1 ∙ sym at.1) ∙ inner)
 ]
 
 -- among pieces that are no frames there is no answer
 pub first_answer_skipped : (seq : ℕ) (xs : List (List ℕ)) → filter is_frame xs ≡ [] → first_answer seq xs ≡ None
 first_answer_skipped seq [] none = refl
 first_answer_skipped seq (x ∷ xs) none = elim (cases_Bool (is_frame x)) [
-  | inl is_it ↦ let e = sym (cond-true (is_frame x) (x ∷ filter is_frame xs) (filter is_frame xs) is_it) ∙ none in cc
-  | inr is_not ↦
-      cond-false (is_answer seq x) (Some (body_of x, length x)) (further (length x) (first_answer seq xs))
-      (and_left (is_good x) _ (and_left (is_frame x) _ is_not))
-      ∙ ap (further (length x)) (first_answer_skipped seq xs
-      (sym (cond-false (is_frame x) (x ∷ filter is_frame xs) (filter is_frame xs) is_not) ∙ none))
+  | inl is_it ↦ let e = rw is_it at none in cc
+  | inr is_not ↦ rw is_not (ap (further (length x)) (first_answer_skipped seq xs (rw is_not at none)))
 ]
 
 -- more bytes that bring no frame, or one that is no answer
