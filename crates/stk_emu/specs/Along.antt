@@ -37,13 +37,3 @@ abbrev pub AsksBodies : {E R : Type 0} → Dialog E R → Type 0
 AsksBodies (Done r) = Unit {0}
 AsksBodies (Say e dialog) = AsksBodies dialog
 AsksBodies (Ask bytes go_on) = IsBody bytes × ((reading : Reading) → AsksBodies (go_on reading))
-
--- A dialog whose frames went out over a wire, some of them, in their order: the programmer stands as along the line,
--- and where the play over the tape that they bring is done, so is the dialog, with the same result, and nothing of the
--- tape is left.
-pub record Fused {E R P : Type 0} (m : Device P) (d : Dialog E R) (n : ℕ) (w : Wire P)
-    (sent : List (List ℕ)) : Type 0 where
-  pub programmer : (wire_after m sent w).programmer
-      ≡ (along m (length sent) d w.programmer (turns_of w.fates)).programmer
-  pub outcome : (r : R) (seq : ℕ) (left : Tape) → (played d n (tape_of m sent w)).outcome ≡ Some (r, seq, left)
-      → ((along m (length sent) d w.programmer (turns_of w.fates)).dialog ≡ Done r) × (left ≡ [])

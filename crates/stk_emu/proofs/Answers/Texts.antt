@@ -30,20 +30,17 @@ after_more m (x ∷ xs) ys p = after_more m xs ys (after_frame m x p)
 pub found_frames : (event : Event) (held : List ℕ) → TellsEvent event held
     → filter is_frame (frames_of_event event held) ≡ frames_of_event event held
 found_frames More held tells = refl
-found_frames Frame held tells = cond-true (is_frame held) _ _ tells.0.frame
-found_frames Spoiled held tells = cond-true (is_frame held) _ _ tells.0.frame
+found_frames _ held tells = cond-true (is_frame held) _ _ tells.0.frame
 
 pub found_few : (event : Event) (held : List ℕ) → length (frames_of_event event held) ≤ 1
 found_few More held = omega arith
-found_few Frame held = omega arith
-found_few Spoiled held = omega arith
+found_few _ held = omega arith
 
 -- an answer is one to a frame that is held whole
 pub answer_ends : (event : Event) (held out : List ℕ) (p : Programmer) → TellsEvent event held
     → out ≡ answers device (frames_of_event event held) p → 0 < length out → HoldsFrame held
 answer_ends More held out p tells e some = absurd (let none : length out ≡ 0 = ap length e in omega (arith, none, some))
-answer_ends Frame held out p tells e some = tells.0
-answer_ends Spoiled held out p tells e some = tells.0
+answer_ends _ held out p tells e some = tells.0
 
 -- the frames of a text with these bytes after it
 pub frames_fed : (old used new : List ℕ) (fs : List (List ℕ)) (text : List ℕ) → Fed old used new fs
@@ -58,8 +55,7 @@ frames_fed old used new fs text fed are stands =
 pub none_found : (event : Event) (held : List ℕ) (p : Programmer) → answers device (frames_of_event event held) p ≡ []
     → event ≡ More
 none_found More held p e = refl
-none_found Frame held p e = absurd (cc)
-none_found Spoiled held p e = absurd (cc)
+none_found _ held p e = absurd (cc)
 
 -- no bytes bring no answers
 pub appends_none : (machine : Machine) (before : List ℕ) → AppendsAnswers machine [] machine before before

@@ -63,12 +63,7 @@ eeprom_written s a few inside =
     let address : chip.eeprom_address s (high a * 256 + low a) ≡ a =
     ap (λ x. x % s.part.eeprom_size) (let e : a / 256 % 256 * 256 + a % 256 ≡ a = omega arith in e)
     ∙ mod-eq_of_lt inside in
-    ap (λ x. record s {
-      eeprom = cond (chip.is_locked s) s.eeprom
-          (map_indexed (overlaid (x / s.part.eeprom_page * s.part.eeprom_page) s.eeprom_buffer) s.eeprom);
-      eeprom_buffer =
-          replicate (length s.eeprom_buffer) None;
-    }) address
+    rw address refl
 
 -- a run of the program command, by its count
 pub program_test : (n : ℕ) → 0 < n → (not (n == 0) && (n == n)) ≡ true
@@ -91,8 +86,7 @@ module _ (part : Part) (sound : IsPart part) where
       → sent_to (eeprom_loads 0xC1 a 0 run ++ eeprom_writes 0xC2 a true) s
       ≡ record s {
         eeprom = cond (chip.is_locked s) s.eeprom (with_image (image_at a run) s.eeprom);
-        eeprom_buffer =
-            replicate part.eeprom_page None;
+        eeprom_buffer = replicate part.eeprom_page None;
       }
   run_chip s a run e empty is_run =
       let page_is : s.part.eeprom_page ≡ part.eeprom_page = ap (λ (x : Part). x.eeprom_page) e in
@@ -121,16 +115,7 @@ module _ (part : Part) (sound : IsPart part) where
       (ap length empty ∙ length-replicate {A = Option ℕ} part.eeprom_page None) in
       sent-append (eeprom_loads 0xC1 a 0 run) (eeprom_writes 0xC2 a true) s
       ∙ (ap (sent_to (eeprom_writes 0xC2 a true)) loads
-      ∙ (writes
-      ∙ (ap (λ x. record s {
-        eeprom = cond (chip.is_locked s) s.eeprom x;
-        eeprom_buffer =
-            replicate (length loaded) None;
-      }) over
-      ∙ ap (λ n. record s {
-        eeprom = cond (chip.is_locked s) s.eeprom (with_image (image_at a run) s.eeprom);
-        eeprom_buffer = replicate n None;
-      }) same_length)))
+      ∙ (writes ∙ rw (over, same_length) refl))
 
   pub run_does : (a : ℕ) (run : List ℕ) (m : Memories) (p : Programmer) → FitsEepromPage part a run → Ready part m p
       → Ready part (struck part (LoadAddress a ∷ program_eeprom_block run ∷ []) m)
@@ -139,14 +124,7 @@ module _ (part : Part) (sound : IsPart part) where
       let r_inside = is_run.inside in
       let most = sound.eeprom_most in
       let q : Programmer = record p { address = a; wide = false } in
-      let after_is : device.after (body (program_eeprom_block run)) (device.after (body (LoadAddress a)) p)
-      ≡ with_address_moved (length run) (record q {
-        chip = record p.chip {
-          eeprom = cond (chip.is_locked p.chip) p.chip.eeprom
-              (with_image (image_at a run) p.chip.eeprom);
-          eeprom_buffer = replicate part.eeprom_page None;
-        };
-      }) =
+      let after_is =
       ap (device.after (body (program_eeprom_block run))) (narrow_loaded a p (omega arith))
       ∙ (eeprom_after run q s.mode is_run.some (omega arith)
       ∙ ap (λ c. with_address_moved (length run) (record q { chip = c }))

@@ -13,14 +13,8 @@ use Rattle.stk_frame.proofs.Cuts.{cut_append}
 pub no_good : (pieces : List (List ℕ)) → filter is_frame pieces ≡ [] → filter is_good pieces ≡ []
 no_good [] e = refl
 no_good (piece ∷ pieces) e = elim (cases_Bool (is_frame piece)) [
-  | inl t ↦
-      let kept = sym (cond-true (is_frame piece) (piece ∷ filter is_frame pieces) (filter is_frame pieces) t) ∙ e in
-      cc
-  | inr f ↦
-      let more : filter is_frame pieces ≡ [] =
-      sym (cond-false (is_frame piece) (piece ∷ filter is_frame pieces) (filter is_frame pieces) f) ∙ e in
-      let bad : is_good piece ≡ false = rw f refl in
-      cond-false (is_good piece) (piece ∷ filter is_good pieces) (filter is_good pieces) bad ∙ no_good pieces more
+  | inl t ↦ let kept = rw t at e in cc
+  | inr f ↦ rw f (no_good pieces (rw f at e))
 ]
 
 good_fed : (old used new : List ℕ) (fs : List (List ℕ)) (text : List ℕ) → Fed old used new fs → Stands old text
