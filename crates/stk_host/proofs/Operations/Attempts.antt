@@ -1,5 +1,5 @@
 -- Commands, attempts and steps, as the code goes through them.
-use Rattle.std.proofs.Common.{◌≡◌, ℕ, zero, suc, List, [], ◌∷◌, ◌++◌, refl, ap, ◌∙◌, subst, Ok, Err, Result, arith}
+use Rattle.std.proofs.Common.{◌≡◌, ℕ, zero, suc, List, [], ◌∷◌, ◌++◌, refl, ◌∙◌, subst, Ok, Err, Result, arith}
 use Rattle.ghosts.specs.Failures.{HasRisen}
 use Rattle.stk_frame.specs.declared.command.Command.{Command}
 use Rattle.stk_frame.specs.Frame.{frame}

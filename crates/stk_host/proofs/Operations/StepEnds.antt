@@ -1,5 +1,5 @@
 -- One step after another, from what each call ensures.
-use Rattle.std.proofs.Common.{◌≡◌, refl, subst, ℕ, Bool, true, false, if◌then◌else◌, List, [], ◌∷◌, ◌++◌, Ok, Err, Result}
+use Rattle.std.proofs.Common.{◌≡◌, refl, ℕ, Bool, false, if◌then◌else◌, List, [], ◌∷◌, ◌++◌, Ok, Err, Result}
 use Rattle.std.specs.Str.{bytes_eq}
 use Rattle.stk_frame.specs.declared.command.Command.{Command}
 use Rattle.stk_frame.specs.HostCommands.{leave}

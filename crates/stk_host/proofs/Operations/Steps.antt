@@ -1,10 +1,10 @@
 -- The steps of an operation, one after another.
-use Rattle.std.proofs.Common.{◌≡◌, refl, ℕ, suc, ◌+◌, ◌<◌, ◌≤◌, ◌^◌, lit≤, arith, ap, List, [], ◌∷◌, ◌++◌, length, subst, sym, ◌-◌, Bool, true, false, None, Some, ◌∙◌, Option, Ok, Err, Result}
+use Rattle.std.proofs.Common.{◌≡◌, refl, ℕ, ◌+◌, ◌<◌, ◌≤◌, ◌^◌, lit≤, arith, List, [], ◌∷◌, ◌++◌, length, subst, ◌-◌, true, false, None, Some, ◌∙◌, Option, Ok, Err, Result}
 use Rattle.std.proofs.lemmas.List.{nil_from_length}
-use Rattle.std.specs.Prelude.{OnOk, if◌then◌else◌}
+use Rattle.std.specs.Prelude.{OnOk}
 use Rattle.avr_part.specs.declared.part.Mem.{Mem}
 use Rattle.avr_part.specs.Mem.{is_writable}
-use Rattle.avr_part.specs.declared.part.Mem.TheVariants.{Flash, Eeprom, Lfuse, Hfuse, Efuse, Lock, Signature, Calibration}
+use Rattle.avr_part.specs.declared.part.Mem.TheVariants.{Flash, Eeprom}
 use Rattle.avr_part.specs.Part.{Part, IsPart, size_of}
 use Rattle.stk_frame.specs.declared.command.Command.{Command}
 use Rattle.stk_frame.specs.declared.answer.Shape.{Shape}

@@ -1,13 +1,13 @@
 -- Laws of the answer on a tape.
 use Rattle.std.proofs.Common.{◌≡◌, ℕ, ◌+◌, ◌-◌, ◌<◌, ◌≤◌, List, [], ◌∷◌, ◌++◌, length, take, drop, refl, sym, ap, ◌∙◌, arith, true, length-append, inl, inr, Option, Some, None}
-use Rattle.std.proofs.lemmas.Bool.{le-leb, lt-leb, cases_Bool, and_left, cond-true, cond-false}
+use Rattle.std.proofs.lemmas.Bool.{le-leb, lt-leb, cases_Bool, cond-true}
 use Rattle.std.proofs.lemmas.List.Folds.{concat-append}
 use Rattle.std.proofs.Math.Seq.{take-append-add}
 use Rattle.std.proofs.lemmas.List.{append-nil, take_all, take-append-le}
 use Rattle.std.proofs.lemmas.Option.{none-some}
 use Rattle.std.specs.List.{concat}
-use Rattle.std.specs.Prelude.{filter, nat_le as leb}
-use Rattle.stk_frame.specs.Cut.{cut, rest, is_good, is_frame, body_of}
+use Rattle.std.specs.Prelude.{filter}
+use Rattle.stk_frame.specs.Cut.{cut, rest, is_frame, body_of}
 use Rattle.stk_frame.proofs.Cuts.{cut_append, cut_joined}
 use Rattle.stk_host.specs.declared.link.Item.TheVariants.{Byte, Silence, End}
 use Rattle.stk_host.specs.Tape.{Tape, on_tape, bytes_of, bytes_in, answer, read_to, silence_or_end, first_answer, is_answer, further, limit, Answered, Silent, Ended, Babbled}

@@ -3,7 +3,7 @@ use Rattle.std.proofs.Common.{◌≡◌, ◌∙◌, ◌-◌, min, drop, length-a
 use Rattle.std.proofs.lemmas.List.{take_all, take_more_set, take-append-le, length-take, take_rest}
 use Rattle.stk_host.specs.declared.link.Heard.{Heard}
 use Rattle.stk_host.specs.declared.link.Heard.TheVariants as heard
-use Rattle.stk_host.specs.declared.link.Item.TheVariants.{Byte, Silence, End}
+use Rattle.stk_host.specs.declared.link.Item.TheVariants.{Byte}
 use Rattle.stk_host.specs.Tape.{Tape, bytes_in, on_tape}
 use Rattle.stk_host.specs.Talk.{items_of, FitsBuffer}
 use Rattle.stk_host.specs.Links.{byte_of, next_piece}
