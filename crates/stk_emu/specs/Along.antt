@@ -1,11 +1,10 @@
 -- A dialog over a line, question by question: neither bytes nor sequence numbers, and no late answers.
-use Rattle.std.specs.Prelude.{ℕ, zero, suc, List, [], ◌∷◌, ◌≡◌, Some, length}
-use Rattle.stk_host.specs.Tape.{Tape, Reading}
-use Rattle.stk_host.specs.Dialog.{Dialog, Done, Say, Ask, played}
+use Rattle.std.specs.Prelude.{ℕ, zero, suc, List, [], ◌∷◌}
+use Rattle.stk_host.specs.Tape.{Reading}
+use Rattle.stk_host.specs.Dialog.{Dialog, Done, Say, Ask}
 use Rattle.stk_emu.specs.Turn.{Turn, after_turn, turn_reading, first_turn, other_turns}
 use Rattle.stk_emu.specs.Device.{Device}
 use Rattle.stk_emu.specs.Lawful.{IsBody}
-use Rattle.stk_emu.specs.Wire.{Wire, turns_of, tape_of, wire_after}
 
 -- How a dialog stands: what is left of it, the programmer, the turns to come, and the questions that it may still ask.
 pub record LineState (E R P : Type 0) : Type 0 where

@@ -5,7 +5,7 @@ use Rattle.std.proofs.lemmas.List.{length-take}
 use Rattle.std.specs.Prelude.{◌==◌, ◌&&◌, not, nat_le}
 use Rattle.avr_part.specs.State.{ChipState, spi_of}
 use Rattle.stk_frame.specs.declared.command.Command.{Command}
-use Rattle.stk_frame.specs.declared.command.Command.TheVariants.{SignOn, SetParameter, GetParameter, LoadAddress, EnterProgmode, LeaveProgmode, ChipErase, ProgramFlash, ReadFlash, ProgramEeprom, ReadEeprom, ProgramFuse, ReadFuse, ProgramLock, ReadLock, ReadSignature, ReadOsccal, SpiMulti}
+use Rattle.stk_frame.specs.declared.command.Command.TheVariants.{SignOn, GetParameter, EnterProgmode, ChipErase, ProgramFlash, ReadFlash, ProgramEeprom, ReadEeprom, ProgramFuse, ReadFuse, ProgramLock, ReadLock, ReadSignature, ReadOsccal, SpiMulti}
 use Rattle.stk_frame.specs.declared.command.ReadBlock.{ReadBlock}
 use Rattle.stk_frame.specs.declared.command.ReadByte.{ReadByte}
 use Rattle.stk_frame.specs.Decoding.{command_of}

@@ -3,11 +3,10 @@ use Rattle.std.proofs.Common.{◌≡◌, ℕ, zero, suc, ◌<◌, ◌^◌, [], �
 use Rattle.std.proofs.lemmas.List.{length-replicate}
 use Rattle.std.proofs.lemmas.Bool.{cond-true}
 use Rattle.avr_part.specs.Part.{Part}
-use Rattle.avr_part.specs.State as chip
 use Rattle.stk_frame.specs.declared.command.Command.{Command}
 use Rattle.stk_frame.specs.declared.command.Command.TheVariants.{SignOn, LoadAddress}
 use Rattle.stk_frame.specs.declared.host_command.Fuse.{Fuse}
-use Rattle.stk_frame.specs.declared.host_command.Fuse.TheVariants.{Low, High, Extended}
+use Rattle.stk_frame.specs.declared.host_command.Fuse.TheVariants.{Low}
 use Rattle.stk_frame.specs.Commands.{body}
 use Rattle.stk_frame.specs.Decoding as decoding
 use Rattle.stk_frame.specs.HostCommands.{enter, leave, erase, program_fuse, program_lock, read_fuse, read_lock, read_signature, read_calibration}

@@ -43,12 +43,8 @@ one_load wide a i d ds s =
     ≡ (a % 256 + i / 2) % 256 % (s.part.flash_page / 2) * 2 + half_offset (half_at i) =
     ap₂ (λ w o. w % (s.part.flash_page / 2) * 2 + o)
     (let e : (a + i / 2) % 2147483648 % 256 ≡ (a % 256 + i / 2) % 256 = omega arith in e) (sym (offset_at i)) in
-    sent-append (extension wide (word_at a i)) _ s
-    ∙ (ap (λ t. sent_to ((for_half 0x40 i ∷ high (word_at a i) ∷ low (word_at a i) ∷ d ∷ [])
-    ∷ flash_loads wide 0x40 a (suc i) ds) t) (extended_is wide (word_at a i) s)
-    ∙ ap (sent_to (flash_loads wide 0x40 a (suc i) ds))
-    (load_byte i (high (word_at a i)) (low (word_at a i)) d s₁
-    ∙ ap (λ q. record s { flash_buffer = set s.flash_buffer q d; extended = x }) place))
+    sent-append (extension wide (word_at a i)) _ s ∙ rw (extended_is wide (word_at a i) s)
+    (rw (load_byte i (high (word_at a i)) (low (word_at a i)) d s₁, place) refl)
 
 all_loads : (wide : Bool) (a i d : ℕ) (ds : List ℕ) (s : chip.ChipState)
     → sent_to (flash_loads wide 0x40 a i (d ∷ ds)) s

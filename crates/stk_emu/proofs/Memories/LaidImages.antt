@@ -82,11 +82,8 @@ overlaid_laid start loads xs =
     (λ i l. overlaid_is start loads i (get_or xs i 0) _
     (λ before. rw (get_laid (replicate start None ++ loads) xs i l, before_part start loads i before) refl)
     (λ from to. rw (get_laid (replicate start None ++ loads) xs i l, in_part start loads i from) refl)
-    (λ after. rw (
-      get_laid (replicate start None ++ loads) xs i l,
-      in_part start loads i (omega arith),
-      get_or_past loads (i - start) None (omega arith),
-    ) refl)))
+    (λ after. rw (get_laid (replicate start None ++ loads) xs i l, in_part start loads i (omega arith))
+    (rw (get_or_past loads (i - start) None (omega arith)) refl))))
 
 pub some_at : (page : List ℕ) (j : ℕ) → j < length page → get_or (map Some page) j None ≡ Some (get_or page j 0)
 some_at [] j l = absurd (omega arith)
@@ -100,16 +97,10 @@ anded_in start page xs =
     (length-and_in (image_at start page) xs)
     (λ i l. anded_is start page i (get_or xs i 0) _
     (λ before. rw (get_and_in (image_at start page) xs i l, before_part start (map Some page) i before) refl)
-    (λ from to. rw (
-      get_and_in (image_at start page) xs i l,
-      in_part start (map Some page) i from,
-      some_at page (i - start) (omega arith),
-    ) refl)
-    (λ after. rw (
-      get_and_in (image_at start page) xs i l,
-      in_part start (map Some page) i (omega arith),
-      get_or_past (map Some page) (i - start) None (rw length-map (omega arith)),
-    ) refl)))
+    (λ from to. rw (get_and_in (image_at start page) xs i l, in_part start (map Some page) i from)
+    (rw (some_at page (i - start) (omega arith)) refl))
+    (λ after. rw (get_and_in (image_at start page) xs i l, in_part start (map Some page) i (omega arith))
+    (rw (get_or_past (map Some page) (i - start) None (rw length-map (omega arith))) refl))))
 
 -- a buffer into which bytes are loaded from one place on
 abbrev pub put : {A : Type 0} → (ℕ → A) → ℕ → List ℕ → List A → List A

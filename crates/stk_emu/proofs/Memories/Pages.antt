@@ -100,12 +100,8 @@ flash_loaded wide a i half (d ∷ ds) s e each =
     ∙ (ap (λ j. word_at a j % 256 % half * 2 + j % 2) (omega arith) ∙ (each 0 (omega arith) ∙ omega arith)) in
     let s₂ : chip.ChipState = record s { flash_buffer = set s.flash_buffer i d; extended = x } in
     let one : sent_to (flash_loads wide 0x40 a i (d ∷ ds)) s ≡ sent_to (flash_loads wide 0x40 a (suc i) ds) s₂ =
-    sent-append (extension wide (word_at a i)) _ s
-    ∙ (ap (λ t. sent_to ((for_half 0x40 i ∷ high (word_at a i) ∷ low (word_at a i) ∷ d ∷ [])
-    ∷ flash_loads wide 0x40 a (suc i) ds) t) (extended_is wide (word_at a i) s)
-    ∙ ap (sent_to (flash_loads wide 0x40 a (suc i) ds))
-    (load_byte i (high (word_at a i)) (low (word_at a i)) d s₁
-    ∙ ap (λ q. record s { flash_buffer = set s.flash_buffer q d; extended = x }) here)) in
+    sent-append (extension wide (word_at a i)) _ s ∙ rw (extended_is wide (word_at a i) s)
+    (rw (load_byte i (high (word_at a i)) (low (word_at a i)) d s₁, here) refl) in
     let more : Loaded wide (suc i) ds s₂ (sent_to (flash_loads wide 0x40 a (suc i) ds) s₂) =
     flash_loaded wide a (suc i) half ds s₂ e
     (λ k l. ap (λ j. word_at a j % 256 % half * 2 + j % 2) (omega arith)
@@ -121,12 +117,9 @@ word_place : (n half j : ℕ) → 256 % (half * 2) ≡ 0 → j < half * 2 → n 
     → (n * half + j / 2) % 2147483648 % 256 % half * 2 + j % 2 ≡ j
 word_place n half j whole within few =
     let small : j / 2 < half = omega arith in
-    let e : (n * half + j / 2) % 2147483648 % 256 % half ≡ j / 2 =
-    ap (λ x. x % 256 % half) (mod-eq_of_lt few)
-    ∙ (mod-mod_of_dvd half (n * half + j / 2)
-    (dvd_trans half (dvd-mul_right half 2) (dvd_of_mod-eq-zero (half * 2) whole))
-    ∙ mod-mul-add n half (j / 2) small) in
-    ap (λ x. x * 2 + j % 2) e ∙ omega arith
+    rw (mod-eq_of_lt few)
+    (rw (mod-mod_of_dvd half (n * half + j / 2) (dvd_trans half (dvd-mul_right half 2) (dvd_of_mod-eq-zero (half * 2) whole)))
+    (rw (mod-mul-add n half (j / 2) small) (omega arith)))
 
 -- a word's address, from the extended address and the two bytes of an instruction
 pub word_whole : (wide : Bool) (s : chip.ChipState) (w : ℕ) → w < 16777216
@@ -151,11 +144,10 @@ flash_written : (wide : Bool) (s : chip.ChipState) (a start size page : ℕ) →
 flash_written wide s a start size page pe se few inside narrow at =
     let x = cond wide (a / 65536 % 256) s.extended in
     let word : (x * 65536 + (high a * 256 + low a)) % (s.part.flash_size / 2) ≡ a =
-    ap (λ z. (x * 65536 + (high a * 256 + low a)) % (z / 2)) se
-    ∙ (ap (λ z. z % (size / 2)) (word_whole wide s a few narrow) ∙ mod-eq_of_lt inside) in
+    rw (se, word_whole wide s a few narrow) (mod-eq_of_lt inside) in
     let first : page_start s.part.flash_page ((x * 65536 + (high a * 256 + low a)) % (s.part.flash_size / 2) * 2)
     ≡ start =
-    ap (λ z. page_start s.part.flash_page (z * 2)) word ∙ (ap (λ q. a * 2 / q * q) pe ∙ at) in
+    rw (word, pe) at in
     sent-append (extension wide a) ((0x4C ∷ high a ∷ low a ∷ 0 ∷ []) ∷ []) s
     ∙ (ap (sent_to ((0x4C ∷ high a ∷ low a ∷ 0 ∷ []) ∷ [])) (extended_is wide a s) ∙ rw first refl)
 

@@ -1,7 +1,7 @@
 -- Noise, cut piece by piece.
-use Rattle.std.proofs.Common.{◌≡◌, ◌≢◌, ℕ, ◌+◌, ◌-◌, subst, arith, length-drop, List, [], ◌∷◌, ◌++◌, length, take, drop, refl, ap, sym, ◌∙◌, true, false, inl, inr}
+use Rattle.std.proofs.Common.{◌≡◌, ◌≢◌, ℕ, ◌+◌, ◌-◌, subst, arith, length-drop, List, [], ◌∷◌, ◌++◌, length, take, drop, refl, ap, sym, ◌∙◌, true, inl, inr}
 use Rattle.std.specs.Prelude.{filter}
-use Rattle.std.proofs.lemmas.Bool.{cases_Bool, cond-true, cond-false}
+use Rattle.std.proofs.lemmas.Bool.{cases_Bool, cond-true}
 use Rattle.std.proofs.lemmas.List.{take-append-drop, take_all}
 use Rattle.std.proofs.Math.Seq.{take-add}
 use Rattle.std.proofs.lemmas.List.Elements.{filter-append}
@@ -20,10 +20,8 @@ no_good (piece ∷ pieces) e = elim (cases_Bool (is_frame piece)) [
 good_fed : (old used new : List ℕ) (fs : List (List ℕ)) (text : List ℕ) → Fed old used new fs → Stands old text
     → filter is_good (cut text) ≡ [] → filter is_good (cut (text ++ used)) ≡ filter is_good fs
 good_fed old used new fs text fed stands none =
-    ap (filter is_good) (fed.pieces text stands)
-    ∙ (filter-append is_good (cut text) (fed.skipped ++ fs)
-    ∙ (ap (λ t. t ++ filter is_good (fed.skipped ++ fs)) none
-    ∙ (filter-append is_good fed.skipped fs ∙ ap (λ t. t ++ filter is_good fs) (no_good fed.skipped fed.no_frames))))
+    rw (fed.pieces text stands, filter-append is_good (cut text) (fed.skipped ++ fs), none)
+    (rw (filter-append is_good fed.skipped fs, no_good fed.skipped fed.no_frames) refl)
 
 -- the rest of the noise, as the code cuts it
 fed_rest : (old new noise : List ℕ) (at used : ℕ) (fs : List (List ℕ))

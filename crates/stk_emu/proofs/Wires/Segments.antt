@@ -1,6 +1,6 @@
 -- What a frame brings over the wire, as it is read.
 use Rattle.std.proofs.Common.{◌≡◌, ℕ, suc, ◌*◌, ◌≤◌, ◌<◌, ◌≢◌, List, [], ◌∷◌, ◌++◌, length, refl, sym, ap, ◌∙◌, subst, append_assoc, arith, true, false, inl, inr, Some, None, length-append}
-use Rattle.std.proofs.lemmas.Bool.{cases_Bool, and_left, ne_eqb, eq-eqb, and_from, and_right, cond-true, cond-false}
+use Rattle.std.proofs.lemmas.Bool.{cases_Bool, ne_eqb, eq-eqb, and_from, and_right, cond-true, cond-false}
 use Rattle.std.specs.Prelude.{filter, ◌==◌}
 use Rattle.stk_frame.specs.declared.protocol.TheConstants.{LARGEST_FRAME}
 use Rattle.stk_frame.specs.Frame.{frame}
@@ -52,12 +52,8 @@ frame_skipped n seq bytes other carried = record {
 
 pub both_skipped : (n : ℕ) (x y : List ℕ) → Skipped n x → Skipped n y → Skipped n (x ++ y)
 both_skipped n x y f g = record {
-  first = λ more.
-      ap (λ bs. first_answer n (cut bs)) (append_assoc x y more)
-      ∙ (f.first (y ++ more)
-      ∙ (ap (further (length x)) (g.first more)
-      ∙ (further_further (length x) (length y) (first_answer n (cut more))
-      ∙ ap (λ k. further k (first_answer n (cut more))) (sym (length-append x y)))));
+  first = λ more. rw (append_assoc x y more, f.first (y ++ more), g.first more, length-append x y)
+      (further_further (length x) (length y) (first_answer n (cut more)));
 }
 
 -- an answer to a frame before this one
@@ -98,9 +94,7 @@ reads_frame : (n : ℕ) (prefix bytes : List ℕ) (more : Tape) → Skipped n pr
     → answer n ((on_tape prefix ++ on_tape (frame n bytes)) ++ more) ≡ Some (Answered bytes, more)
 reads_frame n prefix bytes more skipped short b =
     let found : first_answer n (cut (prefix ++ frame n bytes)) ≡ Some (bytes, length (prefix ++ frame n bytes)) =
-    skipped.first (frame n bytes)
-    ∙ (ap (further (length prefix)) (found_frame n bytes b)
-    ∙ ap (λ k. Some (bytes, k)) (sym (length-append prefix (frame n bytes)))) in
+    rw (skipped.first (frame n bytes), found_frame n bytes b, length-append prefix (frame n bytes)) refl in
     let few : length (prefix ++ frame n bytes) ≤ limit =
     let f = b.few in
     rw (length-append prefix (frame n bytes), length_frame n bytes) (omega arith) in
@@ -116,11 +110,10 @@ reads_silence n prefix noise more skipped short lawful =
     let few : length (prefix ++ noise) < limit =
     let f = lawful.few in
     rw (length-append prefix noise) (omega arith) in
-    ap (answer n) (append_assoc (on_tape prefix) (on_tape noise ++ Silence ∷ []) more
-    ∙ (ap (λ t. on_tape prefix ++ t) (append_assoc (on_tape noise) (Silence ∷ []) more)
-    ∙ (sym (append_assoc (on_tape prefix) (on_tape noise) (Silence ∷ more))
-    ∙ ap (λ t. t ++ Silence ∷ more) (sym (on_tape_append prefix noise)))))
-    ∙ answer_silent n (prefix ++ noise) more none few
+    rw (append_assoc (on_tape prefix) (on_tape noise ++ Silence ∷ []) more)
+    (rw (append_assoc (on_tape noise) (Silence ∷ []) more)
+    (rw (← append_assoc (on_tape prefix) (on_tape noise) (Silence ∷ more), ← on_tape_append prefix noise)
+    (answer_silent n (prefix ++ noise) more none few)))
 
 no_noise : IsLawful []
 no_noise = record { few = omega arith; no_frame = refl }

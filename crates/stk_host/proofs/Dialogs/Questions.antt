@@ -77,15 +77,9 @@ pub prefix_most : {E : Type 0} {SaidPart : E → E → Type 0} {shown events : L
     → IsPrefixOfEvents SaidPart shown events → length (frames_in shown) ≤ length (frames_in events)
 prefix_most {SaidPart = SaidPart} {shown = shown} {events = events} f =
     let b = begun_most SaidPart f.begun f.later f.part in
-    rw (
-      f.shown_is,
-      f.events_are,
-      frames_append f.whole f.begun,
-      frames_append f.whole f.later,
-      length-append (frames_in f.whole) (frames_in f.begun),
-      length-append (frames_in f.whole) (frames_in f.later),
-    )
-    (omega arith)
+    rw (f.shown_is, f.events_are, frames_append f.whole f.begun, frames_append f.whole f.later)
+    (rw (length-append (frames_in f.whole) (frames_in f.begun))
+    (rw (length-append (frames_in f.whole) (frames_in f.later)) (omega arith)))
 
 -- what a dialog asks bounds what it sends
 pub sends_asked : {E R : Type 0} (SaidPart : E → E → Type 0) (n : ℕ) (d : Dialog E R) → AsksAtMost n d

@@ -181,12 +181,8 @@ module _ {E R : Type 0} {a b : Dialog E R} {m n : Position} {x : Talk} {events :
       let e = ap (played a m.next) (append_assoc (on_tape m.unread) (heard x) tape) ∙ f.goes_on tape in
       record {
         waits = ap (λ p. p.outcome) e ∙ due.waits;
-        all_sent = rw (
-          e,
-          bytes_append events (played b n.next (on_tape n.unread ++ tape)).events,
-          f.all_sent,
-          due.all_sent,
-        ) refl;
+        all_sent = rw (e, bytes_append events (played b n.next (on_tape n.unread ++ tape)).events, f.all_sent)
+            (rw due.all_sent refl);
       }
 
   -- what is played over both talks, what they send, and that both listen in turn

@@ -21,9 +21,5 @@ returns-clause-asks g c =
     search rules)
 
 pub returns-clause-size : goal.returns-clause-size
-returns-clause-size g c = rw (
-  c.append.ensures.items,
-  c.data_read.ensures,
-  length-append,
-  counted_data _ _ c.requires.sized.counted c.in_ok-step.ensures.sized,
-) refl
+returns-clause-size g c = rw (c.append.ensures.items, c.data_read.ensures, length-append)
+    (rw (counted_data _ _ c.requires.sized.counted c.in_ok-step.ensures.sized) refl)
