@@ -4,12 +4,18 @@ use Rattle.std.proofs.Math.Nat.{mod-eq_of_lt}
 use Rattle.std.proofs.lemmas.Bool.{cond-false}
 use Rattle.std.specs.Prelude.{slice_index}
 use Rattle.avr_part.specs.State as chip
-use Rattle.stk_emu.specs.Programmer.{sent_to, extension, flash_looks, eeprom_looks, for_half, word_at, byte_address, at_address, high, low}
+use Rattle.stk_emu.specs.Programmer.{sent_to, extension, flash_looks, eeprom_looks, look, for_half, word_at, byte_address, at_address, high, low}
 use Rattle.stk_emu.proofs.Memories.Pages.{extended_is, by_half, word_whole}
 
 -- a memory from a place on, by its first byte
 one_more : (xs : List ℕ) (j n : ℕ) → j < length xs → get_or xs j 0 ∷ take n (drop (suc j) xs) ≡ take (suc n) (drop j xs)
 one_more xs j n l = ap (take (suc n)) (sym (drop-cons xs j 0 l))
+
+-- what is read after an instruction whose answer is known
+pub look_by : (x : List ℕ) (s : chip.ChipState) {got : List ℕ × chip.ChipState}
+    (more : chip.ChipState → List ℕ × chip.ChipState) → chip.spi_of x s ≡ got
+    → look x s more ≡ (slice_index got.0 3 ∷ (more got.1).0, (more got.1).1)
+look_by x s more e = ap (λ (z : List ℕ × chip.ChipState). (slice_index z.0 3 ∷ (more z.1).0, (more z.1).1)) e
 
 -- one byte of flash is read
 pub look_byte : (i h lo : ℕ) (s : chip.ChipState) → chip.spi_of (for_half 0x20 i ∷ h ∷ lo ∷ 0 ∷ []) s
@@ -60,10 +66,8 @@ flash_looked wide a i (suc n) size s is long most even fits narrow =
     (λ e. (cond-false wide (word_at a i / 65536 % 256) s.extended e ∙ (narrow e).0, (narrow e).1)) in
     let looks : flash_looks wide 0x20 a i (suc n) s
     ≡ (byte ∷ (flash_looks wide 0x20 a (suc i) n s₁).0, (flash_looks wide 0x20 a (suc i) n s₁).1) =
-    ap (λ (z : List ℕ × chip.ChipState). (
-      slice_index z.0 3 ∷ (flash_looks wide 0x20 a (suc i) n z.1).0,
-      (flash_looks wide 0x20 a (suc i) n z.1).1,
-    )) spi in
+    look_by (at_address (for_half 0x20 i) (word_at a i) 0) (sent_to (extension wide (word_at a i)) s)
+    (flash_looks wide 0x20 a (suc i) n) spi in
     record {
       bytes = ap (λ z. z.0) looks ∙ (ap (λ bs. byte ∷ bs)
           (more.bytes ∙ ap (λ j. take n (drop j s.flash)) (let e : a * 2 + suc i ≡ suc (a * 2 + i) = omega arith in e))
@@ -90,12 +94,8 @@ eeprom_looked a i (suc n) size s is long most fits =
     ≡ (0 ∷ 0xA0 ∷ high (byte_address a i) ∷ byte ∷ [], s) =
     rw place refl in
     let more = eeprom_looked a (suc i) n size s is long most (omega arith) in
-    ap (λ (z : List ℕ × chip.ChipState). (
-      slice_index z.0 3 ∷ (eeprom_looks 0xA0 a (suc i) n z.1).0,
-      (eeprom_looks 0xA0 a (suc i) n z.1).1,
-    )) spi
-    ∙ (ap (λ (z : List ℕ × chip.ChipState). (byte ∷ z.0, z.1)) more
-    ∙ ap (λ bs. (bs, s)) (ap (λ j. byte ∷ take n (drop j s.eeprom)) (let e : a + suc i ≡ suc (a + i) = omega arith in e)
+    look_by (at_address 0xA0 (byte_address a i) 0) s (eeprom_looks 0xA0 a (suc i) n) spi ∙ rw more
+    (ap (λ bs. (bs, s)) (ap (λ j. byte ∷ take n (drop j s.eeprom)) (let e : a + suc i ≡ suc (a + i) = omega arith in e)
     ∙ one_more s.eeprom (a + i) n (omega arith)))
 
 -- whatever is read, nothing but the extended address changes

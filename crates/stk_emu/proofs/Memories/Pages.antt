@@ -5,7 +5,7 @@ use Rattle.std.proofs.lemmas.Nat.Gcd.{dvd_of_mod-eq-zero}
 use Rattle.std.proofs.Math.Nat.{mod-mod_of_dvd, mod-eq_of_lt, mul-div_cancel, mul_assoc, dvd-mul_right, dvd_trans}
 use Rattle.std.proofs.lemmas.Bool.{ne_eqb, eq-eqb, eqb-true, eqb-false, and_from, cases_Bool, ltb-false, le-ltb, le-leb, cond-true, cond-false}
 use Rattle.std.proofs.lemmas.List.{append-nil, map-id}
-use Rattle.std.specs.Prelude.{◌==◌, ◌&&◌, not, nat_le, nat_lt, bit_or}
+use Rattle.std.specs.Prelude.{◌==◌, ◌&&◌, not, nat_lt, bit_or}
 use Rattle.avr_part.specs.Part.{Part, IsPart}
 use Rattle.avr_part.specs.Memory.{map_indexed, byte_and_page, page_start, blank}
 use Rattle.avr_part.specs.State as chip
@@ -35,8 +35,7 @@ wide_loaded address p few =
     let back : (address + 2147483648) % 2147483648 ≡ address = omega arith in
     ap (λ z. z.1) (obeys (LoadAddress (address + 2147483648)) p
     (let l : address + 2147483648 < 4294967296 = omega arith in l))
-    ∙ (ap (λ a. record p { address = a; wide = nat_le 2147483648 (address + 2147483648) }) back
-    ∙ ap (λ w. record p { address = address; wide = w }) (le-leb 2147483648 (address + 2147483648) (omega arith)))
+    ∙ rw (back, le-leb 2147483648 (address + 2147483648) (omega arith)) refl
 
 -- the words of a page whose number is given
 words_twice : (n page : ℕ) → page % 2 ≡ 0 → n * (page / 2) * 2 ≡ n * page

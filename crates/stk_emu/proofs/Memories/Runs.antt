@@ -4,7 +4,7 @@ use Rattle.std.proofs.lemmas.Nat.{div-add-mod', mod-mul-add}
 use Rattle.std.proofs.Math.Nat.{mod-mod_of_dvd, dvd_of_mod-eq-zero, mod-eq_of_lt}
 use Rattle.std.proofs.lemmas.Bool.{ne_eqb, eq-eqb, and_from, lt-leb, cond-true}
 use Rattle.std.proofs.lemmas.List.{length-replicate}
-use Rattle.std.specs.Prelude.{◌==◌, ◌&&◌, not, nat_le}
+use Rattle.std.specs.Prelude.{◌==◌, ◌&&◌, not}
 use Rattle.avr_part.specs.Part.{Part, IsPart}
 use Rattle.avr_part.specs.Memory.{map_indexed, overlaid}
 use Rattle.avr_part.specs.State as chip
@@ -25,8 +25,7 @@ pub narrow_loaded : (address : ℕ) (p : Programmer) → address < 2147483648
     → device.after (body (LoadAddress address)) p ≡ record p { address = address; wide = false }
 narrow_loaded address p few =
     ap (λ z. z.1) (obeys (LoadAddress address) p (let l : address < 4294967296 = omega arith in l))
-    ∙ (ap (λ a. record p { address = a; wide = nat_le 2147483648 address }) (mod-eq_of_lt few)
-    ∙ ap (λ w. record p { address = address; wide = w }) (lt-leb 2147483648 address few))
+    ∙ rw (mod-eq_of_lt few, lt-leb 2147483648 address few) refl
 
 -- where byte k goes within a page that holds it
 place_in : (address page k : ℕ) → 256 % page ≡ 0 → 0 < page → address % page + k < page → address + k < 2147483648
@@ -34,10 +33,8 @@ place_in : (address page k : ℕ) → 256 % page ≡ 0 → 0 < page → address 
 place_in address page k whole some within few =
     let split : address + k ≡ address / page * page + (address % page + k) = let e = div-add-mod' address page in
     omega arith in
-    let fits : (address + k) % 2147483648 ≡ address + k = mod-eq_of_lt few in
-    ap (λ x. x % 256 % page) fits
-    ∙ (mod-mod_of_dvd page (address + k) (dvd_of_mod-eq-zero page whole)
-    ∙ (ap (λ x. x % page) split ∙ mod-mul-add (address / page) page (address % page + k) within))
+    rw (mod-eq_of_lt few, mod-mod_of_dvd page (address + k) (dvd_of_mod-eq-zero page whole), split)
+    (mod-mul-add (address / page) page (address % page + k) within)
 
 -- the loads of a run
 eeprom_loaded : (a i off page : ℕ) (ds : List ℕ) (s : chip.ChipState) → s.part.eeprom_page ≡ page
@@ -106,10 +103,8 @@ module _ (part : Part) (sound : IsPart part) where
       let start : a / part.eeprom_page * part.eeprom_page + off ≡ a = div-add-mod' a part.eeprom_page in
       let over : map_indexed (overlaid (a / s.part.eeprom_page * s.part.eeprom_page) loaded) s.eeprom
       ≡ with_image (image_at a run) s.eeprom =
-      ap (λ q. map_indexed (overlaid (a / q * q) loaded) s.eeprom) page_is
-      ∙ (ap (λ b. map_indexed (overlaid (a / part.eeprom_page * part.eeprom_page) (put Some off run b)) s.eeprom) empty
-      ∙ (run_laid (a / part.eeprom_page * part.eeprom_page) off run part.eeprom_page s.eeprom r_within
-      ∙ ap (λ x. with_image (image_at x run) s.eeprom) start)) in
+      rw (page_is, empty)
+      (rw (run_laid (a / part.eeprom_page * part.eeprom_page) off run part.eeprom_page s.eeprom r_within, start) refl) in
       let same_length : length loaded ≡ part.eeprom_page =
       length_put Some off run s.eeprom_buffer ∙
       (ap length empty ∙ length-replicate {A = Option ℕ} part.eeprom_page None) in

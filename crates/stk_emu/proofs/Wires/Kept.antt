@@ -10,7 +10,7 @@ use Rattle.stk_emu.specs.declared.fate.Fate.{Fate}
 use Rattle.stk_emu.specs.Programmer.{Programmer}
 use Rattle.stk_emu.specs.Device.{Device, device}
 use Rattle.stk_emu.specs.Wire.{Wire, fresh_wire, segment, wire_behind, tape_of, wire_after}
-use Rattle.stk_emu.specs.Wired.{WiredState, Keeps, NeverIdle, PassesBytes, IsNext, brought, after_hearing}
+use Rattle.stk_emu.specs.Wired.{WiredState, Keeps, NeverIdle, PassesBytes, IsNext, after_hearing}
 use Rattle.stk_emu.proofs.Answers.Texts.{frames_fed}
 
 pub tape_more : {P : Type 0} (m : Device P) (xs ys : List (List ℕ)) (w : Wire P)

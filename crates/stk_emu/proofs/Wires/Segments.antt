@@ -58,9 +58,8 @@ both_skipped n x y f g = record {
 
 -- an answer to a frame before this one
 late_skipped : (k n : ℕ) (late : List ℕ) → ((seq : ℕ) → later k seq ≡ n → seq ≢ n) → IsPast k n late → Skipped n late
-late_skipped k n late other (inl e) = subst (Skipped n) (sym e) (none_skipped n)
-late_skipped k n late other (inr l) = subst (Skipped n) (sym l.is)
-    (frame_skipped n l.seq l.bytes (other l.seq l.before) l.carried)
+late_skipped k n late other (inl e) = rw e (none_skipped n)
+late_skipped k n late other (inr l) = rw l.is (frame_skipped n l.seq l.bytes (other l.seq l.before) l.carried)
 
 late_length : (k n : ℕ) (late : List ℕ) → IsPast k n late → length late ≤ LARGEST_FRAME
 late_length k n late (inl e) = rw e (omega arith)

@@ -100,8 +100,7 @@ sends_asked SaidPart n d f = record {
 most_reply : (n : ℕ) (go_on : List ℕ → Dialog ⊥ Reply) (reply : Reply) → ((bytes : List ℕ) → AsksAtMost n (go_on bytes))
     → AsksAtMost n (with_data go_on reply)
 most_reply n go_on (Data bytes) f = f bytes
-most_reply n go_on (Again fault) f = tt
-most_reply n go_on (Stop fault) f = tt
+most_reply n go_on _ f = tt
 
 attempt_most : (commands : List Command) (before : List ℕ) → AsksAtMost (length commands) (attempt commands before)
 unfolding attempt exchange

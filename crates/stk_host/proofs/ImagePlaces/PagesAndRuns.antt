@@ -123,13 +123,12 @@ skip_steps steps_at place zero here after within none =
 skip_steps steps_at place (suc count) here after within none = elim (cases_lt place here) [
   | inl before ↦
       let more : place + 1 + count ≡ place + suc count = omega arith in
-      rw (none place (omega arith) before) (skip_steps steps_at (place + 1) count here (omega (arith, before))
-      (omega arith) (λ i a l. none i (omega (arith, a)) l)
-      ∙ ap (λ (n : ℕ). each_from steps_at here (n - here)) more)
+      rw (none place (omega arith) before, ← more) (skip_steps steps_at (place + 1) count here (omega (arith, before))
+      (omega arith) (λ i a l. none i (omega (arith, a)) l))
   | inr from ↦
-      let is : place ≡ here = omega arith in
-      let left : suc count ≡ place + suc count - here = omega arith in
-      ap (each_from steps_at place) left ∙ ap (λ (n : ℕ). each_from steps_at n (place + suc count - here)) is
+      let is : here ≡ place = omega arith in
+      let left : place + suc count - place ≡ suc count = omega arith in
+      rw (is, left) refl
 ]
 
 skip_to : (steps_at : ℕ → List (List Command)) (place end here : ℕ) → place ≤ here → here ≤ end

@@ -1,6 +1,5 @@
 -- Commands, attempts and steps, as the code goes through them.
-use Rattle.std.proofs.Common.{◌≡◌, ℕ, zero, suc, List, [], ◌∷◌, ◌++◌, refl, ◌∙◌, subst, Ok, Err, Result, arith}
-use Rattle.ghosts.specs.Failures.{HasRisen}
+use Rattle.std.proofs.Common.{◌≡◌, ℕ, zero, suc, List, [], ◌∷◌, ◌++◌, refl, ◌∙◌, Ok, Err, Result, arith}
 use Rattle.stk_frame.specs.declared.command.Command.{Command}
 use Rattle.stk_frame.specs.Frame.{frame}
 use Rattle.stk_frame.specs.Commands.{body}
@@ -117,11 +116,8 @@ gets_last first last m n o p q was none result after f is nothing same g =
       ok = tt;
       err = broken_on begun e.err;
       sized = e.sized;
-      counts = record {
-        counted = omega (arith, same, e.counts.counted);
-        sound = tt;
-        failed = subst (λ count. HasRisen count q.failures) same e.counts.failed;
-      };
+      counts = record
+          { counted = omega (arith, same, e.counts.counted); sound = tt; failed = rw same at e.counts.failed };
       bound = e.bound;
     }
 

@@ -8,7 +8,7 @@ use Rattle.avr_part.specs.declared.part.Mem.TheVariants.{Flash, Eeprom}
 use Rattle.avr_part.specs.Part.{Part, IsPart, size_of}
 use Rattle.stk_frame.specs.declared.command.Command.{Command}
 use Rattle.stk_frame.specs.declared.answer.Shape.{Shape}
-use Rattle.stk_frame.specs.declared.answer.Shape.TheVariants.{Name, Bytes, Closed}
+use Rattle.stk_frame.specs.declared.answer.Shape.TheVariants.{Name}
 use Rattle.stk_frame.specs.Commands.{SizedBy}
 use Rattle.stk_host.specs.declared.fault.Broken.TheVariants as broken
 use Rattle.stk_host.specs.declared.fault.Stop.{Stop}
@@ -32,8 +32,7 @@ use Rattle.stk_host.proofs.Operations.StepEnds.{stops_on, stop_ends, play_on, pl
 -- data of this size
 pub counted_data : (of : Shape) (bytes : List ℕ) → IsSizedShape of → SizedBy of bytes → length bytes ≡ data_count of
 counted_data Name bytes counted sized = absurd counted
-counted_data (Bytes n) bytes counted sized = sized
-counted_data (Closed n) bytes counted sized = sized
+counted_data _ bytes counted sized = sized
 
 -- a step that was played goes on with those that follow
 pub goes_with : (commands : List Command) (before bytes : List ℕ) {m n : Position} {o p : LinkView}
@@ -53,8 +52,7 @@ pub goes_quietly : (commands : List Command) (of : Shape) (bytes : List ℕ) (re
     → EndsSteps (step commands) (λ done. bytes) m o p result n
     → EndsInnerStep (with_step commands []) (without_step []) m o p result n
 goes_quietly commands of bytes (Ok done) m n o p counted zero sized e =
-    subst (λ bs. EndsInnerStep (with_step commands []) (without_step bs) m o p (Ok tt) n)
-    (nil_from_length bytes (counted_data of bytes counted sized ∙ zero)) (goes_with commands [] bytes e)
+    rw (nil_from_length bytes (counted_data of bytes counted sized ∙ zero)) at (goes_with commands [] bytes e)
 goes_quietly commands of bytes (Err stop) m n o p counted zero sized e = stops_with commands [] [] m n o p stop e
 
 -- a step that nothing follows
@@ -99,9 +97,9 @@ pub plays_all : {a : Dialog ⊥ StepOutcome} {k m : Position} {r o : LinkView} (
     (place end : ℕ) {before : List ℕ}
     → Reaches a k r (play (each_from steps_at place (end - place)) before) m o → end ≤ place
     → PlaysOver a k r o (Ok before) m
-plays_all {a = a} {k = k} {m = m} {r = r} {o = o} steps_at place end {before = before} come past =
+plays_all steps_at place end {before = before} come past =
     let none : end - place ≡ 0 = omega (arith, past) in
-    play_done before (subst (λ n. Reaches a k r (play (each_from steps_at place n) before) m o) none come)
+    play_done before (rw none at come)
 
 -- what an operation comes to, from what its steps come to
 
@@ -177,9 +175,8 @@ verifying_ends steps mem image bytes (Err stop) m n o p e =
 pub begins_at : (steps_at : ℕ → List (List Command)) (count : ℕ) (before : List ℕ) (m : Position) (o : LinkView)
     → Reaches (play (each_from steps_at 0 count) before) m o (play (each_from steps_at 0 (count - 0)) before) m o
 begins_at steps_at count before m o =
-    let all : count ≡ count - 0 = omega arith in
-    subst (λ (n : ℕ). Reaches (play (each_from steps_at 0 count) before) m o (play (each_from steps_at 0 n) before) m o)
-    all (reaches_here (play (each_from steps_at 0 count) before) m o)
+    let all : count - 0 ≡ count = omega arith in
+    rw all (reaches_here (play (each_from steps_at 0 count) before) m o)
 
 -- how many bytes are kept of a memory that was read
 

@@ -93,11 +93,9 @@ module _ {seq : ℕ} {u : List ℕ} {o : LinkView} where
       during = l.during ++ Got (on_tape new) ∷ [];
       grows = grows_on o.talk p.talk q.talk l.during (Got (on_tape new) ∷ []) l.grows (let h = rw is at piece in h.1);
       waits = waits_more (on_tape new);
-      all_heard =
-          ap (λ t. on_tape u ++ t) (heard_append l.during (Got (on_tape new) ∷ [])
-          ∙ ap (λ t. heard_in l.during ++ t) (append-nil (on_tape new)))
-          ∙ (sym (append_assoc (on_tape u) (heard_in l.during) (on_tape new))
-          ∙ (ap (λ t. t ++ on_tape new) text_heard ∙ sym (on_tape_append l.text new)));
+      all_heard = rw (heard_append l.during (Got (on_tape new) ∷ []), append-nil (on_tape new))
+          (rw (← append_assoc (on_tape u) (heard_in l.during) (on_tape new), text_heard)
+          (sym (on_tape_append l.text new)));
     }
 
     -- a silence or an end
@@ -115,12 +113,8 @@ module _ {seq : ℕ} {u : List ℕ} {o : LinkView} where
         ap length (heard_append l.during (Got (item ∷ []) ∷ [])),
         length-append (heard_in l.during) (item ∷ []),
       );
-      answers = λ more.
-          ap (answer seq)
-          (heard_both (on_tape u) l.during (Got (item ∷ []) ∷ []) more
-          ∙ (sym (append_assoc (on_tape u) (heard_in l.during) (item ∷ more))
-          ∙ ap (λ t. t ++ item ∷ more) text_heard))
-          ∙ answers more;
+      answers = λ more. rw (heard_both (on_tape u) l.during (Got (item ∷ []) ∷ []) more)
+          (rw (← append_assoc (on_tape u) (heard_in l.during) (item ∷ more), text_heard) (answers more));
     })
 
     pub heard_silence : {q : LinkView} {what : Heard} {new : List ℕ} → what ≡ heard.Silence → HearsPiece what new p q
@@ -139,8 +133,7 @@ module _ {seq : ℕ} {u : List ℕ} {o : LinkView} where
     pub hears_none : {q : LinkView} → Grows p.talk [] q.talk → HearsNone seq u o q
     hears_none {q = q} g = record {
       during = l.during;
-      grows = subst (λ d. Grows o.talk d q.talk) (append-nil l.during)
-          (grows_on o.talk p.talk q.talk l.during [] l.grows g);
+      grows = g ∙ append-nil p.talk ∙ l.grows;
       waits = l.waits;
       few = omega (arith, heard_count l, l.few);
       no_answer = not_yet;
@@ -167,10 +160,8 @@ module _ {seq : ℕ} {u : List ℕ} {o : LinkView} where
       (new_left new : List ℕ) (what : Event)
       → Listening seq u o held count left p → ReadOn left new_left n held new what
       → first_answer seq (frames_of_event what new) ≡ None → Listening seq u o new (count + n) new_left p
-  reads_on {held = held} {count = count} {p = p} n new_left new what l read other =
-      subst (λ m. Listening seq u o new (count + m) new_left p) read.1
-      (reads read.0 new_left new (frames_of_event what new) (subst (λ bs. Listening seq u o held count bs p) read.2 l)
-      read.3 other)
+  reads_on n new_left new what l read other =
+      rw (← read.1) (reads read.0 new_left new (frames_of_event what new) (rw read.2 at l) read.3 other)
 
   -- a listening whose reading is known
   gives : {held : List ℕ} {count : ℕ} {left : List ℕ} {p : LinkView} (x rest_left : List ℕ) (reading : Reading)
@@ -181,12 +172,8 @@ module _ {seq : ℕ} {u : List ℕ} {o : LinkView} where
     grows = l.grows;
     waits = l.waits;
     few = omega (arith, heard_count l, l.few);
-    answers = λ more.
-        ap (answer seq)
-        (sym (append_assoc (on_tape u) (heard_in l.during) more)
-        ∙ (ap (λ t. t ++ more) (all ∙ on_tape_append x rest_left)
-        ∙ append_assoc (on_tape x) (on_tape rest_left) more))
-        ∙ answers (on_tape rest_left ++ more);
+    answers = λ more. rw (← append_assoc (on_tape u) (heard_in l.during) more, all, on_tape_append x rest_left)
+        (rw (append_assoc (on_tape x) (on_tape rest_left) more) (answers (on_tape rest_left ++ more)));
   }
 
   finds_in : {held : List ℕ} {count : ℕ} {p : LinkView} (used left new : List ℕ)
@@ -207,9 +194,8 @@ module _ {seq : ℕ} {u : List ℕ} {o : LinkView} where
       → Listening seq u o held count left p → ReadOn left new_left n held new what
       → (what ≡ event.Frame) × HoldsFrame new × (is_answer seq new ≡ true) → count + n ≤ limit
       → Hears seq u o p (Answered (body_of new)) new_left
-  finds {held = held} {count = count} {p = p} n new_left new what l read is few =
-      finds_in read.0 new_left new (subst (λ bs. Listening seq u o held count bs p) read.2 l)
-      (subst (λ e. Fed held read.0 new (frames_of_event e new)) is.0 read.3) is.1 is.2 (omega (arith, read.1))
+  finds n new_left new what l read is few =
+      finds_in read.0 new_left new (rw read.2 at l) (rw is.0 at read.3) is.1 is.2 (omega (arith, read.1))
 
   pub babbles : {held : List ℕ} {count : ℕ} {left : List ℕ} {p : LinkView}
       → Listening seq u o held count left p → count ≡ limit → Hears seq u o p Babbled left

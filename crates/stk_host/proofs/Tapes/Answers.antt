@@ -1,6 +1,6 @@
 -- Laws of the answer on a tape.
 use Rattle.std.proofs.Common.{◌≡◌, ℕ, ◌+◌, ◌-◌, ◌<◌, ◌≤◌, List, [], ◌∷◌, ◌++◌, length, take, drop, refl, sym, ap, ◌∙◌, arith, true, length-append, inl, inr, Option, Some, None}
-use Rattle.std.proofs.lemmas.Bool.{le-leb, lt-leb, cases_Bool, cond-true}
+use Rattle.std.proofs.lemmas.Bool.{le-leb, lt-leb, cases_Bool}
 use Rattle.std.proofs.lemmas.List.Folds.{concat-append}
 use Rattle.std.proofs.Math.Seq.{take-append-add}
 use Rattle.std.proofs.lemmas.List.{append-nil, take_all, take-append-le}
@@ -129,35 +129,29 @@ pub still_none : (seq : ℕ) (x y : List ℕ) (skipped found : List (List ℕ)) 
     → filter is_frame skipped ≡ [] → cut (x ++ y) ≡ cut x ++ (skipped ++ found) → first_answer seq found ≡ None
     → first_answer seq (cut (x ++ y)) ≡ None
 still_none seq x y skipped found none no_frames pieces other =
-    ap (first_answer seq) pieces
-    ∙ (first_answer_behind seq (cut x) (skipped ++ found) none
-    ∙ ap (further (length (concat (cut x))))
-    (first_answer_behind seq skipped found (first_answer_skipped seq skipped no_frames)
-    ∙ ap (further (length (concat skipped))) other))
+    rw (pieces, first_answer_behind seq (cut x) (skipped ++ found) none)
+    (rw (first_answer_behind seq skipped found (first_answer_skipped seq skipped no_frames), other) refl)
 
 -- more bytes that bring the answer, and end with it
 pub now_found : (seq : ℕ) (x y : List ℕ) (skipped : List (List ℕ)) (frame : List ℕ) → first_answer seq (cut x) ≡ None
     → filter is_frame skipped ≡ [] → cut (x ++ y) ≡ cut x ++ (skipped ++ frame ∷ []) → is_answer seq frame ≡ true
     → rest (x ++ y) ≡ [] → first_answer seq (cut (x ++ y)) ≡ Some (body_of frame, length (x ++ y))
 now_found seq x y skipped frame none no_frames pieces is_it whole =
-    let joined : concat (cut x) ++ (concat skipped ++ (frame ++ [])) ≡ x ++ y =
-    ap (λ bs. concat (cut x) ++ bs) (sym (concat-append skipped (frame ∷ [])))
-    ∙ (sym (concat-append (cut x) (skipped ++ frame ∷ []))
-    ∙ (ap concat (sym pieces)
-    ∙ (sym (append-nil (concat (cut (x ++ y))))
-    ∙ (ap (λ r. concat (cut (x ++ y)) ++ r) (sym whole)
-    ∙ cut_joined (x ++ y))))) in
-    let total : length (concat (cut x)) + (length (concat skipped) + (length frame + 0)) ≡ length (x ++ y) =
-    sym (length-append (concat (cut x)) _ ∙ ap (λ n. length (concat (cut x)) + n)
-    (length-append (concat skipped) _ ∙ ap (λ n. length (concat skipped) + n) (length-append frame [])))
-    ∙ ap length joined in
-    ap (first_answer seq) pieces
-    ∙ (first_answer_behind seq (cut x) (skipped ++ frame ∷ []) none
-    ∙ (ap (further (length (concat (cut x))))
-    (first_answer_behind seq skipped (frame ∷ []) (first_answer_skipped seq skipped no_frames)
-    ∙ ap (further (length (concat skipped)))
-    (cond-true (is_answer seq frame) (Some (body_of frame, length frame)) (further (length frame) None) is_it))
-    ∙ ap (λ n. Some (body_of frame, n)) (omega (arith, total))))
+    let joined = rw (
+      pieces,
+      whole,
+      append-nil (concat (cut x ++ (skipped ++ frame ∷ []))),
+      concat-append (cut x) (skipped ++ frame ∷ []),
+      concat-append skipped (frame ∷ []),
+    ) at (cut_joined (x ++ y)) in
+    let total = rw (
+      length-append (concat (cut x)) (concat skipped ++ (frame ++ [])),
+      length-append (concat skipped) (frame ++ []),
+      length-append frame [],
+    ) at (ap length joined) in
+    rw (pieces, first_answer_behind seq (cut x) (skipped ++ frame ∷ []) none)
+    (rw (first_answer_behind seq skipped (frame ∷ []) (first_answer_skipped seq skipped no_frames), is_it)
+    (ap (λ n. Some (body_of frame, n)) (omega (arith, total))))
 
 -- the answer, where the bytes end with it
 pub answer_found : (seq : ℕ) (x : List ℕ) (more : Tape) (body : List ℕ)
