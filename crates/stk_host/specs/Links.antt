@@ -50,9 +50,7 @@ next_piece most (Byte byte ∷ tape) = on_tape (take most (byte ∷ bytes_in tap
 -- the byte that an item is
 abbrev pub byte_of : Option Item → Option ℕ
 byte_of (Some (Byte byte)) = Some byte
-byte_of (Some Silence) = None
-byte_of (Some End) = None
-byte_of None = None
+byte_of _ = None
 
 -- a link over a reader and a writer, how often it has failed, the kind of the last error of theirs that it failed for,
 -- and what passed, which is kept for proofs alone
