@@ -17,13 +17,8 @@ pub sent_less : {E R : Type 0} {dialog : Dialog E R} {before : Position} {talk :
     → BreaksSending dialog before talk shown
     → length (sent talk) < length (bytes_sent (played_over dialog before talk).events)
 sent_less {dialog = dialog} {before = before} {talk = talk} f =
-    rw (
-      f.events_are,
-      bytes_append f.whole (Frame (f.part ++ f.unsent) ∷ f.later),
-      ← f.all_sent,
-      f.shown_is,
-      bytes_append f.whole (Frame f.part ∷ []),
-    )
+    rw (f.events_are, bytes_append f.whole (Frame (f.part ++ f.unsent) ∷ f.later), ← f.all_sent, f.shown_is)
+    (rw (bytes_append f.whole (Frame f.part ∷ []))
     (omega (
       arith,
       f.not_whole,
@@ -32,7 +27,7 @@ sent_less {dialog = dialog} {before = before} {talk = talk} f =
       length-append (bytes_sent f.whole) ((f.part ++ f.unsent) ++ bytes_sent f.later),
       length-append (f.part ++ f.unsent) (bytes_sent f.later),
       length-append f.part f.unsent,
-    ))
+    )))
 
 -- so it doesn't listen
 pub never_both : {E R : Type 0} {dialog : Dialog E R} {before : Position} {talk : Talk} {some others : List (Event E)}

@@ -137,18 +137,8 @@ pub now_found : (seq : ℕ) (x y : List ℕ) (skipped : List (List ℕ)) (frame 
     → filter is_frame skipped ≡ [] → cut (x ++ y) ≡ cut x ++ (skipped ++ frame ∷ []) → is_answer seq frame ≡ true
     → rest (x ++ y) ≡ [] → first_answer seq (cut (x ++ y)) ≡ Some (body_of frame, length (x ++ y))
 now_found seq x y skipped frame none no_frames pieces is_it whole =
-    let joined = rw (
-      pieces,
-      whole,
-      append-nil (concat (cut x ++ (skipped ++ frame ∷ []))),
-      concat-append (cut x) (skipped ++ frame ∷ []),
-      concat-append skipped (frame ∷ []),
-    ) at (cut_joined (x ++ y)) in
-    let total = rw (
-      length-append (concat (cut x)) (concat skipped ++ (frame ++ [])),
-      length-append (concat skipped) (frame ++ []),
-      length-append frame [],
-    ) at (ap length joined) in
+    let joined = rw (pieces, whole, append-nil, concat-append, concat-append) at (cut_joined (x ++ y)) in
+    let total = rw (length-append, length-append, length-append) at (ap length joined) in
     rw (pieces, first_answer_behind seq (cut x) (skipped ++ frame ∷ []) none)
     (rw (first_answer_behind seq skipped (frame ∷ []) (first_answer_skipped seq skipped no_frames), is_it)
     (ap (λ n. Some (body_of frame, n)) (omega (arith, total))))

@@ -64,14 +64,10 @@ of_tape_on a b c f g = record {
   during = f.during ++ g.during;
   grows = g.grows ∙ ap (λ (t : Talk). t ++ g.during) f.grows ∙ append_assoc a.talk f.during g.during;
   ends = f.ends + g.ends;
-  gave = rw (
-    heard_append f.during g.during,
-    append_assoc (heard f.during) (heard g.during) c.left,
-    g.gave,
-    ← append_assoc (heard f.during) b.left (replicate g.ends End),
-    f.gave,
-  ) (append_assoc a.left
-      (replicate f.ends End) (replicate g.ends End) ∙ ap (λ (t : Tape). a.left ++ t) (ends_more f.ends g.ends));
+  gave = rw (heard_append f.during g.during, append_assoc (heard f.during) (heard g.during) c.left, g.gave)
+      (rw (← append_assoc (heard f.during) b.left (replicate g.ends End), f.gave)
+      (append_assoc a.left (replicate f.ends End) (replicate g.ends End)
+      ∙ ap (λ (t : Tape). a.left ++ t) (ends_more f.ends g.ends)));
   over = none f.ends g.ends g.gave f.over g.over;
 }
   where
