@@ -1,11 +1,10 @@
 -- A dialog over a link, question by question: without bytes, sequence numbers and late answers.
-use Rattle.std.specs.Prelude.{ℕ, zero, suc, List, [], ◌∷◌, ◌≡◌, Some, length}
-use Rattle.stk_host.specs.Tape.{Tape, Reading}
-use Rattle.stk_host.specs.Dialog.{Dialog, Done, Say, Ask, played}
+use Rattle.std.specs.Prelude.{ℕ, zero, suc, List, [], ◌∷◌}
+use Rattle.stk_host.specs.Tape.{Reading}
+use Rattle.stk_host.specs.Dialog.{Dialog, Done, Say, Ask}
 use Rattle.stk_emu.specs.Turn.{Turn, after_turn, turn_reading, first_turn, other_turns}
 use Rattle.stk_emu.specs.Device.{Device}
 use Rattle.stk_emu.specs.Lawful.{IsBody}
-use Rattle.stk_emu.specs.Wire.{Wire, turns_of, tape_of, wire_after}
 
 -- The rest of a dialog, the programmer, the turns to come, and the questions that it may still ask.
 pub record LineState (E R P : Type 0) : Type 0 where
@@ -37,12 +36,3 @@ abbrev pub AsksBodies : {E R : Type 0} → Dialog E R → Type 0
 AsksBodies (Done r) = Unit {0}
 AsksBodies (Say e dialog) = AsksBodies dialog
 AsksBodies (Ask bytes go_on) = IsBody bytes × ((reading : Reading) → AsksBodies (go_on reading))
-
--- A dialog of which the first frames, in order, were sent over a wire. The programmer is the one of `along`. If the
--- run over the tape that they bring is done, the dialog is done with the same result, and no tape is left.
-pub record Fused {E R P : Type 0} (m : Device P) (d : Dialog E R) (n : ℕ) (w : Wire P)
-    (sent : List (List ℕ)) : Type 0 where
-  pub programmer : (wire_after m sent w).programmer
-      ≡ (along m (length sent) d w.programmer (turns_of w.fates)).programmer
-  pub outcome : (r : R) (seq : ℕ) (left : Tape) → (played d n (tape_of m sent w)).outcome ≡ Some (r, seq, left)
-      → ((along m (length sent) d w.programmer (turns_of w.fates)).dialog ≡ Done r) × (left ≡ [])

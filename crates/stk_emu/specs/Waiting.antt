@@ -1,5 +1,5 @@
 -- What waits to be received, as it is kept: bytes, and None for a timeout.
-use Rattle.std.specs.Prelude.{ℕ, List, [], ◌∷◌, map, Option, Some, None}
+use Rattle.std.specs.Prelude.{ℕ, List, ◌∷◌, map, Option, Some, None}
 use Rattle.stk_host.specs.declared.link.Item.{Item}
 use Rattle.stk_host.specs.declared.link.Item.TheVariants.{Byte, Silence}
 use Rattle.stk_host.specs.Tape.{Tape}
@@ -13,6 +13,5 @@ tape_in = map item_of
 
 -- There is no leading byte.
 abbrev pub BeginsSilent : List (Option ℕ) → Type 0
-BeginsSilent [] = Unit {0}
 BeginsSilent (Some b ∷ items) = ⊥
-BeginsSilent (None ∷ items) = Unit {0}
+BeginsSilent _ = Unit {0}

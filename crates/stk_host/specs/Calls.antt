@@ -61,9 +61,7 @@ reading_of read.Babbled held = tape.Babbled
 
 abbrev pub HoldsAnswer : Reading → List ℕ → Type 0
 HoldsAnswer read.Answered held = HoldsFrame held
-HoldsAnswer read.Silent held = Unit {0}
-HoldsAnswer read.Ended held = Unit {0}
-HoldsAnswer read.Babbled held = Unit {0}
+HoldsAnswer _ held = Unit {0}
 
 -- How listening for the answer to a frame ends, with what the reader holds and what is unread then.
 pub record HearsAnswer (seq : ℕ) (before : List ℕ) (old new : LinkView) (result : Result Reading LinkFault)
@@ -178,16 +176,14 @@ given_or_fault a (Ok done) = Ok a
 given_or_fault a (Err fault) = Err fault
 
 abbrev pub IsBroken : {A : Type 0} → Result A HostFault → Type 0
-IsBroken (Ok a) = ⊥
 IsBroken (Err SendFailed) = Unit {0}
 IsBroken (Err RecvFailed) = Unit {0}
-IsBroken (Err fault) = ⊥
+IsBroken _ = ⊥
 
 abbrev pub UnlessBroken : {A : Type 0} → Result A HostFault → Type 0 → Type 0
-UnlessBroken (Ok a) P = P
 UnlessBroken (Err SendFailed) P = Unit {0}
 UnlessBroken (Err RecvFailed) P = Unit {0}
-UnlessBroken (Err fault) P = P
+UnlessBroken _ P = P
 
 abbrev pub FitsFrame : Command → Type 0
 FitsFrame command = length (body command) ≤ LARGEST_BODY

@@ -47,9 +47,7 @@ next_piece most (Byte byte ∷ tape) = on_tape (take most (byte ∷ bytes_in tap
 
 abbrev pub byte_of : Option Item → Option ℕ
 byte_of (Some (Byte byte)) = Some byte
-byte_of (Some Silence) = None
-byte_of (Some End) = None
-byte_of None = None
+byte_of _ = None
 
 -- A stream link: reader, writer, failures, the kind of the last error, and the transcript for proofs alone.
 pub record StreamState (R W : Type 0) : Type 0 where

@@ -5,7 +5,7 @@ use Rattle.std.proofs.lemmas.List.{length-take}
 use Rattle.std.specs.Prelude.{◌==◌, ◌&&◌, not, nat_le}
 use Rattle.avr_part.specs.State.{ChipState, spi_of}
 use Rattle.stk_frame.specs.declared.command.Command.{Command}
-use Rattle.stk_frame.specs.declared.command.Command.TheVariants.{SignOn, SetParameter, GetParameter, LoadAddress, EnterProgmode, LeaveProgmode, ChipErase, ProgramFlash, ReadFlash, ProgramEeprom, ReadEeprom, ProgramFuse, ReadFuse, ProgramLock, ReadLock, ReadSignature, ReadOsccal, SpiMulti}
+use Rattle.stk_frame.specs.declared.command.Command.TheVariants.{SignOn, GetParameter, EnterProgmode, ChipErase, ProgramFlash, ReadFlash, ProgramEeprom, ReadEeprom, ProgramFuse, ReadFuse, ProgramLock, ReadLock, ReadSignature, ReadOsccal, SpiMulti}
 use Rattle.stk_frame.specs.declared.command.ReadBlock.{ReadBlock}
 use Rattle.stk_frame.specs.declared.command.ReadByte.{ReadByte}
 use Rattle.stk_frame.specs.Decoding.{command_of}
@@ -90,11 +90,8 @@ multi_body send receive start bytes p =
 
 command_body : (c : Command) (p : Programmer) → IsBody (obey_command c p).0
 command_body SignOn p = record { some = omega arith; few = omega arith }
-command_body (SetParameter number value) p = two _ _
 command_body (GetParameter number) p = three _ _ _
-command_body (LoadAddress address) p = two _ _
 command_body (EnterProgmode f) p = either _ _ _ (two _ _) (two _ _)
-command_body (LeaveProgmode a b) p = two _ _
 command_body (ChipErase a b instruction) p = either p.mode _ _ (two _ _) (two _ _)
 command_body (ProgramFlash f) p = either p.mode _ _ (either _ _ _ (two _ _) (two _ _)) (two _ _)
 command_body (ReadFlash f) p = flash_body f p
@@ -107,6 +104,7 @@ command_body (ReadLock f) p = byte_body 0x1A f p
 command_body (ReadSignature f) p = byte_body 0x1B f p
 command_body (ReadOsccal f) p = byte_body 0x1C f p
 command_body (SpiMulti send receive start bytes) p = multi_body send receive start bytes p
+command_body _ p = two _ _
 
 read_body : (read : Option Command) (bytes : List ℕ) (p : Programmer) → IsBody (read_as read bytes p).0
 read_body (Some c) bytes p = command_body c p

@@ -3,11 +3,10 @@ use Rattle.std.proofs.Common.{◌≡◌, ℕ, zero, suc, ◌<◌, ◌^◌, [], �
 use Rattle.std.proofs.lemmas.List.{length-replicate}
 use Rattle.std.proofs.lemmas.Bool.{cond-true}
 use Rattle.avr_part.specs.Part.{Part}
-use Rattle.avr_part.specs.State as chip
 use Rattle.stk_frame.specs.declared.command.Command.{Command}
 use Rattle.stk_frame.specs.declared.command.Command.TheVariants.{SignOn, LoadAddress}
 use Rattle.stk_frame.specs.declared.host_command.Fuse.{Fuse}
-use Rattle.stk_frame.specs.declared.host_command.Fuse.TheVariants.{Low, High, Extended}
+use Rattle.stk_frame.specs.declared.host_command.Fuse.TheVariants.{Low}
 use Rattle.stk_frame.specs.Commands.{body}
 use Rattle.stk_frame.specs.Decoding as decoding
 use Rattle.stk_frame.specs.HostCommands.{enter, leave, erase, program_fuse, program_lock, read_fuse, read_lock, read_signature, read_calibration}
@@ -34,8 +33,8 @@ module _ {P : Type 0} (m : Device P) where
       → ((p : P) → Before p → Before (m.reset p)) → ((p : P) → After p → After (m.reset p))
       → Fits m (c ∷ []) Before After
   one_fits c Before After does again anew anew_again = record {
-    prefix = λ p i b. prefixes p i b;
-    again = λ p i a. agains p i a;
+    prefix = prefixes;
+    again = agains;
     whole = λ p bytes has b. does p b;
     anew = anew;
     anew_again = anew_again;
@@ -156,9 +155,6 @@ module _ (part : Part) where
   pub sign_on_keeps : (m : Memories) (p : Programmer) → Idle part m p → Idle part m (device.after (body SignOn) p)
   sign_on_keeps m p s = s
 
-  pub sign_on_stays : (m : Memories) (p : Programmer) → Settled part m p → Settled part m (device.after (body SignOn) p)
-  sign_on_stays m p s = s
-
   -- ENTER puts the mode on, and empties the buffers
   pub enter_does : (m : Memories) (p : Programmer) → Idle part m p → Ready part m (device.after (body enter) p)
   enter_does m p s = record {
@@ -201,11 +197,8 @@ module _ (part : Part) where
       → Ready part (struck part (program_fuse f v ∷ []) m) (device.after (body (program_fuse f v)) p)
   fuse_does Low v m p s = subst (Ready part (struck part (program_fuse Low v ∷ []) m)) (sym (in_mode_is p _ _ s.mode))
       (ready_with m _ p _ s (ap (struck part (program_fuse Low v ∷ [])) s.memories) refl refl refl refl refl)
-  fuse_does High v m p s = subst (Ready part (struck part (program_fuse High v ∷ []) m)) (sym (in_mode_is p _ _ s.mode))
-      (ready_with m _ p _ s (ap (struck part (program_fuse High v ∷ [])) s.memories) refl refl refl refl refl)
-  fuse_does Extended v m p s = subst (Ready part (struck part (program_fuse Extended v ∷ []) m))
-      (sym (in_mode_is p _ _ s.mode))
-      (ready_with m _ p _ s (ap (struck part (program_fuse Extended v ∷ [])) s.memories) refl refl refl refl refl)
+  fuse_does f v m p s = subst (Ready part (struck part (program_fuse f v ∷ []) m)) (sym (in_mode_is p _ _ s.mode))
+      (ready_with m _ p _ s (ap (struck part (program_fuse f v ∷ [])) s.memories) refl refl refl refl refl)
 
   pub lock_does : (v : ℕ) (m : Memories) (p : Programmer) → Ready part m p
       → Ready part (struck part (program_lock v ∷ []) m) (device.after (body (program_lock v)) p)
@@ -213,21 +206,16 @@ module _ (part : Part) where
       (ready_with m _ p _ s (ap (struck part (program_lock v ∷ [])) s.memories) refl refl refl refl refl)
 
   -- the EESAVE bit is the part's
-  erase_memories : (s : chip.ChipState) → s.part ≡ part
-      → memories_of (chip.with_erased s) ≡ struck part (erase ∷ []) (memories_of s)
-  erase_memories s e = ap (λ (q : Part). struck q (erase ∷ []) (memories_of s)) e
-
   pub erase_does : (m : Memories) (p : Programmer) → Ready part m p
       → Ready part (struck part (erase ∷ []) m) (device.after (body erase) p)
   erase_does m p s = subst (Ready part (struck part (erase ∷ []) m)) (sym (in_mode_is p _ _ s.mode))
-      (ready_with m _ p _ s (erase_memories p.chip s.part_is ∙ ap (struck part (erase ∷ [])) s.memories)
-      refl refl refl refl refl)
+      (ready_with m _ p _ s (ap (λ (q : Part). struck q (erase ∷ []) (memories_of p.chip)) s.part_is
+      ∙ ap (struck part (erase ∷ [])) s.memories) refl refl refl refl refl)
 
 -- a byte that is read changes nothing
 pub fuse_read_after : (f : Fuse) (p : Programmer) → p.mode ≡ true → device.after (body (read_fuse f)) p ≡ p
 fuse_read_after Low p e = in_mode_is p _ _ e
-fuse_read_after High p e = in_mode_is p _ _ e
-fuse_read_after Extended p e = in_mode_is p _ _ e
+fuse_read_after _ p e = in_mode_is p _ _ e
 
 pub lock_read_after : (p : Programmer) → p.mode ≡ true → device.after (body read_lock) p ≡ p
 lock_read_after p e = in_mode_is p _ _ e

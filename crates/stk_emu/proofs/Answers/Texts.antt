@@ -6,7 +6,7 @@ use Rattle.std.proofs.lemmas.List.Elements.{filter-append}
 use Rattle.std.proofs.Math.Seq.{take-add}
 use Rattle.std.proofs.lemmas.Bool.{cond-true}
 use Rattle.stk_frame.specs.declared.reader.Event.{Event}
-use Rattle.stk_frame.specs.declared.reader.Event.TheVariants.{More, Frame, Spoiled}
+use Rattle.stk_frame.specs.declared.reader.Event.TheVariants.{More}
 use Rattle.stk_frame.specs.Cut.{cut, frames, is_frame}
 use Rattle.stk_frame.specs.Reader.{HoldsFrame, Stands, Fed, TellsEvent, frames_of_event}
 use Rattle.stk_emu.specs.Programmer.{Programmer}
@@ -17,9 +17,7 @@ pub answers_more : {P : Type 0} (m : Device P) (xs ys : List (List ℕ)) (p : P)
     → answers m (xs ++ ys) p ≡ answers m xs p ++ answers m ys (after_frames m xs p)
 answers_more m [] ys p = refl
 answers_more m (x ∷ xs) ys p =
-    ap (λ t. answer_frame m x p ++ t) (answers_more m xs ys (after_frame m x p))
-    ∙ sym (append_assoc (answer_frame m x p) (answers m xs (after_frame m x p))
-    (answers m ys (after_frames m xs (after_frame m x p))))
+    rw (answers_more m xs ys (after_frame m x p)) (sym (append_assoc (answer_frame m x p) _ _))
 
 pub after_more : {P : Type 0} (m : Device P) (xs ys : List (List ℕ)) (p : P)
     → after_frames m (xs ++ ys) p ≡ after_frames m ys (after_frames m xs p)
@@ -30,36 +28,30 @@ after_more m (x ∷ xs) ys p = after_more m xs ys (after_frame m x p)
 pub found_frames : (event : Event) (held : List ℕ) → TellsEvent event held
     → filter is_frame (frames_of_event event held) ≡ frames_of_event event held
 found_frames More held tells = refl
-found_frames Frame held tells = cond-true (is_frame held) _ _ tells.0.frame
-found_frames Spoiled held tells = cond-true (is_frame held) _ _ tells.0.frame
+found_frames _ held tells = cond-true (is_frame held) _ _ tells.0.frame
 
 pub found_few : (event : Event) (held : List ℕ) → length (frames_of_event event held) ≤ 1
 found_few More held = omega arith
-found_few Frame held = omega arith
-found_few Spoiled held = omega arith
+found_few _ held = omega arith
 
 -- an answer is one to a frame that is held whole
 pub answer_ends : (event : Event) (held out : List ℕ) (p : Programmer) → TellsEvent event held
     → out ≡ answers device (frames_of_event event held) p → 0 < length out → HoldsFrame held
 answer_ends More held out p tells e some = absurd (let none : length out ≡ 0 = ap length e in omega (arith, none, some))
-answer_ends Frame held out p tells e some = tells.0
-answer_ends Spoiled held out p tells e some = tells.0
+answer_ends _ held out p tells e some = tells.0
 
 -- the frames of a text with these bytes after it
 pub frames_fed : (old used new : List ℕ) (fs : List (List ℕ)) (text : List ℕ) → Fed old used new fs
     → filter is_frame fs ≡ fs → Stands old text → frames (text ++ used) ≡ frames text ++ fs
 frames_fed old used new fs text fed are stands =
-    ap (filter is_frame) (fed.pieces text stands)
-    ∙ (filter-append is_frame (cut text) (fed.skipped ++ fs)
-    ∙ ap (λ t. frames text ++ t) (filter-append is_frame fed.skipped fs
-    ∙ (ap (λ t. t ++ filter is_frame fs) fed.no_frames ∙ are)))
+    rw (fed.pieces text stands, filter-append is_frame (cut text) (fed.skipped ++ fs))
+    (rw (filter-append is_frame fed.skipped fs, fed.no_frames, are) refl)
 
 -- where nothing is answered no frame ended
 pub none_found : (event : Event) (held : List ℕ) (p : Programmer) → answers device (frames_of_event event held) p ≡ []
     → event ≡ More
 none_found More held p e = refl
-none_found Frame held p e = absurd (cc)
-none_found Spoiled held p e = absurd (cc)
+none_found _ held p e = absurd (cc)
 
 -- no bytes bring no answers
 pub appends_none : (machine : Machine) (before : List ℕ) → AppendsAnswers machine [] machine before before
@@ -87,19 +79,14 @@ pub appends_both : (old mid new : Machine) (x y a b c : List ℕ) → AppendsAns
 appends_both old mid new x y a b c first then = record {
   found = first.found ++ then.found;
   ends = λ text stands.
-      ap frames (sym (append_assoc text x y))
-      ∙ (then.ends (text ++ x) (first.stands text stands)
-      ∙ (ap (λ fs. fs ++ then.found) (first.ends text stands) ∙ append_assoc (frames text) first.found then.found));
+      rw (← append_assoc text x y, then.ends (text ++ x) (first.stands text stands), first.ends text stands)
+      (append_assoc (frames text) first.found then.found);
   stands = λ text stands. subst (λ t. Stands new.held t) (append_assoc text x y)
       (then.stands (text ++ x) (first.stands text stands));
   appended =
-      then.appended
-      ∙ (ap (λ o. o ++ answers device then.found mid.programmer) first.appended
-      ∙ (append_assoc a (answers device first.found old.programmer) (answers device then.found mid.programmer)
-      ∙ ap (λ o. a ++ o) (ap (λ p. answers device first.found old.programmer ++ answers device then.found p)
-      first.obeyed ∙ sym (answers_more device first.found then.found old.programmer))));
-  obeyed = then.obeyed ∙ (ap (after_frames device then.found) first.obeyed
-      ∙ sym (after_more device first.found then.found old.programmer));
+      rw (then.appended, first.appended, first.obeyed, answers_more device first.found then.found old.programmer)
+      (append_assoc a (answers device first.found old.programmer) _);
+  obeyed = rw (then.obeyed, first.obeyed, after_more device first.found then.found old.programmer) refl;
 }
 
 -- after the first n bytes, so many more
@@ -125,11 +112,8 @@ pub appends_fed : (old new : Machine) (bytes a b : List ℕ) (p : Programmer) (t
     → AppendsAnswers old bytes new a b → IsFed p text old → IsFed p (text ++ bytes) new
 appends_fed old new bytes a b p text appends f = record {
   stands = appends.stands text f.stands;
-  obeyed =
-      appends.obeyed
-      ∙ (ap (after_frames device appends.found) f.obeyed
-      ∙ (sym (after_more device (frames text) appends.found p)
-      ∙ ap (λ fs. after_frames device fs p) (sym (appends.ends text f.stands))));
+  obeyed = rw (appends.obeyed, f.obeyed, appends.ends text f.stands, after_more device (frames text) appends.found p)
+      refl;
 }
 
 -- and a list of all answers stays one
@@ -137,12 +121,8 @@ pub appends_all : (old new : Machine) (bytes a b : List ℕ) (p : Programmer) (t
     → AppendsAnswers old bytes new a b → IsFed p text old → given ++ a ≡ emulate p text
     → given ++ b ≡ emulate p (text ++ bytes)
 appends_all old new bytes a b p text given appends f all =
-    ap (λ o. given ++ o) appends.appended
-    ∙ (sym (append_assoc given a (answers device appends.found old.programmer))
-    ∙ (ap (λ o. o ++ answers device appends.found old.programmer) all
-    ∙ (ap (λ q. emulate p text ++ answers device appends.found q) f.obeyed
-    ∙ (sym (answers_more device (frames text) appends.found p)
-    ∙ ap (λ fs. answers device fs p) (sym (appends.ends text f.stands))))))
+    rw (appends.appended, ← append_assoc given a (answers device appends.found old.programmer), all, f.obeyed)
+    (rw (appends.ends text f.stands, answers_more device (frames text) appends.found p) refl)
 
 -- the same of one call
 pub is_fed : (old new : Machine) (used out : List ℕ) (p : Programmer) (text : List ℕ) → Answers old used new out

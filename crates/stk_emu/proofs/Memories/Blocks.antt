@@ -1,5 +1,5 @@
 -- Blocks, byte by byte.
-use Rattle.std.proofs.Common.{true, if◌then◌else◌, subst, ◌≡◌, ℕ, suc, ◌+◌, ◌<◌, Bool, List, [], ◌∷◌, ◌++◌, length, get_or, drop, refl, ap, ap₂, sym, ◌∙◌, add-one, drop-cons, append_assoc}
+use Rattle.std.proofs.Common.{true, if◌then◌else◌, ◌≡◌, ℕ, suc, ◌+◌, ◌<◌, Bool, List, [], ◌∷◌, ◌++◌, length, get_or, drop, refl, ap, ap₂, sym, ◌∙◌, add-one, drop-cons, append_assoc}
 use Rattle.std.proofs.lemmas.Bool.{cond-true}
 use Rattle.avr_part.specs.State.{ChipState, spi_of}
 use Rattle.stk_emu.specs.Programmer.{Programmer, in_mode, fail, with_address_moved, with_instructions, sent_to, flash_loads, flash_looks, eeprom_looks, extension, look, at_address, for_half, word_at, byte_address}
@@ -62,21 +62,17 @@ module _ (before : List ℕ) (whole : List ℕ × ChipState) (cmd address i : �
       (sent_to (extension wide (word_at address i)) chip) after out new
       → LooksOn before whole new (flash_looks wide cmd address (i + 1) m after)
   flash_look wide n m chip after out new e on p =
-      let P : ℕ → Type 0 = λ k. LooksOn before whole out (flash_looks wide cmd address i k chip) in
-      let before_step : LooksOn before whole out (flash_looks wide cmd address i (suc m) chip) = subst P e on in
       rw add-one (looked_on before whole (at_address (for_half cmd i) (word_at address i) 0)
       (sent_to (extension wide (word_at address i)) chip) after out new (flash_looks wide cmd address (suc i) m)
-      before_step p)
+      (rw e at on) p)
 
   pub eeprom_look : (n m : ℕ) (chip after : ChipState) (out new : List ℕ) → n ≡ suc m
       → LooksOn before whole out (eeprom_looks cmd address i n chip)
       → PutsLook (at_address cmd (byte_address address i) 0) chip after out new
       → LooksOn before whole new (eeprom_looks cmd address (i + 1) m after)
   eeprom_look n m chip after out new e on p =
-      let P : ℕ → Type 0 = λ k. LooksOn before whole out (eeprom_looks cmd address i k chip) in
-      let before_step : LooksOn before whole out (eeprom_looks cmd address i (suc m) chip) = subst P e on in
       rw add-one (looked_on before whole (at_address cmd (byte_address address i) 0) chip after out new
-      (eeprom_looks cmd address (suc i) m) before_step p)
+      (eeprom_looks cmd address (suc i) m) (rw e at on) p)
 
 -- A block was loaded, and written if that was asked for.
 pub block_done : (code moved : ℕ) (fits : Bool) (p new : Programmer) (loads writes : List (List ℕ))

@@ -1,6 +1,6 @@
 -- Blocks of flash at once are blocks instruction by instruction.
-use Rattle.std.proofs.Common.{◌≡◌, ℕ, zero, suc, ◌+◌, ◌-◌, ◌*◌, ◌/◌, ◌%◌, ◌≤◌, ◌<◌, List, [], ◌∷◌, length, get_or, set, refl, sym, ap, ap₂, ◌∙◌, arith, Bool, true, false, cond, Some, None}
-use Rattle.std.specs.Prelude.{nat_le, slice_index}
+use Rattle.std.proofs.Common.{◌≡◌, ℕ, zero, suc, ◌+◌, ◌-◌, ◌*◌, ◌/◌, ◌%◌, ◌≤◌, ◌<◌, List, [], ◌∷◌, length, get_or, refl, sym, ap, ap₂, ◌∙◌, arith, Bool, true, false, cond, Some, None}
+use Rattle.std.specs.Prelude.{nat_le}
 use Rattle.std.proofs.lemmas.Bool.{leb-true, false≢true, and_parts}
 use Rattle.avr_part.specs.State as chip
 use Rattle.avr_part.specs.State.{half_offset}
@@ -10,7 +10,7 @@ use Rattle.avr_part.proofs.Blocks.{offset_at}
 use Rattle.stk_emu.specs.Programmer.{sent_to, extension, flash_loads, flash_looks, for_half, word_at, at_address, high, low}
 use Rattle.stk_emu.proofs.Memories.Blocks.{sent-append}
 use Rattle.stk_emu.proofs.Memories.Pages.{extended_is, load_byte}
-use Rattle.stk_emu.proofs.Memories.BlocksRead.{look_byte}
+use Rattle.stk_emu.proofs.Memories.BlocksRead.{look_by, look_byte}
 
 cond_twice : (b : Bool) (y x e : ℕ) → cond b y (cond b x e) ≡ cond b y e
 cond_twice true y x e = refl
@@ -43,12 +43,8 @@ one_load wide a i d ds s =
     ≡ (a % 256 + i / 2) % 256 % (s.part.flash_page / 2) * 2 + half_offset (half_at i) =
     ap₂ (λ w o. w % (s.part.flash_page / 2) * 2 + o)
     (let e : (a + i / 2) % 2147483648 % 256 ≡ (a % 256 + i / 2) % 256 = omega arith in e) (sym (offset_at i)) in
-    sent-append (extension wide (word_at a i)) _ s
-    ∙ (ap (λ t. sent_to ((for_half 0x40 i ∷ high (word_at a i) ∷ low (word_at a i) ∷ d ∷ [])
-    ∷ flash_loads wide 0x40 a (suc i) ds) t) (extended_is wide (word_at a i) s)
-    ∙ ap (sent_to (flash_loads wide 0x40 a (suc i) ds))
-    (load_byte i (high (word_at a i)) (low (word_at a i)) d s₁
-    ∙ ap (λ q. record s { flash_buffer = set s.flash_buffer q d; extended = x }) place))
+    sent-append (extension wide (word_at a i)) _ s ∙ rw (extended_is wide (word_at a i) s)
+    (rw (load_byte i (high (word_at a i)) (low (word_at a i)) d s₁, place) refl)
 
 all_loads : (wide : Bool) (a i d : ℕ) (ds : List ℕ) (s : chip.ChipState)
     → sent_to (flash_loads wide 0x40 a i (d ∷ ds)) s
@@ -91,13 +87,8 @@ block_is_loads wide cmd a last (d ∷ ds) s loaded new done c some l answer is e
     is in
     let place : last ≡ word_at a (0 + length ds) =
     l ∙ ap (word_at a) (let e : length bytes - 1 ≡ 0 + length ds = omega arith in e) in
-    ext
-    ∙ (extended_is wide last loaded
-    ∙ (ap (λ (t : chip.ChipState). record t { extended = cond wide (last / 65536 % 256) t.extended }) loaded_is
-    ∙ (ap₂ (λ k e. record (loaded_in_turn (a % 256) 0 bytes s) { extended = cond wide (k / 65536 % 256) e }) place
-    (keeps_extended (a % 256) 0 bytes s)
-    ∙ (sym (all_loads wide a 0 d ds s)
-    ∙ ap (λ k. sent_to (flash_loads wide k a 0 bytes) s) (sym c)))))
+    rw (ext, extended_is wide last loaded, loaded_is, place, keeps_extended (a % 256) 0 bytes s)
+    (sym (all_loads wide a 0 d ds s) ∙ ap (λ k. sent_to (flash_loads wide k a 0 bytes) s) (sym c))
 
 -- where the extended address is right already, reading changes nothing
 all_looks : (wide : Bool) (a i n : ℕ) (s : chip.ChipState) → cond wide (a / 65536 % 256) s.extended ≡ s.extended
@@ -116,19 +107,9 @@ all_looks wide a i (suc n) s right few inside =
     (half_at i)) 0 in
     let spi : chip.spi_of (at_address (for_half 0x20 i) w 0) (sent_to (extension wide w) s)
     ≡ (0 ∷ for_half 0x20 i ∷ high w ∷ byte ∷ [], s) =
-    ap (chip.spi_of (at_address (for_half 0x20 i) w 0)) same
-    ∙ (look_byte i (high w) (low w) s
-    ∙ ap₂ (λ k o. (
-      0 ∷ for_half 0x20 i ∷ high w
-          ∷ get_or s.flash ((s.extended * 65536 + k) % (s.part.flash_size / 2) * 2 + o) 0 ∷ [],
-      s,
-    )) inner
-    (sym (offset_at i))) in
-    ap (λ (z : List ℕ × chip.ChipState). (
-      slice_index z.0 3 ∷ (flash_looks wide 0x20 a (suc i) n z.1).0,
-      (flash_looks wide 0x20 a (suc i) n z.1).1,
-    )) spi
-    ∙ ap (λ (z : List ℕ × chip.ChipState). (byte ∷ z.0, z.1)) (all_looks wide a (suc i) n s right few (omega arith))
+    rw (same, look_byte i (high w) (low w) s, inner, offset_at i) refl in
+    look_by (at_address (for_half 0x20 i) w 0) (sent_to (extension wide w) s) (flash_looks wide 0x20 a (suc i) n) spi
+    ∙ rw (all_looks wide a (suc i) n s right few (omega arith)) refl
 
 -- an extended address that is sent twice
 extended_twice : (wide : Bool) (a b : ℕ) (s : chip.ChipState) → a / 65536 % 256 ≡ b / 65536 % 256
@@ -146,11 +127,7 @@ looks_again wide cmd a (suc n) s new few some ext =
     ap (λ k. k / 65536 % 256) (sym e) in
     let same : sent_to (extension wide w) new ≡ sent_to (extension wide w) s =
     ap (sent_to (extension wide w)) ext ∙ extended_twice wide a w s page in
-    ap (λ t. (
-      slice_index (chip.spi_of (at_address (for_half cmd 0) w 0) t).0 3
-          ∷ (flash_looks wide cmd a 1 n (chip.spi_of (at_address (for_half cmd 0) w 0) t).1).0,
-      (flash_looks wide cmd a 1 n (chip.spi_of (at_address (for_half cmd 0) w 0) t).1).1,
-    )) same
+    rw same refl
 
 in_flash : (test : Bool) (bytes whole : List ℕ) → Some bytes ≡ cond test (Some whole) None
     → (test ≡ true) × (bytes ≡ whole)

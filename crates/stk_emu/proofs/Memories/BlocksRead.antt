@@ -4,12 +4,18 @@ use Rattle.std.proofs.Math.Nat.{mod-eq_of_lt}
 use Rattle.std.proofs.lemmas.Bool.{cond-false}
 use Rattle.std.specs.Prelude.{slice_index}
 use Rattle.avr_part.specs.State as chip
-use Rattle.stk_emu.specs.Programmer.{sent_to, extension, flash_looks, eeprom_looks, for_half, word_at, byte_address, at_address, high, low}
+use Rattle.stk_emu.specs.Programmer.{sent_to, extension, flash_looks, eeprom_looks, look, for_half, word_at, byte_address, at_address, high, low}
 use Rattle.stk_emu.proofs.Memories.Pages.{extended_is, by_half, word_whole}
 
 -- a memory from a place on, by its first byte
 one_more : (xs : List ℕ) (j n : ℕ) → j < length xs → get_or xs j 0 ∷ take n (drop (suc j) xs) ≡ take (suc n) (drop j xs)
 one_more xs j n l = ap (take (suc n)) (sym (drop-cons xs j 0 l))
+
+-- what is read after an instruction whose answer is known
+pub look_by : (x : List ℕ) (s : chip.ChipState) {got : List ℕ × chip.ChipState}
+    (more : chip.ChipState → List ℕ × chip.ChipState) → chip.spi_of x s ≡ got
+    → look x s more ≡ (slice_index got.0 3 ∷ (more got.1).0, (more got.1).1)
+look_by x s more e = ap (λ (z : List ℕ × chip.ChipState). (slice_index z.0 3 ∷ (more z.1).0, (more z.1).1)) e
 
 -- one byte of flash is read
 pub look_byte : (i h lo : ℕ) (s : chip.ChipState) → chip.spi_of (for_half 0x20 i ∷ h ∷ lo ∷ 0 ∷ []) s
@@ -39,12 +45,7 @@ flash_place : (wide : Bool) (a i size : ℕ) (s : chip.ChipState) → s.part.fla
     → (cond wide (word_at a i / 65536 % 256) s.extended * 65536 + (high (word_at a i) * 256 + low (word_at a i))) %
     (s.part.flash_size / 2) * 2 + i % 2 ≡ a * 2 + i
 flash_place wide a i size s is few low_enough inside narrow =
-    ap (λ w. (cond wide (w / 65536 % 256) s.extended * 65536 + (high w * 256 + low w)) % (s.part.flash_size / 2) * 2 + i
-    % 2) (mod-eq_of_lt few)
-    ∙ (ap (λ w. w % (s.part.flash_size / 2) * 2 + i % 2) (word_whole wide s (a + i / 2) low_enough narrow)
-    ∙ (ap (λ z. (a + i / 2) % (z / 2) * 2 + i % 2) is
-    ∙ (ap (λ w. w * 2 + i % 2) (mod-eq_of_lt inside)
-    ∙ (let e : (a + i / 2) * 2 + i % 2 ≡ a * 2 + i = omega arith in e))))
+    rw (mod-eq_of_lt few, word_whole wide s (a + i / 2) low_enough narrow, is, mod-eq_of_lt inside) (omega arith)
 
 pub flash_looked : (wide : Bool) (a i n size : ℕ) (s : chip.ChipState) → s.part.flash_size ≡ size
     → length s.flash ≡ size → size ≤ 262144 → size % 2 ≡ 0 → a * 2 + i + n ≤ size
@@ -59,18 +60,14 @@ flash_looked wide a i (suc n) size s is long most even fits narrow =
     let byte = get_or s.flash (a * 2 + i) 0 in
     let spi : chip.spi_of (at_address (for_half 0x20 i) (word_at a i) 0) (sent_to (extension wide (word_at a i)) s)
     ≡ (0 ∷ for_half 0x20 i ∷ high (word_at a i) ∷ byte ∷ [], s₁) =
-    ap (chip.spi_of (at_address (for_half 0x20 i) (word_at a i) 0)) (extended_is wide (word_at a i) s)
-    ∙ (look_byte i (high (word_at a i)) (low (word_at a i)) s₁
-    ∙ ap (λ j. (0 ∷ for_half 0x20 i ∷ high (word_at a i) ∷ get_or s.flash j 0 ∷ [], s₁)) place) in
+    rw (extended_is wide (word_at a i) s, look_byte i (high (word_at a i)) (low (word_at a i)) s₁, place) refl in
     let more : Looked wide (a * 2 + suc i) n s₁ (flash_looks wide 0x20 a (suc i) n s₁) =
     flash_looked wide a (suc i) n size s₁ is long most even (omega arith)
     (λ e. (cond-false wide (word_at a i / 65536 % 256) s.extended e ∙ (narrow e).0, (narrow e).1)) in
     let looks : flash_looks wide 0x20 a i (suc n) s
     ≡ (byte ∷ (flash_looks wide 0x20 a (suc i) n s₁).0, (flash_looks wide 0x20 a (suc i) n s₁).1) =
-    ap (λ (z : List ℕ × chip.ChipState). (
-      slice_index z.0 3 ∷ (flash_looks wide 0x20 a (suc i) n z.1).0,
-      (flash_looks wide 0x20 a (suc i) n z.1).1,
-    )) spi in
+    look_by (at_address (for_half 0x20 i) (word_at a i) 0) (sent_to (extension wide (word_at a i)) s)
+    (flash_looks wide 0x20 a (suc i) n) spi in
     record {
       bytes = ap (λ z. z.0) looks ∙ (ap (λ bs. byte ∷ bs)
           (more.bytes ∙ ap (λ j. take n (drop j s.flash)) (let e : a * 2 + suc i ≡ suc (a * 2 + i) = omega arith in e))
@@ -84,9 +81,8 @@ eeprom_place : (a i size : ℕ) (s : chip.ChipState) → s.part.eeprom_size ≡ 
     → (high (byte_address a i) * 256 + low (byte_address a i)) % s.part.eeprom_size ≡ a + i
 eeprom_place a i size s is inside most =
     let few : (a + i) % 2147483648 ≡ a + i = mod-eq_of_lt (omega arith) in
-    ap (λ w. (high w * 256 + low w) % s.part.eeprom_size) few
-    ∙ (ap (λ w. w % s.part.eeprom_size) (let e : (a + i) / 256 % 256 * 256 + (a + i) % 256 ≡ a + i = omega arith in e)
-    ∙ (ap (λ z. (a + i) % z) is ∙ mod-eq_of_lt inside))
+    let joined : (a + i) / 256 % 256 * 256 + (a + i) % 256 ≡ a + i = omega arith in
+    rw (few, joined, is) (mod-eq_of_lt inside)
 
 pub eeprom_looked : (a i n size : ℕ) (s : chip.ChipState) → s.part.eeprom_size ≡ size → length s.eeprom ≡ size
     → size ≤ 4096 → a + i + n ≤ size → eeprom_looks 0xA0 a i n s ≡ (take n (drop (a + i) s.eeprom), s)
@@ -96,14 +92,10 @@ eeprom_looked a i (suc n) size s is long most fits =
     let byte = get_or s.eeprom (a + i) 0 in
     let spi : chip.spi_of (at_address 0xA0 (byte_address a i) 0) s
     ≡ (0 ∷ 0xA0 ∷ high (byte_address a i) ∷ byte ∷ [], s) =
-    ap (λ j. (0 ∷ 0xA0 ∷ high (byte_address a i) ∷ get_or s.eeprom j 0 ∷ [], s)) place in
+    rw place refl in
     let more = eeprom_looked a (suc i) n size s is long most (omega arith) in
-    ap (λ (z : List ℕ × chip.ChipState). (
-      slice_index z.0 3 ∷ (eeprom_looks 0xA0 a (suc i) n z.1).0,
-      (eeprom_looks 0xA0 a (suc i) n z.1).1,
-    )) spi
-    ∙ (ap (λ (z : List ℕ × chip.ChipState). (byte ∷ z.0, z.1)) more
-    ∙ ap (λ bs. (bs, s)) (ap (λ j. byte ∷ take n (drop j s.eeprom)) (let e : a + suc i ≡ suc (a + i) = omega arith in e)
+    look_by (at_address 0xA0 (byte_address a i) 0) s (eeprom_looks 0xA0 a (suc i) n) spi ∙ rw more
+    (ap (λ bs. (bs, s)) (ap (λ j. byte ∷ take n (drop j s.eeprom)) (let e : a + suc i ≡ suc (a + i) = omega arith in e)
     ∙ one_more s.eeprom (a + i) n (omega arith)))
 
 -- whatever is read, nothing but the extended address changes
@@ -119,8 +111,7 @@ flash_left wide a i (suc n) s =
     let s₁ : chip.ChipState = record s { extended = x } in
     let after : (chip.spi_of (at_address (for_half 0x20 i) (word_at a i) 0)
     (sent_to (extension wide (word_at a i)) s)).1 ≡ s₁ =
-    ap (λ t. (chip.spi_of (at_address (for_half 0x20 i) (word_at a i) 0) t).1) (extended_is wide (word_at a i) s)
-    ∙ ap (λ z. z.1) (look_byte i (high (word_at a i)) (low (word_at a i)) s₁) in
+    rw (extended_is wide (word_at a i) s) (ap (λ z. z.1) (look_byte i (high (word_at a i)) (low (word_at a i)) s₁)) in
     let more : Left wide s₁ (flash_looks wide 0x20 a (suc i) n s₁).1 = flash_left wide a (suc i) n s₁ in
     record {
       value = more.value;

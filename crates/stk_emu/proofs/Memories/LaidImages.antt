@@ -80,21 +80,15 @@ overlaid_laid start loads xs =
     sym (changed_is (overlaid start loads) xs (with_image (replicate start None ++ loads) xs)
     (length-laid (replicate start None ++ loads) xs)
     (λ i l. overlaid_is start loads i (get_or xs i 0) _
-    (λ before. get_laid (replicate start None ++ loads) xs i l
-    ∙ ap (λ b. unwrap_or b (get_or xs i 0)) (before_part start loads i before))
-    (λ from to. get_laid (replicate start None ++ loads) xs i l
-    ∙ ap (λ b. unwrap_or b (get_or xs i 0)) (in_part start loads i from))
-    (λ after. get_laid (replicate start None ++ loads) xs i l
-    ∙ ap (λ b. unwrap_or b (get_or xs i 0)) (in_part start loads i (omega arith)
-    ∙ get_or_past loads (i - start) None (omega arith)))))
+    (λ before. rw (get_laid (replicate start None ++ loads) xs i l, before_part start loads i before) refl)
+    (λ from to. rw (get_laid (replicate start None ++ loads) xs i l, in_part start loads i from) refl)
+    (λ after. rw (get_laid (replicate start None ++ loads) xs i l, in_part start loads i (omega arith))
+    (rw (get_or_past loads (i - start) None (omega arith)) refl))))
 
 pub some_at : (page : List ℕ) (j : ℕ) → j < length page → get_or (map Some page) j None ≡ Some (get_or page j 0)
 some_at [] j l = absurd (omega arith)
 some_at (x ∷ page) zero l = refl
 some_at (x ∷ page) (suc j) l = some_at page j (omega arith)
-
-more_than : (page : List ℕ) (j : ℕ) → length page ≤ j → length (map {B = Option ℕ} Some page) ≤ j
-more_than page j l = rw length-map l
 
 pub anded_in : (start : ℕ) (page xs : List ℕ)
     → map_indexed (byte_and_page start page) xs ≡ and_in (image_at start page) xs
@@ -102,14 +96,11 @@ anded_in start page xs =
     sym (changed_is (byte_and_page start page) xs (and_in (image_at start page) xs)
     (length-and_in (image_at start page) xs)
     (λ i l. anded_is start page i (get_or xs i 0) _
-    (λ before. get_and_in (image_at start page) xs i l
-    ∙ ap (λ b. and_with b (get_or xs i 0)) (before_part start (map Some page) i before))
-    (λ from to. get_and_in (image_at start page) xs i l
-    ∙ ap (λ b. and_with b (get_or xs i 0)) (in_part start (map Some page) i from
-    ∙ some_at page (i - start) (omega arith)))
-    (λ after. get_and_in (image_at start page) xs i l
-    ∙ ap (λ b. and_with b (get_or xs i 0)) (in_part start (map Some page) i (omega arith)
-    ∙ get_or_past (map Some page) (i - start) None (more_than page (i - start) (omega arith))))))
+    (λ before. rw (get_and_in (image_at start page) xs i l, before_part start (map Some page) i before) refl)
+    (λ from to. rw (get_and_in (image_at start page) xs i l, in_part start (map Some page) i from)
+    (rw (some_at page (i - start) (omega arith)) refl))
+    (λ after. rw (get_and_in (image_at start page) xs i l, in_part start (map Some page) i (omega arith))
+    (rw (get_or_past (map Some page) (i - start) None (rw length-map (omega arith))) refl))))
 
 -- a buffer into which bytes are loaded from one place on
 abbrev pub put : {A : Type 0} → (ℕ → A) → ℕ → List ℕ → List A → List A
@@ -145,14 +136,7 @@ run_laid start off run page xs fits =
     (length-replicate {A = Option ℕ} off None) in
     ap (λ b. map_indexed (overlaid start b) xs) buffer
     ∙ (overlaid_laid start (replicate off None ++ (map Some run ++ replicate (page - (off + length run)) None)) xs
-    ∙ (ap (λ b. with_image b xs)
-    (ap (λ b. replicate start None ++ b) (sym
-    (append_assoc (replicate off None) (map Some run) (replicate (page - (off + length run)) None)))
-    ∙ (sym (append_assoc (replicate start None) (replicate off None ++ map Some run)
-    (replicate (page - (off + length run)) None))
-    ∙ ap (λ b. b ++ replicate (page - (off + length run)) None)
-    (sym (append_assoc (replicate start None) (replicate off None) (map Some run))
-    ∙ ap (λ b. b ++ map Some run) (replicate-append-replicate {A = Option ℕ} start off None))))
+    ∙ (ap (λ b. with_image b xs) (simp (append_assoc, ← replicate-append-replicate {A = Option ℕ} start off None))
     ∙ laid_nothing (image_at (start + off) run) (page - (off + length run)) xs))
 
 pub length_put : {A : Type 0} (f : ℕ → A) (place : ℕ) (ds : List ℕ) (buffer : List A)

@@ -5,7 +5,7 @@ use Rattle.std.proofs.lemmas.Nat.Gcd.{dvd_of_mod-eq-zero}
 use Rattle.std.proofs.Math.Nat.{mod-mod_of_dvd, mod-eq_of_lt, mul-div_cancel, mul_assoc, dvd-mul_right, dvd_trans}
 use Rattle.std.proofs.lemmas.Bool.{ne_eqb, eq-eqb, eqb-true, eqb-false, and_from, cases_Bool, ltb-false, le-ltb, le-leb, cond-true, cond-false}
 use Rattle.std.proofs.lemmas.List.{append-nil, map-id}
-use Rattle.std.specs.Prelude.{◌==◌, ◌&&◌, not, nat_le, nat_lt, bit_or}
+use Rattle.std.specs.Prelude.{◌==◌, ◌&&◌, not, nat_lt, bit_or}
 use Rattle.avr_part.specs.Part.{Part, IsPart}
 use Rattle.avr_part.specs.Memory.{map_indexed, byte_and_page, page_start, blank}
 use Rattle.avr_part.specs.State as chip
@@ -35,52 +35,30 @@ wide_loaded address p few =
     let back : (address + 2147483648) % 2147483648 ≡ address = omega arith in
     ap (λ z. z.1) (obeys (LoadAddress (address + 2147483648)) p
     (let l : address + 2147483648 < 4294967296 = omega arith in l))
-    ∙ (ap (λ a. record p { address = a; wide = nat_le 2147483648 (address + 2147483648) }) back
-    ∙ ap (λ w. record p { address = address; wide = w }) (le-leb 2147483648 (address + 2147483648) (omega arith)))
+    ∙ rw (back, le-leb 2147483648 (address + 2147483648) (omega arith)) refl
 
 -- the words of a page whose number is given
-pub page_words : (n page : ℕ) → page % 2 ≡ 0 → n * page / 2 ≡ n * (page / 2)
-page_words n page even =
-    let halves : page ≡ page / 2 * 2 = omega arith in
-    let twice : n * (page / 2) * 2 ≡ n * page = mul_assoc n (page / 2) 2 ∙ ap (λ x. n * x) (sym halves) in
-    omega arith
+words_twice : (n page : ℕ) → page % 2 ≡ 0 → n * (page / 2) * 2 ≡ n * page
+words_twice n page even = mul_assoc n (page / 2) 2 ∙ ap (λ x. n * x) (omega arith)
 
 -- a page begins at a word
 pub page_even : (part : Part) → IsPart part → (n : ℕ) → n * part.flash_page % 2 ≡ 0
-page_even part sound n =
-    let even = sound.flash_halves in
-    let halves : part.flash_page ≡ part.flash_page / 2 * 2 = omega arith in
-    let twice : n * (part.flash_page / 2) * 2 ≡ n * part.flash_page =
-    mul_assoc n (part.flash_page / 2) 2 ∙ ap (λ x. n * x) (sym halves) in
-    omega arith
+page_even part sound n = omega (arith, words_twice n part.flash_page sound.flash_halves)
 
 -- the address that is loaded for a place in flash
 pub flash_loaded_at : (part : Part) (start : ℕ) (p : Programmer) → start < 4294967296
     → device.after (body (load_flash part start)) p ≡ record p { address = start / 2; wide = is_wide part }
 flash_loaded_at part start p few = elim (cases_Bool (nat_lt 131072 part.flash_size)) [
-  | inl wide ↦
-      ap (λ a. device.after (body (LoadAddress a)) p)
-      (cond-true (nat_lt 131072 part.flash_size) (start / 2 + 2147483648) (start / 2) wide)
-      ∙ (wide_loaded (start / 2) p (omega arith)
-      ∙ ap (λ w. record p { address = start / 2; wide = w }) (sym wide))
-  | inr narrow ↦
-      ap (λ a. device.after (body (LoadAddress a)) p)
-      (cond-false (nat_lt 131072 part.flash_size) (start / 2 + 2147483648) (start / 2) narrow)
-      ∙ (narrow_loaded (start / 2) p (omega arith)
-      ∙ ap (λ w. record p { address = start / 2; wide = w }) (sym narrow))
+  | inl wide ↦ rw wide (wide_loaded (start / 2) p (omega arith))
+  | inr narrow ↦ rw narrow (narrow_loaded (start / 2) p (omega arith))
 ]
 
 -- and the byte that the address stands for
 pub flash_address_back : (part : Part) (start : ℕ) → start < 4294967296 → start % 2 ≡ 0
     → flash_address part start % 2147483648 * 2 ≡ start
 flash_address_back part start few even = elim (cases_Bool (nat_lt 131072 part.flash_size)) [
-  | inl wide ↦
-      ap (λ a. a % 2147483648 * 2) (cond-true (nat_lt 131072 part.flash_size) (start / 2 + 2147483648) (start / 2) wide)
-      ∙ (let e : (start / 2 + 2147483648) % 2147483648 * 2 ≡ start = omega arith in e)
-  | inr narrow ↦
-      ap (λ a. a % 2147483648 * 2) (cond-false (nat_lt 131072 part.flash_size) (start / 2 + 2147483648) (start / 2)
-      narrow)
-      ∙ (let e : start / 2 % 2147483648 * 2 ≡ start = omega arith in e)
+  | inl wide ↦ rw wide (omega arith)
+  | inr narrow ↦ rw narrow (omega arith)
 ]
 
 pub extended_is : (wide : Bool) (a : ℕ) (s : chip.ChipState)
@@ -91,12 +69,8 @@ extended_is false a s = refl
 -- what holds of both halves of a word holds of each byte's
 pub by_half : (cmd i : ℕ) (P : ℕ → ℕ → Type 0) → P cmd 0 → P (bit_or cmd 8) 1 → P (for_half cmd i) (i % 2)
 by_half cmd i P low_one high_one = elim (cases_Bool (i % 2 == 0)) [
-  | inl e ↦
-      let even : 0 ≡ i % 2 = sym (eqb-true (i % 2) 0 e) in
-      subst (P (for_half cmd i)) even (subst (λ c. P c 0) (sym (cond-true (i % 2 == 0) cmd (bit_or cmd 8) e)) low_one)
-  | inr e ↦
-      let odd : 1 ≡ i % 2 = let ne = eqb-false (i % 2) 0 e in omega arith in
-      subst (P (for_half cmd i)) odd (subst (λ c. P c 1) (sym (cond-false (i % 2 == 0) cmd (bit_or cmd 8) e)) high_one)
+  | inl e ↦ let even = eqb-true (i % 2) 0 e in rw (e, even) low_one
+  | inr e ↦ let odd : i % 2 ≡ 1 = let ne = eqb-false (i % 2) 0 e in omega arith in rw (e, odd) high_one
 ]
 
 -- one byte is loaded
@@ -125,12 +99,8 @@ flash_loaded wide a i half (d ∷ ds) s e each =
     ∙ (ap (λ j. word_at a j % 256 % half * 2 + j % 2) (omega arith) ∙ (each 0 (omega arith) ∙ omega arith)) in
     let s₂ : chip.ChipState = record s { flash_buffer = set s.flash_buffer i d; extended = x } in
     let one : sent_to (flash_loads wide 0x40 a i (d ∷ ds)) s ≡ sent_to (flash_loads wide 0x40 a (suc i) ds) s₂ =
-    sent-append (extension wide (word_at a i)) _ s
-    ∙ (ap (λ t. sent_to ((for_half 0x40 i ∷ high (word_at a i) ∷ low (word_at a i) ∷ d ∷ [])
-    ∷ flash_loads wide 0x40 a (suc i) ds) t) (extended_is wide (word_at a i) s)
-    ∙ ap (sent_to (flash_loads wide 0x40 a (suc i) ds))
-    (load_byte i (high (word_at a i)) (low (word_at a i)) d s₁
-    ∙ ap (λ q. record s { flash_buffer = set s.flash_buffer q d; extended = x }) here)) in
+    sent-append (extension wide (word_at a i)) _ s ∙ rw (extended_is wide (word_at a i) s)
+    (rw (load_byte i (high (word_at a i)) (low (word_at a i)) d s₁, here) refl) in
     let more : Loaded wide (suc i) ds s₂ (sent_to (flash_loads wide 0x40 a (suc i) ds) s₂) =
     flash_loaded wide a (suc i) half ds s₂ e
     (λ k l. ap (λ j. word_at a j % 256 % half * 2 + j % 2) (omega arith)
@@ -146,12 +116,9 @@ word_place : (n half j : ℕ) → 256 % (half * 2) ≡ 0 → j < half * 2 → n 
     → (n * half + j / 2) % 2147483648 % 256 % half * 2 + j % 2 ≡ j
 word_place n half j whole within few =
     let small : j / 2 < half = omega arith in
-    let e : (n * half + j / 2) % 2147483648 % 256 % half ≡ j / 2 =
-    ap (λ x. x % 256 % half) (mod-eq_of_lt few)
-    ∙ (mod-mod_of_dvd half (n * half + j / 2)
-    (dvd_trans half (dvd-mul_right half 2) (dvd_of_mod-eq-zero (half * 2) whole))
-    ∙ mod-mul-add n half (j / 2) small) in
-    ap (λ x. x * 2 + j % 2) e ∙ omega arith
+    rw (mod-eq_of_lt few)
+    (rw (mod-mod_of_dvd half (n * half + j / 2) (dvd_trans half (dvd-mul_right half 2) (dvd_of_mod-eq-zero (half * 2) whole)))
+    (rw (mod-mul-add n half (j / 2) small) (omega arith)))
 
 -- a word's address, from the extended address and the two bytes of an instruction
 pub word_whole : (wide : Bool) (s : chip.ChipState) (w : ℕ) → w < 16777216
@@ -176,20 +143,12 @@ flash_written : (wide : Bool) (s : chip.ChipState) (a start size page : ℕ) →
 flash_written wide s a start size page pe se few inside narrow at =
     let x = cond wide (a / 65536 % 256) s.extended in
     let word : (x * 65536 + (high a * 256 + low a)) % (s.part.flash_size / 2) ≡ a =
-    ap (λ z. (x * 65536 + (high a * 256 + low a)) % (z / 2)) se
-    ∙ (ap (λ z. z % (size / 2)) (word_whole wide s a few narrow) ∙ mod-eq_of_lt inside) in
+    rw (se, word_whole wide s a few narrow) (mod-eq_of_lt inside) in
     let first : page_start s.part.flash_page ((x * 65536 + (high a * 256 + low a)) % (s.part.flash_size / 2) * 2)
     ≡ start =
-    ap (λ z. page_start s.part.flash_page (z * 2)) word ∙ (ap (λ q. a * 2 / q * q) pe ∙ at) in
+    rw (word, pe) at in
     sent-append (extension wide a) ((0x4C ∷ high a ∷ low a ∷ 0 ∷ []) ∷ []) s
-    ∙ (ap (sent_to ((0x4C ∷ high a ∷ low a ∷ 0 ∷ []) ∷ [])) (extended_is wide a s)
-    ∙ ap (λ z. record s {
-      flash = cond (chip.is_locked s) s.flash
-          (map_indexed (byte_and_page z s.flash_buffer) s.flash);
-      flash_buffer = blank s.flash_buffer;
-      extended = x;
-    })
-    first)
+    ∙ (ap (sent_to ((0x4C ∷ high a ∷ low a ∷ 0 ∷ []) ∷ [])) (extended_is wide a s) ∙ rw first refl)
 
 pub flash_test : (n : ℕ) → 0 < n → n % 2 ≡ 0 → (not (n == 0) && (n % 2 == 0) && (n == n) && true) ≡ true
 flash_test n some even = and_from _ _ (and_from _ _
@@ -226,7 +185,7 @@ module _ (part : Part) (sound : IsPart part) where
       let a = n * (part.flash_page / 2) in
       let wide = is_wide part in
       let halves : part.flash_page ≡ part.flash_page / 2 * 2 = let h = sound.flash_halves in omega arith in
-      let twice : a * 2 ≡ n * part.flash_page = mul_assoc n (part.flash_page / 2) 2 ∙ ap (λ x. n * x) (sym halves) in
+      let twice = words_twice n part.flash_page sound.flash_halves in
       let p_some = sound.flash_page in
       let p_most = sound.flash_most in
       let inside = is_page.inside in
@@ -242,6 +201,7 @@ module _ (part : Part) (sound : IsPart part) where
       ap (put (λ d. d) 0 page) (empty ∙ ap (λ k. replicate k 255)
       (let c : part.flash_page ≡ length page + 0 = omega arith in c))
       ∙ (put_is (λ d. d) 255 page [] 0 0 refl ∙ (append-nil (map (λ d. d) page) ∙ map-id page)) in
+      let emptied : blank page ≡ replicate part.flash_page 255 = ap (λ k. replicate k 255) count in
       let start : a * 2 / part.flash_page * part.flash_page ≡ n * part.flash_page =
       ap (λ x. x / part.flash_page * part.flash_page) twice
       ∙ ap (λ x. x * part.flash_page) (mul-div_cancel n (omega arith)) in
@@ -253,35 +213,13 @@ module _ (part : Part) (sound : IsPart part) where
         kept = λ w. cond-false wide (a / 65536 % 256) loads.value w ∙ loads.kept w;
         is = sent-append (flash_loads wide 0x40 a 0 page) (flash_writes wide 0x4C a true) s
             ∙ (ap (sent_to (flash_writes wide 0x4C a true)) loads.is
-            ∙ (written
-            ∙ (ap (λ b. record s {
-              flash = cond (chip.is_locked s) s.flash
-                  (map_indexed (byte_and_page (n * part.flash_page) b) s.flash);
-              flash_buffer = blank b;
-              extended =
-                  cond wide (a / 65536 % 256) loads.value;
-            }) buffer
-            ∙ (ap (λ f. record s {
-              flash = cond (chip.is_locked s) s.flash f;
-              flash_buffer = blank page;
-              extended =
-                  cond wide (a / 65536 % 256) loads.value;
-            }) (anded_in (n * part.flash_page) page s.flash)
-            ∙ ap (λ b. record s {
-              flash = cond (chip.is_locked s) s.flash
-                  (and_in (image_at (n * part.flash_page) page) s.flash);
-              flash_buffer = b;
-              extended =
-                  cond wide (a / 65536 % 256) loads.value;
-            }) (ap (λ k. replicate k 255) count)))));
+            ∙ (written ∙ rw (buffer, anded_in (n * part.flash_page) page s.flash, emptied) refl));
       }
     where
       small : is_wide part ≡ false → n * (part.flash_page / 2) < 65536
       small w =
           let size : part.flash_size ≤ 131072 = ltb-false 131072 part.flash_size w in
-          let halves : part.flash_page ≡ part.flash_page / 2 * 2 = let h = sound.flash_halves in omega arith in
-          let twice : n * (part.flash_page / 2) * 2 ≡ n * part.flash_page =
-          mul_assoc n (part.flash_page / 2) 2 ∙ ap (λ x. n * x) (sym halves) in
+          let twice = words_twice n part.flash_page sound.flash_halves in
           let inside = is_page.inside in
           let p_some = sound.flash_page in
           omega arith
@@ -310,22 +248,12 @@ module _ (part : Part) (sound : IsPart part) where
       let count = is_page.whole in
       let short = page_most part.flash_page (omega arith) sound.flash_fits in
       let q : Programmer = record p { address = a; wide = wide } in
-      let paged : Paged n page p.chip (sent_to (flash_loads wide 0x40 a 0 page ++ flash_writes wide 0x4C a true) p.chip)
-      =
+      let paged =
       page_chip p.chip n page s.part_is s.flash_buffer (λ w. s.extended (ltb-false 131072 part.flash_size w)) is_page in
       let loaded : device.after (body (load_flash part (n * part.flash_page))) p ≡ q =
       flash_loaded_at part (n * part.flash_page) p (omega arith)
-      ∙ ap (λ x. record p { address = x; wide = wide }) (page_words n part.flash_page p_halves) in
-      let after_is : device.after (body (program_page page))
-      (device.after (body (load_flash part (n * part.flash_page))) p)
-      ≡ with_address_moved (length page / 2) (record q {
-        chip = record p.chip {
-          flash = cond (chip.is_locked p.chip) p.chip.flash
-              (and_in (image_at (n * part.flash_page) page) p.chip.flash);
-          flash_buffer = replicate part.flash_page 255;
-          extended = paged.value;
-        };
-      }) =
+      ∙ ap (λ x. record p { address = x; wide = wide }) (omega (arith, words_twice n part.flash_page p_halves)) in
+      let after_is =
       ap (device.after (body (program_page page))) loaded
       ∙ (flash_after page q s.mode (omega arith) (omega arith) (ap (λ x. x % 2) count ∙ p_halves)
       ∙ ap (λ c. with_address_moved (length page / 2) (record q { chip = c })) paged.is) in

@@ -4,7 +4,7 @@ use Rattle.std.proofs.lemmas.Nat.{div-add-mod', mod-mul-add}
 use Rattle.std.proofs.Math.Nat.{mod-mod_of_dvd, dvd_of_mod-eq-zero, mod-eq_of_lt}
 use Rattle.std.proofs.lemmas.Bool.{ne_eqb, eq-eqb, and_from, lt-leb, cond-true}
 use Rattle.std.proofs.lemmas.List.{length-replicate}
-use Rattle.std.specs.Prelude.{◌==◌, ◌&&◌, not, nat_le}
+use Rattle.std.specs.Prelude.{◌==◌, ◌&&◌, not}
 use Rattle.avr_part.specs.Part.{Part, IsPart}
 use Rattle.avr_part.specs.Memory.{map_indexed, overlaid}
 use Rattle.avr_part.specs.State as chip
@@ -25,8 +25,7 @@ pub narrow_loaded : (address : ℕ) (p : Programmer) → address < 2147483648
     → device.after (body (LoadAddress address)) p ≡ record p { address = address; wide = false }
 narrow_loaded address p few =
     ap (λ z. z.1) (obeys (LoadAddress address) p (let l : address < 4294967296 = omega arith in l))
-    ∙ (ap (λ a. record p { address = a; wide = nat_le 2147483648 address }) (mod-eq_of_lt few)
-    ∙ ap (λ w. record p { address = address; wide = w }) (lt-leb 2147483648 address few))
+    ∙ rw (mod-eq_of_lt few, lt-leb 2147483648 address few) refl
 
 -- where byte k goes within a page that holds it
 place_in : (address page k : ℕ) → 256 % page ≡ 0 → 0 < page → address % page + k < page → address + k < 2147483648
@@ -34,10 +33,8 @@ place_in : (address page k : ℕ) → 256 % page ≡ 0 → 0 < page → address 
 place_in address page k whole some within few =
     let split : address + k ≡ address / page * page + (address % page + k) = let e = div-add-mod' address page in
     omega arith in
-    let fits : (address + k) % 2147483648 ≡ address + k = mod-eq_of_lt few in
-    ap (λ x. x % 256 % page) fits
-    ∙ (mod-mod_of_dvd page (address + k) (dvd_of_mod-eq-zero page whole)
-    ∙ (ap (λ x. x % page) split ∙ mod-mul-add (address / page) page (address % page + k) within))
+    rw (mod-eq_of_lt few, mod-mod_of_dvd page (address + k) (dvd_of_mod-eq-zero page whole), split)
+    (mod-mul-add (address / page) page (address % page + k) within)
 
 -- the loads of a run
 eeprom_loaded : (a i off page : ℕ) (ds : List ℕ) (s : chip.ChipState) → s.part.eeprom_page ≡ page
@@ -63,12 +60,7 @@ eeprom_written s a few inside =
     let address : chip.eeprom_address s (high a * 256 + low a) ≡ a =
     ap (λ x. x % s.part.eeprom_size) (let e : a / 256 % 256 * 256 + a % 256 ≡ a = omega arith in e)
     ∙ mod-eq_of_lt inside in
-    ap (λ x. record s {
-      eeprom = cond (chip.is_locked s) s.eeprom
-          (map_indexed (overlaid (x / s.part.eeprom_page * s.part.eeprom_page) s.eeprom_buffer) s.eeprom);
-      eeprom_buffer =
-          replicate (length s.eeprom_buffer) None;
-    }) address
+    rw address refl
 
 -- a run of the program command, by its count
 pub program_test : (n : ℕ) → 0 < n → (not (n == 0) && (n == n)) ≡ true
@@ -91,8 +83,7 @@ module _ (part : Part) (sound : IsPart part) where
       → sent_to (eeprom_loads 0xC1 a 0 run ++ eeprom_writes 0xC2 a true) s
       ≡ record s {
         eeprom = cond (chip.is_locked s) s.eeprom (with_image (image_at a run) s.eeprom);
-        eeprom_buffer =
-            replicate part.eeprom_page None;
+        eeprom_buffer = replicate part.eeprom_page None;
       }
   run_chip s a run e empty is_run =
       let page_is : s.part.eeprom_page ≡ part.eeprom_page = ap (λ (x : Part). x.eeprom_page) e in
@@ -112,25 +103,14 @@ module _ (part : Part) (sound : IsPart part) where
       let start : a / part.eeprom_page * part.eeprom_page + off ≡ a = div-add-mod' a part.eeprom_page in
       let over : map_indexed (overlaid (a / s.part.eeprom_page * s.part.eeprom_page) loaded) s.eeprom
       ≡ with_image (image_at a run) s.eeprom =
-      ap (λ q. map_indexed (overlaid (a / q * q) loaded) s.eeprom) page_is
-      ∙ (ap (λ b. map_indexed (overlaid (a / part.eeprom_page * part.eeprom_page) (put Some off run b)) s.eeprom) empty
-      ∙ (run_laid (a / part.eeprom_page * part.eeprom_page) off run part.eeprom_page s.eeprom r_within
-      ∙ ap (λ x. with_image (image_at x run) s.eeprom) start)) in
+      rw (page_is, empty)
+      (rw (run_laid (a / part.eeprom_page * part.eeprom_page) off run part.eeprom_page s.eeprom r_within, start) refl) in
       let same_length : length loaded ≡ part.eeprom_page =
       length_put Some off run s.eeprom_buffer ∙
       (ap length empty ∙ length-replicate {A = Option ℕ} part.eeprom_page None) in
       sent-append (eeprom_loads 0xC1 a 0 run) (eeprom_writes 0xC2 a true) s
       ∙ (ap (sent_to (eeprom_writes 0xC2 a true)) loads
-      ∙ (writes
-      ∙ (ap (λ x. record s {
-        eeprom = cond (chip.is_locked s) s.eeprom x;
-        eeprom_buffer =
-            replicate (length loaded) None;
-      }) over
-      ∙ ap (λ n. record s {
-        eeprom = cond (chip.is_locked s) s.eeprom (with_image (image_at a run) s.eeprom);
-        eeprom_buffer = replicate n None;
-      }) same_length)))
+      ∙ (writes ∙ rw (over, same_length) refl))
 
   pub run_does : (a : ℕ) (run : List ℕ) (m : Memories) (p : Programmer) → FitsEepromPage part a run → Ready part m p
       → Ready part (struck part (LoadAddress a ∷ program_eeprom_block run ∷ []) m)
@@ -139,14 +119,7 @@ module _ (part : Part) (sound : IsPart part) where
       let r_inside = is_run.inside in
       let most = sound.eeprom_most in
       let q : Programmer = record p { address = a; wide = false } in
-      let after_is : device.after (body (program_eeprom_block run)) (device.after (body (LoadAddress a)) p)
-      ≡ with_address_moved (length run) (record q {
-        chip = record p.chip {
-          eeprom = cond (chip.is_locked p.chip) p.chip.eeprom
-              (with_image (image_at a run) p.chip.eeprom);
-          eeprom_buffer = replicate part.eeprom_page None;
-        };
-      }) =
+      let after_is =
       ap (device.after (body (program_eeprom_block run))) (narrow_loaded a p (omega arith))
       ∙ (eeprom_after run q s.mode is_run.some (omega arith)
       ∙ ap (λ c. with_address_moved (length run) (record q { chip = c }))

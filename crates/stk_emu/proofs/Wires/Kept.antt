@@ -10,16 +10,14 @@ use Rattle.stk_emu.specs.declared.fate.Fate.{Fate}
 use Rattle.stk_emu.specs.Programmer.{Programmer}
 use Rattle.stk_emu.specs.Device.{Device, device}
 use Rattle.stk_emu.specs.Wire.{Wire, fresh_wire, segment, wire_behind, tape_of, wire_after}
-use Rattle.stk_emu.specs.Wired.{WiredState, Keeps, NeverIdle, PassesBytes, IsNext, brought, after_hearing}
+use Rattle.stk_emu.specs.Wired.{WiredState, Keeps, NeverIdle, PassesBytes, IsNext, after_hearing}
 use Rattle.stk_emu.proofs.Answers.Texts.{frames_fed}
 
 pub tape_more : {P : Type 0} (m : Device P) (xs ys : List (List ℕ)) (w : Wire P)
     → tape_of m (xs ++ ys) w ≡ tape_of m xs w ++ tape_of m ys (wire_after m xs w)
 tape_more m [] ys w = refl
 tape_more m (x ∷ xs) ys w =
-    ap (λ t. segment m x w ++ t) (tape_more m xs ys (wire_behind m x w))
-    ∙ sym (append_assoc (segment m x w) (tape_of m xs (wire_behind m x w))
-    (tape_of m ys (wire_after m xs (wire_behind m x w))))
+    rw (tape_more m xs ys (wire_behind m x w)) (sym (append_assoc (segment m x w) _ _))
 
 pub wire_more : {P : Type 0} (m : Device P) (xs ys : List (List ℕ)) (w : Wire P)
     → wire_after m (xs ++ ys) w ≡ wire_after m ys (wire_after m xs w)
@@ -44,21 +42,14 @@ keeps_passing old new used p fates passes keeps =
     keeps.held in
     record {
       held = subst (Stands new.held) (sym sent_is) (passes.fed.stands (sent old.talk) keeps.held);
-      stands =
-          passes.wire
-          ∙ (ap (wire_after device passes.found) keeps.stands
-          ∙ (sym (wire_more device (frames (sent old.talk)) passes.found (fresh_wire p fates))
-          ∙ ap (λ fs. wire_after device fs (fresh_wire p fates)) (sym frames_are)));
+      stands = rw (passes.wire, keeps.stands, frames_are)
+          (rw (wire_more device (frames (sent old.talk)) passes.found (fresh_wire p fates)) refl);
       brings = λ never.
-          ap (λ fs. tape_of device fs (fresh_wire p fates)) frames_are
-          ∙ (tape_more device (frames (sent old.talk)) passes.found (fresh_wire p fates)
-          ∙ (ap (λ t. t ++ tape_of device passes.found
-          (wire_after device (frames (sent old.talk)) (fresh_wire p fates)))
-          (keeps.brings (never_before p fates old.talk (Sent used ∷ []) (subst (NeverIdle p fates) passes.talk never)))
-          ∙ (append_assoc (heard old.talk) old.waits
-          (tape_of device passes.found (wire_after device (frames (sent old.talk)) (fresh_wire p fates)))
-          ∙ (ap (λ w. heard old.talk ++ (old.waits ++ tape_of device passes.found w)) (sym keeps.stands)
-          ∙ (ap (λ t. heard old.talk ++ t) (sym passes.waits) ∙ ap (λ h. h ++ new.waits) (sym heard_is))))));
+          let brought_before = keeps.brings (never_before p fates old.talk (Sent used ∷ [])
+          (subst (NeverIdle p fates) passes.talk never)) in
+          rw (frames_are, tape_more device (frames (sent old.talk)) passes.found (fresh_wire p fates))
+          (rw (brought_before, ← keeps.stands, heard_is, passes.waits)
+          (append_assoc (heard old.talk) old.waits (tape_of device passes.found old.wire)));
     }
 
 -- what was heard next stood first among what waited, unless nothing waited
@@ -83,11 +74,9 @@ keeps_hearing old items p fates next keeps =
       held = subst (Stands old.held) (sym sent_is) keeps.held;
       stands = keeps.stands ∙ ap (λ bs. wire_after device (frames bs) (fresh_wire p fates)) (sym sent_is);
       brings = λ never.
-          ap (brought p fates) sent_is
-          ∙ (keeps.brings (never_before p fates old.talk (Got items ∷ []) never)
-          ∙ (ap (λ t. heard old.talk ++ t) (sym (heard_then p fates old items old.waits refl next keeps never))
-          ∙ (sym (append_assoc (heard old.talk) items (drop (length items) old.waits))
-          ∙ ap (λ h. h ++ drop (length items) old.waits) (sym heard_is))));
+          rw (sent_is, keeps.brings (never_before p fates old.talk (Got items ∷ []) never), heard_is)
+          (rw (append_assoc (heard old.talk) items (drop (length items) old.waits))
+          (rw (heard_then p fates old items old.waits refl next keeps never) refl));
     }
 
 -- a state with what was heard, part by part

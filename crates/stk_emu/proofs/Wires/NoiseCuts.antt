@@ -1,7 +1,7 @@
 -- Noise, cut piece by piece.
-use Rattle.std.proofs.Common.{◌≡◌, ◌≢◌, ℕ, ◌+◌, ◌-◌, subst, arith, length-drop, List, [], ◌∷◌, ◌++◌, length, take, drop, refl, ap, sym, ◌∙◌, true, false, inl, inr}
+use Rattle.std.proofs.Common.{◌≡◌, ◌≢◌, ℕ, ◌+◌, ◌-◌, subst, arith, length-drop, List, [], ◌∷◌, ◌++◌, length, take, drop, refl, ap, sym, ◌∙◌, true, inl, inr}
 use Rattle.std.specs.Prelude.{filter}
-use Rattle.std.proofs.lemmas.Bool.{cases_Bool, cond-true, cond-false}
+use Rattle.std.proofs.lemmas.Bool.{cases_Bool, cond-true}
 use Rattle.std.proofs.lemmas.List.{take-append-drop, take_all}
 use Rattle.std.proofs.Math.Seq.{take-add}
 use Rattle.std.proofs.lemmas.List.Elements.{filter-append}
@@ -13,23 +13,15 @@ use Rattle.stk_frame.proofs.Cuts.{cut_append}
 pub no_good : (pieces : List (List ℕ)) → filter is_frame pieces ≡ [] → filter is_good pieces ≡ []
 no_good [] e = refl
 no_good (piece ∷ pieces) e = elim (cases_Bool (is_frame piece)) [
-  | inl t ↦
-      let kept = sym (cond-true (is_frame piece) (piece ∷ filter is_frame pieces) (filter is_frame pieces) t) ∙ e in
-      cc
-  | inr f ↦
-      let more : filter is_frame pieces ≡ [] =
-      sym (cond-false (is_frame piece) (piece ∷ filter is_frame pieces) (filter is_frame pieces) f) ∙ e in
-      let bad : is_good piece ≡ false = rw f refl in
-      cond-false (is_good piece) (piece ∷ filter is_good pieces) (filter is_good pieces) bad ∙ no_good pieces more
+  | inl t ↦ let kept = rw t at e in cc
+  | inr f ↦ rw f (no_good pieces (rw f at e))
 ]
 
 good_fed : (old used new : List ℕ) (fs : List (List ℕ)) (text : List ℕ) → Fed old used new fs → Stands old text
     → filter is_good (cut text) ≡ [] → filter is_good (cut (text ++ used)) ≡ filter is_good fs
 good_fed old used new fs text fed stands none =
-    ap (filter is_good) (fed.pieces text stands)
-    ∙ (filter-append is_good (cut text) (fed.skipped ++ fs)
-    ∙ (ap (λ t. t ++ filter is_good (fed.skipped ++ fs)) none
-    ∙ (filter-append is_good fed.skipped fs ∙ ap (λ t. t ++ filter is_good fs) (no_good fed.skipped fed.no_frames))))
+    rw (fed.pieces text stands, filter-append is_good (cut text) (fed.skipped ++ fs), none)
+    (rw (filter-append is_good fed.skipped fs, no_good fed.skipped fed.no_frames) refl)
 
 -- the rest of the noise, as the code cuts it
 fed_rest : (old new noise : List ℕ) (at used : ℕ) (fs : List (List ℕ))

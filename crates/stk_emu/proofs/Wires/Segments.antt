@@ -1,6 +1,6 @@
 -- What a frame brings over the wire, as it is read.
 use Rattle.std.proofs.Common.{◌≡◌, ℕ, suc, ◌*◌, ◌≤◌, ◌<◌, ◌≢◌, List, [], ◌∷◌, ◌++◌, length, refl, sym, ap, ◌∙◌, subst, append_assoc, arith, true, false, inl, inr, Some, None, length-append}
-use Rattle.std.proofs.lemmas.Bool.{cases_Bool, and_left, ne_eqb, eq-eqb, and_from, and_right, cond-true, cond-false}
+use Rattle.std.proofs.lemmas.Bool.{cases_Bool, ne_eqb, eq-eqb, and_from, and_right, cond-true, cond-false}
 use Rattle.std.specs.Prelude.{filter, ◌==◌}
 use Rattle.stk_frame.specs.declared.protocol.TheConstants.{LARGEST_FRAME}
 use Rattle.stk_frame.specs.Frame.{frame}
@@ -22,13 +22,8 @@ use Rattle.stk_emu.specs.Turn.{after_turn, turn_reading}
 none_good : (n : ℕ) (pieces : List (List ℕ)) → filter is_good pieces ≡ [] → first_answer n pieces ≡ None
 none_good n [] e = refl
 none_good n (piece ∷ pieces) e = elim (cases_Bool (is_good piece)) [
-  | inl good ↦ let f = sym (cond-true (is_good piece) (piece ∷ filter is_good pieces) (filter is_good pieces) good)
-      ∙ e in
-      cc
-  | inr bad ↦
-      cond-false (is_answer n piece) _ _ (and_left (is_good piece) _ bad)
-      ∙ ap (further (length piece)) (none_good n pieces
-      (sym (cond-false (is_good piece) (piece ∷ filter is_good pieces) (filter is_good pieces) bad) ∙ e))
+  | inl good ↦ let f = rw good at e in cc
+  | inr bad ↦ rw bad (ap (further (length piece)) (none_good n pieces (rw bad at e)))
 ]
 
 frame_cut : (n : ℕ) (bytes more : List ℕ) → IsBody bytes → cut (frame n bytes ++ more) ≡ frame n bytes ∷ cut more
@@ -57,19 +52,14 @@ frame_skipped n seq bytes other carried = record {
 
 pub both_skipped : (n : ℕ) (x y : List ℕ) → Skipped n x → Skipped n y → Skipped n (x ++ y)
 both_skipped n x y f g = record {
-  first = λ more.
-      ap (λ bs. first_answer n (cut bs)) (append_assoc x y more)
-      ∙ (f.first (y ++ more)
-      ∙ (ap (further (length x)) (g.first more)
-      ∙ (further_further (length x) (length y) (first_answer n (cut more))
-      ∙ ap (λ k. further k (first_answer n (cut more))) (sym (length-append x y)))));
+  first = λ more. rw (append_assoc x y more, f.first (y ++ more), g.first more, length-append x y)
+      (further_further (length x) (length y) (first_answer n (cut more)));
 }
 
 -- an answer to a frame before this one
 late_skipped : (k n : ℕ) (late : List ℕ) → ((seq : ℕ) → later k seq ≡ n → seq ≢ n) → IsPast k n late → Skipped n late
-late_skipped k n late other (inl e) = subst (Skipped n) (sym e) (none_skipped n)
-late_skipped k n late other (inr l) = subst (Skipped n) (sym l.is)
-    (frame_skipped n l.seq l.bytes (other l.seq l.before) l.carried)
+late_skipped k n late other (inl e) = rw e (none_skipped n)
+late_skipped k n late other (inr l) = rw l.is (frame_skipped n l.seq l.bytes (other l.seq l.before) l.carried)
 
 late_length : (k n : ℕ) (late : List ℕ) → IsPast k n late → length late ≤ LARGEST_FRAME
 late_length k n late (inl e) = rw e (omega arith)
@@ -103,9 +93,7 @@ reads_frame : (n : ℕ) (prefix bytes : List ℕ) (more : Tape) → Skipped n pr
     → answer n ((on_tape prefix ++ on_tape (frame n bytes)) ++ more) ≡ Some (Answered bytes, more)
 reads_frame n prefix bytes more skipped short b =
     let found : first_answer n (cut (prefix ++ frame n bytes)) ≡ Some (bytes, length (prefix ++ frame n bytes)) =
-    skipped.first (frame n bytes)
-    ∙ (ap (further (length prefix)) (found_frame n bytes b)
-    ∙ ap (λ k. Some (bytes, k)) (sym (length-append prefix (frame n bytes)))) in
+    rw (skipped.first (frame n bytes), found_frame n bytes b, length-append prefix (frame n bytes)) refl in
     let few : length (prefix ++ frame n bytes) ≤ limit =
     let f = b.few in
     rw (length-append prefix (frame n bytes), length_frame n bytes) (omega arith) in
@@ -121,11 +109,10 @@ reads_silence n prefix noise more skipped short lawful =
     let few : length (prefix ++ noise) < limit =
     let f = lawful.few in
     rw (length-append prefix noise) (omega arith) in
-    ap (answer n) (append_assoc (on_tape prefix) (on_tape noise ++ Silence ∷ []) more
-    ∙ (ap (λ t. on_tape prefix ++ t) (append_assoc (on_tape noise) (Silence ∷ []) more)
-    ∙ (sym (append_assoc (on_tape prefix) (on_tape noise) (Silence ∷ more))
-    ∙ ap (λ t. t ++ Silence ∷ more) (sym (on_tape_append prefix noise)))))
-    ∙ answer_silent n (prefix ++ noise) more none few
+    rw (append_assoc (on_tape prefix) (on_tape noise ++ Silence ∷ []) more)
+    (rw (append_assoc (on_tape noise) (Silence ∷ []) more)
+    (rw (← append_assoc (on_tape prefix) (on_tape noise) (Silence ∷ more), ← on_tape_append prefix noise)
+    (answer_silent n (prefix ++ noise) more none few)))
 
 no_noise : IsLawful []
 no_noise = record { few = omega arith; no_frame = refl }
@@ -148,6 +135,11 @@ reads_back n (AnswerSpoiled noise) late bytes more clear lawful b =
 reads_back n _ late bytes more clear lawful b =
     reads_silence n (waiting late) [] more (clear_skipped n late clear) (clear_length n late clear) no_noise
 
+-- a whole frame is answered as its body is
+answered_body : {P : Type 0} (m : Device P) (n : ℕ) (bytes : List ℕ) (p : P) → IsBody bytes
+    → answer_body m (frame n bytes) p ≡ m.answer bytes p
+answered_body m n bytes p b = rw (frame_is_good n bytes b.some, body_of_frame n bytes) refl
+
 -- The segment: of a frame of sequence n it is read whole, and nothing else; the answer is the programmer's, the
 -- refusal, or a silence.
 pub segment_read : {P : Type 0} (m : Device P) (n : ℕ) (bytes : List ℕ) (w : Wire P) (more : Tape) → IsBody bytes
@@ -155,11 +147,8 @@ pub segment_read : {P : Type 0} (m : Device P) (n : ℕ) (bytes : List ℕ) (w :
     → answer n (segment m (frame n bytes) w ++ more)
     ≡ Some (turn_reading (turn_of (first_fate w.fates)) (m.answer bytes w.programmer), more)
 segment_read m n bytes w more b a clear lawful =
-    let good : is_good (frame n bytes) ≡ true = frame_is_good n bytes b.some in
-    let body_is : answer_body m (frame n bytes) w.programmer ≡ m.answer bytes w.programmer =
-    cond-true (is_good (frame n bytes)) _ _ good ∙ ap (λ x. m.answer x w.programmer) (body_of_frame n bytes) in
     ap (λ x. answer n ((on_tape (let_go (first_fate w.fates) w.late)
-    ++ back (first_fate w.fates) (frame n x) (frame n refusal)) ++ more)) body_is
+    ++ back (first_fate w.fates) (frame n x) (frame n refusal)) ++ more)) (answered_body m n bytes w.programmer b)
     ∙ reads_back n (first_fate w.fates) w.late (m.answer bytes w.programmer) more clear lawful a
 
 -- and the programmer behind it
@@ -167,9 +156,7 @@ pub segment_leaves : {P : Type 0} (m : Device P) (n : ℕ) (bytes : List ℕ) (w
     → (wire_behind m (frame n bytes) w).programmer
     ≡ after_turn (turn_of (first_fate w.fates)) (m.after bytes w.programmer) w.programmer m.reset
 segment_leaves m n bytes w b =
-    let good : is_good (frame n bytes) ≡ true = frame_is_good n bytes b.some in
-    ap (λ q. after_turn (turn_of (first_fate w.fates)) q w.programmer m.reset)
-    (cond-true (is_good (frame n bytes)) _ _ good ∙ ap (λ x. m.after x w.programmer) (body_of_frame n bytes))
+    rw (frame_is_good n bytes b.some, body_of_frame n bytes) refl
 
 -- nothing waits
 pub none_clear : (n : ℕ) → IsClear n none_late
@@ -200,8 +187,6 @@ late_is n _ bytes late b c = none_clear (next n)
 pub segment_late : {P : Type 0} (m : Device P) (n : ℕ) (bytes : List ℕ) (w : Wire P) → IsBody bytes
     → IsBody (m.answer bytes w.programmer) → IsClear n w.late → IsClear (next n) (wire_behind m (frame n bytes) w).late
 segment_late m n bytes w b a clear =
-    let good : is_good (frame n bytes) ≡ true = frame_is_good n bytes b.some in
-    let body_is : answer_body m (frame n bytes) w.programmer ≡ m.answer bytes w.programmer =
-    cond-true (is_good (frame n bytes)) _ _ good ∙ ap (λ x. m.answer x w.programmer) (body_of_frame n bytes) in
-    subst (λ x. IsClear (next n) (late_of (first_fate w.fates) (frame n x) w.late)) (sym body_is)
+    subst (λ x. IsClear (next n) (late_of (first_fate w.fates) (frame n x) w.late))
+    (sym (answered_body m n bytes w.programmer b))
     (late_is n (first_fate w.fates) (m.answer bytes w.programmer) w.late a clear)

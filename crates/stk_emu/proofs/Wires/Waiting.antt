@@ -11,10 +11,7 @@ use Rattle.stk_emu.specs.Waiting.{item_of, tape_in}
 pub three_put : (t x y z : Tape) (a b c : List ℕ) → t ≡ [] → x ≡ t ++ on_tape a → y ≡ x ++ on_tape b
     → z ≡ y ++ on_tape c → z ≡ on_tape (a ++ (b ++ c))
 three_put t x y z a b c e f g h =
-    h
-    ∙ (ap (λ s. s ++ on_tape c) (g ∙ ap (λ s. s ++ on_tape b) (f ∙ ap (λ s. s ++ on_tape a) e))
-    ∙ (append_assoc (on_tape a) (on_tape b) (on_tape c)
-    ∙ (ap (λ s. on_tape a ++ s) (sym (on_tape_append b c)) ∙ sym (on_tape_append a (b ++ c)))))
+    rw (h, g, f, e, on_tape_append a (b ++ c), on_tape_append b c) (append_assoc (on_tape a) (on_tape b) (on_tape c))
 
 item_at : (items : List (Option ℕ)) (i : ℕ) → get_or (tape_in items) i Silence ≡ item_of (get_or items i None)
 item_at [] i = refl
@@ -28,11 +25,8 @@ pub taken_next : (items : List (Option ℕ)) (buffer : List ℕ) (count b : ℕ)
     → on_tape (take (count + 1) (set buffer count b)) ≡ take (count + 1) (tape_in items)
 taken_next items buffer count b h k is taken =
     let inside : count < length (tape_in items) = rw (length-map items item_of) k in
-    ap on_tape (take_more_set buffer count b h)
-    ∙ (map_push Byte (take count buffer) b
-    ∙ (ap (λ t. t ++ Byte b ∷ []) taken
-    ∙ sym (take_more (tape_in items) count Silence inside
-    ∙ ap (λ x. take count (tape_in items) ++ x ∷ []) (item_at items count ∙ ap item_of is))))
+    rw (take_more_set buffer count b h, map_push Byte (take count buffer) b, taken)
+    (rw (take_more (tape_in items) count Silence inside, item_at items count, is) refl)
 
 -- what is left where so many are heard
 pub left_on : (items old : List (Option ℕ)) (at next count : ℕ) → drop next items ≡ drop count (drop at old)
@@ -44,6 +38,4 @@ pub grown : (waits new brought : List (Option ℕ)) (at : ℕ) (tape : Tape) →
     → tape_in brought ≡ tape
     → tape_in (drop at new) ≡ tape_in (drop at waits) ++ tape
 grown waits new brought at tape le is brings =
-    ap (λ w. tape_in (drop at w)) is
-    ∙ (ap tape_in (drop-append-le at waits brought le)
-    ∙ (map-append item_of (drop at waits) brought ∙ ap (λ t. tape_in (drop at waits) ++ t) brings))
+    rw (is, drop-append-le at waits brought le, map-append item_of (drop at waits) brought, brings) refl

@@ -49,8 +49,7 @@ due_lifted : {E R : Type 0} (dialog : Dialog ⊥ R) (seq : ℕ) (tape : Tape) (b
     → IsDue {E = E} (lifted dialog) seq tape bytes
 due_lifted {E = E} dialog seq tape bytes due = record {
   waits = ap (λ p. p.outcome) (played_lifted {E = E} dialog seq tape) ∙ due.waits;
-  all_sent = ap (λ p. bytes_sent p.events) (played_lifted {E = E} dialog seq tape)
-      ∙ (bytes_raised E (played dialog seq tape).events ∙ due.all_sent);
+  all_sent = rw (played_lifted {E = E} dialog seq tape, bytes_raised E (played dialog seq tape).events) due.all_sent;
 }
 
 turns_lifted : {R : Type 0} (E : Type 0) (dialog : Dialog ⊥ R) (m : Position) (talk : Talk) → InTurn dialog m talk
@@ -63,8 +62,8 @@ pub plays_lifted : {E R : Type 0} {dialog : Dialog ⊥ R} {m n : Position} {talk
     {result : R}
     → Plays dialog m talk events result n → Plays {E = E} (lifted dialog) m talk (raised events) result n
 plays_lifted {E = E} {dialog = dialog} {m = m} {talk = talk} {events = events} f = record {
-  plays = λ more. played_lifted {E = E} dialog m.next (on_tape m.unread ++ (heard talk ++ more))
-      ∙ ap raised_play (f.plays more);
+  plays = λ more. rw (played_lifted {E = E} dialog m.next (on_tape m.unread ++ (heard talk ++ more)), f.plays more)
+      refl;
   all_sent = bytes_raised E events ∙ f.all_sent;
   in_turn = turns_lifted E dialog m talk f.in_turn;
 }
@@ -78,9 +77,8 @@ by_lifted E broken.Send dialog m talk shown f = record {
   unsent = f.unsent;
   later = raised f.later;
   shown_is = ap raised f.shown_is ∙ raised_append f.whole (Frame f.part ∷ []);
-  events_are =
-      ap (λ p. p.events) (played_lifted {E = E} dialog m.next (on_tape m.unread ++ heard talk))
-      ∙ (ap raised f.events_are ∙ raised_append f.whole (Frame (f.part ++ f.unsent) ∷ f.later));
+  events_are = rw (played_lifted {E = E} dialog m.next (on_tape m.unread ++ heard talk), f.events_are)
+      (raised_append f.whole (Frame (f.part ++ f.unsent) ∷ f.later));
   not_whole = f.not_whole;
   all_sent = bytes_raised E shown ∙ f.all_sent;
   in_turn = turns_lifted E dialog m talk f.in_turn;

@@ -1,5 +1,5 @@
 -- How much dialogs ask: laws for the crates above, and the bounds of steps and of the operations.
-use Rattle.std.proofs.Common.{◌≡◌, ℕ, zero, suc, ◌+◌, ◌*◌, ◌-◌, ◌≤◌, List, [], ◌∷◌, ◌++◌, length, length-append, refl, ap, subst, arith, Bool, true, false, Result, Ok, Err, Option, Some, None}
+use Rattle.std.proofs.Common.{◌≡◌, ℕ, zero, suc, ◌+◌, ◌*◌, ◌≤◌, List, [], ◌∷◌, ◌++◌, length, length-append, refl, ap, arith, Bool, true, false, Result, Ok, Err, Option, Some, None}
 use Rattle.std.proofs.Math.Nat.{suc-mul}
 use Rattle.std.specs.Prelude.{if◌then◌else◌}
 use Rattle.avr_part.specs.declared.part.Mem.{Mem}
@@ -24,34 +24,22 @@ use Rattle.stk_host.specs.Bound.{AsksAtMost, SendsAtMost, commands_in, opening_s
 
 -- questions
 
-asks_next : {E R : Type 0} (n : ℕ) (body : List ℕ) (answered : Reading → Dialog E R)
-    → ((reading : Reading) → AsksAtMost n (answered reading)) → AsksAtMost (suc n) (Ask body answered)
-asks_next n body answered f = f
+asks_within : {E R : Type 0} (n m : ℕ) (d : Dialog E R) → n ≤ m → AsksAtMost n d → AsksAtMost m d
+asks_within n m (Done r) le f = tt
+asks_within n m (Say e d) le f = asks_within n m d le f
+asks_within zero m (Ask body answered) le f = absurd f
+asks_within (suc n) zero (Ask body answered) le f = absurd (omega arith)
+asks_within (suc n) (suc m) (Ask body answered) le f =
+    λ reading. asks_within n m (answered reading) (omega arith) (f reading)
 
-asks_more : {E R : Type 0} (n k : ℕ) (d : Dialog E R) → AsksAtMost n d → AsksAtMost (n + k) d
-asks_more n k (Done r) f = tt
-asks_more n k (Say e d) f = asks_more n k d f
-asks_more zero k (Ask body answered) f = absurd f
-asks_more (suc n) k (Ask body answered) f =
-    let e : suc (n + k) ≡ suc n + k = omega arith in
-    subst (λ z. AsksAtMost z (Ask body answered)) e
-    (asks_next (n + k) body answered (λ reading. asks_more n k (answered reading) (f reading)))
-
-pub asks_within : {E R : Type 0} (n m : ℕ) (d : Dialog E R) → n ≤ m → AsksAtMost n d → AsksAtMost m d
-asks_within n m d le f =
-    let e : n + (m - n) ≡ m = omega arith in
-    subst (λ z. AsksAtMost z d) e (asks_more n (m - n) d f)
-
-pub asks_bind : {E A B : Type 0} (n k : ℕ) (d : Dialog E A) (go_on : A → Dialog E B) → AsksAtMost n d
-    → ((a : A) → AsksAtMost k (go_on a)) → AsksAtMost (n + k) (d >>= go_on)
-asks_bind n k (Done a) go_on f g = asks_within k (n + k) (go_on a) (omega arith) (g a)
-asks_bind n k (Say e d) go_on f g = asks_bind n k d go_on f g
-asks_bind zero k (Ask body answered) go_on f g = absurd f
-asks_bind (suc n) k (Ask body answered) go_on f g =
-    let e : suc (n + k) ≡ suc n + k = omega arith in
-    subst (λ z. AsksAtMost z (Ask body (λ reading. answered reading >>= go_on))) e
-    (asks_next (n + k) body (λ reading. answered reading >>= go_on)
-    (λ reading. asks_bind n k (answered reading) go_on (f reading) g))
+asks_bind : {E A B : Type 0} (n k m : ℕ) (d : Dialog E A) (go_on : A → Dialog E B) → n + k ≤ m → AsksAtMost n d
+    → ((a : A) → AsksAtMost k (go_on a)) → AsksAtMost m (d >>= go_on)
+asks_bind n k m (Done a) go_on le f g = asks_within k m (go_on a) (omega arith) (g a)
+asks_bind n k m (Say e d) go_on le f g = asks_bind n k m d go_on le f g
+asks_bind zero k m (Ask body answered) go_on le f g = absurd f
+asks_bind (suc n) k zero (Ask body answered) go_on le f g = absurd (omega arith)
+asks_bind (suc n) k (suc m) (Ask body answered) go_on le f g =
+    λ reading. asks_bind n k m (answered reading) go_on (omega arith) (f reading) g
 
 -- frames
 
@@ -80,27 +68,18 @@ frames_append (Said e ∷ x) y = frames_append x y
 begun_most : {E : Type 0} (SaidPart : E → E → Type 0) (begun later : List (Event E)) → IsBegun SaidPart begun later
     → length (frames_in begun) ≤ length (frames_in later)
 begun_most SaidPart [] later f = omega arith
-begun_most SaidPart (e ∷ []) [] f = absurd f
 begun_most SaidPart (Frame part ∷ []) (Frame whole ∷ later) f = omega arith
-begun_most SaidPart (Frame part ∷ []) (Said whole ∷ later) f = absurd f
-begun_most SaidPart (Said part ∷ []) (Frame whole ∷ later) f = absurd f
 begun_most SaidPart (Said part ∷ []) (Said whole ∷ later) f = omega arith
-begun_most SaidPart (e ∷ d ∷ begun) later f = absurd f
+begun_most SaidPart _ _ f = absurd f
 
 -- a prefix of events has no more frames
 pub prefix_most : {E : Type 0} {SaidPart : E → E → Type 0} {shown events : List (Event E)}
     → IsPrefixOfEvents SaidPart shown events → length (frames_in shown) ≤ length (frames_in events)
 prefix_most {SaidPart = SaidPart} {shown = shown} {events = events} f =
     let b = begun_most SaidPart f.begun f.later f.part in
-    rw (
-      f.shown_is,
-      f.events_are,
-      frames_append f.whole f.begun,
-      frames_append f.whole f.later,
-      length-append (frames_in f.whole) (frames_in f.begun),
-      length-append (frames_in f.whole) (frames_in f.later),
-    )
-    (omega arith)
+    rw (f.shown_is, f.events_are, frames_append f.whole f.begun, frames_append f.whole f.later)
+    (rw (length-append (frames_in f.whole) (frames_in f.begun))
+    (rw (length-append (frames_in f.whole) (frames_in f.later)) (omega arith)))
 
 -- what a dialog asks bounds what it sends
 pub sends_asked : {E R : Type 0} (SaidPart : E → E → Type 0) (n : ℕ) (d : Dialog E R) → AsksAtMost n d
@@ -121,8 +100,7 @@ sends_asked SaidPart n d f = record {
 most_reply : (n : ℕ) (go_on : List ℕ → Dialog ⊥ Reply) (reply : Reply) → ((bytes : List ℕ) → AsksAtMost n (go_on bytes))
     → AsksAtMost n (with_data go_on reply)
 most_reply n go_on (Data bytes) f = f bytes
-most_reply n go_on (Again fault) f = tt
-most_reply n go_on (Stop fault) f = tt
+most_reply n go_on _ f = tt
 
 attempt_most : (commands : List Command) (before : List ℕ) → AsksAtMost (length commands) (attempt commands before)
 unfolding attempt exchange
@@ -142,13 +120,9 @@ tries_most : (more : ℕ) (commands : List Command) (fault : StepFault)
 unfolding tries
 tries_most zero commands fault = tt
 tries_most (suc more) commands fault =
-    let e : length commands + more * length commands ≡ suc more * length commands =
-    omega (arith, suc-mul more (length commands)) in
-    subst (λ z. AsksAtMost z (attempt commands [] >>= end_or_again (tries more commands))) e
-    (asks_bind (length commands) (more * length commands) (attempt commands []) (end_or_again (tries more commands))
-    (attempt_most commands [])
-    (λ reply. most_settled (more * length commands) (tries more commands) reply
-    (λ again. tries_most more commands again)))
+    asks_bind (length commands) (more * length commands) (suc more * length commands) (attempt commands [])
+    (end_or_again (tries more commands)) (omega (arith, suc-mul more (length commands))) (attempt_most commands [])
+    (λ reply. most_settled (more * length commands) (tries more commands) reply (tries_most more commands))
 
 pub step_most : (commands : List Command) → AsksAtMost (4 * length commands) (step commands)
 step_most commands = tries_most 4 commands NoAnswer
@@ -163,10 +137,8 @@ pub then_most : (commands : List Command) (steps : List (List Command)) (go_on :
     → ((bytes : List ℕ) → AsksAtMost (4 * commands_in steps) (go_on bytes))
     → AsksAtMost (4 * commands_in (commands ∷ steps)) (step commands >>= if_done go_on)
 then_most commands steps go_on f =
-    let e : 4 * length commands + 4 * commands_in steps ≡ 4 * (length commands + commands_in steps) = omega arith in
-    subst (λ z. AsksAtMost z (step commands >>= if_done go_on)) e
-    (asks_bind (4 * length commands) (4 * commands_in steps) (step commands) (if_done go_on) (step_most commands)
-    (λ outcome. done_most (4 * commands_in steps) go_on outcome f))
+    asks_bind (4 * length commands) (4 * commands_in steps) (4 * commands_in (commands ∷ steps)) (step commands)
+    (if_done go_on) (omega arith) (step_most commands) (λ outcome. done_most (4 * commands_in steps) go_on outcome f)
 
 pub play_most : (steps : List (List Command)) (before : List ℕ) → AsksAtMost (4 * commands_in steps) (play steps before)
 unfolding play
@@ -181,10 +153,7 @@ bounded steps d f = record { asks = f; sends = sends_asked NoPart (4 * commands_
 -- a dialog whose result is judged
 pub judged_most : {A B : Type 0} (n : ℕ) (d : Dialog ⊥ A) (judge : A → B) → AsksAtMost n d
     → AsksAtMost n (d >>= λ outcome. Done (judge outcome))
-judged_most n d judge f =
-    let e : n + 0 ≡ n = omega arith in
-    subst (λ z. AsksAtMost z (d >>= λ outcome. Done (judge outcome))) e
-    (asks_bind n 0 d (λ outcome. Done (judge outcome)) f (λ outcome. tt))
+judged_most n d judge f = asks_bind n 0 n d (λ outcome. Done (judge outcome)) (omega arith) f (λ outcome. tt)
 
 -- the operations
 

@@ -1,5 +1,5 @@
 -- Comparing from the lowest address up, run by run.
-use Rattle.std.proofs.Common.{◌≡◌, ◌≤◌, ◌∙◌, ap, sym, refl, arith, ℕ, suc, ◌+◌, ◌-◌, ◌<◌, All, List, [], ◌∷◌, length, get_or, map, take, drop, drop-cons, add-one, Bool, true, false, Option, Some, None, inl, inr}
+use Rattle.std.proofs.Common.{◌≡◌, ◌≤◌, ◌∙◌, ap, refl, arith, ℕ, suc, ◌+◌, ◌-◌, ◌<◌, All, List, [], ◌∷◌, length, get_or, map, take, drop, drop-cons, add-one, Bool, true, false, Option, Some, None, inl, inr}
 use Rattle.std.specs.Prelude.{◌==◌, if◌then◌else◌}
 use Rattle.std.proofs.lemmas.Bool.{cases_eq}
 use Rattle.std.proofs.lemmas.Bool.Decides.{nat_tests}
@@ -10,6 +10,10 @@ use Rattle.avr_image.proofs.Lemmas.{runs_inside}
 use Rattle.avr_part.specs.declared.part.Mem.{Mem}
 use Rattle.stk_host.specs.declared.fault.HostFault.{HostFault}
 use Rattle.stk_host.specs.Operations.{Difference, difference_from, differs}
+
+drop_at : {A : Type 0} (xs : List A) (at : ℕ) (none : A) → at < length xs
+    → drop at xs ≡ get_or xs at none ∷ drop (at + 1) xs
+drop_at xs at none there = rw add-one (drop-cons xs at none there)
 
 -- at one address more
 abbrev decided : Bool → ℕ → ℕ → ℕ → Option Difference → Option Difference
@@ -26,8 +30,7 @@ first_byte : (addr b : ℕ) (run bytes : List ℕ) (at : ℕ) → at < length by
     ≡ decided (get_or bytes at 0 == b) addr b (get_or bytes at 0)
     (difference_from (addr + 1) (held_as run) (drop (at + 1) bytes))
 first_byte addr b run bytes at there =
-    let of_bytes : drop at bytes ≡ get_or bytes at 0 ∷ drop (at + 1) bytes = rw add-one (drop-cons bytes at 0 there) in
-    ap (λ (bs : List ℕ). difference_from addr (held_as (b ∷ run)) bs) of_bytes
+    ap (λ (bs : List ℕ). difference_from addr (held_as (b ∷ run)) bs) (drop_at bytes at 0 there)
 
 -- the byte i of a run
 pub run_byte : (addr i : ℕ) (run found : List ℕ) → i < length run → i < length found
@@ -35,12 +38,8 @@ pub run_byte : (addr i : ℕ) (run found : List ℕ) → i < length run → i < 
     ≡ decided (get_or found i 0 == get_or run i 0) (addr + i) (get_or run i 0) (get_or found i 0)
     (difference_from (addr + (i + 1)) (held_as (drop (i + 1) run)) (drop (i + 1) found))
 run_byte addr i run found within there =
-    let of_run : drop i run ≡ get_or run i 0 ∷ drop (i + 1) run = rw add-one (drop-cons run i 0 within) in
     let next : addr + i + 1 ≡ addr + (i + 1) = omega arith in
-    ap (λ (bs : List ℕ). difference_from (addr + i) (held_as bs) (drop i found)) of_run
-    ∙ first_byte (addr + i) (get_or run i 0) (drop (i + 1) run) found i there
-    ∙ ap (λ (n : ℕ). decided (get_or found i 0 == get_or run i 0) (addr + i) (get_or run i 0) (get_or found i 0)
-    (difference_from n (held_as (drop (i + 1) run)) (drop (i + 1) found))) next
+    rw (drop_at run i 0 within, first_byte (addr + i) (get_or run i 0) (drop (i + 1) run) found i there, next) refl
 
 pub run_goes_on : (addr i : ℕ) (run found : List ℕ) → i < length run → i < length found
     → (get_or found i 0 == get_or run i 0) ≡ true
@@ -68,43 +67,29 @@ among-onto : (addr b : ℕ) (cut : List (ℕ × List ℕ)) (bytes : List ℕ) �
     → among (onto_runs addr b cut) bytes ≡ decided (get_or bytes addr 0 == b) addr b (get_or bytes addr 0)
     (among cut bytes)
 among-onto addr b [] bytes there =
-    ap (λ (d : Option Difference). earlier d None) (first_byte addr b [] bytes addr there)
-    ∙ earlier_decided (get_or bytes addr 0 == b) addr b (get_or bytes addr 0) None None
+    rw (first_byte addr b [] bytes addr there)
+    (earlier_decided (get_or bytes addr 0 == b) addr b (get_or bytes addr 0) None None)
 among-onto addr b ((next, run) ∷ more) bytes there =
     let found = get_or bytes addr 0 in
     elim (cases_eq next (addr + 1)) [
       | inl same ↦
           let test : (next == addr + 1) ≡ true = grind (arith, nat_tests) in
-          let here : earlier (difference_from addr (held_as (b ∷ run)) (drop addr bytes)) (among more bytes)
-          ≡ decided (found == b) addr b found (earlier
-          (difference_from (addr + 1) (held_as run) (drop (addr + 1) bytes)) (among more bytes)) =
-          ap (λ (d : Option Difference). earlier d (among more bytes)) (first_byte addr b run bytes addr there)
-          ∙ earlier_decided (found == b) addr b found (difference_from (addr + 1) (held_as run) (drop (addr + 1) bytes))
-          (among more bytes) in
-          rw test (here ∙ ap (λ (n : ℕ). decided (found == b) addr b found
-          (earlier (difference_from n (held_as run) (drop n bytes)) (among more bytes))) (sym same))
+          rw (test, same, first_byte addr b run bytes addr there) (earlier_decided (found == b) addr b found
+          (difference_from (addr + 1) (held_as run) (drop (addr + 1) bytes)) (among more bytes))
       | inr other ↦
           let test : (next == addr + 1) ≡ false = grind (arith, nat_tests) in
-          rw test (ap (λ (d : Option Difference). earlier d (among ((next, run) ∷ more) bytes))
-          (first_byte addr b [] bytes addr there)
-          ∙ earlier_decided (found == b) addr b found None (among ((next, run) ∷ more) bytes))
+          rw (test, first_byte addr b [] bytes addr there)
+          (earlier_decided (found == b) addr b found None (among ((next, run) ∷ more) bytes))
     ]
 
 pub among-runs : (addr : ℕ) (image : List (Option ℕ)) (bytes : List ℕ) → addr + length image ≤ length bytes
     → among (runs addr image) bytes ≡ difference_from addr image (drop addr bytes)
 among-runs addr [] bytes there = refl
 among-runs addr (None ∷ image) bytes there =
-    let of_bytes : drop addr bytes ≡ get_or bytes addr 0 ∷ drop (addr + 1) bytes =
-    rw add-one (drop-cons bytes addr 0 (omega (arith, there))) in
-    among-runs (addr + 1) image bytes (omega (arith, there))
-    ∙ sym (ap (λ (bs : List ℕ). difference_from addr (None ∷ image) bs) of_bytes)
+    rw (drop_at bytes addr 0 (omega (arith, there))) (among-runs (addr + 1) image bytes (omega (arith, there)))
 among-runs addr (Some b ∷ image) bytes there =
-    let found = get_or bytes addr 0 in
-    let of_bytes : drop addr bytes ≡ found ∷ drop (addr + 1) bytes =
-    rw add-one (drop-cons bytes addr 0 (omega (arith, there))) in
-    among-onto addr b (runs (addr + 1) image) bytes (omega (arith, there))
-    ∙ ap (decided (found == b) addr b found) (among-runs (addr + 1) image bytes (omega (arith, there)))
-    ∙ sym (ap (λ (bs : List ℕ). difference_from addr (Some b ∷ image) bs) of_bytes)
+    rw (among-onto addr b (runs (addr + 1) image) bytes (omega (arith, there)))
+    (rw (among-runs (addr + 1) image bytes (omega (arith, there)), drop_at bytes addr 0 (omega (arith, there))) refl)
 
 -- what lies after the image is not compared
 pub within_image : (addr : ℕ) (image : List (Option ℕ)) (bytes : List ℕ)

@@ -22,31 +22,11 @@ no_steps steps_at place (suc count) none =
     rw (none place (omega arith) (omega arith))
     (no_steps steps_at (place + 1) count (λ i a l. none i (omega (arith, a)) (omega (arith, l))))
 
--- the first place that may have steps
-first_steps : (steps_at : ℕ → List (List Command)) (place count here : ℕ) → place ≤ here → here < place + count
-    → ((i : ℕ) → place ≤ i → i < here → steps_at i ≡ [])
-    → each_from steps_at place count ≡ steps_at here ++ each_from steps_at (here + 1) (place + count - (here + 1))
-first_steps steps_at place zero here after within none = absurd (omega arith)
-first_steps steps_at place (suc count) here after within none = elim (cases_lt place here) [
-  | inl before ↦
-      let more : place + 1 + count ≡ place + suc count = omega arith in
-      rw (none place (omega arith) before) (first_steps steps_at (place + 1) count here (omega (arith, before))
-      (omega arith) (λ i a l. none i (omega (arith, a)) l)
-      ∙ ap (λ (n : ℕ). steps_at here ++ each_from steps_at (here + 1) (n - (here + 1))) more)
-  | inr from ↦
-      let is : place ≡ here = omega arith in
-      let left : count ≡ place + suc count - (here + 1) = omega arith in
-      ap (λ (n : ℕ). steps_at place ++ each_from steps_at (place + 1) n) left
-      ∙ ap (λ (n : ℕ). steps_at n ++ each_from steps_at (n + 1) (place + suc count - (here + 1))) is
-]
-
-pub next_steps : (steps_at : ℕ → List (List Command)) (place end here : ℕ) → place ≤ here → here < end
-    → ((i : ℕ) → place ≤ i → i < here → steps_at i ≡ [])
-    → each_from steps_at place (end - place) ≡ steps_at here ++ each_from steps_at (here + 1) (end - (here + 1))
-next_steps steps_at place end here after within none =
-    let all : place + (end - place) ≡ end = omega arith in
-    first_steps steps_at place (end - place) here after (omega arith) none
-    ∙ ap (λ (n : ℕ). steps_at here ++ each_from steps_at (here + 1) (n - (here + 1))) all
+-- the next of the places
+pub next_place : (steps_at : ℕ → List (List Command)) (place end : ℕ) → place < end
+    → each_from steps_at place (end - place) ≡ steps_at place ++ each_from steps_at (place + 1) (end - (place + 1))
+next_place steps_at place end before =
+    let left : end - place ≡ suc (end - (place + 1)) = omega (arith, before) in ap (each_from steps_at place) left
 
 -- a page of 256 bytes at most
 pub page_most : (page : ℕ) → 0 < page → 256 % page ≡ 0 → page ≤ 256
@@ -143,13 +123,12 @@ skip_steps steps_at place zero here after within none =
 skip_steps steps_at place (suc count) here after within none = elim (cases_lt place here) [
   | inl before ↦
       let more : place + 1 + count ≡ place + suc count = omega arith in
-      rw (none place (omega arith) before) (skip_steps steps_at (place + 1) count here (omega (arith, before))
-      (omega arith) (λ i a l. none i (omega (arith, a)) l)
-      ∙ ap (λ (n : ℕ). each_from steps_at here (n - here)) more)
+      rw (none place (omega arith) before, ← more) (skip_steps steps_at (place + 1) count here (omega (arith, before))
+      (omega arith) (λ i a l. none i (omega (arith, a)) l))
   | inr from ↦
-      let is : place ≡ here = omega arith in
-      let left : suc count ≡ place + suc count - here = omega arith in
-      ap (each_from steps_at place) left ∙ ap (λ (n : ℕ). each_from steps_at n (place + suc count - here)) is
+      let is : here ≡ place = omega arith in
+      let left : place + suc count - place ≡ suc count = omega arith in
+      rw (is, left) refl
 ]
 
 skip_to : (steps_at : ℕ → List (List Command)) (place end here : ℕ) → place ≤ here → here ≤ end
@@ -209,8 +188,9 @@ next_run part image next start end some fits border held run is =
     record {
       longer = omega (arith, longer, held.after);
       within = within;
-      steps = next_steps (run_steps_at part image) next part.eeprom_size start held.after
+      steps = skip_to (run_steps_at part image) next part.eeprom_size start held.after
           (omega (arith, held.within, fits)) (λ i a l. no_run part image i (rw (held.gap i a l) refl))
+          ∙ next_place (run_steps_at part image) start part.eeprom_size (omega (arith, held.within, fits))
           ∙ ap (λ (ss : List (List Command)). ss ++ each_from (run_steps_at part image) (start + 1)
           (part.eeprom_size - (start + 1))) (one_run part image start
           (starts_run part.eeprom_page image next start border held))

@@ -1,6 +1,5 @@
 -- Commands, attempts and steps, as the code goes through them.
-use Rattle.std.proofs.Common.{◌≡◌, ℕ, zero, suc, List, [], ◌∷◌, ◌++◌, refl, ap, ◌∙◌, subst, Ok, Err, Result, arith}
-use Rattle.ghosts.specs.Failures.{HasRisen}
+use Rattle.std.proofs.Common.{◌≡◌, ℕ, zero, suc, List, [], ◌∷◌, ◌++◌, refl, ◌∙◌, Ok, Err, Result, arith}
 use Rattle.stk_frame.specs.declared.command.Command.{Command}
 use Rattle.stk_frame.specs.Frame.{frame}
 use Rattle.stk_frame.specs.Commands.{body}
@@ -87,8 +86,7 @@ gets_one last m o q (Ok reply) after f =
         → PlaysOver (exchange last) m o q (reply_of reply bytes) n
         → PlaysOver (attempt (last ∷ []) []) m o q (reply_of reply bytes) n
     by_reply replies.Data bytes e = played_from (attempt_on last [] [] (Data bytes) e)
-    by_reply (replies.Again fault) bytes e = played_from (attempt_on last [] [] (Again fault) e)
-    by_reply (replies.Stop fault) bytes e = played_from (attempt_on last [] [] (Stop fault) e)
+    by_reply reply bytes e = played_from (attempt_on last [] [] (reply_of reply bytes) e)
 gets_one last m o q (Err broken) after f =
     record { ok = tt; err = attempt_off last [] f.err; sized = f.sized; counts = f.counts; bound = f.bound }
 
@@ -103,8 +101,7 @@ gets_last first last m n o p q was none result after f is nothing same g =
   where
     begun : Reaches (attempt (first ∷ last ∷ []) []) m o (attempt (last ∷ []) []) n p
     begun = attempt_on first (last ∷ []) [] (Data [])
-        (subst (λ bs. PlaysOver (exchange first) m o p (Data bs) n) nothing
-        (subst (λ r. PlaysOver (exchange first) m o p (reply_of r none) n) is f))
+        (rw (is, nothing) at f)
 
     by_result : (result : Result said.Reply Broken) → GetsReply (attempt (last ∷ []) []) last n p q result after
         → GetsReply (attempt (first ∷ last ∷ []) []) last m o q result after
@@ -119,11 +116,8 @@ gets_last first last m n o p q was none result after f is nothing same g =
       ok = tt;
       err = broken_on begun e.err;
       sized = e.sized;
-      counts = record {
-        counted = omega (arith, same, e.counts.counted);
-        sound = tt;
-        failed = subst (λ count. HasRisen count q.failures) same e.counts.failed;
-      };
+      counts = record
+          { counted = omega (arith, same, e.counts.counted); sound = tt; failed = rw same at e.counts.failed };
       bound = e.bound;
     }
 
@@ -132,10 +126,8 @@ pub gets_short : (first last : Command) (was : said.Reply) (none bytes : List �
     → PlaysOver (exchange first) m o p (reply_of was none) n → (was ≡ replies.Data → ⊥)
     → PlaysOver (attempt (first ∷ last ∷ []) []) m o p (reply_of was bytes) n
 gets_short first last replies.Data none bytes f short = absurd (short refl)
-gets_short first last (replies.Again fault) none bytes f short =
-    played_from (attempt_on first (last ∷ []) [] (Again fault) f)
-gets_short first last (replies.Stop fault) none bytes f short =
-    played_from (attempt_on first (last ∷ []) [] (Stop fault) f)
+gets_short first last was none bytes f short =
+    played_from (attempt_on first (last ∷ []) [] (reply_of was none) f)
 
 -- a turn of the loop over the attempts
 
@@ -158,7 +150,7 @@ tries_off more commands last f = broken_bind (end_or_again (tries more commands)
 module _ {a : Dialog ⊥ StepOutcome} {l seq : Position} {j o : LinkView} {k : ℕ} (more : ℕ) (commands : List Command)
     (last : StepFault) (count : k ≡ suc more) (come : Reaches a l j (tries k commands last) seq o) where
   next_try : Reaches a l j (tries (suc more) commands last) seq o
-  next_try = subst (λ t. Reaches a l j (tries t commands last) seq o) count come
+  next_try = rw count at come
 
   try : {n : Position} {q : LinkView} (reply : Reply) → PlaysOver (attempt commands []) seq o q reply n
       → Reaches a l j (end_or_again (tries more commands) reply) n q
@@ -167,22 +159,17 @@ module _ {a : Dialog ⊥ StepOutcome} {l seq : Position} {j o : LinkView} {k : �
   pub try_again : {n : Position} {q : LinkView} {fault : StepFault} {reply : said.Reply} (bytes : List ℕ)
       → PlaysOver (attempt commands []) seq o q (reply_of reply bytes) n → reply ≡ replies.Again fault
       → Reaches a l j (tries more commands fault) n q
-  try_again {n = n} {q = q} {fault = fault} bytes f again =
-      try (Again fault) (subst (λ r. PlaysOver (attempt commands []) seq o q (reply_of r bytes) n) again f)
+  try_again {fault = fault} bytes f again = try (Again fault) (rw again at f)
 
   pub try_data : {n : Position} {q : LinkView} {bytes : List ℕ} {reply : said.Reply}
       → PlaysOver (attempt commands []) seq o q (reply_of reply bytes) n → reply ≡ replies.Data
       → PlaysOver a l j q (Ok bytes) n
-  try_data {n = n} {q = q} {bytes = bytes} f is_data =
-      played_from (try (Data bytes)
-      (subst (λ r. PlaysOver (attempt commands []) seq o q (reply_of r bytes) n) is_data f))
+  try_data {bytes = bytes} f is_data = played_from (try (Data bytes) (rw is_data at f))
 
   pub try_stop : {n : Position} {q : LinkView} {fault : StepFault} {reply : said.Reply} (bytes : List ℕ)
       → PlaysOver (attempt commands []) seq o q (reply_of reply bytes) n → reply ≡ replies.Stop fault
       → PlaysOver a l j q (Err fault) n
-  try_stop {n = n} {q = q} {fault = fault} bytes f stop =
-      played_from (try (Stop fault)
-      (subst (λ r. PlaysOver (attempt commands []) seq o q (reply_of r bytes) n) stop f))
+  try_stop {fault = fault} bytes f stop = played_from (try (Stop fault) (rw stop at f))
 
   pub try_breaks : {by : Broken} {q : LinkView} → FailsOver by (attempt commands []) seq o q → FailsOver by a l j q
   try_breaks f = broken_on next_try (tries_off more commands last f)
@@ -190,5 +177,4 @@ module _ {a : Dialog ⊥ StepOutcome} {l seq : Position} {j o : LinkView} {k : �
 pub try_end : {a : Dialog ⊥ StepOutcome} {l seq : Position} {j o : LinkView} (k : ℕ) (commands : List Command)
     (last : StepFault)
     → Reaches a l j (tries k commands last) seq o → k ≡ 0 → PlaysOver a l j o (Err last) seq
-try_end {a = a} {l = l} {seq = seq} {j = j} {o = o} k commands last f is =
-    played_from (subst (λ d. Reaches a l j d seq o) (ap (λ t. tries t commands last) is ∙ tries_none commands last) f)
+try_end k commands last f is = played_from (rw (is, tries_none commands last) at f)

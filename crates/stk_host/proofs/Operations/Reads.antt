@@ -2,7 +2,7 @@
 use Rattle.std.proofs.Common.{◌≡◌, ℕ, ◌+◌, ◌*◌, ◌<◌, ◌≤◌, lit≤, arith}
 use Rattle.std.specs.Prelude.{min}
 use Rattle.avr_part.specs.declared.part.Mem.{Mem}
-use Rattle.avr_part.specs.declared.part.Mem.TheVariants.{Flash, Eeprom, Lfuse, Hfuse, Efuse, Lock, Signature, Calibration}
+use Rattle.avr_part.specs.declared.part.Mem.TheVariants.{Flash, Eeprom}
 use Rattle.avr_part.specs.Part.{Part, IsPart, size_of}
 use Rattle.stk_host.specs.ReadSteps.{read_unit, read_count, read_at}
 use Rattle.stk_host.specs.Calls.{step_brings}
@@ -18,31 +18,14 @@ pub record BringsMore (part : Part) (mem : Mem) (number : ℕ) : Type 0 where
 
 pub brings_more : (part : Part) (mem : Mem) (number : ℕ) → number < read_count part mem → BringsMore part mem number
 brings_more part Flash number before = record { more = omega arith; within = omega arith }
-brings_more part Eeprom number before = record { more = omega arith; within = omega arith }
-brings_more part Lfuse number before = record { more = omega (arith, before); within = omega arith }
-brings_more part Hfuse number before = record { more = omega (arith, before); within = omega arith }
-brings_more part Efuse number before = record { more = omega (arith, before); within = omega arith }
-brings_more part Lock number before = record { more = omega (arith, before); within = omega arith }
-brings_more part Signature number before = record { more = omega (arith, before); within = omega arith }
-brings_more part Calibration number before = record { more = omega (arith, before); within = omega arith }
+brings_more part mem number before = record { more = omega (arith, before); within = omega arith }
 
 pub all_brought : (part : Part) (mem : Mem) (number : ℕ) → read_count part mem ≤ number
     → read_before part mem number ≡ size_of mem part
 all_brought part Flash number past = omega (arith, past)
-all_brought part Eeprom number past = omega (arith, past)
-all_brought part Lfuse number past = omega (arith, past)
-all_brought part Hfuse number past = omega (arith, past)
-all_brought part Efuse number past = omega (arith, past)
-all_brought part Lock number past = omega (arith, past)
-all_brought part Signature number past = omega (arith, past)
-all_brought part Calibration number past = omega (arith, past)
+all_brought part mem number past = omega (arith, past)
 
 pub few_reads : (part : Part) (mem : Mem) → IsPart part → read_count part mem ≤ 1024
 few_reads part Flash is = omega (arith, is.flash_most)
 few_reads part Eeprom is = omega (arith, is.eeprom_most)
-few_reads part Lfuse is = lit≤ tt
-few_reads part Hfuse is = lit≤ tt
-few_reads part Efuse is = lit≤ tt
-few_reads part Lock is = lit≤ tt
-few_reads part Signature is = lit≤ tt
-few_reads part Calibration is = lit≤ tt
+few_reads part mem is = lit≤ tt

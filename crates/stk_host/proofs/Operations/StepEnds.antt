@@ -1,5 +1,5 @@
 -- One step after another, from what each call ensures.
-use Rattle.std.proofs.Common.{◌≡◌, refl, subst, ℕ, Bool, true, false, if◌then◌else◌, List, [], ◌∷◌, ◌++◌, Ok, Err, Result}
+use Rattle.std.proofs.Common.{◌≡◌, refl, ℕ, Bool, false, if◌then◌else◌, List, [], ◌∷◌, ◌++◌, Ok, Err, Result}
 use Rattle.std.specs.Str.{bytes_eq}
 use Rattle.stk_frame.specs.declared.command.Command.{Command}
 use Rattle.stk_frame.specs.HostCommands.{leave}
@@ -65,10 +65,7 @@ play_done bytes f = played_from f
 told_ends : {A : Type 0} (dialog : Dialog ⊥ (Result A HostFault)) (fault : StepFault) (m n : Position) (o p : LinkView)
     → PlaysOver dialog m o p (Err (host_fault fault)) n → EndsCall dialog m o p (Err (host_fault fault)) n
 told_ends dialog of_step.NoAnswer m n o p e = e
-told_ends dialog of_step.LinkEnded m n o p e = e
-told_ends dialog of_step.Babble m n o p e = e
-told_ends dialog (of_step.Refused command status) m n o p e = e
-told_ends dialog (of_step.BadAnswer command) m n o p e = e
+told_ends dialog _ m n o p e = e
 
 pub stop_ends : {A : Type 0} (first : Dialog ⊥ StepOutcome) (judge : StepOutcome → Result A HostFault)
     → ((fault : StepFault) → judge (Err fault) ≡ Err (host_fault fault)) → (stop : Stop) (m n : Position)
@@ -77,8 +74,7 @@ pub stop_ends : {A : Type 0} (first : Dialog ⊥ StepOutcome) (judge : StepOutco
     → EndsCall (first >>= λ outcome. Done (judge outcome)) m o p (Err (fault_of_stop stop)) n
 stop_ends first judge told (Fault fault) m n o p e =
     told_ends (first >>= λ outcome. Done (judge outcome)) fault m n o p
-    (subst (λ r. PlaysOver (first >>= λ outcome. Done (judge outcome)) m o p r n) (told fault)
-    (played_from (then_reaches (λ outcome. Done (judge outcome)) e)))
+    (rw (told fault) at (played_from (then_reaches (λ outcome. Done (judge outcome)) e)))
 stop_ends first judge told (Link broken.Send) m n o p e = broken_bind (λ outcome. Done (judge outcome)) e
 stop_ends first judge told (Link broken.Recv) m n o p e = broken_bind (λ outcome. Done (judge outcome)) e
 
@@ -87,9 +83,8 @@ judged_ends : {dialog : Dialog ⊥ (Result (List ℕ) HostFault)} {m n : Positio
     (force same : Bool)
     → PlaysOver dialog m o p (if force then Ok found else if same then Ok found else Err (WrongSignature found)) n
     → EndsCall dialog m o p (if force then Ok found else if same then Ok found else Err (WrongSignature found)) n
-judged_ends wanted found true same e = e
-judged_ends wanted found false true e = e
 judged_ends wanted found false false e = e
+judged_ends wanted found _ _ e = e
 
 pub opening_ends : (wanted : List ℕ) (force : Bool) (begun : Result (List ℕ) Stop) (m n : Position) (o p : LinkView)
     → EndsSteps handshake (λ found. found) m o p begun n

@@ -1,14 +1,14 @@
 -- The steps of an operation, one after another.
-use Rattle.std.proofs.Common.{◌≡◌, refl, ℕ, suc, ◌+◌, ◌<◌, ◌≤◌, ◌^◌, lit≤, arith, ap, List, [], ◌∷◌, ◌++◌, length, subst, sym, ◌-◌, Bool, true, false, None, Some, ◌∙◌, Option, Ok, Err, Result}
+use Rattle.std.proofs.Common.{◌≡◌, refl, ℕ, ◌+◌, ◌<◌, ◌≤◌, ◌^◌, lit≤, arith, List, [], ◌∷◌, ◌++◌, length, subst, ◌-◌, true, false, None, Some, ◌∙◌, Option, Ok, Err, Result}
 use Rattle.std.proofs.lemmas.List.{nil_from_length}
-use Rattle.std.specs.Prelude.{OnOk, if◌then◌else◌}
+use Rattle.std.specs.Prelude.{OnOk}
 use Rattle.avr_part.specs.declared.part.Mem.{Mem}
 use Rattle.avr_part.specs.Mem.{is_writable}
-use Rattle.avr_part.specs.declared.part.Mem.TheVariants.{Flash, Eeprom, Lfuse, Hfuse, Efuse, Lock, Signature, Calibration}
+use Rattle.avr_part.specs.declared.part.Mem.TheVariants.{Flash, Eeprom}
 use Rattle.avr_part.specs.Part.{Part, IsPart, size_of}
 use Rattle.stk_frame.specs.declared.command.Command.{Command}
 use Rattle.stk_frame.specs.declared.answer.Shape.{Shape}
-use Rattle.stk_frame.specs.declared.answer.Shape.TheVariants.{Name, Bytes, Closed}
+use Rattle.stk_frame.specs.declared.answer.Shape.TheVariants.{Name}
 use Rattle.stk_frame.specs.Commands.{SizedBy}
 use Rattle.stk_host.specs.declared.fault.Broken.TheVariants as broken
 use Rattle.stk_host.specs.declared.fault.Stop.{Stop}
@@ -25,14 +25,14 @@ use Rattle.stk_host.specs.Places.{each_from}
 use Rattle.stk_host.specs.WriteSteps.{write_steps}
 use Rattle.stk_host.specs.Operations.{judged_by, operation, writing, Difference, difference_from, differs, comparison}
 use Rattle.stk_host.specs.Calls.{StopsSteps, EndsSteps, EndsCall, EndsOrLacks, EndsInnerStep, with_step, with_steps, without_step, IsSizedShape, data_count, fault_of_stop, closing_result, given_or_fault, vector_after, verifying_result}
+use Rattle.stk_host.proofs.ImagePlaces.PagesAndRuns.{next_place}
 use Rattle.stk_host.proofs.Talks.Reached.{reaches_here, reaches_on, played_from, then_reaches}
 use Rattle.stk_host.proofs.Operations.StepEnds.{stops_on, stop_ends, play_on, play_stops, play_done}
 
 -- data of this size
 pub counted_data : (of : Shape) (bytes : List ℕ) → IsSizedShape of → SizedBy of bytes → length bytes ≡ data_count of
 counted_data Name bytes counted sized = absurd counted
-counted_data (Bytes n) bytes counted sized = sized
-counted_data (Closed n) bytes counted sized = sized
+counted_data _ bytes counted sized = sized
 
 -- a step that was played goes on with those that follow
 pub goes_with : (commands : List Command) (before bytes : List ℕ) {m n : Position} {o p : LinkView}
@@ -52,8 +52,7 @@ pub goes_quietly : (commands : List Command) (of : Shape) (bytes : List ℕ) (re
     → EndsSteps (step commands) (λ done. bytes) m o p result n
     → EndsInnerStep (with_step commands []) (without_step []) m o p result n
 goes_quietly commands of bytes (Ok done) m n o p counted zero sized e =
-    subst (λ bs. EndsInnerStep (with_step commands []) (without_step bs) m o p (Ok tt) n)
-    (nil_from_length bytes (counted_data of bytes counted sized ∙ zero)) (goes_with commands [] bytes e)
+    rw (nil_from_length bytes (counted_data of bytes counted sized ∙ zero)) at (goes_with commands [] bytes e)
 goes_quietly commands of bytes (Err stop) m n o p counted zero sized e = stops_with commands [] [] m n o p stop e
 
 -- a step that nothing follows
@@ -63,12 +62,6 @@ pub alone : (commands : List Command) (before after : List ℕ) (result : Result
     → EndsSteps (play (commands ∷ []) before) (λ done. after) m o p result n
 alone commands before after (Ok done) m n o p e = play_done after (e [])
 alone commands before after (Err stop) m n o p e = e []
-
--- the next of the places
-next_place : (steps_at : ℕ → List (List Command)) (place end : ℕ) → place < end
-    → each_from steps_at place (end - place) ≡ steps_at place ++ each_from steps_at (place + 1) (end - (place + 1))
-next_place steps_at place end before =
-    let left : end - place ≡ suc (end - (place + 1)) = omega (arith, before) in ap (each_from steps_at place) left
 
 -- no step at all
 pub none_played : (m : Position) (o : LinkView) → PlaysOver (play [] []) m o o (Ok []) m
@@ -104,9 +97,9 @@ pub plays_all : {a : Dialog ⊥ StepOutcome} {k m : Position} {r o : LinkView} (
     (place end : ℕ) {before : List ℕ}
     → Reaches a k r (play (each_from steps_at place (end - place)) before) m o → end ≤ place
     → PlaysOver a k r o (Ok before) m
-plays_all {a = a} {k = k} {m = m} {r = r} {o = o} steps_at place end {before = before} come past =
+plays_all steps_at place end {before = before} come past =
     let none : end - place ≡ 0 = omega (arith, past) in
-    play_done before (subst (λ n. Reaches a k r (play (each_from steps_at place n) before) m o) none come)
+    play_done before (rw none at come)
 
 -- what an operation comes to, from what its steps come to
 
@@ -136,27 +129,19 @@ pub writing_ends : (part : Part) (mem : Mem) (image : List (Option ℕ)) (result
     → EndsSteps (play (write_steps part mem image) []) (λ done. []) m o p result n
     → EndsCall (writing part mem image) m o p (closing_result result) n
 writing_ends part mem image result m n o p can e =
-    subst (λ (can : Bool). EndsCall (if can then operation (write_steps part mem image) (λ bytes. Ok tt)
-    else Done (Err (ReadOnly mem))) m o p (closing_result result) n) (sym can)
-    (done_ends (write_steps part mem image) result m n o p e)
+    rw can (done_ends (write_steps part mem image) result m n o p e)
 
 pub writes_nothing : (part : Part) (mem : Mem) (image : List (Option ℕ)) (m : Position) (o : LinkView)
     → is_writable mem ≡ false → EndsCall (writing part mem image) m o o (Err (ReadOnly mem)) m
 writes_nothing part mem image m o cannot =
-    subst (λ (can : Bool). PlaysOver (if can then operation (write_steps part mem image) (λ bytes. Ok tt)
-    else Done (Err (ReadOnly mem))) m o o (Err (ReadOnly mem)) m) (sym cannot)
-    (played_from (reaches_here (Done (Err (ReadOnly mem))) m o))
+    rw cannot (played_from (reaches_here (Done (Err (ReadOnly mem))) m o))
 
 -- a stop is no want of memory
 not_lacking : {A : Type 0} (dialog : Dialog ⊥ (Result A HostFault)) (stop : Stop) (m n : Position) (o p : LinkView)
     → EndsCall dialog m o p (Err (fault_of_stop stop)) n → EndsOrLacks dialog m o p (Err (fault_of_stop stop)) n
 not_lacking dialog (Fault of_step.NoAnswer) m n o p e = e
-not_lacking dialog (Fault of_step.LinkEnded) m n o p e = e
-not_lacking dialog (Fault of_step.Babble) m n o p e = e
-not_lacking dialog (Fault (of_step.Refused command status)) m n o p e = e
-not_lacking dialog (Fault (of_step.BadAnswer command)) m n o p e = e
 not_lacking dialog (Link broken.Send) m n o p e = e
-not_lacking dialog (Link broken.Recv) m n o p e = e
+not_lacking dialog _ m n o p e = e
 
 -- a read
 pub reading_ends : (steps : List (List Command)) (bytes : List ℕ) (result : Result (Unit {0}) Stop) (m n : Position)
@@ -190,9 +175,8 @@ verifying_ends steps mem image bytes (Err stop) m n o p e =
 pub begins_at : (steps_at : ℕ → List (List Command)) (count : ℕ) (before : List ℕ) (m : Position) (o : LinkView)
     → Reaches (play (each_from steps_at 0 count) before) m o (play (each_from steps_at 0 (count - 0)) before) m o
 begins_at steps_at count before m o =
-    let all : count ≡ count - 0 = omega arith in
-    subst (λ (n : ℕ). Reaches (play (each_from steps_at 0 count) before) m o (play (each_from steps_at 0 n) before) m o)
-    all (reaches_here (play (each_from steps_at 0 count) before) m o)
+    let all : count - 0 ≡ count = omega arith in
+    rw all (reaches_here (play (each_from steps_at 0 count) before) m o)
 
 -- how many bytes are kept of a memory that was read
 
@@ -209,9 +193,4 @@ read_short (Err stop) items n bound size = lit≤ tt
 pub size_fits : (mem : Mem) (part : Part) → IsPart part → size_of mem part < 2 ^ 32
 size_fits Flash part is = omega (arith, is.flash_most)
 size_fits Eeprom part is = omega (arith, is.eeprom_most)
-size_fits Lfuse part is = lit≤ tt
-size_fits Hfuse part is = lit≤ tt
-size_fits Efuse part is = lit≤ tt
-size_fits Lock part is = lit≤ tt
-size_fits Signature part is = lit≤ tt
-size_fits Calibration part is = lit≤ tt
+size_fits mem part is = lit≤ tt

@@ -17,12 +17,8 @@ pub sent_less : {E R : Type 0} {dialog : Dialog E R} {before : Position} {talk :
     → BreaksSending dialog before talk shown
     → length (sent talk) < length (bytes_sent (played_over dialog before talk).events)
 sent_less {dialog = dialog} {before = before} {talk = talk} f =
-    let all : bytes_sent (played_over dialog before talk).events
-    ≡ bytes_sent f.whole ++ ((f.part ++ f.unsent) ++ bytes_sent f.later) =
-    ap bytes_sent f.events_are ∙ bytes_append f.whole (Frame (f.part ++ f.unsent) ∷ f.later) in
-    let some : sent talk ≡ bytes_sent f.whole ++ (f.part ++ []) =
-    sym f.all_sent ∙ (ap bytes_sent f.shown_is ∙ bytes_append f.whole (Frame f.part ∷ [])) in
-    rw (all, some)
+    rw (f.events_are, bytes_append f.whole (Frame (f.part ++ f.unsent) ∷ f.later), ← f.all_sent, f.shown_is)
+    (rw (bytes_append f.whole (Frame f.part ∷ []))
     (omega (
       arith,
       f.not_whole,
@@ -31,7 +27,7 @@ sent_less {dialog = dialog} {before = before} {talk = talk} f =
       length-append (bytes_sent f.whole) ((f.part ++ f.unsent) ++ bytes_sent f.later),
       length-append (f.part ++ f.unsent) (bytes_sent f.later),
       length-append f.part f.unsent,
-    ))
+    )))
 
 -- so it doesn't listen
 pub never_both : {E R : Type 0} {dialog : Dialog E R} {before : Position} {talk : Talk} {some others : List (Event E)}
@@ -114,8 +110,7 @@ unsent_at_all = record {
     later = [];
     shown_is = refl;
     events_are = refl;
-    not_whole =
-        omega arith;
+    not_whole = omega arith;
     all_sent = refl;
     in_turn = tt;
   };

@@ -59,15 +59,12 @@ pub turns_append : {E R : Type 0} (dialog : Dialog E R) (seq : ℕ) (tape : Tape
     → TurnsFrom dialog seq tape bytes x → TurnsFrom dialog seq (tape ++ heard x) (bytes ++ sent x) y
     → TurnsFrom dialog seq tape bytes (x ++ y)
 turns_append dialog seq tape bytes [] y f g =
-    subst (λ t. TurnsFrom dialog seq t bytes y) (append-nil tape)
-    (subst (λ s. TurnsFrom dialog seq (tape ++ []) s y) (append-nil bytes) g)
+    rw (append-nil tape, append-nil bytes) at g
 turns_append dialog seq tape bytes (Sent more ∷ x) y f g =
-    turns_append dialog seq tape (bytes ++ more) x y f
-    (subst (λ s. TurnsFrom dialog seq (tape ++ heard x) s y) (sym (append_assoc bytes more (sent x))) g)
+    turns_append dialog seq tape (bytes ++ more) x y f (rw (← append_assoc bytes more (sent x)) at g)
 turns_append dialog seq tape bytes (Got items ∷ x) y f g = (
   f.0,
-  turns_append dialog seq (tape ++ items) bytes x y f.1
-      (subst (λ t. TurnsFrom dialog seq t (bytes ++ sent x) y) (sym (append_assoc tape items (heard x))) g),
+  turns_append dialog seq (tape ++ items) bytes x y f.1 (rw (← append_assoc tape items (heard x)) at g),
 )
 
 -- where the one is due whenever the other is
@@ -79,13 +76,10 @@ module _ {E F A B : Type 0} (dialog : Dialog E A) (inner : Dialog F B) (m n : �
       → TurnsFrom dialog m (tape ++ x) (before ++ bytes) talk
   turns_lift x bytes [] f = tt
   turns_lift x bytes (Sent more ∷ talk) f =
-      subst (λ s. TurnsFrom dialog m (tape ++ x) s talk) (sym (append_assoc before bytes more))
-      (turns_lift x (bytes ++ more) talk f)
+      rw (append_assoc before bytes more) (turns_lift x (bytes ++ more) talk f)
   turns_lift x bytes (Got items ∷ talk) f = (
     due x bytes f.0,
-    subst (λ t. TurnsFrom dialog m t (before ++ bytes) talk) (sym (append_assoc tape x items))
-        (turns_lift (x ++ items) bytes talk
-        (subst (λ t. TurnsFrom inner n t bytes talk) (append_assoc inner_tape x items) f.1)),
+    rw (append_assoc tape x items) (turns_lift (x ++ items) bytes talk (rw (append_assoc inner_tape x items) at f.1)),
   )
 
   -- the same from the start
@@ -100,18 +94,13 @@ waits_bind : {E A B : Type 0} (dialog : Dialog E A) (go_on : A → Dialog E B) (
     → (played dialog seq x).outcome ≡ None
     → played (dialog >>= go_on) seq x ≡ record { events = (played dialog seq x).events; outcome = None }
 waits_bind dialog go_on seq x waits =
-    played_bind dialog go_on seq x
-    ∙ (ap (λ o. behind (played dialog seq x).events (continued o (λ a. played (go_on a)))) waits
-    ∙ ap (λ es. record { events = es; outcome = None }) (append-nil (played dialog seq x).events))
+    rw (played_bind dialog go_on seq x, waits, append-nil (played dialog seq x).events) refl
 
 due_bind : {E A B : Type 0} (dialog : Dialog E A) (go_on : A → Dialog E B) (seq : ℕ) (x : Tape) (bytes : List ℕ)
     → IsDue dialog seq x bytes → IsDue (dialog >>= go_on) seq x bytes
 due_bind dialog go_on seq x bytes due =
     let e = waits_bind dialog go_on seq x due.waits in
-    record {
-      waits = ap (λ p. p.outcome) e;
-      all_sent = ap (λ p. bytes_sent p.events) e ∙ due.all_sent;
-    }
+    record { waits = ap (λ p. p.outcome) e; all_sent = ap (λ p. bytes_sent p.events) e ∙ due.all_sent }
 
 turns_bind : {E A B : Type 0} (dialog : Dialog E A) (go_on : A → Dialog E B) (m : Position) (talk : Talk)
     → InTurn dialog m talk → InTurn (dialog >>= go_on) m talk
@@ -123,9 +112,8 @@ turns_bind dialog go_on m talk f =
 due_asking : {E R : Type 0} (body : List ℕ) (answered : Reading → Dialog E R) (seq : ℕ) (tape : Tape)
     → answer seq tape ≡ None → IsDue (Ask body answered) seq tape (frame seq body)
 due_asking body answered seq tape none = record {
-  waits = ap (λ o. (by_answer (λ r. played (answered r) (next seq)) o).outcome) none;
-  all_sent = ap (λ o. frame seq body ++ bytes_sent (by_answer (λ r. played (answered r) (next seq)) o).events) none
-      ∙ append-nil (frame seq body);
+  waits = rw none refl;
+  all_sent = rw none (append-nil (frame seq body));
 }
 
 turns_waiting : {E R : Type 0} (body : List ℕ) (answered : Reading → Dialog E R) (seq : ℕ) (tape : Tape) (talk : Talk)
@@ -151,9 +139,8 @@ turns_asking body answered seq u x y quiet is waits =
 begun_more : {E : Type 0} (SaidPart : E → E → Type 0) (begun later more : List (Event E)) → IsBegun SaidPart begun later
     → IsBegun SaidPart begun (later ++ more)
 begun_more SaidPart [] later more part = tt
-begun_more SaidPart (e ∷ []) [] more part = absurd part
 begun_more SaidPart (e ∷ []) (x ∷ later) more part = part
-begun_more SaidPart (e ∷ f ∷ begun) later more part = absurd part
+begun_more SaidPart _ _ more part = absurd part
 
 -- a prefix of the events is one where more follow
 pub prefix_more : {E : Type 0} (SaidPart : E → E → Type 0) {shown events : List (Event E)} (more : List (Event E))
@@ -191,16 +178,11 @@ module _ {E R : Type 0} {a b : Dialog E R} {m n : Position} {x : Talk} {events :
   due_behind : (tape : Tape) (bytes : List ℕ) → IsDue b n.next (on_tape n.unread ++ tape) bytes
       → IsDue a m.next ((on_tape m.unread ++ heard x) ++ tape) (sent x ++ bytes)
   due_behind tape bytes due =
-      let e : played a m.next ((on_tape m.unread ++ heard x) ++ tape)
-      ≡ behind events (played b n.next (on_tape n.unread ++ tape)) =
-      ap (played a m.next) (append_assoc (on_tape m.unread) (heard x) tape) ∙ f.goes_on tape in
+      let e = ap (played a m.next) (append_assoc (on_tape m.unread) (heard x) tape) ∙ f.goes_on tape in
       record {
         waits = ap (λ p. p.outcome) e ∙ due.waits;
-        all_sent =
-            ap (λ p. bytes_sent p.events) e
-            ∙ (bytes_append events (played b n.next (on_tape n.unread ++ tape)).events
-            ∙ (ap (λ bs. bs ++ bytes_sent (played b n.next (on_tape n.unread ++ tape)).events) f.all_sent
-            ∙ ap (λ bs. sent x ++ bs) due.all_sent));
+        all_sent = rw (e, bytes_append events (played b n.next (on_tape n.unread ++ tape)).events, f.all_sent)
+            (rw due.all_sent refl);
       }
 
   -- what is played over both talks, what they send, and that both listen in turn
@@ -209,9 +191,7 @@ module _ {E R : Type 0} {a b : Dialog E R} {m n : Position} {x : Talk} {events :
 
   led_bytes : (y : Talk) (later : List (Event E)) → bytes_sent later ≡ sent y
       → bytes_sent (events ++ later) ≡ sent (x ++ y)
-  led_bytes y later is =
-      bytes_append events later ∙ (ap (λ bs. bs ++ bytes_sent later) f.all_sent
-      ∙ (ap (λ bs. sent x ++ bs) is ∙ sym (sent_append x y)))
+  led_bytes y later is = rw (bytes_append events later, f.all_sent, is, sent_append x y) refl
 
   led_turns : (y : Talk) → InTurn b n y → InTurn a m (x ++ y)
   led_turns y in_turn =
@@ -221,11 +201,8 @@ module _ {E R : Type 0} {a b : Dialog E R} {m n : Position} {x : Talk} {events :
   pub leads_on : {c : Dialog E R} {l : Position} {y : Talk} {ys : List (Event E)}
       → TalkLeads b n y ys c l → TalkLeads a m (x ++ y) (events ++ ys) c l
   leads_on {c = c} {l = l} {y = y} {ys = ys} g = record {
-    goes_on = λ more.
-        ap (played a m.next) (heard_both (on_tape m.unread) x y more)
-        ∙ (f.goes_on (heard y ++ more)
-        ∙ (ap (behind events) (g.goes_on more)
-        ∙ behind_behind events ys (played c l.next (on_tape l.unread ++ more))));
+    goes_on = λ more. rw (heard_both (on_tape m.unread) x y more, f.goes_on (heard y ++ more), g.goes_on more)
+        (behind_behind events ys (played c l.next (on_tape l.unread ++ more)));
     all_sent = led_bytes y ys g.all_sent;
     in_turn = led_turns y g.in_turn;
   }
@@ -238,10 +215,7 @@ module _ {E R : Type 0} {a b : Dialog E R} {m n : Position} {x : Talk} {events :
     unsent = g.unsent;
     later = g.later;
     shown_is = ap (λ es. events ++ es) g.shown_is ∙ sym (append_assoc events g.whole (Frame g.part ∷ []));
-    events_are =
-        ap (λ p. p.events) (led y)
-        ∙ (ap (λ es. events ++ es) g.events_are ∙ sym
-        (append_assoc events g.whole (Frame (g.part ++ g.unsent) ∷ g.later)));
+    events_are = rw (led y, g.events_are) (sym (append_assoc events g.whole (Frame (g.part ++ g.unsent) ∷ g.later)));
     not_whole = g.not_whole;
     all_sent = led_bytes y shown g.all_sent;
     in_turn = led_turns y g.in_turn;
@@ -258,11 +232,9 @@ module _ {E R : Type 0} {a b : Dialog E R} {m n : Position} {x : Talk} {events :
   pub leads_bind : {B : Type 0} (go_on : R → Dialog E B) → TalkLeads a m x events b n
       → TalkLeads (a >>= go_on) m x events (b >>= go_on) n
   leads_bind go_on f = record {
-    goes_on = λ more.
-        played_bind a go_on m.next (on_tape m.unread ++ (heard x ++ more))
-        ∙ (ap (λ q. followed q (λ r. played (go_on r))) (f.goes_on more)
-        ∙ (followed_behind events (played b n.next (on_tape n.unread ++ more)) (λ r. played (go_on r))
-        ∙ ap (behind events) (sym (played_bind b go_on n.next (on_tape n.unread ++ more)))));
+    goes_on = λ more. rw (played_bind a go_on m.next (on_tape m.unread ++ (heard x ++ more)), f.goes_on more)
+        (followed_behind events (played b n.next (on_tape n.unread ++ more)) (λ r. played (go_on r))
+        ∙ ap (behind events) (sym (played_bind b go_on n.next (on_tape n.unread ++ more))));
     all_sent = f.all_sent;
     in_turn = turns_bind a go_on m x f.in_turn;
   }
@@ -270,8 +242,7 @@ module _ {E R : Type 0} {a b : Dialog E R} {m n : Position} {x : Talk} {events :
   pub breaks_on : (SaidPart : E → E → Type 0) {y : Talk} {shown : List (Event E)} → TalkLeads a m x events b n
       → Breaks SaidPart b n y shown → Breaks SaidPart a m (x ++ y) (events ++ shown)
   breaks_on SaidPart {y = y} {shown = shown} f g = record {
-    prefix = subst (λ p. IsPrefixOfEvents SaidPart (events ++ shown) p.events) (sym (led f y))
-        (prefix_behind SaidPart events g.prefix);
+    prefix = rw (led f y) (prefix_behind SaidPart events g.prefix);
     all_sent = led_bytes f y shown g.all_sent;
     in_turn = led_turns f y g.in_turn;
   }
@@ -284,18 +255,16 @@ leads_say e dialog m = record { goes_on = λ more. refl; all_sent = refl; in_tur
 -- a result was reached
 pub plays_from : {E R : Type 0} {a : Dialog E R} {m n : Position} {talk : Talk} {events : List (Event E)} {result : R}
     → TalkLeads a m talk events (Done result) n → Plays a m talk events result n
-plays_from {n = n} {events = events} {result = result} f = record {
-  plays = λ more. f.goes_on more ∙ ap (λ es. record
-      { events = es; outcome = Some (result, n.next, on_tape n.unread ++ more) }) (append-nil events);
+plays_from {events = events} f = record {
+  plays = λ more. rw (f.goes_on more, append-nil events) refl;
   all_sent = f.all_sent;
   in_turn = f.in_turn;
 }
 
 pub leads_from : {E R : Type 0} {a : Dialog E R} {m n : Position} {talk : Talk} {events : List (Event E)} {result : R}
     → Plays a m talk events result n → TalkLeads a m talk events (Done result) n
-leads_from {n = n} {events = events} {result = result} f = record {
-  goes_on = λ more. f.plays more ∙ ap (λ es. record
-      { events = es; outcome = Some (result, n.next, on_tape n.unread ++ more) }) (sym (append-nil events));
+leads_from {events = events} f = record {
+  goes_on = λ more. rw (f.plays more, append-nil events) refl;
   all_sent = f.all_sent;
   in_turn = f.in_turn;
 }
@@ -305,12 +274,8 @@ leads_from {n = n} {events = events} {result = result} f = record {
 pub breaks_bind : {E A B : Type 0} (SaidPart : E → E → Type 0) {a : Dialog E A} {m : Position} {talk : Talk}
     {shown : List (Event E)} (go_on : A → Dialog E B)
     → Breaks SaidPart a m talk shown → Breaks SaidPart (a >>= go_on) m talk shown
-breaks_bind SaidPart {a = a} {m = m} {talk = talk} {shown = shown} go_on f = record {
-  prefix =
-      let p = played_over a m talk in
-      subst (λ q. IsPrefixOfEvents SaidPart shown q.events)
-      (sym (played_bind a go_on m.next (on_tape m.unread ++ heard talk)))
-      (prefix_more SaidPart (continued p.outcome (λ r. played (go_on r))).events f.prefix);
+breaks_bind SaidPart {a = a} {m = m} {talk = talk} go_on f = record {
+  prefix = rw (played_bind a go_on m.next (on_tape m.unread ++ heard talk)) (prefix_more SaidPart _ f.prefix);
   all_sent = f.all_sent;
   in_turn = turns_bind a go_on m talk f.in_turn;
 }
@@ -343,9 +308,8 @@ by_bind broken.Send a m talk shown go_on f =
       unsent = f.unsent;
       later = f.later ++ more;
       shown_is = f.shown_is;
-      events_are =
-          ap (λ q. q.events) (played_bind a go_on m.next (on_tape m.unread ++ heard talk))
-          ∙ (ap (λ es. es ++ more) f.events_are ∙ append_assoc f.whole (Frame (f.part ++ f.unsent) ∷ f.later) more);
+      events_are = rw (played_bind a go_on m.next (on_tape m.unread ++ heard talk), f.events_are)
+          (append_assoc f.whole (Frame (f.part ++ f.unsent) ∷ f.later) more);
       not_whole = f.not_whole;
       all_sent = f.all_sent;
       in_turn = turns_bind a go_on m talk f.in_turn;
@@ -369,14 +333,8 @@ module _ {E R : Type 0} (body : List ℕ) (answered : Reading → Dialog E R) (s
       → TalkLeads (Ask body answered) (position seq u) (x ++ y) (Frame (frame seq body) ∷ []) (answered reading)
       (position (next seq) v)
   leads_ask v x y reading quiet is waits answers = record {
-    goes_on = λ more.
-        ap (played (Ask body answered) seq) (heard_both (on_tape u) x y more
-        ∙ ap (λ t. on_tape u ++ (t ++ (heard y ++ more))) (heard_quiet x quiet))
-        ∙ ap (λ o. behind (Frame (frame seq body) ∷ []) (by_answer (λ r. played (answered r) (next seq)) o))
-        (answers more);
-    all_sent = append-nil (frame seq body) ∙
-        (sym is ∙ (sym (append-nil (sent x)) ∙ (ap (λ bs. sent x ++ bs) (sym (sent_waiting seq (on_tape u) y waits))
-        ∙ sym (sent_append x y))));
+    goes_on = λ more. rw (heard_both (on_tape u) x y more, heard_quiet x quiet, answers more) refl;
+    all_sent = rw (sent_append x y, is, sent_waiting seq (on_tape u) y waits) refl;
     in_turn = turns_asking body answered seq u x y quiet is waits;
   }
 
@@ -402,15 +360,11 @@ module _ {E R : Type 0} (body : List ℕ) (answered : Reading → Dialog E R) (s
       → answer seq (on_tape u ++ heard y) ≡ None
       → BreaksListening (Ask body answered) (position seq u) (x ++ y) (Frame (frame seq body) ∷ [])
   breaks_listening x y quiet is waits none =
-      let all : heard (x ++ y) ≡ heard y = heard_append x y ∙ ap (λ t. t ++ heard y) (heard_quiet x quiet) in
       let unheard : answer seq (on_tape u ++ heard (x ++ y)) ≡ None =
-      ap (λ t. answer seq (on_tape u ++ t)) all ∙ none in
+      rw (heard_append x y, heard_quiet x quiet) none in
       record {
-        waits = ap (λ o. (by_answer (λ r. played (answered r) (next seq)) o).outcome) unheard;
-        shown_is = ap (λ o. Frame (frame seq body) ∷ (by_answer (λ r. played (answered r) (next seq)) o).events)
-            (sym unheard);
-        all_sent = append-nil (frame seq body) ∙
-            (sym is ∙ (sym (append-nil (sent x)) ∙ (ap (λ bs. sent x ++ bs)
-            (sym (sent_waiting seq (on_tape u) y waits)) ∙ sym (sent_append x y))));
+        waits = rw unheard refl;
+        shown_is = rw unheard refl;
+        all_sent = rw (sent_append x y, is, sent_waiting seq (on_tape u) y waits) refl;
         in_turn = turns_asking body answered seq u x y quiet is waits;
       }

@@ -1,5 +1,5 @@
 -- Laws of talks.
-use Rattle.std.proofs.Common.{◌≡◌, ℕ, [], ◌∷◌, ◌++◌, refl, sym, ap, ◌∙◌, subst, append_assoc}
+use Rattle.std.proofs.Common.{◌≡◌, ℕ, [], ◌∷◌, ◌++◌, refl, sym, ap, ◌∙◌, append_assoc}
 use Rattle.std.proofs.lemmas.List.{append-nil}
 use Rattle.stk_host.specs.Tape.{Tape}
 use Rattle.stk_host.specs.Talk.{Talk, Sent, Got, sent, heard, Grows}
@@ -46,10 +46,7 @@ sent_waiting seq tape (Got items ∷ talk) waits = sent_waiting seq (tape ++ ite
 
 pub waits_append : (seq : ℕ) (tape : Tape) (x y : Talk) → WaitsFrom seq tape x → WaitsFrom seq (tape ++ heard x) y
     → WaitsFrom seq tape (x ++ y)
-waits_append seq tape [] y f g = subst (λ t. WaitsFrom seq t y) (append-nil tape) g
+waits_append seq tape [] y f g = rw (append-nil tape) at g
 waits_append seq tape (Sent bytes ∷ x) y f g = absurd f
-waits_append seq tape (Got items ∷ x) y f g = (
-  f.0,
-  waits_append seq (tape ++ items) x y f.1
-      (subst (λ t. WaitsFrom seq t y) (sym (append_assoc tape items (heard x))) g),
-)
+waits_append seq tape (Got items ∷ x) y f g =
+    (f.0, waits_append seq (tape ++ items) x y f.1 (rw (← append_assoc tape items (heard x)) at g))

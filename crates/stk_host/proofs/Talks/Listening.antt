@@ -51,43 +51,8 @@ ReadOn left new_left n held new what = (used : List ℕ) × (length used ≡ n) 
 
 -- laws of a listening
 module _ {seq : ℕ} {u : List ℕ} {o : LinkView} where
-  -- where nothing is unread, the answer isn't there yet
-  not_yet : {held : List ℕ} {count : ℕ} {p : LinkView}
-      (l : Listening seq u o held count [] p)
-      → count < limit → answer seq (on_tape u ++ heard_in l.during) ≡ None
-  not_yet l few = ap (answer seq) (l.all_heard ∙ ap on_tape (append-nil l.text))
-      ∙ answer_waits seq l.text l.no_answer (omega (arith, l.counted))
-
-  -- and one more piece may be heard
-  waits_more : {held : List ℕ} {count : ℕ} {p : LinkView}
-      (l : Listening seq u o held count [] p) (items : Tape)
-      → count < limit → WaitsFrom seq (on_tape u) (l.during ++ Got items ∷ [])
-  waits_more l items few =
-      waits_append seq (on_tape u) l.during (Got items ∷ []) l.waits (not_yet l few, tt)
-
-  hears_bytes : {held : List ℕ} {count : ℕ} {p q : LinkView} (bytes : List ℕ)
-      → Listening seq u o held count [] p → count < limit → count + length bytes ≤ limit
-      → Grows p.talk (Got (on_tape bytes) ∷ []) q.talk → Listening seq u o held count bytes q
-  hears_bytes {p = p} {q = q} bytes l few most g = record {
-    text = l.text;
-    stands = l.stands;
-    counted = l.counted;
-    few = most;
-    no_answer = l.no_answer;
-    during = l.during ++ Got (on_tape bytes) ∷ [];
-    grows = grows_on o.talk p.talk q.talk l.during (Got (on_tape bytes) ∷ []) l.grows g;
-    waits = waits_more l (on_tape bytes) few;
-    all_heard =
-        ap (λ t. on_tape u ++ t) (heard_append l.during (Got (on_tape bytes) ∷ [])
-        ∙ ap (λ t. heard_in l.during ++ t) (append-nil (on_tape bytes)))
-        ∙ (sym (append_assoc (on_tape u) (heard_in l.during) (on_tape bytes))
-        ∙ (ap (λ t. t ++ on_tape bytes) (l.all_heard ∙ ap on_tape (append-nil l.text))
-        ∙ sym (on_tape_append l.text bytes)));
-  }
-
   -- how much was heard
-  heard_count : {held : List ℕ} {count : ℕ} {left : List ℕ} {p : LinkView}
-      (l : Listening seq u o held count left p)
+  heard_count : {held : List ℕ} {count : ℕ} {left : List ℕ} {p : LinkView} (l : Listening seq u o held count left p)
       → length u + length (heard_in l.during) ≡ count + length left
   heard_count {left = left} l =
       let all : length (on_tape u ++ heard_in l.during) ≡ length (on_tape (l.text ++ left)) = ap length l.all_heard in
@@ -101,74 +66,81 @@ module _ {seq : ℕ} {u : List ℕ} {o : LinkView} where
         l.counted,
       )
 
-  -- a silence or an end
-  stops : {held : List ℕ} {count : ℕ} {p q : LinkView} (item : Item)
-      (reading : Reading)
-      → (l : Listening seq u o held count [] p) → count < limit → Grows p.talk (Got (item ∷ []) ∷ []) q.talk
-      → ((more : Tape) → answer seq (on_tape l.text ++ item ∷ more) ≡ Some (reading, more)) → Hears seq u o q reading []
-  stops {p = p} {q = q} item reading l few g answers = record {
-    during = l.during ++ Got (item ∷ []) ∷ [];
-    grows = grows_on o.talk p.talk q.talk l.during (Got (item ∷ []) ∷ []) l.grows g;
-    waits = waits_more l (item ∷ []) few;
-    few = omega (
-      arith,
-      heard_count l,
-      few,
-      ap length (heard_append l.during (Got (item ∷ []) ∷ [])),
-      length-append (heard_in l.during) (item ∷ []),
-    );
-    answers = λ more.
-        ap (answer seq)
-        (heard_both (on_tape u) l.during (Got (item ∷ []) ∷ []) more
-        ∙ (sym (append_assoc (on_tape u) (heard_in l.during) (item ∷ more))
-        ∙ ap (λ t. t ++ item ∷ more) (l.all_heard ∙ ap on_tape (append-nil l.text))))
-        ∙ answers more;
-  }
-
-  none_left : {held : List ℕ} {count : ℕ} {left : List ℕ} {p : LinkView}
-      → Listening seq u o held count left p → length left ≡ 0 → Listening seq u o held count [] p
-  none_left {held = held} {count = count} {left = left} {p = p} l none =
-      subst (λ bs. Listening seq u o held count bs p) (nil_from_length left none) l
-
   -- where nothing is left unread, and a piece is heard
-  module _ {held : List ℕ} {count : ℕ} {left : List ℕ} {p : LinkView} (l : Listening seq u o held count left p)
+  module _ {held : List ℕ} {count : ℕ} {left : List ℕ} {p : LinkView} (of_left : Listening seq u o held count left p)
       (none : length left ≡ 0) (few : count < limit) where
+    l : Listening seq u o held count [] p
+    l = subst (λ bs. Listening seq u o held count bs p) (nil_from_length left none) of_left
+
+    text_heard : on_tape u ++ heard_in l.during ≡ on_tape l.text
+    text_heard = l.all_heard ∙ ap on_tape (append-nil l.text)
+
+    -- the answer isn't there yet, and one more piece may be heard
+    not_yet : answer seq (on_tape u ++ heard_in l.during) ≡ None
+    not_yet = ap (answer seq) text_heard ∙ answer_waits seq l.text l.no_answer (omega (arith, l.counted))
+
+    waits_more : (items : Tape) → WaitsFrom seq (on_tape u) (l.during ++ Got items ∷ [])
+    waits_more items = waits_append seq (on_tape u) l.during (Got items ∷ []) l.waits (not_yet, tt)
+
     pub heard_bytes : {q : LinkView} {what : Heard} {n : ℕ} {new : List ℕ} → count + length new ≤ limit
         → what ≡ heard.Bytes n → HearsPiece what new p q → Listening seq u o held count new q
-    heard_bytes {new = new} most is piece = let h = rw is at piece in hears_bytes new (none_left l none) few most h.1
+    heard_bytes {q = q} {new = new} most is piece = record {
+      text = l.text;
+      stands = l.stands;
+      counted = l.counted;
+      few = most;
+      no_answer = l.no_answer;
+      during = l.during ++ Got (on_tape new) ∷ [];
+      grows = grows_on o.talk p.talk q.talk l.during (Got (on_tape new) ∷ []) l.grows (let h = rw is at piece in h.1);
+      waits = waits_more (on_tape new);
+      all_heard = rw (heard_append l.during (Got (on_tape new) ∷ []), append-nil (on_tape new))
+          (rw (← append_assoc (on_tape u) (heard_in l.during) (on_tape new), text_heard)
+          (sym (on_tape_append l.text new)));
+    }
+
+    -- a silence or an end
+    stops : {q : LinkView} {new : List ℕ} (item : Item) (reading : Reading)
+        → (new ≡ []) × Grows p.talk (Got (item ∷ []) ∷ []) q.talk
+        → ((more : Tape) → answer seq (on_tape l.text ++ item ∷ more) ≡ Some (reading, more))
+        → Hears seq u o q reading new
+    stops {q = q} item reading piece answers = rw piece.0 (record {
+      during = l.during ++ Got (item ∷ []) ∷ [];
+      grows = grows_on o.talk p.talk q.talk l.during (Got (item ∷ []) ∷ []) l.grows piece.1;
+      waits = waits_more (item ∷ []);
+      few = omega (
+        arith,
+        heard_count l,
+        ap length (heard_append l.during (Got (item ∷ []) ∷ [])),
+        length-append (heard_in l.during) (item ∷ []),
+      );
+      answers = λ more. rw (heard_both (on_tape u) l.during (Got (item ∷ []) ∷ []) more)
+          (rw (← append_assoc (on_tape u) (heard_in l.during) (item ∷ more), text_heard) (answers more));
+    })
 
     pub heard_silence : {q : LinkView} {what : Heard} {new : List ℕ} → what ≡ heard.Silence → HearsPiece what new p q
         → Hears seq u o q Silent new
-    heard_silence {q = q} is piece =
-        let h = rw is at piece in
-        let m = none_left l none in
-        subst (λ bs. Hears seq u o q Silent bs) (sym h.0)
-        (stops Silence Silent m few h.1 (λ more. answer_silent seq m.text more m.no_answer (omega (arith, m.counted))))
+    heard_silence is piece =
+        stops Silence Silent (rw is at piece)
+        (λ more. answer_silent seq l.text more l.no_answer (omega (arith, l.counted)))
 
     pub heard_end : {q : LinkView} {what : Heard} {new : List ℕ} → what ≡ heard.End → HearsPiece what new p q
         → Hears seq u o q Ended new
-    heard_end {q = q} is piece =
-        let h = rw is at piece in
-        let m = none_left l none in
-        subst (λ bs. Hears seq u o q Ended bs) (sym h.0)
-        (stops End Ended m few h.1 (λ more. answer_ended seq m.text more m.no_answer (omega (arith, m.counted))))
+    heard_end is piece =
+        stops End Ended (rw is at piece)
+        (λ more. answer_ended seq l.text more l.no_answer (omega (arith, l.counted)))
 
     -- nothing is heard: the link failed
     pub hears_none : {q : LinkView} → Grows p.talk [] q.talk → HearsNone seq u o q
-    hears_none {q = q} g =
-        let m = none_left l none in
-        record {
-          during = m.during;
-          grows = subst (λ d. Grows o.talk d q.talk) (append-nil m.during)
-              (grows_on o.talk p.talk q.talk m.during [] m.grows g);
-          waits = m.waits;
-          few = omega (arith, heard_count m, m.few);
-          no_answer = not_yet m few;
-        }
+    hears_none {q = q} g = record {
+      during = l.during;
+      grows = g ∙ append-nil p.talk ∙ l.grows;
+      waits = l.waits;
+      few = omega (arith, heard_count l, l.few);
+      no_answer = not_yet;
+    }
 
   -- bytes that bring no answer
-  reads : {held : List ℕ} {count : ℕ} {p : LinkView} (used left new : List ℕ)
-      (found : List (List ℕ))
+  reads : {held : List ℕ} {count : ℕ} {p : LinkView} (used left new : List ℕ) (found : List (List ℕ))
       → Listening seq u o held count (used ++ left) p → Fed held used new found → first_answer seq found ≡ None
       → Listening seq u o new (count + length used) left p
   reads used left new found l fed other = record {
@@ -188,14 +160,11 @@ module _ {seq : ℕ} {u : List ℕ} {o : LinkView} where
       (new_left new : List ℕ) (what : Event)
       → Listening seq u o held count left p → ReadOn left new_left n held new what
       → first_answer seq (frames_of_event what new) ≡ None → Listening seq u o new (count + n) new_left p
-  reads_on {held = held} {count = count} {p = p} n new_left new what l read other =
-      subst (λ m. Listening seq u o new (count + m) new_left p) read.1
-      (reads read.0 new_left new (frames_of_event what new) (subst (λ bs. Listening seq u o held count bs p) read.2 l)
-      read.3 other)
+  reads_on n new_left new what l read other =
+      rw (← read.1) (reads read.0 new_left new (frames_of_event what new) (rw read.2 at l) read.3 other)
 
   -- a listening whose reading is known
-  gives : {held : List ℕ} {count : ℕ} {left : List ℕ} {p : LinkView}
-      (x rest_left : List ℕ) (reading : Reading)
+  gives : {held : List ℕ} {count : ℕ} {left : List ℕ} {p : LinkView} (x rest_left : List ℕ) (reading : Reading)
       → (l : Listening seq u o held count left p) → on_tape u ++ heard_in l.during ≡ on_tape (x ++ rest_left)
       → ((more : Tape) → answer seq (on_tape x ++ more) ≡ Some (reading, more)) → Hears seq u o p reading rest_left
   gives x rest_left reading l all answers = record {
@@ -203,12 +172,8 @@ module _ {seq : ℕ} {u : List ℕ} {o : LinkView} where
     grows = l.grows;
     waits = l.waits;
     few = omega (arith, heard_count l, l.few);
-    answers = λ more.
-        ap (answer seq)
-        (sym (append_assoc (on_tape u) (heard_in l.during) more)
-        ∙ (ap (λ t. t ++ more) (all ∙ on_tape_append x rest_left)
-        ∙ append_assoc (on_tape x) (on_tape rest_left) more))
-        ∙ answers (on_tape rest_left ++ more);
+    answers = λ more. rw (← append_assoc (on_tape u) (heard_in l.during) more, all, on_tape_append x rest_left)
+        (rw (append_assoc (on_tape x) (on_tape rest_left) more) (answers (on_tape rest_left ++ more)));
   }
 
   finds_in : {held : List ℕ} {count : ℕ} {p : LinkView} (used left new : List ℕ)
@@ -229,9 +194,8 @@ module _ {seq : ℕ} {u : List ℕ} {o : LinkView} where
       → Listening seq u o held count left p → ReadOn left new_left n held new what
       → (what ≡ event.Frame) × HoldsFrame new × (is_answer seq new ≡ true) → count + n ≤ limit
       → Hears seq u o p (Answered (body_of new)) new_left
-  finds {held = held} {count = count} {p = p} n new_left new what l read is few =
-      finds_in read.0 new_left new (subst (λ bs. Listening seq u o held count bs p) read.2 l)
-      (subst (λ e. Fed held read.0 new (frames_of_event e new)) is.0 read.3) is.1 is.2 (omega (arith, read.1))
+  finds n new_left new what l read is few =
+      finds_in read.0 new_left new (rw read.2 at l) (rw is.0 at read.3) is.1 is.2 (omega (arith, read.1))
 
   pub babbles : {held : List ℕ} {count : ℕ} {left : List ℕ} {p : LinkView}
       → Listening seq u o held count left p → count ≡ limit → Hears seq u o p Babbled left

@@ -23,18 +23,12 @@ log_more [] [] [] more_out more_back m o b = refl
 log_more [] (x ∷ out) back more_out more_back m o b = absurd (omega arith)
 log_more [] [] (x ∷ back) more_out more_back m o b = absurd (omega arith)
 log_more (mark.Sent n ∷ marks) out back more_out more_back m o b =
-    ap (λ bs. Sent bs ∷ talk_of (marks ++ m ∷ []) (drop n (out ++ more_out)) (back ++ more_back))
-    (take-append-le n out more_out (omega arith))
-    ∙ (ap (λ bs. Sent (take n out) ∷ talk_of (marks ++ m ∷ []) bs (back ++ more_back))
-    (drop_prefix n out more_out (omega arith))
-    ∙ ap (λ t. Sent (take n out) ∷ t) (log_more marks (drop n out) back more_out more_back m
-    (rw length-drop (omega arith)) b))
+    rw (take-append-le n out more_out (omega arith), drop_prefix n out more_out (omega arith))
+    (ap (λ t. Sent (take n out) ∷ t)
+    (log_more marks (drop n out) back more_out more_back m (rw length-drop (omega arith)) b))
 log_more (mark.Got n ∷ marks) out back more_out more_back m o b =
-    ap (λ bs. Got (on_tape bs) ∷ talk_of (marks ++ m ∷ []) (out ++ more_out) (drop n (back ++ more_back)))
-    (take-append-le n back more_back (omega arith))
-    ∙ (ap (λ bs. Got (on_tape (take n back)) ∷ talk_of (marks ++ m ∷ []) (out ++ more_out) bs)
-    (drop_prefix n back more_back (omega arith))
-    ∙ ap (λ t. Got (on_tape (take n back)) ∷ t)
+    rw (take-append-le n back more_back (omega arith), drop_prefix n back more_back (omega arith))
+    (ap (λ t. Got (on_tape (take n back)) ∷ t)
     (log_more marks out (drop n back) more_out more_back m o (rw length-drop (omega arith))))
 log_more (mark.Silence ∷ marks) out back more_out more_back m o b =
     ap (λ t. Got (item.Silence ∷ []) ∷ t) (log_more marks out back more_out more_back m o b)
@@ -44,27 +38,21 @@ log_more (mark.End ∷ marks) out back more_out more_back m o b =
 pub out_more : (marks : List Mark) (m : Mark) → out_count (marks ++ m ∷ []) ≡ out_count marks + out_count (m ∷ [])
 out_more [] m = omega arith
 out_more (mark.Sent n ∷ marks) m = omega (arith, out_more marks m)
-out_more (mark.Got n ∷ marks) m = out_more marks m
-out_more (mark.Silence ∷ marks) m = out_more marks m
-out_more (mark.End ∷ marks) m = out_more marks m
+out_more (other ∷ marks) m = out_more marks m
 
 pub back_more : (marks : List Mark) (m : Mark) → back_count (marks ++ m ∷ []) ≡ back_count marks + back_count (m ∷ [])
 back_more [] m = omega arith
-back_more (mark.Sent n ∷ marks) m = back_more marks m
 back_more (mark.Got n ∷ marks) m = omega (arith, back_more marks m)
-back_more (mark.Silence ∷ marks) m = back_more marks m
-back_more (mark.End ∷ marks) m = back_more marks m
+back_more (other ∷ marks) m = back_more marks m
 
 pub sent_in : (marks : List Mark) (out back : List ℕ) → out_count marks ≡ length out
     → sent (talk_of marks out back) ≡ out
 sent_in [] [] back o = refl
 sent_in [] (x ∷ out) back o = absurd (omega arith)
 sent_in (mark.Sent n ∷ marks) out back o =
-    ap (λ bs. take n out ++ bs) (sent_in marks (drop n out) back (rw length-drop (omega arith)))
-    ∙ take-append-drop n out
+    rw (sent_in marks (drop n out) back (rw length-drop (omega arith))) (take-append-drop n out)
 sent_in (mark.Got n ∷ marks) out back o = sent_in marks out (drop n back) o
-sent_in (mark.Silence ∷ marks) out back o = sent_in marks out back o
-sent_in (mark.End ∷ marks) out back o = sent_in marks out back o
+sent_in (other ∷ marks) out back o = sent_in marks out back o
 
 pub heard_in : (marks : List Mark) (out back : List ℕ) → back_count marks ≡ length back
     → bytes_of (heard (talk_of marks out back)) ≡ back
@@ -72,12 +60,10 @@ heard_in [] out [] b = refl
 heard_in [] out (x ∷ back) b = absurd (omega arith)
 heard_in (mark.Sent n ∷ marks) out back b = heard_in marks (drop n out) back b
 heard_in (mark.Got n ∷ marks) out back b =
-    bytes_of_append (on_tape (take n back)) (heard (talk_of marks out (drop n back)))
-    ∙ (ap (λ bs. bs ++ bytes_of (heard (talk_of marks out (drop n back)))) (bytes_of_on_tape (take n back))
-    ∙ (ap (λ bs. take n back ++ bs) (heard_in marks out (drop n back) (rw length-drop (omega arith)))
-    ∙ take-append-drop n back))
-heard_in (mark.Silence ∷ marks) out back b = heard_in marks out back b
-heard_in (mark.End ∷ marks) out back b = heard_in marks out back b
+    rw (bytes_of_append (on_tape (take n back)) (heard (talk_of marks out (drop n back))))
+    (rw (bytes_of_on_tape (take n back), heard_in marks out (drop n back) (rw length-drop (omega arith)))
+    (take-append-drop n back))
+heard_in (other ∷ marks) out back b = heard_in marks out back b
 
 -- the whole of it, as the code goes on: this mark and these bytes are new
 module _ (marks new_marks : List Mark) (out new_out back new_back x y : List ℕ) (m : Mark)

@@ -14,8 +14,7 @@ reaches_here dialog before o = record {
   during = [];
   events = [];
   grows = grows_none o.talk;
-  leads =
-      leads_here dialog before;
+  leads = leads_here dialog before;
 }
 
 -- from where a call has come
@@ -42,8 +41,7 @@ reaches_bind go_on f = record {
   during = f.during;
   events = f.events;
   grows = f.grows;
-  leads =
-      leads_bind go_on f.leads;
+  leads = leads_bind go_on f.leads;
 }
 
 -- what a call that played a dialog ensures is how far its caller has come
@@ -62,8 +60,7 @@ broken_bind {by = by} {a = a} {m = m} go_on f =
       during = f.during;
       shown = f.shown;
       grows = f.grows;
-      breaks =
-          by_bind by a m f.during f.shown go_on f.breaks;
+      breaks = by_bind by a m f.during f.shown go_on f.breaks;
     }
 
 -- a dialog played, and what follows it

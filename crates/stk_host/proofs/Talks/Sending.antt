@@ -1,10 +1,10 @@
 -- What was sent in parts, and what is left of a range.
-use Rattle.std.proofs.Common.{◌≡◌, ℕ, ◌+◌, ◌-◌, ◌<◌, ◌≤◌, List, [], ◌∷◌, ◌++◌, length, take, drop, sym, ap, ◌∙◌, subst, arith, Err}
+use Rattle.std.proofs.Common.{◌≡◌, ℕ, ◌+◌, ◌-◌, ◌<◌, ◌≤◌, List, [], ◌∷◌, ◌++◌, length, take, drop, refl, sym, ap, ◌∙◌, subst, arith, Err}
 use Rattle.std.proofs.lemmas.List.{append-nil, drop-take, drop-drop, take-append-drop, length-take, length-drop, take_all}
 use Rattle.std.proofs.Math.Seq.{take-add}
 use Rattle.std.specs.Prelude.{slice_range}
 use Rattle.ghosts.specs.Failures.{HasRisen}
-use Rattle.stk_host.specs.Talk.{Talk, LinkView, Sent, sent, Grows, LinkCounts}
+use Rattle.stk_host.specs.Talk.{Talk, LinkView, Sent, Grows, LinkCounts}
 use Rattle.stk_host.specs.Reach.{Says, SaysPart}
 use Rattle.stk_host.proofs.Talks.Laws.{sent_append, grows_on, quiet_append}
 
@@ -13,24 +13,17 @@ says_more x y o p q says g = record {
   during = says.during ++ Sent y ∷ [];
   grows = grows_on o p q says.during (Sent y ∷ []) says.grows g;
   quiet = quiet_append says.during (Sent y ∷ []) says.quiet tt;
-  bytes_sent = sent_append says.during (Sent y ∷ [])
-      ∙ (ap (λ bs. sent says.during ++ bs) (append-nil y) ∙ ap (λ bs. bs ++ y) says.bytes_sent);
+  bytes_sent = rw (sent_append says.during (Sent y ∷ []), append-nil y, says.bytes_sent) refl;
 }
 
 pub says_still : (x : List ℕ) (o p q : Talk) → Says x o p → Grows p [] q → Says x o q
-says_still x o p q says g = record {
-  during = says.during ++ [];
-  grows = grows_on o p q says.during [] says.grows g;
-  quiet = quiet_append says.during [] says.quiet tt;
-  bytes_sent = sent_append says.during [] ∙ (append-nil (sent says.during) ∙ says.bytes_sent);
-}
+says_still x o p q says g = rw (g ∙ append-nil p) says
 
 -- one more part
 pub says_part : (bytes : List ℕ) (n m : ℕ) (part : List ℕ) (o p q : Talk) → Says (take n bytes) o p
     → part ≡ drop n bytes → Grows p (Sent (take m part) ∷ []) q → Says (take (n + m) bytes) o q
 says_part bytes n m part o p q says is g =
-    subst (λ bs. Says bs o q) (ap (λ bs. take n bytes ++ take m bs) is ∙ sym (take-add n m bytes))
-    (says_more (take n bytes) (take m part) o p q says g)
+    rw (take-add n m bytes, ← is) (says_more (take n bytes) (take m part) o p q says g)
 
 -- so many bytes were sent, and not all
 pub part_of : (bytes : List ℕ) (n : ℕ) (o q : Talk) → n < length bytes → Says (take n bytes) o q → SaysPart bytes o q

@@ -1,11 +1,11 @@
 -- What a writer whose bytes are known has taken, and a reader whose bytes are known has given.
-use Rattle.std.proofs.Common.{◌≡◌, ◌∙◌, ℕ, List, [], ◌∷◌, ◌++◌, take, Option, None, Some, sym, ap, subst, append_assoc, append-nil, arith}
+use Rattle.std.proofs.Common.{◌≡◌, ◌∙◌, ℕ, List, [], ◌∷◌, ◌++◌, take, Option, None, Some, sym, ap, append_assoc, append-nil, arith}
 use Rattle.std.proofs.KnownBytes.{Consumes-nil, Consumes-trans, Consumes-kept, Appends-nil, Appends-trans}
 use Rattle.std.specs.Io.KnownBytes.{Keeps, Appends, Consumes}
 use Rattle.stk_host.specs.declared.link.Heard.{Heard}
 use Rattle.stk_host.specs.declared.link.Heard.TheVariants as hears
 use Rattle.stk_host.specs.Links.{StreamState, IsTrueSince, HearsKnown, AppendsPrefix}
-use Rattle.stk_host.specs.Tape.{Tape, bytes_of}
+use Rattle.stk_host.specs.Tape.{bytes_of}
 use Rattle.stk_host.specs.Talk.{Talk, Sent, Got, heard, items_of}
 use Rattle.stk_host.proofs.Talks.Laws.{sent_append, heard_append}
 use Rattle.stk_host.proofs.Tapes.Answers.{bytes_of_append, bytes_of_on_tape}
@@ -25,8 +25,7 @@ lost_none a b keeps = Consumes-kept a a b [] (Consumes-nil a) keeps
 -- the items heard have the bytes that the reader lost
 pub items_given : (h : Heard) (buffer : List ℕ) (a b : Option (List ℕ)) → HearsKnown h buffer a b
     → Consumes a b (bytes_of (items_of h buffer))
-items_given (hears.Bytes n) buffer a b given =
-    subst (λ bytes. Consumes a b bytes) (sym (bytes_of_on_tape (take n buffer))) given
+items_given (hears.Bytes n) buffer a b given = rw (bytes_of_on_tape (take n buffer)) given
 items_given hears.Silence buffer a b given = lost_none a b given
 items_given hears.End buffer a b given = lost_none a b given.0
 
@@ -45,11 +44,9 @@ module _ {R W : Type 0} (remaining : R → Option (List ℕ)) (contents : W → 
   true_on a b c f g = record {
     during = f.during ++ g.during;
     grows = g.grows ∙ ap (λ (t : Talk). t ++ g.during) f.grows ∙ append_assoc a.talk f.during g.during;
-    gave = subst (λ bytes. Consumes (remaining a.reader) (remaining c.reader) bytes)
-        (sym (ap bytes_of (heard_append f.during g.during) ∙ bytes_of_append (heard f.during) (heard g.during)))
+    gave = rw (heard_append f.during g.during, bytes_of_append (heard f.during) (heard g.during))
         (Consumes-trans (remaining a.reader) (remaining b.reader) (remaining c.reader) _ _ f.gave g.gave);
-    took = λ sound. subst (λ bytes. Appends (contents a.writer) (contents c.writer) bytes)
-        (sym (sent_append f.during g.during))
+    took = λ sound. rw (sent_append f.during g.during)
         (Appends-trans (contents a.writer) (contents b.writer) (contents c.writer) _ _
         (f.took (omega (arith, sound, g.counted))) (g.took sound));
     counted = omega (arith, f.counted, g.counted);
@@ -61,9 +58,8 @@ module _ {R W : Type 0} (remaining : R → Option (List ℕ)) (contents : W → 
   true_of_sent a b bytes reader failures talk took = record {
     during = Sent bytes ∷ [];
     grows = talk;
-    gave = subst (λ (r : R). Consumes (remaining a.reader) (remaining r) []) (sym reader)
-        (Consumes-nil (remaining a.reader));
-    took = λ sound. subst (λ bs. Appends (contents a.writer) (contents b.writer) bs) (sym (append-nil bytes)) took;
+    gave = rw reader (Consumes-nil (remaining a.reader));
+    took = λ sound. rw (append-nil bytes) took;
     counted = omega (arith, failures);
   }
 
@@ -74,10 +70,8 @@ module _ {R W : Type 0} (remaining : R → Option (List ℕ)) (contents : W → 
   true_of_heard a b h buffer writer failures talk given = record {
     during = Got (items_of h buffer) ∷ [];
     grows = talk;
-    gave = subst (λ (tape : Tape). Consumes (remaining a.reader) (remaining b.reader) (bytes_of tape))
-        (sym (append-nil (items_of h buffer)))
+    gave = rw (append-nil (items_of h buffer))
         (items_given h buffer (remaining a.reader) (remaining b.reader) given);
-    took = λ sound. subst (λ (w : W). Appends (contents a.writer) (contents w) []) (sym writer)
-        (Appends-nil (contents a.writer));
+    took = λ sound. rw writer (Appends-nil (contents a.writer));
     counted = omega (arith, failures);
   }

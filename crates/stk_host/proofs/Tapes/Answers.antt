@@ -1,13 +1,13 @@
 -- Laws of the answer on a tape.
 use Rattle.std.proofs.Common.{◌≡◌, ℕ, ◌+◌, ◌-◌, ◌<◌, ◌≤◌, List, [], ◌∷◌, ◌++◌, length, take, drop, refl, sym, ap, ◌∙◌, arith, true, length-append, inl, inr, Option, Some, None}
-use Rattle.std.proofs.lemmas.Bool.{le-leb, lt-leb, cases_Bool, and_left, cond-true, cond-false}
+use Rattle.std.proofs.lemmas.Bool.{le-leb, lt-leb, cases_Bool}
 use Rattle.std.proofs.lemmas.List.Folds.{concat-append}
 use Rattle.std.proofs.Math.Seq.{take-append-add}
 use Rattle.std.proofs.lemmas.List.{append-nil, take_all, take-append-le}
 use Rattle.std.proofs.lemmas.Option.{none-some}
 use Rattle.std.specs.List.{concat}
-use Rattle.std.specs.Prelude.{filter, nat_le as leb}
-use Rattle.stk_frame.specs.Cut.{cut, rest, is_good, is_frame, body_of}
+use Rattle.std.specs.Prelude.{filter}
+use Rattle.stk_frame.specs.Cut.{cut, rest, is_frame, body_of}
 use Rattle.stk_frame.proofs.Cuts.{cut_append, cut_joined}
 use Rattle.stk_host.specs.declared.link.Item.TheVariants.{Byte, Silence, End}
 use Rattle.stk_host.specs.Tape.{Tape, on_tape, bytes_of, bytes_in, answer, read_to, silence_or_end, first_answer, is_answer, further, limit, Answered, Silent, Ended, Babbled}
@@ -16,8 +16,7 @@ use Rattle.stk_host.specs.Tape.{Tape, on_tape, bytes_of, bytes_in, answer, read_
 pub bytes_of_append : (x y : Tape) → bytes_of (x ++ y) ≡ bytes_of x ++ bytes_of y
 bytes_of_append [] y = refl
 bytes_of_append (Byte byte ∷ x) y = ap (λ bytes. byte ∷ bytes) (bytes_of_append x y)
-bytes_of_append (Silence ∷ x) y = bytes_of_append x y
-bytes_of_append (End ∷ x) y = bytes_of_append x y
+bytes_of_append (item ∷ x) y = bytes_of_append x y
 
 pub bytes_of_on_tape : (bytes : List ℕ) → bytes_of (on_tape bytes) ≡ bytes
 bytes_of_on_tape [] = refl
@@ -50,12 +49,8 @@ stopped_at : (seq : ℕ) (x : List ℕ) (tape : Tape) → first_answer seq (cut 
     → bytes_in tape ≡ [] → answer seq (on_tape x ++ tape) ≡ silence_or_end tape
 stopped_at seq x tape none few no_bytes =
     let bytes : take limit (bytes_in (on_tape x ++ tape)) ≡ x =
-    ap (take limit) (bytes_in_tape x tape ∙ (ap (λ bs. x ++ bs) no_bytes ∙ append-nil x))
-    ∙ take_all limit x (omega arith) in
-    answer_by seq (on_tape x ++ tape) x bytes
-    ∙ (ap (λ o. read_to o x (on_tape x ++ tape)) none
-    ∙ (cond-false (leb limit (length x)) _ _ (lt-leb limit (length x) few)
-    ∙ ap silence_or_end (drop_tape x tape)))
+    rw (bytes_in_tape x tape, no_bytes, append-nil x) (take_all limit x (omega arith)) in
+    answer_by seq (on_tape x ++ tape) x bytes ∙ rw (none, lt-leb limit (length x) few, drop_tape x tape) refl
 
 pub answer_silent : (seq : ℕ) (x : List ℕ) (more : Tape) → first_answer seq (cut x) ≡ None → length x < limit
     → answer seq (on_tape x ++ Silence ∷ more) ≡ Some (Silent, more)
@@ -76,10 +71,8 @@ answer_babbled seq x more none full =
     let bytes : take limit (bytes_in (on_tape x ++ more)) ≡ x =
     ap (take limit) (bytes_in_tape x more) ∙
     (take-append-le limit x (bytes_in more) (omega arith) ∙ take_all limit x (omega arith)) in
-    answer_by seq (on_tape x ++ more) x bytes
-    ∙ (ap (λ o. read_to o x (on_tape x ++ more)) none
-    ∙ (cond-true (leb limit (length x)) _ _ (le-leb limit (length x) (omega arith))
-    ∙ ap (λ t. Some (Babbled, t)) (ap (λ n. drop n (on_tape x ++ more)) (sym full) ∙ drop_tape x more)))
+    answer_by seq (on_tape x ++ more) x bytes ∙ rw (none, le-leb limit (length x) (omega arith))
+    (ap (λ t. Some (Babbled, t)) (ap (λ n. drop n (on_tape x ++ more)) (sym full) ∙ drop_tape x more))
 
 pub further_zero : (o : Option (List ℕ × ℕ)) → o ≡ further 0 o
 further_zero None = refl
@@ -98,16 +91,10 @@ pub first_answer_behind : (seq : ℕ) (xs ys : List (List ℕ)) → first_answer
     → first_answer seq (xs ++ ys) ≡ further (length (concat xs)) (first_answer seq ys)
 first_answer_behind seq [] ys none = further_zero (first_answer seq ys)
 first_answer_behind seq (x ∷ xs) ys none = elim (cases_Bool (is_answer seq x)) [
-  | inl is_it ↦ let e = sym (cond-true (is_answer seq x) (Some (body_of x, length x))
-      (further (length x) (first_answer seq xs)) is_it) ∙ none in cc
+  | inl is_it ↦ let e = rw is_it at none in cc
   | inr is_not ↦
-      let none' : first_answer seq xs ≡ None =
-      further_none (length x) (first_answer seq xs)
-      (sym (cond-false (is_answer seq x) (Some (body_of x, length x)) (further (length x) (first_answer seq xs))
-      is_not) ∙ none) in
-      cond-false (is_answer seq x) (Some (body_of x, length x)) (further (length x) (first_answer seq (xs ++ ys)))
-      is_not
-      ∙ (ap (further (length x)) (first_answer_behind seq xs ys none')
+      let none' = further_none (length x) (first_answer seq xs) (rw is_not at none) in
+      rw is_not (ap (further (length x)) (first_answer_behind seq xs ys none')
       ∙ (further_further (length x) (length (concat xs)) (first_answer seq ys)
       ∙ ap (λ n. further n (first_answer seq ys)) (sym (length-append x (concat xs)))))
 ]
@@ -122,30 +109,19 @@ pub first_answer_stays : (seq : ℕ) (xs ys : List (List ℕ)) (found : List ℕ
     → first_answer seq (xs ++ ys) ≡ Some found
 first_answer_stays seq [] ys found some = absurd (none-some found some)
 first_answer_stays seq (x ∷ xs) ys found some = elim (cases_Bool (is_answer seq x)) [
-  | inl is_it ↦
-      cond-true (is_answer seq x) (Some (body_of x, length x)) (further (length x) (first_answer seq (xs ++ ys))) is_it
-      ∙ (sym (cond-true (is_answer seq x) (Some (body_of x, length x)) (further (length x) (first_answer seq xs)) is_it)
-      ∙ some)
+  | inl is_it ↦ rw is_it (rw is_it at some)
   | inr is_not ↦
-      let inner : further (length x) (first_answer seq xs) ≡ Some found =
-      sym (cond-false (is_answer seq x) (Some (body_of x, length x)) (further (length x) (first_answer seq xs)) is_not)
-      ∙ some in
+      let inner = rw is_not at some in
       let at = some_inside (length x) (first_answer seq xs) found inner in
-      cond-false (is_answer seq x) (Some (body_of x, length x)) (further (length x) (first_answer seq (xs ++ ys)))
-      is_not
-      ∙ (ap (further (length x)) (first_answer_stays seq xs ys at.0 at.1 ∙ sym at.1) ∙ inner)
+      rw is_not (ap (further (length x)) (first_answer_stays seq xs ys at.0 at.1 ∙ sym at.1) ∙ inner)
 ]
 
 -- among pieces that are no frames there is no answer
 pub first_answer_skipped : (seq : ℕ) (xs : List (List ℕ)) → filter is_frame xs ≡ [] → first_answer seq xs ≡ None
 first_answer_skipped seq [] none = refl
 first_answer_skipped seq (x ∷ xs) none = elim (cases_Bool (is_frame x)) [
-  | inl is_it ↦ let e = sym (cond-true (is_frame x) (x ∷ filter is_frame xs) (filter is_frame xs) is_it) ∙ none in cc
-  | inr is_not ↦
-      cond-false (is_answer seq x) (Some (body_of x, length x)) (further (length x) (first_answer seq xs))
-      (and_left (is_good x) _ (and_left (is_frame x) _ is_not))
-      ∙ ap (further (length x)) (first_answer_skipped seq xs
-      (sym (cond-false (is_frame x) (x ∷ filter is_frame xs) (filter is_frame xs) is_not) ∙ none))
+  | inl is_it ↦ let e = rw is_it at none in cc
+  | inr is_not ↦ rw is_not (ap (further (length x)) (first_answer_skipped seq xs (rw is_not at none)))
 ]
 
 -- more bytes that bring no frame, or one that is no answer
@@ -153,35 +129,19 @@ pub still_none : (seq : ℕ) (x y : List ℕ) (skipped found : List (List ℕ)) 
     → filter is_frame skipped ≡ [] → cut (x ++ y) ≡ cut x ++ (skipped ++ found) → first_answer seq found ≡ None
     → first_answer seq (cut (x ++ y)) ≡ None
 still_none seq x y skipped found none no_frames pieces other =
-    ap (first_answer seq) pieces
-    ∙ (first_answer_behind seq (cut x) (skipped ++ found) none
-    ∙ ap (further (length (concat (cut x))))
-    (first_answer_behind seq skipped found (first_answer_skipped seq skipped no_frames)
-    ∙ ap (further (length (concat skipped))) other))
+    rw (pieces, first_answer_behind seq (cut x) (skipped ++ found) none)
+    (rw (first_answer_behind seq skipped found (first_answer_skipped seq skipped no_frames), other) refl)
 
 -- more bytes that bring the answer, and end with it
 pub now_found : (seq : ℕ) (x y : List ℕ) (skipped : List (List ℕ)) (frame : List ℕ) → first_answer seq (cut x) ≡ None
     → filter is_frame skipped ≡ [] → cut (x ++ y) ≡ cut x ++ (skipped ++ frame ∷ []) → is_answer seq frame ≡ true
     → rest (x ++ y) ≡ [] → first_answer seq (cut (x ++ y)) ≡ Some (body_of frame, length (x ++ y))
 now_found seq x y skipped frame none no_frames pieces is_it whole =
-    let joined : concat (cut x) ++ (concat skipped ++ (frame ++ [])) ≡ x ++ y =
-    ap (λ bs. concat (cut x) ++ bs) (sym (concat-append skipped (frame ∷ [])))
-    ∙ (sym (concat-append (cut x) (skipped ++ frame ∷ []))
-    ∙ (ap concat (sym pieces)
-    ∙ (sym (append-nil (concat (cut (x ++ y))))
-    ∙ (ap (λ r. concat (cut (x ++ y)) ++ r) (sym whole)
-    ∙ cut_joined (x ++ y))))) in
-    let total : length (concat (cut x)) + (length (concat skipped) + (length frame + 0)) ≡ length (x ++ y) =
-    sym (length-append (concat (cut x)) _ ∙ ap (λ n. length (concat (cut x)) + n)
-    (length-append (concat skipped) _ ∙ ap (λ n. length (concat skipped) + n) (length-append frame [])))
-    ∙ ap length joined in
-    ap (first_answer seq) pieces
-    ∙ (first_answer_behind seq (cut x) (skipped ++ frame ∷ []) none
-    ∙ (ap (further (length (concat (cut x))))
-    (first_answer_behind seq skipped (frame ∷ []) (first_answer_skipped seq skipped no_frames)
-    ∙ ap (further (length (concat skipped)))
-    (cond-true (is_answer seq frame) (Some (body_of frame, length frame)) (further (length frame) None) is_it))
-    ∙ ap (λ n. Some (body_of frame, n)) (omega (arith, total))))
+    let joined = rw (pieces, whole, append-nil, concat-append, concat-append) at (cut_joined (x ++ y)) in
+    let total = rw (length-append, length-append, length-append) at (ap length joined) in
+    rw (pieces, first_answer_behind seq (cut x) (skipped ++ frame ∷ []) none)
+    (rw (first_answer_behind seq skipped (frame ∷ []) (first_answer_skipped seq skipped no_frames), is_it)
+    (ap (λ n. Some (body_of frame, n)) (omega (arith, total))))
 
 -- the answer, where the bytes end with it
 pub answer_found : (seq : ℕ) (x : List ℕ) (more : Tape) (body : List ℕ)

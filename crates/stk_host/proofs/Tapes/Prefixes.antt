@@ -3,7 +3,7 @@ use Rattle.std.proofs.Common.{◌≡◌, ◌∙◌, ◌-◌, min, drop, length-a
 use Rattle.std.proofs.lemmas.List.{take_all, take_more_set, take-append-le, length-take, take_rest}
 use Rattle.stk_host.specs.declared.link.Heard.{Heard}
 use Rattle.stk_host.specs.declared.link.Heard.TheVariants as heard
-use Rattle.stk_host.specs.declared.link.Item.TheVariants.{Byte, Silence, End}
+use Rattle.stk_host.specs.declared.link.Item.TheVariants.{Byte}
 use Rattle.stk_host.specs.Tape.{Tape, bytes_in, on_tape}
 use Rattle.stk_host.specs.Talk.{items_of, FitsBuffer}
 use Rattle.stk_host.specs.Links.{byte_of, next_piece}
@@ -14,10 +14,8 @@ pub within_bytes : (tape : Tape) (i byte : ℕ) → i ≤ length (bytes_in tape)
 within_bytes [] i byte le is = cc
 within_bytes (Byte b ∷ tape) zero byte le is = omega arith
 within_bytes (Byte b ∷ tape) (suc i) byte le is = omega (arith, within_bytes tape i byte (omega arith) is)
-within_bytes (Silence ∷ tape) zero byte le is = cc
-within_bytes (Silence ∷ tape) (suc i) byte le is = absurd (omega arith)
-within_bytes (End ∷ tape) zero byte le is = cc
-within_bytes (End ∷ tape) (suc i) byte le is = absurd (omega arith)
+within_bytes (item ∷ tape) zero byte le is = cc
+within_bytes (item ∷ tape) (suc i) byte le is = absurd (omega arith)
 
 -- and the next of them
 pub next_byte : (tape : Tape) (i byte : ℕ) → i ≤ length (bytes_in tape) → byte_of (slice_get tape i) ≡ Some byte
@@ -25,10 +23,8 @@ pub next_byte : (tape : Tape) (i byte : ℕ) → i ≤ length (bytes_in tape) �
 next_byte [] i byte le is = cc
 next_byte (Byte b ∷ tape) zero byte le is = cc
 next_byte (Byte b ∷ tape) (suc i) byte le is = ap (λ bytes. b ∷ bytes) (next_byte tape i byte (omega arith) is)
-next_byte (Silence ∷ tape) zero byte le is = cc
-next_byte (Silence ∷ tape) (suc i) byte le is = absurd (omega arith)
-next_byte (End ∷ tape) zero byte le is = cc
-next_byte (End ∷ tape) (suc i) byte le is = absurd (omega arith)
+next_byte (item ∷ tape) zero byte le is = cc
+next_byte (item ∷ tape) (suc i) byte le is = absurd (omega arith)
 
 -- where no byte stands after bytes alone, they end
 pub no_byte : (tape : Tape) (i : ℕ) → i ≤ length (bytes_in tape) → byte_of (slice_get tape i) ≡ None
@@ -36,8 +32,7 @@ pub no_byte : (tape : Tape) (i : ℕ) → i ≤ length (bytes_in tape) → byte_
 no_byte [] i le is = omega arith
 no_byte (Byte b ∷ tape) zero le is = cc
 no_byte (Byte b ∷ tape) (suc i) le is = ap suc (no_byte tape i (omega arith) is)
-no_byte (Silence ∷ tape) i le is = omega arith
-no_byte (End ∷ tape) i le is = omega arith
+no_byte (item ∷ tape) i le is = omega arith
 
 -- one byte more is copied
 pub copied_more : (tape : Tape) (buffer : List ℕ) (i byte : ℕ) → i < length buffer → i ≤ length (bytes_in tape)
@@ -60,8 +55,7 @@ copied_all tape buffer i room le is same =
 pub piece_alone : (heard : Heard) (prefix back : List ℕ) → FitsBuffer heard (length prefix)
     → items_of heard (prefix ++ back) ≡ items_of heard prefix
 piece_alone (heard.Bytes n) prefix back fits = ap on_tape (take-append-le n prefix back fits.1)
-piece_alone heard.Silence prefix back fits = refl
-piece_alone heard.End prefix back fits = refl
+piece_alone _ prefix back fits = refl
 
 -- the room for a piece, whose bytes replace the prefix of a buffer
 pub room_of : (prefix buffer : List ℕ) (cut most : ℕ) → most ≡ min cut (length buffer)

@@ -64,13 +64,10 @@ of_tape_on a b c f g = record {
   during = f.during ++ g.during;
   grows = g.grows ∙ ap (λ (t : Talk). t ++ g.during) f.grows ∙ append_assoc a.talk f.during g.during;
   ends = f.ends + g.ends;
-  gave = ap (λ (t : Tape). t ++ c.left) (heard_append f.during g.during)
-      ∙ append_assoc (heard f.during) (heard g.during) c.left
-      ∙ ap (λ (t : Tape). heard f.during ++ t) g.gave
-      ∙ sym (append_assoc (heard f.during) b.left (replicate g.ends End))
-      ∙ ap (λ (t : Tape). t ++ replicate g.ends End) f.gave
-      ∙ append_assoc a.left (replicate f.ends End) (replicate g.ends End)
-      ∙ ap (λ (t : Tape). a.left ++ t) (ends_more f.ends g.ends);
+  gave = rw (heard_append f.during g.during, append_assoc (heard f.during) (heard g.during) c.left, g.gave)
+      (rw (← append_assoc (heard f.during) b.left (replicate g.ends End), f.gave)
+      (append_assoc a.left (replicate f.ends End) (replicate g.ends End)
+      ∙ ap (λ (t : Tape). a.left ++ t) (ends_more f.ends g.ends)));
   over = none f.ends g.ends g.gave f.over g.over;
 }
   where
@@ -83,24 +80,23 @@ of_tape_on a b c f g = record {
 since : (b c : TapeState) → IsOfTape b c → Stays IsOfTape b c
 since b c g = λ start f. of_tape_on start b c f g
 
-pub same_of_tape : (b c : TapeState) → c.left ≡ b.left → c.talk ≡ b.talk → Stays IsOfTape b c
-same_of_tape b c left talk = since b c (record {
-  during = [];
-  grows = talk ∙ sym (append-nil b.talk);
+-- nothing was heard
+quiet_of_tape : (during : Talk) (b c : TapeState) → heard during ≡ [] → c.left ≡ b.left → c.talk ≡ b.talk ++ during
+    → Stays IsOfTape b c
+quiet_of_tape during b c quiet left talk = since b c (record {
+  during = during;
+  grows = talk;
   ends = 0;
-  gave = left ∙ sym (append-nil b.left);
+  gave = rw quiet (left ∙ sym (append-nil b.left));
   over = λ some. absurd (omega (arith, some));
 })
 
+pub same_of_tape : (b c : TapeState) → c.left ≡ b.left → c.talk ≡ b.talk → Stays IsOfTape b c
+same_of_tape b c left talk = quiet_of_tape [] b c refl left (talk ∙ sym (append-nil b.talk))
+
 pub sent_of_tape : (bytes : List ℕ) (b c : TapeState) → c.left ≡ b.left → c.talk ≡ b.talk ++ Sent bytes ∷ []
     → Stays IsOfTape b c
-sent_of_tape bytes b c left talk = since b c (record {
-  during = Sent bytes ∷ [];
-  grows = talk;
-  ends = 0;
-  gave = left ∙ sym (append-nil b.left);
-  over = λ some. absurd (omega (arith, some));
-})
+sent_of_tape bytes b c left talk = quiet_of_tape (Sent bytes ∷ []) b c refl left talk
 
 pub heard_of_tape : (result : Result Heard LinkFault) (buffer : List ℕ) (b c : TapeState)
     → Receives buffer (tape_view b) (tape_view c) result

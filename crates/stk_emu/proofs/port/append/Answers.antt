@@ -12,8 +12,7 @@ loop-byte-preserved c =
     record {
       items = grind (arith, common_steps, items, kept.items);
       len = omega (arith, len, kept.len);
-      room =
-          omega (arith, kept.room);
+      room = omega (arith, kept.room);
     }
 
 pub returns : goal.returns

@@ -12,10 +12,7 @@ loop-addr-init c =
     cc (c.into_iter-addr-iterator.ensures.into_iter_gives, c.runs-addr-items.ensures) in
     let size : length (take c.size.result c.args.bytes.now) ≡ c.size.result =
     length-take-le c.size.result c.args.bytes.now (omega (arith, c.size.ensures, c.requires)) in
-    record {
-      whole = refl;
-      inside = rw (into, size) (runs_end c.size.result c.args.image.now c.size.ensures);
-    }
+    record { whole = refl; inside = rw (into, size) (runs_end c.size.result c.args.image.now c.size.ensures) }
 
 pub loop-addr-preserved : goal.loop-addr-preserved
 loop-addr-preserved c =

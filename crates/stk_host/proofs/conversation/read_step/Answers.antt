@@ -8,25 +8,18 @@ append-requires g c = rw c.data_read.ensures
     (rw (counted_data _ _ c.requires.sized.counted c.in_ok-step.ensures.sized) c.requires.room)
 
 pub returns-in_err-step-clause-asks : goal.returns-in_err-step-clause-asks
-returns-in_err-step-clause-asks g c = record {
-  played =
-      let p = err_from_is_err_and c.from_residual.result c.from_residual.ensures.1 in
-      rw (p.1, p.2) (stops_with _ _ [] _ _ _ _ _ c.in_err-step.ensures.asks.played);
-  counted = search rules;
-  bound = search rules;
-}
+returns-in_err-step-clause-asks g c =
+    let p = err_from_is_err_and c.from_residual.result c.from_residual.ensures.1 in
+    rw (p.1, p.2) (
+    let played = stops_with _ c.args.out.now.items [] _ _ _ _ _ c.in_err-step.ensures.asks.played in
+    search rules)
 
 pub returns-clause-asks : goal.returns-clause-asks
-returns-clause-asks g c = record {
-  played = rw (c.append.ensures.items, c.data_read.ensures) (goes_with _ _ _ c.in_ok-step.ensures.asks.played);
-  counted = search rules;
-  bound = search rules;
-}
+returns-clause-asks g c =
+    rw (c.append.ensures.items, c.data_read.ensures) (
+    let played = goes_with _ c.args.out.now.items _ c.in_ok-step.ensures.asks.played in
+    search rules)
 
 pub returns-clause-size : goal.returns-clause-size
-returns-clause-size g c = rw (
-  c.append.ensures.items,
-  c.data_read.ensures,
-  length-append,
-  counted_data _ _ c.requires.sized.counted c.in_ok-step.ensures.sized,
-) refl
+returns-clause-size g c = rw (c.append.ensures.items, c.data_read.ensures, length-append)
+    (rw (counted_data _ _ c.requires.sized.counted c.in_ok-step.ensures.sized) refl)

@@ -15,24 +15,16 @@ loop-count-init g c = record {
 }
 
 pub returns-in-Silence-clause-hears : goal.returns-in-Silence-clause-hears
-returns-in-Silence-clause-hears g c = record {
-  ok = heard_silence c.loop-count.invariant.listening (c.is_empty.ensures.0 c.if-is_empty.true) (omega arith)
-      c.in-Silence.is c.in_ok-hear.ensures.hears.ok;
-  holds = search rules;
-  err = search rules;
-  counts = search rules;
-  fits = search rules;
-}
+returns-in-Silence-clause-hears g c =
+    let hears = heard_silence c.loop-count.invariant.listening (c.is_empty.ensures.0 c.if-is_empty.true) (omega arith)
+    c.in-Silence.is c.in_ok-hear.ensures.hears.ok in
+    search rules
 
 pub returns-in-End-clause-hears : goal.returns-in-End-clause-hears
-returns-in-End-clause-hears g c = record {
-  ok = heard_end c.loop-count.invariant.listening (c.is_empty.ensures.0 c.if-is_empty.true) (omega arith)
-      c.in-End.is c.in_ok-hear.ensures.hears.ok;
-  holds = search rules;
-  err = search rules;
-  counts = search rules;
-  fits = search rules;
-}
+returns-in-End-clause-hears g c =
+    let hears = heard_end c.loop-count.invariant.listening (c.is_empty.ensures.0 c.if-is_empty.true) (omega arith)
+    c.in-End.is c.in_ok-hear.ensures.hears.ok in
+    search rules
 
 pub returns-in_err-hear-clause-hears : goal.returns-in_err-hear-clause-hears
 returns-in_err-hear-clause-hears g c = record {
@@ -47,24 +39,18 @@ returns-in_err-hear-clause-hears g c = record {
 }
 
 pub returns-then-is_answer-clause-hears : goal.returns-then-is_answer-clause-hears
-returns-then-is_answer-clause-hears g c = record {
-  ok =
-      let l : Listening c.args.seq c.args.unread.now (g.L.Link.view c.args.link.now) c.loop-count.reader
-      c.loop-count.count c.if-is_empty.unread (g.L.Link.view c.if-is_empty.link) =
-      elim c.if-is_empty.branch [
-        | then-is_empty+in_ok-hear+in-Bytes w ↦ rw (w.unread-is, w.link-is)
-            (heard_bytes c.loop-count.invariant.listening (c.is_empty.ensures.0 w.if-is_empty.true)
-            (omega arith) (omega (arith, w.in_ok-hear.ensures.hears.within)) w.in-Bytes.is
-            w.in_ok-hear.ensures.hears.ok)
-        | else-is_empty w ↦ rw (w.unread-is, w.link-is) c.loop-count.invariant.listening
-      ] in
-      finds _ _ _ _ l c.read_on-used.ensures.fed (c.is_answer.ensures.yes c.if-is_answer.true)
-      (omega (arith, c.read_on-used.ensures.within));
-  holds = search rules;
-  err = search rules;
-  counts = search rules;
-  fits = search rules;
-}
+returns-then-is_answer-clause-hears g c =
+    let l : Listening c.args.seq c.args.unread.now (g.L.Link.view c.args.link.now) c.loop-count.reader
+    c.loop-count.count c.if-is_empty.unread (g.L.Link.view c.if-is_empty.link) =
+    elim c.if-is_empty.branch [
+      | then-is_empty+in_ok-hear+in-Bytes w ↦ rw (w.unread-is, w.link-is)
+          (heard_bytes c.loop-count.invariant.listening (c.is_empty.ensures.0 w.if-is_empty.true) (omega arith)
+          (omega (arith, w.in_ok-hear.ensures.hears.within)) w.in-Bytes.is w.in_ok-hear.ensures.hears.ok)
+      | else-is_empty w ↦ rw (w.unread-is, w.link-is) c.loop-count.invariant.listening
+    ] in
+    let hears = finds _ _ _ _ l c.read_on-used.ensures.fed (c.is_answer.ensures.yes c.if-is_answer.true)
+    (omega (arith, c.read_on-used.ensures.within)) in
+    search rules
 
 pub loop-count-preserved : goal.loop-count-preserved
 loop-count-preserved g c =
@@ -93,10 +79,6 @@ loop-count-preserved g c =
     }
 
 pub returns-clause-hears : goal.returns-clause-hears
-returns-clause-hears g c = record {
-  ok = babbles c.loop-count.invariant.listening (omega arith);
-  holds = search rules;
-  err = search rules;
-  counts = search rules;
-  fits = search rules;
-}
+returns-clause-hears g c =
+    let hears = babbles c.loop-count.invariant.listening (omega arith) in
+    search rules

@@ -1,4 +1,4 @@
-use Rattle.std.proofs.Common.{◌≡◌, subst, ℕ, List, [], ◌∷◌, Ok, rules}
+use Rattle.std.proofs.Common.{◌≡◌, ℕ, List, [], ◌∷◌, Ok, rules}
 use Rattle.std.proofs.lemmas.Result.{err_from_is_err_and}
 use Rattle.stk_frame.specs.declared.command.Command.{Command}
 use Rattle.stk_frame.specs.declared.command.Command.TheVariants.{SignOn}
@@ -28,81 +28,61 @@ entered : {k m n : Position} {r o p : LinkView} {nothing : List ℕ} {command : 
     → Reaches handshake k r entering m o → PlaysOver (step (command ∷ [])) m o p (Ok nothing) n
     → Reaches handshake k r (play signature_steps []) n p
 unfolding entering
-entered {m = m} {n = n} {o = o} {p = p} {nothing = nothing} is f g =
-    reaches_on f (goes_on (λ nothing. play signature_steps []) nothing
-    (subst (λ x. PlaysOver (step (x ∷ [])) m o p (Ok nothing) n) is g))
+entered {nothing = nothing} is f g =
+    reaches_on f (goes_on (λ nothing. play signature_steps []) nothing (rw is at g))
 
 pub returns-in_err-step-clause-asks : goal.returns-in_err-step-clause-asks
 unfolding handshake
-returns-in_err-step-clause-asks g c = record {
-  played =
-      let p = err_from_is_err_and c.from_residual.result c.from_residual.ensures.1 in
-      rw (p.1, p.2) (stops_there (step (SignOn ∷ []))
-      (λ name. step (enter ∷ []) >>= if_done (λ nothing. play signature_steps [])) _ _ _ _ _
-      c.in_err-step.ensures.asks.played);
-  counted = search rules;
-  bound = search rules;
-}
+returns-in_err-step-clause-asks g c =
+    let p = err_from_is_err_and c.from_residual.result c.from_residual.ensures.1 in
+    rw (p.1, p.2) (
+    let played = stops_there (step (SignOn ∷ []))
+    (λ name. step (enter ∷ []) >>= if_done (λ nothing. play signature_steps [])) _ _ _ _ _
+    c.in_err-step.ensures.asks.played in
+    search rules)
 
 pub returns-in_err-step-2-clause-asks : goal.returns-in_err-step-2-clause-asks
 unfolding entering
-returns-in_err-step-2-clause-asks g c = record {
-  played =
-      let p = err_from_is_err_and c.from_residual-in_err-step-2.result c.from_residual-in_err-step-2.ensures.1 in
-      rw (p.1, p.2) (stops_on _ _ _ (signed_on c.in_ok-step.ensures.asks.played)
-      (stops_there (step (enter ∷ [])) (λ nothing. play signature_steps []) _ _ _ _ _
-      (rw c.enter.ensures.value at c.in_err-step-2.ensures.asks.played)));
-  counted = search rules;
-  bound = search rules;
-}
+returns-in_err-step-2-clause-asks g c =
+    let p = err_from_is_err_and c.from_residual-in_err-step-2.result c.from_residual-in_err-step-2.ensures.1 in
+    rw (p.1, p.2) (
+    let played = stops_on _ _ _ (signed_on c.in_ok-step.ensures.asks.played)
+    (stops_there (step (enter ∷ [])) (λ nothing. play signature_steps []) _ _ _ _ _
+    (rw c.enter.ensures.value at c.in_err-step-2.ensures.asks.played)) in
+    search rules)
 
 pub returns-in_err-first-clause-asks : goal.returns-in_err-first-clause-asks
-returns-in_err-first-clause-asks g c = record {
-  played =
-      let p = err_from_is_err_and c.from_residual-in_err-first.result c.from_residual-in_err-first.ensures.1 in
-      rw (p.1, p.2) (stops_on _ _ _ (entered c.enter.ensures.value (signed_on c.in_ok-step.ensures.asks.played)
-      c.in_ok-step-2.ensures.asks.played)
-      (play_stops (read_signature 0 ∷ []) _ [] _ _ _ _ _ c.in_err-first.ensures.asks.played));
-  counted = search rules;
-  bound = search rules;
-}
+returns-in_err-first-clause-asks g c =
+    let p = err_from_is_err_and c.from_residual-in_err-first.result c.from_residual-in_err-first.ensures.1 in
+    rw (p.1, p.2) (
+    let played = stops_on _ _ _ (entered c.enter.ensures.value (signed_on c.in_ok-step.ensures.asks.played)
+    c.in_ok-step-2.ensures.asks.played) (play_stops (read_signature 0 ∷ []) _ [] _ _ _ _ _
+    c.in_err-first.ensures.asks.played) in
+    search rules)
 
 pub returns-in_err-second-clause-asks : goal.returns-in_err-second-clause-asks
-returns-in_err-second-clause-asks g c = record {
-  played =
-      let p = err_from_is_err_and c.from_residual-in_err-second.result c.from_residual-in_err-second.ensures.1 in
-      rw (p.1, p.2) (stops_on _ _ _ (reaches_on
-      (entered c.enter.ensures.value (signed_on c.in_ok-step.ensures.asks.played)
-      c.in_ok-step-2.ensures.asks.played)
-      (play_on (read_signature 0 ∷ []) _ [] _ c.in_ok-first.ensures.asks.played))
-      (play_stops (read_signature 1 ∷ []) _ _ _ _ _ _ _ c.in_err-second.ensures.asks.played));
-  counted = search rules;
-  bound = search rules;
-}
+returns-in_err-second-clause-asks g c =
+    let p = err_from_is_err_and c.from_residual-in_err-second.result c.from_residual-in_err-second.ensures.1 in
+    rw (p.1, p.2) (
+    let played = stops_on _ _ _ (reaches_on (entered c.enter.ensures.value (signed_on c.in_ok-step.ensures.asks.played)
+    c.in_ok-step-2.ensures.asks.played) (play_on (read_signature 0 ∷ []) _ [] _ c.in_ok-first.ensures.asks.played))
+    (play_stops (read_signature 1 ∷ []) _ _ _ _ _ _ _ c.in_err-second.ensures.asks.played) in
+    search rules)
 
 pub returns-in_err-third-clause-asks : goal.returns-in_err-third-clause-asks
-returns-in_err-third-clause-asks g c = record {
-  played =
-      let p = err_from_is_err_and c.from_residual-in_err-third.result c.from_residual-in_err-third.ensures.1 in
-      rw (p.1, p.2) (stops_on _ _ _ (reaches_on
-      (reaches_on (entered c.enter.ensures.value (signed_on c.in_ok-step.ensures.asks.played)
-      c.in_ok-step-2.ensures.asks.played)
-      (play_on (read_signature 0 ∷ []) _ [] _ c.in_ok-first.ensures.asks.played))
-      (play_on (read_signature 1 ∷ []) _ _ _ c.in_ok-second.ensures.asks.played))
-      (play_stops (read_signature 2 ∷ []) _ _ _ _ _ _ _ c.in_err-third.ensures.asks.played));
-  counted = search rules;
-  bound = search rules;
-}
+returns-in_err-third-clause-asks g c =
+    let p = err_from_is_err_and c.from_residual-in_err-third.result c.from_residual-in_err-third.ensures.1 in
+    rw (p.1, p.2) (
+    let played = stops_on _ _ _ (reaches_on (reaches_on (entered c.enter.ensures.value (signed_on
+    c.in_ok-step.ensures.asks.played) c.in_ok-step-2.ensures.asks.played) (play_on (read_signature 0 ∷ []) _ [] _
+    c.in_ok-first.ensures.asks.played)) (play_on (read_signature 1 ∷ []) _ _ _ c.in_ok-second.ensures.asks.played))
+    (play_stops (read_signature 2 ∷ []) _ _ _ _ _ _ _ c.in_err-third.ensures.asks.played) in
+    search rules)
 
 pub returns-clause-asks : goal.returns-clause-asks
-returns-clause-asks g c = record {
-  played =
-      play_done _ (reaches_on (reaches_on (reaches_on
-      (entered c.enter.ensures.value (signed_on c.in_ok-step.ensures.asks.played)
-      c.in_ok-step-2.ensures.asks.played)
-      (play_on (read_signature 0 ∷ []) _ [] _ c.in_ok-first.ensures.asks.played))
-      (play_on (read_signature 1 ∷ []) _ _ _ c.in_ok-second.ensures.asks.played))
-      (play_on (read_signature 2 ∷ []) _ _ _ c.in_ok-third.ensures.asks.played));
-  counted = search rules;
-  bound = search rules;
-}
+returns-clause-asks g c =
+    let played = play_done _ (reaches_on (reaches_on (reaches_on (entered c.enter.ensures.value (signed_on
+    c.in_ok-step.ensures.asks.played) c.in_ok-step-2.ensures.asks.played) (play_on (read_signature 0 ∷ []) _ [] _
+    c.in_ok-first.ensures.asks.played)) (play_on (read_signature 1 ∷ []) _ _ _ c.in_ok-second.ensures.asks.played))
+    (play_on (read_signature 2 ∷ []) _ _ _ c.in_ok-third.ensures.asks.played)) in
+    search rules

@@ -24,15 +24,15 @@ read_step-requires-clause-room g c =
     (omega (arith, more.more, more.within, c.loop-number.invariant.size, c.loop-number.invariant.room))
 
 pub returns-in_err-read_step-clause-asks : goal.returns-in_err-read_step-clause-asks
-returns-in_err-read_step-clause-asks g c = record {
-  played =
-      let p = err_from_is_err_and c.from_residual.result c.from_residual.ensures.1 in
-      rw (p.1, p.2) (stops_next (read_step c.args.part.now c.args.mem) _ _ _ c.loop-number.invariant.reaches
-      (rw c.read_count-number-end.ensures.value at c.loop-number-test.true) _ _ _
-      (rw (c.load_at-first.ensures.value, c.read_at-last.ensures.value) at c.in_err-read_step.ensures.asks.played));
-  counted = search rules;
-  bound = search rules;
-}
+returns-in_err-read_step-clause-asks g c =
+    let p = err_from_is_err_and c.from_residual.result c.from_residual.ensures.1 in
+    rw (p.1, p.2) (
+    let played = stops_next (read_step c.args.part.now c.args.mem) _ _ _ c.loop-number.invariant.reaches (rw
+    c.read_count-number-end.ensures.value at c.loop-number-test.true) _ _ _ (rw (
+      c.load_at-first.ensures.value,
+      c.read_at-last.ensures.value,
+    ) at c.in_err-read_step.ensures.asks.played) in
+    search rules)
 
 pub loop-number-preserved : goal.loop-number-preserved
 loop-number-preserved g c =
@@ -50,12 +50,10 @@ loop-number-preserved g c =
     }
 
 pub returns-clause-asks : goal.returns-clause-asks
-returns-clause-asks g c = record {
-  played = plays_all (read_step c.args.part.now c.args.mem) _ _ c.loop-number.invariant.reaches
-      (rw c.read_count-number-end.ensures.value at c.loop-number-test.false);
-  counted = search rules;
-  bound = search rules;
-}
+returns-clause-asks g c =
+    let played = plays_all (read_step c.args.part.now c.args.mem) _ _ c.loop-number.invariant.reaches (rw
+    c.read_count-number-end.ensures.value at c.loop-number-test.false) in
+    search rules
 
 pub returns-clause-size : goal.returns-clause-size
 returns-clause-size g c = c.loop-number.invariant.size ∙ all_brought c.args.part.now c.args.mem _

@@ -14,15 +14,13 @@ loop-place-init g c = record {
 }
 
 pub returns-in_err-write_place-clause-asks : goal.returns-in_err-write_place-clause-asks
-returns-in_err-write_place-clause-asks g c = record {
-  played =
-      let p = err_from_is_err_and c.from_residual.result c.from_residual.ensures.1 in
-      rw (p.1, p.2) (stops_next (place_steps c.args.part.now c.args.mem c.args.image.now) _ _ _
-      c.loop-place.invariant.reaches (rw c.place_count-place-end.ensures at c.loop-place-test.true) _ _ _
-      c.in_err-write_place.ensures.asks.played);
-  counted = search rules;
-  bound = search rules;
-}
+returns-in_err-write_place-clause-asks g c =
+    let p = err_from_is_err_and c.from_residual.result c.from_residual.ensures.1 in
+    rw (p.1, p.2) (
+    let played = stops_next (place_steps c.args.part.now c.args.mem c.args.image.now) _ _ _
+    c.loop-place.invariant.reaches (rw c.place_count-place-end.ensures at c.loop-place-test.true) _ _ _
+    c.in_err-write_place.ensures.asks.played in
+    search rules)
 
 pub loop-place-preserved : goal.loop-place-preserved
 loop-place-preserved g c = record {
@@ -35,9 +33,7 @@ loop-place-preserved g c = record {
 }
 
 pub returns-clause-asks : goal.returns-clause-asks
-returns-clause-asks g c = record {
-  played = plays_all (place_steps c.args.part.now c.args.mem c.args.image.now) _ _ c.loop-place.invariant.reaches
-      (rw c.place_count-place-end.ensures at c.loop-place-test.false);
-  counted = search rules;
-  bound = search rules;
-}
+returns-clause-asks g c =
+    let played = plays_all (place_steps c.args.part.now c.args.mem c.args.image.now) _ _ c.loop-place.invariant.reaches
+    (rw c.place_count-place-end.ensures at c.loop-place-test.false) in
+    search rules

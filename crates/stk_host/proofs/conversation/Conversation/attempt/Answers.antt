@@ -7,16 +7,10 @@ pub returns-in-None-clause-replies : goal.returns-in-None-clause-replies
 returns-in-None-clause-replies g c = rw c.in-None.is (gets_one _ _ _ _ _ _ c.exchange.ensures.replies)
 
 pub returns-in_err-short-in-Some-clause-replies : goal.returns-in_err-short-in-Some-clause-replies
-returns-in_err-short-in-Some-clause-replies g c = record {
-  ok = search rules;
-  err =
-      let p = err_from_is_err_and c.from_residual.result c.from_residual.ensures.1 in
-      rw (p.1, p.2, c.in-Some.is) (attempt_off c.in-Some.command (c.args.last.now ∷ [])
-      c.in_err-short-in-Some.ensures.replies.err);
-  sized = search rules;
-  counts = search rules;
-  bound = search rules;
-}
+returns-in_err-short-in-Some-clause-replies g c =
+    let p = err_from_is_err_and c.from_residual.result c.from_residual.ensures.1 in
+    rw (p.1, p.2, c.in-Some.is) (let played = attempt_off c.in-Some.command (c.args.last.now ∷ [])
+    c.in_err-short-in-Some.ensures.replies.err in search rules)
 
 pub returns-in-Data-clause-replies : goal.returns-in-Data-clause-replies
 returns-in-Data-clause-replies g c = rw c.in-Some.is (gets_last c.in-Some.command _ _ _ _ _ _ _ _ _ _

@@ -12,28 +12,22 @@ loop-tried-init g c = record {
 }
 
 pub returns-in-Ok-Data-clause-asks : goal.returns-in-Ok-Data-clause-asks
-returns-in-Ok-Data-clause-asks g c = record {
-  played = try_data {k = 4 - c.loop-tried._tried} (4 - (c.loop-tried._tried + 1)) _ _ (omega arith)
-      c.loop-tried.invariant.reaches c.in-Ok-Data.ensures.replies.ok c.in-Ok-Data.field-0-is;
-  counted = search rules;
-  bound = search rules;
-}
+returns-in-Ok-Data-clause-asks g c =
+    let played = try_data {k = 4 - c.loop-tried._tried} (4 - (c.loop-tried._tried + 1)) _ _ (omega arith)
+    c.loop-tried.invariant.reaches c.in-Ok-Data.ensures.replies.ok c.in-Ok-Data.field-0-is in
+    search rules
 
 pub returns-in-Ok-Stop-clause-asks : goal.returns-in-Ok-Stop-clause-asks
-returns-in-Ok-Stop-clause-asks g c = record {
-  played = try_stop {k = 4 - c.loop-tried._tried} (4 - (c.loop-tried._tried + 1)) _ _ (omega arith)
-      c.loop-tried.invariant.reaches _ c.in-Ok-Stop.ensures.replies.ok c.in-Ok-Stop.field-0-is;
-  counted = search rules;
-  bound = search rules;
-}
+returns-in-Ok-Stop-clause-asks g c =
+    let played = try_stop {k = 4 - c.loop-tried._tried} (4 - (c.loop-tried._tried + 1)) _ _ (omega arith)
+    c.loop-tried.invariant.reaches _ c.in-Ok-Stop.ensures.replies.ok c.in-Ok-Stop.field-0-is in
+    search rules
 
 pub returns-in-Err-clause-asks : goal.returns-in-Err-clause-asks
-returns-in-Err-clause-asks g c = record {
-  played = try_breaks {k = 4 - c.loop-tried._tried} (4 - (c.loop-tried._tried + 1)) _ _ (omega arith)
-      c.loop-tried.invariant.reaches c.in-Err.ensures.replies.err;
-  counted = search rules;
-  bound = search rules;
-}
+returns-in-Err-clause-asks g c =
+    let played = try_breaks {k = 4 - c.loop-tried._tried} (4 - (c.loop-tried._tried + 1)) _ _ (omega arith)
+    c.loop-tried.invariant.reaches c.in-Err.ensures.replies.err in
+    search rules
 
 pub loop-tried-preserved : goal.loop-tried-preserved
 loop-tried-preserved g c = record {
@@ -45,8 +39,6 @@ loop-tried-preserved g c = record {
 }
 
 pub returns-clause-asks : goal.returns-clause-asks
-returns-clause-asks g c = record {
-  played = try_end (4 - c.loop-tried._tried) _ _ c.loop-tried.invariant.reaches (omega arith);
-  counted = search rules;
-  bound = search rules;
-}
+returns-clause-asks g c =
+    let played = try_end (4 - c.loop-tried._tried) _ _ c.loop-tried.invariant.reaches (omega arith) in
+    search rules

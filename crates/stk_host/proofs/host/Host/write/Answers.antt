@@ -16,15 +16,9 @@ returns-then-not-writable-clause-calls g c = record {
 }
 
 pub returns-clause-calls : goal.returns-clause-calls
-returns-clause-calls g c = record {
-  stays = search rules;
-  played = λ sound. rw (← c.self.view_is) (rw c.judge_end-outcome.ensures
-      (writing_ends c.self.inside.part c.args.mem c.args.image.now c.write_memory-written.result _ _ _ _
-      (sym c.writable.ensures ∙ c.if-not-writable.false) c.write_memory-written.ensures.asks.played));
-  lasts = search rules;
-  part = search rules;
-  failed = search rules;
-  sound = search rules;
-  counted = search rules;
-  bound = search rules;
-}
+returns-clause-calls g c =
+    rw (← c.self.view_is) (
+    let played = rw (← c.judge_end-outcome.ensures) at (writing_ends c.self.inside.part c.args.mem c.args.image.now
+    c.write_memory-written.result _ _ _ _ (sym c.writable.ensures ∙ c.if-not-writable.false)
+    c.write_memory-written.ensures.asks.played) in
+    search rules)
