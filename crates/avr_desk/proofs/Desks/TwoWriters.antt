@@ -156,18 +156,6 @@ module _ {S F H I O E : Type 0} (system : Ghosts S F H) (reads : Reads F) (write
   more_true opened hold r u is are = All-append TrueUse (all_uses r) (u ∷ []) (uses_true opened hold r are)
       (All-cons TrueUse u [] is (All-nil TrueUse))
 
-  pub true_now : (a : Desk) → Since a a
-  true_now a = record {
-    said = [];
-    messages = sym (append-nil a.kept.messages);
-    told = Appends-nil (messages_of.contents a.messages);
-    put = [];
-    output = sym (append-nil a.kept.output);
-    dashes = λ none. none;
-    out = λ none elsewhere. (elsewhere, Appends-nil (output_of.contents a.output));
-    files = λ are. are;
-  }
-
   true_on : (a b c : Desk) → Since a b → Since b c → Since a c
   true_on a b c f g = record {
     said = f.said ++ g.said;
@@ -213,6 +201,14 @@ module _ {S F H I O E : Type 0} (system : Ghosts S F H) (reads : Reads F) (write
     files = files;
   }
 
+  pub true_now : (a : Desk) → Since a a
+  true_now a = quiet refl refl (λ none. none) (λ none was. was) (λ are. are)
+
+  -- all is as it was but the uses, and what is open
+  files_now : {o p : Held F I} {h : Option H} {r : Record} {uses : List FileUse} {current : Open} → Files o h r
+      → All TrueUse uses → TrueOpen p current → Files p h (record r { uses = uses; current = current })
+  files_now are uses current = record { uses = uses; current = current; denied = are.denied; held = are.held }
+
   -- it was opened
   opened_true : {b : Desk} {f u : ℕ} {e : Option ErrorKind} {o : Held F I} {k : Record} (x : Reading)
       → k ≡ with_open (ToRead x) b.kept → is_output o ≡ false → TrueOpen o (ToRead x)
@@ -220,12 +216,7 @@ module _ {S F H I O E : Type 0} (system : Ghosts S F H) (reads : Reads F) (write
   opened_true {b = b} x kept elsewhere is = rw kept (quiet refl refl
       (λ none. no_dash_in_front (all_files b.kept) [] (sym (ap has_dash (files_opened (ToRead x) b.kept)) ∙ none))
       (λ none was. elsewhere)
-      (λ are. record {
-        uses = uses_true b.opened b.hold b.kept are;
-        current = is;
-        denied = are.denied;
-        held = are.held;
-      }))
+      (λ are. files_now are (uses_true b.opened b.hold b.kept are) is))
 
   pub input_true : {b : Desk} {f u : ℕ} {e : Option ErrorKind} {k : Record} {name own : Bytes} {i : I} → own ≡ name
       → true ≡ is_dash name → k ≡ with_open (ToRead (record { name = own; bytes = []; ended = false })) b.kept
@@ -249,12 +240,7 @@ module _ {S F H I O E : Type 0} (system : Ghosts S F H) (reads : Reads F) (write
   absent_true {b = b} {own = own} same lacks kept =
       rw kept (quiet refl refl
       (λ none. sym (ap has_dash (files_absent own b.kept)) ∙ none) (λ none was. refl)
-      (λ are. record {
-        uses = more_true b.opened b.hold b.kept (Opened (Absent own)) (subst system.lacks (sym same) lacks) are;
-        current = refl;
-        denied = are.denied;
-        held = are.held;
-      }))
+      (λ are. files_now are (more_true b.opened b.hold b.kept (Opened (Absent own)) (subst system.lacks (sym same) lacks) are) refl))
 
   -- it was created
   create_true : {b : Desk} {f u : ℕ} {e : Option ErrorKind} {o : Held F I} {k : Record} (x : Writing)
@@ -266,12 +252,7 @@ module _ {S F H I O E : Type 0} (system : Ghosts S F H) (reads : Reads F) (write
       (λ none. no_dash_in_front (all_files b.kept) (x ∷ []) (sym files ∙ none))
       (λ none was. to_output
       ∙ (or_parts (is_dash x.name) false (no_dash_behind (all_files b.kept) (x ∷ []) (sym files ∙ none))).0)
-      (λ are. record {
-        uses = uses_true b.opened b.hold b.kept are;
-        current = is;
-        denied = are.denied;
-        held = are.held;
-      }))
+      (λ are. files_now are (uses_true b.opened b.hold b.kept are) is))
 
   pub output_true : {b : Desk} {f u : ℕ} {e : Option ErrorKind} {k : Record} {name own : Bytes} → own ≡ name
       → true ≡ is_dash name → k ≡ with_open (ToWrite (record { name = own; bytes = [] })) b.kept
@@ -339,12 +320,7 @@ module _ {S F H I O E : Type 0} (system : Ghosts S F H) (reads : Reads F) (write
       let files : has_dash (all_files now) ≡ has_dash (all_files b.kept) =
       ap (λ (fs : List Writing). has_dash (files_among b.kept.uses ++ fs)) (noted_files _ _ b.kept.current) in
       rw kept (quiet refl refl (λ none. sym files ∙ none) (λ none was. same ∙ was)
-      (λ are. record {
-        uses = are.uses;
-        current = read_on_open b.opened o buf n b.kept.current gives are.current;
-        denied = are.denied;
-        held = are.held;
-      }))
+      (λ are. files_now are are.uses (read_on_open b.opened o buf n b.kept.current gives are.current)))
 
   -- or none were
   kept_open : (old new : Held F I) (o : Open) → HeldGivesNone reads input old new → TrueOpen old o → TrueOpen new o
@@ -360,12 +336,7 @@ module _ {S F H I O E : Type 0} (system : Ghosts S F H) (reads : Reads F) (write
       → HeldGivesNone reads input b.opened o → Since b (Next b f u e o b.hold b.kept)
   unread_true {b = b} {o = o} same none =
       quiet refl refl (λ none. none) (λ none was. same ∙ was)
-      (λ are. record {
-        uses = are.uses;
-        current = kept_open b.opened o b.kept.current none are.current;
-        denied = are.denied;
-        held = are.held;
-      })
+      (λ are. files_now are are.uses (kept_open b.opened o b.kept.current none are.current))
 
   -- bytes went to a file of its own
   write_on : (old new : F) (bytes : Bytes) (o : Open) → Appends (writes.contents old) (writes.contents new) bytes
@@ -386,13 +357,7 @@ module _ {S F H I O E : Type 0} (system : Ghosts S F H) (reads : Reads F) (write
   write_true {b = b} {old = old} {new = new} bytes was took kept =
       rw kept (quiet refl refl
       (λ none. sym (written_dashes bytes b.kept) ∙ none) (λ none elsewhere. refl)
-      (λ are. record {
-        uses = are.uses;
-        current = write_on old new bytes b.kept.current took
-            (subst (λ (h : Held F I). TrueOpen h b.kept.current) was are.current);
-        denied = are.denied;
-        held = are.held;
-      }))
+      (λ are. files_now are are.uses (write_on old new bytes b.kept.current took (subst (λ (h : Held F I). TrueOpen h b.kept.current) was are.current))))
 
   -- a desk after a call that sent to the output
   abbrev Put : Desk → O → ℕ → ℕ → Option ErrorKind → Record → Desk
