@@ -46,8 +46,7 @@ no_dash_behind (file ∷ prefix) back none =
 same_dash_behind : (files one other : List Writing) → has_dash one ≡ has_dash other
     → has_dash (files ++ one) ≡ has_dash (files ++ other)
 same_dash_behind [] one other same = same
-same_dash_behind (file ∷ files) one other same =
-    ap (λ (b : Bool). is_dash file.name || b) (same_dash_behind files one other same)
+same_dash_behind (file ∷ files) one other same = grind (arith, nat_tests, same_dash_behind files one other same)
 
 noted_files : (bytes : Bytes) (ends : Bool) (o : Open) → file_of (noted bytes ends o) ≡ file_of o
 noted_files bytes ends Closed = refl
@@ -60,8 +59,7 @@ written_dash bytes (ToRead x) = refl
 written_dash bytes (ToWrite x) = refl
 
 written_dashes : (bytes : Bytes) (r : Record) → has_dash (all_files (after_write bytes r)) ≡ has_dash (all_files r)
-written_dashes bytes r = same_dash_behind (files_among r.uses) (file_of (written_on bytes r.current))
-    (file_of r.current) (written_dash bytes r.current)
+written_dashes bytes r = grind (arith, nat_tests, same_dash_behind, written_dash)
 
 -- ---- a handle that gives
 

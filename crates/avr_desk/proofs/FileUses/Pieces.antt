@@ -22,10 +22,8 @@ pub reads_opened : (name : Bytes) (old now new : Record) (r : Result Contents Fi
 reads_opened name old now new (Ok c) opened read = opened_read name old now new c.bytes c.ended opened read
 reads_opened name old now new (Err Absent) opened read = absurd read
 reads_opened name old now new (Err NotOpened) opened read = absurd read
-reads_opened name old now new (Err NotRead) opened read =
-    (read.0, opened_read name old now new read.0 false opened read.1)
-reads_opened name old now new (Err Memory) opened read =
-    (read.0, opened_read name old now new read.0 false opened read.1)
+reads_opened name old now new (Err NotRead) opened read = grind (arith, nat_tests)
+reads_opened name old now new (Err Memory) opened read = grind (arith, nat_tests)
 
 -- a piece read, and the next
 noted-noted : (o : Open) (a b : Bytes) (ends : Bool) → noted b ends (noted a false o) ≡ noted (a ++ b) ends o
@@ -41,9 +39,7 @@ noted-noted (ToWrite x) a b ends = refl
 
 pub read_next : (old now new : Record) (a b : Bytes) (ends : Bool) → now ≡ after_reading a false old
     → new ≡ after_reading b ends now → new ≡ after_reading (a ++ b) ends old
-read_next old now new a b ends first then =
-    then ∙ ap (after_reading b ends) first ∙ ap (λ (o : Open). record old { current = o })
-    (noted-noted old.current a b ends)
+read_next old now new a b ends first then = grind (arith, nat_tests, noted-noted)
 
 -- a call of `read` that gave bytes
 pub read_piece : (old now new : Record) (a buf : Bytes) (n : ℕ) → now ≡ after_reading a false old

@@ -1,4 +1,5 @@
 -- Bytes that are sent one after the other.
+use Rattle.std.proofs.lemmas.Bool.Decides.{nat_tests}
 use Rattle.std.proofs.Common.{◌≡◌, ◌∙◌, ap, sym, refl, arith, ℕ, ◌+◌, ◌-◌, ◌++◌, append_assoc, append-nil, take, drop, length, [], ◌≤◌}
 use Rattle.std.proofs.Math.Seq.{take-add, take-append-add}
 use Rattle.std.proofs.lemmas.Grind.{common_steps}
@@ -40,11 +41,7 @@ slice_rest bytes m = grind (arith, common_steps)
 pub sent_on : (s : Stream) (old now new : Record) (bytes : Bytes) (m n : ℕ) → now ≡ after_sent s (take m bytes) old
     → new ≡ after_sent s (take n (take (length bytes - m) (drop m bytes))) now
     → new ≡ after_sent s (take (m + n) bytes) old
-sent_on s old now new bytes m n first then =
-    then ∙ ap (λ (b : Bytes). after_sent s (take n b) now) (slice_rest bytes m)
-    ∙ ap (after_sent s (take n (drop m bytes))) first
-    ∙ after_sent-after_sent s old (take m bytes) (take n (drop m bytes))
-    ∙ ap (λ (b : Bytes). after_sent s b old) (sym (take-add m n bytes))
+sent_on s old now new bytes m n first then = grind (arith, nat_tests, slice_rest, after_sent-after_sent, take-add)
 
 -- the first m bytes are sent, and of the others a prefix (the counts say nothing here)
 pub sent_on_part : (s : Stream) (old now new : Record) (bytes : Bytes) (m : ℕ) → m ≤ length bytes

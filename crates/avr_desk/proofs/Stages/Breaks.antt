@@ -1,5 +1,6 @@
 -- What is reported where a stage broke off, by what a desk shows.
-use Rattle.std.proofs.Common.{◌≡◌, ◌∙◌, sym, ap, subst, refl, ℕ, ◌⊎◌, inl, inr, List, [], ◌∷◌, ◌++◌, drop, append-nil, append_assoc, Result, Ok, Err, true, false}
+use Rattle.std.proofs.lemmas.Bool.Decides.{nat_tests}
+use Rattle.std.proofs.Common.{arith, ◌≡◌, ◌∙◌, sym, ap, subst, refl, ℕ, ◌⊎◌, inl, inr, List, [], ◌∷◌, ◌++◌, drop, append-nil, append_assoc, Result, Ok, Err, true, false}
 use Rattle.std.proofs.lemmas.List.{append_cancel_left}
 use Rattle.ghosts.specs.Failures.{HasStood}
 use Rattle.avr_desk.specs.Record.{DeskView, Record, showing, all_openings, opening_of, openings_among, after_err, written_on, Bytes}
@@ -14,7 +15,7 @@ use Rattle.avr_desk.proofs.Stages.Sayings.{after_append}
 use Rattle.avr_desk.proofs.Lines.Told.{follows_here, not_failed}
 use Rattle.avr_desk.proofs.FileUses.Uses.{openings_absent, openings_opened}
 use Rattle.avr_desk.specs.Playing.{Break, InLine, NotOpened, NotRead, NoMemory, NoMemoryFor, last_done, IsBreak, Taking, TakesThere, TellsBreak, StageBrokeOff, WentRefused, Goes, part_read}
-use Rattle.avr_desk.specs.Stage.{Stage, StageAnswer, Made, Refused, Unread, StageResult, all_told, ◌>>=◌, content_stage, next_opening, file_stage}
+use Rattle.avr_desk.specs.Stage.{Stage, StageAnswer, Made, Refused, Unread, StageResult, all_told, ◌>>=◌, next_opening, file_stage}
 use Rattle.avr_desk.proofs.Stages.Played.{says_more}
 
 -- ---- where the desk did not fail
@@ -27,19 +28,13 @@ EndsWith line r = (prefix : Bytes) × (r.messages ≡ prefix ++ line)
 told_last : (before after : Record) (said last : List Saying) (told line : Bytes) → told ≡ line
     → ((r : Record) → (after_all last r).messages ≡ r.messages ++ told)
     → after ≡ after_all (said ++ last) before → EndsWith line after
-told_last before after said last told line whole ends kept =
-    let same : after ≡ after_all (said ++ last) before = cc in (
-      (after_all said before).messages,
-      ap (λ (x : Record). x.messages) (same ∙ after_append said last before) ∙ ends (after_all said before)
-          ∙ ap (λ (xs : Bytes). (after_all said before).messages ++ xs) whole,
-    )
+told_last before after said last told line whole ends kept = grind (arith, nat_tests, after_append)
 
 -- of a desk that did not fail a line was reported whole
 whole_line : (line told : Bytes) (old new : DeskView) → HasStood old.failures new.failures → TellsLine line told old new
     → told ≡ line
 whole_line line told old new sound (inl whole) = whole.0
-whole_line line told old new sound (inr part) =
-    absurd (not_failed old old new new (follows_here old) (follows_here new) sound part.1.0)
+whole_line line told old new sound (inr part) = grind (arith, nat_tests)
 
 -- and of the breaks only the want of memory is left
 broke_lacks : {A : Type 0} (taking : Taking) (stage : Stage A) (before after : Record) (k l m n : ℕ) → HasStood k l
@@ -96,8 +91,7 @@ written_openings bytes (ToWrite x) = refl
 -- one more, and those after it
 one_more : (shown now more : List Opening) (next : Opening) (all : List Opening) → now ≡ shown ++ next ∷ []
     → all ≡ now ++ more → all ≡ shown ++ next ∷ more
-one_more shown now more next all one is =
-    is ∙ (ap (λ (os : List Opening). os ++ more) one ∙ append_assoc shown (next ∷ []) more)
+one_more shown now more next all one is = grind (arith, nat_tests, append_assoc)
 
 none_more : (shown now more all : List Opening) → now ≡ shown → all ≡ now ++ more → all ≡ shown ++ more
 none_more shown now more all same is = is ∙ ap (λ (os : List Opening). os ++ more) same
@@ -153,11 +147,7 @@ begins_then name stage go_on begins openings =
 
 pub begins_file : {A : Type 0} (name : Bytes) (limit : ℕ) (judge : Bytes → Result A Bytes)
     → Begins name (file_stage name limit judge)
-begins_file name limit judge openings = (
-  (content_stage name limit judge (next_opening name openings)
-      (drop 1 openings)).says,
-  refl,
-)
+begins_file name limit judge openings = grind (arith, nat_tests)
 
 -- the one that is after them all has this name too
 same_name : (name other : Bytes) (passed : List Opening) → next_opening name (passed ++ []) ≡ Absent other
@@ -175,9 +165,7 @@ told_first first says Unread = refl
 
 -- nothing but this line was reported since
 only_told : (r : Record) (told line : Bytes) → after_err told r ≡ after_all (Line line ∷ []) r → told ≡ line
-only_told r told line kept =
-    let same : after_err told r ≡ after_err line r = cc in
-    append_cancel_left r.messages told line (ap (λ (x : Record). x.messages) same)
+only_told r told line kept = grind (arith, nat_tests, append_cancel_left)
 
 -- Of a stage that begins so, where the desk shows no opening: the file could not be opened, and that was reported, or
 -- memory was refused, and that was, where it is taken before anything was said.
