@@ -40,9 +40,8 @@ true_behind stock made (Created file ∷ first) last are = grind (arith, nat_tes
 -- what is open is a use too
 of_open : (stock : Stock) (m : MemDeskState) (o : Open) → IsOpenTrue stock m o
     → AreTrue stock (files_among m.kept.uses) (use_of o)
-of_open stock m Closed is = tt
 of_open stock m (ToRead x) is = (subst (λ stood. IsRead stood x.bytes x.ended) (sym is.0) is.1, tt)
-of_open stock m (ToWrite x) is = tt
+of_open stock m y is = tt
 
 -- so all openings were true, by the files that had been made
 pub all_true : (stock : Stock) (m : MemDeskState) → HoldsTrue stock m → AreTrue stock [] (all_uses m.kept)
@@ -159,8 +158,7 @@ module _ (old new : MemDeskState) (ends : Bool) (n room : ℕ) (whole gave next 
     (stored : new.stored ≡ old.stored)
     (opened : new.opened ≡ old.opened) where
   given : next ≡ take room (unread_bytes old)
-  given = next_is ∙ ap (λ (b : Bytes). take room (drop (length gave) b)) whole_is
-      ∙ ap (λ (b : Bytes). take room (drop (length b) old.opened)) gave_is
+  given = grind (arith, nat_tests)
 
   nothing_left : (behind : Bytes) → length behind ≡ 0 → behind ≡ []
   nothing_left [] none = refl
@@ -170,11 +168,7 @@ module _ (old new : MemDeskState) (ends : Bool) (n room : ℕ) (whole gave next 
   drop_none m behind none = grind (arith, common_steps, none)
 
   at_end : (behind : Bytes) → unread_bytes old ≡ behind → (n == 0 && not (room == 0)) ≡ true → behind ≡ []
-  at_end behind rest end =
-      let fit : n ≡ length (take room behind) =
-      count ∙ ap length given ∙ ap (λ (b : Bytes). length (take room b)) rest in
-      let few : length behind ≡ 0 = grind (arith, nat_tests, common_steps, end, fit) in
-      nothing_left behind few
+  at_end behind rest end = grind (arith, nat_tests)
 
   ended_prefix : (was : Bool) (behind : Bytes) → unread_bytes old ≡ behind → (was ≡ true → behind ≡ [])
       → (was || ends) ≡ true → drop room behind ≡ []

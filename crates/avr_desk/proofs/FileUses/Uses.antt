@@ -24,9 +24,7 @@ openings_append (Created file ∷ first) last = openings_append first last
 -- ---- the open file is a use as all others
 
 file_used : (o : Open) → files_among (use_of o) ≡ file_of o
-file_used Closed = refl
-file_used (ToRead x) = refl
-file_used (ToWrite x) = refl
+file_used y = grind (arith, nat_tests)
 
 opening_used : (o : Open) → openings_among (use_of o) ≡ opening_of o
 opening_used Closed = refl

@@ -1,6 +1,6 @@
 -- Lines that were reported, whole or in part.
 use Rattle.std.proofs.lemmas.Bool.Decides.{nat_tests}
-use Rattle.std.proofs.Common.{◌≡◌, ℕ, arith, List, take, drop, refl, ◌∙◌, subst, Result, Ok, Err, IfErr, inl, inr}
+use Rattle.std.proofs.Common.{◌≡◌, ℕ, arith, List, refl, ◌∙◌, subst, Result, Ok, Err, IfErr, inl, inr}
 use Rattle.std.proofs.lemmas.List.{take-append-drop}
 use Rattle.ghosts.proofs.Failures.{stood_has_not_risen}
 use Rattle.ghosts.specs.Failures.{HasRisen, HasStood}
@@ -46,9 +46,8 @@ not_failed a b c d first last = stood_has_not_risen a.failures b.failures c.fail
 pub failed_by : (stream : Stream) (old new : DeskView) (result : Result (Unit {0}) DeskFault) (fault : DeskFault)
     → result ≡ Err fault → IfErr result (λ e. e ≡ Failed)
     → Counts stream old new result → HasFailedAt stream old new
-failed_by stream old new (Ok done) fault is only counts = cc
-failed_by stream old new (Err NotFound) fault is only counts = cc
 failed_by stream old new (Err Failed) fault is only counts = counts.1
+failed_by stream old new x fault is only counts = cc
 
 -- a line that was printed, or a prefix of it
 pub tells_line : (old new : DeskView) (line : List ℕ) (printed : Result (Unit {0}) DeskFault)
@@ -56,12 +55,7 @@ pub tells_line : (old new : DeskView) (line : List ℕ) (printed : Result (Unit 
     → Counts Messages old new printed → IfErr printed (λ e. e ≡ Failed) → Tells old new line
 tells_line old new line (Ok done) is counts only = grind (arith, nat_tests)
 tells_line old new line (Err NotFound) is counts only = cc
-tells_line old new line (Err Failed) is counts only = record {
-  told = take is.0 line;
-  tells = inr ((drop is.0 line, take-append-drop is.0 line), counts.1);
-  kept = is.2;
-  follows = counts.0;
-}
+tells_line old new line (Err Failed) is counts only = grind (arith, nat_tests, take-append-drop is.0 line)
 
 -- what was reported since then was reported since before, where no failure was counted
 pub tells_since : (line told : List ℕ) (a b c : DeskView) → HasSameCounts a b → TellsLine line told b c

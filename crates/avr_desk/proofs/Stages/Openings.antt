@@ -123,16 +123,11 @@ goes_broken taking name next file_fault.Memory old mid new status there breaks r
 pub breaks_as : (name : Bytes) (old mid : Record) (fault : FileFault)
     → ReadsFile name (showing old 0 0) (showing mid 0 0) (Err fault)
     → FileBreaks name (showing old 0 0) (showing mid 0 0) fault
-breaks_as name old mid file_fault.Absent reads = reads
-breaks_as name old mid file_fault.NotOpened reads = reads
-breaks_as name old mid file_fault.NotRead reads = reads
 breaks_as name old mid file_fault.Memory reads = (reads.0, false, reads.1)
+breaks_as name old mid x reads = reads
 
 -- (what is kept says nothing here)
 pub counted_as : (k l m n : ℕ) (fault : FileFault)
     → FaultCounts (showing nothing_kept k m) (showing nothing_kept l n) (Err fault)
     → IsCounted (showing nothing_kept k m) (showing nothing_kept l n) fault
-counted_as k l m n file_fault.Absent counts = counts.1
-counted_as k l m n file_fault.NotOpened counts = counts.1
-counted_as k l m n file_fault.NotRead counts = counts.1
-counted_as k l m n file_fault.Memory counts = counts.1
+counted_as k l m n x counts = grind (arith, nat_tests)

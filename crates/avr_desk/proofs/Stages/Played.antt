@@ -1,6 +1,6 @@
 -- Stages that were played, one after the other.
 use Rattle.std.proofs.lemmas.Bool.Decides.{nat_tests}
-use Rattle.std.proofs.Common.{arith, ◌≡◌, ◌∙◌, sym, subst, inl, inr, ap, List, [], ◌∷◌, ◌++◌, ℕ, take, drop, refl, Ok, Err, Result, append_assoc, append-nil}
+use Rattle.std.proofs.Common.{arith, ◌≡◌, sym, subst, inl, inr, ap, List, [], ◌∷◌, ◌++◌, ℕ, take, drop, refl, Ok, Err, Result, append_assoc, append-nil}
 use Rattle.std.proofs.lemmas.List.{take-append-drop}
 use Rattle.avr_desk.specs.Record.{DeskView, Passes}
 use Rattle.avr_desk.specs.Fault.{HasFailedToSay, HasSameCounts, Counts, Follows}
@@ -14,17 +14,16 @@ use Rattle.avr_desk.proofs.Stages.Sayings.{kept_none, kept_append}
 use Rattle.avr_desk.proofs.Lines.Told.{follows_on, follows_same, same_here, same_on, unsaid_since, tells_since}
 use Rattle.avr_desk.specs.Lines.{memory_line}
 use Rattle.avr_desk.specs.Playing.{Went, Break, InLine, NotOpened, NotRead, NoMemory, NoMemoryFor, last_done, IsNextSaying, IsBreak, TellsBreak, Rest, Taking, TakesThere, StageBrokeOff, Goes}
-use Rattle.avr_desk.specs.Stage.{Stage, StageAnswer, Made, Refused, Unread, StageResult, all_told, behind_sayings, going_on, ◌>>=◌, verdict_stage, saying_stage, next_opening}
+use Rattle.avr_desk.specs.Stage.{Stage, StageAnswer, Made, Refused, StageResult, all_told, behind_sayings, going_on, ◌>>=◌, verdict_stage, saying_stage, next_opening}
 
 -- ---- counts
 
 break_since : (break : Break) (told : List ℕ) (first old new : DeskView) → HasSameCounts first old
     → TellsBreak break told old new → TellsBreak break told first new
 break_since (InLine line) told first old new same tells = (tells.0, unsaid_since first old new same tells.1)
-break_since (NotOpened name) told first old new same tells = grind (arith, nat_tests)
-break_since (NotRead name bytes) told first old new same tells = grind (arith, nat_tests)
 break_since NoMemory told first old new same tells = tells_since memory_line told first old new same tells
 break_since (NoMemoryFor reading) told first old new same tells = tells_since memory_line told first old new same tells
+break_since x told first old new same tells = grind (arith, nat_tests)
 
 -- ---- a stage after another one
 
@@ -43,15 +42,13 @@ break_more (NoMemoryFor reading) more later extra is = next_more (Opens (next_op
 pub says_more : {A B : Type 0} (says : List Saying) (left : List Opening) (go_on : A → Stage B) (answer : StageAnswer A)
     → (extra : List Saying) × ((going_on says left go_on answer).says ≡ says ++ extra)
 says_more says left go_on (Made a) = ((go_on a left).says, refl)
-says_more says left go_on (Refused line) = ([], sym (append-nil says))
-says_more says left go_on Unread = ([], sym (append-nil says))
+says_more says left go_on x = ([], sym (append-nil says))
 
 -- the line of a refusal stands after both
 pub told_append : {A : Type 0} (first second : List Saying) (answer : StageAnswer A)
     → all_told (first ++ second) answer ≡ first ++ all_told second answer
-told_append first second (Made a) = refl
 told_append first second (Refused line) = append_assoc first second (Line line ∷ [])
-told_append first second Unread = refl
+told_append first second x = refl
 
 -- the sayings of the next stage stand behind a rest
 rest_on : {A B : Type 0} (says : List Saying) (left : List Opening) (go_on : A → Stage B) (answer : StageAnswer A)
@@ -59,8 +56,7 @@ rest_on : {A B : Type 0} (says : List Saying) (left : List Opening) (go_on : A �
     → Rest (record { says = says; answer = answer; left = left }) whole break more
     → Rest (going_on says left go_on answer) whole break more
 rest_on says left go_on (Made a) whole break more rest = grind (arith, nat_tests, append_assoc, subst, told_append, break_more)
-rest_on says left go_on (Refused line) whole break more rest = grind (arith, nat_tests)
-rest_on says left go_on Unread whole break more rest = grind (arith, nat_tests)
+rest_on says left go_on x whole break more rest = grind (arith, nat_tests)
 
 rest_more : {A B : Type 0} (p : StageResult A) (go_on : A → Stage B) (whole : List Saying) (break : Break)
     (more : List Opening)
@@ -87,23 +83,16 @@ pub went_went : {A B : Type 0} (stage : Stage A) (go_on : A → Stage B) (old mi
 went_went stage go_on old mid new a answer first then = record {
   passed = first.passed ++ then.passed;
   says = first.says ++ then.says;
-  comes = λ more.
-      ap (stage >>= go_on) (append_assoc first.passed then.passed more)
-      ∙ made_then stage go_on old mid a first (then.passed ++ more)
-      ∙ ap (behind_sayings first.says) (then.comes more);
-  kept = subst (λ ss. Passes (after_all ss) old new) (sym (told_append first.says then.says answer))
-      (kept_append first.says (all_told then.says answer) old.kept mid.kept new.kept first.kept then.kept);
+  comes = grind (arith, nat_tests, append_assoc, made_then);
+  kept = grind (arith, nat_tests, subst, told_append, kept_append);
   sound = same_on old mid new first.sound then.sound;
 }
 
 -- memory that is taken here is taken there
 taken_there : (inner taking : Taking) (break : Break) (passed all : List Opening) (said told : List Saying)
     → (inner passed said → taking all told) → TakesThere inner break passed said → TakesThere taking break all told
-taken_there inner taking (InLine line) passed all said told there is = tt
-taken_there inner taking (NotOpened name) passed all said told there is = tt
-taken_there inner taking (NotRead name bytes) passed all said told there is = tt
 taken_there inner taking NoMemory passed all said told there is = there is
-taken_there inner taking (NoMemoryFor reading) passed all said told there is = tt
+taken_there inner taking x passed all said told there is = tt
 
 -- what takes memory after a stage that made something
 abbrev pub TakesBehind : {A : Type 0} (inner taking : Taking) (stage : Stage A) (old mid : DeskView) (a : A)
@@ -119,19 +108,11 @@ went_broke inner taking stage go_on old mid new a first behind then = record {
   passed = first.passed ++ then.passed;
   whole = first.says ++ then.whole;
   break = then.break;
-  rest = λ more.
-      let is = ap (stage >>= go_on) (append_assoc first.passed then.passed more)
-      ∙ made_then stage go_on old mid a first (then.passed ++ more) in
-      subst (λ p. Rest p (first.says ++ then.whole) then.break more) (sym is)
-      (rest_behind first.says then.whole _ then.break more (then.rest more));
-  taken = taken_there inner taking then.break then.passed (first.passed ++ then.passed) then.whole
-      (first.says ++ then.whole) (behind then.passed then.whole) then.taken;
+  rest = grind (arith, nat_tests, append_assoc, made_then, subst, rest_behind);
+  taken = grind (arith, nat_tests);
   told = then.told;
   tells = break_since then.break then.told old mid new first.sound then.tells;
-  kept = subst (λ ss. Passes (after_all ss) old new)
-      (sym (append_assoc first.says then.whole (last_done then.break then.told)))
-      (kept_append first.says (then.whole ++ last_done then.break then.told) old.kept mid.kept new.kept first.kept
-      then.kept);
+  kept = grind (arith, nat_tests, subst, append_assoc, kept_append);
   follows = follows_on old mid new (follows_same old mid first.sound) then.follows;
 }
 
