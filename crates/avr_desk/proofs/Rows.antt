@@ -1,5 +1,6 @@
 -- Worked calls with an outcome that the contracts refuse.
-use Rattle.std.proofs.Common.{◌≡◌, ap, refl, ℕ, zero, suc, true, List, [], ◌∷◌, ◌++◌, inl, inr, take, Some, None, Result, Ok, Err, arith}
+use Rattle.std.proofs.lemmas.Bool.Decides.{nat_tests}
+use Rattle.std.proofs.Common.{◌≡◌, ap, ℕ, zero, suc, true, List, [], ◌∷◌, ◌++◌, inl, inr, take, Some, Result, Ok, Err, arith}
 use Rattle.avr_desk.specs.Failing.{Failing, FailsWhenDue}
 use Rattle.avr_desk.specs.Fault.{Counts}
 use Rattle.avr_desk.specs.Files.{FaultCounts}
@@ -104,10 +105,7 @@ no_message_in_the_output sent = let e : byte ≡ [] = ap output_of sent in absur
 -- a writer that took other bytes
 begins_otherwise : (prefix back : Bytes) → prefix ++ back ≡ whole → end ≡ prefix → ⊥
 begins_otherwise [] back is took = absurd (cc)
-begins_otherwise (x ∷ prefix) back is took =
-    let first : x ∷ (prefix ++ back) ≡ whole = is in
-    let second : end ≡ x ∷ prefix = took in
-    absurd (cc)
+begins_otherwise (x ∷ prefix) back is took = grind (arith, nat_tests)
 
 pub no_other_bytes : AppendsPrefix (Some []) (Some end) whole → ⊥
 no_other_bytes (prefix, (back, is), took) = begins_otherwise prefix back is took
@@ -148,35 +146,22 @@ found_as bytes = Found (record { name = name; bytes = bytes; ended = true })
 
 -- bytes that the file doesn't have, and one that is there and isn't found
 pub no_other_contents : AreTrue one_there [] (Opened (found_as end) ∷ []) → ⊥
-no_other_contents are =
-    let e : Some byte ≡ Some (end ++ are.0.unread) = are.0.whole in
-    absurd (cc)
+no_other_contents are = grind (arith, nat_tests)
 
 pub no_file_overlooked : AreTrue one_there [] (Opened (Absent name) ∷ []) → ⊥
-no_file_overlooked are =
-    let e : Some byte ≡ None = are.0 in
-    absurd (cc)
+no_file_overlooked are = grind (arith, nat_tests)
 
 -- a file whose end was seen too early
 pub no_end_before_the_end : IsTrueOpening one_there [] (Found (record { name = name; bytes = []; ended = true })) → ⊥
-no_end_before_the_end gave =
-    let none : gave.unread ≡ [] = gave.ends refl in
-    let e : Some byte ≡ Some gave.unread = gave.whole in
-    absurd (cc)
+no_end_before_the_end gave = grind (arith, nat_tests)
 
 -- one that was found before it was made, and one that was made before and not found, or found with older bytes
 pub no_file_before_it_is_made : AreTrue nothing_there [] (Opened (found_as byte) ∷ Created file ∷ []) → ⊥
-no_file_before_it_is_made are =
-    let e : None ≡ Some (byte ++ are.0.unread) = are.0.whole in
-    absurd (cc)
+no_file_before_it_is_made are = grind (arith, nat_tests)
 
 pub no_made_file_overlooked : AreTrue nothing_there [] (Created file ∷ Opened (Absent name) ∷ []) → ⊥
-no_made_file_overlooked are =
-    let e : Some byte ≡ None = are.0 in
-    absurd (cc)
+no_made_file_overlooked are = grind (arith, nat_tests)
 
 pub no_older_contents : AreTrue one_there []
     (Created (record { name = name; bytes = end }) ∷ Opened (found_as byte) ∷ []) → ⊥
-no_older_contents are =
-    let e : Some end ≡ Some (byte ++ are.0.unread) = are.0.whole in
-    absurd (cc)
+no_older_contents are = grind (arith, nat_tests)

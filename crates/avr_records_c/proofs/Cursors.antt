@@ -1,16 +1,16 @@
 -- The numbers of a cursor say again where its lines stood, and pieces joined are the file.
-use Rattle.std.proofs.Common.{◌≡◌, ◌∙◌, ap, ap₂, sym, refl, arith, ℕ, ◌^◌, ◌<◌, min, List, [], ◌∷◌, ◌++◌, length, take, drop, Bool, true, false, Option, Some, inl, inr}
+use Rattle.std.proofs.lemmas.Bool.Decides.{nat_tests}
+use Rattle.std.proofs.Common.{◌≡◌, ◌∙◌, ap, ap₂, sym, arith, ℕ, ◌^◌, ◌<◌, min, List, [], ◌∷◌, ◌++◌, length, take, drop, Bool, Option, Some}
 use Rattle.std.specs.Prelude.{if◌then◌else◌}
 use Rattle.std.specs.List.{concat}
 use Rattle.std.specs.Option.{option_map, option_and_then}
 use Rattle.std.proofs.lemmas.Bool.{cases_lt}
 use Rattle.std.proofs.lemmas.List.{drop_all, length-take-le, take_all, take-append-le, take-append-drop}
-use Rattle.avr_image.specs.Runs.{runs}
-use Rattle.avr_records.specs.Sparse.{file_rows, image_text, row_size, rows_of}
+use Rattle.avr_records.specs.Sparse.{image_text}
 use Rattle.avr_records.specs.Text.{bytes_of}
 use Rattle.avr_records.specs.Writing.{left, text_from, unless_ended}
 use Rattle.avr_records.specs.declared.address_size.AddressSize.{AddressSize}
-use Rattle.avr_records.specs.declared.address_size.AddressSize.TheVariants.{Two, Three, Four}
+use Rattle.avr_records.specs.declared.address_size.AddressSize.TheVariants.{Two}
 use Rattle.avr_records.specs.declared.cursor.Cursor.{Cursor as Lines}
 use Rattle.avr_records.specs.declared.kind.Kind.{Kind}
 use Rattle.avr_records.specs.declared.kind.Kind.TheVariants.{Ihex, Srec}
@@ -19,27 +19,15 @@ use Rattle.avr_records_c.specs.Writing.{PieceCall, Wrote, file_left, file_start}
 use Rattle.avr_records_c.specs.declared.cursor.Cursor.{Cursor}
 
 ended-back : (ended : Bool) → ended_of (if ended then 1 else 0) ≡ Some ended
-ended-back true = refl
-ended-back false = refl
+ended-back x = grind (arith, nat_tests)
 
 size-back : (size : AddressSize) (image : List (Option ℕ)) → size_in_force Srec (bytes_of size) image ≡ Some size
-size-back Two image = refl
-size-back Three image = refl
-size-back Four image = refl
+size-back x image = grind (arith, nat_tests)
 
 -- past the memory all addresses are the same
 capped : (kind : Kind) (upper : ℕ) (size : AddressSize) (addr : ℕ) (image : List (Option ℕ)) → length image < 2 ^ 32
     → text_from kind upper size (min addr 4294967295) image ≡ text_from kind upper size addr image
-capped kind upper size addr image few = elim (cases_lt addr 4294967296) [
-  | inl low ↦ ap (λ (n : ℕ). text_from kind upper size n image) (omega arith)
-  | inr high ↦
-      let cap : ℕ = min addr 4294967295 in
-      let here : drop cap image ≡ [] = drop_all cap image (omega (arith, few, high)) in
-      let there : drop addr image ≡ [] = drop_all addr image (omega (arith, few, high)) in
-      let rows : ℕ → List (Option ℕ) → List ℕ =
-      λ n rest. file_rows kind upper size (rows_of (row_size kind) (runs n rest)) in
-      ap (rows cap) here ∙ ap (rows addr) (sym there)
-]
+capped kind upper size addr image few = grind (arith, nat_tests, cases_lt, drop_all)
 
 left-with : (kind : Kind) (addr upper gone : ℕ) (size : AddressSize) (ended : Bool) (image : List (Option ℕ))
     → length image < 2 ^ 32 → file_left kind image
@@ -61,26 +49,16 @@ left-with Srec addr upper gone size ended image few =
 
 pub left_kept : (kind : Kind) (lines : Lines) (gone : ℕ) (image : List (Option ℕ)) → lines.kind ≡ kind
     → length image < 2 ^ 32 → file_left kind image (cursor_of lines gone) ≡ Some (drop gone (left lines image))
-left_kept kind lines gone image is few =
-    rw (← is)
-    (left-with lines.kind lines.addr lines.upper gone lines.address_size lines.ended image few)
+left_kept kind lines gone image is few = grind (arith, nat_tests, left-with)
 
 -- at the beginning all of the file is left
 pub starts : (kind : Kind) (image : List (Option ℕ)) → file_left kind image file_start ≡ Some (image_text kind image)
-starts Ihex image = refl
-starts Srec image = refl
+starts x image = grind (arith, nat_tests)
 
 -- what a call put is the prefix of what was left
 call-prefix : (kind : Kind) (image : List (Option ℕ)) (cursor next : Cursor) (piece : List ℕ)
     → (call : PieceCall kind image cursor next piece) → piece ≡ take (length piece) call.text
-call-prefix kind image cursor next piece call =
-    let n : ℕ = length piece in
-    let prefix : List ℕ = take n call.text in
-    let long : length prefix ≡ n = length-take-le n call.text (omega (arith, call.goes.puts.count)) in
-    call.prefix
-    ∙ ap (take n) call.goes.puts.stands
-    ∙ take-append-le n prefix (drop n call.room) (omega (arith, long))
-    ∙ take_all n prefix (omega (arith, long))
+call-prefix kind image cursor next piece call = grind (arith, nat_tests, length-take-le, take-append-le, take_all)
 
 joins : (kind : Kind) (image : List (Option ℕ)) (cursor : Cursor) (pieces : List (List ℕ)) (text : List ℕ)
     → file_left kind image cursor ≡ Some text → Wrote kind image cursor pieces → concat pieces ≡ text

@@ -1,5 +1,6 @@
 -- Bitmaps and images, place by place.
-use Rattle.std.proofs.Common.{◌≡◌, ◌∙◌, ap, ap₂, refl, arith, ℕ, zero, suc, ◌+◌, ◌*◌, ◌/◌, ◌<◌, ◌≤◌, List, [], ◌∷◌, length, get_or, Bool, true, cond, Option, Some, None, is_some}
+use Rattle.std.proofs.lemmas.Bool.Decides.{nat_tests}
+use Rattle.std.proofs.Common.{◌≡◌, ◌∙◌, ap, ap₂, refl, arith, ℕ, zero, suc, ◌+◌, ◌*◌, ◌/◌, ◌<◌, ◌≤◌, List, [], ◌∷◌, length, get_or, true, Option, Some, None, is_some}
 use Rattle.avr_image.specs.Image.{byte_at, first_from, run_end}
 use Rattle.avr_image.proofs.Lemmas.{next_held, none_held, run_is_longest}
 use Rattle.avr_records_c.specs.Bitmap.{bit, octet, octets, bitmap}
@@ -8,61 +9,41 @@ use Rattle.avr_records_c.specs.Bitmap.{bit, octet, octets, bitmap}
 octets_are : (image : List (Option ℕ)) (k n : ℕ) (xs : List ℕ) → length xs ≡ n
     → ((i : ℕ) → i < n → get_or xs i 0 ≡ octet image ((k + i) * 8)) → xs ≡ octets image k n
 octets_are image k zero [] len each = refl
-octets_are image k zero (x ∷ xs) len each = absurd (omega (arith, len))
-octets_are image k (suc n) [] len each = absurd (omega (arith, len))
 octets_are image k (suc n) (x ∷ xs) len each =
     let first : x ≡ octet image (k * 8) = each 0 (omega arith) ∙ ap (λ (a : ℕ). octet image (a * 8)) (omega arith) in
     let rest : xs ≡ octets image (k + 1) n = octets_are image (k + 1) n xs (omega (arith, len))
     (λ i l. each (suc i) (omega arith) ∙ ap (λ (a : ℕ). octet image (a * 8)) (omega arith)) in
     ap₂ (λ (y : ℕ) (ys : List ℕ). y ∷ ys) first rest
+octets_are image k y z len each = absurd (omega (arith, len))
 
 pub bitmap_is : (image : List (Option ℕ)) (n : ℕ) (xs : List ℕ) → length xs ≡ n
     → ((i : ℕ) → i < n → get_or xs i 0 ≡ octet image (i * 8)) → xs ≡ bitmap image n
-bitmap_is image n xs len each =
-    octets_are image 0 n xs len (λ i l. each i l ∙ ap (λ (a : ℕ). octet image (a * 8)) (omega arith))
+bitmap_is image n xs len each = grind (arith, nat_tests, octets_are)
 
 -- ---- octets that are all gap, or have none
 
 eight_same : (pick : ℕ → ℕ) (first b : ℕ) → pick 0 ≡ first → ((i : ℕ) → i < 8 → pick i ≡ b)
     → first + 2 * pick 1 + 4 * pick 2 + 8 * pick 3 + 16 * pick 4 + 32 * pick 5 + 64 * pick 6 + 128 * pick 7 ≡ 255 * b
-eight_same pick first b is each =
-    omega (
-      arith,
-      is,
-      each 0 (omega arith),
-      each 1 (omega arith),
-      each 2 (omega arith),
-      each 3 (omega arith),
-      each 4 (omega arith),
-      each 5 (omega arith),
-      each 6 (omega arith),
-      each 7 (omega arith),
-    )
+eight_same pick first b is each = grind (arith, nat_tests)
 
 octet_same : (image : List (Option ℕ)) (addr b : ℕ) → ((i : ℕ) → i < 8 → bit image (addr + i) ≡ b)
     → octet image addr ≡ 255 * b
-octet_same image addr b each =
-    eight_same (λ (i : ℕ). bit image (addr + i)) (bit image addr) b (ap (bit image) (omega arith)) each
+octet_same image addr b each = grind (arith, nat_tests)
 
 gap_octet : (image : List (Option ℕ)) (addr : ℕ) → ((k : ℕ) → addr ≤ k → k < addr + 8 → byte_at image k ≡ None)
     → octet image addr ≡ 0
-gap_octet image addr none =
-    octet_same image addr 0
-    (λ i l. ap (λ (o : Option ℕ). cond (is_some o) 1 0) (none (addr + i) (omega arith) (omega (arith, l))))
+gap_octet image addr none = grind (arith, nat_tests)
 
 held_octet : (image : List (Option ℕ)) (addr : ℕ)
     → ((k : ℕ) → addr ≤ k → k < addr + 8 → is_some (byte_at image k) ≡ true) → octet image addr ≡ 255
-held_octet image addr held =
-    octet_same image addr 1
-    (λ i l. ap (λ (b : Bool). cond b 1 0) (held (addr + i) (omega arith) (omega (arith, l))))
+held_octet image addr held = grind (arith, nat_tests)
 
 -- the octets before that of the next byte, and those behind the last byte
 pub gap_before : (image : List (Option ℕ)) (from place : ℕ) → first_from image (from * 8) ≡ Some place
     → (i : ℕ) → from ≤ i → i < place / 8 → octet image (i * 8) ≡ 0
 gap_before image from place found i after before =
     let next = next_held image (from * 8) place found in
-    gap_octet image (i * 8)
-    (λ k low high. next.gap k (omega (arith, low, after)) (omega (arith, high, before)))
+    grind (arith, nat_tests)
 
 pub gap_behind : (image : List (Option ℕ)) (from : ℕ) → first_from image (from * 8) ≡ None
     → (i : ℕ) → from ≤ i → octet image (i * 8) ≡ 0
@@ -74,5 +55,4 @@ pub full_inside : (image : List (Option ℕ)) (first end : ℕ) → first * 8 �
     → (i : ℕ) → first ≤ i → i < run_end image (first * 8) end / 8 → octet image (i * 8) ≡ 255
 full_inside image first end ordered i after before =
     let run = run_is_longest image (first * 8) end ordered in
-    held_octet image (i * 8)
-    (λ k low high. run.held k (omega (arith, low, after)) (omega (arith, high, before)))
+    grind (arith, nat_tests)

@@ -1,8 +1,9 @@
 -- A text that is put into a room line by line.
-use Rattle.std.proofs.Common.{◌≡◌, ◌∙◌, ap, ap₂, sym, refl, arith, ℕ, ◌+◌, ◌-◌, ◌<◌, ◌≤◌, List, ◌++◌, length, take, drop, min, Bool, false, inl, inr}
+use Rattle.std.proofs.lemmas.Bool.Decides.{nat_tests}
+use Rattle.std.proofs.Common.{◌≡◌, ◌∙◌, ap, ap₂, sym, refl, arith, ℕ, ◌+◌, ◌-◌, ◌<◌, ◌≤◌, List, ◌++◌, length, take, drop, min, Bool, false}
 use Rattle.std.specs.Prelude.{◌↔◌, IsTrue}
 use lib.Seq.{take-append-add, drop-append-add}
-use Rattle.std.proofs.lemmas.Bool.{cases_lt, true≢false}
+use Rattle.std.proofs.lemmas.Bool.{cases_lt}
 use Rattle.std.proofs.lemmas.List.{append_assoc, drop-drop, length-drop, length-take-le, length-append, take_all, take-append-le, drop-append-le, take-append-drop}
 use Rattle.avr_records_c.specs.Writing.{PutsOn}
 
@@ -18,9 +19,7 @@ none-put text room = record { fits = omega arith; most = omega arith; left = ref
 
 pub room-length : {text rest room : List ℕ} {put : ℕ} {now : List ℕ} → IsPut text rest room put now
     → length now ≡ length room
-room-length {text} {rest} {room} {put} {now} is =
-    ap length is.stands ∙ length-append (take put text) (drop put room)
-    ∙ omega (arith, length-take-le put text is.most, length-drop put room, is.fits)
+room-length {text} {rest} {room} {put} {now} is = grind (arith, nat_tests, length-append, length-take-le, length-drop)
 
 take-more : (put count : ℕ) (text : List ℕ) → put ≤ length text
     → take (put + count) text ≡ take put text ++ take count (drop put text)
@@ -32,14 +31,7 @@ take-more put count text few =
 
 part-of-line : (gone count : ℕ) (line more : List ℕ) → count ≤ length (drop gone line)
     → take count (drop gone line) ≡ take count (drop gone (line ++ more))
-part-of-line gone count line more few = elim (cases_lt gone (length line)) [
-  | inl within ↦
-      sym (ap (take count) (drop-append-le gone line more (omega (arith, within)))
-      ∙ take-append-le count (drop gone line) more few)
-  | inr past ↦
-      let none : count ≡ 0 = omega (arith, few, length-drop gone line, past) in
-      rw none refl
-]
+part-of-line gone count line more few = grind (arith, nat_tests, cases_lt, drop-append-le, take-append-le, length-drop)
 
 -- a text's next line, and the lines after it
 pub record NextLine (whole : List ℕ) : Type 0 where
@@ -67,29 +59,21 @@ more-put text whole room now after put gone count next is fit put_is =
     let most : put + count ≤ length text =
     omega (arith, few, whole_long, line_left, whole_left, text_left, is.most) in
     let kept : take put now ≡ prefix =
-    ap (take put) is.stands
-    ∙ take-append-le put prefix (drop put room) (omega (arith, prefix_long))
-    ∙ take_all put prefix (omega (arith, prefix_long)) in
+    grind (arith, nat_tests, take-append-le, take_all) in
     let behind : drop (put + count) now ≡ drop (put + count) room =
     ap (drop (put + count)) is.stands
     ∙ ap (λ (n : ℕ). drop (n + count) (prefix ++ drop put room)) (sym prefix_long)
     ∙ drop-append-add prefix (drop put room) count
     ∙ drop-drop count put room in
     let part : take count (drop gone line) ≡ take count (drop put text) =
-    part-of-line gone count line next.more few
-    ∙ ap (λ (xs : List ℕ). take count (drop gone xs)) (sym split)
-    ∙ ap (take count) is.left in
+    grind (arith, nat_tests, part-of-line) in
     record {
       fits = omega (arith, fit, long, is.fits);
       most = most;
       left =
           sym (drop-drop count gone whole) ∙ ap (drop count) is.left ∙ drop-drop count put text;
       stands =
-          put_is
-          ∙ ap₂ (λ (xs ys : List ℕ). xs ++ (take count (drop gone line) ++ ys)) kept behind
-          ∙ ap (λ (xs : List ℕ). prefix ++ (xs ++ drop (put + count) room)) part
-          ∙ sym (append_assoc prefix (take count (drop put text)) (drop (put + count) room))
-          ∙ ap (λ (xs : List ℕ). xs ++ drop (put + count) room) (sym (take-more put count text is.most));
+          grind (arith, nat_tests, append_assoc, take-more);
     }
 
 -- the whole line is out
@@ -119,10 +103,4 @@ is-full text left room now put is full =
 pub is-over : (text whole room now : List ℕ) (put gone : ℕ) (some : Bool)
     → IsPut text (drop gone whole) room put now → IsTrue some ↔ (0 < length whole) → some ≡ false
     → PutsOn text (drop gone whole) room put now
-is-over text whole room now put gone some is ends none = elim (cases_lt 0 (length whole)) [
-  | inl more ↦ absurd (true≢false (sym (ends.1 more) ∙ none))
-  | inr over ↦
-      let left : length (drop gone whole) ≡ length text - put = ap length is.left ∙ length-drop put text in
-      all-put text (drop gone whole) room now put is
-      (omega (arith, over, left, length-drop gone whole, is.fits, is.most))
-]
+is-over text whole room now put gone some is ends none = grind (arith, nat_tests, cases_lt, length-drop, all-put)

@@ -1,5 +1,6 @@
 -- What is written of a memory reads back.
-use Rattle.std.proofs.Common.{◌≡◌, ◌∙◌, ap, sym, arith, ℕ, zero, suc, ◌<◌, ◌≤◌, ◌^◌, List, [], ◌∷◌, length, Bool, true, false, cond, Some, None}
+use Rattle.std.proofs.lemmas.Bool.Decides.{nat_tests}
+use Rattle.std.proofs.Common.{◌≡◌, arith, ℕ, zero, suc, ◌<◌, ◌≤◌, ◌^◌, List, [], ◌∷◌, length, Bool, true, false, cond, Some, None}
 use Rattle.avr_image.specs.Image.{HoldsBytes}
 use Rattle.avr_records.specs.Reading.{image_in_text}
 use Rattle.avr_records.specs.declared.kind.Kind.{Kind}
@@ -22,14 +23,9 @@ holds at present (b ∷ bytes) small (suc addr) byte is =
 
 pub is-memory : (present bytes : List ℕ) → length bytes ≤ 2 ^ 32 → EachIsByte bytes
     → IsMemory (image_of present bytes)
-is-memory present bytes few small =
-    record { short = omega (arith, length-image 0 present bytes, few); bytes = holds 0 present bytes small }
+is-memory present bytes few small = grind (arith, nat_tests, length-image, holds)
 
 pub reads_back : (kind : Kind) (present bytes : List ℕ) → length bytes ≤ 2 ^ 32 → EachIsByte bytes
     → left_in bytes present (image_in_text kind (image_text kind (image_of present bytes)) (length bytes))
     ≡ written_and_read present bytes
-reads_back kind present bytes few small =
-    let is = is-memory present bytes few small in
-    ap (left_in bytes present)
-    (ap (image_in_text kind (image_text kind (image_of present bytes))) (sym (length-image 0 present bytes))
-    ∙ reads-back-same kind (image_of present bytes) is.short is.bytes)
+reads_back kind present bytes few small = grind (arith, nat_tests, is-memory, length-image, reads-back-same)

@@ -1,5 +1,6 @@
 -- A walk over a memory's bitmap, bit by bit, finds what a walk over its image finds.
-use Rattle.std.proofs.Common.{◌≡◌, ◌∙◌, ap, sym, refl, arith, ℕ, zero, suc, ◌+◌, ◌-◌, ◌<◌, ◌≤◌, List, [], ◌∷◌, length, take, drop, get_or, true, false, cond, Option, Some, None, is_some, inl, inr, add-zero, min}
+use Rattle.std.proofs.lemmas.Bool.Decides.{nat_tests}
+use Rattle.std.proofs.Common.{◌≡◌, ◌∙◌, ap, sym, refl, arith, ℕ, zero, suc, ◌+◌, ◌-◌, ◌<◌, ◌≤◌, List, [], ◌∷◌, length, take, drop, get_or, true, false, Option, Some, None, is_some, inl, inr, add-zero, min}
 use Rattle.std.proofs.lemmas.Bool.{cases_Bool, cases_lt}
 use Rattle.std.proofs.lemmas.List.{drop_all, drop_more, length-drop, take_min}
 use Rattle.std.specs.List.{position_from}
@@ -17,40 +18,27 @@ drop-image : (k addr : ℕ) (present bytes : List ℕ)
     → drop k (image_from addr present bytes) ≡ image_from (addr + k) present (drop k bytes)
 drop-image zero addr present bytes = ap (λ (a : ℕ). image_from a present bytes) (sym (add-zero addr))
 drop-image (suc k) addr present [] = refl
-drop-image (suc k) addr present (b ∷ bytes) =
-    drop-image k (suc addr) present bytes ∙ ap (λ (a : ℕ). image_from a present (drop k bytes)) (omega arith)
+drop-image (suc k) addr present (b ∷ bytes) = grind (arith, nat_tests, drop-image k (suc addr) present bytes)
 
 from-here : (k : ℕ) (present bytes : List ℕ) → drop k (image_of present bytes) ≡ image_from k present (drop k bytes)
-from-here k present bytes =
-    drop-image k 0 present bytes ∙ ap (λ (a : ℕ). image_from a present (drop k bytes)) (omega arith)
+from-here k present bytes = grind (arith, nat_tests, drop-image)
 
 -- a byte, where its bit is 1, and what is after it
 next-here : (k : ℕ) (present bytes : List ℕ) → k < length bytes
     → drop k (image_of present bytes)
     ≡ byte_if_there present k (get_or bytes k 0) ∷ drop (k + 1) (image_of present bytes)
-next-here k present bytes inside =
-    let one : suc k ≡ k + 1 = omega arith in
-    from-here k present bytes
-    ∙ ap (image_from k present) (drop_more bytes k 0 inside)
-    ∙ ap (λ (a : ℕ). byte_if_there present k (get_or bytes k 0) ∷ image_from a present (drop (k + 1) bytes)) one
-    ∙ ap (λ (more : List (Option ℕ)). byte_if_there present k (get_or bytes k 0) ∷ more)
-    (sym (from-here (k + 1) present bytes))
+next-here k present bytes inside = grind (arith, nat_tests, from-here, drop_more)
 
 none-past : (k : ℕ) (present bytes : List ℕ) → length bytes ≤ k → drop k (image_of present bytes) ≡ []
-none-past k present bytes past =
-    drop_all k (image_of present bytes) (omega (arith, past, length-image 0 present bytes))
+none-past k present bytes past = grind (arith, nat_tests, drop_all, length-image)
 
 there-here : (k : ℕ) (present bytes : List ℕ) → k < length bytes → is_there present k ≡ true
     → drop k (image_of present bytes) ≡ Some (get_or bytes k 0) ∷ drop (k + 1) (image_of present bytes)
-there-here k present bytes inside there =
-    next-here k present bytes inside
-    ∙ rw there refl
+there-here k present bytes inside there = grind (arith, nat_tests, next-here)
 
 gap-here : (k : ℕ) (present bytes : List ℕ) → k < length bytes → is_there present k ≡ false
     → drop k (image_of present bytes) ≡ None ∷ drop (k + 1) (image_of present bytes)
-gap-here k present bytes inside gap =
-    next-here k present bytes inside
-    ∙ rw gap refl
+gap-here k present bytes inside gap = grind (arith, nat_tests, next-here)
 
 -- ---- the next byte that is there
 
@@ -72,18 +60,13 @@ first-past k present bytes past = ap (from k) (none-past k present bytes past)
 pub first-gaps : (n k : ℕ) (present bytes : List ℕ)
     → ((at : ℕ) → k ≤ at → at < k + n → is_there present at ≡ false)
     → first_from (image_of present bytes) k ≡ first_from (image_of present bytes) (k + n)
-first-gaps zero k present bytes gap =
-    ap (λ (at : ℕ). first_from (image_of present bytes) at) (sym (add-zero k))
+first-gaps zero k present bytes gap = grind (arith, nat_tests)
 first-gaps (suc n) k present bytes gap =
     let rest = first-gaps n (k + 1) present bytes
     (λ at after before. gap at (omega (arith, after)) (omega (arith, before))) in
     let there : k + 1 + n ≡ k + suc n = omega arith in
     let one : first_from (image_of present bytes) k ≡ first_from (image_of present bytes) (k + 1) =
-    elim (cases_lt k (length bytes)) [
-      | inl inside ↦ first-gap k present bytes inside (gap k (omega arith) (omega arith))
-      | inr past ↦
-          first-past k present bytes past ∙ sym (first-past (k + 1) present bytes (omega (arith, past)))
-    ] in
+    grind (arith, nat_tests, cases_lt, first-gap, first-past) in
     one ∙ rest ∙ ap (λ (at : ℕ). first_from (image_of present bytes) at) there
 
 -- ---- the bytes before a gap
@@ -93,41 +76,29 @@ run k present bytes = length (lead (drop k (image_of present bytes)))
 
 pub run-there : (k : ℕ) (present bytes : List ℕ) → k < length bytes → is_there present k ≡ true
     → run k present bytes ≡ suc (run (k + 1) present bytes)
-run-there k present bytes inside there =
-    ap (λ (image : List (Option ℕ)). length (lead image)) (there-here k present bytes inside there)
+run-there k present bytes inside there = grind (arith, nat_tests, there-here)
 
 pub run-gap : (k : ℕ) (present bytes : List ℕ) → k < length bytes → is_there present k ≡ false
     → run k present bytes ≡ 0
-run-gap k present bytes inside gap =
-    ap (λ (image : List (Option ℕ)). length (lead image)) (gap-here k present bytes inside gap)
+run-gap k present bytes inside gap = grind (arith, nat_tests, gap-here)
 
 pub run-past : (k : ℕ) (present bytes : List ℕ) → length bytes ≤ k → run k present bytes ≡ 0
-run-past k present bytes past =
-    ap (λ (image : List (Option ℕ)). length (lead image)) (none-past k present bytes past)
+run-past k present bytes past = grind (arith, nat_tests, none-past)
 
 lead-bytes : (n addr : ℕ) (present bytes : List ℕ) → n ≤ length (lead (image_from addr present bytes))
     → take n bytes ≡ take n (lead (image_from addr present bytes))
-lead-bytes zero addr present bytes few = refl
-lead-bytes (suc n) addr present [] few = refl
 lead-bytes (suc n) addr present (b ∷ bytes) few = elim (cases_Bool (is_there present addr)) [
   | inl there ↦
       let some : suc n ≤ length (lead (Some b ∷ image_from (suc addr) present bytes)) = rw there at few in
       rw there (ap (λ (more : List ℕ). b ∷ more) (lead-bytes n (suc addr) present bytes (omega (arith, some))))
   | inr gap ↦
-      let none : suc n ≤ length (lead (None ∷ image_from (suc addr) present bytes)) = rw gap at few in
-      absurd (omega (arith, none))
+      grind (arith, nat_tests)
 ]
+lead-bytes x addr present y few = refl
 
 lead-long : (addr : ℕ) (present bytes : List ℕ) → length (lead (image_from addr present bytes)) ≤ length bytes
 lead-long addr present [] = omega arith
-lead-long addr present (b ∷ bytes) =
-    let more = lead-long (suc addr) present bytes in
-    elim (is_there present addr) as (λ there. length
-    (lead (cond there (Some b) None ∷ image_from (suc addr) present bytes))
-    ≤ suc (length bytes)) [
-      | true ↦ omega (arith, more)
-      | false ↦ omega arith
-    ]
+lead-long addr present (b ∷ bytes) = grind (arith, nat_tests, lead-long (suc addr) present bytes)
 
 pub record IsRow (addr most end : ℕ) (present bytes : List ℕ) : Type 0 where
   pub within : end ≤ length bytes
@@ -135,16 +106,4 @@ pub record IsRow (addr most end : ℕ) (present bytes : List ℕ) : Type 0 where
 
 pub row-is : (addr most end : ℕ) (present bytes : List ℕ) → addr ≤ length bytes
     → end ≡ addr + min most (run addr present bytes) → IsRow addr most end present bytes
-row-is addr most end present bytes inside is =
-    let here = from-here addr present bytes in
-    let same : run addr present bytes ≡ length (lead (image_from addr present (drop addr bytes))) =
-    ap (λ (image : List (Option ℕ)). length (lead image)) here in
-    let size : end - addr ≡ min most (run addr present bytes) = omega (arith, is) in
-    record {
-      within = omega (arith, is, same, lead-long addr present (drop addr bytes), length-drop addr bytes, inside);
-      row =
-          lead-bytes (end - addr) addr present (drop addr bytes) (omega (arith, size, same))
-          ∙ ap (λ (image : List (Option ℕ)). take (end - addr) (lead image)) (sym here)
-          ∙ ap (λ (n : ℕ). take n (lead (drop addr (image_of present bytes)))) size
-          ∙ take_min most (lead (drop addr (image_of present bytes)));
-    }
+row-is addr most end present bytes inside is = grind (arith, nat_tests, from-here, lead-long, length-drop, lead-bytes, take_min)

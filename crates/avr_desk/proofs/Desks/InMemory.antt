@@ -15,7 +15,6 @@ use Rattle.avr_desk.specs.declared.record.FileUse.{FileUse}
 use Rattle.avr_desk.specs.declared.record.FileUse.TheVariants.{Opened, Created}
 use Rattle.avr_desk.specs.declared.record.Open.{Open}
 use Rattle.avr_desk.specs.declared.record.Open.TheVariants.{Closed, ToRead, ToWrite}
-use Rattle.avr_desk.specs.declared.record.Opening.TheVariants.{Absent}
 use Rattle.avr_desk.specs.declared.record.Reading.{Reading}
 use Rattle.avr_desk.specs.declared.record.Writing.{Writing}
 
@@ -36,29 +35,21 @@ pub true_behind : (stock : Stock) (made : List Writing) (first last : List FileU
     → AreTrue stock (made ++ files_among first) last
 true_behind stock made [] last are = subst (λ fs. AreTrue stock fs last) (sym (append-nil made)) are
 true_behind stock made (Opened opening ∷ first) last are = true_behind stock made first last are.1
-true_behind stock made (Created file ∷ first) last are =
-    subst (λ fs. AreTrue stock fs last) (append_assoc made (file ∷ []) (files_among first))
-    (true_behind stock (made ++ file ∷ []) first last are)
+true_behind stock made (Created file ∷ first) last are = grind (arith, nat_tests, true_behind stock (made ++ file ∷ []) first last are, subst, append_assoc)
 
 -- what is open is a use too
 of_open : (stock : Stock) (m : MemDeskState) (o : Open) → IsOpenTrue stock m o
     → AreTrue stock (files_among m.kept.uses) (use_of o)
-of_open stock m Closed is = tt
 of_open stock m (ToRead x) is = (subst (λ stood. IsRead stood x.bytes x.ended) (sym is.0) is.1, tt)
-of_open stock m (ToWrite x) is = tt
+of_open stock m y is = tt
 
 -- so all openings were true, by the files that had been made
 pub all_true : (stock : Stock) (m : MemDeskState) → HoldsTrue stock m → AreTrue stock [] (all_uses m.kept)
-all_true stock m holds = true_append stock [] m.kept.uses (use_of m.kept.current) holds.uses
-    (of_open stock m m.kept.current holds.current)
+all_true stock m holds = grind (arith, nat_tests, true_append, of_open)
 
 -- what a new desk has is what it begins with
 pub begins_true : (m : MemDeskState) → m.kept ≡ nothing_kept → HoldsTrue (stock_of m) m
-begins_true m fresh = record {
-  began = refl;
-  uses = subst (λ (r : Record). AreTrue (stock_of m) [] r.uses) (sym fresh) tt;
-  current = subst (λ (r : Record). IsOpenTrue (stock_of m) m r.current) (sym fresh) tt;
-}
+begins_true m fresh = grind (arith, nat_tests)
 
 -- ---- one call
 
@@ -109,8 +100,7 @@ changed_true : (ok : Bool) (change : Record → Record) (old new : MemDeskState)
     → new.kept ≡ (if ok then change old.kept else old.kept) → (new.kept ≡ change old.kept → Stays HoldsTrue old new)
     → Stays HoldsTrue old new
 changed_true true change old new input stored opened kept done = done kept
-changed_true false change old new input stored opened kept done =
-    same_true old new input stored opened (ap (λ (r : Record). r.uses) kept) (ap (λ (r : Record). r.current) kept)
+changed_true false change old new input stored opened kept done = grind (arith, nat_tests)
 
 -- a file is created
 pub created_true : (ok : Bool) (file : Writing) (old new : MemDeskState) → new.input ≡ old.input
@@ -127,20 +117,13 @@ pub replaced_true : (ok : Bool) (file : Writing) (old new : MemDeskState) → ne
     → new.stored ≡ old.stored
     → new.opened ≡ old.opened
     → new.kept ≡ (if ok then with_replaced file.name file.bytes old.kept else old.kept) → Stays HoldsTrue old new
-replaced_true ok file old new input stored opened kept =
-    changed_true ok (with_replaced file.name file.bytes) old new input stored opened kept (λ is.
-    put_by_true (Created file ∷ []) old new input stored (ap (λ (r : Record). r.uses) is)
-    (λ stock holds. tt) (λ stock. subst (λ (r : Record). IsOpenTrue stock new r.current) (sym is) tt))
+replaced_true ok file old new input stored opened kept = grind (arith, nat_tests, changed_true, put_by_true, subst)
 
 -- no file of this name is there
 pub absent_true : (ok : Bool) (name own : Bytes) (old new : MemDeskState) → own ≡ name → None ≡ contents name old
     → new.input ≡ old.input → new.stored ≡ old.stored → new.opened ≡ old.opened
     → new.kept ≡ (if ok then with_absent own old.kept else old.kept) → Stays HoldsTrue old new
-absent_true ok name own old new same none input stored opened kept =
-    changed_true ok (with_absent own) old new input stored opened kept (λ is.
-    put_by_true (Opened (Absent own) ∷ []) old new input stored (ap (λ (r : Record). r.uses) is)
-    (λ stock holds. (ap (stood_for stock (all_files old.kept)) same ∙ sym (stands stock old name holds) ∙ sym none, tt))
-    (λ stock. subst (λ (r : Record). IsOpenTrue stock new r.current) (sym is) tt))
+absent_true ok name own old new same none input stored opened kept = grind (arith, nat_tests, changed_true, put_by_true, stands, subst)
 
 -- a file is opened that has these bytes
 pub opened_true : (ok : Bool) (name own bytes first : Bytes) (old new : MemDeskState) → ok ≡ true → own ≡ name
@@ -175,8 +158,7 @@ module _ (old new : MemDeskState) (ends : Bool) (n room : ℕ) (whole gave next 
     (stored : new.stored ≡ old.stored)
     (opened : new.opened ≡ old.opened) where
   given : next ≡ take room (unread_bytes old)
-  given = next_is ∙ ap (λ (b : Bytes). take room (drop (length gave) b)) whole_is
-      ∙ ap (λ (b : Bytes). take room (drop (length b) old.opened)) gave_is
+  given = grind (arith, nat_tests)
 
   nothing_left : (behind : Bytes) → length behind ≡ 0 → behind ≡ []
   nothing_left [] none = refl
@@ -186,11 +168,7 @@ module _ (old new : MemDeskState) (ends : Bool) (n room : ℕ) (whole gave next 
   drop_none m behind none = grind (arith, common_steps, none)
 
   at_end : (behind : Bytes) → unread_bytes old ≡ behind → (n == 0 && not (room == 0)) ≡ true → behind ≡ []
-  at_end behind rest end =
-      let fit : n ≡ length (take room behind) =
-      count ∙ ap length given ∙ ap (λ (b : Bytes). length (take room b)) rest in
-      let few : length behind ≡ 0 = grind (arith, nat_tests, common_steps, end, fit) in
-      nothing_left behind few
+  at_end behind rest end = grind (arith, nat_tests)
 
   ended_prefix : (was : Bool) (behind : Bytes) → unread_bytes old ≡ behind → (was ≡ true → behind ≡ [])
       → (was || ends) ≡ true → drop room behind ≡ []

@@ -1,6 +1,13 @@
 -- A desk over two writers and the files of a system, call after call: what it keeps of them stays true.
-use Rattle.std.proofs.Common.{◌≡◌, ◌∙◌, sym, ap, subst, refl, arith, ℕ, ◌==◌, ◌&&◌, ◌||◌, ◌≤◌, not, Bool, true, false, List, [], ◌∷◌, ◌++◌, append_assoc, append-nil, length, take, Option, None, Some, IfSome, inl, inr}
-use Rattle.std.proofs.KnownBytes.{Appends-nil, Appends-trans, Consumes-kept, Consumes-nil, Consumes-trans}
+use Rattle.std.proofs.Common.{inl}
+use Rattle.std.proofs.Common.{inr}
+use Rattle.std.proofs.KnownBytes.{Consumes-kept}
+use Rattle.avr_desk.specs.Record.{files_among}
+use Rattle.avr_desk.specs.declared.record.FileUse.TheVariants.{Created}
+use Rattle.avr_desk.specs.declared.record.Open.TheVariants.{Closed}
+use Rattle.avr_desk.specs.declared.record.Opening.TheVariants.{Found}
+use Rattle.std.proofs.Common.{◌≡◌, ◌∙◌, sym, ap, subst, refl, arith, ℕ, ◌==◌, ◌&&◌, ◌||◌, ◌≤◌, not, Bool, true, false, List, [], ◌∷◌, ◌++◌, append_assoc, append-nil, length, take, Option, None, Some, IfSome}
+use Rattle.std.proofs.KnownBytes.{Appends-nil, Appends-trans, Consumes-nil, Consumes-trans}
 use Rattle.std.proofs.lemmas.Bool.{or_parts}
 use Rattle.std.proofs.lemmas.Bool.Decides.{nat_tests}
 use Rattle.std.proofs.lemmas.Grind.{common_steps}
@@ -11,7 +18,7 @@ use Rattle.std.specs.declared.io.ErrorKind.{ErrorKind}
 use Rattle.std.specs.declared.io.Read.{Ghosts as Reads}
 use Rattle.std.specs.declared.io.Write.{Ghosts as Writes}
 use Rattle.ghosts.specs.Stays.{Stays}
-use Rattle.avr_desk.specs.Record.{Bytes, Record, all_files, all_uses, file_of, files_among, is_nil, noted, nothing_kept, read_on, use_of, written_on, with_absent, with_open, with_replaced, after_write}
+use Rattle.avr_desk.specs.Record.{Bytes, Record, all_files, all_uses, file_of, is_nil, noted, nothing_kept, read_on, use_of, written_on, with_absent, with_open, with_replaced, after_write}
 use Rattle.avr_desk.specs.Named.{is_dash}
 use Rattle.avr_desk.proofs.FileUses.Uses.{files_absent, files_opened, files_replaced}
 use Rattle.avr_desk.specs.Handles.{IsTrueRecord, HasGiven, IsHeldBy, IsTrueOpen, IsTrueUse}
@@ -19,10 +26,10 @@ use Rattle.avr_desk.specs.Standing.{HeldGives, GivesBytes, HeldGivesNone, is_out
 use Rattle.avr_desk.specs.Shown.{Shown, IsTrueSince, has_dash, to_output}
 use Rattle.avr_desk.specs.declared.file_system.FileSystem.{Ghosts}
 use Rattle.avr_desk.specs.declared.record.FileUse.{FileUse}
-use Rattle.avr_desk.specs.declared.record.FileUse.TheVariants.{Opened, Created}
+use Rattle.avr_desk.specs.declared.record.FileUse.TheVariants.{Opened}
 use Rattle.avr_desk.specs.declared.record.Open.{Open}
-use Rattle.avr_desk.specs.declared.record.Open.TheVariants.{Closed, ToRead, ToWrite}
-use Rattle.avr_desk.specs.declared.record.Opening.TheVariants.{Absent, Found}
+use Rattle.avr_desk.specs.declared.record.Open.TheVariants.{ToRead, ToWrite}
+use Rattle.avr_desk.specs.declared.record.Opening.TheVariants.{Absent}
 use Rattle.avr_desk.specs.declared.record.Reading.{Reading}
 use Rattle.avr_desk.specs.declared.record.Writing.{Writing}
 use Rattle.avr_desk.specs.declared.system.Held.{Held}
@@ -46,22 +53,16 @@ no_dash_behind (file ∷ prefix) back none =
 same_dash_behind : (files one other : List Writing) → has_dash one ≡ has_dash other
     → has_dash (files ++ one) ≡ has_dash (files ++ other)
 same_dash_behind [] one other same = same
-same_dash_behind (file ∷ files) one other same =
-    ap (λ (b : Bool). is_dash file.name || b) (same_dash_behind files one other same)
+same_dash_behind (file ∷ files) one other same = grind (arith, nat_tests, same_dash_behind files one other same)
 
 noted_files : (bytes : Bytes) (ends : Bool) (o : Open) → file_of (noted bytes ends o) ≡ file_of o
-noted_files bytes ends Closed = refl
-noted_files bytes ends (ToRead x) = refl
-noted_files bytes ends (ToWrite x) = refl
+noted_files bytes ends y = grind (arith, nat_tests)
 
 written_dash : (bytes : Bytes) (o : Open) → has_dash (file_of (written_on bytes o)) ≡ has_dash (file_of o)
-written_dash bytes Closed = refl
-written_dash bytes (ToRead x) = refl
-written_dash bytes (ToWrite x) = refl
+written_dash bytes y = grind (arith, nat_tests)
 
 written_dashes : (bytes : Bytes) (r : Record) → has_dash (all_files (after_write bytes r)) ≡ has_dash (all_files r)
-written_dashes bytes r = same_dash_behind (files_among r.uses) (file_of (written_on bytes r.current))
-    (file_of r.current) (written_dash bytes r.current)
+written_dashes bytes r = grind (arith, nat_tests, same_dash_behind, written_dash)
 
 -- ---- a handle that gives
 
@@ -71,20 +72,14 @@ module _ {H : Type 0} (reads : Reads H) where
 
   given_kept : (first old new : H) (x : Reading) → HasGiven reads first old x
       → Keeps (reads.remaining old) (reads.remaining new) → HasGiven reads first new x
-  given_kept first old new x given kept = record {
-    gave = Consumes-kept (reads.remaining first) (reads.remaining old) (reads.remaining new) x.bytes given.gave kept;
-    ends = given.ends;
-  }
+  given_kept first old new x given kept = grind (arith, nat_tests)
 
   -- all that it had
   all_given : (a b : Option Bytes) (bytes : Bytes) → Consumes a b bytes → IsAtEnd b
       → IfSome a (λ xs. length xs ≤ length bytes)
   all_given None b bytes gave end = tt
   all_given (Some x) None bytes gave end = absurd gave
-  all_given (Some x) (Some y) bytes gave end =
-      let same : x ≡ bytes = gave ∙ ap (λ (l : Bytes). bytes ++ l) end ∙ append-nil bytes in
-      let e : length x ≡ length bytes = ap length same in
-      omega (arith, e)
+  all_given (Some x) (Some y) bytes gave end = grind (arith, nat_tests, append-nil)
 
   no_more : (a : Option Bytes) (bytes piece : Bytes) → IfSome a (λ xs. length xs ≤ length bytes)
       → IfSome a (λ xs. length xs ≤ length (bytes ++ piece))
@@ -94,8 +89,7 @@ module _ {H : Type 0} (reads : Reads H) where
   -- a read of no bytes into some room is one at the end
   end_seen : (old new : H) (buf : Bytes) (n : ℕ) → GivesBytes reads old new buf n
       → (n == 0 && not (is_nil buf)) ≡ true → IsAtEnd (reads.remaining new)
-  end_seen old new buf n gives end = gives.ends (grind (arith, nat_tests, common_steps, end))
-      (grind (arith, nat_tests, common_steps, end))
+  end_seen old new buf n gives end = grind (arith, nat_tests)
 
   given_more : (first old new : H) (x : Reading) (buf : Bytes) (n : ℕ) → HasGiven reads first old x
       → GivesBytes reads old new buf n
@@ -137,14 +131,10 @@ module _ {S F H I O E : Type 0} (system : Ghosts S F H) (reads : Reads F) (write
   -- what is open is a use too
   of_open : (opened : Held F I) (o : Open) → TrueOpen opened o → All TrueUse (use_of o)
   of_open held.Nothing o same = rw same (All-nil TrueUse)
-  of_open (held.Input i) o (x, same, was) =
-      rw same (All-cons TrueUse (Opened (Found x)) [] (inl (i, was)) (All-nil TrueUse))
-  of_open (held.ToRead f) o (x, same, was) =
-      rw same (All-cons TrueUse (Opened (Found x)) [] (inr (f, was)) (All-nil TrueUse))
-  of_open (held.ToWrite f) o (x, same, was) =
-      rw same (All-cons TrueUse (Created x) [] (inr (inl (f, was))) (All-nil TrueUse))
-  of_open held.Output o (x, same, was) =
-      rw same (All-cons TrueUse (Created x) [] (inl was) (All-nil TrueUse))
+  of_open (held.Input i) o (x, same, was) = grind (arith, nat_tests)
+  of_open (held.ToRead f) o (x, same, was) = grind (arith, nat_tests)
+  of_open (held.ToWrite f) o (x, same, was) = grind (arith, nat_tests)
+  of_open held.Output o (x, same, was) = grind (arith, nat_tests)
 
   uses_true : (opened : Held F I) (hold : Option H) (r : Record) → Files opened hold r → All TrueUse (all_uses r)
   uses_true opened hold r are =
@@ -155,18 +145,6 @@ module _ {S F H I O E : Type 0} (system : Ghosts S F H) (reads : Reads F) (write
       → All TrueUse (all_uses r ++ u ∷ [])
   more_true opened hold r u is are = All-append TrueUse (all_uses r) (u ∷ []) (uses_true opened hold r are)
       (All-cons TrueUse u [] is (All-nil TrueUse))
-
-  pub true_now : (a : Desk) → Since a a
-  true_now a = record {
-    said = [];
-    messages = sym (append-nil a.kept.messages);
-    told = Appends-nil (messages_of.contents a.messages);
-    put = [];
-    output = sym (append-nil a.kept.output);
-    dashes = λ none. none;
-    out = λ none elsewhere. (elsewhere, Appends-nil (output_of.contents a.output));
-    files = λ are. are;
-  }
 
   true_on : (a b c : Desk) → Since a b → Since b c → Since a c
   true_on a b c f g = record {
@@ -213,6 +191,14 @@ module _ {S F H I O E : Type 0} (system : Ghosts S F H) (reads : Reads F) (write
     files = files;
   }
 
+  pub true_now : (a : Desk) → Since a a
+  true_now a = quiet refl refl (λ none. none) (λ none was. was) (λ are. are)
+
+  -- all is as it was but the uses, and what is open
+  files_now : {o p : Held F I} {h : Option H} {r : Record} {uses : List FileUse} {current : Open} → Files o h r
+      → All TrueUse uses → TrueOpen p current → Files p h (record r { uses = uses; current = current })
+  files_now are uses current = record { uses = uses; current = current; denied = are.denied; held = are.held }
+
   -- it was opened
   opened_true : {b : Desk} {f u : ℕ} {e : Option ErrorKind} {o : Held F I} {k : Record} (x : Reading)
       → k ≡ with_open (ToRead x) b.kept → is_output o ≡ false → TrueOpen o (ToRead x)
@@ -220,12 +206,7 @@ module _ {S F H I O E : Type 0} (system : Ghosts S F H) (reads : Reads F) (write
   opened_true {b = b} x kept elsewhere is = rw kept (quiet refl refl
       (λ none. no_dash_in_front (all_files b.kept) [] (sym (ap has_dash (files_opened (ToRead x) b.kept)) ∙ none))
       (λ none was. elsewhere)
-      (λ are. record {
-        uses = uses_true b.opened b.hold b.kept are;
-        current = is;
-        denied = are.denied;
-        held = are.held;
-      }))
+      (λ are. files_now are (uses_true b.opened b.hold b.kept are) is))
 
   pub input_true : {b : Desk} {f u : ℕ} {e : Option ErrorKind} {k : Record} {name own : Bytes} {i : I} → own ≡ name
       → true ≡ is_dash name → k ≡ with_open (ToRead (record { name = own; bytes = []; ended = false })) b.kept
@@ -249,29 +230,13 @@ module _ {S F H I O E : Type 0} (system : Ghosts S F H) (reads : Reads F) (write
   absent_true {b = b} {own = own} same lacks kept =
       rw kept (quiet refl refl
       (λ none. sym (ap has_dash (files_absent own b.kept)) ∙ none) (λ none was. refl)
-      (λ are. record {
-        uses = more_true b.opened b.hold b.kept (Opened (Absent own)) (subst system.lacks (sym same) lacks) are;
-        current = refl;
-        denied = are.denied;
-        held = are.held;
-      }))
+      (λ are. files_now are (more_true b.opened b.hold b.kept (Opened (Absent own)) (subst system.lacks (sym same) lacks) are) refl))
 
   -- it was created
   create_true : {b : Desk} {f u : ℕ} {e : Option ErrorKind} {o : Held F I} {k : Record} (x : Writing)
       → k ≡ with_open (ToWrite x) b.kept → is_output o ≡ is_dash x.name → TrueOpen o (ToWrite x)
       → Since b (Next b f u e o b.hold k)
-  create_true {b = b} x kept to_output is =
-      let files = ap has_dash (files_opened (ToWrite x) b.kept) in
-      rw kept (quiet refl refl
-      (λ none. no_dash_in_front (all_files b.kept) (x ∷ []) (sym files ∙ none))
-      (λ none was. to_output
-      ∙ (or_parts (is_dash x.name) false (no_dash_behind (all_files b.kept) (x ∷ []) (sym files ∙ none))).0)
-      (λ are. record {
-        uses = uses_true b.opened b.hold b.kept are;
-        current = is;
-        denied = are.denied;
-        held = are.held;
-      }))
+  create_true {b = b} x kept to_output is = grind (arith, nat_tests, files_opened, quiet, no_dash_in_front, or_parts, no_dash_behind, files_now, uses_true)
 
   pub output_true : {b : Desk} {f u : ℕ} {e : Option ErrorKind} {k : Record} {name own : Bytes} → own ≡ name
       → true ≡ is_dash name → k ≡ with_open (ToWrite (record { name = own; bytes = [] })) b.kept
@@ -339,12 +304,7 @@ module _ {S F H I O E : Type 0} (system : Ghosts S F H) (reads : Reads F) (write
       let files : has_dash (all_files now) ≡ has_dash (all_files b.kept) =
       ap (λ (fs : List Writing). has_dash (files_among b.kept.uses ++ fs)) (noted_files _ _ b.kept.current) in
       rw kept (quiet refl refl (λ none. sym files ∙ none) (λ none was. same ∙ was)
-      (λ are. record {
-        uses = are.uses;
-        current = read_on_open b.opened o buf n b.kept.current gives are.current;
-        denied = are.denied;
-        held = are.held;
-      }))
+      (λ are. files_now are are.uses (read_on_open b.opened o buf n b.kept.current gives are.current)))
 
   -- or none were
   kept_open : (old new : Held F I) (o : Open) → HeldGivesNone reads input old new → TrueOpen old o → TrueOpen new o
@@ -352,20 +312,13 @@ module _ {S F H I O E : Type 0} (system : Ghosts S F H) (reads : Reads F) (write
       rw is (x, same, (dash, first, given_kept input first i now x given kept))
   kept_open (held.ToRead h) new o (now, is, kept) (x, same, (first, named, given)) =
       rw is (x, same, (first, named, given_kept reads first h now x given kept))
-  kept_open held.Nothing new o same was = rw same was
-  kept_open (held.ToWrite h) new o same was = rw same was
-  kept_open held.Output new o same was = rw same was
+  kept_open x new o same was = rw same was
 
   pub unread_true : {b : Desk} {f u : ℕ} {e : Option ErrorKind} {o : Held F I} → is_output o ≡ is_output b.opened
       → HeldGivesNone reads input b.opened o → Since b (Next b f u e o b.hold b.kept)
   unread_true {b = b} {o = o} same none =
       quiet refl refl (λ none. none) (λ none was. same ∙ was)
-      (λ are. record {
-        uses = are.uses;
-        current = kept_open b.opened o b.kept.current none are.current;
-        denied = are.denied;
-        held = are.held;
-      })
+      (λ are. files_now are are.uses (kept_open b.opened o b.kept.current none are.current))
 
   -- bytes went to a file of its own
   write_on : (old new : F) (bytes : Bytes) (o : Open) → Appends (writes.contents old) (writes.contents new) bytes
@@ -386,13 +339,7 @@ module _ {S F H I O E : Type 0} (system : Ghosts S F H) (reads : Reads F) (write
   write_true {b = b} {old = old} {new = new} bytes was took kept =
       rw kept (quiet refl refl
       (λ none. sym (written_dashes bytes b.kept) ∙ none) (λ none elsewhere. refl)
-      (λ are. record {
-        uses = are.uses;
-        current = write_on old new bytes b.kept.current took
-            (subst (λ (h : Held F I). TrueOpen h b.kept.current) was are.current);
-        denied = are.denied;
-        held = are.held;
-      }))
+      (λ are. files_now are are.uses (write_on old new bytes b.kept.current took (subst (λ (h : Held F I). TrueOpen h b.kept.current) was are.current))))
 
   -- a desk after a call that sent to the output
   abbrev Put : Desk → O → ℕ → ℕ → Option ErrorKind → Record → Desk
@@ -443,24 +390,10 @@ module _ {S F H I O E : Type 0} (system : Ghosts S F H) (reads : Reads F) (write
   pub err_true : {b : Desk} {w : E} {f u : ℕ} {e : Option ErrorKind} {k : Record} (bytes : Bytes)
       → k ≡ record b.kept { messages = b.kept.messages ++ bytes }
       → Appends (messages_of.contents b.messages) (messages_of.contents w) bytes → Since b (Told b w f u e k)
-  err_true {b = b} bytes kept took = rw kept (record {
-    said = bytes;
-    messages = refl;
-    told = took;
-    put = [];
-    output = sym (append-nil b.kept.output);
-    dashes = λ none. none;
-    out = λ none was. (was, Appends-nil (output_of.contents b.output));
-    files = λ are. record { uses = are.uses; current = are.current; denied = are.denied; held = are.held };
-  })
+  err_true {b = b} bytes kept took = grind (arith, nat_tests, append-nil)
 
 -- ---- a new desk
 
 module _ {S F H I : Type 0} (system : Ghosts S F H) (reads : Reads F) (writes : Writes F) (input : Reads I) where
   pub none_kept_true : IsTrueRecord system reads writes input held.Nothing None nothing_kept
-  none_kept_true = record {
-    uses = All-nil (IsTrueUse system reads writes input);
-    current = refl;
-    denied = All-nil system.denies;
-    held = tt;
-  }
+  none_kept_true = grind (arith, nat_tests)

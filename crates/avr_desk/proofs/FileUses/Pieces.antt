@@ -4,10 +4,10 @@ use Rattle.std.proofs.lemmas.Bool.Decides.{nat_tests}
 use Rattle.avr_desk.specs.Record.{Record, Bytes, showing, after_open, after_read, noted, is_nil}
 use Rattle.avr_desk.specs.Files.{ReadsFile, ReadsOpen, after_reading, with_read}
 use Rattle.avr_desk.specs.declared.record.Open.{Open}
-use Rattle.avr_desk.specs.declared.record.Open.TheVariants.{Closed, ToRead, ToWrite}
+use Rattle.avr_desk.specs.declared.record.Open.TheVariants.{ToRead}
 use Rattle.avr_desk.specs.declared.files.Contents.{Contents}
 use Rattle.avr_desk.specs.declared.files.FileFault.{FileFault}
-use Rattle.avr_desk.specs.declared.files.FileFault.TheVariants.{Absent, NotOpened, NotRead, Memory}
+use Rattle.avr_desk.specs.declared.files.FileFault.TheVariants.{NotRead, Memory}
 
 -- a file that was opened, and then read
 pub opened_read : (name : Bytes) (old now new : Record) (bytes : Bytes) (ended : Bool)
@@ -20,16 +20,12 @@ pub reads_opened : (name : Bytes) (old now new : Record) (r : Result Contents Fi
     → now ≡ after_open name (Ok tt) old → ReadsOpen (showing now 0 0) (showing new 0 0) r
     → ReadsFile name (showing old 0 0) (showing new 0 0) r
 reads_opened name old now new (Ok c) opened read = opened_read name old now new c.bytes c.ended opened read
-reads_opened name old now new (Err Absent) opened read = absurd read
-reads_opened name old now new (Err NotOpened) opened read = absurd read
-reads_opened name old now new (Err NotRead) opened read =
-    (read.0, opened_read name old now new read.0 false opened read.1)
-reads_opened name old now new (Err Memory) opened read =
-    (read.0, opened_read name old now new read.0 false opened read.1)
+reads_opened name old now new (Err NotRead) opened read = grind (arith, nat_tests)
+reads_opened name old now new (Err Memory) opened read = grind (arith, nat_tests)
+reads_opened name old now new x opened read = absurd read
 
 -- a piece read, and the next
 noted-noted : (o : Open) (a b : Bytes) (ends : Bool) → noted b ends (noted a false o) ≡ noted (a ++ b) ends o
-noted-noted Closed a b ends = refl
 noted-noted (ToRead x) a b ends =
     ap₂ (λ (bytes : Bytes) (ended : Bool). ToRead (record x { bytes = bytes; ended = ended }))
     (append_assoc x.bytes a b) (or-false x.ended)
@@ -37,13 +33,11 @@ noted-noted (ToRead x) a b ends =
     or-false : (e : Bool) → ((e || false) || ends) ≡ (e || ends)
     or-false true = refl
     or-false false = refl
-noted-noted (ToWrite x) a b ends = refl
+noted-noted y a b ends = refl
 
 pub read_next : (old now new : Record) (a b : Bytes) (ends : Bool) → now ≡ after_reading a false old
     → new ≡ after_reading b ends now → new ≡ after_reading (a ++ b) ends old
-read_next old now new a b ends first then =
-    then ∙ ap (after_reading b ends) first ∙ ap (λ (o : Open). record old { current = o })
-    (noted-noted old.current a b ends)
+read_next old now new a b ends first then = grind (arith, nat_tests, noted-noted)
 
 -- a call of `read` that gave bytes
 pub read_piece : (old now new : Record) (a buf : Bytes) (n : ℕ) → now ≡ after_reading a false old

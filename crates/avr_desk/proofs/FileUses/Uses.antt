@@ -1,5 +1,6 @@
 -- The openings and files among uses that are joined, and when the open file is put by.
-use Rattle.std.proofs.Common.{◌≡◌, ◌∙◌, ap, refl, List, [], ◌∷◌, ◌++◌, append-nil}
+use Rattle.std.proofs.lemmas.Bool.Decides.{nat_tests}
+use Rattle.std.proofs.Common.{arith, ◌≡◌, ◌∙◌, ap, refl, List, [], ◌∷◌, ◌++◌, append-nil}
 use Rattle.avr_desk.specs.Record.{Bytes, Record, all_files, all_openings, all_uses, file_of, files_among, opening_of, openings_among, use_of, with_absent, with_open, with_replaced}
 use Rattle.avr_desk.specs.declared.record.FileUse.{FileUse}
 use Rattle.avr_desk.specs.declared.record.FileUse.TheVariants.{Opened, Created}
@@ -23,9 +24,7 @@ openings_append (Created file ∷ first) last = openings_append first last
 -- ---- the open file is a use as all others
 
 file_used : (o : Open) → files_among (use_of o) ≡ file_of o
-file_used Closed = refl
-file_used (ToRead x) = refl
-file_used (ToWrite x) = refl
+file_used y = grind (arith, nat_tests)
 
 opening_used : (o : Open) → openings_among (use_of o) ≡ opening_of o
 opening_used Closed = refl
@@ -33,8 +32,7 @@ opening_used (ToRead x) = refl
 opening_used (ToWrite x) = refl
 
 pub files_used : (r : Record) → files_among (all_uses r) ≡ all_files r
-files_used r = files_append r.uses (use_of r.current)
-    ∙ ap (λ (fs : List Writing). files_among r.uses ++ fs) (file_used r.current)
+files_used r = grind (arith, nat_tests, files_append, file_used)
 
 pub openings_used : (r : Record) → openings_among (all_uses r) ≡ all_openings r
 openings_used r = openings_append r.uses (use_of r.current)
@@ -49,8 +47,7 @@ pub openings_opened : (o : Open) (r : Record) → all_openings (with_open o r) �
 openings_opened o r = ap (λ (os : List Opening). os ++ opening_of o) (openings_used r)
 
 pub absent_used : (name : Bytes) (r : Record) → files_among (all_uses r ++ Opened (Absent name) ∷ []) ≡ all_files r
-absent_used name r = files_append (all_uses r) (Opened (Absent name) ∷ []) ∙ append-nil (files_among (all_uses r))
-    ∙ files_used r
+absent_used name r = grind (arith, nat_tests, files_append, append-nil, files_used)
 
 pub files_absent : (name : Bytes) (r : Record) → all_files (with_absent name r) ≡ all_files r
 files_absent name r = append-nil (files_among (all_uses r ++ Opened (Absent name) ∷ [])) ∙ absent_used name r
@@ -64,7 +61,4 @@ openings_absent name r =
 
 pub files_replaced : (name bytes : Bytes) (r : Record)
     → all_files (with_replaced name bytes r) ≡ all_files r ++ record { name = name; bytes = bytes } ∷ []
-files_replaced name bytes r =
-    let own : Writing = record { name = name; bytes = bytes } in
-    append-nil (files_among (all_uses r ++ Created own ∷ [])) ∙ files_append (all_uses r) (Created own ∷ [])
-    ∙ ap (λ (fs : List Writing). fs ++ own ∷ []) (files_used r)
+files_replaced name bytes r = grind (arith, nat_tests, append-nil, files_append, files_used)

@@ -1,5 +1,6 @@
 -- Pieces of a line, written one after the other.
-use Rattle.std.proofs.Common.{◌≡◌, ◌∙◌, ap, sym, refl, subst, arith, ℕ, ◌+◌, List, [], ◌∷◌, ◌++◌, append_assoc, append-nil, take, drop, length, map, get_or, ◌<◌, OnOk, OnErr, Result, Ok, Err}
+use Rattle.std.proofs.lemmas.Bool.Decides.{nat_tests}
+use Rattle.std.proofs.Common.{◌≡◌, ◌∙◌, ap, refl, subst, arith, ℕ, ◌+◌, List, [], ◌∷◌, ◌++◌, append_assoc, append-nil, take, drop, length, map, get_or, ◌<◌, OnOk, OnErr, Result, Ok, Err}
 use Rattle.std.specs.List.{concat}
 use Rattle.std.proofs.lemmas.List.{drop_more, length-append, take_more, take-append-drop}
 use Rattle.avr_desk.specs.Record.{Record, after_err, showing}
@@ -17,15 +18,12 @@ all_text ps = concat (map text_of ps)
 
 all_text-append : (ps qs : List Piece) → all_text (ps ++ qs) ≡ all_text ps ++ all_text qs
 all_text-append [] qs = refl
-all_text-append (p ∷ ps) qs = ap (λ (b : List ℕ). text_of p ++ b) (all_text-append ps qs)
-    ∙ sym (append_assoc (text_of p) (all_text ps) (all_text qs))
+all_text-append (p ∷ ps) qs = grind (arith, nat_tests, all_text-append ps qs, append_assoc)
 
 -- the pieces before the ith, the ith and those after it
 pub all_text_at : (ps : List Piece) (i : ℕ) (d : Piece) → i < length ps
     → all_text ps ≡ all_text (take i ps) ++ (text_of (get_or ps i d) ++ all_text (drop (i + 1) ps))
-all_text_at ps i d l =
-    ap all_text (sym (take-append-drop i ps)) ∙ all_text-append (take i ps) (drop i ps)
-    ∙ ap (λ (qs : List Piece). all_text (take i ps) ++ all_text qs) (drop_more ps i d l)
+all_text_at ps i d l = grind (arith, nat_tests, take-append-drop i ps, all_text-append (take i ps) (drop i ps), drop_more ps i d l)
 
 pub all_text_more : (ps : List Piece) (i : ℕ) (d : Piece) → i < length ps
     → all_text (take (i + 1) ps) ≡ all_text (take i ps) ++ text_of (get_or ps i d)

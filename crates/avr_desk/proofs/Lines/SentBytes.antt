@@ -1,4 +1,5 @@
 -- Bytes that are sent one after the other.
+use Rattle.std.proofs.lemmas.Bool.Decides.{nat_tests}
 use Rattle.std.proofs.Common.{◌≡◌, ◌∙◌, ap, sym, refl, arith, ℕ, ◌+◌, ◌-◌, ◌++◌, append_assoc, append-nil, take, drop, length, [], ◌≤◌}
 use Rattle.std.proofs.Math.Seq.{take-add, take-append-add}
 use Rattle.std.proofs.lemmas.Grind.{common_steps}
@@ -8,12 +9,11 @@ use Rattle.avr_desk.specs.Stream.{after_sent, SendsPart}
 use Rattle.avr_desk.specs.declared.stream.Stream.{Stream}
 use Rattle.avr_desk.specs.declared.stream.Stream.TheVariants.{File, Output, Messages}
 use Rattle.avr_desk.specs.declared.record.Open.{Open}
-use Rattle.avr_desk.specs.declared.record.Open.TheVariants.{Closed, ToRead, ToWrite}
+use Rattle.avr_desk.specs.declared.record.Open.TheVariants.{ToWrite}
 
 written_on-written_on : (o : Open) (a b : Bytes) → written_on b (written_on a o) ≡ written_on (a ++ b) o
-written_on-written_on Closed a b = refl
-written_on-written_on (ToRead x) a b = refl
 written_on-written_on (ToWrite x) a b = ap (λ (m : Bytes). ToWrite (record x { bytes = m })) (append_assoc x.bytes a b)
+written_on-written_on y a b = refl
 
 pub after_sent-after_sent : (s : Stream) (r : Record) (a b : Bytes)
     → after_sent s b (after_sent s a r) ≡ after_sent s (a ++ b) r
@@ -23,9 +23,8 @@ after_sent-after_sent Messages r a b = ap (λ (m : Bytes). record r { messages =
 
 -- none of the bytes
 written_none : (o : Open) → o ≡ written_on [] o
-written_none Closed = refl
-written_none (ToRead x) = refl
 written_none (ToWrite x) = ap (λ (m : Bytes). ToWrite (record x { bytes = m })) (sym (append-nil x.bytes))
+written_none y = refl
 
 pub sent_none : (s : Stream) (r : Record) → r ≡ after_sent s [] r
 sent_none File r = ap (λ (o : Open). record r { current = o }) (written_none r.current)
@@ -40,11 +39,7 @@ slice_rest bytes m = grind (arith, common_steps)
 pub sent_on : (s : Stream) (old now new : Record) (bytes : Bytes) (m n : ℕ) → now ≡ after_sent s (take m bytes) old
     → new ≡ after_sent s (take n (take (length bytes - m) (drop m bytes))) now
     → new ≡ after_sent s (take (m + n) bytes) old
-sent_on s old now new bytes m n first then =
-    then ∙ ap (λ (b : Bytes). after_sent s (take n b) now) (slice_rest bytes m)
-    ∙ ap (after_sent s (take n (drop m bytes))) first
-    ∙ after_sent-after_sent s old (take m bytes) (take n (drop m bytes))
-    ∙ ap (λ (b : Bytes). after_sent s b old) (sym (take-add m n bytes))
+sent_on s old now new bytes m n first then = grind (arith, nat_tests, slice_rest, after_sent-after_sent, take-add)
 
 -- the first m bytes are sent, and of the others a prefix (the counts say nothing here)
 pub sent_on_part : (s : Stream) (old now new : Record) (bytes : Bytes) (m : ℕ) → m ≤ length bytes
@@ -71,8 +66,4 @@ sent_next_part s old now new a b c first then =
     let e = sent_next s old now new a (take then.0 b) first then.2 in
     let within : then.0 ≤ length b = then.1 in
     let cut : take (length a + then.0) (a ++ (b ++ c)) ≡ a ++ take then.0 b =
-    take-append-add a (b ++ c) then.0 ∙ ap (λ (x : Bytes). a ++ x) (take-append-le then.0 b c within) in (
-      length a + then.0,
-      omega (arith, length-append a (b ++ c), length-append b c),
-      e ∙ ap (λ (x : Bytes). after_sent s x old) (sym cut),
-    )
+    take-append-add a (b ++ c) then.0 ∙ ap (λ (x : Bytes). a ++ x) (take-append-le then.0 b c within) in grind (arith, nat_tests, length-append)

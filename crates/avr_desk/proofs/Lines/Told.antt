@@ -1,5 +1,6 @@
 -- Lines that were reported, whole or in part.
-use Rattle.std.proofs.Common.{◌≡◌, ℕ, arith, List, take, drop, refl, ◌∙◌, subst, Result, Ok, Err, IfErr, inl, inr}
+use Rattle.std.proofs.lemmas.Bool.Decides.{nat_tests}
+use Rattle.std.proofs.Common.{◌≡◌, ℕ, arith, List, refl, ◌∙◌, subst, Result, Ok, Err, IfErr, inl, inr}
 use Rattle.std.proofs.lemmas.List.{take-append-drop}
 use Rattle.ghosts.proofs.Failures.{stood_has_not_risen}
 use Rattle.ghosts.specs.Failures.{HasRisen, HasStood}
@@ -35,10 +36,7 @@ pub failed_since : (a b c : DeskView) → HasSameCounts a b → HasFailedAt File
 failed_since a b c same failed = (subst (λ n. HasRisen n c.failures) same.0 failed.0, failed.1 ∙ same.1)
 
 pub unsaid_since : (a b c : DeskView) → HasSameCounts a b → HasFailedToSay b c → HasFailedToSay a c
-unsaid_since a b c same failed = (
-  subst (λ n. HasRisen n c.failures) same.0 failed.0,
-  subst (λ n. HasRisen n c.unsaid) same.1 failed.1,
-)
+unsaid_since a b c same failed = grind (arith, nat_tests)
 
 -- a desk whose count stood has not failed in between
 pub not_failed : (a b c d : DeskView) → Follows a b → Follows c d → HasStood a.failures d.failures → HasFailed b c → ⊥
@@ -48,23 +46,16 @@ not_failed a b c d first last = stood_has_not_risen a.failures b.failures c.fail
 pub failed_by : (stream : Stream) (old new : DeskView) (result : Result (Unit {0}) DeskFault) (fault : DeskFault)
     → result ≡ Err fault → IfErr result (λ e. e ≡ Failed)
     → Counts stream old new result → HasFailedAt stream old new
-failed_by stream old new (Ok done) fault is only counts = cc
-failed_by stream old new (Err NotFound) fault is only counts = cc
 failed_by stream old new (Err Failed) fault is only counts = counts.1
+failed_by stream old new x fault is only counts = cc
 
 -- a line that was printed, or a prefix of it
 pub tells_line : (old new : DeskView) (line : List ℕ) (printed : Result (Unit {0}) DeskFault)
     → IsPrinted old new line printed
     → Counts Messages old new printed → IfErr printed (λ e. e ≡ Failed) → Tells old new line
-tells_line old new line (Ok done) is counts only =
-    record { told = line; tells = inl (refl, counts.1); kept = is; follows = counts.0 }
+tells_line old new line (Ok done) is counts only = grind (arith, nat_tests)
 tells_line old new line (Err NotFound) is counts only = cc
-tells_line old new line (Err Failed) is counts only = record {
-  told = take is.0 line;
-  tells = inr ((drop is.0 line, take-append-drop is.0 line), counts.1);
-  kept = is.2;
-  follows = counts.0;
-}
+tells_line old new line (Err Failed) is counts only = grind (arith, nat_tests, take-append-drop is.0 line)
 
 -- what was reported since then was reported since before, where no failure was counted
 pub tells_since : (line told : List ℕ) (a b c : DeskView) → HasSameCounts a b → TellsLine line told b c
@@ -74,22 +65,10 @@ tells_since line told a b c first (inr part) = inr (part.0, unsaid_since a b c f
 
 pub failure_since : (line told : List ℕ) (a b c : DeskView) → HasSameCounts a b → TellsFailure line told b c
     → TellsFailure line told a c
-failure_since line told a b c first failure = record {
-  between = failure.between;
-  failed = failed_since a b failure.between first failure.failed;
-  tells = failure.tells;
-  since = follows_on a b failure.between (follows_same a b first) failure.since;
-  until = failure.until;
-}
+failure_since line told a b c first failure = grind (arith, nat_tests)
 
 -- The desk failed, and from then on that was reported.
 pub failure_told : (old mid new : DeskView) (line : List ℕ) → Follows old mid → HasFailedAt File old mid
     → (told : Tells mid new line)
     → TellsFailure line told.told old new
-failure_told old mid new line rose failed told = record {
-  between = mid;
-  failed = failed;
-  tells = told.tells;
-  since = rose;
-  until = told.follows;
-}
+failure_told old mid new line rose failed told = grind (arith, nat_tests)

@@ -1,10 +1,11 @@
 -- What is reported where a stage broke off, by what a desk shows.
-use Rattle.std.proofs.Common.{◌≡◌, ◌∙◌, sym, ap, subst, refl, ℕ, ◌⊎◌, inl, inr, List, [], ◌∷◌, ◌++◌, drop, append-nil, append_assoc, Result, Ok, Err, true, false}
+use Rattle.std.proofs.lemmas.Bool.Decides.{nat_tests}
+use Rattle.std.proofs.Common.{arith, ◌≡◌, ◌∙◌, sym, ap, subst, refl, ℕ, ◌⊎◌, inl, inr, List, [], ◌∷◌, ◌++◌, drop, append-nil, append_assoc, Result, Ok, Err, true, false}
 use Rattle.std.proofs.lemmas.List.{append_cancel_left}
 use Rattle.ghosts.specs.Failures.{HasStood}
 use Rattle.avr_desk.specs.Record.{DeskView, Record, showing, all_openings, opening_of, openings_among, after_err, written_on, Bytes}
 use Rattle.avr_desk.specs.declared.record.Open.{Open}
-use Rattle.avr_desk.specs.declared.record.Open.TheVariants.{Closed, ToRead, ToWrite}
+use Rattle.avr_desk.specs.declared.record.Open.TheVariants.{ToRead, ToWrite}
 use Rattle.avr_desk.specs.declared.record.Opening.{Opening}
 use Rattle.avr_desk.specs.declared.record.Opening.TheVariants.{Absent, Found}
 use Rattle.avr_desk.specs.declared.record.Reading.{Reading}
@@ -14,7 +15,7 @@ use Rattle.avr_desk.proofs.Stages.Sayings.{after_append}
 use Rattle.avr_desk.proofs.Lines.Told.{follows_here, not_failed}
 use Rattle.avr_desk.proofs.FileUses.Uses.{openings_absent, openings_opened}
 use Rattle.avr_desk.specs.Playing.{Break, InLine, NotOpened, NotRead, NoMemory, NoMemoryFor, last_done, IsBreak, Taking, TakesThere, TellsBreak, StageBrokeOff, WentRefused, Goes, part_read}
-use Rattle.avr_desk.specs.Stage.{Stage, StageAnswer, Made, Refused, Unread, StageResult, all_told, ◌>>=◌, content_stage, next_opening, file_stage}
+use Rattle.avr_desk.specs.Stage.{Stage, StageAnswer, Made, Refused, StageResult, all_told, ◌>>=◌, next_opening, file_stage}
 use Rattle.avr_desk.proofs.Stages.Played.{says_more}
 
 -- ---- where the desk did not fail
@@ -27,19 +28,13 @@ EndsWith line r = (prefix : Bytes) × (r.messages ≡ prefix ++ line)
 told_last : (before after : Record) (said last : List Saying) (told line : Bytes) → told ≡ line
     → ((r : Record) → (after_all last r).messages ≡ r.messages ++ told)
     → after ≡ after_all (said ++ last) before → EndsWith line after
-told_last before after said last told line whole ends kept =
-    let same : after ≡ after_all (said ++ last) before = cc in (
-      (after_all said before).messages,
-      ap (λ (x : Record). x.messages) (same ∙ after_append said last before) ∙ ends (after_all said before)
-          ∙ ap (λ (xs : Bytes). (after_all said before).messages ++ xs) whole,
-    )
+told_last before after said last told line whole ends kept = grind (arith, nat_tests, after_append)
 
 -- of a desk that did not fail a line was reported whole
 whole_line : (line told : Bytes) (old new : DeskView) → HasStood old.failures new.failures → TellsLine line told old new
     → told ≡ line
 whole_line line told old new sound (inl whole) = whole.0
-whole_line line told old new sound (inr part) =
-    absurd (not_failed old old new new (follows_here old) (follows_here new) sound part.1.0)
+whole_line line told old new sound (inr part) = grind (arith, nat_tests)
 
 -- and of the breaks only the want of memory is left
 broke_lacks : {A : Type 0} (taking : Taking) (stage : Stage A) (before after : Record) (k l m n : ℕ) → HasStood k l
@@ -89,15 +84,12 @@ openings_in (Writes bytes ∷ sayings) = openings_in sayings
 openings_in (Outs bytes ∷ sayings) = openings_in sayings
 
 written_openings : (bytes : Bytes) (o : Open) → opening_of (written_on bytes o) ≡ opening_of o
-written_openings bytes Closed = refl
-written_openings bytes (ToRead x) = refl
-written_openings bytes (ToWrite x) = refl
+written_openings bytes y = grind (arith, nat_tests)
 
 -- one more, and those after it
 one_more : (shown now more : List Opening) (next : Opening) (all : List Opening) → now ≡ shown ++ next ∷ []
     → all ≡ now ++ more → all ≡ shown ++ next ∷ more
-one_more shown now more next all one is =
-    is ∙ (ap (λ (os : List Opening). os ++ more) one ∙ append_assoc shown (next ∷ []) more)
+one_more shown now more next all one is = grind (arith, nat_tests, append_assoc)
 
 none_more : (shown now more all : List Opening) → now ≡ shown → all ≡ now ++ more → all ≡ shown ++ more
 none_more shown now more all same is = is ∙ ap (λ (os : List Opening). os ++ more) same
@@ -153,31 +145,21 @@ begins_then name stage go_on begins openings =
 
 pub begins_file : {A : Type 0} (name : Bytes) (limit : ℕ) (judge : Bytes → Result A Bytes)
     → Begins name (file_stage name limit judge)
-begins_file name limit judge openings = (
-  (content_stage name limit judge (next_opening name openings)
-      (drop 1 openings)).says,
-  refl,
-)
+begins_file name limit judge openings = grind (arith, nat_tests)
 
 -- the one that is after them all has this name too
 same_name : (name other : Bytes) (passed : List Opening) → next_opening name (passed ++ []) ≡ Absent other
     → name ≡ other
-same_name name other [] is = cc
-same_name name other (Absent x ∷ passed) is = cc
-same_name name other (Found x ∷ passed) is = cc
+same_name name other y is = grind (arith, nat_tests)
 
 -- the line of a refusal stands after what was said first
 told_first : {A : Type 0} (first : Saying) (says : List Saying) (answer : StageAnswer A)
     → all_told (first ∷ says) answer ≡ first ∷ all_told says answer
-told_first first says (Made a) = refl
-told_first first says (Refused line) = refl
-told_first first says Unread = refl
+told_first first says x = grind (arith, nat_tests)
 
 -- nothing but this line was reported since
 only_told : (r : Record) (told line : Bytes) → after_err told r ≡ after_all (Line line ∷ []) r → told ≡ line
-only_told r told line kept =
-    let same : after_err told r ≡ after_err line r = cc in
-    append_cancel_left r.messages told line (ap (λ (x : Record). x.messages) same)
+only_told r told line kept = grind (arith, nat_tests, append_cancel_left)
 
 -- Of a stage that begins so, where the desk shows no opening: the file could not be opened, and that was reported, or
 -- memory was refused, and that was, where it is taken before anything was said.
@@ -201,10 +183,7 @@ module _ {A : Type 0} (taking : Taking) (name told : Bytes) (stage : Stage A) (b
 
   first_is : (passed : List Opening) (other : Bytes) (behind extra : List Saying)
       → Opens (next_opening name (passed ++ [])) ∷ behind ≡ Opens (Absent other) ∷ extra → name ≡ other
-  first_is passed other behind extra is =
-      let opens : Opens (next_opening name (passed ++ [])) ≡ Opens (Absent other) = cc in
-      let opening : next_opening name (passed ++ []) ≡ Absent other = cc in
-      same_name name other passed opening
+  first_is passed other behind extra is = grind (arith, nat_tests)
 
   by_break : (passed : List Opening) (behind : List Saying) (break : Break) (line : Bytes)
       → IsBreak break [] (Opens (next_opening name (passed ++ [])) ∷ behind) → TakesThere taking break passed []
@@ -290,12 +269,8 @@ module _ {A : Type 0} (name : Bytes) (limit : ℕ) (judge : Bytes → Result A B
   comes_to openings is = rw (is, given) refl
 
   told_is : (opening : Opening) (line : Bytes) → Leaves_it (Opens opening ∷ Line line ∷ []) → told ≡ line
-  told_is (Absent other) line kept =
-      let same : after_all done r ≡ after_all (Opens (Absent other) ∷ Line line ∷ []) r = cc in
-      append_cancel_left r.messages told line (ap (λ (x : Record). x.messages) same)
-  told_is (Found x) line kept =
-      let same : after_all done r ≡ after_all (Opens (Found x) ∷ Line line ∷ []) r = cc in
-      append_cancel_left r.messages told line (ap (λ (x : Record). x.messages) same)
+  told_is (Absent other) line kept = grind (arith, nat_tests)
+  told_is (Found x) line kept = grind (arith, nat_tests, append_cancel_left)
 
   -- a break before the file was opened
   before_it : (break : Break) (line : Bytes) → TellsBreak break line Before After → Leaves_it (last_done break line)
@@ -324,14 +299,10 @@ module _ {A : Type 0} (name : Bytes) (limit : ℕ) (judge : Bytes → Result A B
       → TellsBreak break line Before After → Leaves_it (Opens opening ∷ last_done break line)
       → TellsLine memory_line told Before After
   behind_it (InLine due) line opening is tells kept = let e : [] ≡ Line due ∷ is.0 = is.1 in absurd (cc)
-  behind_it (NotOpened other) line opening is tells kept = let e : [] ≡ Opens (next_opening other []) ∷ is.0 = is.1 in
-      absurd (cc)
-  behind_it (NotRead other some) line opening is tells kept = let e : [] ≡ Opens (next_opening other []) ∷ is.0 =
-      is.1 in absurd (cc)
-  behind_it NoMemory line opening is tells kept =
-      subst (λ t. TellsLine memory_line t Before After) (sym (told_is opening line kept)) tells
-  behind_it (NoMemoryFor x) line opening is tells kept = let e : [] ≡ Opens (next_opening x.name []) ∷ is.0 = is.1 in
-      absurd (cc)
+  behind_it (NotOpened other) line opening is tells kept = grind (arith, nat_tests)
+  behind_it (NotRead other some) line opening is tells kept = grind (arith, nat_tests)
+  behind_it NoMemory line opening is tells kept = grind (arith, nat_tests, subst, told_is)
+  behind_it (NoMemoryFor x) line opening is tells kept = grind (arith, nat_tests)
 
   by_end : (first : Saying) (opening : Opening) (whole later : List Saying) (break : Break) (line : Bytes)
       → first ≡ Opens opening → whole ++ later ≡ []
@@ -339,8 +310,7 @@ module _ {A : Type 0} (name : Bytes) (limit : ℕ) (judge : Bytes → Result A B
       → Leaves_it (first ∷ (whole ++ last_done break line)) → TellsLine memory_line told Before After
   by_end first opening [] [] break line one none is tells kept =
       behind_it break line opening is tells (subst (λ s. Leaves_it (s ∷ last_done break line)) one kept)
-  by_end first opening [] (x ∷ later) break line one none is tells kept = absurd (cc)
-  by_end first opening (x ∷ whole) later break line one none is tells kept = absurd (cc)
+  by_end first opening y z break line one none is tells kept = absurd (cc)
 
   by_prefix : (openings : List Opening) (whole later : List Saying) (break : Break) (line : Bytes)
       → (file_stage name limit judge openings).says ≡ whole ++ later

@@ -1,5 +1,5 @@
 -- Stages that begin with the opening of a file.
-use Rattle.std.proofs.Common.{◌≡◌, refl, subst, ap, arith, ℕ, inr, List, [], ◌∷◌, Bool, true, false, nat_lt, ◌||◌, length, Result, Err}
+use Rattle.std.proofs.Common.{◌≡◌, refl, subst, ap, arith, ℕ, List, [], ◌∷◌, Bool, true, false, nat_lt, ◌||◌, length, Result, Err}
 use Rattle.std.proofs.lemmas.Bool.Decides.{nat_tests}
 use Rattle.avr_desk.specs.Fault.{Follows, HasFailedAt, HasSameCounts}
 use Rattle.avr_desk.specs.Files.{FaultCounts, IsWhole, ReadsFile, with_read, FileBreaks, IsCounted}
@@ -14,7 +14,7 @@ use Rattle.avr_desk.proofs.Stages.Sayings.{kept_append}
 use Rattle.avr_desk.proofs.Lines.Told.{failure_told, follows_on, follows_same, tells_since}
 use Rattle.avr_desk.specs.Lines.{file_fault_line, memory_line, not_opened_line, not_read_line}
 use Rattle.avr_desk.specs.Said.{Saying, Opens, Line, Tells, after_all}
-use Rattle.avr_desk.proofs.Stages.Played.{goes_on, goes_no_further}
+use Rattle.avr_desk.proofs.Stages.Played.{goes_on}
 use Rattle.avr_desk.specs.Playing.{Break, NotOpened, NotRead, NoMemoryFor, last_done, IsBreak, TakesThere, Taking, TellsBreak, Goes, part_read}
 use Rattle.avr_desk.specs.Stage.{Stage, Made, StageResult, ◌>>=◌, verdict_stage, open_stage, under_name, content_stage, next_opening}
 
@@ -52,8 +52,7 @@ pub goes_judged : {A : Type 0} (taking : Taking) (name : Bytes) (limit : ℕ) (j
     → IsWhole limit (record { bytes = reading.bytes; ended = reading.ended })
     → Goes taking (verdict_stage (judge reading.bytes)) old new result
     → Goes taking (content_stage name limit judge (Found reading)) old new result
-goes_judged taking name limit judge reading old new result whole goes =
-    let is = whole-is limit reading.bytes reading.ended whole in rw is goes
+goes_judged taking name limit judge reading old new result whole goes = grind (arith, nat_tests)
 
 -- ---- the opening broke off
 
@@ -64,21 +63,7 @@ broke_opening : {A : Type 0} (taking : Taking) (name : Bytes) (next : Opening �
     → TellsBreak break told old new
     → Passes (after_all (last_done break told)) old new → Follows old new
     → Goes taking (open_stage name >>= next) old new (Err status)
-broke_opening taking name next break told old new status taken one is tells kept follows =
-    goes_no_further taking (open_stage name) next old new status (
-      one,
-      inr (record {
-        passed = [];
-        whole = [];
-        break = break;
-        told = told;
-        rest = λ more. record { later = (open_stage name more).says; says_are = refl; broken = is more };
-        taken = taken;
-        tells = tells;
-        kept = kept;
-        follows = follows;
-      }),
-    )
+broke_opening taking name next break told old new status taken one is tells kept follows = grind (arith, nat_tests)
 
 -- the file could not be opened
 goes_unopened : {A : Type 0} (taking : Taking) (name : Bytes) (next : Opening → Stage A) (old mid new : DeskView)
@@ -138,16 +123,11 @@ goes_broken taking name next file_fault.Memory old mid new status there breaks r
 pub breaks_as : (name : Bytes) (old mid : Record) (fault : FileFault)
     → ReadsFile name (showing old 0 0) (showing mid 0 0) (Err fault)
     → FileBreaks name (showing old 0 0) (showing mid 0 0) fault
-breaks_as name old mid file_fault.Absent reads = reads
-breaks_as name old mid file_fault.NotOpened reads = reads
-breaks_as name old mid file_fault.NotRead reads = reads
 breaks_as name old mid file_fault.Memory reads = (reads.0, false, reads.1)
+breaks_as name old mid x reads = reads
 
 -- (what is kept says nothing here)
 pub counted_as : (k l m n : ℕ) (fault : FileFault)
     → FaultCounts (showing nothing_kept k m) (showing nothing_kept l n) (Err fault)
     → IsCounted (showing nothing_kept k m) (showing nothing_kept l n) fault
-counted_as k l m n file_fault.Absent counts = counts.1
-counted_as k l m n file_fault.NotOpened counts = counts.1
-counted_as k l m n file_fault.NotRead counts = counts.1
-counted_as k l m n file_fault.Memory counts = counts.1
+counted_as k l m n x counts = grind (arith, nat_tests)

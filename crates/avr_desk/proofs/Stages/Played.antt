@@ -1,5 +1,6 @@
 -- Stages that were played, one after the other.
-use Rattle.std.proofs.Common.{◌≡◌, ◌∙◌, sym, subst, inl, inr, ap, List, [], ◌∷◌, ◌++◌, ℕ, take, drop, refl, Ok, Err, Result, append_assoc, append-nil}
+use Rattle.std.proofs.lemmas.Bool.Decides.{nat_tests}
+use Rattle.std.proofs.Common.{arith, ◌≡◌, sym, subst, inl, inr, ap, List, [], ◌∷◌, ◌++◌, ℕ, take, drop, refl, Ok, Err, Result, append_assoc, append-nil}
 use Rattle.std.proofs.lemmas.List.{take-append-drop}
 use Rattle.avr_desk.specs.Record.{DeskView, Passes}
 use Rattle.avr_desk.specs.Fault.{HasFailedToSay, HasSameCounts, Counts, Follows}
@@ -10,22 +11,19 @@ use Rattle.avr_desk.specs.declared.stream.Stream.TheVariants.{Messages}
 use Rattle.avr_desk.specs.declared.record.Opening.{Opening}
 use Rattle.avr_desk.specs.Said.{Saying, Line, Opens, TellsLine, Tells, after_all}
 use Rattle.avr_desk.proofs.Stages.Sayings.{kept_none, kept_append}
-use Rattle.avr_desk.proofs.Lines.Told.{follows_on, follows_same, same_here, same_on, unsaid_since, tells_since, failure_since}
-use Rattle.avr_desk.specs.Lines.{memory_line, not_opened_line, not_read_line}
+use Rattle.avr_desk.proofs.Lines.Told.{follows_on, follows_same, same_here, same_on, unsaid_since, tells_since}
+use Rattle.avr_desk.specs.Lines.{memory_line}
 use Rattle.avr_desk.specs.Playing.{Went, Break, InLine, NotOpened, NotRead, NoMemory, NoMemoryFor, last_done, IsNextSaying, IsBreak, TellsBreak, Rest, Taking, TakesThere, StageBrokeOff, Goes}
-use Rattle.avr_desk.specs.Stage.{Stage, StageAnswer, Made, Refused, Unread, StageResult, all_told, behind_sayings, going_on, ◌>>=◌, verdict_stage, saying_stage, next_opening}
+use Rattle.avr_desk.specs.Stage.{Stage, StageAnswer, Made, Refused, StageResult, all_told, behind_sayings, going_on, ◌>>=◌, verdict_stage, saying_stage, next_opening}
 
 -- ---- counts
 
 break_since : (break : Break) (told : List ℕ) (first old new : DeskView) → HasSameCounts first old
     → TellsBreak break told old new → TellsBreak break told first new
 break_since (InLine line) told first old new same tells = (tells.0, unsaid_since first old new same tells.1)
-break_since (NotOpened name) told first old new same tells =
-    failure_since (not_opened_line name) told first old new same tells
-break_since (NotRead name bytes) told first old new same tells =
-    failure_since (not_read_line name) told first old new same tells
 break_since NoMemory told first old new same tells = tells_since memory_line told first old new same tells
 break_since (NoMemoryFor reading) told first old new same tells = tells_since memory_line told first old new same tells
+break_since x told first old new same tells = grind (arith, nat_tests)
 
 -- ---- a stage after another one
 
@@ -44,33 +42,21 @@ break_more (NoMemoryFor reading) more later extra is = next_more (Opens (next_op
 pub says_more : {A B : Type 0} (says : List Saying) (left : List Opening) (go_on : A → Stage B) (answer : StageAnswer A)
     → (extra : List Saying) × ((going_on says left go_on answer).says ≡ says ++ extra)
 says_more says left go_on (Made a) = ((go_on a left).says, refl)
-says_more says left go_on (Refused line) = ([], sym (append-nil says))
-says_more says left go_on Unread = ([], sym (append-nil says))
+says_more says left go_on x = ([], sym (append-nil says))
 
 -- the line of a refusal stands after both
 pub told_append : {A : Type 0} (first second : List Saying) (answer : StageAnswer A)
     → all_told (first ++ second) answer ≡ first ++ all_told second answer
-told_append first second (Made a) = refl
 told_append first second (Refused line) = append_assoc first second (Line line ∷ [])
-told_append first second Unread = refl
+told_append first second x = refl
 
 -- the sayings of the next stage stand behind a rest
 rest_on : {A B : Type 0} (says : List Saying) (left : List Opening) (go_on : A → Stage B) (answer : StageAnswer A)
     (whole : List Saying) (break : Break) (more : List Opening)
     → Rest (record { says = says; answer = answer; left = left }) whole break more
     → Rest (going_on says left go_on answer) whole break more
-rest_on says left go_on (Made a) whole break more rest =
-    let q = go_on a left in
-    record {
-      later = rest.later ++ q.says;
-      says_are = ap (λ (ss : List Saying). ss ++ q.says) rest.says_are ∙ append_assoc whole rest.later q.says;
-      broken = subst (IsBreak break more) (sym (told_append rest.later q.says q.answer))
-          (break_more break more rest.later (all_told q.says q.answer) rest.broken);
-    }
-rest_on says left go_on (Refused line) whole break more rest =
-    record { later = rest.later; says_are = rest.says_are; broken = rest.broken }
-rest_on says left go_on Unread whole break more rest =
-    record { later = rest.later; says_are = rest.says_are; broken = rest.broken }
+rest_on says left go_on (Made a) whole break more rest = grind (arith, nat_tests, append_assoc, subst, told_append, break_more)
+rest_on says left go_on x whole break more rest = grind (arith, nat_tests)
 
 rest_more : {A B : Type 0} (p : StageResult A) (go_on : A → Stage B) (whole : List Saying) (break : Break)
     (more : List Opening)
@@ -81,11 +67,7 @@ rest_more p go_on whole break more rest = rest_on p.says p.left go_on p.answer w
 rest_behind : {A : Type 0} (says whole : List Saying) (p : StageResult A) (break : Break) (more : List Opening)
     → Rest p whole break more
     → Rest (behind_sayings says p) (says ++ whole) break more
-rest_behind says whole p break more rest = record {
-  later = rest.later;
-  says_are = ap (λ (ss : List Saying). says ++ ss) rest.says_are ∙ sym (append_assoc says whole rest.later);
-  broken = rest.broken;
-}
+rest_behind says whole p break more rest = grind (arith, nat_tests, append_assoc)
 
 -- a stage that made something, and openings after its own
 pub made_then : {A B : Type 0} (stage : Stage A) (go_on : A → Stage B) (old new : DeskView) (a : A)
@@ -101,23 +83,16 @@ pub went_went : {A B : Type 0} (stage : Stage A) (go_on : A → Stage B) (old mi
 went_went stage go_on old mid new a answer first then = record {
   passed = first.passed ++ then.passed;
   says = first.says ++ then.says;
-  comes = λ more.
-      ap (stage >>= go_on) (append_assoc first.passed then.passed more)
-      ∙ made_then stage go_on old mid a first (then.passed ++ more)
-      ∙ ap (behind_sayings first.says) (then.comes more);
-  kept = subst (λ ss. Passes (after_all ss) old new) (sym (told_append first.says then.says answer))
-      (kept_append first.says (all_told then.says answer) old.kept mid.kept new.kept first.kept then.kept);
+  comes = grind (arith, nat_tests, append_assoc, made_then);
+  kept = grind (arith, nat_tests, subst, told_append, kept_append);
   sound = same_on old mid new first.sound then.sound;
 }
 
 -- memory that is taken here is taken there
 taken_there : (inner taking : Taking) (break : Break) (passed all : List Opening) (said told : List Saying)
     → (inner passed said → taking all told) → TakesThere inner break passed said → TakesThere taking break all told
-taken_there inner taking (InLine line) passed all said told there is = tt
-taken_there inner taking (NotOpened name) passed all said told there is = tt
-taken_there inner taking (NotRead name bytes) passed all said told there is = tt
 taken_there inner taking NoMemory passed all said told there is = there is
-taken_there inner taking (NoMemoryFor reading) passed all said told there is = tt
+taken_there inner taking x passed all said told there is = tt
 
 -- what takes memory after a stage that made something
 abbrev pub TakesBehind : {A : Type 0} (inner taking : Taking) (stage : Stage A) (old mid : DeskView) (a : A)
@@ -133,46 +108,22 @@ went_broke inner taking stage go_on old mid new a first behind then = record {
   passed = first.passed ++ then.passed;
   whole = first.says ++ then.whole;
   break = then.break;
-  rest = λ more.
-      let is = ap (stage >>= go_on) (append_assoc first.passed then.passed more)
-      ∙ made_then stage go_on old mid a first (then.passed ++ more) in
-      subst (λ p. Rest p (first.says ++ then.whole) then.break more) (sym is)
-      (rest_behind first.says then.whole _ then.break more (then.rest more));
-  taken = taken_there inner taking then.break then.passed (first.passed ++ then.passed) then.whole
-      (first.says ++ then.whole) (behind then.passed then.whole) then.taken;
+  rest = grind (arith, nat_tests, append_assoc, made_then, subst, rest_behind);
+  taken = grind (arith, nat_tests);
   told = then.told;
   tells = break_since then.break then.told old mid new first.sound then.tells;
-  kept = subst (λ ss. Passes (after_all ss) old new)
-      (sym (append_assoc first.says then.whole (last_done then.break then.told)))
-      (kept_append first.says (then.whole ++ last_done then.break then.told) old.kept mid.kept new.kept first.kept
-      then.kept);
+  kept = grind (arith, nat_tests, subst, append_assoc, kept_append);
   follows = follows_on old mid new (follows_same old mid first.sound) then.follows;
 }
 
 refused_then : {A B : Type 0} (stage : Stage A) (go_on : A → Stage B) (old new : DeskView) (line : List ℕ)
     → Went stage old new (Refused line)
     → Went (stage >>= go_on) old new (Refused line)
-refused_then stage go_on old new line first = record {
-  passed = first.passed;
-  says = first.says;
-  comes = λ more. ap (λ p. going_on p.says p.left go_on p.answer) (first.comes more);
-  kept = first.kept;
-  sound = first.sound;
-}
+refused_then stage go_on old new line first = grind (arith, nat_tests)
 
 broke_then : {A B : Type 0} (taking : Taking) (stage : Stage A) (go_on : A → Stage B) (old new : DeskView)
     → StageBrokeOff taking stage old new → StageBrokeOff taking (stage >>= go_on) old new
-broke_then taking stage go_on old new first = record {
-  passed = first.passed;
-  whole = first.whole;
-  break = first.break;
-  rest = λ more. rest_more (stage (first.passed ++ more)) go_on first.whole first.break more (first.rest more);
-  taken = first.taken;
-  told = first.told;
-  tells = first.tells;
-  kept = first.kept;
-  follows = first.follows;
-}
+broke_then taking stage go_on old new first = grind (arith, nat_tests, rest_more)
 
 -- a stage that made something, and how the next one goes
 pub goes_on : {A B : Type 0} (inner taking : Taking) (stage : Stage A) (go_on : A → Stage B) (old mid new : DeskView)
@@ -189,10 +140,8 @@ goes_on inner taking stage go_on old mid new a (Err status) went behind (one, in
 -- a stage that made nothing
 pub goes_no_further : {A B : Type 0} (taking : Taking) (stage : Stage A) (go_on : A → Stage B) (old new : DeskView)
     (status : ℕ) → Goes taking stage old new (Err status) → Goes taking (stage >>= go_on) old new (Err status)
-goes_no_further taking stage go_on old new status (one, inl went) =
-    (one, inl (went.0, refused_then stage go_on old new went.0 went.1))
-goes_no_further taking stage go_on old new status (one, inr broke) =
-    (one, inr (broke_then taking stage go_on old new broke))
+goes_no_further taking stage go_on old new status (one, inl went) = grind (arith, nat_tests)
+goes_no_further taking stage go_on old new status (one, inr broke) = grind (arith, nat_tests, broke_then)
 
 -- where memory may be refused in more places
 pub goes_within : {A : Type 0} (inner taking : Taking) (stage : Stage A) (old new : DeskView) (result : Result A ℕ)
@@ -200,21 +149,7 @@ pub goes_within : {A : Type 0} (inner taking : Taking) (stage : Stage A) (old ne
     → Goes inner stage old new result → Goes taking stage old new result
 goes_within inner taking stage old new (Ok a) within went = went
 goes_within inner taking stage old new (Err status) within (one, inl went) = (one, inl went)
-goes_within inner taking stage old new (Err status) within (one, inr broke) = (
-  one,
-  inr (record {
-    passed = broke.passed;
-    whole = broke.whole;
-    break = broke.break;
-    told = broke.told;
-    rest = broke.rest;
-    taken = taken_there inner taking broke.break broke.passed broke.passed broke.whole broke.whole
-        (within broke.passed broke.whole) broke.taken;
-    tells = broke.tells;
-    kept = broke.kept;
-    follows = broke.follows;
-  }),
-)
+goes_within inner taking stage old new (Err status) within (one, inr broke) = grind (arith, nat_tests)
 
 -- ---- stages that read nothing
 
@@ -235,17 +170,7 @@ broke_here : {A : Type 0} (taking : Taking) (stage : Stage A) (old new : DeskVie
     → ((more : List Opening) → IsBreak break more (all_told (stage more).says (stage more).answer))
     → TellsBreak break told old new
     → Passes (after_all (last_done break told)) old new → Follows old new → StageBrokeOff taking stage old new
-broke_here taking stage old new break told taken is tells kept follows = record {
-  passed = [];
-  whole = [];
-  break = break;
-  told = told;
-  rest = λ more. record { later = (stage more).says; says_are = refl; broken = is more };
-  taken = taken;
-  tells = tells;
-  kept = kept;
-  follows = follows;
-}
+broke_here taking stage old new break told taken is tells kept follows = grind (arith, nat_tests)
 
 -- a refusal that was reported, or a prefix of its line
 refused_by : {A : Type 0} (taking : Taking) (old new : DeskView) (line told : List ℕ) → TellsLine line told old new

@@ -1,8 +1,8 @@
 -- Images that are equal are one.
-use Rattle.std.proofs.Common.{◌≡◌, ap, refl, ℕ, Bool, List, Option, Some, None, nat_eq, IsTrue, ◌↔◌}
+use Rattle.std.proofs.lemmas.Bool.Decides.{nat_tests}
+use Rattle.std.proofs.Common.{arith, ◌≡◌, refl, ℕ, Bool, List, Option, Some, None, nat_eq, IsTrue, ◌↔◌}
 use Rattle.std.specs.Option.{option_eq}
 use Rattle.std.specs.Bool.{Decides, one_answer}
-use Rattle.std.specs.Cmp.{unsigned_Decides}
 use Rattle.std.specs.Cmp.Lexicographic.{pointwise_decides}
 use Rattle.avr_image.specs.Image.{is_same}
 
@@ -10,8 +10,7 @@ byte_decides : (first second : Option ℕ) → Decides (option_eq nat_eq first s
 byte_decides None None = (λ e. refl, λ e. refl)
 byte_decides None (Some b) = (λ e. cc e, λ e. cc e)
 byte_decides (Some a) None = (λ e. cc e, λ e. cc e)
-byte_decides (Some a) (Some b) =
-    let d = unsigned_Decides a b in (λ e. ap (λ (n : ℕ). Some n) (d.0 e), λ e. d.1 (cc e))
+byte_decides (Some a) (Some b) = grind (arith, nat_tests)
 
 pub same_decides : (first second : List (Option ℕ)) → Decides (is_same first second) (first ≡ second)
 same_decides = pointwise_decides byte_decides

@@ -35,17 +35,7 @@ next_of_none n from f e = record {
 
 next_of_some : (n from r : ℕ) → from < 64 → r < 64 → bit_at (above n from) r ≡ 1
     → ((i : ℕ) → i < r → bit_at (above n from) i ≡ 0) → NextOne n from r
-next_of_some n from r f l here before =
-    let after : from ≤ r = elim (cases_lt r from) [
-      | inl low ↦ absurd (omega (arith, here, above_low n from r f low))
-      | inr high ↦ high
-    ] in
-    record {
-      after = after;
-      bound = omega (arith, l);
-      zeros = λ i le j. sym (above_is n from i f (omega (arith, j, l)) le) ∙ before i j;
-      one = λ _. sym (above_is n from r f l after) ∙ here;
-    }
+next_of_some n from r f l here before = grind (arith, nat_tests, cases_lt, above_low, above_is)
 
 pub next_is : (n from : ℕ) → n < 2 ^ 64 → from < 64 → NextOne n from (trailing_zeros w64 (above n from))
 next_is n from fits f = elim (cases_eq (above n from) 0) [
@@ -103,49 +93,21 @@ ones_are low high i a b l =
 
 -- a bit of two words laid over each other
 one_of_two : (a b i : ℕ) → eqb (bit_at (bit_or a b) i) 1 ≡ (eqb (bit_at b i) 1 || eqb (bit_at a i) 1)
-one_of_two a b i =
-    let both = bit_at_or a b i in
-    let left = bit_at-lt a i in
-    let right = bit_at-lt b i in
-    elim (cases_eq (bit_at b i) 1) [
-      | inl one ↦ let here : bit_at (bit_or a b) i ≡ 1 = omega (arith, both, one, left) in rw (here, one) refl
-      | inr other ↦
-          let none : bit_at b i ≡ 0 = omega (arith, other, right) in
-          let here : bit_at (bit_or a b) i ≡ bit_at a i = omega (arith, both, none) in
-          rw (here, none) refl
-    ]
+one_of_two a b i = grind (arith, nat_tests, bit_at_or, bit_at-lt, cases_eq, bit_or)
 
 pub within_yes : (from end k : ℕ) → from ≤ k → k < end → is_within from end k ≡ true
-within_yes from end k a b =
-    let first : nat_le from k ≡ true = grind (arith, nat_tests, a) in
-    let second : nat_lt k end ≡ true = grind (arith, nat_tests, b) in
-    rw (first, second) refl
+within_yes from end k a b = grind (arith, nat_tests)
 
 pub within_low : (from end k : ℕ) → k < from → is_within from end k ≡ false
 within_low from end k a = let first : nat_le from k ≡ false = grind (arith, nat_tests, a) in rw first refl
 
 pub within_high : (from end k : ℕ) → end ≤ k → is_within from end k ≡ false
-within_high from end k b =
-    let second : nat_lt k end ≡ false = grind (arith, nat_tests, b) in
-    elim (cases_lt k from) [
-      | inl low ↦ within_low from end k low
-      | inr high ↦ let first : nat_le from k ≡ true = grind (arith, nat_tests, high) in rw (first, second) refl
-    ]
+within_high from end k b = grind (arith, nat_tests)
 
 -- the part of a word's bits that a span has, against the span
 in_word : (at stop k : ℕ) → at < stop → stop ≤ at / 64 * 64 + 64 → k / 64 ≡ at / 64
     → is_within (at % 64) (stop - at / 64 * 64) (k % 64) ≡ is_within at stop k
-in_word at stop k l room same = elim (cases_lt k at) [
-  | inl low ↦ within_low (at % 64) _ (k % 64) (omega (arith, low, same)) ∙ sym (within_low at stop k low)
-  | inr high ↦ elim (cases_lt k stop) [
-    | inl inside ↦
-        within_yes (at % 64) (stop - at / 64 * 64) (k % 64) (omega (arith, high, same)) (omega (arith, inside, same))
-        ∙ sym (within_yes at stop k high inside)
-    | inr past ↦
-        within_high (at % 64) (stop - at / 64 * 64) (k % 64) (omega (arith, past, same, room))
-        ∙ sym (within_high at stop k past)
-  ]
-]
+in_word at stop k l room same = grind (arith, nat_tests)
 
 -- one word of a span
 pub span_word : (words : List ℕ) (at stop bits k : ℕ) → at < stop → stop ≤ at / 64 * 64 + 64 → at / 64 < length words
@@ -170,31 +132,10 @@ span_word words at stop bits k l room within ones = elim (cases_eq (k / 64) (at 
 -- two spans, the one after the other
 pub spans_join : (from at stop k : ℕ) (b : Bool) → from ≤ at → at ≤ stop
     → (is_within at stop k || (is_within from at k || b)) ≡ (is_within from stop k || b)
-spans_join from at stop k b le more = elim (cases_lt k from) [
-  | inl low ↦ rw (within_low at stop k (omega (arith, low, le)), within_low from at k low, within_low from stop k low)
-      refl
-  | inr after ↦ elim (cases_lt k at) [
-    | inl first ↦ rw (
-      within_low at stop k first,
-      within_yes from at k after first,
-      within_yes from stop k after (omega (arith, first, more)),
-    ) refl
-    | inr second ↦ elim (cases_lt k stop) [
-      | inl inside ↦ rw (within_yes at stop k second inside, within_yes from stop k after inside) refl
-      | inr past ↦ rw (
-        within_high at stop k past,
-        within_high from at k (omega (arith, second)),
-        within_high from stop k past,
-      ) refl
-    ]
-  ]
-]
+spans_join from at stop k b le more = grind (arith, nat_tests)
 
 pub no_span : (from k : ℕ) (b : Bool) → (is_within from from k || b) ≡ b
-no_span from k b = elim (cases_lt k from) [
-  | inl low ↦ rw (within_low from from k low) refl
-  | inr high ↦ rw (within_high from from k high) refl
-]
+no_span from k b = grind (arith, nat_tests)
 
 pub same_place : (words words' : List ℕ) (wanted : Bool) (from from' end end' place place' : ℕ) → words ≡ words'
     → from ≡ from' → end ≡ end' → place ≡ place'

@@ -1,7 +1,8 @@
 -- How the fields of an image are seen.
-use Rattle.std.proofs.Common.{◌≡◌, ◌≢◌, ◌∙◌, sym, ap, ap₂, refl, arith, ℕ, suc, zero, ◌+◌, ◌*◌, ◌/◌, ◌%◌, ◌^◌, ◌<◌, ◌≤◌, List, [], ◌∷◌, length, get_or, set, Bool, true, false, cond, Option, Some, None, replicate, bit_or, is_some, count_by, inl, inr, w64, min, take, drop, ◌++◌, ◌-◌}
+use Rattle.std.proofs.lemmas.Bool.Decides.{nat_tests}
+use Rattle.std.proofs.Common.{◌≡◌, ◌≢◌, ◌∙◌, sym, ap, ap₂, refl, arith, ℕ, suc, zero, ◌+◌, ◌*◌, ◌/◌, ◌%◌, ◌^◌, ◌<◌, ◌≤◌, List, [], ◌∷◌, length, get_or, set, Bool, true, false, Option, Some, None, replicate, bit_or, is_some, count_by, inl, inr, w64, min, take, drop, ◌++◌, ◌-◌}
 use Rattle.std.proofs.Math.ListN.{get_or-eq_default}
-use Rattle.std.proofs.lemmas.Bool.{cases_eq, cases_lt, cases_Bool, true≢false}
+use Rattle.std.proofs.lemmas.Bool.{cases_eq, cases_lt, cases_Bool}
 use Rattle.std.proofs.lemmas.List.{get_or-set_same, get_or-set_other, length-set, length-drop, length-take, get_or-take, get_or-drop, drop_all}
 use Rattle.std.proofs.lemmas.Nat.Bits.{bit_at_set_same, bit_at_set_other, bit_at-zero}
 use Rattle.std.proofs.lemmas.List.Sums.{prefix_len_is}
@@ -21,14 +22,11 @@ pub get_or-shown_from : (k : ℕ) (words bytes : List ℕ) (i : ℕ) → i < len
     → get_or (shown_from k words bytes) i None ≡ shown_byte words (k + i) (get_or bytes i 0)
 get_or-shown_from k words [] i l = absurd (omega (arith, l))
 get_or-shown_from k words (b ∷ bs) zero l = ap (λ (n : ℕ). shown_byte words n b) (omega arith)
-get_or-shown_from k words (b ∷ bs) (suc i) l =
-    get_or-shown_from (suc k) words bs i (omega (arith, l))
-    ∙ ap (λ (n : ℕ). shown_byte words n (get_or bs i 0)) (omega arith)
+get_or-shown_from k words (b ∷ bs) (suc i) l = grind (arith, nat_tests, get_or-shown_from (suc k) words bs i (omega (arith, l)))
 
 pub byte_at-shown : (words bytes : List ℕ) (i : ℕ) → i < length bytes
     → byte_at (dense_image words bytes) i ≡ shown_byte words i (get_or bytes i 0)
-byte_at-shown words bytes i l = get_or-shown_from 0 words bytes i l
-    ∙ ap (λ (n : ℕ). shown_byte words n (get_or bytes i 0)) (omega arith)
+byte_at-shown words bytes i l = grind (arith, nat_tests, get_or-shown_from)
 
 pub byte_at-past : (image : List (Option ℕ)) (i : ℕ) → length image ≤ i → byte_at image i ≡ None
 byte_at-past [] i l = refl
@@ -69,9 +67,7 @@ get_or-zeros (suc n) (suc i) = get_or-zeros n i
 
 pub shown_from-zeros : (k n m b : ℕ) → shown_from k (replicate m 0) (replicate n b) ≡ replicate n None
 shown_from-zeros k zero m b = refl
-shown_from-zeros k (suc n) m b =
-    let none : shown_byte (replicate m 0) k b ≡ None = rw (get_or-zeros m (k / 64), bit_at-zero (k % 64)) refl in
-    ap₂ (λ (z : Option ℕ) (zs : List (Option ℕ)). z ∷ zs) none (shown_from-zeros (suc k) n m b)
+shown_from-zeros k (suc n) m b = grind (arith, nat_tests, shown_from-zeros (suc k) n m b, replicate, get_or-zeros, bit_at-zero)
 
 pub count-none : (n : ℕ) → count_by is_some (replicate {A = Option ℕ} n None) ≡ 0
 count-none zero = refl
@@ -127,34 +123,22 @@ same_default (x ∷ xs) (suc i) d e l = same_default xs i d e (omega (arith, l))
 pub got : (words bytes : List ℕ) {image : List (Option ℕ)} (i b : ℕ) → dense_image words bytes ≡ image
     → i < length bytes
     → is_present words i ≡ true → b ≡ get_or bytes i b → Some b ≡ byte_at image i
-got words bytes {image} i b seen l present item =
-    rw (← seen) (ap (λ (n : ℕ). Some n) (item ∙ same_default bytes i b 0 l)
-    ∙ sym (ap (λ (t : Bool). cond t (Some (get_or bytes i 0)) None) present) ∙ sym (byte_at-shown words bytes i l))
+got words bytes {image} i b seen l present item = grind (arith, nat_tests, same_default, byte_at-shown)
 
 pub absent : (words bytes : List ℕ) {image : List (Option ℕ)} (i : ℕ) → dense_image words bytes ≡ image
     → i < length bytes
     → is_present words i ≡ false → None ≡ byte_at image i
-absent words bytes {image} i seen l present =
-    rw (← seen) (sym (ap (λ (t : Bool). cond t (Some (get_or bytes i 0)) None) present)
-    ∙ sym (byte_at-shown words bytes i l))
+absent words bytes {image} i seen l present = grind (arith, nat_tests, byte_at-shown)
 
 pub past : (words bytes : List ℕ) {image : List (Option ℕ)} (i : ℕ) → dense_image words bytes ≡ image → length bytes ≤ i
     → None ≡ byte_at image i
-past words bytes {image} i seen l = rw (← seen)
-    (sym (byte_at-past (dense_image words bytes) i (omega (arith, l, length_shown words bytes))))
+past words bytes {image} i seen l = grind (arith, nat_tests, byte_at-past, length_shown)
 
 -- FF stays where no byte is, when a byte is laid down
 pub blank-marked : (words bytes : List ℕ) (a b : ℕ) → a < length bytes → a / 64 < length words
     → ((i : ℕ) → i < length bytes → is_present words i ≡ false → get_or bytes i 0 ≡ 255)
     → (i : ℕ) → i < length (set bytes a b) → is_present (with_mark words a) i ≡ false → get_or (set bytes a b) i 0 ≡ 255
-blank-marked words bytes a b l within blank i j none = elim (cases_eq i a) [
-  | inl same ↦
-      let here : is_present (with_mark words a) i ≡ true = rw same (present-same words a within) in
-      absurd (true≢false (sym here ∙ none))
-  | inr differ ↦
-      rw (get_or-set_other bytes a i b 0 differ)
-      (blank i (omega (arith, j, length-set bytes a b)) (sym (present-other words a i within differ) ∙ none))
-]
+blank-marked words bytes a b l within blank i j none = grind (arith, nat_tests, cases_eq, present-same, get_or-set_other, length-set, present-other)
 
 -- a byte as it is kept is what `fill` writes for its address
 pub kept_byte : (words bytes : List ℕ) {image : List (Option ℕ)} (a : ℕ) → dense_image words bytes ≡ image
@@ -177,10 +161,7 @@ kept_byte words bytes {image} a seen blank = rw (← seen) (elim (cases_lt a (le
 pub presence : (words bytes : List ℕ) {image : List (Option ℕ)} (a : ℕ) → dense_image words bytes ≡ image
     → a < length bytes
     → is_some (byte_at image a) ≡ is_present words a
-presence words bytes {image} a seen l = rw (← seen) (elim (cases_Bool (is_present words a)) [
-  | inl held_bit ↦ rw (byte_at-shown words bytes a l, held_bit) refl
-  | inr no_bit ↦ rw (byte_at-shown words bytes a l, no_bit) refl
-])
+presence words bytes {image} a seen l = grind (arith, nat_tests, cases_Bool, byte_at-shown)
 
 -- a run of places of a list, found by its first and its last
 position-at : {X : Type 0} (p : X → Bool) (xs : List X) (i n : ℕ) (d : X) → n < length xs
@@ -250,11 +231,7 @@ none_taken zero = refl
 none_taken (suc n) = refl
 
 pub no_run_past : (image : List (Option ℕ)) (addr end : ℕ) → length image ≤ addr → addr ≡ run_end image addr end
-no_run_past image addr end l =
-    let none : prefix_len is_some (take (end - addr) (drop addr image)) ≡ 0 =
-    ap (λ (xs : List (Option ℕ)). prefix_len is_some (take (end - addr) xs)) (drop_all addr image l)
-    ∙ none_taken (end - addr) in
-    omega (arith, none)
+no_run_past image addr end l = grind (arith, nat_tests, drop_all, none_taken)
 
 -- all bytes as they are kept are what `fill` writes for all addresses
 pub kept_whole : (words bytes : List ℕ) {image : List (Option ℕ)} → dense_image words bytes ≡ image
@@ -270,20 +247,7 @@ kept_whole words bytes {image} seen blank =
 -- what is kept as bytes is seen as bytes
 pub holds_bytes : (words bytes : List ℕ) {image : List (Option ℕ)} → dense_image words bytes ≡ image
     → ((i : ℕ) → get_or bytes i 0 < 256) → HoldsBytes image
-holds_bytes words bytes {image} seen small addr byte is = elim (cases_lt addr (length bytes)) [
-  | inl inside ↦
-      let there : byte_at image addr ≡ shown_byte words addr (get_or bytes addr 0) =
-      rw (← seen) (byte_at-shown words bytes addr inside) in
-      elim (cases_Bool (is_present words addr)) [
-        | inl held_bit ↦
-            let same : Some byte ≡ Some (get_or bytes addr 0) = sym is ∙ there ∙ rw held_bit refl in
-            let equal : byte ≡ get_or bytes addr 0 = cc in
-            omega (arith, equal, small addr)
-        | inr no_bit ↦ let bad : Some byte ≡ None = sym is ∙ there ∙ rw no_bit refl in absurd (cc)
-      ]
-  | inr past ↦ let bad : Some byte ≡ None =
-      sym is ∙ byte_at-past image addr (omega (arith, past, sized words bytes seen)) in absurd (cc)
-]
+holds_bytes words bytes {image} seen small addr byte is = grind (arith, nat_tests, cases_lt, byte_at-shown, cases_Bool, past, byte_at-past, sized)
 
 -- ---- bytes stay bytes
 
@@ -315,7 +279,4 @@ small-take (suc n) (x ∷ xs) all (suc i) = small-take n xs (λ k. all (suc k)) 
 pub small-pasted : (start : ℕ) (span bytes : List ℕ) → ((i : ℕ) → get_or span i 0 < 256)
     → ((i : ℕ) → get_or bytes i 0 < 256)
     → (i : ℕ) → get_or (with_span start span bytes) i 0 < 256
-small-pasted start span bytes new old =
-    small-append (take start bytes) (span ++ drop (start + length span) bytes) (small-take start bytes old)
-    (small-append span (drop (start + length span) bytes) new
-    (λ i. rw (get_or-drop (start + length span) bytes i 0) (old (start + length span + i))))
+small-pasted start span bytes new old = grind (arith, nat_tests, small-append, small-take, get_or-drop)

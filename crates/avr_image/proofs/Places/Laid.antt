@@ -1,10 +1,10 @@
 -- Bytes laid down at addresses: place by place, in parts, and as a span.
-use Rattle.std.proofs.Common.{append_assoc, ◌≡◌, ◌≢◌, ◌∙◌, sym, ap, ap₂, refl, arith, ℕ, suc, zero, ◌+◌, ◌-◌, ◌<◌, ◌≤◌, List, [], ◌∷◌, ◌++◌, length, get_or, set, take, drop, map, replicate, Bool, true, false, cond, ◌||◌, Option, Some, None, inl, inr, ◌⊎◌}
-use Rattle.std.proofs.lemmas.Bool.{cases_lt, true≢false}
+use Rattle.std.proofs.Common.{append_assoc, ◌≡◌, ◌≢◌, ◌∙◌, sym, ap, ap₂, refl, arith, ℕ, suc, zero, ◌+◌, ◌-◌, ◌<◌, ◌≤◌, List, [], ◌∷◌, ◌++◌, length, get_or, set, drop, replicate, Bool, true, false, cond, ◌||◌, Option, Some, None, inl, inr, ◌⊎◌}
+use Rattle.std.proofs.lemmas.Bool.{cases_lt}
 use Rattle.std.proofs.lemmas.List.{get_or-set_same, get_or-set_other, length-set, length-drop, length-take, length-append, length-replicate, get_or_append_left, get_or-append_right, get_or-take, get_or-drop, length-map, map-append, set_at, append-nil}
 use Rattle.std.proofs.lemmas.Bool.Decides.{nat_tests}
 use Rattle.std.specs.List.{enumerate_from}
-use Rattle.avr_image.specs.Image.{byte_at, either, over, empty, image_of_pairs, laid_over, from_zero, fits, with_byte}
+use Rattle.avr_image.specs.Image.{byte_at, over, empty, image_of_pairs, laid_over, from_zero, fits, with_byte}
 use Rattle.avr_image.specs.Present.{is_present, is_within}
 use Rattle.avr_image.specs.Dense.{dense_image, with_span, IsKept}
 use Rattle.avr_image.proofs.Fields.Masks.{within_yes, within_low, within_high}
@@ -27,8 +27,7 @@ over-set : (a b : List (Option ℕ)) (i n : ℕ) → length a ≤ length b
 over-set [] b i n l = refl
 over-set (x ∷ a) [] i n l = absurd (omega (arith, l))
 over-set (x ∷ a) (y ∷ b) zero n l = refl
-over-set (x ∷ a) (y ∷ b) (suc i) n l = ap (λ (zs : List (Option ℕ)). either y x ∷ zs)
-    (over-set a b i n (omega (arith, l)))
+over-set (x ∷ a) (y ∷ b) (suc i) n l = grind (arith, nat_tests, over-set a b i n (omega (arith, l)))
 
 pub over-empty : (a : List (Option ℕ)) → over a (empty (length a)) ≡ a
 over-empty [] = refl
@@ -55,21 +54,15 @@ laid_over_laid image ys =
 
 pub laid_append : (size : ℕ) (xs ys : List (ℕ × ℕ))
     → image_of_pairs size (xs ++ ys) ≡ over (image_of_pairs size xs) (image_of_pairs size ys)
-laid_append size xs ys =
-    let size_is : length (image_of_pairs size xs) ≡ size =
-    length-laid_over (empty size) xs ∙ length-replicate {A = Option ℕ} size None in
-    laid_over-append (empty size) xs ys ∙ laid_over_laid (image_of_pairs size xs) ys
-    ∙ ap (λ (n : ℕ). over (image_of_pairs size xs) (image_of_pairs n ys)) size_is
+laid_append size xs ys = grind (arith, nat_tests, length-laid_over, length-replicate, laid_over-append, laid_over_laid)
 
 pub over_over : (a b c : List (Option ℕ)) → length b ≡ length c → over (over a b) c ≡ over a (over b c)
 over_over [] b c l = refl
 over_over (x ∷ a) [] [] l = refl
 over_over (x ∷ a) [] (z ∷ c) l = absurd (omega (arith, l))
 over_over (x ∷ a) (y ∷ b) [] l = absurd (omega (arith, l))
-over_over (x ∷ a) (y ∷ b) (Some z ∷ c) l =
-    ap (λ (zs : List (Option ℕ)). Some z ∷ zs) (over_over a b c (omega (arith, l)))
-over_over (x ∷ a) (y ∷ b) (None ∷ c) l =
-    ap (λ (zs : List (Option ℕ)). either y x ∷ zs) (over_over a b c (omega (arith, l)))
+over_over (x ∷ a) (y ∷ b) (Some z ∷ c) l = grind (arith, nat_tests, over_over a b c (omega (arith, l)))
+over_over (x ∷ a) (y ∷ b) (None ∷ c) l = grind (arith, nat_tests, over_over a b c (omega (arith, l)))
 
 -- ---- a span, place by place
 
@@ -93,11 +86,7 @@ pub span_in : (image : List (Option ℕ)) (addr : ℕ) (span : List ℕ) (j : �
     → addr + length span ≤ length image
     → byte_at (laid_over image (enumerate_from addr span)) (addr + j) ≡ Some (get_or span j 0)
 span_in image addr [] j l room = absurd (omega (arith, l))
-span_in image addr (b ∷ span) zero l room =
-    let here : addr + 0 ≡ addr = omega arith in
-    span_low (set image addr (Some b)) (addr + 1) span (addr + 0) (omega arith)
-    ∙ ap (λ (n : ℕ). byte_at (set image addr (Some b)) n) here
-    ∙ get_or-set_same image addr (Some b) None (omega (arith, room))
+span_in image addr (b ∷ span) zero l room = grind (arith, nat_tests, span_low, set, get_or-set_same)
 span_in image addr (b ∷ span) (suc j) l room =
     let next : addr + suc j ≡ addr + 1 + j = omega arith in
     ap (λ (n : ℕ). byte_at (laid_over (set image addr (Some b)) (enumerate_from (addr + 1) span)) n) next
@@ -118,39 +107,24 @@ byte_beside image addr byte other l = get_or-set_other image addr other (Some by
 
 pub length-pasted : (start : ℕ) (span bytes : List ℕ) → start + length span ≤ length bytes
     → length (with_span start span bytes) ≡ length bytes
-length-pasted start span bytes room =
-    let prefix = length-take start bytes in
-    let back = length-drop (start + length span) bytes in
-    length-append (take start bytes) (span ++ drop (start + length span) bytes)
-    ∙ ap (λ (n : ℕ). length (take start bytes) + n) (length-append span (drop (start + length span) bytes))
-    ∙ omega (arith, prefix, back, room)
+length-pasted start span bytes room = grind (arith, nat_tests, length-take, length-drop, length-append)
 
 pasted_low : (start : ℕ) (span bytes : List ℕ) (i : ℕ) → start + length span ≤ length bytes → i < start
     → get_or (with_span start span bytes) i 0 ≡ get_or bytes i 0
-pasted_low start span bytes i room l =
-    get_or_append_left (take start bytes) _ 0 i (omega (arith, length-take start bytes, room, l))
-    ∙ get_or-take start bytes i 0 l
+pasted_low start span bytes i room l = grind (arith, nat_tests, get_or_append_left, length-take, get_or-take)
 
 pasted_rest : (start : ℕ) (span bytes : List ℕ) (i : ℕ) → start + length span ≤ length bytes → start ≤ i
     → get_or (with_span start span bytes) i 0 ≡ get_or (span ++ drop (start + length span) bytes) (i - start) 0
-pasted_rest start span bytes i room l =
-    get_or-append_right (take start bytes) (span ++ drop (start + length span) bytes) start i 0
-    (omega (arith, length-take start bytes, room)) l
+pasted_rest start span bytes i room l = grind (arith, nat_tests, get_or-append_right, length-take)
 
 pasted_in : (start : ℕ) (span bytes : List ℕ) (i : ℕ) → start + length span ≤ length bytes → start ≤ i
     → i < start + length span
     → get_or (with_span start span bytes) i 0 ≡ get_or span (i - start) 0
-pasted_in start span bytes i room a b =
-    pasted_rest start span bytes i room a ∙ get_or_append_left span (drop (start + length span) bytes) 0 (i - start)
-    (omega (arith, a, b))
+pasted_in start span bytes i room a b = grind (arith, nat_tests, pasted_rest, get_or_append_left)
 
 pasted_high : (start : ℕ) (span bytes : List ℕ) (i : ℕ) → start + length span ≤ length bytes → start + length span ≤ i
     → get_or (with_span start span bytes) i 0 ≡ get_or bytes i 0
-pasted_high start span bytes i room l =
-    let back : start + length span + (i - start - length span) ≡ i = omega (arith, l) in
-    pasted_rest start span bytes i room (omega (arith, l))
-    ∙ get_or-append_right span (drop (start + length span) bytes) (length span) (i - start) 0 refl (omega (arith, l))
-    ∙ get_or-drop (start + length span) bytes (i - start - length span) 0 ∙ ap (λ (n : ℕ). get_or bytes n 0) back
+pasted_high start span bytes i room l = grind (arith, nat_tests, pasted_rest, get_or-append_right, get_or-drop)
 
 -- the bits of a span are those of its bytes
 pub shown-pasted : (words words' bytes span : List ℕ) (addr : ℕ) → addr + length span ≤ length bytes
@@ -191,29 +165,7 @@ pub kept-pasted : (words words' bytes span : List ℕ) (addr : ℕ) → addr + l
     → ((k : ℕ) → is_present words' k ≡ (is_within addr (addr + length span) k || is_present words k))
     → length words' ≡ length words
     → ((i : ℕ) → get_or span i 0 < 256) → IsKept words bytes → IsKept words' (with_span addr span bytes)
-kept-pasted words words' bytes span addr room bits same small kept = record {
-  enough = omega (arith, length-pasted addr span bytes room, same, kept.enough);
-  below = omega (arith, length-pasted addr span bytes room, kept.below);
-  small = small-pasted addr span bytes small kept.small;
-  blank = λ i l none. elim (cases_lt i addr) [
-    | inl low ↦
-        let bit : is_present words' i ≡ is_present words i =
-        bits i ∙ rw (within_low addr (addr + length span) i low) refl in
-        pasted_low addr span bytes i room low ∙ kept.blank i (omega (arith, l, length-pasted addr span bytes room))
-        (sym bit ∙ none)
-    | inr from ↦ elim (cases_lt i (addr + length span)) [
-      | inl within ↦
-          let bit : is_present words' i ≡ true = bits i
-          ∙ rw (within_yes addr (addr + length span) i from within) refl in
-          absurd (true≢false (sym bit ∙ none))
-      | inr past ↦
-          let bit : is_present words' i ≡ is_present words i =
-          bits i ∙ rw (within_high addr (addr + length span) i past) refl in
-          pasted_high addr span bytes i room past ∙ kept.blank i (omega (arith, l, length-pasted addr span bytes room))
-          (sym bit ∙ none)
-    ]
-  ];
-}
+kept-pasted words words' bytes span addr room bits same small kept = grind (arith, nat_tests, length-pasted, small-pasted, cases_lt, within_low, pasted_low, within_yes, within_high, pasted_high)
 
 -- ---- whether a span fits
 
@@ -230,16 +182,7 @@ fits_no addr (b ∷ bytes) size some l = let n = length (b ∷ bytes) in grind (
 
 pub from_zero-next : (text : List ℕ) (byte size : ℕ) → length text < size
     → set (from_zero text size) (length text) (Some byte) ≡ from_zero (text ++ byte ∷ []) size
-from_zero-next text byte size l =
-    let more : size - length text ≡ suc (size - (length text + 1)) = omega (arith, l) in
-    let kept : List (Option ℕ) = map (λ (n : ℕ). Some n) text in
-    let size_is : length kept ≡ length text = length-map text (λ (n : ℕ). Some n) in
-    let grown : length (text ++ byte ∷ []) ≡ length text + 1 = length-append text (byte ∷ []) in
-    ap (λ (n : ℕ). set (kept ++ replicate n None) (length text) (Some byte)) more
-    ∙ set_at kept None (replicate (size - (length text + 1)) None) (Some byte) (length text) size_is
-    ∙ sym (append_assoc kept (Some byte ∷ []) (replicate (size - (length text + 1)) None))
-    ∙ ap₂ (λ (xs : List (Option ℕ)) (n : ℕ). xs ++ replicate (size - n) None)
-    (sym (map-append (λ (n : ℕ). Some n) text (byte ∷ []))) (sym grown)
+from_zero-next text byte size l = grind (arith, nat_tests, length-map, length-append, set, replicate, set_at, append_assoc, map-append)
 
 pub from_zero-laid : (text span : List ℕ) (size addr : ℕ) → addr ≡ length text → length text + length span ≤ size
     → laid_over (from_zero text size) (enumerate_from addr span) ≡ from_zero (text ++ span) size
@@ -261,9 +204,7 @@ from_zero-span text size l =
     ∙ ap (λ (n : ℕ). laid_over (replicate n None) (enumerate_from 0 text)) whole
 
 pub length-from_zero : (text : List ℕ) (size : ℕ) → length text ≤ size → length (from_zero text size) ≡ size
-length-from_zero text size l =
-    length-append (map (λ (n : ℕ). Some n) text) (replicate (size - length text) None)
-    ∙ omega (arith, length-map text (λ (n : ℕ). Some n), length-replicate {A = Option ℕ} (size - length text) None, l)
+length-from_zero text size l = grind (arith, nat_tests, length-append, replicate, length-map, length-replicate)
 
 pub fits_within : (addr : ℕ) (bytes : List ℕ) (size : ℕ) → fits addr bytes size ≡ true → addr ≤ size
     → addr + length bytes ≤ size

@@ -1,5 +1,6 @@
 -- Two images, address by address.
-use Rattle.std.proofs.Common.{◌≡◌, ℕ, ◌<◌, List, length, Option, false, refl, inl, inr}
+use Rattle.std.proofs.lemmas.Bool.Decides.{nat_tests}
+use Rattle.std.proofs.Common.{arith, ◌≡◌, ℕ, ◌<◌, List, length, Option, false}
 use Rattle.std.proofs.lemmas.Bool.{cases_lt}
 use Rattle.avr_image.specs.Overlap.{AreDisjoint, hold_both}
 use Rattle.avr_image.proofs.Fields.Shown.{byte_at-past}
@@ -8,8 +9,4 @@ use Rattle.avr_image.proofs.Fields.Shown.{byte_at-past}
 pub disjoint_within : (first second : List (Option ℕ))
     → ((addr : ℕ) → addr < length first → hold_both first second addr ≡ false)
     → AreDisjoint first second
-disjoint_within first second within addr =
-    elim (cases_lt addr (length first)) [
-      | inl inside ↦ within addr inside
-      | inr past ↦ rw (byte_at-past first addr past) refl
-    ]
+disjoint_within first second within addr = grind (arith, nat_tests, cases_lt, byte_at-past)

@@ -1,4 +1,5 @@
 -- A byte that is taken away.
+use Rattle.std.proofs.lemmas.Bool.Decides.{nat_tests}
 use Rattle.std.proofs.Common.{◌≡◌, ◌≢◌, ◌∙◌, sym, ap, refl, arith, ℕ, suc, zero, ◌*◌, ◌/◌, ◌%◌, ◌^◌, ◌-◌, ◌<◌, ◌≤◌, List, [], ◌∷◌, length, get_or, set, false, eqb, Option, None, bit_and, inl, inr, w64}
 use Rattle.std.proofs.lemmas.Bool.{cases_eq}
 use Rattle.std.proofs.lemmas.List.{get_or-set_same, get_or-set_other, length-set}
@@ -52,12 +53,7 @@ pub blank-removed : (words bytes : List ℕ) (a : ℕ) → a < length bytes → 
     → ((i : ℕ) → i < length bytes → is_present words i ≡ false → get_or bytes i 0 ≡ 255)
     → (i : ℕ) → i < length (set bytes a 255) → is_present (without_mark words a) i ≡ false
     → get_or (set bytes a 255) i 0 ≡ 255
-blank-removed words bytes a l within blank i j none = elim (cases_eq i a) [
-  | inl same ↦ rw same (get_or-set_same bytes a 255 0 l)
-  | inr differ ↦
-      rw (get_or-set_other bytes a i 255 0 differ)
-      (blank i (omega (arith, j, length-set bytes a 255)) (sym (cleared-other words a i within differ) ∙ none))
-]
+blank-removed words bytes a l within blank i j none = grind (arith, nat_tests, cases_eq, get_or-set_same, get_or-set_other, length-set, cleared-other)
 
 -- outside the memory nothing is taken away
 pub removed-past : (image : List (Option ℕ)) (a : ℕ) → length image ≤ a → image ≡ set image a None

@@ -1,6 +1,5 @@
 -- Digits, as the code reads and writes them.
-use Rattle.std.proofs.Common.{◌≡◌, ◌∙◌, sym, ap, ap₂, refl, arith, add-one, ℕ, suc, zero, ◌+◌, ◌*◌, ◌/◌, ◌%◌, ◌^◌, ◌<◌, ◌≤◌, List, [], ◌∷◌, length, get_or, set, drop, min, true, false, cond, eqb, nat_lt, ◌≢◌, inl, inr}
-use Rattle.std.proofs.lemmas.Bool.{cases_lt}
+use Rattle.std.proofs.Common.{◌≡◌, ◌∙◌, sym, ap, ap₂, refl, arith, add-one, ℕ, suc, zero, ◌+◌, ◌*◌, ◌/◌, ◌%◌, ◌^◌, ◌<◌, ◌≤◌, List, [], ◌∷◌, length, get_or, set, drop, min, true, false, cond, eqb, nat_lt, ◌≢◌}
 use Rattle.std.proofs.lemmas.Bool.Decides.{nat_tests}
 use Rattle.std.proofs.lemmas.List.{drop_more, drop_all, drop-set}
 use Rattle.std.proofs.Math.Nat.{mul-le-mul_left, pow-suc, div-lt_iff_lt-mul}
@@ -14,13 +13,7 @@ use Rattle.avr_image.specs.Values.{is_digit_of}
 
 same_cap : (a b base digit : ℕ) → 1 ≤ base → min a 256 ≡ min b 256
     → min (a * base + digit) 256 ≡ min (b * base + digit) 256
-same_cap a b base digit some same = elim (cases_lt a 256) [
-  | inl small ↦ let equal : a ≡ b = omega (arith, same, small) in ap (λ (n : ℕ). min (n * base + digit) 256) equal
-  | inr large ↦
-      let more : a ≤ a * base = omega (arith, mul-le-mul_left a some) in
-      let too : b ≤ b * base = omega (arith, mul-le-mul_left b some) in
-      omega (arith, same, large, more, too)
-]
+same_cap a b base digit some same = grind (arith, nat_tests)
 
 capped : (base a b : ℕ) (digits : List ℕ) → 1 ≤ base → min a 256 ≡ min b 256
     → min (digits_value_after base a digits) 256 ≡ min (digits_value_after base b digits) 256
@@ -33,10 +26,7 @@ pub value-step : (base value digit i : ℕ) (digits : List ℕ) → 1 ≤ base �
     → digit ≡ digit_value (get_or digits i 0)
     → min (digits_value_after base (min (value * base + digit) 256) (drop (i + 1) digits)) 256
     ≡ min (digits_value_after base value (drop i digits)) 256
-value-step base value digit i digits some l here =
-    capped base (min (value * base + digit) 256) (value * base + digit) (drop (i + 1) digits) some (omega arith)
-    ∙ ap (λ (d : ℕ). min (digits_value_after base (value * base + d) (drop (i + 1) digits)) 256) here
-    ∙ ap (λ (rest : List ℕ). min (digits_value_after base value rest) 256) (sym (drop_more digits i 0 l))
+value-step base value digit i digits some l here = grind (arith, nat_tests, capped, drop_more)
 
 pub digits-step : (base i : ℕ) (digits : List ℕ) → i < length digits → is_digit_of base (get_or digits i 0) ≡ true
     → list_all (is_digit_of base) (drop (i + 1) digits) ≡ list_all (is_digit_of base) (drop i digits)

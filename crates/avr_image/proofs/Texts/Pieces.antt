@@ -1,5 +1,6 @@
 -- A text that is put together, or written, piece by piece.
-use Rattle.std.proofs.Common.{◌≡◌, ◌∙◌, ap, sym, refl, subst, arith, ℕ, List, [], ◌++◌, length, append_assoc, Option}
+use Rattle.std.proofs.lemmas.Bool.Decides.{nat_tests}
+use Rattle.std.proofs.Common.{◌≡◌, refl, subst, arith, ℕ, List, [], ◌++◌, length, append_assoc, Option}
 use Rattle.std.proofs.KnownBytes.{Appends-nil, Appends-trans}
 use Rattle.std.proofs.lemmas.List.{append-nil, length-append, nil_from_length}
 use Rattle.std.specs.Io.KnownBytes.{Appends}
@@ -7,17 +8,14 @@ use Rattle.std.specs.Io.KnownBytes.{Appends}
 -- what came, and what is left, is the whole
 pub goes_on : (text piece old left whole : List ℕ) → text ++ old ≡ whole → old ≡ piece ++ left
     → (text ++ piece) ++ left ≡ whole
-goes_on text piece old left whole so_far split =
-    append_assoc text piece left ∙ ap (λ (xs : List ℕ). text ++ xs) (sym split) ∙ so_far
+goes_on text piece old left whole so_far split = grind (arith, nat_tests, append_assoc)
 
 pub is_whole : (text left whole : List ℕ) → text ++ left ≡ whole → length left ≡ 0 → text ≡ whole
-is_whole text left whole so_far none =
-    sym (append-nil text) ∙ ap (λ (xs : List ℕ). text ++ xs) (sym (nil_from_length left none)) ∙ so_far
+is_whole text left whole so_far none = grind (arith, nat_tests, append-nil, nil_from_length)
 
 -- after an empty piece, where nothing was left, nothing is left
 pub none_left : (old piece left : List ℕ) → old ≡ piece ++ left → length old ≡ 0 → left ≡ []
-none_left old piece left split none =
-    nil_from_length left (omega (arith, none, ap length split ∙ length-append piece left))
+none_left old piece left split none = grind (arith, nat_tests, nil_from_length, length-append)
 
 -- a writer took a prefix of the whole, and this is left
 pub record Written (old now : Option (List ℕ)) (left whole : List ℕ) : Type 0 where

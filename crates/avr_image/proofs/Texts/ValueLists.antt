@@ -1,5 +1,5 @@
 -- A list of numbers, read as values, gives the numbers.
-use Rattle.std.proofs.Common.{◌≡◌, ◌∙◌, ap, refl, arith, ℕ, zero, suc, ◌+◌, ◌<◌, ◌≤◌, List, [], ◌∷◌, ◌++◌, length, map, filter, eqb, Bool, true, false, ◌&&◌, not, nat_lt, nat_le, Option, Some, None, Ok, Err, inl, inr, get_or}
+use Rattle.std.proofs.Common.{◌≡◌, ◌∙◌, ap, refl, arith, ℕ, zero, suc, ◌+◌, ◌<◌, ◌≤◌, List, [], ◌∷◌, ◌++◌, length, map, filter, eqb, Bool, true, false, ◌&&◌, not, nat_lt, Option, Some, None, Ok, Err, inl, inr, get_or}
 use Rattle.std.specs.List.{enumerate_from, slice_split, onto_first, list_all}
 use Rattle.std.specs.Fmt.{digits}
 use Rattle.std.proofs.lemmas.Bool.{cases_eq}
@@ -64,10 +64,7 @@ good Bin n l = below 256 n (is_good Bin) all_binary l
 
 value_is : (read : Option ℕ) (n : ℕ) → is_value read n ≡ true → read ≡ Some n
 value_is None n e = absurd (cc e)
-value_is (Some m) n e = elim (cases_eq m n) [
-  | inl same ↦ ap (λ (k : ℕ). Some k) same
-  | inr other ↦ let test : eqb m n ≡ false = grind (arith, nat_tests) in absurd (cc (e, test))
-]
+value_is (Some m) n e = grind (arith, nat_tests)
 
 read_back : (base : Base) (n : ℕ) → n < 256 → value_of (number_text base n) ≡ Some n
 read_back base n l = value_is (value_of (number_text base n)) n
@@ -126,10 +123,7 @@ pieces-line base b bytes l all =
 -- ---- their values
 
 fitting-good : (size addr n : ℕ) → addr < size → n < 256 → fitting size addr (Some n) ≡ Ok n
-fitting-good size addr n low l =
-    let small : nat_le n 255 ≡ true = grind (arith, nat_tests, l) in
-    let inside : nat_lt addr size ≡ true = grind (arith, nat_tests, low) in
-    rw (small, inside) refl
+fitting-good size addr n low l = grind (arith, nat_tests)
 
 all-good : (base : Base) (size addr : ℕ) (bytes : List ℕ) → AreBytes bytes → addr + length bytes ≤ size
     → all_ok (map (fitting_value size) (enumerate_from addr (map (number_text base) bytes))) ≡ Ok bytes

@@ -1,7 +1,7 @@
 -- Values laid down one after the other are the values of the text.
-use Rattle.std.proofs.Common.{◌≡◌, ◌∙◌, sym, ap, refl, arith, ℕ, suc, zero, ◌+◌, ◌<◌, ◌≤◌, List, [], ◌∷◌, ◌++◌, length, map, filter, take, drop, replicate, eqb, Bool, true, false, cond, not, nat_lt, nat_le, Option, Some, None, Result, Ok, Err, inl, inr}
+use Rattle.std.proofs.Common.{◌≡◌, ◌∙◌, sym, ap, refl, arith, ℕ, suc, zero, ◌+◌, ◌<◌, ◌≤◌, List, [], ◌∷◌, ◌++◌, length, map, filter, take, drop, replicate, eqb, Bool, false, cond, nat_lt, Option, Some, None, Result, Ok, Err, inl, inr}
 use Rattle.std.proofs.lemmas.List.{length-append, append_assoc, append-nil, length-take}
-use Rattle.std.proofs.lemmas.Bool.{cases_Bool, cases_lt}
+use Rattle.std.proofs.lemmas.Bool.{cases_Bool}
 use Rattle.std.proofs.lemmas.List.Sums.{prefix_len-le-length}
 use Rattle.std.proofs.lemmas.Bool.Decides.{nat_tests}
 use Rattle.std.specs.List.{enumerate_from, slice_split, position_or_len, onto_first}
@@ -9,7 +9,6 @@ use Rattle.avr_image.specs.Image.{empty, from_zero, with_byte}
 use Rattle.avr_image.specs.Values.{is_separator, fitting, fitting_value, value_of, all_ok, onto_ok, image_of_bytes, pieces, values}
 use Rattle.avr_image.specs.Placing.{with_value, with_piece}
 use Rattle.avr_image.specs.declared.fault.ImageFault.{ImageFault}
-use Rattle.avr_image.specs.declared.fault.ImageFault.TheVariants.{BadNumber}
 use Rattle.avr_image.proofs.Texts.Digits.{ne_test, lt_test}
 use Rattle.avr_image.proofs.Places.Laid.{from_zero-next, length-from_zero}
 
@@ -44,15 +43,7 @@ before-none (Err fault) = refl
 -- a good value has an address below the size
 fitting_below : (size addr : ℕ) (value : Option ℕ) (byte : ℕ) → fitting size addr value ≡ Ok byte → addr < size
 fitting_below size addr None byte e = cc
-fitting_below size addr (Some value) byte e = elim (cases_lt addr size) [
-  | inl low ↦ low
-  | inr high ↦
-      let test : nat_lt addr size ≡ false = grind (arith, nat_tests, high) in
-      elim (cases_Bool (nat_le value 255)) [
-        | inl small ↦ let h = rw (small, test) at e in cc
-        | inr large ↦ let h = rw large at e in cc
-      ]
-]
+fitting_below size addr (Some value) byte e = grind (arith, nat_tests)
 
 with_next : (bytes : List ℕ) (size addr : ℕ) (parts : List (List ℕ)) (rest : Result (List ℕ) ImageFault)
     (r : Result ℕ ImageFault)
@@ -138,31 +129,19 @@ pieces_tails (x ∷ xs) n here = elim (cases_Bool (is_separator x)) [
 
 pub pieces_prefix : (xs : List ℕ) (n : ℕ) → n ≡ position_or_len is_separator xs → 0 < n
     → pieces xs ≡ take n xs ∷ pieces (drop n xs)
-pieces_prefix xs n here some =
-    let within : n ≤ length xs = omega (arith, here, prefix_len-le-length (λ (c : ℕ). not (is_separator c)) xs) in
-    let size : length (take n xs) ≡ n = length-take n xs ∙ omega (arith, within) in
-    let test : nat_lt 0 (length (take n xs)) ≡ true = lt_test 0 (length (take n xs)) (omega (arith, size, some)) in
-    ap (filter (λ piece. nat_lt 0 (length piece))) (prefix is_separator xs)
-    ∙ ap (λ (k : ℕ). filter (λ piece. nat_lt 0 (length piece)) (take k xs ∷ tails is_separator (drop k xs))) (sym here)
-    ∙ ap (λ (b : Bool). cond b (take n xs ∷ filter (λ piece. nat_lt 0 (length piece)) (tails is_separator (drop n xs)))
-    (filter (λ piece. nat_lt 0 (length piece)) (tails is_separator (drop n xs)))) test
-    ∙ ap (λ (rest : List (List ℕ)). take n xs ∷ rest) (pieces_tails xs n here)
+pieces_prefix xs n here some = grind (arith, nat_tests, prefix_len-le-length, length-take, nat_lt, lt_test, filter, prefix, pieces_tails)
 
 -- one piece more, at fault or not
 pub piece_bad : (image : List (Option ℕ)) (addr : ℕ) (piece : List ℕ) (more : List (List ℕ)) (fault : ImageFault)
     → with_piece image addr piece ≡ Err fault → with_pieces image addr (piece ∷ more) ≡ Err fault
-piece_bad image addr piece more fault e =
-    ap (λ (r : Result (List (Option ℕ)) ImageFault). then_on r (λ next. with_pieces next (addr + 1) more)) e
+piece_bad image addr piece more fault e = grind (arith, nat_tests)
 
 pub piece_good : (image : List (Option ℕ)) (addr : ℕ) (piece : List ℕ) (more : List (List ℕ)) (next : List (Option ℕ))
     → with_piece image addr piece ≡ Ok next → with_pieces image addr (piece ∷ more) ≡ with_pieces next (addr + 1) more
-piece_good image addr piece more next e =
-    ap (λ (r : Result (List (Option ℕ)) ImageFault). then_on r (λ next. with_pieces next (addr + 1) more)) e
+piece_good image addr piece more next e = grind (arith, nat_tests)
 
 -- an image that holds nothing, by its length
 pub values_from : (text : List ℕ) (image : List (Option ℕ)) (answer : Result (List (Option ℕ)) ImageFault)
     → image ≡ empty (length image)
     → 0 < length (pieces text) → with_pieces image 0 (pieces text) ≡ answer → values text (length image) ≡ answer
-values_from text image answer none some e =
-    values_are text (length image) some ∙ ap (λ (start : List (Option ℕ)). with_pieces start 0 (pieces text)) (sym none)
-    ∙ e
+values_from text image answer none some e = grind (arith, nat_tests, values_are)

@@ -1,4 +1,5 @@
 -- The walks over an image are what they say, place by place.
+use Rattle.std.proofs.lemmas.Bool.Decides.{nat_tests}
 use Rattle.std.proofs.Common.{◌≡◌, ◌∙◌, sym, ap, refl, arith, ℕ, suc, zero, ◌+◌, ◌-◌, ◌<◌, ◌≤◌, List, [], ◌∷◌, length, get_or, take, drop, Bool, true, false, Option, Some, None, is_some, inl, inr}
 use Rattle.std.proofs.lemmas.Bool.{cases_Bool, cases_lt}
 use Rattle.std.proofs.lemmas.List.{length-drop, length-take, get_or-drop, get_or-take}
@@ -55,10 +56,7 @@ found_at p (x ∷ xs) d i n e = elim (cases_Bool (p x)) [
 none_found : {X : Type 0} (p : X → Bool) (xs : List X) (d : X) (i : ℕ) → position_from p i xs ≡ None → (k : ℕ)
     → k < length xs → p (get_or xs k d) ≡ false
 none_found p [] d i e k l = absurd (omega (arith, l))
-none_found p (x ∷ xs) d i e zero l = elim (cases_Bool (p x)) [
-  | inl passes ↦ let bad : Some i ≡ None = rw passes at e in cc
-  | inr fails ↦ fails
-]
+none_found p (x ∷ xs) d i e zero l = grind (arith, nat_tests)
 none_found p (x ∷ xs) d i e (suc k) l = elim (cases_Bool (p x)) [
   | inl passes ↦ let bad : Some i ≡ None = rw passes at e in cc
   | inr fails ↦

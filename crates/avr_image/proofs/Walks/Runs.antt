@@ -1,8 +1,8 @@
 -- The runs of an image, and a walk over them.
 use Rattle.std.proofs.Common.{◌≡◌, ◌∙◌, sym, ap, ap₂, refl, arith, ℕ, zero, suc, ◌+◌, ◌-◌, ◌<◌, ◌≤◌, ◌==◌, Bool, true, false, cond, not, List, [], ◌∷◌, ◌++◌, length, take, drop, fold, min, Option, Some, None, is_some, inl, inr, add-zero, get_or, All, ◌⊎◌}
-use Rattle.std.specs.List.{position_from, prefix_len, flat_map, enumerate_from, slice_range}
+use Rattle.std.specs.List.{position_from, prefix_len, flat_map, slice_range}
 use Rattle.std.proofs.lemmas.List.Recursion.{is_count_by}
-use Rattle.std.proofs.lemmas.Bool.{cases_eq, cases_lt, true≢false}
+use Rattle.std.proofs.lemmas.Bool.{cases_lt, true≢false}
 use Rattle.std.proofs.lemmas.Bool.Decides.{nat_tests}
 use Rattle.std.proofs.lemmas.List.{append_assoc, drop-drop, get_or-drop, length-drop, length-append, set_at, take_all}
 use Rattle.avr_image.specs.Image.{empty, byte_at, with_byte, first_from, run_end, filled_bytes, or_blank, image_of_pairs, laid_over, over, byte_count}
@@ -25,10 +25,7 @@ begins-down addr (run ∷ more) at = omega (arith, at)
 
 begins-onto : (addr b : ℕ) (cut : List (ℕ × List ℕ)) → Begins addr (onto_runs addr b cut)
 begins-onto addr b [] = omega arith
-begins-onto addr b ((next, bytes) ∷ more) = elim (cases_eq next (addr + 1)) [
-  | inl same ↦ let test : (next == addr + 1) ≡ true = grind (arith, nat_tests) in rw test (omega arith)
-  | inr other ↦ let test : (next == addr + 1) ≡ false = grind (arith, nat_tests) in rw test (omega arith)
-]
+begins-onto addr b ((next, bytes) ∷ more) = grind (arith, nat_tests)
 
 runs-begin : (addr : ℕ) (image : List (Option ℕ)) → Begins addr (runs addr image)
 runs-begin addr [] = tt
@@ -38,15 +35,11 @@ runs-begin addr (Some b ∷ image) = begins-onto addr b (runs (addr + 1) image)
 onto-apart : (addr b : ℕ) (cut : List (ℕ × List ℕ)) → Begins (addr + 1 + 1) cut
     → onto_runs addr b cut ≡ (addr, b ∷ []) ∷ cut
 onto-apart addr b [] at = refl
-onto-apart addr b ((next, bytes) ∷ more) at =
-    let test : (next == addr + 1) ≡ false = grind (arith, nat_tests, at) in
-    rw test refl
+onto-apart addr b ((next, bytes) ∷ more) at = grind (arith, nat_tests)
 
 onto-joins : (addr b : ℕ) (bytes : List ℕ) (more : List (ℕ × List ℕ))
     → onto_runs addr b ((addr + 1, bytes) ∷ more) ≡ (addr, b ∷ bytes) ∷ more
-onto-joins addr b bytes more =
-    let test : (addr + 1 == addr + 1) ≡ true = grind (arith, nat_tests) in
-    rw test refl
+onto-joins addr b bytes more = grind (arith, nat_tests)
 
 abbrev after : List (Option ℕ) → List (Option ℕ)
 after image = drop (length (lead image)) image
@@ -54,14 +47,8 @@ after image = drop (length (lead image)) image
 runs-lead : (addr b : ℕ) (image : List (Option ℕ))
     → runs addr (Some b ∷ image) ≡ (addr, b ∷ lead image) ∷ runs (addr + 1 + length (lead image)) (after image)
 runs-lead addr b [] = refl
-runs-lead addr b (None ∷ image) =
-    onto-apart addr b (runs (addr + 1 + 1) image) (runs-begin (addr + 1 + 1) image)
-    ∙ ap (λ (n : ℕ). (addr, b ∷ []) ∷ runs (n + 1) image) (sym (add-zero (addr + 1)))
-runs-lead addr b (Some c ∷ image) =
-    let next : addr + 1 + 1 + length (lead image) ≡ addr + 1 + suc (length (lead image)) = omega arith in
-    ap (onto_runs addr b) (runs-lead (addr + 1) c image)
-    ∙ onto-joins addr b (c ∷ lead image) (runs (addr + 1 + 1 + length (lead image)) (after image))
-    ∙ ap (λ (n : ℕ). (addr, b ∷ c ∷ lead image) ∷ runs n (after image)) next
+runs-lead addr b (None ∷ image) = grind (arith, nat_tests, onto-apart, runs-begin, add-zero)
+runs-lead addr b (Some c ∷ image) = grind (arith, nat_tests, runs-lead (addr + 1) c image)
 
 pub runs-first : (image : List (Option ℕ)) (addr : ℕ) → 0 < length (lead image)
     → runs addr image ≡ (addr, lead image) ∷ runs (addr + length (lead image)) (drop (length (lead image)) image)
@@ -95,15 +82,7 @@ walk-next addr place (None ∷ image) is =
       same = more.same ∙ ap (λ (n : ℕ). runs place (drop n (None ∷ image))) (sym one);
       some = rw one more.some;
     }
-walk-next addr place (Some b ∷ image) is =
-    let here : addr ≡ place = cc is in
-    let none : place - addr ≡ 0 = omega (arith, here) in
-    record {
-      from = omega (arith, here);
-      same = ap (λ (n : ℕ). runs n (Some b ∷ image)) here
-          ∙ ap (λ (n : ℕ). runs place (drop n (Some b ∷ image))) (sym none);
-      some = rw none (omega arith);
-    }
+walk-next addr place (Some b ∷ image) is = grind (arith, nat_tests)
 
 -- in the whole image
 pub runs-none : (image : List (Option ℕ)) (addr : ℕ) → first_from image addr ≡ None → runs addr (drop addr image) ≡ []
@@ -197,19 +176,12 @@ laid-image image = laid-held [] image 0 refl
 onto-holds : (addr b : ℕ) (more : List (ℕ × List ℕ))
     → flat_map places_of (onto_runs addr b more) ≡ (addr, b) ∷ flat_map places_of more
 onto-holds addr b [] = refl
-onto-holds addr b ((next, bytes) ∷ more) = elim (cases_eq next (addr + 1)) [
-  | inl same ↦
-      let test : (next == addr + 1) ≡ true = grind (arith, nat_tests) in
-      rw test (ap (λ (n : ℕ). (addr, b) ∷ (enumerate_from n bytes ++ flat_map places_of more)) (sym same))
-  | inr other ↦ let test : (next == addr + 1) ≡ false = grind (arith, nat_tests) in rw test refl
-]
+onto-holds addr b ((next, bytes) ∷ more) = grind (arith, nat_tests)
 
 runs-hold : (addr : ℕ) (image : List (Option ℕ)) → flat_map places_of (runs addr image) ≡ held_places addr image
 runs-hold addr [] = refl
 runs-hold addr (None ∷ image) = runs-hold (addr + 1) image
-runs-hold addr (Some b ∷ image) =
-    onto-holds addr b (runs (addr + 1) image)
-    ∙ ap (λ (places : List (ℕ × ℕ)). (addr, b) ∷ places) (runs-hold (addr + 1) image)
+runs-hold addr (Some b ∷ image) = grind (arith, nat_tests, runs-hold (addr + 1) image)
 
 pub runs_image : (image : List (Option ℕ)) → image_of_pairs (length image) (flat_map places_of (runs 0 image)) ≡ image
 runs_image image = ap (image_of_pairs (length image)) (runs-hold 0 image) ∙ laid-image image
@@ -224,23 +196,18 @@ drop-filled : (image : List (Option ℕ)) (i start n : ℕ)
     → drop i (filled_bytes image start n) ≡ filled_bytes image (start + i) (n - i)
 drop-filled image zero start n = ap₂ (λ (s k : ℕ). filled_bytes image s k) (sym (add-zero start)) (omega arith)
 drop-filled image (suc i) start zero = let none : zero - suc i ≡ zero = omega arith in rw none refl
-drop-filled image (suc i) start (suc n) =
-    drop-filled image i (start + 1) n ∙ ap₂ (λ (s k : ℕ). filled_bytes image s k) (omega arith) (omega arith)
+drop-filled image (suc i) start (suc n) = grind (arith, nat_tests, drop-filled image i (start + 1) n)
 
 take-filled : (image : List (Option ℕ)) (k start n : ℕ) → k ≤ n
     → take k (filled_bytes image start n) ≡ filled_bytes image start k
 take-filled image zero start n l = refl
 take-filled image (suc k) start zero l = absurd (omega (arith, l))
-take-filled image (suc k) start (suc n) l =
-    ap (λ (more : List ℕ). or_blank (byte_at image start) ∷ more) (take-filled image k (start + 1) n (omega (arith, l)))
+take-filled image (suc k) start (suc n) l = simp (take-filled image k (start + 1) n (omega (arith, l)))
 
 -- a part of the bytes of all addresses
 pub range-filled : (image : List (Option ℕ)) (place end : ℕ) → place ≤ end → end ≤ length image
     → slice_range (filled_bytes image 0 (length image)) place end ≡ filled_bytes image place (end - place)
-range-filled image place end rises within =
-    ap (take (end - place)) (drop-filled image place 0 (length image))
-    ∙ ap (λ (s : ℕ). take (end - place) (filled_bytes image s (length image - place))) (omega arith)
-    ∙ take-filled image (end - place) place (length image - place) (omega (arith, within))
+range-filled image place end rises within = grind (arith, nat_tests, drop-filled, take-filled)
 
 -- the run that is found is the first of those left
 pub record Stepped (addr place end : ℕ) (image : List (Option ℕ)) : Type 0 where
@@ -287,21 +254,12 @@ EndBy size (run ∷ more) = (run.0 + length run.1 ≤ size) × EndBy size more
 onto-end : (size addr b : ℕ) (more : List (ℕ × List ℕ)) → addr < size → EndBy size more
     → EndBy size (onto_runs addr b more)
 onto-end size addr b [] inside all = (omega (arith, inside), tt)
-onto-end size addr b ((next, bytes) ∷ more) inside all = elim (cases_eq next (addr + 1)) [
-  | inl same ↦
-      let test : (next == addr + 1) ≡ true = grind (arith, nat_tests) in
-      rw test (omega (arith, same, all.0), all.1)
-  | inr other ↦
-      let test : (next == addr + 1) ≡ false = grind (arith, nat_tests) in
-      rw test (omega (arith, inside), all)
-]
+onto-end size addr b ((next, bytes) ∷ more) inside all = grind (arith, nat_tests)
 
 pub runs-end : (size addr : ℕ) (image : List (Option ℕ)) → addr + length image ≤ size → EndBy size (runs addr image)
 runs-end size addr [] room = tt
 runs-end size addr (None ∷ image) room = runs-end size (addr + 1) image (omega (arith, room))
-runs-end size addr (Some b ∷ image) room =
-    onto-end size addr b (runs (addr + 1) image) (omega (arith, room))
-    (runs-end size (addr + 1) image (omega (arith, room)))
+runs-end size addr (Some b ∷ image) room = grind (arith, nat_tests, runs-end size (addr + 1) image (omega (arith, room)))
 
 pub runs-inside : (image : List (Option ℕ)) → All (λ run. run.0 + length run.1 ≤ length image) (runs 0 image)
 runs-inside image = each (runs 0 image) (runs-end (length image) 0 image (omega arith))
@@ -340,16 +298,10 @@ some-held addr place (Some b ∷ image) some = count-least 1 image
 
 pub empty-held : (image : List (Option ℕ)) (found : Option ℕ) (none : Bool) → found ≡ first_from image 0
     → is_some found ≡ not none → none ≡ (byte_count image == 0)
-empty-held image None true is told =
-    let none : byte_count image ≡ 0 = none-held 0 image (sym is) in
-    let test : (byte_count image == 0) ≡ true = grind (arith, nat_tests, none) in
-    sym test
+empty-held image None true is told = grind (arith, nat_tests, none-held)
 empty-held image None false is told = absurd (cc told)
 empty-held image (Some place) true is told = absurd (cc told)
-empty-held image (Some place) false is told =
-    let some : 0 < byte_count image = some-held 0 place image (sym is) in
-    let test : (byte_count image == 0) ≡ false = grind (arith, nat_tests, some) in
-    sym test
+empty-held image (Some place) false is told = grind (arith, nat_tests, some-held)
 
 -- ---- the runs are the longest
 
@@ -399,11 +351,7 @@ longest_run addr place end image gap found is =
 none-behind : (addr place end : ℕ) (image : List (Option ℕ))
     → IsLongestRun image (place, slice_range (filled_bytes image 0 (length image)) place end)
     → place < end → end ≤ length image → byte_at image end ≡ None
-none-behind addr place end image longest rises within =
-    let cut = range-filled image place end (omega (arith, rises)) within in
-    let there : place + length (slice_range (filled_bytes image 0 (length image)) place end) ≡ end =
-    omega (arith, ap length cut, length-filled image place (end - place), rises) in
-    rw there at longest.behind
+none-behind addr place end image longest rises within = grind (arith, nat_tests, range-filled, length-filled)
 
 all-cons : {X : Type 0} (P : X → Type 0) (x : X) (xs : List X) → P x → All P xs → All P (x ∷ xs)
 all-cons P x xs first rest zero d l = first
@@ -453,16 +401,12 @@ held_by (run ∷ more) = length run.1 + held_by more
 
 held_by-onto : (addr b : ℕ) (cut : List (ℕ × List ℕ)) → held_by (onto_runs addr b cut) ≡ suc (held_by cut)
 held_by-onto addr b [] = refl
-held_by-onto addr b ((next, bytes) ∷ more) = elim (cases_eq next (addr + 1)) [
-  | inl same ↦ let test : (next == addr + 1) ≡ true = grind (arith, nat_tests) in rw test (omega arith)
-  | inr other ↦ let test : (next == addr + 1) ≡ false = grind (arith, nat_tests) in rw test (omega arith)
-]
+held_by-onto addr b ((next, bytes) ∷ more) = grind (arith, nat_tests)
 
 held_by-each : (addr : ℕ) (image : List (Option ℕ)) → held_by (runs addr image) ≡ held_in image
 held_by-each addr [] = refl
 held_by-each addr (None ∷ image) = held_by-each (addr + 1) image
-held_by-each addr (Some b ∷ image) = held_by-onto addr b (runs (addr + 1) image)
-    ∙ ap suc (held_by-each (addr + 1) image)
+held_by-each addr (Some b ∷ image) = grind (arith, nat_tests, held_by-each (addr + 1) image)
 
 pub held_by-runs : (addr : ℕ) (image : List (Option ℕ)) → held_by (runs addr image) ≡ byte_count image
 held_by-runs addr image = held_by-each addr image ∙ held_is_counted image

@@ -1,5 +1,6 @@
 -- How far the bytes of a whole text reach.
-use Rattle.std.proofs.Common.{◌≡◌, ◌∙◌, sym, ap, refl, ℕ, ◌+◌, List, [], ◌∷◌, ◌++◌, length, map, true, false, Some, Ok, Err}
+use Rattle.std.proofs.lemmas.Bool.Decides.{nat_tests}
+use Rattle.std.proofs.Common.{arith, ◌≡◌, ◌∙◌, sym, ap, refl, ℕ, ◌+◌, List, [], ◌∷◌, ◌++◌, length, map, true, false, Some, Ok, Err}
 use Rattle.std.proofs.lemmas.List.{append-nil, append_assoc, map-append, nil_from_length}
 use Rattle.avr_records.specs.Closed.{fault_among}
 use Rattle.avr_records.specs.Lines.{lines}
@@ -20,16 +21,11 @@ pub record Walked (kind : Kind) (e : Extent) (text : List ℕ) (left : List (Lis
   pub extent : IsExtentOf largest e (up_to_end (map (said_by_line kind) prefix))
 
 pub walk-start : (kind : Kind) (text : List ℕ) → Walked kind no_lines text (lines text)
-walk-start kind text = record {
-  prefix = [];
-  cut = refl;
-  extent = record { no_fault = refl; end = refl; base = refl; data_records = refl; lines = refl; ended = refl };
-}
+walk-start kind text = grind (arith, nat_tests)
 
 said-all : (kind : Kind) (prefix left : List (List ℕ)) (text : List ℕ) → lines text ≡ prefix ++ left
     → map (said_by_line kind) (lines text) ≡ map (said_by_line kind) prefix ++ map (said_by_line kind) left
-said-all kind prefix left text cut =
-    ap (map (said_by_line kind)) cut ∙ map-append (said_by_line kind) prefix left
+said-all kind prefix left text cut = grind (arith, nat_tests, map-append)
 
 -- the lines that are left, where one ends
 pub left-lines : (left line more : List ℕ) → lines line ≡ line ∷ [] → left ≡ line ++ 10 ∷ more
@@ -58,9 +54,7 @@ walk-ended kind e text left done w =
     ∙ ap needed_by (sym (said-all kind w.prefix left text w.cut))
 
 pub walk-last : (kind : Kind) (e : Extent) (text : List ℕ) → Walked kind e text [] → Ok e.end ≡ needed_in_text kind text
-walk-last kind e text w =
-    needed-is e _ w.extent
-    ∙ ap (λ (ls : List (List ℕ)). needed_by (map (said_by_line kind) ls)) (sym (w.cut ∙ append-nil w.prefix))
+walk-last kind e text w = grind (arith, nat_tests, needed-is, append-nil)
 
 pub walk-fault : (kind : Kind) (e : Extent) (text line : List ℕ) (left more : List (List ℕ)) (fault : RecordFault)
     → left ≡ line ∷ more → e.ended ≡ false → Walked kind e text left

@@ -28,8 +28,7 @@ use Rattle.avr_records.specs.declared.progress.Progress.{Progress}
 pub goes-on : (text more : List ℕ) (prefix : List (List ℕ)) (last first : List ℕ) (rest : List (List ℕ))
     → lines text ≡ prefix ++ last ∷ []
     → lines more ≡ first ∷ rest → lines (text ++ more) ≡ prefix ++ (last ++ first) ∷ rest
-goes-on text more prefix last first rest cut next =
-    slice_split-append is_line_end text more ∙ rw (cut, next) (pasted-last prefix last first rest)
+goes-on text more prefix last first rest cut next = grind (arith, nat_tests, slice_split-append, pasted-last)
 
 -- a line, its end, and what follows
 pub line-first : (line more : List ℕ) → lines line ≡ line ∷ [] → lines (line ++ 10 ∷ more) ≡ line ∷ lines more
@@ -40,8 +39,7 @@ pub closed-prefix : (prefix : List (List ℕ)) (first : List ℕ) (more : List (
     → all_but_last (prefix ++ first ∷ more) ≡ prefix ++ all_but_last (first ∷ more)
 closed-prefix [] first more = refl
 closed-prefix (line ∷ []) first more = refl
-closed-prefix (line ∷ next ∷ prefix) first more =
-    ap (λ (zs : List (List ℕ)). line ∷ zs) (closed-prefix (next ∷ prefix) first more)
+closed-prefix (line ∷ next ∷ prefix) first more = grind (arith, nat_tests, closed-prefix (next ∷ prefix) first more)
 
 pub but_last : (first : List ℕ) (more : List (List ℕ))
     → (last : List ℕ) × (first ∷ more ≡ all_but_last (first ∷ more) ++ last ∷ [])
@@ -120,8 +118,7 @@ keeps-done kind p part new text more done r =
 ends : (text rest more : List ℕ) (prefix : List (List ℕ)) (last : List ℕ) → lines rest ≡ rest ∷ []
     → lines text ≡ prefix ++ last ∷ []
     → lines (text ++ (rest ++ 10 ∷ more)) ≡ prefix ++ (last ++ rest) ∷ lines more
-ends text rest more prefix last one cut =
-    goes-on text (rest ++ 10 ∷ more) prefix last rest (lines more) cut (line-first rest more one)
+ends text rest more prefix last one cut = grind (arith, nat_tests, goes-on, line-first)
 
 pub said-prefix : (kind : Kind) (prefix : List (List ℕ)) (line : List ℕ)
     → map (said_by_line kind) (prefix ++ line ∷ []) ≡ map (said_by_line kind) prefix ++ said_by_line kind line ∷ []
@@ -166,10 +163,7 @@ ends-bad kind p part text rest more fault one is r =
 -- no line that has ended is at fault
 pub reads-sound : (kind : Kind) (p : Progress) (part text : List ℕ) → ReadsLines kind p part text
     → closed_fault kind text (image_size p) ≡ None
-reads-sound kind p part text r =
-    ap (λ (ls : List (List ℕ)). fault_among (image_size p) (map (said_by_line kind) ls))
-    (ap all_but_last r.cut ∙ closed-prefix r.prefix r.last [] ∙ append-nil r.prefix)
-    ∙ r.holds.extent.no_fault
+reads-sound kind p part text r = grind (arith, nat_tests, closed-prefix, append-nil)
 
 pub no_answer : (kind : Kind) (p : Progress) (size : ℕ) (part text : List ℕ) → image_size p ≡ size
     → ReadsLines kind p part text
@@ -229,9 +223,7 @@ whole-empty kind p part text empty r = elim (cases_Bool p.extent.ended) [
 -- ---- the pieces
 
 rearranged : (used line rest : List ℕ) → used ++ (line ++ 10 ∷ rest) ≡ (used ++ (line ++ 10 ∷ [])) ++ rest
-rearranged used line rest =
-    ap (λ (zs : List ℕ). used ++ zs) (sym (append_assoc line (10 ∷ []) rest))
-    ∙ sym (append_assoc used (line ++ 10 ∷ []) rest)
+rearranged used line rest = grind (arith, nat_tests, append_assoc)
 
 -- what a reader of lines holds: what the lines that have ended leave, and what is kept of the last one
 pub record LineState : Type 0 where
@@ -252,15 +244,7 @@ pub carries-next : (kind : Kind) (old now new : LineState) (piece left line more
     → Carries kind old now piece left → lines line ≡ line ∷ [] → left ≡ line ++ 10 ∷ more
     → next_progress now.progress (said_by_line kind (now.part ++ line)) ≡ Ok new.progress → new.part ≡ []
     → Carries kind old new piece more
-carries-next kind old now new piece left line more carries one end is clear = record {
-  used = carries.used ++ (line ++ 10 ∷ []);
-  cut = carries.cut ∙ ap (λ (zs : List ℕ). carries.used ++ zs) end ∙ rearranged carries.used line more;
-  reads = λ text r.
-      let same = append_assoc text carries.used (line ++ 10 ∷ []) in
-      subst (λ (t : List ℕ). ReadsLines kind new.progress new.part t) same
-      (ends-good kind now.progress new.progress now.part new.part (text ++ carries.used) line one is clear
-      (carries.reads text r));
-}
+carries-next kind old now new piece left line more carries one end is clear = grind (arith, nat_tests, rearranged, append_assoc, subst, ends-good)
 
 pub carries-fault : (kind : Kind) (old now : LineState) (piece left line more : List ℕ) (fault : RecordFault)
     → Carries kind old now piece left → lines line ≡ line ∷ [] → left ≡ line ++ 10 ∷ more
@@ -280,22 +264,10 @@ pub carries-last : (kind : Kind) (old now new : LineState) (piece left : List �
     → new.progress ≡ now.progress → (now.progress.extent.ended ≡ false → new.part ≡ kept (now.part ++ left))
     → (text : List ℕ) → ReadsLines kind old.progress old.part text
     → ReadsLines kind new.progress new.part (text ++ piece)
-carries-last kind old now new piece left carries one is goes text r =
-    let parts : text ++ piece ≡ (text ++ carries.used) ++ left =
-    ap (λ (zs : List ℕ). text ++ zs) carries.cut ∙ sym (append_assoc text carries.used left) in
-    rw (is, parts) (elim (cases_Bool now.progress.extent.ended) [
-      | inl t ↦
-          keeps-done kind now.progress now.part new.part (text ++ carries.used) left t (carries.reads text r)
-      | inr f ↦
-          rw (goes f) (keeps kind now.progress now.part (text ++ carries.used) left (one f) f (carries.reads text r))
-    ])
+carries-last kind old now new piece left carries one is goes text r = grind (arith, nat_tests, append_assoc, cases_Bool, keeps-done, keeps)
 
 pub carries-start : (kind : Kind) (state : LineState) (piece : List ℕ) → Carries kind state state piece piece
-carries-start kind state piece = record {
-  used = [];
-  cut = refl;
-  reads = λ text r. rw (append-nil text) r;
-}
+carries-start kind state piece = grind (arith, nat_tests, append-nil)
 
 -- ---- the beginning
 

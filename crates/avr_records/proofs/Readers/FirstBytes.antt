@@ -1,6 +1,5 @@
 -- What the first bytes of a file show.
-use Rattle.std.proofs.Common.{◌≡◌, ◌∙◌, refl, arith, ℕ, zero, suc, ◌+◌, ◌≤◌, ◌<◌, List, [], ◌∷◌, ◌++◌, length, take, Bool, true, false, nat_le, not, find, Some, inl, inr}
-use Rattle.std.proofs.lemmas.Bool.{cases_Bool}
+use Rattle.std.proofs.Common.{◌≡◌, refl, arith, ℕ, zero, suc, ◌+◌, ◌≤◌, ◌<◌, List, [], ◌∷◌, ◌++◌, length, take, Bool, true, false, nat_le, not, find, Some}
 use Rattle.std.proofs.lemmas.Bool.Decides.{nat_tests}
 use Rattle.std.proofs.lemmas.List.Sums.{prefix_len-le-length}
 use Rattle.std.specs.List.{list_all, prefix_len}
@@ -23,12 +22,7 @@ pub all_of_prefix : (p : ℕ → Bool) (n : ℕ) (xs : List ℕ) → n ≤ lengt
     → list_all p (take n xs) ≡ nat_le n (prefix_len p xs)
 all_of_prefix p zero xs len = grind (arith, nat_tests)
 all_of_prefix p (suc n) [] len = absurd (omega (arith, len))
-all_of_prefix p (suc n) (x ∷ xs) len =
-    let rest = all_of_prefix p n xs (omega (arith, len)) in
-    elim (cases_Bool (p x)) [
-      | inl t ↦ rw t (rest ∙ le-both n (prefix_len p xs))
-      | inr f ↦ rw f (not-le-zero n)
-    ]
+all_of_prefix p (suc n) (x ∷ xs) len = grind (arith, nat_tests, all_of_prefix p n xs (omega (arith, len)))
 
 -- what the first line of a text shows that isn't blank
 abbrev pub first_of : List ℕ → Found

@@ -1,5 +1,6 @@
 -- How a line changes what a reader holds.
-use Rattle.std.proofs.Common.{◌≡◌, ◌∙◌, sym, ap, ap₂, refl, arith, ℕ, ◌+◌, List, [], ◌∷◌, ◌++◌, length, true, false, cond, Result, Ok, Err, subst, Option, Some, None, flat_map, count_by, inl, inr}
+use Rattle.std.proofs.lemmas.Bool.Decides.{nat_tests}
+use Rattle.std.proofs.Common.{◌≡◌, ◌∙◌, sym, ap, ap₂, refl, arith, ℕ, ◌+◌, List, [], ◌∷◌, ◌++◌, length, true, false, Result, Ok, Err, subst, Option, Some, None, count_by, inl, inr}
 use Rattle.std.proofs.lemmas.Bool.{cases_Bool, cond-true, cond-false}
 use Rattle.std.proofs.lemmas.Grind.{flat_map-append}
 use Rattle.std.proofs.lemmas.List.{append-nil, length-append, length-set}
@@ -7,7 +8,7 @@ use Rattle.std.proofs.lemmas.List.Folds.{list_any-append}
 use Rattle.std.proofs.lemmas.List.Sums.{fold-append, sum_by-append}
 use Rattle.std.specs.List.{list_any}
 use Rattle.std.specs.Prelude.{if◌then◌else◌}
-use Rattle.avr_image.specs.Image.{image_of_pairs, laid_over, with_byte, empty}
+use Rattle.avr_image.specs.Image.{image_of_pairs, laid_over, with_byte}
 use Rattle.avr_records.specs.Closed.{fault_among}
 use Rattle.avr_records.specs.Needed.{end_past, end_of}
 use Rattle.avr_records.specs.Progress.{IsExtentOf, Holds, image_size}
@@ -25,44 +26,28 @@ use Rattle.avr_records.proofs.Readers.LaterLines.{in_place-append, first_fault-a
 
 fault-last : (size : ℕ) (said : List Said) (line : Said) → first_fault size (in_place [] said) ≡ None
     → fault_in size (said, line) ≡ None → first_fault size (in_place [] (said ++ line ∷ [])) ≡ None
-fault-last size said line none sound =
-    ap (first_fault size) (in_place-append [] said (line ∷ []))
-    ∙ first_fault-append size (in_place [] said) ((said, line) ∷ []) none ∙ rw sound refl
+fault-last size said line none sound = grind (arith, nat_tests, in_place-append, first_fault-append)
 
 placed-last : (said : List Said) (line : Said)
     → all_placed (said ++ line ∷ []) ≡ all_placed said ++ placed_bytes (said, line)
-placed-last said line =
-    ap (flat_map placed_bytes) (in_place-append [] said (line ∷ []))
-    ∙ flat_map-append placed_bytes (in_place [] said) ((said, line) ∷ [])
-    ∙ ap (λ (zs : List (ℕ × ℕ)). all_placed said ++ zs) (append-nil (placed_bytes (said, line)))
+placed-last said line = grind (arith, nat_tests, in_place-append, flat_map-append, append-nil)
 
 end-last : (said : List Said) (line : Said)
     → end_of (all_placed (said ++ line ∷ [])) ≡ end_past (end_of (all_placed said)) (placed_bytes (said, line))
-end-last said line =
-    ap end_of (placed-last said line)
-    ∙ fold-append _ 0 (all_placed said) (placed_bytes (said, line))
+end-last said line = grind (arith, nat_tests, placed-last, fold-append)
 
 image-last : (size : ℕ) (said : List Said) (line : Said)
     → image_of_pairs size (all_placed (said ++ line ∷ []))
     ≡ laid_over (image_of_pairs size (all_placed said)) (placed_bytes (said, line))
-image-last size said line =
-    ap (image_of_pairs size) (placed-last said line)
-    ∙ fold-append _ (empty size) (all_placed said) (placed_bytes (said, line))
+image-last size said line = grind (arith, nat_tests, placed-last, fold-append)
 
 count-last : (said : List Said) (line : Said) → count_by is_data (said ++ line ∷ [])
     ≡ (if is_data line then count_by is_data said + 1 else count_by is_data said)
-count-last said line =
-    let all = sum_by-append (λ (l : Said). cond (is_data l) 1 0) said (line ∷ []) in
-    elim (cases_Bool (is_data line)) [
-      | inl t ↦ rw t (rw t at all)
-      | inr f ↦ rw f (rw f at all ∙ omega arith)
-    ]
+count-last said line = grind (arith, nat_tests, sum_by-append, cases_Bool)
 
 any_end-last : (said : List Said) (line : Said)
     → (if is_end line then true else list_any is_end said) ≡ list_any is_end (said ++ line ∷ [])
-any_end-last said line =
-    let all = list_any-append is_end said (line ∷ []) in
-    elim (cases_Bool (is_end line)) [ inl t ↦ rw t (grind (arith, all, t)) | inr f ↦ rw f (grind (arith, all, f)) ]
+any_end-last said line = grind (arith, nat_tests, list_any-append, cases_Bool)
 
 -- ---- one line more
 
@@ -96,21 +81,13 @@ extent-next size e new said line m is =
 extent-bad : (size : ℕ) (e : Extent) (said more : List Said) (line : Said) (fault : RecordFault)
     → IsExtentOf size e said
     → next_extent size e line ≡ Err fault → first_fault size (in_place [] (said ++ line ∷ more)) ≡ Some fault
-extent-bad size e said more line fault m is =
-    let parts = unless-bad (fault_under size e.base e.data_records line) (e.lines + 1) _ fault is in
-    let found : fault_in size (said, line) ≡ Some parts.0 = fault-same size e said line m ∙ parts.1 in
-    ap (first_fault size) (in_place-append [] said (line ∷ more))
-    ∙ first_fault-append size (in_place [] said) (in_place said (line ∷ more)) m.no_fault
-    ∙ rw (found, ← m.lines) (ap (λ (f : RecordFault). Some f) parts.2)
+extent-bad size e said more line fault m is = grind (arith, nat_tests, unless-bad, fault-same, in_place-append, first_fault-append)
 
 -- ---- up to an end record
 
 upto-last : (said : List Said) (line : Said) → list_any is_end (up_to_end said) ≡ false
     → up_to_end (said ++ line ∷ []) ≡ up_to_end said ++ line ∷ []
-upto-last said line none =
-    let last : up_to_end (line ∷ []) ≡ line ∷ [] =
-    elim (cases_Bool (is_end line)) [ inl t ↦ rw t refl | inr f ↦ rw f refl ] in
-    up_to_end-open said (line ∷ []) none ∙ ap (λ (zs : List Said). up_to_end said ++ zs) last
+upto-last said line none = grind (arith, nat_tests, cases_Bool, up_to_end-open)
 
 pub counts-next : (size : ℕ) (e new : Extent) (said : List Said) (line : Said) → e.ended ≡ false
     → IsExtentOf size e (up_to_end said) → next_extent size e line ≡ Ok new
@@ -122,19 +99,13 @@ counts-next size e new said line on m is =
 -- nothing after an end record counts
 pub counts-more : (size : ℕ) (e : Extent) (said more : List Said) → e.ended ≡ true → IsExtentOf size e (up_to_end said)
     → IsExtentOf size e (up_to_end (said ++ more))
-counts-more size e said more done m =
-    subst (IsExtentOf size e) (sym (up_to_end-done said more (sym m.ended ∙ done))) m
+counts-more size e said more done m = grind (arith, nat_tests, subst, up_to_end-done)
 
 -- the first line at fault decides, whatever follows it
 pub counts-bad : (size : ℕ) (e : Extent) (said more : List Said) (line : Said) (fault : RecordFault) → e.ended ≡ false
     → IsExtentOf size e (up_to_end said) → next_extent size e line ≡ Err fault
     → fault_among size (said ++ line ∷ more) ≡ Some fault
-counts-bad size e said more line fault on m is =
-    let begins : (rest : List Said) × (up_to_end (line ∷ more) ≡ line ∷ rest) =
-    elim (cases_Bool (is_end line)) [ inl t ↦ ([], rw t refl) | inr f ↦ (up_to_end more, rw f refl) ] in
-    ap (λ (zs : List Said). first_fault size (in_place [] zs)) (up_to_end-open said (line ∷ more) (sym m.ended ∙ on)
-    ∙ ap (λ (zs : List Said). up_to_end said ++ zs) begins.1)
-    ∙ extent-bad size e (up_to_end said) begins.0 line fault m is
+counts-bad size e said more line fault on m is = grind (arith, nat_tests, cases_Bool, up_to_end-open, extent-bad)
 
 -- ---- with the image
 
@@ -145,9 +116,7 @@ length-laid_over (p ∷ ps) image = length-laid_over ps (with_byte image p.0 p.1
 with-good : (p new : Progress) (line : Said) (step : Result Extent RecordFault) → with_extent p line step ≡ Ok new
     → (step ≡ Ok new.extent) × (new.image ≡ laid_over p.image (placed_under p.extent.base line))
 with-good p new line (Err fault) is = cc is
-with-good p new line (Ok e) is =
-    let same : record { extent = e; image = laid_over p.image (placed_under p.extent.base line) } ≡ new = cc is in
-    (ap (λ (q : Progress). Ok q.extent) same, ap (λ (q : Progress). q.image) (sym same))
+with-good p new line (Ok e) is = grind (arith, nat_tests)
 
 with-bad : (p : Progress) (line : Said) (fault : RecordFault) (step : Result Extent RecordFault)
     → with_extent p line step ≡ Err fault → step ≡ Err fault
@@ -155,10 +124,7 @@ with-bad p line fault (Err f) is = cc is
 with-bad p line fault (Ok e) is = cc is
 
 pub holds-more : (p : Progress) (said more : List Said) → p.extent.ended ≡ true → Holds p said → Holds p (said ++ more)
-holds-more p said more done h = record {
-  extent = counts-more (image_size p) p.extent said more done h.extent;
-  image = rw (up_to_end-done said more (sym h.extent.ended ∙ done)) h.image;
-}
+holds-more p said more done h = grind (arith, nat_tests, counts-more, up_to_end-done)
 
 holds-on : (p new : Progress) (said : List Said) (line : Said) → p.extent.ended ≡ false → Holds p said
     → next_progress p line ≡ Ok new → Holds new (said ++ line ∷ [])
@@ -193,14 +159,9 @@ holds-next p new said line h is = elim (cases_Bool p.extent.ended) [
 -- a line at fault decides
 pub holds-bad : (p : Progress) (said more : List Said) (line : Said) (fault : RecordFault) → Holds p said
     → next_progress p line ≡ Err fault → fault_among (image_size p) (said ++ line ∷ more) ≡ Some fault
-holds-bad p said more line fault h is = elim (cases_Bool p.extent.ended) [
-  | inl done ↦ cc (done-step p line (Err fault) done is)
-  | inr on ↦ counts-bad (image_size p) p.extent said more line fault on h.extent
-      (with-bad p line fault _ (sym (cond-false p.extent.ended _ _ on) ∙ is))
-]
+holds-bad p said more line fault h is = grind (arith, nat_tests, cases_Bool, done-step, counts-bad, with-bad, cond-false)
 
 -- the file that such lines are
 pub together-holds : (p : Progress) (said : List Said) → Holds p said
     → together (image_size p) said ≡ Ok (p.image, ending_of p.extent)
-together-holds p said h =
-    rw (h.extent.no_fault, ← h.image, h.extent.ended, up_to_end-any said) refl
+together-holds p said h = grind (arith, nat_tests, up_to_end-any)

@@ -1,4 +1,5 @@
 -- How lines that follow change what the lines before them say.
+use Rattle.std.proofs.lemmas.Bool.Decides.{nat_tests}
 use Rattle.std.proofs.Common.{◌≡◌, ◌∙◌, sym, ap, refl, arith, ℕ, ◌+◌, List, [], ◌∷◌, ◌++◌, length, Bool, true, false, Option, Some, None, inl, inr}
 use Rattle.std.proofs.lemmas.Bool.{cases_Bool}
 use Rattle.std.proofs.lemmas.List.{append-nil, append_assoc}
@@ -11,10 +12,7 @@ use Rattle.avr_records.specs.declared.fault.RecordFault.{RecordFault}
 pub in_place-append : (before xs ys : List Said)
     → in_place before (xs ++ ys) ≡ in_place before xs ++ in_place (before ++ xs) ys
 in_place-append before [] ys = ap (λ (b : List Said). in_place b ys) (sym (append-nil before))
-in_place-append before (x ∷ xs) ys =
-    ap (λ (ps : List (List Said × Said)). (before, x) ∷ ps)
-    (in_place-append (before ++ x ∷ []) xs ys
-    ∙ ap (λ (b : List Said). in_place (before ++ x ∷ []) xs ++ in_place b ys) (append_assoc before (x ∷ []) xs))
+in_place-append before (x ∷ xs) ys = grind (arith, nat_tests, in_place-append (before ++ x ∷ []) xs ys, append_assoc)
 
 pub or_later-none : (n : ℕ) (fault : Option LineFault) (later : Option RecordFault) → or_later n fault later ≡ None
     → (fault ≡ None) × (later ≡ None)
@@ -51,11 +49,7 @@ up_to_end-done (x ∷ xs) ys some =
 
 pub up_to_end-any : (xs : List Said) → list_any is_end (up_to_end xs) ≡ list_any is_end xs
 up_to_end-any [] = refl
-up_to_end-any (x ∷ xs) =
-    elim (cases_Bool (is_end x)) [
-      | inl t ↦ rw (t, t) refl
-      | inr f ↦ rw (f, f) (up_to_end-any xs)
-    ]
+up_to_end-any (x ∷ xs) = grind (arith, nat_tests, up_to_end-any xs)
 
 pub parts-some : (p : ℕ → Bool) (xs : List ℕ)
     → (first : List ℕ) × (more : List (List ℕ)) × (slice_split p xs ≡ first ∷ more)
@@ -116,5 +110,4 @@ pub pasted-last : (prefix : List (List ℕ)) (last first : List ℕ) (more : Lis
     → pasted (prefix ++ last ∷ []) (first ∷ more) ≡ prefix ++ (last ++ first) ∷ more
 pasted-last [] last first more = refl
 pasted-last (part ∷ []) last first more = refl
-pasted-last (part ∷ next ∷ prefix) last first more =
-    ap (λ (zs : List (List ℕ)). part ∷ zs) (pasted-last (next ∷ prefix) last first more)
+pasted-last (part ∷ next ∷ prefix) last first more = simp (pasted-last (next ∷ prefix) last first more)

@@ -1,5 +1,5 @@
 -- The size that a file needs is the least into which it reads.
-use Rattle.std.proofs.Common.{◌≡◌, ◌∙◌, ap, refl, arith, ℕ, ◌+◌, ◌<◌, ◌≤◌, List, [], ◌∷◌, length, map, max, flat_map, count_by, Option, Some, None, option_map, Ok, Err, nat_lt, true, inl, inr}
+use Rattle.std.proofs.Common.{◌≡◌, ◌∙◌, ap, refl, arith, ℕ, ◌+◌, ◌<◌, ◌≤◌, List, [], ◌∷◌, length, map, max, flat_map, count_by, Option, Some, None, option_map, Ok, Err, nat_lt, inl, inr}
 use Rattle.std.proofs.lemmas.Bool.{cases_Bool}
 use Rattle.std.proofs.lemmas.Bool.Decides.{nat_tests}
 use Rattle.avr_records.specs.Lines.{lines}
@@ -19,11 +19,7 @@ use Rattle.avr_records.proofs.Texts.Places.{beyond-append, beyond-parts}
 inside : (size end : ℕ) (places : List (ℕ × ℕ)) → end_past end places ≤ size
     → (end ≤ size) × (beyond size places ≡ None)
 inside size end [] l = (l, refl)
-inside size end (p ∷ ps) l =
-    let rest = inside size (max end (p.0 + 1)) ps l in
-    let below : p.0 < size = omega (arith, rest.0) in
-    let here : nat_lt p.0 size ≡ true = grind (arith, nat_tests, below) in
-    (omega (arith, rest.0), rw here rest.1)
+inside size end (p ∷ ps) l = grind (arith, nat_tests, inside size (max end (p.0 + 1)) ps l)
 
 reaches : (size end : ℕ) (places : List (ℕ × ℕ)) → end ≤ size → beyond size places ≡ None → end_past end places ≤ size
 reaches size end [] l none = l

@@ -1,10 +1,19 @@
 -- A fault of the closed lines is that of the whole file.
-use Rattle.std.proofs.Common.{◌≡◌, ◌∙◌, sym, ap, refl, ℕ, ◌+◌, List, [], ◌∷◌, ◌++◌, length, map, Option, Some, None, Err, inl, inr}
+use Rattle.std.proofs.Common.{◌+◌}
+use Rattle.std.proofs.Common.{length}
+use Rattle.std.proofs.Common.{inl}
+use Rattle.std.proofs.Common.{inr}
 use Rattle.std.specs.List.{list_any}
+use Rattle.avr_records.specs.Reading.{is_end}
+use Rattle.avr_records.specs.Reading.{up_to_end}
+use Rattle.avr_records.specs.Reading.{in_place}
+use Rattle.avr_records.specs.Reading.{fault_in}
+use Rattle.std.proofs.lemmas.Bool.Decides.{nat_tests}
+use Rattle.std.proofs.Common.{arith, ◌≡◌, ◌∙◌, sym, ap, refl, ℕ, List, [], ◌∷◌, ◌++◌, map, Option, Some, None, Err}
 use Rattle.std.proofs.lemmas.Bool.{cases_Bool}
 use Rattle.std.proofs.lemmas.List.{map-append}
 use Rattle.avr_records.specs.Lines.{lines, is_line_end}
-use Rattle.avr_records.specs.Reading.{Said, is_end, up_to_end, in_place, first_fault, fault_in, or_later, said_by_line, image_in_text}
+use Rattle.avr_records.specs.Reading.{Said, first_fault, or_later, said_by_line, image_in_text}
 use Rattle.avr_records.specs.Closed.{all_but_last, fault_among, closed_fault, ok_unless}
 use Rattle.avr_records.specs.Reader.{ReaderState, StandsFor, IsNewReader, memory_size}
 use Rattle.avr_records.specs.declared.kind.Kind.{Kind}
@@ -21,20 +30,12 @@ later-stands n None first more told on is = on is
 first_fault-stands : (size : ℕ) (ps qs : List (List Said × Said)) (told : RecordFault) → first_fault size ps ≡ Some told
     → first_fault size (ps ++ qs) ≡ Some told
 first_fault-stands size [] qs told is = absurd (cc is)
-first_fault-stands size (p ∷ ps) qs told is =
-    later-stands (length p.0 + 1) (fault_in size p) (first_fault size ps) (first_fault size (ps ++ qs)) told
-    (first_fault-stands size ps qs told) is
+first_fault-stands size (p ∷ ps) qs told is = grind (arith, nat_tests, first_fault-stands size ps qs told)
 
 -- lines after a fault change nothing
 pub among-stands : (size : ℕ) (said more : List Said) (told : RecordFault) → fault_among size said ≡ Some told
     → fault_among size (said ++ more) ≡ Some told
-among-stands size said more told is = elim (cases_Bool (list_any is_end (up_to_end said))) [
-  | inl done ↦ ap (λ (zs : List Said). first_fault size (in_place [] zs)) (up_to_end-done said more done) ∙ is
-  | inr on ↦
-      ap (λ (zs : List Said). first_fault size (in_place [] zs)) (up_to_end-open said more on)
-      ∙ ap (first_fault size) (in_place-append [] (up_to_end said) (up_to_end more))
-      ∙ first_fault-stands size (in_place [] (up_to_end said)) (in_place (up_to_end said) (up_to_end more)) told is
-]
+among-stands size said more told is = grind (arith, nat_tests, cases_Bool, up_to_end-done, up_to_end-open, in_place-append, first_fault-stands)
 
 pub closed-told : (kind : Kind) (size : ℕ) (text : List ℕ) (told : RecordFault)
     → closed_fault kind text size ≡ Some told → image_in_text kind text size ≡ Err told

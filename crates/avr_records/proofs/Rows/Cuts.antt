@@ -1,4 +1,5 @@
 -- What the rows hold into which a writer cuts its bytes.
+use Rattle.std.proofs.lemmas.Bool.Decides.{nat_tests}
 use Rattle.std.proofs.Common.{◌≡◌, ◌∙◌, sym, ap, refl, arith, ℕ, zero, suc, ◌+◌, ◌-◌, ◌<◌, ◌≤◌, List, [], ◌∷◌, ◌++◌, length, take, drop, add-zero}
 use Rattle.std.proofs.lemmas.List.{length-take}
 use Rattle.std.specs.List.{enumerate_from, flat_map}
@@ -63,10 +64,7 @@ pub enumerate-split : (n addr : ℕ) (bytes : List ℕ)
     → enumerate_from addr (take n bytes) ++ enumerate_from (addr + n) (drop n bytes) ≡ enumerate_from addr bytes
 enumerate-split zero addr bytes = ap (λ (a : ℕ). enumerate_from a bytes) (add-zero addr)
 enumerate-split (suc n) addr [] = refl
-enumerate-split (suc n) addr (b ∷ bs) =
-    let next : addr + suc n ≡ addr + 1 + n = omega arith in
-    ap (λ (a : ℕ). (addr, b) ∷ (enumerate_from (addr + 1) (take n bs) ++ enumerate_from a (drop n bs))) next
-    ∙ ap (λ (more : List (ℕ × ℕ)). (addr, b) ∷ more) (enumerate-split n (addr + 1) bs)
+enumerate-split (suc n) addr (b ∷ bs) = grind (arith, nat_tests, enumerate-split n (addr + 1) bs)
 
 pub rows_behind-hold : (taken : ℕ) (size : ℕ → ℕ) (addr : ℕ) (bytes : List ℕ) → ((a : ℕ) → 0 < size a)
     → flat_map places_of (rows_behind taken size addr bytes) ≡ enumerate_from (addr + taken) (drop taken bytes)

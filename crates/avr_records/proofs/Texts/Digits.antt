@@ -1,5 +1,6 @@
 -- What decoding answers of an even number of digits.
-use Rattle.std.proofs.Common.{◌≡◌, refl, arith, ℕ, ◌*◌, ◌%◌, List, length, true, false, Result, Ok, Err, MatchResult, inl, inr}
+use Rattle.std.proofs.lemmas.Bool.Decides.{nat_tests}
+use Rattle.std.proofs.Common.{◌≡◌, refl, arith, ℕ, ◌*◌, ◌%◌, List, length, true, false, Result, Ok, Err, MatchResult}
 use Rattle.std.proofs.lemmas.Bool.{cases_Bool}
 use Rattle.std.proofs.lemmas.List.Sums.{AllPass-from_list_all, list_all-from_AllPass}
 use Rattle.std.specs.List.{list_all}
@@ -31,21 +32,9 @@ no_digit digits out answer (Err e) is none fact = (e, fact, rw none refl)
 
 pub decoded-ok : (digits out : List ℕ) (n : ℕ) (answer : Result Unit FromHexError) → length digits ≡ 2 * n
     → Decoded digits out answer (decode_sized digits n) → answer ≡ Ok tt → bytes_of_digits digits ≡ Ok out
-decoded-ok digits out n answer len facts ok =
-    let whole = rw (decode_sized-twice digits n len) at facts in
-    elim (cases_Bool (list_all is_hex_digit digits)) [
-      | inl all ↦ (all_digits digits out answer (omega (arith, len)) all whole).1
-      | inr none ↦ let bad = no_digit digits out answer (decode_of digits) refl none whole in
-          absurd (grind (arith, bad.1, ok))
-    ]
+decoded-ok digits out n answer len facts ok = grind (arith, nat_tests, decode_sized-twice, cases_Bool, all_digits, no_digit)
 
 pub decoded-err : (digits out : List ℕ) (n : ℕ) (answer : Result Unit FromHexError) (e : FromHexError)
     → length digits ≡ 2 * n
     → Decoded digits out answer (decode_sized digits n) → answer ≡ Err e → bytes_of_digits digits ≡ Err Digit
-decoded-err digits out n answer e len facts err =
-    let whole = rw (decode_sized-twice digits n len) at facts in
-    elim (cases_Bool (list_all is_hex_digit digits)) [
-      | inl all ↦ let good = all_digits digits out answer (omega (arith, len)) all whole in
-          absurd (grind (arith, good.0, err))
-      | inr none ↦ (no_digit digits out answer (decode_of digits) refl none whole).2
-    ]
+decoded-err digits out n answer e len facts err = grind (arith, nat_tests, decode_sized-twice, cases_Bool, all_digits, no_digit)

@@ -1,5 +1,6 @@
 -- Where a line ends.
-use Rattle.std.proofs.Common.{◌≡◌, ◌≢◌, ◌∙◌, ap, refl, arith, ℕ, zero, suc, ◌+◌, ◌<◌, ◌≤◌, List, [], ◌∷◌, ◌++◌, length, get_or, take, drop, true, Some, None, inl, inr, add-one}
+use Rattle.std.proofs.lemmas.Bool.Decides.{nat_tests}
+use Rattle.std.proofs.Common.{◌≡◌, ◌≢◌, ◌∙◌, ap, refl, arith, ℕ, zero, suc, ◌+◌, ◌<◌, ◌≤◌, List, [], ◌∷◌, ◌++◌, length, get_or, take, drop, true, Some, None, inl, inr}
 use Rattle.std.proofs.lemmas.Bool.{cases_Bool, eqb-true}
 use Rattle.std.proofs.lemmas.List.{take_all}
 use Rattle.std.proofs.lemmas.List.Splits.{slice_split-cons_no}
@@ -27,9 +28,7 @@ one_line (suc n) (c ∷ text) len none =
 pub cut_at : (n : ℕ) (text : List ℕ) → n < length text → text ≡ take n text ++ get_or text n 0 ∷ drop (n + 1) text
 cut_at n [] len = absurd (omega (arith, len))
 cut_at zero (c ∷ text) len = refl
-cut_at (suc n) (c ∷ text) len =
-    let rest = rw (add-one n) at (cut_at n text (omega (arith, len))) in
-    rw (add-one (suc n)) (ap (λ (zs : List ℕ). c ∷ zs) rest)
+cut_at (suc n) (c ∷ text) len = grind (arith, nat_tests, cut_at n text (omega (arith, len)))
 
 pub no_end : (text : List ℕ) → IsFirstByte (is_byte 10) text None → lines text ≡ text ∷ []
 no_end text none =
@@ -38,8 +37,4 @@ no_end text none =
 
 pub first_end : (text : List ℕ) (at : ℕ) → IsFirstByte (is_byte 10) text (Some at)
     → (lines (take at text) ≡ take at text ∷ []) × (text ≡ take at text ++ 10 ∷ drop (at + 1) text)
-first_end text at first = (
-  one_line at text (omega (arith, first.0.high)) (λ k l. first.0.before k (omega arith) l),
-  cut_at at text first.0.high ∙ ap (λ (c : ℕ). take at text ++ c ∷ drop (at + 1) text)
-      (eqb-true (get_or text at 0) 10 first.1),
-)
+first_end text at first = grind (arith, nat_tests, one_line, cut_at, eqb-true)

@@ -28,9 +28,7 @@ places_from base offset i bytes = map (λ p. (address base offset p.0, p.1)) (en
 linear-from : (upper offset i : ℕ) (bytes : List ℕ) (addr : ℕ) → addr ≡ upper * 65536 + offset + i
     → places_from (Linear upper) offset i bytes ≡ enumerate_from addr bytes
 linear-from upper offset i [] addr is = refl
-linear-from upper offset i (b ∷ bs) addr is =
-    ap₂ (λ (n : ℕ) (ps : List (ℕ × ℕ)). (n, b) ∷ ps) (sym is)
-    (linear-from upper offset (i + 1) bs (addr + 1) (omega (arith, is)))
+linear-from upper offset i (b ∷ bs) addr is = grind (arith, nat_tests, linear-from upper offset (i + 1) bs (addr + 1) (omega (arith, is)))
 
 -- without a segment the addresses follow each other
 pub places-linear : (upper offset : ℕ) (bytes : List ℕ)
@@ -50,27 +48,19 @@ segment-from paragraph offset i (b ∷ c ∷ bs) addr is room =
 -- nor do they jump within a segment
 pub places-segment : (paragraph offset : ℕ) (bytes : List ℕ) → offset % 65536 + length bytes ≤ 65536
     → places (Segment paragraph) offset bytes ≡ enumerate_from (paragraph * 16 + offset % 65536) bytes
-places-segment paragraph offset bytes room =
-    segment-from paragraph offset 0 bytes (paragraph * 16 + offset % 65536) (omega arith) (omega (arith, room))
+places-segment paragraph offset bytes room = grind (arith, nat_tests, segment-from)
 
 places_from-append : (base : Base) (offset i : ℕ) (xs ys : List ℕ)
     → places_from base offset i (xs ++ ys) ≡ places_from base offset i xs ++ places_from base offset (i + length xs) ys
 places_from-append base offset i [] ys = ap (λ (n : ℕ). places_from base offset n ys) (omega arith)
-places_from-append base offset i (x ∷ xs) ys =
-    ap (λ (ps : List (ℕ × ℕ)). (address base offset i, x) ∷ ps)
-    (places_from-append base offset (i + 1) xs ys
-    ∙ ap (λ (n : ℕ). places_from base offset (i + 1) xs ++ places_from base offset n ys) (omega arith))
+places_from-append base offset i (x ∷ xs) ys = grind (arith, nat_tests, places_from-append base offset (i + 1) xs ys)
 
 -- past the end of a segment they go on at its beginning
 pub places-wrapped : (paragraph offset : ℕ) (before behind : List ℕ) → offset % 65536 + length before ≡ 65536
     → length behind ≤ 65536
     → places (Segment paragraph) offset (before ++ behind)
     ≡ enumerate_from (paragraph * 16 + offset % 65536) before ++ enumerate_from (paragraph * 16) behind
-places-wrapped paragraph offset before behind full short =
-    places_from-append (Segment paragraph) offset 0 before behind
-    ∙ ap₂ (λ (xs ys : List (ℕ × ℕ)). xs ++ ys) (places-segment paragraph offset before (omega (arith, full)))
-    (segment-from paragraph offset (0 + length before) behind (paragraph * 16) (omega (arith, full))
-    (omega (arith, full, short)))
+places-wrapped paragraph offset before behind full short = grind (arith, nat_tests, places_from-append, places-segment, segment-from)
 
 -- the same, cut where the segment ends
 pub places-wrapped-at : (paragraph offset n : ℕ) (bytes : List ℕ) → offset % 65536 + n ≡ 65536 → n ≤ length bytes
@@ -116,8 +106,7 @@ beyond-parts size (x ∷ xs) ys none =
 beyond-span : (size addr : ℕ) (bytes : List ℕ) → fits addr bytes size ≡ true
     → beyond size (enumerate_from addr bytes) ≡ None
 beyond-span size addr [] inside = refl
-beyond-span size addr (b ∷ []) inside =
-    let here : nat_lt addr size ≡ true = grind (arith, nat_tests, inside) in rw here refl
+beyond-span size addr (b ∷ []) inside = grind (arith, nat_tests)
 beyond-span size addr (b ∷ c ∷ bs) inside =
     let here : nat_lt addr size ≡ true = grind (arith, nat_tests, inside) in
     let rest : fits (addr + 1) (c ∷ bs) size ≡ true = grind (arith, nat_tests, inside) in
@@ -127,10 +116,7 @@ beyond-span size addr (b ∷ c ∷ bs) inside =
 beyond-span-end : (size addr : ℕ) (bytes : List ℕ) → fits addr bytes size ≡ false
     → beyond size (enumerate_from addr bytes) ≡ Some (max addr size)
 beyond-span-end size addr [] outside = cc outside
-beyond-span-end size addr (b ∷ []) outside =
-    let here : nat_lt addr size ≡ false = grind (arith, nat_tests, outside) in
-    let first : size ≤ addr = grind (arith, nat_tests, here) in
-    rw here (ap (λ (n : ℕ). Some n) (omega (arith, first)))
+beyond-span-end size addr (b ∷ []) outside = grind (arith, nat_tests)
 beyond-span-end size addr (b ∷ c ∷ bs) outside =
     let rest : fits (addr + 1) (c ∷ bs) size ≡ false = grind (arith, nat_tests, outside) in
     elim (cases_Bool (nat_lt addr size)) [
@@ -146,9 +132,7 @@ end-past-span : (end addr : ℕ) (bytes : List ℕ) → 0 < length bytes
     → max end (addr + length bytes) ≡ end_past end (enumerate_from addr bytes)
 end-past-span end addr [] some = absurd (omega (arith, some))
 end-past-span end addr (b ∷ []) some = refl
-end-past-span end addr (b ∷ c ∷ bs) some =
-    let rest = end-past-span (max end (addr + 1)) (addr + 1) (c ∷ bs) (omega arith) in
-    rw (← rest) (omega arith)
+end-past-span end addr (b ∷ c ∷ bs) some = grind (arith, nat_tests, end-past-span (max end (addr + 1)) (addr + 1) (c ∷ bs) (omega arith))
 
 -- ---- how far spans reach
 
@@ -180,10 +164,7 @@ pub lays-span : (old new : List (Option ℕ)) (addr : ℕ) (bytes : List ℕ) (r
     → result ≡ (if fits addr bytes (length old) then Ok (addr + length bytes)
     else Err (OutOfRange (max addr (length old))))
     → OnOk result (new ≡ laid_over old (enumerate_from addr bytes)) → new ≡ laid_over old (enumerate_from addr bytes)
-lays-span old new addr bytes result none is laid = elim (cases_Bool (fits addr bytes (length old))) [
-  | inl t ↦ rw (is, t) at laid
-  | inr f ↦ absurd (cc (sym none ∙ beyond-span-end (length old) addr bytes f))
-]
+lays-span old new addr bytes result none is laid = grind (arith, nat_tests, cases_Bool, beyond-span-end)
 
 -- ---- addresses in range
 

@@ -1,5 +1,5 @@
 -- Records of Intel HEX, as they are written and read again.
-use Rattle.std.proofs.Common.{◌≡◌, ◌∙◌, sym, ap, refl, arith, ℕ, ◌+◌, ◌-◌, ◌*◌, ◌/◌, ◌%◌, ◌^◌, ◌<◌, ◌≤◌, ◌==◌, Bool, true, false, not, List, [], ◌∷◌, ◌++◌, length, take, sum, map, Result, Ok, Err, inl, inr}
+use Rattle.std.proofs.Common.{◌≡◌, ◌∙◌, sym, ap, refl, arith, ℕ, ◌+◌, ◌-◌, ◌*◌, ◌/◌, ◌%◌, ◌^◌, ◌<◌, ◌≤◌, ◌==◌, Bool, true, false, List, [], ◌∷◌, ◌++◌, length, take, sum, map, Result, Ok, inl, inr}
 use Rattle.std.specs.Prelude.{if◌then◌else◌}
 use Rattle.std.specs.List.{list_all, flat_map}
 use Rattle.std.proofs.lemmas.Bool.{cases_eq}
@@ -17,7 +17,6 @@ use Rattle.avr_records.specs.Text.{two, with_sum_checksum, ihex_record, ihex_row
 use Rattle.avr_records.specs.declared.kind.Kind.TheVariants.{Ihex}
 use Rattle.avr_records.specs.declared.kind.Base.TheVariants.{Linear}
 use Rattle.avr_records.specs.declared.fault.LineFault.{LineFault}
-use Rattle.avr_records.specs.declared.fault.LineFault.TheVariants.{Length, Sum}
 use Rattle.avr_records.proofs.Rows.Cuts.{IsBytes-nil, IsBytes-cons, IsBytes-append, IsRow, Every}
 use Rattle.avr_records.proofs.Writers.Lines.{is_plain, plain-digits, encode-digits, bytes_of-encode, says-plain, lines-plain, lines-written, sum-push}
 use Rattle.avr_records.proofs.Writers.Reread.{AllGoOn, then_end, threaded, places-linear}
@@ -32,12 +31,7 @@ line_of type offset bytes = 58 ∷ encode_upper (with_sum_checksum (unsummed typ
 
 IsBytes-summed : (type offset : ℕ) (bytes : List ℕ) → type < 256 → length bytes ≤ 32 → IsBytes bytes
     → IsBytes (with_sum_checksum (unsummed type offset bytes))
-IsBytes-summed type offset bytes known short all =
-    let high = IsBytes-cons (offset % 256) (type ∷ bytes) (omega arith) (IsBytes-cons type bytes known all) in
-    let prefix = IsBytes-cons (length bytes) (two offset ++ type ∷ bytes) (omega arith)
-    (IsBytes-cons (offset / 256 % 256) ((offset % 256) ∷ type ∷ bytes) (omega arith) high) in
-    IsBytes-append (unsummed type offset bytes) (((256 - sum (unsummed type offset bytes) % 256) % 256) ∷ []) prefix
-    (IsBytes-cons ((256 - sum (unsummed type offset bytes) % 256) % 256) [] (omega arith) IsBytes-nil)
+IsBytes-summed type offset bytes known short all = grind (arith, nat_tests, IsBytes-cons, IsBytes-append, IsBytes-nil)
 
 plain-line : (type offset : ℕ) (bytes : List ℕ) → type < 256 → length bytes ≤ 32 → IsBytes bytes
     → list_all is_plain (line_of type offset bytes) ≡ true
@@ -48,13 +42,7 @@ plain-line type offset bytes known short all =
 checked-good : (size offset type low_sum : ℕ) (more bytes : List ℕ) → length more ≡ size + 1 → low_sum ≡ 0
     → take size more ≡ bytes
     → checked_ihex size offset type low_sum more ≡ typed_ihex type offset bytes
-checked-good size offset type low_sum more bytes len sum_is prefix =
-    let sized : (length more == size + 1) ≡ true = grind (arith, nat_tests, len) in
-    let balanced : (low_sum == 0) ≡ true = grind (arith, nat_tests, sum_is) in
-    ap (λ (right : Bool). if not right then Err Length else if not (low_sum == 0) then Err Sum
-    else typed_ihex type offset (take size more)) sized
-    ∙ ap (λ (right : Bool). if not right then Err Sum else typed_ihex type offset (take size more)) balanced
-    ∙ ap (typed_ihex type offset) prefix
+checked-good size offset type low_sum more bytes len sum_is prefix = grind (arith, nat_tests)
 
 fields-summed : (type offset : ℕ) (bytes : List ℕ) → offset < 65536
     → ihex_from_fields (with_sum_checksum (unsummed type offset bytes)) ≡ typed_ihex type offset bytes
@@ -155,13 +143,7 @@ rows-go_on upper (row ∷ more) =
 
 upper-threaded : (old new : ℕ) (more : List Said)
     → threaded (Linear old) (upper_said old new ++ more) ≡ threaded (Linear new) more
-upper-threaded old new more =
-    elim (cases_eq new old) [
-      | inl same ↦
-          let test : (new == old) ≡ true = grind (arith, nat_tests) in
-          rw test (ap (λ (n : ℕ). threaded (Linear n) more) (sym same))
-      | inr other ↦ let test : (new == old) ≡ false = grind (arith, nat_tests) in rw test refl
-    ]
+upper-threaded old new more = grind (arith, nat_tests)
 
 pub rows-threaded : (upper : ℕ) (rows : List (ℕ × List ℕ))
     → threaded (Linear upper) (then_end (rows_said upper rows)) ≡ flat_map places_of rows

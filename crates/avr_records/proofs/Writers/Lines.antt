@@ -1,45 +1,29 @@
 -- How a written line reads.
-use Rattle.std.proofs.Common.{◌≡◌, ◌∙◌, sym, ap, refl, arith, ℕ, ◌+◌, ◌-◌, ◌≤◌, nat_lt, Bool, true, false, not, ◌&&◌, List, [], ◌∷◌, ◌++◌, length, take, get_or, fold, inl, inr, Ok, Err}
+use Rattle.std.proofs.Common.{◌≡◌, ◌∙◌, sym, ap, refl, arith, ℕ, ◌+◌, ◌-◌, ◌≤◌, nat_lt, Bool, true, false, not, ◌&&◌, List, [], ◌∷◌, ◌++◌, length, take, get_or, fold, Ok, Err}
 use Rattle.std.specs.Prelude.{if◌then◌else◌}
 use Rattle.std.specs.List.{list_all, onto_first, suffix_len}
-use Rattle.std.proofs.lemmas.Bool.{cases_eq, and_parts}
+use Rattle.std.proofs.lemmas.Bool.{and_parts}
 use Rattle.std.proofs.lemmas.Bool.Decides.{nat_tests}
 use Rattle.std.proofs.lemmas.List.{take_all, take_at, append_assoc, length-append}
 use Rattle.std.proofs.lemmas.List.Splits.{slice_split-cons_no}
 use Rattle.std.proofs.lemmas.List.Sums.{list_all-from_AllPass, AllPass-from_list_all, suffix_len_is, fold-append}
-use Rattle.hex.specs.Hex.{IsBytes, is_hex_digit, decode_of, encode_upper}
+use Rattle.hex.specs.Hex.{IsBytes, is_hex_digit, encode_upper}
 use Rattle.hex.proofs.HexLemmas.{decode_of-encode_upper, decode_of-ok}
 use Rattle.avr_records.specs.Lines.{lines, is_line_end, is_blank, trimmed_line}
 use Rattle.avr_records.specs.Text.{IsLine}
-use Rattle.avr_records.specs.Record.{bytes_of_digits, decoded_bytes, longest, unless_long}
+use Rattle.avr_records.specs.Record.{bytes_of_digits, longest, unless_long}
 use Rattle.avr_records.specs.Line.{bare_record}
 use Rattle.avr_records.specs.Reading.{said_by_line, bare_says, record_meaning}
 use Rattle.avr_records.specs.declared.kind.Kind.{Kind}
 use Rattle.avr_records.specs.declared.kind.Kind.TheVariants.{Ihex, Srec}
-use Rattle.avr_records.specs.declared.fault.LineFault.TheVariants.{Digit, TooLong}
+use Rattle.avr_records.specs.declared.fault.LineFault.TheVariants.{TooLong}
 
 -- neither a line end nor a blank
 abbrev pub is_plain : ℕ → Bool
 is_plain c = not (is_line_end c) && not (is_blank c)
 
 plain-digit : (c : ℕ) → is_hex_digit c ≡ true → is_plain c ≡ true
-plain-digit c digit =
-    elim (cases_eq c 10) [
-      | inl is ↦ let no : false ≡ true = rw is at digit in absurd (cc no)
-      | inr line_end ↦
-          elim (cases_eq c 32) [
-            | inl is ↦ let no : false ≡ true = rw is at digit in absurd (cc no)
-            | inr space ↦
-                elim (cases_eq c 9) [
-                  | inl is ↦ let no : false ≡ true = rw is at digit in absurd (cc no)
-                  | inr tab ↦
-                      elim (cases_eq c 13) [
-                        | inl is ↦ let no : false ≡ true = rw is at digit in absurd (cc no)
-                        | inr return ↦ grind (arith, nat_tests, line_end, space, tab, return)
-                      ]
-                ]
-          ]
-    ]
+plain-digit c digit = grind (arith, nat_tests)
 
 pub plain-digits : (cs : List ℕ) → list_all is_hex_digit cs ≡ true → list_all is_plain cs ≡ true
 plain-digits [] all = refl
@@ -54,10 +38,7 @@ encode-digits bytes all =
 
 -- the digits of bytes read as those bytes
 pub bytes_of-encode : (bytes : List ℕ) → IsBytes bytes → bytes_of_digits (encode_upper bytes) ≡ Ok bytes
-bytes_of-encode bytes all =
-    ap (λ (digits : Bool). if not digits then Err Digit else decoded_bytes (decode_of (encode_upper bytes)))
-    (encode-digits bytes all)
-    ∙ ap decoded_bytes (decode_of-encode_upper bytes all)
+bytes_of-encode bytes all = grind (arith, nat_tests, encode-digits, decode_of-encode_upper)
 
 not-blank : (c : ℕ) → is_plain c ≡ true → is_blank c ≡ false
 not-blank c plain = grind (arith, (and_parts (not (is_line_end c)) (not (is_blank c)) plain).1)

@@ -1,5 +1,5 @@
 -- How the text of a record file begins.
-use Rattle.std.proofs.Common.{◌≡◌, ◌∙◌, sym, ap, refl, arith, ℕ, zero, suc, ◌+◌, ◌-◌, ◌/◌, ◌%◌, ◌<◌, ◌≤◌, List, [], ◌∷◌, ◌++◌, length, take, drop, min, map, false, add-zero, set, get_or, inl, inr, Some, None, true, ◌==◌}
+use Rattle.std.proofs.Common.{◌≡◌, ◌∙◌, sym, ap, refl, arith, ℕ, zero, suc, ◌+◌, ◌-◌, ◌/◌, ◌%◌, ◌<◌, ◌≤◌, List, [], ◌∷◌, ◌++◌, length, take, drop, min, map, add-zero, set, get_or, inl, inr, Some, None}
 use Rattle.std.proofs.lemmas.Bool.{cases_eq, cases_lt}
 use Rattle.std.proofs.lemmas.Bool.Decides.{nat_tests}
 use Rattle.std.proofs.lemmas.List.{append_assoc, get_or-map, get_or_past, take_min, drop_all, drop_more, map_more, set_at, get_or_at, length-map, length-take-le, length-append}
@@ -7,7 +7,7 @@ use Rattle.std.specs.Char.{to_ascii_uppercase}
 use Rattle.std.specs.Prelude.{slice_index}
 use Rattle.std.specs.Int.{to_be_bytes, w32}
 use Rattle.hex.specs.Hex.{encode_with, encode_lower, encode_upper, lower_digits, upper_digits}
-use Rattle.avr_records.specs.Text.{rows, rows_behind, bytes_of, low_bytes, two, ihex_record, ihex_rows}
+use Rattle.avr_records.specs.Text.{rows, rows_behind, bytes_of, low_bytes, two, ihex_record}
 use Rattle.avr_records.specs.Sparse.{file_rows, new_upper, row_size, row_text}
 use Rattle.avr_records.specs.declared.address_size.AddressSize.{AddressSize}
 use Rattle.avr_records.specs.declared.address_size.AddressSize.TheVariants.{Two, Three, Four}
@@ -49,8 +49,7 @@ pub rows_behind-drop : (taken : ℕ) (size : ℕ → ℕ) (addr : ℕ) (bytes : 
 rows_behind-drop zero size addr [] = refl
 rows_behind-drop (suc taken) size addr [] = refl
 rows_behind-drop zero size addr (b ∷ bs) = ap (λ (a : ℕ). rows size a (b ∷ bs)) (sym (add-zero addr))
-rows_behind-drop (suc taken) size addr (b ∷ bs) =
-    rows_behind-drop taken size (addr + 1) bs ∙ ap (λ (a : ℕ). rows size a (drop taken bs)) (omega arith)
+rows_behind-drop (suc taken) size addr (b ∷ bs) = grind (arith, nat_tests, rows_behind-drop taken size (addr + 1) bs)
 
 pub drop-one_less : (s b : ℕ) (bs : List ℕ) → 0 < s → drop (s - 1) bs ≡ drop s (b ∷ bs)
 drop-one_less zero b bs some = absurd (omega arith)
@@ -59,47 +58,24 @@ drop-one_less (suc s) b bs some = ap (λ (k : ℕ). drop k bs) (omega arith)
 -- after the last row there is none
 rows-min : (size : ℕ → ℕ) (addr s n : ℕ) (bytes : List ℕ) → n ≡ min s (length bytes)
     → rows size (addr + s) (drop s bytes) ≡ rows size (addr + n) (drop n bytes)
-rows-min size addr s n bytes is =
-    elim (cases_lt (length bytes) s) [
-      | inl past ↦
-          let none : drop s bytes ≡ [] = drop_all s bytes (omega arith) in
-          let none_left : drop n bytes ≡ [] = drop_all n bytes (omega arith) in
-          rw (none, none_left) refl
-      | inr within ↦
-          let same : s ≡ n = omega arith in
-          rw same refl
-    ]
+rows-min size addr s n bytes is = grind (arith, nat_tests, cases_lt, drop_all)
 
 -- the first row, of n bytes
 pub rows-next : (size : ℕ → ℕ) (addr n : ℕ) (bytes : List ℕ) → 0 < length bytes → 0 < size addr
     → n ≡ min (size addr) (length bytes)
     → rows size addr bytes ≡ (addr, take n bytes) ∷ rows size (addr + n) (drop n bytes)
 rows-next size addr n [] some wide is = absurd (omega arith)
-rows-next size addr n (b ∷ bs) some wide is =
-    let row : take (size addr) (b ∷ bs) ≡ take n (b ∷ bs) =
-    sym (take_min (size addr) (b ∷ bs)) ∙ ap (λ (k : ℕ). take k (b ∷ bs)) (sym is) in
-    let behind : rows_behind (size addr - 1) size (addr + 1) bs ≡ rows size (addr + n) (drop n (b ∷ bs)) =
-    rows_behind-drop (size addr - 1) size (addr + 1) bs
-    ∙ ap (λ (a : ℕ). rows size a (drop (size addr - 1) bs)) (omega arith)
-    ∙ ap (rows size (addr + size addr)) (drop-one_less (size addr) b bs wide)
-    ∙ rows-min size addr (size addr) n (b ∷ bs) is in
-    ap (λ (r : List ℕ). (addr, r) ∷ rows_behind (size addr - 1) size (addr + 1) bs) row
-    ∙ ap (λ (rs : List (ℕ × List ℕ)). (addr, take n (b ∷ bs)) ∷ rs) behind
+rows-next size addr n (b ∷ bs) some wide is = grind (arith, nat_tests, take_min, rows_behind-drop, drop-one_less, rows-min)
 
 pub low_bytes_is : (size : AddressSize) (n : ℕ)
     → drop (4 - bytes_of size) (to_be_bytes w32 n) ≡ low_bytes (bytes_of size) n
 low_bytes_is Two n = refl
 low_bytes_is Three n = let top : n / 65536 ≡ n / 256 / 256 = omega arith in rw top refl
-low_bytes_is Four n =
-    let top : n / 16777216 ≡ n / 256 / 256 / 256 = omega arith in
-    let next : n / 65536 ≡ n / 256 / 256 = omega arith in
-    rw (top, next) refl
+low_bytes_is Four n = grind (arith, nat_tests)
 
 pub length_low_bytes : (size n : ℕ) → length (low_bytes size n) ≡ size
 length_low_bytes zero n = refl
-length_low_bytes (suc size) n =
-    length-append (low_bytes size (n / 256)) ((n % 256) ∷ []) ∙ ap (λ (k : ℕ). k + 1) (length_low_bytes size (n / 256))
-    ∙ omega arith
+length_low_bytes (suc size) n = grind (arith, nat_tests, length_low_bytes size (n / 256), length-append)
 
 pub few_bytes : (size : AddressSize) → (2 ≤ bytes_of size) × (bytes_of size ≤ 4)
 few_bytes Two = (omega arith, omega arith)
@@ -118,34 +94,11 @@ pub rows-upper : (kind : Kind) (upper new addr : ℕ) (size : AddressSize) (row 
     → file_rows kind upper size ((addr, row) ∷ more)
     ≡ ihex_record 4 0 (two new) ++ file_rows kind new size ((addr, row) ∷ more)
 rows-upper Srec upper new addr size row more is = absurd (cc is)
-rows-upper Ihex upper new addr size row more is = elim (cases_eq (addr / 65536) upper) [
-  | inl same ↦
-      let test : (addr / 65536 == upper) ≡ true = grind (arith, nat_tests, same) in
-      let none : None ≡ Some new = rw test at is in
-      absurd (cc none)
-  | inr other ↦
-      let test : (addr / 65536 == upper) ≡ false = grind (arith, nat_tests, other) in
-      let some : Some (addr / 65536) ≡ Some new = rw test at is in
-      let high : addr / 65536 ≡ new = cc some in
-      let set : (addr / 65536 == new) ≡ true = grind (arith, nat_tests, high) in
-      let line : List ℕ = ihex_record 4 0 (two (addr / 65536)) in
-      let data_line : List ℕ = ihex_record 0 (addr % 65536) row in
-      let rest : List ℕ = ihex_rows (addr / 65536) more in
-      rw (test, set) (append_assoc line data_line rest
-      ∙ ap (λ (n : ℕ). ihex_record 4 0 (two n) ++ (data_line ++ rest)) high)
-]
+rows-upper Ihex upper new addr size row more is = grind (arith, nat_tests, cases_eq, set, append_assoc)
 
 -- the record of a row
 pub rows-row : (kind : Kind) (upper addr : ℕ) (size : AddressSize) (row : List ℕ) (more : List (ℕ × List ℕ))
     → new_upper kind upper addr ≡ None
     → file_rows kind upper size ((addr, row) ∷ more) ≡ row_text kind size addr row ++ file_rows kind upper size more
 rows-row Srec upper addr size row more is = refl
-rows-row Ihex upper addr size row more is = elim (cases_eq (addr / 65536) upper) [
-  | inl same ↦
-      let test : (addr / 65536 == upper) ≡ true = grind (arith, nat_tests, same) in
-      rw test (ap (λ (n : ℕ). ihex_record 0 (addr % 65536) row ++ ihex_rows n more) same)
-  | inr other ↦
-      let test : (addr / 65536 == upper) ≡ false = grind (arith, nat_tests, other) in
-      let some : Some (addr / 65536) ≡ None = rw test at is in
-      absurd (cc some)
-]
+rows-row Ihex upper addr size row more is = grind (arith, nat_tests)

@@ -1,4 +1,5 @@
 -- Lines of data records that follow on each other, and the image that they make.
+use Rattle.std.proofs.lemmas.Bool.Decides.{nat_tests}
 use Rattle.std.proofs.Common.{◌≡◌, ◌∙◌, ap, refl, arith, ℕ, ◌+◌, ◌*◌, nat_lt, Bool, true, List, [], ◌∷◌, ◌++◌, length, map, Option, Some, None, Ok, Err, inl, inr, add-zero}
 use Rattle.std.specs.Prelude.{option_map, if◌then◌else◌}
 use Rattle.std.specs.List.{enumerate_from, flat_map, list_any}
@@ -6,14 +7,12 @@ use Rattle.std.proofs.lemmas.Bool.{cases_Bool}
 use Rattle.std.proofs.lemmas.List.Sums.{fold-append}
 use Rattle.avr_image.specs.Image.{image_of_pairs}
 use Rattle.avr_records.specs.Meaning.{Nothing, Data, Rebase, Counted, End}
-use Rattle.avr_records.specs.Reading.{Said, is_end, up_to_end, in_place, next_base, base_after, address, places, placed_bytes, beyond, fault_in, or_later, first_fault, file_ending, image_or_fault, together}
+use Rattle.avr_records.specs.Reading.{Said, is_end, up_to_end, in_place, next_base, base_after, address, places, placed_bytes, beyond, fault_in, or_later, first_fault, file_ending, together}
 use Rattle.avr_records.specs.declared.kind.Base.{Base}
 use Rattle.avr_records.specs.declared.kind.Base.TheVariants.{Linear}
-use Rattle.avr_records.specs.declared.kind.Ending.{Ending}
 use Rattle.avr_records.specs.declared.kind.Ending.TheVariants.{Ended, NoEnd}
 use Rattle.avr_records.specs.declared.fault.LineFault.{LineFault}
 use Rattle.avr_records.specs.declared.fault.LineFault.TheVariants as line
-use Rattle.avr_records.specs.declared.fault.RecordFault.{RecordFault}
 
 beyond-parts : (size : ℕ) (xs ys : List (ℕ × ℕ)) → beyond size (xs ++ ys) ≡ None
     → (beyond size xs ≡ None) × (beyond size ys ≡ None)
@@ -47,12 +46,7 @@ placed-under before (Ok End) = refl
 placed-threaded : (before said : List Said)
     → flat_map placed_bytes (in_place before said) ≡ threaded (base_after before) said
 placed-threaded before [] = refl
-placed-threaded before (s ∷ more) =
-    ap (λ (prefix : List (ℕ × ℕ)). prefix ++ flat_map placed_bytes (in_place (before ++ s ∷ []) more))
-    (placed-under before s)
-    ∙ ap (λ (back : List (ℕ × ℕ)). under (base_after before) s ++ back) (placed-threaded (before ++ s ∷ []) more)
-    ∙ ap (λ (base : Base). under (base_after before) s ++ threaded base more)
-    (fold-append next_base (Linear 0) before (s ∷ []))
+placed-threaded before (s ∷ more) = grind (arith, nat_tests, placed-threaded (before ++ s ∷ []) more, placed-under, fold-append)
 
 -- a line that is no fault, no count and no end
 abbrev pub GoesOn : Said → Type 0
@@ -77,14 +71,12 @@ stops (Err fault ∷ prefix) more on = absurd on.0
 stops (Ok (Counted n) ∷ prefix) more on = absurd on.0
 stops (Ok End ∷ prefix) more on = absurd on.0
 stops (Ok Nothing ∷ prefix) more on = ap (λ (zs : List Said). Ok Nothing ∷ zs) (stops prefix more on.1)
-stops (Ok (Data offset bytes) ∷ prefix) more on =
-    ap (λ (zs : List Said). Ok (Data offset bytes) ∷ zs) (stops prefix more on.1)
+stops (Ok (Data offset bytes) ∷ prefix) more on = grind (arith, nat_tests, stops prefix more on.1)
 stops (Ok (Rebase base) ∷ prefix) more on = ap (λ (zs : List Said). Ok (Rebase base) ∷ zs) (stops prefix more on.1)
 
 has_end : (prefix more : List Said) → list_any is_end (prefix ++ Ok End ∷ more) ≡ true
 has_end [] more = refl
-has_end (s ∷ prefix) more =
-    elim (cases_Bool (is_end s)) [ inl t ↦ rw t refl | inr f ↦ rw f (has_end prefix more) ]
+has_end (s ∷ prefix) more = grind (arith, nat_tests, has_end prefix more)
 
 pub ended : (prefix more : List Said) → file_ending (prefix ++ Ok End ∷ more) ≡ Ended
 ended prefix more = ap (λ (b : Bool). if b then Ended else NoEnd) (has_end prefix more)
@@ -115,19 +107,7 @@ pub together-laid : (size : ℕ) (image : List (Option ℕ)) (places : List (ℕ
     → AllGoOn prefix
     → threaded (Linear 0) (then_end prefix) ≡ places → beyond size places ≡ None → image_of_pairs size places ≡ image
     → together size (prefix ++ Ok End ∷ more) ≡ Ok (image, Ended)
-together-laid size image places prefix more on follow inside_is laid_is =
-    let taken : List (List Said × Said) = in_place [] (then_end prefix) in
-    let bytes_are : flat_map placed_bytes taken ≡ places = placed-threaded [] (then_end prefix) ∙ follow in
-    let inside : beyond size (flat_map placed_bytes taken) ≡ None = ap (beyond size) bytes_are ∙ inside_is in
-    ap (λ (lines : List Said). image_or_fault (first_fault size (in_place [] lines))
-    (image_of_pairs size (flat_map placed_bytes (in_place [] lines)), file_ending (prefix ++ Ok End ∷ more)))
-    (stops prefix more on)
-    ∙ ap (λ (fault : Option RecordFault). image_or_fault fault
-    (image_of_pairs size (flat_map placed_bytes taken), file_ending (prefix ++ Ok End ∷ more)))
-    (first_fault-none size [] prefix on inside)
-    ∙ ap (λ (places : List (ℕ × ℕ)). Ok (image_of_pairs size places, file_ending (prefix ++ Ok End ∷ more))) bytes_are
-    ∙ ap (λ (end : Ending). Ok (image_of_pairs size places, end)) (ended prefix more)
-    ∙ ap (λ (image : List (Option ℕ)). Ok (image, Ended)) laid_is
+together-laid size image places prefix more on follow inside_is laid_is = grind (arith, nat_tests, placed-threaded, stops, first_fault-none, ended)
 
 -- the places of a data record where a linear base is in force
 pub places-linear : (upper offset addr : ℕ) (bytes : List ℕ) → upper * 65536 + offset ≡ addr

@@ -1,4 +1,5 @@
 -- A walk over bytes that follow each other in a memory.
+use Rattle.std.proofs.lemmas.Bool.Decides.{nat_tests}
 use Rattle.std.proofs.Common.{◌≡◌, ◌∙◌, sym, ap, refl, arith, ℕ, zero, suc, ◌+◌, ◌-◌, ◌^◌, ◌<◌, ◌≤◌, List, [], ◌∷◌, ◌++◌, length, take, drop, min, map, Option, Some, None, is_some}
 use Rattle.std.specs.List.{position_from}
 use Rattle.std.proofs.Math.Seq.{drop-nil, take-nil}
@@ -55,13 +56,7 @@ gap-in base addr most (b ∷ bytes) before = ap (take most) (gap-held base addr 
 pub row-in : (base addr most past few : ℕ) (bytes : List ℕ) → base ≤ addr → past ≡ min (addr - base) (length bytes)
     → few ≡ min most (length (take (length bytes - past) (drop past bytes)))
     → take few (take (length bytes - past) (drop past bytes)) ≡ take most (lead (drop addr (run_at base bytes)))
-row-in base addr most past few bytes after past_is few_is =
-    let rest : List ℕ = take (length bytes - past) (drop past bytes) in
-    let there : drop past bytes ≡ drop (addr - base) bytes =
-    ap (λ (n : ℕ). drop n bytes) past_is ∙ drop_min (addr - base) bytes in
-    ap (λ (n : ℕ). take n rest) few_is
-    ∙ take_min most rest
-    ∙ ap (take most) (take_rest bytes past ∙ there ∙ sym (lead-in base addr (addr - base) bytes (omega (arith, after))))
+row-in base addr most past few bytes after past_is few_is = grind (arith, nat_tests, drop_min, take_min, take_rest, lead-in)
 
 bytes-held : (base : ℕ) (bytes : List ℕ) → IsBytes bytes → HoldsBytes (held base bytes)
 bytes-held zero [] all addr byte is = absurd (cc is)

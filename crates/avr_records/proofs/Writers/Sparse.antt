@@ -1,7 +1,6 @@
 -- What is written of an image with gaps reads back as it was.
-use Rattle.std.proofs.Common.{◌≡◌, ◌∙◌, sym, ap, ap₂, refl, arith, ℕ, zero, suc, add-zero, ◌+◌, ◌^◌, ◌<◌, ◌≤◌, ◌==◌, nat_lt, All, true, false, List, [], ◌∷◌, ◌++◌, length, map, Option, Some, None, Ok, inl, inr}
+use Rattle.std.proofs.Common.{◌≡◌, ◌∙◌, sym, ap, ap₂, refl, arith, ℕ, zero, suc, add-zero, ◌+◌, ◌^◌, ◌<◌, ◌≤◌, All, List, [], ◌∷◌, ◌++◌, length, map, Option, Some, None, Ok}
 use Rattle.std.specs.List.{flat_map, enumerate_from}
-use Rattle.std.proofs.lemmas.Bool.{cases_eq}
 use Rattle.std.proofs.lemmas.Bool.Decides.{nat_tests}
 use Rattle.std.proofs.lemmas.Grind.{flat_map-append}
 use Rattle.std.proofs.lemmas.List.{append-nil, length-append, length-replicate}
@@ -11,12 +10,12 @@ use Rattle.hex.specs.Hex.{IsBytes}
 use Rattle.avr_image.specs.Image.{HoldsBytes, empty, image_of_pairs}
 use Rattle.avr_records.specs.Meaning.{Nothing}
 use Rattle.avr_records.specs.Reading.{beyond, image_in_text, together}
-use Rattle.avr_records.specs.Text.{rows, address_size}
+use Rattle.avr_records.specs.Text.{address_size}
 use Rattle.avr_records.specs.Sparse.{row_size, rows_of, last_held, image_text, ReadsBack}
 use Rattle.avr_records.specs.declared.kind.Ending.TheVariants.{Ended}
 use Rattle.avr_records.specs.declared.kind.Kind.{Kind}
 use Rattle.avr_records.specs.declared.kind.Kind.TheVariants.{Ihex, Srec}
-use Rattle.avr_records.proofs.Rows.Cuts.{IsBytes-nil, IsBytes-cons, IsRow, Every, rows_behind-are, rows-hold}
+use Rattle.avr_records.proofs.Rows.Cuts.{IsRow, Every, rows_behind-are, rows-hold}
 use Rattle.avr_records.proofs.Writers.Pieces.{wide_row}
 use Rattle.avr_records.proofs.Writers.Reread.{together-laid}
 use Rattle.avr_records.proofs.Writers.Ihex as hex
@@ -27,9 +26,7 @@ use Rattle.avr_records.proofs.Writers.Srec as srec
 beyond-run : (size addr : ℕ) (bytes : List ℕ) (more : List (ℕ × ℕ)) → addr + length bytes ≤ size
     → beyond size more ≡ None → beyond size (enumerate_from addr bytes ++ more) ≡ None
 beyond-run size addr [] more room none = none
-beyond-run size addr (b ∷ bytes) more room none =
-    let test : nat_lt addr size ≡ true = grind (arith, nat_tests, room) in
-    rw test (beyond-run size (addr + 1) bytes more (omega (arith, room)) none)
+beyond-run size addr (b ∷ bytes) more room none = grind (arith, nat_tests, beyond-run size (addr + 1) bytes more (omega (arith, room)) none)
 
 beyond-cut : (size : ℕ) (cut : List (ℕ × List ℕ)) → All (λ run. run.0 + length run.1 ≤ size) cut
     → beyond size (flat_map places_of cut) ≡ None
@@ -40,17 +37,13 @@ beyond-cut size (run ∷ cut) inside =
 
 beyond-image : (image : List (Option ℕ)) (more : ℕ)
     → beyond (length image + more) (flat_map places_of (runs 0 image)) ≡ None
-beyond-image image more =
-    beyond-cut (length image + more) (runs 0 image) (λ k d l. omega (arith, runs_inside image k d l))
+beyond-image image more = grind (arith, nat_tests, beyond-cut, runs_inside)
 
 -- cutting into rows keeps them
 pub rows_of-hold : (size : ℕ → ℕ) (cut : List (ℕ × List ℕ)) → ((a : ℕ) → 0 < size a)
     → flat_map places_of (rows_of size cut) ≡ flat_map places_of cut
 rows_of-hold size [] wide = refl
-rows_of-hold size (run ∷ cut) wide =
-    flat_map-append places_of (rows size run.0 run.1) (rows_of size cut)
-    ∙ ap (λ (prefix : List (ℕ × ℕ)). prefix ++ flat_map places_of (rows_of size cut)) (rows-hold size run.0 run.1 wide)
-    ∙ ap (λ (back : List (ℕ × ℕ)). places_of run ++ back) (rows_of-hold size cut wide)
+rows_of-hold size (run ∷ cut) wide = grind (arith, nat_tests, rows_of-hold size cut wide, flat_map-append, rows-hold)
 
 -- ---- runs are bytes that end where the image does, at the latest
 
@@ -60,29 +53,13 @@ pub record IsIn (end : ℕ) (run : ℕ × List ℕ) : Type 0 where
 
 onto-in : (end addr b : ℕ) (more : List (ℕ × List ℕ)) → addr < end → b < 256 → Every (IsIn end) more
     → Every (IsIn end) (onto_runs addr b more)
-onto-in end addr b [] inside byte all = (
-  record
-      { below = omega (arith, inside); bytes = IsBytes-cons b [] byte IsBytes-nil },
-  tt,
-)
-onto-in end addr b ((next, bytes) ∷ more) inside byte all = elim (cases_eq next (addr + 1)) [
-  | inl same ↦
-      let test : (next == addr + 1) ≡ true = grind (arith, nat_tests) in
-      rw test (
-        record { below = omega (arith, same, all.0.below); bytes = IsBytes-cons b bytes byte all.0.bytes },
-        all.1,
-      )
-  | inr other ↦
-      let test : (next == addr + 1) ≡ false = grind (arith, nat_tests) in
-      rw test (record { below = omega (arith, inside); bytes = IsBytes-cons b [] byte IsBytes-nil }, all)
-]
+onto-in end addr b [] inside byte all = grind (arith, nat_tests)
+onto-in end addr b ((next, bytes) ∷ more) inside byte all = grind (arith, nat_tests)
 
 last-least : (last addr : ℕ) (image : List (Option ℕ)) → last ≤ addr → last ≤ last_held last addr image
 last-least last addr [] l = omega arith
 last-least last addr (None ∷ image) l = last-least last (addr + 1) image (omega (arith, l))
-last-least last addr (Some b ∷ image) l =
-    let more : addr ≤ last_held addr (addr + 1) image = last-least addr (addr + 1) image (omega arith) in
-    omega (arith, l, more)
+last-least last addr (Some b ∷ image) l = grind (arith, nat_tests, last-least addr (addr + 1) image (omega arith))
 
 last-most : (last addr end : ℕ) (image : List (Option ℕ)) → last < end → addr + length image ≤ end
     → last_held last addr image < end
@@ -106,11 +83,7 @@ runs-in last addr (Some b ∷ image) all =
 rows-up : (size : ℕ → ℕ) (low high : ℕ) (cut : List (ℕ × List ℕ)) → low ≤ high → Every (IsRow size low) cut
     → Every (IsRow size high) cut
 rows-up size low high [] l all = tt
-rows-up size low high (row ∷ cut) l all =
-    let is = all.0 in (
-      record { some = is.some; few = is.few; below = omega (arith, is.below, l); bytes = is.bytes },
-      rows-up size low high cut l all.1,
-    )
+rows-up size low high (row ∷ cut) l all = grind (arith, nat_tests, rows-up size low high cut l all.1)
 
 every-append : (P : ℕ × List ℕ → Type 0) (xs ys : List (ℕ × List ℕ)) → Every P xs → Every P ys → Every P (xs ++ ys)
 every-append P [] ys prefix back = back
@@ -119,12 +92,7 @@ every-append P (x ∷ xs) ys prefix back = (prefix.0, every-append P xs ys prefi
 pub rows_of-are : (size : ℕ → ℕ) (end : ℕ) (cut : List (ℕ × List ℕ)) → ((a : ℕ) → 0 < size a) → Every (IsIn end) cut
     → Every (IsRow size end) (rows_of size cut)
 rows_of-are size end [] wide all = tt
-rows_of-are size end (run ∷ cut) wide all =
-    let own : Every (IsRow size (run.0 + length run.1)) (rows size run.0 run.1) =
-    rows_behind-are 0 size run.0 (run.0 + length run.1) run.1 wide refl all.0.bytes in
-    every-append (IsRow size end) (rows size run.0 run.1) (rows_of size cut)
-    (rows-up size (run.0 + length run.1) end (rows size run.0 run.1) all.0.below own)
-    (rows_of-are size end cut wide all.1)
+rows_of-are size end (run ∷ cut) wide all = grind (arith, nat_tests, rows_of-are size end cut wide all.1, IsRow, rows_behind-are, every-append, rows-up)
 
 -- ---- a memory with gaps after it
 

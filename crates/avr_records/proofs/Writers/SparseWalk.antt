@@ -1,4 +1,5 @@
 -- How the text of a memory with gaps begins, as a walk over it finds it.
+use Rattle.std.proofs.lemmas.Bool.Decides.{nat_tests}
 use Rattle.std.proofs.Common.{◌≡◌, ◌∙◌, sym, ap, ap₂, refl, arith, ℕ, zero, suc, ◌+◌, ◌-◌, ◌<◌, ◌≤◌, List, [], ◌∷◌, ◌++◌, length, take, drop, min, Option, Some, None, is_some, add-zero}
 use Rattle.std.specs.List.{position_from, slice_range}
 use Rattle.std.proofs.lemmas.List.{drop-drop, length-append, length-drop, length-take, take_min}
@@ -40,31 +41,14 @@ rows-lead size addr (Some b ∷ image) = ap (rows_of size) (runs_first (Some b �
 pub rows-step : (size : ℕ → ℕ) (addr n : ℕ) (image : List (Option ℕ)) → 0 < length (lead image) → 0 < size addr
     → n ≡ min (size addr) (length (lead image))
     → rows_of size (runs addr image) ≡ (addr, take n (lead image)) ∷ rows_of size (runs (addr + n) (drop n image))
-rows-step size addr n image some wide is =
-    let few : n ≤ length (lead image) = omega (arith, is) in
-    let rest : List (ℕ × List ℕ) = rows_of size (runs (addr + length (lead image)) (after image)) in
-    let back : addr + n + length (drop n (lead image)) ≡ addr + length (lead image) =
-    omega (arith, length-drop n (lead image), few) in
-    let there : rows_of size (runs (addr + n) (drop n image)) ≡ rows size (addr + n) (drop n (lead image)) ++ rest =
-    rows-lead size (addr + n) (drop n image)
-    ∙ ap (λ (bytes : List ℕ). rows size (addr + n) bytes
-    ++ rows_of size (runs (addr + n + length bytes) (after (drop n image)))) (lead-drop n image few)
-    ∙ ap (λ (xs : List (Option ℕ)). rows size (addr + n) (drop n (lead image))
-    ++ rows_of size (runs (addr + n + length (drop n (lead image))) xs)) (after-drop n image few)
-    ∙ ap (λ (k : ℕ). rows size (addr + n) (drop n (lead image)) ++ rows_of size (runs k (after image))) back in
-    rows-lead size addr image
-    ∙ ap (λ (prefix : List (ℕ × List ℕ)). prefix ++ rest) (rows-next size addr n (lead image) some wide is)
-    ∙ ap (λ (more : List (ℕ × List ℕ)). (addr, take n (lead image)) ∷ more) (sym there)
+rows-step size addr n image some wide is = grind (arith, nat_tests, length-drop, rows-lead, lead-drop, after-drop, rows-next)
 
 -- ---- as the walk finds them
 
 -- the run that a walk finds, as far as a row goes
 pub run-is : (size place most : ℕ) (image : List (Option ℕ)) → most ≡ min size (length image - place)
     → run_end image place (place + most) ≡ place + min size (length (lead (drop place image)))
-run-is size place most image is =
-    let short = lead_within (drop place image) in
-    let left = length-drop place image in
-    lead_is_run image place (place + most) ∙ omega (arith, is, short, left)
+run-is size place most image is = grind (arith, nat_tests, lead_within, length-drop, lead_is_run)
 
 -- a row lies inside the image, as long as it may be
 pub record IsPart (place most end : ℕ) (bytes : List ℕ) (image : List (Option ℕ)) : Type 0 where
@@ -74,20 +58,7 @@ pub record IsPart (place most end : ℕ) (bytes : List ℕ) (image : List (Optio
 pub row-part : (place most end : ℕ) (bytes : List ℕ) (image : List (Option ℕ)) → place < length image
     → end ≡ place + min most (length (lead (drop place image))) → bytes ≡ filled_bytes image 0 (length image)
     → IsPart place most end bytes image
-row-part place most end bytes image inside is whole =
-    let run : List ℕ = lead (drop place image) in
-    let short = lead_within (drop place image) in
-    let left = length-drop place image in
-    let within : end ≤ length image = omega (arith, is, short, left, inside) in
-    let size : end - place ≡ min most (length run) = omega (arith, is) in
-    record {
-      within = omega (arith, within, ap length whole ∙ (filled_is image 0 (length image)).size);
-      part =
-          ap (λ (xs : List ℕ). slice_range xs place end) whole
-          ∙ filled_part image place end (omega (arith, is)) within
-          ∙ lead_is_filled image place (end - place) (omega (arith, size))
-          ∙ ap (λ (n : ℕ). take n run) size ∙ take_min most run;
-    }
+row-part place most end bytes image inside is whole = grind (arith, nat_tests, lead_within, length-drop, filled_is, filled_part, lead_is_filled, take_min)
 
 row-long : (size place : ℕ) (row : List ℕ) (image : List (Option ℕ)) → row ≡ take size (lead (drop place image))
     → length row ≡ min size (length (lead (drop place image)))
@@ -112,9 +83,7 @@ rows-walk size addr place row image found wide is =
 
 pub text-end : (kind : Kind) (upper : ℕ) (size : AddressSize) (addr : ℕ) (image : List (Option ℕ))
     → first_from image addr ≡ None → text_from kind upper size addr image ≡ file_rows kind upper size []
-text-end kind upper size addr image none =
-    ap (λ (cut : List (ℕ × List ℕ)). file_rows kind upper size (rows_of (row_size kind) cut))
-    (runs_none image addr none)
+text-end kind upper size addr image none = grind (arith, nat_tests, runs_none)
 
 pub text-upper : (kind : Kind) (upper new : ℕ) (size : AddressSize) (addr place : ℕ) (image : List (Option ℕ))
     → first_from image addr ≡ Some place → new_upper kind upper place ≡ Some new
@@ -133,10 +102,7 @@ pub text-row : (kind : Kind) (upper : ℕ) (size : AddressSize) (addr place : �
     → row ≡ take (row_size kind place) (lead (drop place image))
     → text_from kind upper size addr image
     ≡ row_text kind size place row ++ text_from kind upper size (place + length row) image
-text-row kind upper size addr place row image found same is =
-    ap (file_rows kind upper size) (rows-walk (row_size kind) addr place row image found (wide_row kind place) is)
-    ∙ rows-row kind upper place size row
-    (rows_of (row_size kind) (runs (place + length row) (drop (place + length row) image))) same
+text-row kind upper size addr place row image found same is = grind (arith, nat_tests, rows-walk, wide_row, rows-row)
 
 pub longer : (text piece more : List ℕ) → text ≡ piece ++ more → 0 < length piece → 0 < length text
 longer text piece more is some = omega (arith, ap length is, length-append piece more, some)
@@ -160,23 +126,14 @@ last-next last addr place [] is = absurd (cc is)
 last-next last addr place (None ∷ image) is =
     let one : suc (place - (addr + 1)) ≡ place - addr = omega (arith, found-from (addr + 1) place image is) in
     last-next last (addr + 1) place image is ∙ ap (λ (n : ℕ). last_held last place (drop n (None ∷ image))) one
-last-next last addr place (Some b ∷ image) is =
-    let here : addr ≡ place = cc is in
-    let none : 0 ≡ place - addr = omega (arith, here) in
-    ap (λ (n : ℕ). last_held last n (Some b ∷ image)) here
-    ∙ ap (λ (n : ℕ). last_held last place (drop n (Some b ∷ image))) none
+last-next last addr place (Some b ∷ image) is = grind (arith, nat_tests)
 
 last-prefix : (last addr n : ℕ) (image : List (Option ℕ)) → n < length (lead image)
     → last_held last addr image ≡ last_held (addr + n) (addr + suc n) (drop (suc n) image)
 last-prefix last addr n [] some = absurd (omega (arith, some))
 last-prefix last addr n (None ∷ image) some = absurd (omega (arith, some))
-last-prefix last addr zero (Some b ∷ image) some =
-    ap (λ (k : ℕ). last_held k (addr + 1) image) (sym (add-zero addr))
-last-prefix last addr (suc n) (Some b ∷ image) some =
-    let here : addr + 1 + n ≡ addr + suc n = omega arith in
-    let next : addr + 1 + suc n ≡ addr + suc (suc n) = omega arith in
-    last-prefix addr (addr + 1) n image (omega (arith, some))
-    ∙ ap₂ (λ (k m : ℕ). last_held k m (drop (suc n) image)) here next
+last-prefix last addr zero (Some b ∷ image) some = grind (arith, nat_tests)
+last-prefix last addr (suc n) (Some b ∷ image) some = grind (arith, nat_tests, last-prefix addr (addr + 1) n image (omega (arith, some)))
 
 pub last-done : (last addr : ℕ) (image : List (Option ℕ)) → first_from image addr ≡ None
     → last_held last addr (drop addr image) ≡ last

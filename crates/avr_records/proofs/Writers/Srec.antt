@@ -1,9 +1,8 @@
 -- S-records, as they are written and read again.
-use Rattle.std.proofs.Common.{◌≡◌, ◌∙◌, ap, refl, arith, ℕ, zero, suc, ◌+◌, ◌-◌, ◌*◌, ◌/◌, ◌%◌, ◌^◌, ◌<◌, ◌≤◌, ◌==◌, nat_le, nat_lt, Bool, true, false, not, ◌||◌, List, [], ◌∷◌, ◌++◌, length, take, drop, sum, map, fold, Result, Ok, Err, inl, inr}
+use Rattle.std.proofs.Common.{◌≡◌, ◌∙◌, ap, refl, arith, ℕ, zero, suc, ◌+◌, ◌-◌, ◌*◌, ◌/◌, ◌%◌, ◌^◌, ◌<◌, ◌≤◌, nat_le, Bool, true, List, [], ◌∷◌, ◌++◌, length, take, sum, map, fold, Result, Ok, Err}
 use Rattle.std.specs.Prelude.{if◌then◌else◌}
 use Rattle.std.specs.Char.{is_ascii_digit}
 use Rattle.std.specs.List.{list_all, flat_map}
-use Rattle.std.proofs.lemmas.Bool.{cases_lt}
 use Rattle.std.proofs.lemmas.Bool.Decides.{nat_tests}
 use Rattle.std.proofs.lemmas.List.{length-append, take_at, drop_at}
 use Rattle.std.proofs.lemmas.List.Sums.{fold-append}
@@ -23,7 +22,7 @@ use Rattle.avr_records.specs.declared.address_size.AddressSize.TheVariants.{Two,
 use Rattle.avr_records.specs.declared.kind.Kind.TheVariants.{Srec}
 use Rattle.avr_records.specs.declared.kind.Base.TheVariants.{Linear}
 use Rattle.avr_records.specs.declared.fault.LineFault.{LineFault}
-use Rattle.avr_records.specs.declared.fault.LineFault.TheVariants.{Mark, Length, Sum}
+use Rattle.avr_records.specs.declared.fault.LineFault.TheVariants.{Mark}
 use Rattle.avr_records.proofs.Writers.Pieces.{few_bytes, length_low_bytes}
 use Rattle.avr_records.proofs.Rows.Cuts.{IsBytes-nil, IsBytes-cons, IsBytes-append, IsRow, Every}
 use Rattle.avr_records.proofs.Writers.Lines.{is_plain, plain-digits, encode-digits, bytes_of-encode, says-plain, lines-plain, lines-written, sum-push}
@@ -31,9 +30,7 @@ use Rattle.avr_records.proofs.Writers.Reread.{AllGoOn, then_end, threaded, place
 
 IsBytes-low_bytes : (size n : ℕ) → IsBytes (low_bytes size n)
 IsBytes-low_bytes zero n = IsBytes-nil
-IsBytes-low_bytes (suc size) n =
-    IsBytes-append (low_bytes size (n / 256)) ((n % 256) ∷ []) (IsBytes-low_bytes size (n / 256))
-    (IsBytes-cons (n % 256) [] (omega arith) IsBytes-nil)
+IsBytes-low_bytes (suc size) n = grind (arith, nat_tests, IsBytes-low_bytes size (n / 256), IsBytes-append, IsBytes-cons, IsBytes-nil)
 
 number-low_bytes : (size n : ℕ) → n < 256 ^ size → number (low_bytes size n) ≡ n
 number-low_bytes zero n fits = omega arith
@@ -48,10 +45,7 @@ abbrev line_of : ℕ → List ℕ → List ℕ
 line_of type body = 83 ∷ (48 + type) ∷ encode_upper (with_count_and_checksum body)
 
 IsBytes-counted : (body : List ℕ) → length body ≤ 36 → IsBytes body → IsBytes (with_count_and_checksum body)
-IsBytes-counted body short all =
-    IsBytes-append ((length body + 1) ∷ body) ((255 - sum ((length body + 1) ∷ body) % 256) ∷ [])
-    (IsBytes-cons (length body + 1) body (omega arith) all)
-    (IsBytes-cons (255 - sum ((length body + 1) ∷ body) % 256) [] (omega arith) IsBytes-nil)
+IsBytes-counted body short all = grind (arith, nat_tests, IsBytes-append, IsBytes-cons, IsBytes-nil)
 
 plain-line : (type : ℕ) (body : List ℕ) → type ≤ 9 → length body ≤ 36 → IsBytes body
     → list_all is_plain (line_of type body) ≡ true
@@ -63,13 +57,7 @@ plain-line type body digit short all =
 checked-good : (type count low_sum : ℕ) (more body : List ℕ) → 0 < count → length more ≡ count → low_sum ≡ 255
     → take (count - 1) more ≡ body
     → checked_srec type count low_sum more ≡ typed_srec type body
-checked-good type count low_sum more body some len sum_is prefix =
-    let sized : (count == 0 || not (length more == count)) ≡ false = grind (arith, nat_tests, len) in
-    let summed : (low_sum == 255) ≡ true = grind (arith, nat_tests, sum_is) in
-    ap (λ (wrong : Bool). if wrong then Err Length else if not (low_sum == 255) then Err Sum
-    else typed_srec type (take (count - 1) more)) sized
-    ∙ ap (λ (right : Bool). if not right then Err Sum else typed_srec type (take (count - 1) more)) summed
-    ∙ ap (typed_srec type) prefix
+checked-good type count low_sum more body some len sum_is prefix = grind (arith, nat_tests)
 
 fields-counted : (type : ℕ) (body : List ℕ)
     → srec_from_fields type (with_count_and_checksum body) ≡ typed_srec type body
@@ -118,17 +106,7 @@ record_with type addr row = Ok (record { type = type; address = addr; bytes = ro
 
 addressed-low : (type size addr : ℕ) (row : List ℕ) → addr < 256 ^ size
     → record_with_address type size (low_bytes size addr ++ row) ≡ record_with type addr row
-addressed-low type size addr row fits =
-    let len = length_low_bytes size addr in
-    let enough : nat_le size (length (low_bytes size addr ++ row)) ≡ true =
-    grind (arith, nat_tests, len, length-append (low_bytes size addr) row) in
-    ap (λ (b : Bool). if b then record_with type (number (take size (low_bytes size addr ++ row)))
-    (drop size (low_bytes size addr ++ row)) else Err Length) enough
-    ∙ ap (λ (prefix : List ℕ). record_with type (number prefix) (drop size (low_bytes size addr ++ row)))
-    (take_at (low_bytes size addr) row size len)
-    ∙ ap (λ (back : List ℕ). record_with type (number (low_bytes size addr)) back)
-    (drop_at (low_bytes size addr) row size len)
-    ∙ ap (λ (n : ℕ). record_with type n row) (number-low_bytes size addr fits)
+addressed-low type size addr row fits = grind (arith, nat_tests, length_low_bytes, nat_le, length-append, take_at, drop_at, number-low_bytes)
 
 meant-data : (size : AddressSize) (addr : ℕ) (row : List ℕ)
     → record_meaning Srec (record_with (bytes_of size - 1) addr row) ≡ Ok (Data addr row)
@@ -181,24 +159,8 @@ rows-go_on (row ∷ rows) = (tt, rows-go_on rows)
 pub rows-threaded : (rows : List (ℕ × List ℕ))
     → threaded (Linear 0) (then_end (map said_of rows)) ≡ flat_map places_of rows
 rows-threaded [] = refl
-rows-threaded (row ∷ rows) =
-    ap (λ (prefix : List (ℕ × ℕ)). prefix ++ threaded (Linear 0) (then_end (map said_of rows)))
-    (places-linear 0 row.0 row.0 row.1 (omega arith))
-    ∙ ap (λ (more : List (ℕ × ℕ)). places_of row ++ more) (rows-threaded rows)
+rows-threaded (row ∷ rows) = grind (arith, nat_tests, rows-threaded rows, threaded, then_end, places-linear)
 
 -- an address has as many bytes as it needs
 pub wide_enough : (last : ℕ) → last < 2 ^ 32 → last < 256 ^ bytes_of (address_size last)
-wide_enough last below =
-    elim (cases_lt last 65536) [
-      | inl two ↦ let short : nat_lt last 65536 ≡ true = grind (arith, nat_tests) in rw short two
-      | inr more ↦
-          let long : nat_lt last 65536 ≡ false = grind (arith, nat_tests) in
-          elim (cases_lt last 16777216) [
-            | inl three ↦
-                let short : nat_lt last 16777216 ≡ true = grind (arith, nat_tests) in
-                rw (long, short) three
-            | inr four ↦
-                let longer : nat_lt last 16777216 ≡ false = grind (arith, nat_tests) in
-                rw (long, longer) below
-          ]
-    ]
+wide_enough last below = grind (arith, nat_tests)

@@ -1,17 +1,12 @@
-use Rattle.std.proofs.Common.{◌≡◌, ◌∙◌, ap, sym, arith, ◌||◌, ◌<◌, ◌/◌, ℕ, get_or, length, refl, bit_or, Bool, set}
+use Rattle.std.proofs.Common.{rules, ◌≡◌, ◌∙◌, ap, arith, ◌||◌, ◌<◌, ◌/◌, ℕ, get_or, length, bit_or, Bool, set}
 use Rattle.std.proofs.lemmas.List.{length-set}
 use Rattle.avr_image.specs.Present.{is_present, is_within}
-use Rattle.avr_image.proofs.Fields.Masks.{span_word, spans_join, no_span}
+use Rattle.avr_image.proofs.Fields.Masks.{span_word, spans_join}
 use Rattle.avr_image.proofs.Fields.Shown.{same_default}
 use Rattle.avr_image.proofs.bits.mark_span.Goals as goal
 
 pub loop-at-init : goal.loop-at-init
-loop-at-init c = record {
-  after = omega arith;
-  within = c.requires.ordered;
-  len = refl;
-  marked = λ k. sym (no_span c.args.from k _);
-}
+loop-at-init c = search rules
 
 pub loop-at-preserved : goal.loop-at-preserved
 loop-at-preserved c =
@@ -36,7 +31,4 @@ loop-at-preserved c =
     }
 
 pub returns-clause-marked : goal.returns-clause-marked
-returns-clause-marked c = λ k.
-    let ended : c.loop-at.at ≡ c.args.end = omega (arith, c.loop-at.invariant.within, c.loop-at-test.false) in
-    c.loop-at.invariant.marked k ∙ ap (λ (n : ℕ). is_within c.args.from n k || is_present c.args.words.now.items k)
-    ended
+returns-clause-marked c = search rules

@@ -1,6 +1,7 @@
+use Rattle.std.proofs.lemmas.Bool.Decides.{nat_tests}
 use Rattle.std.proofs.Common.{◌≡◌, ◌<◌, ◌+◌, ◌-◌, ◌/◌, ◌^◌, ◌∙◌, arith, refl}
 use Rattle.std.proofs.lemmas.List.{length-set}
-use Rattle.avr_image.proofs.Texts.Digits.{none_written, more_written, all_written, digit_left, digit_more, eq_test, ne_test}
+use Rattle.avr_image.proofs.Texts.Digits.{none_written, more_written, digit_left, digit_more, ne_test}
 use Rattle.avr_image.proofs.digits.write_digits.Goals as goal
 
 pub loop-rest-init : goal.loop-rest-init
@@ -30,9 +31,4 @@ loop-rest-preserved c =
     }
 
 pub returns-then-rest-eq0-clause-written : goal.returns-then-rest-eq0-clause-written
-returns-then-rest-eq0-clause-written c =
-    let kept = c.loop-rest.invariant in
-    let next = c.loop-rest.at - 1 in
-    let step : c.loop-rest.at ≡ next + 1 = omega (arith, kept.some) in
-    all_written c.args.radix c.args.byte c.loop-rest.rest c.loop-rest.at next c.glyph.result c.loop-rest.buffer
-    kept.written step (omega (arith, kept.size, kept.bound, step)) c.glyph.ensures (eq_test _ 0 c.if-rest-eq0.true)
+returns-then-rest-eq0-clause-written c = grind (arith, nat_tests)

@@ -1,13 +1,10 @@
-use Rattle.std.proofs.Common.{◌∙◌, sym}
+use Rattle.std.proofs.lemmas.Bool.Decides.{nat_tests}
+use Rattle.std.proofs.Common.{arith}
 use Rattle.avr_records.proofs.Readers.FirstBytes.{blank-first, shown-first}
 use Rattle.avr_records.proofs.detection.first_shown.Goals as goal
 
 pub returns-in-Some-shown_unless_blank : goal.returns-in-Some-shown_unless_blank
-returns-in-Some-shown_unless_blank c =
-    let shown = c.in-Some-shown_unless_blank.ensures in
-    shown.1 ∙ sym (shown-first _ _ _ c.in-Some.ensures.0 c.in-Some.ensures.1 shown.0) ∙ c.loop-line.invariant
+returns-in-Some-shown_unless_blank c = grind (arith, nat_tests, shown-first)
 
 pub loop-line-preserved : goal.loop-line-preserved
-loop-line-preserved c =
-    sym (blank-first _ _ _ c.in-Some.ensures.0 c.in-Some.ensures.1 c.in_default-shown_unless_blank.ensures)
-    ∙ c.loop-line.invariant
+loop-line-preserved c = grind (arith, nat_tests, blank-first)

@@ -1,19 +1,12 @@
-use Rattle.std.proofs.Common.{◌≡◌, ◌+◌, ◌∙◌, ap, arith, refl, ◌∷◌, length}
+use Rattle.std.proofs.Common.{rules, ◌≡◌, arith, length}
 use Rattle.std.proofs.lemmas.Bool.Decides.{nat_tests}
 use Rattle.std.proofs.lemmas.List.{length-append}
 use Rattle.std.proofs.lemmas.Result.{err_from_is_err_and}
-use Rattle.avr_records.proofs.Readers.Fed.{no-base}
-use Rattle.avr_records.proofs.Readers.Extents.{left-lines, walk-start, walk-next, walk-ended, walk-fault, walk-last, walk-empty}
+use Rattle.avr_records.proofs.Readers.Extents.{left-lines, walk-next, walk-ended, walk-fault, walk-last, walk-empty}
 use Rattle.avr_records.proofs.needed.needed_size.Goals as goal
 
 pub loop-line-init : goal.loop-line-init
-loop-line-init c =
-    rw c.new-extent.ensures (record {
-      walked = walk-start _ _;
-      goes_on = refl;
-      range = record { base = no-base c.args.kind; counts = omega arith };
-      room = omega arith;
-    })
+loop-line-init c = search rules
 
 pub returns-in_err-take_line-clause-size : goal.returns-in_err-take_line-clause-size
 returns-in_err-take_line-clause-size c short =
@@ -30,17 +23,7 @@ returns-then-extent-clause-size c short =
     c.in_ok-take_line.ensures.step.0)
 
 pub loop-line-preserved : goal.loop-line-preserved
-loop-line-preserved c =
-    let kept = c.loop-line.invariant in
-    let len : length c.loop-line.rest.now ≡ length c.in-Some.line.now + (length c.in-Some.more.now + 1) =
-    ap length c.in-Some.ensures.1 ∙ length-append c.in-Some.line.now (10 ∷ c.in-Some.more.now) ∙ omega arith in
-    record {
-      walked = walk-next _ _ _ _ _ _ _ (left-lines _ _ _ c.in-Some.ensures.0 c.in-Some.ensures.1) kept.goes_on
-          kept.walked c.in_ok-take_line.ensures.step.0;
-      goes_on = c.if-extent.false;
-      range = c.in_ok-take_line.ensures.range;
-      room = omega (arith, len, kept.room, c.in_ok-take_line.ensures.lines);
-    }
+loop-line-preserved c = grind (arith, nat_tests, length-append, walk-next, left-lines)
 
 pub returns-then-is_empty-clause-size : goal.returns-then-is_empty-clause-size
 returns-then-is_empty-clause-size c short =

@@ -1,4 +1,5 @@
-use Rattle.std.proofs.Common.{◌∙◌, arith, length}
+use Rattle.std.proofs.lemmas.Bool.Decides.{nat_tests}
+use Rattle.std.proofs.Common.{◌∙◌, arith}
 use Rattle.avr_records_c.proofs.Maps.{bitmap_is}
 use Rattle.avr_records_c.proofs.bitmap.put_bitmap.Goals as goal
 
@@ -6,5 +7,4 @@ pub returns : goal.returns
 returns c =
     let kept = c.loop-next.invariant in
     let size = kept.same_length ∙ c.fill.ensures.len in
-    bitmap_is c.args.image.now (length c.args.present.now) _ size
-    (λ i l. kept.before i (omega (arith, l, size, c.loop-next-test.false)))
+    grind (arith, nat_tests, bitmap_is)

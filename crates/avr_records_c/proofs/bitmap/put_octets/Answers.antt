@@ -1,3 +1,4 @@
+use Rattle.std.proofs.lemmas.Bool.Decides.{nat_tests}
 use Rattle.std.proofs.Common.{◌≡◌, ◌∙◌, sym, arith, ◌*◌, ◌/◌, inl, inr}
 use Rattle.std.proofs.lemmas.Bool.{cases_lt}
 use Rattle.std.proofs.lemmas.List.{get_or-set_same, get_or-set_other}
@@ -49,9 +50,7 @@ returns-then-first-end-clause-put c =
 pub returns-then-first-end-clause-zeros : goal.returns-then-first-end-clause-zeros
 returns-then-first-end-clause-zeros c =
     let next = next_held c.args.image.now (c.args.from * 8) c.in-Some.addr (sym c.first_from.ensures ∙ c.in-Some.is) in
-    λ i behind.
-    c.fill_octets.ensures.above i behind
-    ∙ c.requires.zeros i (omega (arith, behind, next.after, c.if-first-end.true))
+    grind (arith, nat_tests)
 
 pub returns-clause-after : goal.returns-clause-after
 returns-clause-after c =
@@ -61,8 +60,7 @@ returns-clause-after c =
 pub returns-clause-below : goal.returns-clause-below
 returns-clause-below c =
     let next = next_held c.args.image.now (c.args.from * 8) c.in-Some.addr (sym c.first_from.ensures ∙ c.in-Some.is) in
-    λ i before.
-    get_or-set_other c.args.present.now (c.in-Some.addr / 8) i c.octet.result 0 (omega (arith, before, next.after))
+    grind (arith, nat_tests, get_or-set_other)
 
 pub returns-clause-put : goal.returns-clause-put
 returns-clause-put c =
@@ -84,6 +82,4 @@ returns-clause-put c =
 pub returns-clause-zeros : goal.returns-clause-zeros
 returns-clause-zeros c =
     let next = next_held c.args.image.now (c.args.from * 8) c.in-Some.addr (sym c.first_from.ensures ∙ c.in-Some.is) in
-    λ i behind.
-    get_or-set_other c.args.present.now (c.in-Some.addr / 8) i c.octet.result 0 (omega (arith, behind))
-    ∙ c.requires.zeros i (omega (arith, behind, next.after))
+    grind (arith, nat_tests, get_or-set_other)

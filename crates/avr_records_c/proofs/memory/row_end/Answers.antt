@@ -1,4 +1,5 @@
-use Rattle.std.proofs.Common.{◌∙◌, sym, arith, ◌<◌, length, inl, inr}
+use Rattle.std.proofs.lemmas.Bool.Decides.{nat_tests}
+use Rattle.std.proofs.Common.{◌∙◌, sym, arith, ◌<◌, length}
 use Rattle.std.proofs.lemmas.Bool.{cases_lt}
 use Rattle.avr_records_c.proofs.Walks.{run-there, run-gap, run-past}
 use Rattle.avr_records_c.proofs.memory.row_end.Goals as goal
@@ -27,10 +28,4 @@ returns-else-is_there c =
 
 pub returns-after-row : goal.returns-after-row
 returns-after-row c =
-    let kept = c.row.invariant in elim (cases_lt c.row.end (length c.args.bytes.now)) [
-      | inl inside ↦
-          omega (arith, kept.run, kept.rises, kept.bound, c.min.ensures, c.row-test.false, c.requires.inside, inside)
-      | inr past ↦
-          let over = run-past c.row.end c.args.present.now c.args.bytes.now past in
-          omega (arith, kept.run, kept.rises, kept.bound, c.min.ensures, over)
-    ]
+    let kept = c.row.invariant in grind (arith, nat_tests, cases_lt, run-past)

@@ -1,3 +1,4 @@
+use Rattle.std.proofs.lemmas.Bool.Decides.{nat_tests}
 use Rattle.std.proofs.Common.{◌≡◌, ◌∙◌, sym, ap, arith, ℕ, ◌+◌, ◌-◌, ◌≤◌, List, ◌++◌, length, drop}
 use Rattle.std.proofs.lemmas.List.{length-drop}
 use Rattle.avr_records.specs.Writing.{left}
@@ -21,18 +22,7 @@ returns-then-gone-count-clause-put c =
     let moved : IsPut text (drop (c.lines.gone + count) whole) c.args.room.now (c.lines.put + count) after =
     more-put text whole c.args.room.now c.lines.room after c.lines.put c.lines.gone count next kept.so_far
     c.put_part-count.ensures.count c.put_part-count.ensures.room in
-    all-put text (drop (c.lines.gone + count) whole) c.args.room.now after (c.lines.put + count) moved
-    (omega (
-      arith,
-      c.put_part-count.ensures.count,
-      length-drop c.lines.gone line,
-      c.if-gone-count.true,
-      c.len.ensures.value,
-      ap length c.as_slice.ensures.value,
-      room-length kept.so_far,
-      moved.most,
-      moved.fits,
-    ))
+    grind (arith, nat_tests, all-put, length-drop, room-length)
 
 pub lines-preserved : goal.lines-preserved
 lines-preserved c =

@@ -1,15 +1,11 @@
-use Rattle.std.proofs.Common.{ap, subst}
+use Rattle.std.proofs.lemmas.Bool.Decides.{nat_tests}
+use Rattle.std.proofs.Common.{arith, subst}
 use Rattle.avr_desk.proofs.Desks.Writers.{took_prefix}
 use Rattle.avr_desk.proofs.Desks.TwoWriters.{from_inside, out_true}
-use Rattle.avr_desk.specs.Shown.{AppendsPrefix}
 use Rattle.avr_desk.proofs.system.SystemDeskDesk.out.Goals as goal
 
 pub returns-in-Err-clause-output : goal.returns-in-Err-clause-output
-returns-in-Err-clause-output g c = subst
-    (λ (w : g.row.O.Denot). AppendsPrefix (g.O.Write.contents w) (g.O.Write.contents c.write_through.new.to)
-    c.args.bytes.now) (ap (λ d. d.output) c.self.view_is)
-    (took_prefix (g.O.Write.contents c.self.inside.output) (g.O.Write.contents c.write_through.new.to)
-    c.in-Err.ensures.taken.0 c.args.bytes.now c.in-Err.ensures.taken.2.1)
+returns-in-Err-clause-output g c = grind (arith, nat_tests, subst, took_prefix)
 
 pub returns-in-Err-clause-stays : goal.returns-in-Err-clause-stays
 returns-in-Err-clause-stays g c = from_inside _ _ _ _ _ _ c.self.view_is

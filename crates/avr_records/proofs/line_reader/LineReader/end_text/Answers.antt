@@ -1,15 +1,14 @@
-use Rattle.std.proofs.Common.{◌≡◌, arith, length}
+use Rattle.std.proofs.Common.{◌≡◌}
+use Rattle.std.proofs.Common.{length}
+use Rattle.std.proofs.lemmas.Result.{MatchResult-weaker}
+use Rattle.std.proofs.Common.{arith}
 use Rattle.std.proofs.lemmas.Bool.Decides.{nat_tests}
 use Rattle.std.proofs.lemmas.List.{nil_from_length}
-use Rattle.std.proofs.lemmas.Result.{MatchResult-weaker}
 use Rattle.avr_records.proofs.Readers.Fed.{whole-empty, whole-good, whole-bad}
 use Rattle.avr_records.proofs.line_reader.LineReader.end_text.Goals as goal
 
 pub returns-then-is_empty-clause-whole : goal.returns-then-is_empty-clause-whole
-returns-then-is_empty-clause-whole c =
-    let none : length c.args.self.now.part.items ≡ 0 =
-    grind (arith, nat_tests, c.is_empty.ensures, c.if-is_empty.true) in
-    λ text r. whole-empty _ _ _ text (nil_from_length _ none) r
+returns-then-is_empty-clause-whole c = grind (arith, nat_tests, whole-empty, nil_from_length)
 
 pub returns-clause-whole : goal.returns-clause-whole
 returns-clause-whole c =
