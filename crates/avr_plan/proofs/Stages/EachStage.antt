@@ -1,5 +1,4 @@
--- What holds of each stage of planning, and of two stages in a row, holds of planning. It may name the files that a
--- stage reads.
+-- Lifts a fact about single stages of planning to the whole of it. The fact may name the files that a stage reads.
 use Rattle.std.proofs.Common.{ℕ, List, [], ◌∷◌, ◌++◌, append-nil, subst, Bool, true, false, Option, Some, None, Result, Ok, Err, if◌then◌else◌}
 use Rattle.avr_cli.specs.declared.settings.Settings.{Settings}
 use Rattle.avr_cli.specs.declared.settings.Switches.{Switches}
