@@ -12,7 +12,7 @@ use Rattle.stk_host.proofs.Tapes.Answers.{bytes_of_append, bytes_of_on_tape}
 use Rattle.stk_emu.specs.Programmer.{Programmer}
 use Rattle.stk_emu.specs.Emulator.{Machine, emulate}
 use Rattle.avr_emulator.specs.declared.serving.Served.{Served}
-use Rattle.avr_emulator.specs.declared.serving.Served.TheVariants.{Ended, RecvFailed, SendFailed, TooManyReads}
+use Rattle.avr_emulator.specs.declared.serving.Served.TheVariants.{Ended, SendFailed, TooManyReads}
 use Rattle.avr_emulator.specs.Serving.{HasNoEnd, HearsUntil, AnswersInTurn, AnswersAll, BreaksOff, ServingLeaves, Serves, FailsBy}
 use Rattle.avr_emulator.specs.Replying.{Replies, RepliesPart}
 use Rattle.avr_emulator.proofs.Talks.{no_end_append, no_end_on_tape, reads_append, reads_quiet, in_turn_quiet, in_turn_append}
@@ -43,12 +43,10 @@ breaks_talk p text x y mid now first then =
 leaves_more : (served : Served) (p : Programmer) (text : List ℕ) (x y : Talk) (mid now : Machine)
     → AnswersAll p text (bytes_of (heard_in x)) (sent x) mid
     → ServingLeaves served p (text ++ bytes_of (heard_in x)) y now → ServingLeaves served p text (x ++ y) now
-leaves_more Ended p text x y mid now first then = all_talk p text x y mid now first then
-leaves_more RecvFailed p text x y mid now first then = all_talk p text x y mid now first then
 leaves_more SendFailed p text x y mid now first then =
     let b = breaks_talk p text x y mid now first then.1 in
     (breaks_prefix p text (bytes_of (heard_in (x ++ y))) (sent (x ++ y)) now b, b)
-leaves_more TooManyReads p text x y mid now first then = all_talk p text x y mid now first then
+leaves_more served p text x y mid now first then = all_talk p text x y mid now first then
 
 no_end_both : (x y : Talk) → HasNoEnd (heard_in x) → HasNoEnd (heard_in y) → HasNoEnd (heard_in (x ++ y))
 no_end_both x y f g = subst HasNoEnd (sym (heard_append x y)) (no_end_append (heard_in x) (heard_in y) f g)
@@ -62,11 +60,7 @@ hears_more Ended turns x y first then = (
   heard_append x y ∙ (ap (λ t. heard_in x ++ t) then.2 ∙ sym (append_assoc (heard_in x) then.0 (End ∷ []))),
   omega (arith, reads_append x y, first.1, then.3),
 )
-hears_more RecvFailed turns x y first then =
-    (no_end_both x y first.0 then.0, omega (arith, reads_append x y, first.1, then.1))
-hears_more SendFailed turns x y first then =
-    (no_end_both x y first.0 then.0, omega (arith, reads_append x y, first.1, then.1))
-hears_more TooManyReads turns x y first then =
+hears_more served turns x y first then =
     (no_end_both x y first.0 then.0, omega (arith, reads_append x y, first.1, then.1))
 
 pub serves_none : (machine : Machine) (o : LinkView) → Serves machine 0 TooManyReads o o machine
@@ -100,9 +94,8 @@ serves_more served turns old mid now a b c first then = record {
 hears_within : (served : Served) (few many : ℕ) (talk : Talk) → served ≢ TooManyReads → few ≤ many
     → HearsUntil served few talk → HearsUntil served many talk
 hears_within Ended few many talk other le h = (h.0, h.1, h.2, omega (arith, h.3))
-hears_within RecvFailed few many talk other le h = (h.0, omega (arith, h.1))
-hears_within SendFailed few many talk other le h = (h.0, omega (arith, h.1))
 hears_within TooManyReads few many talk other le h = absurd (other refl)
+hears_within served few many talk other le h = (h.0, omega (arith, h.1))
 
 pub serves_within : (served : Served) (few many : ℕ) (old now : Machine) (a b : LinkView) → served ≢ TooManyReads
     → few ≤ many → Serves old few served a b now → Serves old many served a b now
@@ -117,9 +110,8 @@ serves_within served few many old now a b other le s = record {
 pub fails_more : (served : Served) (a b c : LinkView) → b.failures ≡ a.failures → FailsBy served b c
     → FailsBy served a c
 fails_more Ended a b c same f = f ∙ same
-fails_more RecvFailed a b c same f = subst (λ n. HasRisen n c.failures) same f
-fails_more SendFailed a b c same f = subst (λ n. HasRisen n c.failures) same f
 fails_more TooManyReads a b c same f = f ∙ same
+fails_more served a b c same f = subst (λ n. HasRisen n c.failures) same f
 
 -- what one read comes to
 

@@ -169,22 +169,18 @@ module _ (r : Record) (k l m n status : ℕ) where
       (λ back is. let e : ◌≡◌ {A = ℕ} 111 120 = is in omega (arith, e)) failure.tells
 
   -- the line of another file, whatever failed
-  other_line : Told (not_opened_line other) → ⊥
-  other_line failure =
+  another_file : Ends (not_opened_line other) → ⊥
+  another_file ends =
+      let failure = told_by (not_opened_line other) ends in
       differs 15 (not_opened_line file) (not_opened_line other) failure.between (showing r l n)
       (λ back is. let e : ◌≡◌ {A = ℕ} 121 120 = is in omega (arith, e)) failure.tells
 
-  another_file : Ends (not_opened_line other) → ⊥
-  another_file ends = other_line (told_by (not_opened_line other) ends)
-
   -- a second line after its own
-  two_lines : Told (not_opened_line file ++ memory_line) → ⊥
-  two_lines failure =
+  second_line : Ends (not_opened_line file ++ memory_line) → ⊥
+  second_line ends =
+      let failure = told_by (not_opened_line file ++ memory_line) ends in
       differs 39 (not_opened_line file) (not_opened_line file ++ memory_line) failure.between (showing r l n)
       (λ back is. let e : ◌≡◌ {A = ℕ} 97 0 = is in omega (arith, e)) failure.tells
-
-  second_line : Ends (not_opened_line file ++ memory_line) → ⊥
-  second_line ends = two_lines (told_by (not_opened_line file ++ memory_line) ends)
 
   -- half of its line, though the desk failed once, and so at the file
   half_told : (count unsaid : ℕ) → l ≡ k + 1 → l < 2 ^ 64 - 1 → k ≤ count → count ≤ l → HasRisen k count
@@ -195,25 +191,22 @@ module _ (r : Record) (k l m n status : ℕ) where
   half_told count unsaid one few since until rose (inr (part, (again, quiet))) =
       omega (arith, one, few, until, rose, again)
 
-  half_of_it : l ≡ k + 1 → l < 2 ^ 64 - 1 → Told half → ⊥
-  half_of_it one few failure =
+  half_a_line : l ≡ k + 1 → l < 2 ^ 64 - 1 → Ends half → ⊥
+  half_a_line one few ends =
+      let failure = told_by half ends in
       half_told failure.between.failures failure.between.unsaid one few failure.since.0 failure.until.0 failure.failed.0
       failure.tells
 
-  half_a_line : l ≡ k + 1 → l < 2 ^ 64 - 1 → Ends half → ⊥
-  half_a_line one few ends = half_of_it one few (told_by half ends)
-
   -- silence, where the desk has not failed
-  nothing_told : HasStood k l → Told [] → ⊥
-  nothing_told sound failure = stood_has_not_risen k k failure.between.failures l (omega arith) failure.until.0
-      sound failure.failed.0
+  told_silence : Goes (AtUpdate wanted) (planned wanted) (showing r k m) (showing r l n) (Err status) → Told []
+  told_silence ends = told_by []
+      (subst (λ x. Goes (AtUpdate wanted) (planned wanted) (showing r k m) (showing x l n) (Err status))
+      (ap (λ bytes. record r { messages = bytes }) (sym (append-nil r.messages))) ends)
 
   silence : HasStood k l → Goes (AtUpdate wanted) (planned wanted) (showing r k m) (showing r l n) (Err status) → ⊥
   silence sound ends =
-      let same : after_err [] r ≡ r = ap (λ bytes. record r { messages = bytes }) (append-nil r.messages) in
-      nothing_told sound (told_by []
-      (subst (λ x. Goes (AtUpdate wanted) (planned wanted) (showing r k m) (showing x l n) (Err status)) (sym same)
-      ends))
+      let failure = told_silence ends in
+      stood_has_not_risen k k failure.between.failures l (omega arith) failure.until.0 sound failure.failed.0
 
   -- silence, or half of its line, where no write to the messages has failed, however often files have
   told_whole : (told : Bytes) → HasStood m n → Told told → told ≡ not_opened_line file
@@ -229,11 +222,7 @@ module _ (r : Record) (k l m n status : ℕ) where
 
   silence_behind_a_file : HasStood m n → Goes (AtUpdate wanted) (planned wanted) (showing r k m) (showing r l n)
       (Err status) → ⊥
-  silence_behind_a_file sound ends =
-      let same : after_err [] r ≡ r = ap (λ bytes. record r { messages = bytes }) (append-nil r.messages) in
-      nothing_of_it (told_whole [] sound (told_by []
-      (subst (λ x. Goes (AtUpdate wanted) (planned wanted) (showing r k m) (showing x l n) (Err status)) (sym same)
-      ends)))
+  silence_behind_a_file sound ends = nothing_of_it (told_whole [] sound (told_silence ends))
 
   half_is_not_whole : half ≡ not_opened_line file → ⊥
   half_is_not_whole whole = let e : ◌≡◌ {A = ℕ} 0 101 = ap (λ (bytes : Bytes). get_or bytes 30 0) whole in

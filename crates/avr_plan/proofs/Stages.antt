@@ -5,5 +5,6 @@ pub mod Parts
 pub mod Values
 pub mod Tasks
 pub mod Plans
+pub mod EachStage
 pub mod OnlyReading
 pub mod FilesRead

@@ -8,7 +8,7 @@ use Rattle.avr_cli.specs.declared.update.Op.TheVariants as op
 use Rattle.avr_cli.specs.declared.update.Update.{Update}
 use Rattle.avr_desk.specs.Memory.{Stock, stood_for}
 use Rattle.avr_desk.specs.Record.{Bytes}
-use Rattle.avr_desk.specs.Said.{Saying, Opens, Line, Creates, Writes, Outs}
+use Rattle.avr_desk.specs.Said.{Saying, Opens, Line}
 use Rattle.avr_desk.specs.Stage.{StageResult}
 use Rattle.avr_desk.specs.Truth.{IsTrueOpening}
 use Rattle.avr_desk.specs.declared.record.Opening.{Opening}
@@ -60,7 +60,4 @@ lines_in (saying ∷ sayings) = lines_in sayings
 abbrev pub AreSeen : Stock → List Saying → Type 0
 AreSeen stock [] = Unit {0}
 AreSeen stock (Opens opening ∷ sayings) = IsTrueOpening stock [] opening × AreSeen stock sayings
-AreSeen stock (Line bytes ∷ sayings) = AreSeen stock sayings
-AreSeen stock (Creates name ∷ sayings) = AreSeen stock sayings
-AreSeen stock (Writes bytes ∷ sayings) = AreSeen stock sayings
-AreSeen stock (Outs bytes ∷ sayings) = AreSeen stock sayings
+AreSeen stock (saying ∷ sayings) = AreSeen stock sayings

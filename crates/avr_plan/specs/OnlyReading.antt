@@ -1,11 +1,9 @@
 -- Output events that only open files for reading and print lines. Nothing is created, written or output.
 use Rattle.std.specs.Prelude.{List, [], ◌∷◌}
-use Rattle.avr_desk.specs.Said.{Saying, Opens, Line, Creates, Writes, Outs}
+use Rattle.avr_desk.specs.Said.{Saying, Opens, Line}
 
 abbrev pub OnlyReads : List Saying → Type 0
 OnlyReads [] = Unit {0}
 OnlyReads (Opens opening ∷ sayings) = OnlyReads sayings
 OnlyReads (Line bytes ∷ sayings) = OnlyReads sayings
-OnlyReads (Creates name ∷ sayings) = ⊥
-OnlyReads (Writes bytes ∷ sayings) = ⊥
-OnlyReads (Outs bytes ∷ sayings) = ⊥
+OnlyReads (saying ∷ sayings) = ⊥

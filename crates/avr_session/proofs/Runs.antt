@@ -3,4 +3,3 @@ pub mod Stops
 pub mod Calls
 pub mod Outcomes
 pub mod SoundDevices
-pub mod OneFailure

@@ -1,25 +1,20 @@
 -- Laws of the cutting.
 use Rattle.std.proofs.Common.{◌≡◌, ℕ, zero, suc, ◌-◌, ◌<◌, ◌≤◌, List, [], ◌∷◌, ◌++◌, length, take, drop, refl, sym, ap, ◌∙◌, subst, append_assoc, arith, true, false, cond, length-append, inl, inr}
-use Rattle.std.proofs.lemmas.Bool.{leb-true, leb-false, le-leb, cases_Bool, false≢true, cond-true, cond-false}
+use Rattle.std.proofs.lemmas.Bool.{leb-true, leb-false, le-leb, cases_Bool, false≢true, cond-true}
 use Rattle.std.proofs.lemmas.Bool.Decides.{nat_tests}
-use Rattle.std.proofs.lemmas.List.{take-append-le, take-append-drop, length-take-le}
-use Rattle.std.proofs.lemmas.List.Elements.{All-nil, All-cons, All-same}
+use Rattle.std.proofs.lemmas.List.{take-append-le, drop-append-le, take-append-drop, length-take-le}
+use Rattle.std.proofs.lemmas.List.Elements.{All-nil, All-cons}
 use Rattle.std.specs.List.{concat}
 use Rattle.std.specs.Prelude.{◌==◌, All}
 use Rattle.stk_frame.specs.Cut.{cut, rest, cut_behind, rest_behind, piece_size, has_piece, IsPiece, Cuts}
 
 -- what stands in front is only counted
-pub cut_behind_is : (taken : ℕ) (bytes : List ℕ) → cut_behind taken bytes ≡ cut (drop taken bytes)
-cut_behind_is zero [] = refl
-cut_behind_is (suc taken) [] = refl
-cut_behind_is zero (b ∷ bs) = refl
-cut_behind_is (suc taken) (b ∷ bs) = cut_behind_is taken bs
-
-pub rest_behind_is : (taken : ℕ) (bytes : List ℕ) → rest_behind taken bytes ≡ rest (drop taken bytes)
-rest_behind_is zero [] = refl
-rest_behind_is (suc taken) [] = refl
-rest_behind_is zero (b ∷ bs) = refl
-rest_behind_is (suc taken) (b ∷ bs) = rest_behind_is taken bs
+behind_is : (taken : ℕ) (bytes : List ℕ)
+    → (cut_behind taken bytes ≡ cut (drop taken bytes)) × (rest_behind taken bytes ≡ rest (drop taken bytes))
+behind_is zero [] = (refl, refl)
+behind_is (suc taken) [] = (refl, refl)
+behind_is zero (b ∷ bs) = (refl, refl)
+behind_is (suc taken) (b ∷ bs) = behind_is taken bs
 
 start_only : (a : ℕ) (y : List ℕ) → (a == 27) ≡ false → piece_size (a ∷ y) ≡ 1
 start_only a [] e = rw e refl
@@ -64,13 +59,13 @@ cut_piece [] whole = absurd (false≢true whole)
 cut_piece (b ∷ bs) whole =
     cond-true (has_piece (b ∷ bs)) _ _ whole
     ∙ ap (λ pieces. take (piece_size (b ∷ bs)) (b ∷ bs) ∷ pieces)
-    (cut_behind_is (piece_size (b ∷ bs) - 1) bs ∙ ap cut (drop_one (piece_size (b ∷ bs)) b bs (size_positive (b ∷ bs))))
+    ((behind_is (piece_size (b ∷ bs) - 1) bs).0 ∙ ap cut (drop_one (piece_size (b ∷ bs)) b bs (size_positive (b ∷ bs))))
 
 pub rest_piece : (bytes : List ℕ) → has_piece bytes ≡ true → rest bytes ≡ rest (drop (piece_size bytes) bytes)
 rest_piece [] whole = absurd (false≢true whole)
 rest_piece (b ∷ bs) whole =
     cond-true (has_piece (b ∷ bs)) _ _ whole
-    ∙ (rest_behind_is (piece_size (b ∷ bs) - 1) bs
+    ∙ ((behind_is (piece_size (b ∷ bs) - 1) bs).1
     ∙ ap rest (drop_one (piece_size (b ∷ bs)) b bs (size_positive (b ∷ bs))))
 
 -- no piece in front
@@ -87,71 +82,45 @@ stays_whole x y whole =
     let le : piece_size x ≤ length x = leb-true (piece_size x) (length x) whole in
     le-leb (piece_size (x ++ y)) (length (x ++ y)) (rw (size_stays x y le, length-append) (omega arith))
 
+-- induction over the pieces: bytes with no whole piece in front, and the step over one
+module _ (P : List ℕ → Type 0) (none : (x : List ℕ) → has_piece x ≡ false → P x)
+    (more : (x : List ℕ) → has_piece x ≡ true → P (drop (piece_size x) x) → P x) where
+  by_pieces_behind : (n : ℕ) (x : List ℕ) → P (drop n x)
+  by_pieces_behind zero [] = none [] refl
+  by_pieces_behind (suc n) [] = none [] refl
+  by_pieces_behind (suc n) (b ∷ x) = by_pieces_behind n x
+  by_pieces_behind zero (b ∷ x) = elim (cases_Bool (has_piece (b ∷ x))) [
+    | inl whole ↦ more (b ∷ x) whole (subst P (drop_one (piece_size (b ∷ x)) b x (size_positive (b ∷ x)))
+        (by_pieces_behind (piece_size (b ∷ x) - 1) x))
+    | inr part ↦ none (b ∷ x) part
+  ]
+
+  by_pieces : (x : List ℕ) → P x
+  by_pieces x = by_pieces_behind 0 x
+
+fits : (x : List ℕ) → has_piece x ≡ true → piece_size x ≤ length x
+fits x whole = leb-true (piece_size x) (length x) whole
+
 -- bytes are cut as their prefix is, and then what it leaves with the bytes after
-behind_append : (n : ℕ) (x y : List ℕ) → n ≤ length x
-    → cut_behind n (x ++ y) ≡ cut_behind n x ++ cut (rest_behind n x ++ y)
-behind_append zero [] y le = refl
-behind_append (suc n) [] y le = absurd (omega arith)
-behind_append (suc n) (b ∷ x) y le = behind_append n x y (omega arith)
-behind_append zero (b ∷ x) y le = elim (cases_Bool (has_piece (b ∷ x))) [
-  | inl whole ↦
-      let fits : piece_size (b ∷ x) ≤ length (b ∷ x) = leb-true (piece_size (b ∷ x)) (length (b ∷ x)) whole in
-      let size : piece_size ((b ∷ x) ++ y) ≡ piece_size (b ∷ x) = size_stays (b ∷ x) y fits in
-      cond-true (has_piece ((b ∷ x) ++ y)) _ _ (stays_whole (b ∷ x) y whole)
-      ∙ (ap (λ n. take n (b ∷ (x ++ y)) ∷ cut_behind (n - 1) (x ++ y)) size
-      ∙ (ap (λ p. p ∷ cut_behind (piece_size (b ∷ x) - 1) (x ++ y)) (take-append-le (piece_size (b ∷ x)) (b ∷ x) y fits)
-      ∙ (ap (λ ps. take (piece_size (b ∷ x)) (b ∷ x) ∷ ps) (behind_append (piece_size (b ∷ x) - 1) x y (omega arith))
-      ∙ (ap (λ ps. ps ++ cut (rest_behind (piece_size (b ∷ x) - 1) x ++ y))
-      (sym (cond-true (has_piece (b ∷ x)) _ [] whole))
-      ∙ ap (λ r. cut_behind 0 (b ∷ x) ++ cut (r ++ y))
-      (sym (cond-true (has_piece (b ∷ x)) (rest_behind (piece_size (b ∷ x) - 1) x) (b ∷ x) whole))))))
-  | inr part ↦ rw part refl
-]
-
 pub cut_append : (x y : List ℕ) → cut (x ++ y) ≡ cut x ++ cut (rest x ++ y)
-cut_append x y = behind_append 0 x y (omega arith)
-
-rest_behind_append : (n : ℕ) (x y : List ℕ) → n ≤ length x → rest_behind n (x ++ y) ≡ rest (rest_behind n x ++ y)
-rest_behind_append zero [] y le = refl
-rest_behind_append (suc n) [] y le = absurd (omega arith)
-rest_behind_append (suc n) (b ∷ x) y le = rest_behind_append n x y (omega arith)
-rest_behind_append zero (b ∷ x) y le = elim (cases_Bool (has_piece (b ∷ x))) [
-  | inl whole ↦
-      let fits : piece_size (b ∷ x) ≤ length (b ∷ x) = leb-true (piece_size (b ∷ x)) (length (b ∷ x)) whole in
-      let size : piece_size ((b ∷ x) ++ y) ≡ piece_size (b ∷ x) = size_stays (b ∷ x) y fits in
-      cond-true (has_piece ((b ∷ x) ++ y)) _ _ (stays_whole (b ∷ x) y whole)
-      ∙ (ap (λ n. rest_behind (n - 1) (x ++ y)) size
-      ∙ (rest_behind_append (piece_size (b ∷ x) - 1) x y (omega arith)
-      ∙ ap (λ r. rest (r ++ y)) (sym (cond-true (has_piece (b ∷ x)) (rest_behind (piece_size (b ∷ x) - 1) x) (b ∷ x)
-      whole))))
-  | inr part ↦ rw part refl
-]
+cut_append x y = by_pieces (λ x. cut (x ++ y) ≡ cut x ++ cut (rest x ++ y))
+    (λ x part. rw (cut_none x part, rest_none x part) refl)
+    (λ x whole inner.
+    cut_piece (x ++ y) (stays_whole x y whole)
+    ∙ rw (size_stays x y (fits x whole), take-append-le (piece_size x) x y (fits x whole))
+    (rw (drop-append-le (piece_size x) x y (fits x whole), cut_piece x whole, rest_piece x whole)
+    (ap (λ ps. take (piece_size x) x ∷ ps) inner))) x
 
 pub rest_append : (x y : List ℕ) → rest (x ++ y) ≡ rest (rest x ++ y)
-rest_append x y = rest_behind_append 0 x y (omega arith)
+rest_append x y = by_pieces (λ x. rest (x ++ y) ≡ rest (rest x ++ y)) (λ x part. rw (rest_none x part) refl)
+    (λ x whole inner.
+    rest_piece (x ++ y) (stays_whole x y whole)
+    ∙ rw (size_stays x y (fits x whole), drop-append-le (piece_size x) x y (fits x whole), rest_piece x whole) inner) x
 
 -- the pieces and what is left are the bytes
-joined_behind : (n : ℕ) (x : List ℕ) → n ≤ length x → concat (cut_behind n x) ++ rest_behind n x ≡ drop n x
-joined_behind zero [] le = refl
-joined_behind (suc n) [] le = absurd (omega arith)
-joined_behind (suc n) (b ∷ x) le = joined_behind n x (omega arith)
-joined_behind zero (b ∷ x) le = elim (cases_Bool (has_piece (b ∷ x))) [
-  | inl whole ↦
-      let fits : piece_size (b ∷ x) ≤ length (b ∷ x) = leb-true (piece_size (b ∷ x)) (length (b ∷ x)) whole in
-      ap (λ ps. concat ps ++ rest_behind 0 (b ∷ x)) (cond-true (has_piece (b ∷ x)) _ _ whole)
-      ∙ (ap (λ r. (take (piece_size (b ∷ x)) (b ∷ x) ++ concat (cut_behind (piece_size (b ∷ x) - 1) x)) ++ r)
-      (cond-true (has_piece (b ∷ x)) (rest_behind (piece_size (b ∷ x) - 1) x) (b ∷ x) whole)
-      ∙ (append_assoc (take (piece_size (b ∷ x)) (b ∷ x)) (concat (cut_behind (piece_size (b ∷ x) - 1) x))
-      (rest_behind (piece_size (b ∷ x) - 1) x)
-      ∙ (ap (λ y. take (piece_size (b ∷ x)) (b ∷ x) ++ y)
-      (joined_behind (piece_size (b ∷ x) - 1) x (omega arith)
-      ∙ drop_one (piece_size (b ∷ x)) b x (size_positive (b ∷ x)))
-      ∙ take-append-drop (piece_size (b ∷ x)) (b ∷ x))))
-  | inr part ↦ rw part refl
-]
-
 pub cut_joined : (x : List ℕ) → concat (cut x) ++ rest x ≡ x
-cut_joined x = joined_behind 0 x (omega arith)
+cut_joined = by_pieces (λ x. concat (cut x) ++ rest x ≡ x) (λ x part. rw (cut_none x part, rest_none x part) refl)
+    (λ x whole inner. rw (cut_piece x whole, rest_piece x whole, append_assoc, inner) (take-append-drop (piece_size x) x))
 
 -- a piece taken off has its own size
 one_taken : (a : ℕ) (y : List ℕ) → (a == 27) ≡ false
@@ -174,33 +143,16 @@ taken_size (a ∷ b ∷ c ∷ d ∷ e ∷ more) whole = elim (cases_Bool (a == 2
   | inr other ↦ one_taken a (b ∷ c ∷ d ∷ e ∷ more) other
 ]
 
-pub pieces_whole : (n : ℕ) (x : List ℕ) → All IsPiece (cut_behind n x)
-pieces_whole zero [] = All-nil IsPiece
-pieces_whole (suc n) [] = All-nil IsPiece
-pieces_whole (suc n) (b ∷ x) = pieces_whole n x
-pieces_whole zero (b ∷ x) = elim (cases_Bool (has_piece (b ∷ x))) [
-  | inl whole ↦
-      let fits : piece_size (b ∷ x) ≤ length (b ∷ x) = leb-true (piece_size (b ∷ x)) (length (b ∷ x)) whole in
-      All-same IsPiece (cut_behind 0 (b ∷ x)) (take (piece_size (b ∷ x)) (b ∷ x)
-      ∷ cut_behind (piece_size (b ∷ x) - 1) x) (cond-true (has_piece (b ∷ x)) _ _ whole)
-      (All-cons IsPiece (take (piece_size (b ∷ x)) (b ∷ x)) (cut_behind (piece_size (b ∷ x) - 1) x)
-      (taken_size (b ∷ x) fits ∙ sym (length-take-le (piece_size (b ∷ x)) (b ∷ x) fits))
-      (pieces_whole (piece_size (b ∷ x) - 1) x))
-  | inr part ↦ All-same IsPiece (cut_behind 0 (b ∷ x)) [] (cond-false (has_piece (b ∷ x)) _ _ part) (All-nil IsPiece)
-]
+-- what the cutting finds is pieces, and a part of one is left
+pieces_whole : (x : List ℕ) → All IsPiece (cut x)
+pieces_whole = by_pieces (λ x. All IsPiece (cut x)) (λ x part. rw (cut_none x part) (All-nil IsPiece))
+    (λ x whole inner. rw (cut_piece x whole) (All-cons IsPiece (take (piece_size x) x) (cut (drop (piece_size x) x))
+    (taken_size x (fits x whole) ∙ sym (length-take-le (piece_size x) x (fits x whole))) inner))
 
-pub rest_is_part : (n : ℕ) (x : List ℕ) → length (rest_behind n x) < piece_size (rest_behind n x)
-rest_is_part zero [] = omega arith
-rest_is_part (suc n) [] = omega arith
-rest_is_part (suc n) (b ∷ x) = rest_is_part n x
-rest_is_part zero (b ∷ x) = elim (cases_Bool (has_piece (b ∷ x))) [
-  | inl whole ↦ subst (λ r. length r < piece_size r)
-      (sym (cond-true (has_piece (b ∷ x)) (rest_behind (piece_size (b ∷ x) - 1) x) (b ∷ x) whole))
-      (rest_is_part (piece_size (b ∷ x) - 1) x)
-  | inr part ↦ subst (λ r. length r < piece_size r)
-      (sym (cond-false (has_piece (b ∷ x)) (rest_behind (piece_size (b ∷ x) - 1) x) (b ∷ x) part))
-      (leb-false (piece_size (b ∷ x)) (length (b ∷ x)) part)
-]
+rest_is_part : (x : List ℕ) → length (rest x) < piece_size (rest x)
+rest_is_part = by_pieces (λ x. length (rest x) < piece_size (rest x))
+    (λ x part. rw (rest_none x part) (leb-false (piece_size x) (length x) part))
+    (λ x whole inner. rw (rest_piece x whole) inner)
 
 pub cut_is : (x : List ℕ) → Cuts x (cut x) (rest x)
-cut_is x = record { joined = cut_joined x; each = pieces_whole 0 x; part = rest_is_part 0 x }
+cut_is x = record { joined = cut_joined x; each = pieces_whole x; part = rest_is_part x }

@@ -75,9 +75,6 @@ pair_back a b e f =
     let second : (a * 256 + (b * 1 + 0)) % 256 ≡ b = omega arith in
     cc
 
-pair_fits : (a b : ℕ) → a < 256 → b < 256 → big_number 2 (a ∷ b ∷ []) < 65536
-pair_fits a b e f = omega arith
-
 four_back : (a b c d : ℕ) → a < 256 → b < 256 → c < 256 → d < 256
     → big_bytes 4 (big_number 4 (a ∷ b ∷ c ∷ d ∷ [])) ≡ a ∷ b ∷ c ∷ d ∷ []
 four_back a b c d e f g h =
@@ -86,9 +83,6 @@ four_back a b c d e f g h =
     let third : (a * 16777216 + (b * 65536 + (c * 256 + (d * 1 + 0)))) / 256 % 256 ≡ c = omega arith in
     let fourth : (a * 16777216 + (b * 65536 + (c * 256 + (d * 1 + 0)))) % 256 ≡ d = omega arith in
     cc
-
-four_fits : (a b c d : ℕ) → a < 256 → b < 256 → c < 256 → d < 256 → big_number 4 (a ∷ b ∷ c ∷ d ∷ []) < 4294967296
-four_fits a b c d e f g h = omega arith
 
 sign_on_sound : (fields : List ℕ) → Sound 0x01 fields (sign_on_of fields)
 sign_on_sound [] = record { says = (refl, tt) }
@@ -107,7 +101,7 @@ load_address_sound (a ∷ b ∷ c ∷ d ∷ []) below =
     record {
       says = (
         ap (λ bytes. 0x06 ∷ bytes) (four_back a b c d (below 0) (below 1) (below 2) (below 3)),
-        four_fits a b c d (below 0) (below 1) (below 2) (below 3),
+        omega (arith, below 0, below 1, below 2, below 3),
       );
     }
 load_address_sound _ below = record { says = tt }
@@ -130,7 +124,7 @@ program_block_back (h ∷ l ∷ m ∷ d ∷ x ∷ y ∷ z ∷ p ∷ q ∷ bytes)
     record {
       says = (
         ap (λ count. count ++ m ∷ d ∷ x ∷ y ∷ z ∷ p ∷ q ∷ bytes) (pair_back h l (below 0) (below 1)),
-        pair_fits h l (below 0) (below 1),
+        omega (arith, below 0, below 1),
       );
     }
 program_block_back _ below = record { says = tt }
@@ -139,7 +133,7 @@ read_block_back : (fields : List ℕ) → Below fields
     → Back read_block_fields (λ f. f.count < 65536) fields (read_block_of fields)
 read_block_back (h ∷ l ∷ x ∷ []) below =
     record {
-      says = (ap (λ count. count ++ x ∷ []) (pair_back h l (below 0) (below 1)), pair_fits h l (below 0) (below 1));
+      says = (ap (λ count. count ++ x ∷ []) (pair_back h l (below 0) (below 1)), omega (arith, below 0, below 1));
     }
 read_block_back _ below = record { says = tt }
 

@@ -31,14 +31,15 @@ cut_whole h whole =
     ∙ (ap (λ p. p ∷ cut (drop (piece_size h) h)) (take_all (piece_size h) h (omega arith))
     ∙ ap (λ r. h ∷ cut r) (drop_all (piece_size h) h (omega arith)))
 
--- what the part that is left and the bytes give, every text gives
-pub fed_from : (old used new : List ℕ) (skipped found : List (List ℕ)) → filter is_frame skipped ≡ []
-    → cut (rest old ++ used) ≡ skipped ++ found → rest (rest old ++ used) ≡ rest new → Fed old used new found
-fed_from old used new skipped found none p r = record {
+-- What a part that was held and the bytes give, every text gives.
+fed_from : (h u held new : List ℕ) (skipped found : List (List ℕ)) → length h < piece_size h → held ≡ h ++ u
+    → filter is_frame skipped ≡ [] → cut held ≡ skipped ++ found → rest held ≡ rest new → Fed h u new found
+fed_from h u held new skipped found part is none p r = record {
   skipped = skipped;
   no_frames = none;
-  pieces = λ t s. cut_append t used ∙ (ap (λ part. cut t ++ cut (part ++ used)) s ∙ ap (λ ps. cut t ++ ps) p);
-  stands = λ t s. rest_append t used ∙ (ap (λ part. rest (part ++ used)) s ∙ r);
+  pieces = λ t s. cut_append t u ∙ (ap (λ x. cut t ++ cut (x ++ u)) (s ∙ rest_part h part)
+      ∙ ap (λ ps. cut t ++ ps) (ap cut (sym is) ∙ p));
+  stands = λ t s. rest_append t u ∙ (ap (λ x. rest (x ++ u)) (s ∙ rest_part h part) ∙ (ap rest (sym is) ∙ r));
 }
 
 pub fed_none : (held : List ℕ) → Fed held [] held []
@@ -71,30 +72,23 @@ fed_cleared held used new found whole f = record {
 }
 
 -- still a part
-pub fed_part : (h u : List ℕ) → length h < piece_size h → length (h ++ u) < piece_size (h ++ u) → Fed h u (h ++ u) []
-fed_part h u part more =
-    fed_from h u (h ++ u) [] [] refl
-    (ap (λ p. cut (p ++ u)) (rest_part h part) ∙ cut_none (h ++ u) (part_is (h ++ u) more))
-    (ap (λ p. rest (p ++ u)) (rest_part h part))
+pub fed_part : (h u held : List ℕ) → length h < piece_size h → held ≡ h ++ u → length held < piece_size held
+    → Fed h u held []
+fed_part h u held part is more = fed_from h u held held [] [] part is refl (cut_none held (part_is held more)) refl
 
 -- a piece that is no frame
-pub fed_skip : (h u : List ℕ) → length h < piece_size h → IsPiece (h ++ u) → length (h ++ u) ≤ 5 → Fed h u [] []
-fed_skip h u part whole few =
-    fed_from h u [] ((h ++ u) ∷ []) []
-    (cond-false (is_frame (h ++ u)) _ _ (le-ltb 5 (length (h ++ u)) few))
-    (ap (λ p. cut (p ++ u)) (rest_part h part) ∙ cut_whole (h ++ u) whole)
-    (ap (λ p. rest (p ++ u)) (rest_part h part) ∙ rest_whole (h ++ u) whole)
+pub fed_skip : (h u held : List ℕ) → length h < piece_size h → held ≡ h ++ u → IsPiece held → length held ≤ 5
+    → Fed h u [] []
+fed_skip h u held part is whole few = fed_from h u held [] (held ∷ []) [] part is
+    (cond-false (is_frame held) _ _ (le-ltb 5 (length held) few)) (cut_whole held whole) (rest_whole held whole)
 
 -- a frame
-pub fed_frame : (h u : List ℕ) → length h < piece_size h → IsPiece (h ++ u) → Fed h u (h ++ u) ((h ++ u) ∷ [])
-fed_frame h u part whole =
-    fed_from h u (h ++ u) [] ((h ++ u) ∷ []) refl
-    (ap (λ p. cut (p ++ u)) (rest_part h part) ∙ cut_whole (h ++ u) whole)
-    (ap (λ p. rest (p ++ u)) (rest_part h part))
+pub fed_frame : (h u held : List ℕ) → length h < piece_size h → held ≡ h ++ u → IsPiece held → Fed h u held (held ∷ [])
+fed_frame h u held part is whole = fed_from h u held held [] (held ∷ []) part is refl (cut_whole held whole) refl
 
 -- a byte that is no start byte, in front of a piece
 fed_noise_byte : (b : ℕ) → (b == 27) ≡ false → Fed [] (b ∷ []) [] []
-fed_noise_byte b other = fed_skip [] (b ∷ []) (omega arith) (rw other refl) (omega arith)
+fed_noise_byte b other = fed_skip [] (b ∷ []) (b ∷ []) (omega arith) refl (rw other refl) (omega arith)
 
 -- bytes without a start byte
 pub fed_noise : (n : ℕ) (bytes : List ℕ) → n ≤ length bytes → ((i : ℕ) → i < n → (slice_index bytes i == 27) ≡ false)
@@ -116,18 +110,6 @@ fed_up_to bytes None none = fed_noise (length bytes) bytes (omega arith)
     (λ i below. not_true _ (none i (omega arith) below))
 fed_up_to bytes (Some n) first = fed_noise n bytes (let high = first.0.high in omega arith)
     (λ i below. not_true _ (first.0.before i (omega arith) below))
-
--- the same of a list that is known to be the part and the bytes
-pub from_part : (h u held : List ℕ) → length h < piece_size h → held ≡ h ++ u → length held < piece_size held
-    → Fed h u held []
-from_part h u held part is more = rw is (fed_part h u part (rw is at more))
-
-pub from_skip : (h u held : List ℕ) → length h < piece_size h → held ≡ h ++ u → IsPiece held → length held ≤ 5
-    → Fed h u [] []
-from_skip h u held part is whole few = fed_skip h u part (rw is at whole) (rw is at few)
-
-pub from_frame : (h u held : List ℕ) → length h < piece_size h → held ≡ h ++ u → IsPiece held → Fed h u held (held ∷ [])
-from_frame h u held part is whole = rw is (fed_frame h u part (rw is at whole))
 
 -- one span more of a piece
 rest_of : (piece : List ℕ) (used : ℕ) → take (length piece - used) (drop used piece) ≡ drop used piece

@@ -1,5 +1,5 @@
 -- The first fault of a record file stays its fault, whatever follows.
-use Rattle.std.proofs.Common.{◌≡◌, ◌∙◌, sym, ap, refl, ℕ, ◌+◌, List, [], ◌∷◌, ◌++◌, map, Some, Err}
+use Rattle.std.proofs.Common.{◌≡◌, ◌∙◌, sym, ap, refl, ℕ, List, [], ◌∷◌, ◌++◌, map, Some, Err}
 use Rattle.std.proofs.lemmas.List.{append-nil, map-append}
 use Rattle.avr_records.proofs.Readers.LaterLines.{parts-some}
 use Rattle.avr_records.proofs.Readers.Fed.{goes-on, closed-prefix}

@@ -1,5 +1,6 @@
 -- An image file that is read in pieces.
-use Rattle.std.proofs.Common.{◌≡◌, ◌∙◌, sym, ap, ap₂, refl, arith, ℕ, ◌+◌, ◌≤◌, ◌<◌, [], ◌++◌, length, take, Bool, true, false, nat_le, not, ◌==◌, ◌&&◌, ◌||◌, Ok, Err, append_assoc, append-nil, subst, length-append}
+use Rattle.std.proofs.Common.{◌≡◌, ◌∙◌, sym, ap, ap₂, refl, arith, ℕ, ◌+◌, ◌≤◌, ◌<◌, [], ◌++◌, length, take, Bool, true, false, nat_le, not, ◌==◌, ◌&&◌, Ok, Err, append_assoc, append-nil, subst, length-append}
+use Rattle.std.proofs.Math.Bool.{or-false}
 use Rattle.std.proofs.Math.Seq.{take-append-add}
 use Rattle.std.proofs.lemmas.Bool.Decides.{nat_tests}
 use Rattle.std.proofs.lemmas.List.{take-take, length-take-le, take-append-le}
@@ -10,7 +11,7 @@ use Rattle.avr_desk.specs.Files.{after_reading}
 use Rattle.avr_desk.specs.Record.{DeskView, Record, Passes, after_open, after_read, noted, is_nil, Bytes}
 use Rattle.avr_desk.specs.declared.record.Open.{Open}
 use Rattle.avr_desk.specs.declared.record.Open.TheVariants.{Closed, ToRead, ToWrite}
-use Rattle.avr_desk.specs.declared.files.FileFault.TheVariants.{Absent, NotOpened, NotRead, Memory}
+use Rattle.avr_desk.specs.declared.files.FileFault.TheVariants.{NotRead, Memory}
 use Rattle.avr_records.specs.Detect.{kind_of_file}
 use Rattle.avr_records.specs.declared.kind.Found.{Found}
 use Rattle.avr_plan.specs.ImageFile.{Given, whole_file, long_file, file_within, kind_of}
@@ -22,15 +23,11 @@ use Rattle.avr_plan.specs.declared.intake.Intake.{Intake}
 
 -- ---- a call of `read`
 
-or-false : (e : Bool) → e ≡ (e || false)
-or-false true = refl
-or-false false = refl
-
 noted-none : (o : Open) → o ≡ noted [] false o
 noted-none Closed = refl
 noted-none (ToRead x) = ap₂ (λ (bytes : Bytes) (ended : Bool). ToRead (record x { bytes = bytes; ended = ended }))
     (sym (append-nil x.bytes))
-    (or-false x.ended)
+    (sym (or-false x.ended))
 noted-none (ToWrite x) = refl
 
 pub read_nothing : (d : Record) → d ≡ after_reading [] false d
@@ -152,12 +149,7 @@ pub kind-prefix : (format : Format) (prefix more : Bytes) → length prefix ≡ 
 kind-prefix letter.Ihex prefix more len = refl
 kind-prefix letter.Srec prefix more len = refl
 kind-prefix letter.Raw prefix more len = refl
-kind-prefix letter.Auto prefix more len = detected-prefix prefix more len
-kind-prefix letter.Immediate prefix more len = detected-prefix prefix more len
-kind-prefix letter.Decimal prefix more len = detected-prefix prefix more len
-kind-prefix letter.Hexadecimal prefix more len = detected-prefix prefix more len
-kind-prefix letter.Octal prefix more len = detected-prefix prefix more len
-kind-prefix letter.Binary prefix more len = detected-prefix prefix more len
+kind-prefix format prefix more len = detected-prefix prefix more len
 
 -- the prefix, and after it the rest
 open_rest : (limit : ℕ) (format : Format) (size : ℕ) (prefix : Bytes) (old now new : DeskView) (given : Given)
@@ -183,11 +175,9 @@ open_is_rest limit format size prefix old now new (Ok good) first len rest =
 open_is_rest limit format size prefix old now new (Err (Image bad)) first len rest =
     open_rest limit format size prefix old now new (Err bad) first
     len rest
-open_is_rest limit format size prefix old now new (Err (File Absent)) first len rest = cc rest.0
-open_is_rest limit format size prefix old now new (Err (File NotOpened)) first len rest = cc rest.0
 open_is_rest limit format size prefix old now new (Err (File NotRead)) first len rest =
     (prefix ++ rest.1.0, read_next old.kept now.kept new.kept prefix rest.1.0 false first rest.1.1)
-open_is_rest limit format size prefix old now new (Err (File Memory)) first len rest = cc rest.0
+open_is_rest limit format size prefix old now new (Err (File fault)) first len rest = cc rest.0
 
 opened_image : (limit : ℕ) (format : Format) (size : ℕ) (name : Bytes) (old now new : DeskView) (given : Given)
     → Passes (after_open name (Ok tt)) old now
@@ -209,9 +199,8 @@ image_is_open limit format size name old now new (Ok good) opened reads =
 image_is_open limit format size name old now new (Err (Image bad)) opened reads =
     opened_image limit format size name old now new (Err bad) opened
     reads
-image_is_open limit format size name old now new (Err (File Absent)) opened reads = absurd reads
-image_is_open limit format size name old now new (Err (File NotOpened)) opened reads = absurd reads
 image_is_open limit format size name old now new (Err (File NotRead)) opened reads =
     (reads.0, opened_read name old.kept now.kept new.kept reads.0 false opened reads.1)
 image_is_open limit format size name old now new (Err (File Memory)) opened reads =
     (reads.0, reads.1, opened_read name old.kept now.kept new.kept reads.0 reads.1 opened reads.2)
+image_is_open limit format size name old now new (Err (File fault)) opened reads = absurd reads

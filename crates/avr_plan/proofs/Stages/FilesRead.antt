@@ -1,63 +1,42 @@
 -- Planning over what was read of some files is planning over these files, whole: stage by stage.
-use Rattle.std.proofs.Common.{◌≡◌, ◌∙◌, sym, ap, subst, refl, arith, ℕ, ◌≤◌, ◌<◌, List, [], ◌∷◌, ◌++◌, append_assoc, append-nil, length, take, drop, Bool, true, false, ◌||◌, nat_le, nat_lt, Option, Some, None, Result, Ok, Err, if◌then◌else◌, length-append}
+use Rattle.std.proofs.Common.{◌≡◌, ◌∙◌, sym, ap, subst, refl, arith, ℕ, ◌≤◌, ◌<◌, List, [], ◌∷◌, ◌++◌, append_assoc, append-nil, length, take, drop, Bool, true, false, ◌||◌, nat_le, nat_lt, Option, Result, Ok, Err, if◌then◌else◌, length-append}
 use Rattle.std.proofs.lemmas.Bool.Decides.{nat_tests}
 use Rattle.std.proofs.lemmas.List.{take-append-le, take-append-drop, length-take-le, map-append}
 use Rattle.avr_cli.specs.declared.settings.Settings.{Settings}
-use Rattle.avr_cli.specs.declared.settings.Switches.{Switches}
 use Rattle.avr_cli.specs.declared.update.Format.{Format}
-use Rattle.avr_cli.specs.declared.update.Format.TheVariants as format
-use Rattle.avr_cli.specs.declared.update.Op.{Op}
-use Rattle.avr_cli.specs.declared.update.Op.TheVariants as op
-use Rattle.avr_cli.specs.declared.update.Update.{Update}
 use Rattle.avr_desk.specs.Memory.{Stock, stood_for}
 use Rattle.avr_desk.specs.Record.{Bytes}
-use Rattle.avr_desk.specs.Said.{Saying, Opens, Line, Creates, Writes, Outs}
+use Rattle.avr_desk.specs.Said.{Saying, Opens, Line}
 use Rattle.avr_desk.specs.Stage.{Stage, StageResult, StageAnswer, Made, Refused, Unread, all_told, told_in, behind_sayings, going_on, ◌>>=◌, saying_stage, verdict_stage, unread_stage, under_name, content_stage, file_stage}
 use Rattle.avr_desk.specs.Truth.{IsTrueOpening}
 use Rattle.avr_desk.specs.declared.record.Opening.{Opening}
 use Rattle.avr_desk.specs.declared.record.Opening.TheVariants.{Absent, Found}
-use Rattle.avr_image.specs.Values.{values}
-use Rattle.avr_part.specs.BuiltIn.{part_of_id}
-use Rattle.avr_part.specs.Mem.{is_writable}
-use Rattle.avr_part.specs.Part.{Part, size_of}
-use Rattle.avr_part.specs.declared.part.Mem.{Mem}
 use Rattle.avr_plan.specs.declared.image_file.TheConstants.{LARGEST_IMAGE_FILE}
 use Rattle.avr_plan.specs.declared.part_choice.TheConstants.{LARGEST_PART_FILE}
 use Rattle.avr_plan.proofs.Files.Images.{kind-prefix}
+use Rattle.avr_plan.proofs.Stages.EachStage.{whole_plan}
 use Rattle.avr_records.specs.declared.kind.Found.{Found as FoundKind}
-use Rattle.avr_plan.specs.FilesRead.{part_file, image_file, file_of_op, files_of, files_read, read_whole, files_give, planned_of, lines_in, AreSeen}
+use Rattle.avr_plan.specs.FilesRead.{files_read, read_whole, files_give, planned_of, lines_in, AreSeen}
 use Rattle.avr_plan.specs.ImageFile.{file_within, kind_of}
-use Rattle.avr_plan.specs.Lines.{read_only_line}
 use Rattle.avr_plan.specs.Plan.{Plan}
-use Rattle.avr_plan.specs.Planning.{judged_parts, parts_stage, part_or_line, part_stage, warning_says, image_or_line, judged_image, file_image_stage, values_or_line, image_stage, update_image, write_stage, op_stage, task_stage, tasks_stage, planned}
-use Rattle.avr_plan.specs.declared.planned.Task.{Task}
-use Rattle.avr_plan.specs.declared.planned.Task.TheVariants.{Write, Verify, Read}
+use Rattle.avr_plan.specs.Planning.{judged_parts, warning_says, image_or_line, judged_image, planned}
 
 -- ---- what was opened
 
 pub seen_first : (stock : Stock) (first second : List Saying) → AreSeen stock (first ++ second) → AreSeen stock first
 seen_first stock [] second seen = tt
 seen_first stock (Opens opening ∷ first) second seen = (seen.0, seen_first stock first second seen.1)
-seen_first stock (Line bytes ∷ first) second seen = seen_first stock first second seen
-seen_first stock (Creates name ∷ first) second seen = seen_first stock first second seen
-seen_first stock (Writes bytes ∷ first) second seen = seen_first stock first second seen
-seen_first stock (Outs bytes ∷ first) second seen = seen_first stock first second seen
+seen_first stock (saying ∷ first) second seen = seen_first stock first second seen
 
 seen_second : (stock : Stock) (first second : List Saying) → AreSeen stock (first ++ second) → AreSeen stock second
 seen_second stock [] second seen = seen
 seen_second stock (Opens opening ∷ first) second seen = seen_second stock first second seen.1
-seen_second stock (Line bytes ∷ first) second seen = seen_second stock first second seen
-seen_second stock (Creates name ∷ first) second seen = seen_second stock first second seen
-seen_second stock (Writes bytes ∷ first) second seen = seen_second stock first second seen
-seen_second stock (Outs bytes ∷ first) second seen = seen_second stock first second seen
+seen_second stock (saying ∷ first) second seen = seen_second stock first second seen
 
 lines_append : (first second : List Saying) → lines_in (first ++ second) ≡ lines_in first ++ lines_in second
 lines_append [] second = refl
-lines_append (Opens opening ∷ first) second = lines_append first second
 lines_append (Line bytes ∷ first) second = ap (λ (ls : List Bytes). bytes ∷ ls) (lines_append first second)
-lines_append (Creates name ∷ first) second = lines_append first second
-lines_append (Writes bytes ∷ first) second = lines_append first second
-lines_append (Outs bytes ∷ first) second = lines_append first second
+lines_append (saying ∷ first) second = lines_append first second
 
 -- the same lines, and the line of the same refusal
 lines_told : {A : Type 0} (first second : List Saying) (answer : StageAnswer A) → lines_in first ≡ lines_in second
@@ -83,9 +62,13 @@ module _ (stock : Stock) where
       → ((stage openings).answer ≡ Unread → ⊥)
       → IsSame (stage openings) (stage (files_give stock names ++ rest)) rest
 
+  same_verdict : {A : Type 0} (one other : Result A Bytes) (openings rest : List Opening) → other ≡ one
+      → IsSame (verdict_stage one openings) (verdict_stage other rest) rest
+  same_verdict (Ok a) other openings rest is = rw is (record { answer = refl; lines = refl; left = λ made e. refl })
+  same_verdict (Err line) other openings rest is = rw is (record { answer = refl; lines = refl; left = λ made e. refl })
+
   settled_fixed : {A : Type 0} (result : Result A Bytes) → Sees (verdict_stage result) []
-  settled_fixed (Ok a) openings rest seen read = record { answer = refl; lines = refl; left = λ made is. refl }
-  settled_fixed (Err line) openings rest seen read = record { answer = refl; lines = refl; left = λ made is. refl }
+  settled_fixed result openings rest seen read = same_verdict result result openings rest refl
 
   says_fixed : (says : List Saying) → Sees (saying_stage says) []
   says_fixed says openings rest seen read = record { answer = refl; lines = refl; left = λ made is. refl }
@@ -127,7 +110,7 @@ module _ (stock : Stock) where
       let same : IsSame p (stage (files_give stock prefix ++ (files_give stock back ++ rest)))
       (files_give stock back ++ rest) =
       first openings (files_give stock back ++ rest) (of_first p p.answer refl seen)
-      (λ unread. read (unread_on p p.answer refl unread)) in
+      (λ unread. read (ap (λ answer. (going_on p.says p.left go_on answer).answer) unread)) in
       subst (λ os. IsSame ((stage >>= go_on) openings) ((stage >>= go_on) os) rest) (sym given)
       (whole p (stage (files_give stock prefix ++ (files_give stock back ++ rest))) same seen read)
     where
@@ -136,13 +119,6 @@ module _ (stock : Stock) where
       of_first p (Made a) is seen = seen_first stock p.says (go_on a p.left).says seen
       of_first p (Refused line) is seen = seen
       of_first p Unread is seen = seen
-
-      unread_on : (p : StageResult A) (answer : StageAnswer A) → p.answer ≡ answer → p.answer ≡ Unread
-          → (going_on p.says p.left go_on answer).answer ≡ Unread
-      unread_on p (Made a) is unread = absurd (let e : ◌≡◌ {A = StageAnswer A} (Made a) Unread = sym is ∙ unread in cc)
-      unread_on p (Refused line) is unread = absurd
-          (let e : ◌≡◌ {A = StageAnswer A} (Refused line) Unread = sym is ∙ unread in cc)
-      unread_on p Unread is unread = refl
 
       whole : (p q : StageResult A) → IsSame p q (files_give stock back ++ rest)
           → AreSeen stock (going_on p.says p.left go_on p.answer).says
@@ -166,11 +142,6 @@ module _ (stock : Stock) where
   same_judged limit judge limited bytes unread true ends whole =
       ap (λ (more : Bytes). judge (bytes ++ more)) (ends refl) ∙ ap judge (append-nil bytes)
   same_judged limit judge limited bytes unread false ends whole = limited bytes unread (grind (arith, nat_tests, whole))
-
-  same_verdict : {A : Type 0} (one other : Result A Bytes) (openings rest : List Opening) → other ≡ one
-      → IsSame (verdict_stage one openings) (verdict_stage other rest) rest
-  same_verdict (Ok a) other openings rest is = rw is (record { answer = refl; lines = refl; left = λ made e. refl })
-  same_verdict (Err line) other openings rest is = rw is (record { answer = refl; lines = refl; left = λ made e. refl })
 
   module _ {A : Type 0} (name : Bytes) (limit : ℕ) (judge : Bytes → Result A Bytes)
       (limited : IsLimited limit judge) where
@@ -247,83 +218,12 @@ module _ (stock : Stock) where
           → file_within LARGEST_IMAGE_FILE whole (bytes ++ more) size ≡ file_within LARGEST_IMAGE_FILE found bytes size
       past_limit found whole one other prefix same = rw (one, other, prefix, same) refl
 
-  parts : (name : Option Bytes) → Sees (parts_stage name) (part_file name)
-  parts None = settled_fixed {A = List Part} (Ok [])
-  parts (Some name) = file name LARGEST_PART_FILE (judged_parts name) (limited_parts name)
-
-  module _ (s : Switches) where
-    file_image : (name : Bytes) (kind : Format) (size : ℕ) → Sees (file_image_stage s name kind size) (name ∷ [])
-    file_image name kind size =
-        onward (file_stage name LARGEST_IMAGE_FILE (judged_image name kind size))
-        (λ given. saying_stage (warning_says s name given.1) >>= λ ok. verdict_stage (Ok given.0))
-        (name ∷ []) [] (file name LARGEST_IMAGE_FILE (judged_image name kind size) (limited_image name kind size))
-        (λ given. onward (saying_stage (warning_says s name given.1)) (λ ok. verdict_stage (Ok given.0)) [] []
-        (says_fixed (warning_says s name given.1)) (λ ok. settled_fixed (Ok given.0)))
-
-    image : (memory : Mem) (size : ℕ) (name : Bytes) (kind : Format)
-        → Sees (image_stage s memory size name kind) (image_file name kind)
-    image memory size name format.Auto = file_image name format.Auto size
-    image memory size name format.Ihex = file_image name format.Ihex size
-    image memory size name format.Srec = file_image name format.Srec size
-    image memory size name format.Raw = file_image name format.Raw size
-    image memory size name format.Immediate = settled_fixed (values_or_line memory (values name size))
-    image memory size name format.Decimal = file_image name format.Decimal size
-    image memory size name format.Hexadecimal = file_image name format.Hexadecimal size
-    image memory size name format.Octal = file_image name format.Octal size
-    image memory size name format.Binary = file_image name format.Binary size
-
-    -- nothing more is read after it
-    last : {A B : Type 0} (stage : Stage A) (go_on : A → Stage B) (names : List Bytes) → Sees stage names
-        → ((a : A) → Sees (go_on a) [])
-        → Sees (stage >>= go_on) names
-    last stage go_on names first second = subst (Sees (stage >>= go_on)) (append-nil names)
-        (onward stage go_on names [] first second)
-
-    module _ (part : Part) where
-      update : (u : Update) → Sees (update_image s part u) (image_file u.file u.format)
-      update u = image u.memory (size_of u.memory part) u.file u.format
-
-      write : (u : Update) → Sees (write_stage s part u) (file_of_op u op.Write)
-      write u = by_memory (is_writable u.memory)
-        where
-          by_memory : (b : Bool) → Sees {A = Task}
-              (if b then (update_image s part u >>= λ bytes. verdict_stage (Ok (Write u.memory bytes)))
-              else verdict_stage (Err (read_only_line u.memory)))
-              (if b then image_file u.file u.format else [])
-          by_memory true = last (update_image s part u) (λ bytes. verdict_stage (Ok (Write u.memory bytes)))
-              (image_file u.file u.format) (update u)
-              (λ bytes. settled_fixed (Ok (Write u.memory bytes)))
-          by_memory false = settled_fixed {A = Task} (Err (read_only_line u.memory))
-
-      operation : (u : Update) (o : Op) → Sees (op_stage s part u o) (file_of_op u o)
-      operation u op.Write = write u
-      operation u op.Verify = last (update_image s part u) (λ bytes. verdict_stage (Ok (Verify u.memory bytes)))
-          (image_file u.file u.format) (update u)
-          (λ bytes. settled_fixed (Ok (Verify u.memory bytes)))
-      operation u op.Read = settled_fixed (Ok (Read u.memory u.format u.file))
-
-      tasks : (before : List Task) (updates : List Update) → Sees (tasks_stage s part before updates) (files_of updates)
-      tasks before [] = settled_fixed (Ok before)
-      tasks before (u ∷ updates) =
-          onward (task_stage s part u) (λ task. tasks_stage s part (before ++ task ∷ []) updates) (file_of_op u u.op)
-          (files_of updates)
-          (operation u u.op) (λ task. tasks (before ++ task ∷ []) updates)
-
-  -- what the parts come to
-  abbrev made : Settings → Part → List Task → Stage Plan
-  made s part tasks = verdict_stage (Ok (record { part = part; tasks = tasks; switches = s.switches }))
-
-  whole_plan : (s : Settings) → Sees (planned s) (files_read s)
-  whole_plan s =
-      onward (parts_stage s.parts) (λ all. part_stage s.part all >>= λ part. tasks_stage s.switches part [] s.updates
-      >>= made s part)
-      (part_file s.parts) (files_of s.updates) (parts s.parts)
-      (λ all. onward (part_stage s.part all) (λ part. tasks_stage s.switches part [] s.updates >>= made s part) []
-      (files_of s.updates)
-      (settled_fixed (part_or_line s.part (part_of_id s.part all)))
-      (λ part. last s.switches (tasks_stage s.switches part [] s.updates) (made s part) (files_of s.updates)
-      (tasks s.switches part [] s.updates)
-      (λ tasks. settled_fixed (Ok (record { part = part; tasks = tasks; switches = s.switches })))))
+  plan_sees : (s : Settings) → Sees (planned s) (files_read s)
+  plan_sees = whole_plan (λ A stage names. Sees {A = A} stage names) (λ A result. settled_fixed result)
+      (λ s name ending. says_fixed (warning_says s name ending))
+      (λ name. file name LARGEST_PART_FILE (judged_parts name) (limited_parts name))
+      (λ name kind size. file name LARGEST_IMAGE_FILE (judged_image name kind size) (limited_image name kind size))
+      (λ A B stage go_on first back f g. onward stage go_on first back f g)
 
   -- planning over what was seen of the files is planning over the files
   pub seen_is_planned : (s : Settings) (openings : List Opening) → AreSeen stock (planned s openings).says
@@ -331,7 +231,7 @@ module _ (stock : Stock) where
       → ((planned_of s stock).answer ≡ (planned s openings).answer)
       × (lines_in (told_in (planned_of s stock)) ≡ lines_in (told_in (planned s openings)))
   seen_is_planned s openings seen read =
-      let same = whole_plan s openings [] seen read in
+      let same = plan_sees s openings [] seen read in
       let given : files_give stock (files_read s) ++ [] ≡ files_give stock (files_read s) =
       append-nil (files_give stock (files_read s)) in
       let p = planned s openings in

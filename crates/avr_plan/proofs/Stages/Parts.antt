@@ -17,7 +17,7 @@ use Rattle.avr_plan.specs.declared.part_choice.TheConstants.{LARGEST_PART_FILE}
 use Rattle.avr_plan.specs.Lines.{part_file_line}
 use Rattle.avr_plan.specs.Planning.{judged_parts, parts_or_line}
 use Rattle.avr_desk.specs.Playing.{AtStart, Goes, Went}
-use Rattle.avr_desk.specs.Stage.{Made, verdict_stage, file_stage}
+use Rattle.avr_desk.specs.Stage.{Made, file_stage}
 
 -- the judgment of a file within the limit
 judged-within : (file bytes : Bytes) → IsWhole LARGEST_PART_FILE (record { bytes = bytes; ended = true })

@@ -11,7 +11,7 @@ use Rattle.avr_plan.specs.Plan.{Plan}
 use Rattle.avr_plan.specs.Planning.{LacksPart, parts_stage, part_stage, tasks_stage, planned}
 use Rattle.avr_desk.specs.Playing.{AtStart, Goes, Taking, Went}
 use Rattle.avr_plan.specs.Taking.{AtUpdate, AtTask}
-use Rattle.avr_desk.specs.Stage.{Stage, Made, StageResult, behind_sayings, going_on, ◌>>=◌, verdict_stage}
+use Rattle.avr_desk.specs.Stage.{Stage, Made, behind_sayings, going_on, ◌>>=◌, verdict_stage}
 use Rattle.avr_plan.specs.declared.planned.Task.{Task}
 
 abbrev plan_of : Settings → Part → List Task → Plan

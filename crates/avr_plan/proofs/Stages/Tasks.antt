@@ -2,7 +2,7 @@
 use Rattle.std.proofs.Common.{◌≡◌, ◌∙◌, sym, ap, subst, arith, ℕ, zero, suc, ◌+◌, All, drop, List, [], ◌∷◌, ◌++◌, refl, Bool, true, false, if◌then◌else◌, Option, Result, Ok, Err}
 use Rattle.avr_cli.specs.declared.settings.Switches.{Switches}
 use Rattle.avr_cli.specs.declared.update.Format.{Format}
-use Rattle.avr_cli.specs.declared.update.Format.TheVariants.{Auto, Ihex, Srec, Raw, Immediate, Decimal, Hexadecimal, Octal, Binary}
+use Rattle.avr_cli.specs.declared.update.Format.TheVariants.{Immediate}
 use Rattle.avr_cli.specs.declared.update.Op.TheVariants as op
 use Rattle.avr_cli.specs.declared.update.Update.{Update}
 use Rattle.avr_desk.specs.Record.{DeskView, Bytes}
@@ -24,26 +24,12 @@ use Rattle.avr_plan.specs.declared.planned.Task.TheVariants.{Write}
 file_stage-is : (switches : Switches) (memory : Mem) (size : ℕ) (file : Bytes) (format : Format)
     → (format ≡ Immediate → ⊥)
     → file_image_stage switches file format size ≡ image_stage switches memory size file format
-file_stage-is switches memory size file Auto other = refl
-file_stage-is switches memory size file Ihex other = refl
-file_stage-is switches memory size file Srec other = refl
-file_stage-is switches memory size file Raw other = refl
 file_stage-is switches memory size file Immediate other = absurd (other refl)
-file_stage-is switches memory size file Decimal other = refl
-file_stage-is switches memory size file Hexadecimal other = refl
-file_stage-is switches memory size file Octal other = refl
-file_stage-is switches memory size file Binary other = refl
+file_stage-is switches memory size file format other = refl
 
 no_values : (format : Format) → (format ≡ Immediate → ⊥) → has_values format ≡ false
-no_values Auto other = refl
-no_values Ihex other = refl
-no_values Srec other = refl
-no_values Raw other = refl
 no_values Immediate other = absurd (other refl)
-no_values Decimal other = refl
-no_values Hexadecimal other = refl
-no_values Octal other = refl
-no_values Binary other = refl
+no_values format other = refl
 
 module _ (switches : Switches) (memory : Mem) (size size' : ℕ) (file file' : Bytes) (format : Format)
     (old new : DeskView) (result : Result (List (Option ℕ)) ℕ) (sizes : size ≡ size') (files : file ≡ file') where

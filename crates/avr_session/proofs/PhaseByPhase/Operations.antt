@@ -4,7 +4,7 @@ use Rattle.avr_desk.specs.Record.{DeskView}
 use Rattle.avr_desk.specs.declared.desk.DeskFault.{DeskFault}
 use Rattle.avr_part.specs.Part.{Part}
 use Rattle.stk_host.specs.declared.fault.HostFault.{HostFault}
-use Rattle.stk_host.specs.declared.fault.HostFault.TheVariants.{NoAnswer, LinkEnded, SendFailed, WrongSignature, ReadOnly, Memory, RecvFailed}
+use Rattle.stk_host.specs.declared.fault.HostFault.TheVariants.{LinkEnded, SendFailed, WrongSignature, ReadOnly, Memory, RecvFailed}
 use Rattle.stk_host.specs.Talk as link
 use Rattle.stk_host.specs.declared.fault.StepFault.TheVariants as of_step
 use Rattle.stk_host.specs.declared.fault.StepFault.{StepFault}
@@ -213,15 +213,6 @@ stop_come takes dialog m o p d (Broke Send) failed is over = (failed (subst IsBr
 stop_come takes dialog m o p d (Broke Recv) failed is over = (failed (subst IsBroken (sym is) tt), same_here d)
 stop_come takes dialog m o p d Lacks failed is over = (over.0, (ap (λ (v : LinkView). v.failures) over.1, same_here d))
 
--- how far a conversation is at one moment, and what the devices show then
-pub record Moment : Type 0 where
-  pub position : Position
-  pub link : LinkView
-  pub desk : DeskView
-
-abbrev pub moment : Position → LinkView → DeskView → Moment
-moment position link desk = record { position = position; link = link; desk = desk }
-
 stopped_runs : {A R : Type 0} (go_on : A → Dialog Saying R) (dialog : Dialog ⊥ A) {m : Position} {o p : Devices}
     {terms : Terms} (stop : Stop) → StopsOver terms.takes dialog m o.link p.link stop → ToldBy terms (cause_at stop) o p
     → BrokeOff (lifted dialog >>= go_on) m o p terms (AtOnce terms.takes)
@@ -231,29 +222,27 @@ stopped_runs go_on dialog {m = m} Lacks over told =
 
 -- An operation and its report are a phase of a session.
 pub operation_runs : {A : Type 0} (operation : Dialog ⊥ (Result A HostFault))
-    (outcome_says : Result A HostFault → List Saying) (x y : Moment) (outcome : Result A HostFault)
-    (said : Result (Unit {0}) DeskFault) (terms : Terms) (By : DeskView → DeskView → Cause → List ℕ → Type 0)
-    → StopsReport terms y.link x.desk y.desk (outcome_says outcome) By
-    → Ended terms.takes operation x.position x.link y.link outcome y.position → length y.position.unread ≤ 281
-    → UnlessBroken outcome (y.link.failures ≡ x.link.failures)
-    → SaysOrStops By x.desk y.desk (outcome_says outcome) said
-    → ((stop : Stop) → StopsAs outcome stop → StopsOver terms.takes operation x.position x.link y.link stop
-    → ToldBy terms (cause_at stop) (devices x.link x.desk) (devices y.link y.desk))
-    → Runs (reported operation outcome_says) x.position (devices x.link x.desk) (devices y.link y.desk) terms
-    (AtOnce terms.takes) (stands (conclusion outcome said)) y.position
+    (outcome_says : Result A HostFault → List Saying) (m n : Position) {o p : LinkView} {d e : DeskView}
+    (outcome : Result A HostFault) (said : Result (Unit {0}) DeskFault) (terms : Terms)
+    (By : DeskView → DeskView → Cause → List ℕ → Type 0) → StopsReport terms p d e (outcome_says outcome) By
+    → Ended terms.takes operation m o p outcome n → length n.unread ≤ 281
+    → UnlessBroken outcome (p.failures ≡ o.failures) → SaysOrStops By d e (outcome_says outcome) said
+    → ((stop : Stop) → StopsAs outcome stop → StopsOver terms.takes operation m o p stop
+    → ToldBy terms (cause_at stop) (devices o d) (devices p e))
+    → Runs (reported operation outcome_says) m (devices o d) (devices p e) terms (AtOnce terms.takes)
+    (stands (conclusion outcome said)) n
 unfolding came_lifted
-operation_runs operation outcome_says x y outcome (Ok done) terms By why (inl played) few link reports told =
-    subst (λ r. Runs (reported operation outcome_says) x.position (devices x.link x.desk) (devices y.link y.desk) terms
-    (AtOnce terms.takes) r y.position) (sym played.1)
-    (ran_from (came_on (came_lifted (λ outcome. says (outcome_says outcome) (Done (standing outcome))) x.desk played.0
-    few (unbroken outcome played.1 link))
-    (came_said (outcome_says outcome) (Done (standing outcome)) y.position y.link reports)))
-operation_runs operation outcome_says x y outcome (Err _) terms By why (inl played) few link reports told =
-    broke_quietly (came_lifted (λ outcome. says (outcome_says outcome) (Done (standing outcome))) x.desk played.0 few
+operation_runs operation outcome_says m n {p = p} {d = d} outcome (Ok done) terms By why (inl played) few link reports
+    told =
+    rw played.1
+    (ran_from (came_on (came_lifted (λ outcome. says (outcome_says outcome) (Done (standing outcome))) d played.0 few
+    (unbroken outcome played.1 link)) (came_said (outcome_says outcome) (Done (standing outcome)) n p reports)))
+operation_runs operation outcome_says m n {p = p} {d = d} outcome (Err _) terms By why (inl played) few link reports
+    told =
+    broke_quietly (came_lifted (λ outcome. says (outcome_says outcome) (Done (standing outcome))) d played.0 few
     (unbroken outcome played.1 link)) (sayings_raised played.0.events)
-    (broke_saying (outcome_says outcome) (Done (standing outcome)) y.position y.link why reports)
-operation_runs operation outcome_says x y outcome said terms By why (inr stops) few link reports told =
-    subst (λ r. Runs (reported operation outcome_says) x.position (devices x.link x.desk) (devices y.link y.desk) terms
-    (AtOnce terms.takes) r y.position) (sym (stop_goes stops.0 said stops.1))
+    (broke_saying (outcome_says outcome) (Done (standing outcome)) n p why reports)
+operation_runs operation outcome_says m n outcome said terms By why (inr stops) few link reports told =
+    rw (stop_goes stops.0 said stops.1)
     (stopped_runs (λ outcome. says (outcome_says outcome) (Done (standing outcome))) operation stops.0 stops.2
     (told stops.0 stops.1 stops.2))

@@ -1,5 +1,6 @@
 -- Phases of a session, one after another.
 use Rattle.std.proofs.Common.{◌≡◌, ℕ, Bool, true, false, ◌||◌, ◌++◌, ◌≤◌, arith, List, [], ◌∷◌, length, refl, sym, ap, ◌∙◌, subst, subst₂, append_assoc, Some, None, Result, Ok, Err, inl, get_or, take, drop, ◌<◌, ◌-◌}
+use Rattle.std.proofs.Math.Bool.{or-false}
 use Rattle.std.specs.List.{list_any}
 use Rattle.std.proofs.lemmas.Grind.{common_steps}
 use Rattle.std.proofs.lemmas.List.Folds.{list_any-append}
@@ -41,7 +42,7 @@ use Rattle.avr_desk.proofs.Lines.Told.{follows_here, follows_on, same_here}
 use Rattle.avr_session.proofs.Runs.Calls.{none_failed_here, came_here, came_said, came_part, ran_from, ran_on, stops_in, stops_since, broke_on, broke_part, broke_saying, LacksLater, StopsReport, ToldBy}
 use Rattle.avr_session.proofs.PhaseByPhase.FaultsTold.{Foretells, foretold, prefix_tells_none, phases_foretells}
 use Rattle.avr_session.proofs.PhaseByPhase.Actions.{phases-one, phases-append}
-use Rattle.avr_session.proofs.PhaseByPhase.Operations.{call_ended, closing_lacks_none, Stop, Broke, Lacks, cause_at, StopsAs, StopsOver, Ended, moment, operation_runs, serves_after, stop_come, told_of}
+use Rattle.avr_session.proofs.PhaseByPhase.Operations.{call_ended, closing_lacks_none, Stop, Broke, Lacks, cause_at, StopsAs, StopsOver, Ended, operation_runs, serves_after, stop_come, told_of}
 
 -- a desk that failed as it printed stops the run, whatever was reported
 printing_tells : (flag : Bool) (told : List ℕ) (d : DeskView) → told ≡ [] → TellsCause flag OfPrinting told d d
@@ -80,11 +81,11 @@ desk_stops_run takes o d e le said none cause told stops = absurd stops
 
 -- what a report stops by, after a prefix of what it says
 
-pub print_stops_report : (takes : Bool) (o : LinkView) {d e : DeskView} {sayings : List Saying}
+pub print_stops_report : (terms : Terms) (o : LinkView) {d e : DeskView} {sayings : List Saying}
     {told : Result (Unit {0}) DeskFault} → Reports PrintStops d e sayings told
-    → StopsReport (untold takes) o d e sayings PrintStops
-print_stops_report takes o {d = d} {e = e} reports mid cause prefix told stops =
-    print_stops_run (untold takes) o d e reports.follows (prefix.whole ++ prefix.begun) cause told stops
+    → StopsReport terms o d e sayings PrintStops
+print_stops_report terms o {d = d} {e = e} reports mid cause prefix told stops =
+    print_stops_run terms o d e reports.follows (prefix.whole ++ prefix.begun) cause told stops
 
 desk_stops_report : (takes : Bool) (o : LinkView) (d e : DeskView) (sayings : List Saying) → Follows d e
     → tells_fault sayings ≡ false → StopsReport (untold takes) o d e sayings DeskStops
@@ -108,35 +109,38 @@ told_by takes dialog m o p {d = d} stop failed is over some = (
   some.kept,
 )
 
--- an operation of the host, and what is said of its outcome
-module _ {A : Type 0} (takes : Bool) (operation : Dialog ⊥ (Result A HostFault))
-    (outcome_says : Result A HostFault → List Saying) where
-  pub operation_performs : {Ends : Position → LinkView → LinkView → Result A HostFault → Position → Type 0}
-      {old new : HostState} {o p : LinkView} {d e : DeskView} {outcome : Result A HostFault}
-      {told : Result (Unit {0}) DeskFault} {result : Result (Unit {0}) End}
-      {By : DeskView → DeskView → Cause → List ℕ → Type 0} → Reports By d e (outcome_says outcome) told
-      → StopsReport (untold takes) p d e (outcome_says outcome) By
+-- An operation of the host, and what is said of its outcome: of a call that ended it so, and that was reported so.
+module _ {A : Type 0} (operation : Dialog ⊥ (Result A HostFault)) (outcome_says : Result A HostFault → List Saying)
+    {Ends : Position → LinkView → LinkView → Result A HostFault → Position → Type 0} {old new : HostState}
+    {o p : LinkView} {d e : DeskView} {outcome : Result A HostFault} {told : Result (Unit {0}) DeskFault}
+    {result : Result (Unit {0}) End} {By : DeskView → DeskView → Cause → List ℕ → Type 0}
+    (reports : Reports By d e (outcome_says outcome) told) where
+  phase_performs : (terms : Terms) → StopsReport terms p d e (outcome_says outcome) By
+      → ((stop : Stop) → StopsAs outcome stop → StopsOver terms.takes operation old.progress o p stop
+      → ToldBy terms (cause_at stop) (devices o d) (devices p e)) → old.broken ≡ None
+      → CallsBy Ends old new o p outcome
+      → (Ends old.progress o p outcome new.progress
+      → Ended terms.takes operation old.progress o p outcome new.progress) → result ≡ conclusion outcome told
+      → PerformsBehind terms (AtOnce terms.takes) (reported operation outcome_says) old new (devices o d) (devices p e)
+      (stands result)
+  phase_performs terms why tells sound calls ends is = rw is (record {
+    runs = operation_runs operation outcome_says old.progress new.progress outcome told terms By why
+        (ends (calls.played sound)) (calls.bound sound) (calls.sound sound) reports.says tells;
+    serves = serves_after outcome told new.broken (calls.lasts sound);
+    part = calls.part;
+    link = calls.counted;
+    desk = reports.follows;
+  })
+
+  pub operation_performs : (takes : Bool) → StopsReport (untold takes) p d e (outcome_says outcome) By
       → ((stop : Stop) → StopsAs outcome stop → Tells d e (cause_line (cause_at stop)))
       → old.broken ≡ None → CallsBy Ends old new o p outcome
       → (Ends old.progress o p outcome new.progress → Ended takes operation old.progress o p outcome new.progress)
       → result ≡ conclusion outcome told
       → Performs takes (reported operation outcome_says) old new (devices o d) (devices p e) (stands result)
-  operation_performs {old = old} {new = new} {o = o} {p = p} {d = d} {e = e} {outcome = outcome} {told = told} {By = By}
-      reports why some sound calls ends is =
-      let ended = ends (calls.played sound) in
-      record {
-        runs = subst (λ r. Runs (reported operation outcome_says) old.progress (devices o d) (devices p e)
-            (untold takes) (AtOnce takes) (stands r) new.progress) (sym is)
-            (operation_runs operation outcome_says (moment old.progress o d) (moment new.progress p e) outcome told
-            (untold takes) By why ended (calls.bound sound) (calls.sound sound) reports.says
-            (λ stop at over. told_by takes operation old.progress o p stop (calls.failed sound) at over
-            (some stop at)));
-        serves = subst (λ r. HostServes (stands r) new.broken) (sym is)
-            (serves_after outcome told new.broken (calls.lasts sound));
-        part = calls.part;
-        link = calls.counted;
-        desk = reports.follows;
-      }
+  operation_performs takes why some sound calls = phase_performs (untold takes) why
+      (λ stop at over. told_by takes operation old.progress o p stop (calls.failed sound) at over (some stop at)) sound
+      calls
 
 left_out_runs : (takes : Bool) (sayings : List Saying) (m : Position) (o : LinkView) (d e : DeskView)
     (told : Result (Unit {0}) DeskFault) → Reports PrintStops d e sayings told
@@ -144,22 +148,19 @@ left_out_runs : (takes : Bool) (sayings : List Saying) (m : Position) (o : LinkV
     (stands (conclusion {A = Unit {0}} (Ok tt) told)) m
 left_out_runs takes sayings m o d e (Ok done) reports = ran_from (came_said sayings (Done Fine) m o reports.says)
 left_out_runs takes sayings m o d e (Err _) reports =
-    broke_saying sayings (Done Fine) m o (print_stops_report takes o reports) reports.says
+    broke_saying sayings (Done Fine) m o (print_stops_report (untold takes) o reports) reports.says
 
 -- something said in its place
 pub left_out_performs : (takes : Bool) (sayings : List Saying) {host : HostState} {o : LinkView} {d e : DeskView}
     (result : Result (Unit {0}) End) → host.broken ≡ None → LeavesOut sayings d e result
     → Performs takes (says sayings (Done Fine)) host host (devices o d) (devices o e) (stands result)
-left_out_performs takes sayings {host = host} {o = o} {d = d} {e = e} result sound leaves = record {
-  runs = subst (λ r. Runs (says sayings (Done Fine)) host.progress (devices o d) (devices o e) (untold takes)
-      (AtOnce takes) (stands r) host.progress) (sym leaves.result_is)
-      (left_out_runs takes sayings host.progress o d e leaves.told leaves.reports);
-  serves = subst (λ r. HostServes (stands r) host.broken) (sym leaves.result_is)
-      (serves_after {A = Unit {0}} (Ok tt) leaves.told host.broken sound);
+left_out_performs takes sayings {host = host} {o = o} {d = d} {e = e} result sound leaves = rw leaves.result_is (record {
+  runs = left_out_runs takes sayings host.progress o d e leaves.told leaves.reports;
+  serves = serves_after {A = Unit {0}} (Ok tt) leaves.told host.broken sound;
   part = refl;
   link = omega arith;
   desk = leaves.reports.follows;
-}
+})
 
 -- nothing
 pub nothing_performs : {terms : Terms} {L : Lacking} (standing : Standing) (host : HostState) (o : Devices)
@@ -175,28 +176,38 @@ nothing_performs standing host o serves = record {
 -- after a phase that was done a session goes on as its standing chooses
 module _ {first : Dialog Saying Standing} {K : Lacking} {x y : HostState} {o p : Devices} (takes : Bool)
     (standing : Standing) (done : PerformsBehind (untold takes) K first x y o p (Ok standing)) where
+  after_done : {terms : Terms} {L M : Lacking} {more whole : Dialog Saying Standing} {z : HostState} {q : Devices}
+      {result : Result Standing (Unit {0})} → PerformsBehind terms M more y z p q result
+      → Runs whole x.progress o q (untold takes) L result z.progress
+      → PerformsBehind (untold takes) L whole x z o q result
+  after_done {q = q} rest runs = record {
+    runs = runs;
+    serves = rest.serves;
+    part = rest.part ∙ done.part;
+    link = omega (arith, done.link, rest.link);
+    desk = follows_on o.desk p.desk q.desk done.desk rest.desk;
+  }
+
   pub performs_on : {L M : Lacking} (more_takes : Bool) (go_on : Standing → Dialog Saying Standing) {z : HostState}
       {q : Devices} (result : Result Standing (Unit {0})) → (more_takes ≡ true → takes ≡ true) → Foretells first
       → LacksLater L x.progress done.runs.during done.runs.events M y.progress
       → PerformsBehind (record { takes = more_takes; was_told = is_told standing }) M (go_on standing) y z p q result
       → PerformsBehind (untold takes) L (first >>= go_on) x z o q result
   unfolding came_part
-  performs_on more_takes go_on {q = q} (Ok then) both foretells lack rest = record {
-    runs = ran_on (came_part go_on done.runs) rest.runs;
-    serves = rest.serves;
-    part = rest.part ∙ done.part;
-    link = omega (arith, done.link, rest.link);
-    desk = follows_on o.desk p.desk q.desk done.desk rest.desk;
-  }
-  performs_on more_takes go_on {q = q} (Err stopped) both foretells lack rest = record {
-    runs = broke_on (came_part go_on done.runs) (stops_in (record
-        { takes = more_takes; was_told = is_told standing }) (untold takes) (sayings done.runs.events) o p q both
-        done.runs.sound (foretold foretells done.runs)) lack rest.runs;
-    serves = tt;
-    part = rest.part ∙ done.part;
-    link = omega (arith, done.link, rest.link);
-    desk = follows_on o.desk p.desk q.desk done.desk rest.desk;
-  }
+  performs_on more_takes go_on (Ok then) both foretells lack rest =
+      after_done rest (ran_on (came_part go_on done.runs) rest.runs)
+  performs_on more_takes go_on {q = q} (Err stopped) both foretells lack rest =
+      after_done rest (broke_on (came_part go_on done.runs) (stops_in (record
+      { takes = more_takes; was_told = is_told standing }) (untold takes) (sayings done.runs.events) o p q both
+      done.runs.sound (foretold foretells done.runs)) lack rest.runs)
+
+-- the same course of the host and its devices, as another phase
+abbrev performs_as : {terms all : Terms} {L M : Lacking} {first whole : Dialog Saying Standing} {x y : HostState}
+    {o p : Devices} {one other : Result Standing (Unit {0})} → PerformsBehind terms L first x y o p one
+    → Runs whole x.progress o p all M other y.progress → HostServes other y.broken
+    → PerformsBehind all M whole x y o p other
+performs_as done runs serves =
+    record { runs = runs; serves = serves; part = done.part; link = done.link; desk = done.desk }
 
 -- memory is taken in the one or in the other
 
@@ -208,34 +219,17 @@ or_then : (b c : Bool) → c ≡ true → (b || c) ≡ true
 or_then true c is = refl
 or_then false c is = is
 
--- what was played to its end was so on any terms
-performs_same : {terms all : Terms} {dialog : Dialog Saying Standing} {L M : Lacking} {x y : HostState} {o p : Devices}
-    {standing : Standing} → PerformsBehind terms L dialog x y o p (Ok standing)
-    → PerformsBehind all M dialog x y o p (Ok standing)
-performs_same done =
-    record { runs = done.runs; serves = done.serves; part = done.part; link = done.link; desk = done.desk }
-
 module _ (takes more_takes : Bool) where
   -- a phase at which a session ends
   performs_last : {first : Dialog Saying Standing} {L M : Lacking} (more : Dialog Saying Standing) {x y : HostState}
       {o p : Devices} (end : End) → LacksLater L x.progress [] [] M x.progress
       → PerformsBehind (untold takes) M first x y o p (stands (Err end))
       → PerformsBehind (untold (takes || more_takes)) L (first >>= unless_fault more) x y o p (stands (Err end))
-  performs_last more {o = o} {p = p} ends.Stopped lack done = record {
-    runs = broke_part (unless_fault more) (stops_since takes (takes || more_takes) false o o p
-        (or_first takes more_takes) (none_failed_here o)) lack done.runs;
-    serves = done.serves;
-    part = done.part;
-    link = done.link;
-    desk = done.desk;
-  }
-  performs_last more end lack done = record {
-    runs = ran_from (came_part (unless_fault more) done.runs);
-    serves = done.serves;
-    part = done.part;
-    link = done.link;
-    desk = done.desk;
-  }
+  performs_last more {o = o} {p = p} ends.Stopped lack done = performs_as done (broke_part (unless_fault more)
+      (stops_since takes (takes || more_takes) false o o p (or_first takes more_takes) (none_failed_here o)) lack
+      done.runs) done.serves
+  performs_last more end lack done =
+      performs_as done (ran_from (came_part (unless_fault more) done.runs)) done.serves
 
 -- ---- where memory is taken
 
@@ -294,10 +288,6 @@ taking_then part s xs ys {m = m} {n = n} ran during shown at =
 
 -- ---- the actions of a plan
 
-or_false : (b : Bool) → (b || false) ≡ b
-or_false true = refl
-or_false false = refl
-
 -- none
 pub does_nothing : (plan : Plan) (host : HostState) (o : Devices) → host.broken ≡ None
     → Does plan [] host host o o (Ok Fine)
@@ -309,14 +299,9 @@ performs_lacking : {terms : Terms} {L M : Lacking} {dialog : Dialog Saying Stand
     → PerformsBehind terms M dialog x y o p result
     → PerformsBehind terms L dialog x y o p result
 unfolding came_here
-performs_lacking lack (Ok standing) done = performs_same done
-performs_lacking {dialog = dialog} {x = x} {o = o} lack (Err stopped) done = record {
-  runs = broke_on (came_here dialog x.progress o) (λ said cause told stops. stops) lack done.runs;
-  serves = done.serves;
-  part = done.part;
-  link = done.link;
-  desk = done.desk;
-}
+performs_lacking lack (Ok standing) done = performs_as done done.runs done.serves
+performs_lacking {dialog = dialog} {x = x} {o = o} lack (Err stopped) done = performs_as done
+    (broke_on (came_here dialog x.progress o) (λ said cause told stops. stops) lack done.runs) done.serves
 
 -- one
 pub does_one : (plan : Plan) (action : Action) {x y : HostState} {o p : Devices} {result : Result Standing (Unit {0})}
@@ -325,7 +310,7 @@ pub does_one : (plan : Plan) (action : Action) {x y : HostState} {o p : Devices}
 does_one plan action {x = x} {y = y} {o = o} {p = p} {result = result} done =
     subst₂ (λ (takes : Bool) (dialog : Dialog Saying Standing). PerformsBehind (untold takes)
     (AtTaking plan.part plan.switches (action ∷ [])) dialog x y o p result)
-    (sym (or_false (action_takes_memory action))) (sym (phases-one plan.part plan.switches action))
+    (sym (or-false (action_takes_memory action))) (sym (phases-one plan.part plan.switches action))
     (performs_lacking (taking_one plan.part plan.switches action x.progress) result done)
 
 -- the same actions, as they are written elsewhere
@@ -350,11 +335,10 @@ module _ (plan : Plan) (xs ys : List Action) where
   -- both
   pub does_then : {x y z : HostState} {o p q : Devices} (result : Result Standing (Unit {0}))
       → Does plan xs x y o p (Ok Fine) → Does plan ys y z p q result → Does plan (xs ++ ys) x z o q result
-  unfolding performs_same
   does_then result done rest =
       does_both (performs_on {K = AtTaking plan.part plan.switches xs}
       (list_any action_takes_memory xs || list_any action_takes_memory ys) Fine
-      (performs_same done)
+      (performs_as done done.runs done.serves)
       (list_any action_takes_memory ys) (unless_fault (phases plan.part plan.switches ys)) result
       (or_then (list_any action_takes_memory xs) (list_any action_takes_memory ys))
       (phases_foretells plan.part plan.switches xs) (taking_then plan.part plan.switches xs ys done.runs) rest)
@@ -390,7 +374,7 @@ pub read_stops_report : (part : Part) (good : List ℕ → List Saying) (items :
     → StopsReport (untold takes) o d e (fault_or part good (given_or_fault items outcome)) (ReadStops outcome)
 read_stops_report part good items none (Ok done) takes o {d = d} {e = e} reports =
     desk_stops_report takes o d e (good items) reports.follows none
-read_stops_report part good items none (Err fault) takes o reports = print_stops_report takes o reports
+read_stops_report part good items none (Err fault) takes o reports = print_stops_report (untold takes) o reports
 
 -- the tasks are the first and those after it
 pub first_task : (tasks : List Task) (task : Task) → 1 ≤ length tasks → task ≡ get_or tasks 0 task
@@ -411,14 +395,8 @@ pub performs_until : {terms : Terms} {L : Lacking} {first : Dialog Saying Standi
     (go_on : Standing → Dialog Saying Standing) {x y : HostState} {o p : Devices} (stopped : Unit {0})
     → PerformsBehind terms L first x y o p (Err stopped)
     → PerformsBehind terms L (first >>= go_on) x y o p (Err stopped)
-performs_until go_on stopped done = record {
-  runs = broke_part go_on (λ said cause told s. s) (λ during shown lack. lack) done.runs;
-  serves = tt;
-  part =
-      done.part;
-  link = done.link;
-  desk = done.desk;
-}
+performs_until go_on stopped done =
+    performs_as done (broke_part go_on (λ said cause told s. s) (λ during shown lack. lack) done.runs) tt
 
 -- after a fault that was reported
 abbrev told_before : Terms
@@ -452,35 +430,20 @@ pub quietly_performs : {old new : HostState} {o p : LinkView} (d : DeskView) {ou
     → result ≡ conclusion outcome (Ok tt)
     → PerformsBehind told_before (AtOnce false) (reported closing (λ _. [])) old new (devices o d) (devices p d)
     (stands result)
-quietly_performs {old = old} {new = new} {o = o} {p = p} d {outcome = outcome} sound calls is =
-    let ended = call_ended closing old.progress o p outcome new.progress closing_lacks_none (calls.played sound) in
-    record {
-      runs = subst (λ r. Runs (reported closing (λ _. [])) old.progress (devices o d) (devices p d) told_before
-          (AtOnce false) (stands r) new.progress) (sym is)
-          (operation_runs closing (λ _. []) (moment old.progress o d) (moment new.progress p d) outcome (Ok tt)
-          told_before PrintStops
-          (λ mid cause prefix told stops. print_stops_run told_before p d d (follows_here d)
-          (prefix.whole ++ prefix.begun) cause told stops) ended (calls.bound sound) (calls.sound sound)
-          (kept_none d.kept, same_here d) (told_nothing closing old.progress o p d (calls.failed sound)));
-      serves = subst (λ r. HostServes (stands r) new.broken) (sym is)
-          (serves_after outcome (Ok tt) new.broken (calls.lasts sound));
-      part = calls.part;
-      link = calls.counted;
-      desk = follows_here d;
-    }
+quietly_performs {old = old} {o = o} {p = p} d sound calls is =
+    let reports : Reports PrintStops d d [] (Ok tt) =
+    record { says = (kept_none d.kept, same_here d); follows = follows_here d } in
+    phase_performs closing (λ _. []) reports told_before (print_stops_report told_before p reports)
+    (told_nothing closing old.progress o p d (calls.failed sound)) sound calls
+    (call_ended closing _ _ _ _ _ closing_lacks_none) is
 
 -- after it nothing more goes over the line
 pub quietly_over : {first : Dialog Saying Standing} {L : Lacking} {x y : HostState} {o p : Devices}
     (standing : Standing)
     → PerformsBehind told_before L first x y o p (Ok standing)
     → PerformsBehind told_before L (first >>= λ _. Done Over) x y o p (Ok Over)
-quietly_over {y = y} {p = p} standing done = record {
-  runs = ran_on (came_part (λ _. Done Over) done.runs) (ran_from (came_here (Done Over) y.progress p));
-  serves = tt;
-  part = done.part;
-  link = done.link;
-  desk = done.desk;
-}
+quietly_over {y = y} {p = p} standing done =
+    performs_as done (ran_on (came_part (λ _. Done Over) done.runs) (ran_from (came_here (Done Over) y.progress p))) tt
 
 -- a session that stood so after its actions ends so
 pub ends_so : (plan : Plan) (standing : Standing) {x y z : HostState} {o p q : Devices}

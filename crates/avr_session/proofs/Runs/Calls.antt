@@ -1,6 +1,6 @@
 -- How a call over a link and a desk goes on in its dialog.
 use Rattle.std.proofs.Common.{◌≡◌, ℕ, ◌≤◌, Bool, true, ◌||◌, List, [], ◌∷◌, ◌++◌, append_assoc, append-nil, length, map, refl, sym, ap, ◌∙◌, subst, Option, None}
-use Rattle.std.proofs.Math.Bool.{or_assoc}
+use Rattle.std.proofs.Math.Bool.{or_assoc, or-false}
 use Rattle.std.proofs.lemmas.List.Folds.{list_any-append}
 use Rattle.ghosts.specs.Failures.{HasRisen}
 use Rattle.avr_desk.specs.Fault.{HasSameCounts}
@@ -8,9 +8,9 @@ use Rattle.avr_desk.specs.Record.{Record, DeskView, Passes, after_err}
 use Rattle.stk_host.specs.declared.fault.Broken.{Broken}
 use Rattle.stk_host.specs.declared.fault.Broken.TheVariants.{Send, Recv}
 use Rattle.stk_host.specs.Tape.{Tape, on_tape}
-use Rattle.stk_host.specs.Talk.{Talk, LinkView, Grows, heard}
+use Rattle.stk_host.specs.Talk.{Talk, LinkView, Grows, heard, sent}
 use Rattle.stk_host.specs.Dialog.{Dialog, Done, ◌>>=◌, lifted, Event, Frame, Said, Played, played, bytes_sent, sayings}
-use Rattle.stk_host.specs.Play.{Position, PlaysOver, FailsOver}
+use Rattle.stk_host.specs.Play.{Position, InTurn, played_over, PlaysOver, FailsOver}
 use Rattle.stk_host.specs.Reach.{TalkLeads}
 use Rattle.stk_host.proofs.Talks.Laws.{grows_none, grows_on}
 use Rattle.stk_host.proofs.Talks.InDialogs.{continued, played_bind, leads_here, leads_on, leads_bind, leads_say, leads_from, plays_from, breaks_on, breaks_bind}
@@ -20,7 +20,7 @@ use Rattle.avr_desk.specs.Said.{Saying, SaidPart, after_all}
 use Rattle.avr_desk.proofs.Stages.Sayings.{kept_on, kept_none, after_append}
 use Rattle.avr_desk.proofs.Lines.Told.{failed_since, follows_on, follows_same, same_here, same_on, unsaid_since}
 use Rattle.avr_session.specs.Session.{says}
-use Rattle.avr_session.specs.Runs.{Devices, devices, NoneFailed, Cause, OfSending, OfListening, OfFile, OfPrinting, OfMemory, is_error, tells_fault, HasCome, TellsCause, Listens, Lacking, Terms, StopsBehind, Ran, BrokeOff}
+use Rattle.avr_session.specs.Runs.{Devices, devices, NoneFailed, Cause, OfSending, OfListening, OfFile, OfPrinting, OfMemory, is_error, tells_fault, HasCome, TellsCause, StopsAt, Listens, Lacking, Terms, StopsBehind, Ran, BrokeOff}
 use Rattle.avr_session.specs.Reporting.{IsOfDesk, SaysPrefix, SaidSome}
 use Rattle.avr_session.proofs.Runs.Stops.{place_more, place_behind, place_part, desk_says, desk_listens, sayings_said, map_append}
 
@@ -106,13 +106,15 @@ ran_from f = record {
   sound = f.sound;
 }
 
-came_from : {R : Type 0} {a : Dialog Saying R} {m n : Position} {o p : Devices} {result : R} → Ran a m o p result n
-    → Came (point a m o) (point (Done result) n p)
-came_from f = record {
+-- so a part of a dialog was, by what its talk leads to
+abbrev came_of : {A R : Type 0} {a : Dialog Saying A} {m n : Position} {o p : Devices} {result : A}
+    {b c : Dialog Saying R} (f : Ran a m o p result n) → TalkLeads b m f.during f.events c n
+    → Came (point b m o) (point c n p)
+came_of f leads = record {
   during = f.during;
   events = f.events;
   grows = f.grows;
-  leads = leads_from f.plays;
+  leads = leads;
   few = f.few;
   kept = f.kept;
   sound = f.sound;
@@ -120,7 +122,7 @@ came_from f = record {
 
 pub ran_on : {R : Type 0} {x y : Point R} {q : Devices} {result : R} {n : Position} → Came x y
     → Ran y.left y.position y.devices q result n → Ran x.left x.position x.devices q result n
-ran_on f ran = ran_from (came_on f (came_from ran))
+ran_on f ran = ran_from (came_on f (came_of ran (leads_from ran.plays)))
 
 -- breaking off
 
@@ -165,58 +167,121 @@ stops_in some all before o p q takes sound same said cause told stops =
 -- since before, or where more may take memory
 pub stops_since : (takes more told : Bool) (o p q : Devices) → (takes ≡ true → more ≡ true) → NoneFailed o p
     → StopsWhole (record { takes = takes; was_told = told }) (record { takes = more; was_told = told }) [] o p q
-stops_since takes more told o p q also sound said cause line stops = record {
-  between = stops.between;
-  has_come = has_come_in takes more o p (devices q.link stops.between) also sound cause stops.has_come;
-  tells = stops.tells;
-  since = follows_on o.desk p.desk stops.between (follows_same o.desk p.desk sound.1) stops.since;
-  until = stops.until;
+stops_since takes more told o p q also sound = stops_in (record { takes = takes; was_told = told })
+    (record { takes = more; was_told = told }) [] o p q also sound (or-false told)
+
+-- what happened of these events, up to where its cause stopped it
+record Placed (cause : Cause) (shown events : List (Event Saying)) : Type 0 where
+  whole : List (Event Saying)
+  begun : List (Event Saying)
+  later : List (Event Saying)
+  shown_is : shown ≡ whole ++ begun
+  events_are : events ≡ whole ++ later
+  place : StopsAt cause whole begun later
+
+placed_behind : {cause : Cause} {shown events : List (Event Saying)} (before : List (Event Saying))
+    → Placed cause shown events → Placed cause (before ++ shown) (before ++ events)
+placed_behind {cause = cause} before f = record {
+  whole = before ++ f.whole;
+  begun = f.begun;
+  later = f.later;
+  shown_is = ap (λ es. before ++ es) f.shown_is ∙ sym (append_assoc before f.whole f.begun);
+  events_are = ap (λ es. before ++ es) f.events_are ∙ sym (append_assoc before f.whole f.later);
+  place = place_behind cause before f.whole f.begun f.later f.place;
 }
+
+placed_more : {cause : Cause} {shown events : List (Event Saying)} (more : List (Event Saying))
+    → (cause ≡ OfListening → more ≡ []) → Placed cause shown events → Placed cause shown (events ++ more)
+placed_more {cause = cause} more none f = record {
+  whole = f.whole;
+  begun = f.begun;
+  later = f.later ++ more;
+  shown_is = f.shown_is;
+  events_are = ap (λ es. es ++ more) f.events_are ∙ append_assoc f.whole f.later more;
+  place = place_more cause f.whole f.begun f.later more none f.place;
+}
+
+-- of a cause this was reported, after nothing that was said
+abbrev pub ToldBy : Terms → Cause → Devices → Devices → Type 0
+ToldBy terms cause o p = (told : List ℕ) × StopsBehind terms o p [] cause told × Passes (after_err told) o.desk p.desk
+
+module _ {R : Type 0} {dialog : Dialog Saying R} {m : Position} {o p : Devices} {terms : Terms} {L : Lacking} where
+  placed_of : (f : BrokeOff dialog m o p terms L) → Placed f.cause f.shown (played_over dialog m f.during).events
+  placed_of f =
+      let prefix = f.breaks.prefix in
+      record {
+        whole = prefix.whole;
+        begun = prefix.begun;
+        later = prefix.later;
+        shown_is = prefix.shown_is;
+        events_are = prefix.events_are;
+        place = f.place;
+      }
+
+  broke_off : (during : Talk) (shown : List (Event Saying)) (cause : Cause) (told : List ℕ)
+      → Grows o.link.talk during p.link.talk → Placed cause shown (played_over dialog m during).events
+      → bytes_sent shown ≡ sent during → InTurn dialog m during
+      → Listens cause (played_over dialog m during).outcome → StopsBehind terms o p (sayings shown) cause told
+      → Passes (λ r. after_err told (after_all (sayings shown) r)) o.desk p.desk
+      → (cause ≡ OfMemory → L m during shown) → BrokeOff dialog m o p terms L
+  broke_off during shown cause told grows placed all_sent in_turn listens stops kept lacks = record {
+    during = during;
+    shown = shown;
+    cause = cause;
+    told = told;
+    grows = grows;
+    breaks = record {
+      prefix = record {
+        whole = placed.whole;
+        begun = placed.begun;
+        later = placed.later;
+        shown_is = placed.shown_is;
+        events_are = placed.events_are;
+        part = place_part cause placed.whole placed.begun placed.later placed.place;
+      };
+      all_sent = all_sent;
+      in_turn = in_turn;
+    };
+    place = placed.place;
+    listens = listens;
+    stops = stops;
+    lacks = lacks;
+    kept = kept;
+  }
+
+  -- before anything was said
+  broke_silent : (during : Talk) (shown : List (Event Saying)) (cause : Cause) → sayings shown ≡ []
+      → ToldBy terms cause o p → Grows o.link.talk during p.link.talk
+      → Placed cause shown (played_over dialog m during).events → bytes_sent shown ≡ sent during
+      → InTurn dialog m during → Listens cause (played_over dialog m during).outcome
+      → (cause ≡ OfMemory → L m during shown) → BrokeOff dialog m o p terms L
+  broke_silent during shown cause quiet some grows placed all_sent in_turn listens lacks =
+      broke_off during shown cause some.0 grows placed all_sent in_turn listens
+      (subst (λ said. StopsBehind terms o p said cause some.0) (sym quiet) some.1)
+      (subst (λ said. Passes (λ r. after_err some.0 (after_all said r)) o.desk p.desk) (sym quiet) some.2) lacks
 
 pub broke_on : {R : Type 0} {x y : Point R} {q : Devices} {some all : Terms} {L M : Lacking} (came : Came x y)
     → StopsWhole some all (sayings came.events) x.devices y.devices q
     → LacksLater L x.position came.during came.events M y.position
     → BrokeOff y.left y.position y.devices q some M → BrokeOff x.left x.position x.devices q all L
-broke_on {x = x} {y = y} {q = q} {all = all} came why lack broke =
-    let a = x.left in
+broke_on {R = R} {x = x} {y = y} {q = q} {all = all} came why lack broke =
     let m = x.position in
     let o = x.devices in
     let p = y.devices in
-    let prefix = broke.breaks.prefix in
     let whole = breaks_on SaidPart came.leads broke.breaks in
-    let play = ap (λ t. played a m.next (on_tape m.unread ++ t)) (heard_append came.during broke.during)
+    let play = ap (λ t. played x.left m.next (on_tape m.unread ++ t)) (heard_append came.during broke.during)
     ∙ came.leads.goes_on (heard broke.during) in
-    record {
-      during = came.during ++ broke.during;
-      shown = came.events ++ broke.shown;
-      cause = broke.cause;
-      told = broke.told;
-      grows = grows_on o.link.talk p.link.talk q.link.talk came.during broke.during came.grows broke.grows;
-      breaks = record {
-        prefix = record {
-          whole = came.events ++ prefix.whole;
-          begun = prefix.begun;
-          later = prefix.later;
-          shown_is = ap (λ es. came.events ++ es) prefix.shown_is
-              ∙ sym (append_assoc came.events prefix.whole prefix.begun);
-          events_are = ap (λ (play : Played Saying _). play.events) play
-              ∙ (ap (λ es. came.events ++ es) prefix.events_are
-              ∙ sym (append_assoc came.events prefix.whole prefix.later));
-          part = prefix.part;
-        };
-        all_sent = whole.all_sent;
-        in_turn = whole.in_turn;
-      };
-      place = place_behind broke.cause came.events prefix.whole prefix.begun prefix.later broke.place;
-      listens = subst (Listens broke.cause) (sym (ap (λ (play : Played Saying _). play.outcome) play)) broke.listens;
-      stops = subst (λ said. StopsBehind all o q said broke.cause broke.told)
-          (sym (sayings_append came.events broke.shown))
-          (why (sayings broke.shown) broke.cause broke.told broke.stops);
-      kept = kept_on (after_all (sayings came.events)) (λ r. after_err broke.told (after_all (sayings broke.shown) r))
-          (λ r. after_err broke.told (after_all (sayings (came.events ++ broke.shown)) r)) o.desk.kept p.desk.kept
-          q.desk.kept (λ r. ap (after_err broke.told) (after_both came.events broke.shown r)) came.kept broke.kept;
-      lacks = λ is. lack broke.during broke.shown (broke.lacks is);
-    }
+    broke_off (came.during ++ broke.during) (came.events ++ broke.shown) broke.cause broke.told
+    (grows_on o.link.talk p.link.talk q.link.talk came.during broke.during came.grows broke.grows)
+    (subst (λ (play : Played Saying R). Placed broke.cause (came.events ++ broke.shown) play.events) (sym play)
+    (placed_behind came.events (placed_of broke))) whole.all_sent whole.in_turn
+    (subst (λ (play : Played Saying R). Listens broke.cause play.outcome) (sym play) broke.listens)
+    (subst (λ said. StopsBehind all o q said broke.cause broke.told) (sym (sayings_append came.events broke.shown))
+    (why (sayings broke.shown) broke.cause broke.told broke.stops))
+    (kept_on (after_all (sayings came.events)) (λ r. after_err broke.told (after_all (sayings broke.shown) r))
+    (λ r. after_err broke.told (after_all (sayings (came.events ++ broke.shown)) r)) o.desk.kept p.desk.kept
+    q.desk.kept (λ r. ap (after_err broke.told) (after_both came.events broke.shown r)) came.kept broke.kept)
+    (λ is. lack broke.during broke.shown (broke.lacks is))
 
 -- memory is taken nowhere
 abbrev pub Never : Lacking
@@ -249,75 +314,37 @@ abbrev pub broken_cause : Broken → Cause
 broken_cause Send = OfSending
 broken_cause Recv = OfListening
 
--- of a cause this was reported, after nothing that was said
-abbrev pub ToldBy : Terms → Cause → Devices → Devices → Type 0
-ToldBy terms cause o p = (told : List ℕ) × StopsBehind terms o p [] cause told × Passes (after_err told) o.desk p.desk
-
 broke_raised : {A : Type 0} (by : Broken) {dialog : Dialog ⊥ A} {m : Position} {o p : Devices} {terms : Terms}
     {L : Lacking} → FailsOver by dialog m o.link p.link → ToldBy terms (broken_cause by) o p
     → BrokeOff (lifted dialog) m o p terms L
-broke_raised Send {dialog = dialog} {m = m} {o = o} {p = p} {terms = terms} f some =
+broke_raised Send {dialog = dialog} {m = m} f some =
     let g = by_lifted Saying Send dialog m f.during f.shown f.breaks in
-    record {
-      during = f.during;
-      shown = raised f.shown;
-      cause = OfSending;
-      told = some.0;
-      grows = f.grows;
-      breaks = record {
-        prefix = record {
-          whole = g.whole;
-          begun = Frame g.part ∷ [];
-          later = Frame (g.part ++ g.unsent) ∷ g.later;
-          shown_is = g.shown_is;
-          events_are = g.events_are;
-          part = (g.unsent, refl);
-        };
-        all_sent = g.all_sent;
-        in_turn = g.in_turn;
-      };
+    broke_silent f.during (raised f.shown) OfSending (sayings_raised f.shown) some f.grows (record {
+      whole = g.whole;
+      begun = Frame g.part ∷ [];
+      later = Frame (g.part ++ g.unsent) ∷ g.later;
+      shown_is = g.shown_is;
+      events_are = g.events_are;
       place = record {
         done = g.part;
         unsent = g.unsent;
         more = g.later;
         due = refl;
         part = refl;
-        not_whole =
-            g.not_whole;
+        not_whole = g.not_whole;
       };
-      listens = tt;
-      stops = subst (λ said. StopsBehind terms o p said OfSending some.0) (sym (sayings_raised f.shown)) some.1;
-      kept = subst (λ ss. Passes (λ r. after_err some.0 (after_all ss r)) o.desk p.desk) (sym (sayings_raised f.shown))
-          some.2;
-      lacks = λ is. absurd (cc);
-    }
-broke_raised Recv {dialog = dialog} {m = m} {o = o} {p = p} {terms = terms} f some =
+    }) g.all_sent g.in_turn tt (λ is. absurd (cc))
+broke_raised Recv {dialog = dialog} {m = m} f some =
     let g = by_lifted Saying Recv dialog m f.during f.shown f.breaks in
-    record {
-      during = f.during;
-      shown = raised f.shown;
-      cause = OfListening;
-      told = some.0;
-      grows = f.grows;
-      breaks = record {
-        prefix = record {
-          whole = raised f.shown;
-          begun = [];
-          later = [];
-          shown_is = sym (append-nil (raised f.shown));
-          events_are = sym g.shown_is ∙ sym (append-nil (raised f.shown));
-          part = tt;
-        };
-        all_sent = g.all_sent;
-        in_turn = g.in_turn;
-      };
+    let none = sym (append-nil (raised f.shown)) in
+    broke_silent f.during (raised f.shown) OfListening (sayings_raised f.shown) some f.grows (record {
+      whole = raised f.shown;
+      begun = [];
+      later = [];
+      shown_is = none;
+      events_are = sym g.shown_is ∙ none;
       place = (refl, refl);
-      listens = g.waits;
-      stops = subst (λ said. StopsBehind terms o p said OfListening some.0) (sym (sayings_raised f.shown)) some.1;
-      kept = subst (λ ss. Passes (λ r. after_err some.0 (after_all ss r)) o.desk p.desk) (sym (sayings_raised f.shown))
-          some.2;
-      lacks = λ is. absurd (cc);
-    }
+    }) g.all_sent g.in_turn g.waits (λ is. absurd (cc))
 
 -- what follows a part of a dialog
 module _ {A R : Type 0} (go_on : A → Dialog Saying R) where
@@ -338,53 +365,23 @@ module _ {A R : Type 0} (go_on : A → Dialog Saying R) where
   -- a part that was played whole
   unfoldable pub came_part : {a : Dialog Saying A} {m n : Position} {o p : Devices} {result : A} → Ran a m o p result n
       → Came (point (a >>= go_on) m o) (point (go_on result) n p)
-  came_part f = record {
-    during = f.during;
-    events = f.events;
-    grows = f.grows;
-    leads = leads_bind go_on (leads_from f.plays);
-    few = f.few;
-    kept = f.kept;
-    sound = f.sound;
-  }
+  came_part f = came_of f (leads_bind go_on (leads_from f.plays))
 
   -- a part that broke off
   pub broke_part : {a : Dialog Saying A} {m : Position} {o p : Devices} {some all : Terms} {L M : Lacking}
       → StopsWhole some all [] o o p → LacksLater L m [] [] M m → BrokeOff a m o p some M
       → BrokeOff (a >>= go_on) m o p all L
   broke_part {a = a} {m = m} why lack f =
-      let prefix = f.breaks.prefix in
-      let tape = on_tape m.unread ++ heard f.during in
-      let more = (continued (played a m.next tape).outcome (λ r. played (go_on r))).events in
-      let quiet = none_behind f.cause (played a m.next tape).outcome (λ r. played (go_on r)) f.listens in
-      let place = place_more f.cause prefix.whole prefix.begun prefix.later more quiet f.place in
-      record {
-        during = f.during;
-        shown = f.shown;
-        cause = f.cause;
-        told = f.told;
-        grows = f.grows;
-        breaks = record {
-          prefix = record {
-            whole = prefix.whole;
-            begun = prefix.begun;
-            later = prefix.later ++ more;
-            shown_is = prefix.shown_is;
-            events_are = ap (λ (play : Played Saying _). play.events) (played_bind a go_on m.next tape)
-                ∙ (ap (λ es. es ++ more) prefix.events_are ∙ append_assoc prefix.whole prefix.later more);
-            part = place_part f.cause prefix.whole prefix.begun (prefix.later ++ more) place;
-          };
-          all_sent = f.breaks.all_sent;
-          in_turn = (breaks_bind SaidPart go_on f.breaks).in_turn;
-        };
-        place = place;
-        listens = subst (Listens f.cause) (sym (ap (λ (play : Played Saying _). play.outcome)
-            (played_bind a go_on m.next tape))) (listens_behind f.cause (played a m.next tape).outcome
-            (λ r. played (go_on r)) f.listens);
-        stops = why (sayings f.shown) f.cause f.told f.stops;
-        kept = f.kept;
-        lacks = λ is. lack f.during f.shown (f.lacks is);
-      }
+      let play = played a m.next (on_tape m.unread ++ heard f.during) in
+      let next : A → ℕ → Tape → Played Saying R = λ r. played (go_on r) in
+      let bound = sym (played_bind a go_on m.next (on_tape m.unread ++ heard f.during)) in
+      broke_off f.during f.shown f.cause f.told f.grows
+      (subst (λ (play : Played Saying R). Placed f.cause f.shown play.events) bound (placed_more
+      (continued play.outcome next).events (none_behind f.cause play.outcome next f.listens) (placed_of f)))
+      f.breaks.all_sent (breaks_bind SaidPart go_on f.breaks).in_turn
+      (subst (λ (play : Played Saying R). Listens f.cause play.outcome) bound
+      (listens_behind f.cause play.outcome next f.listens)) (why (sayings f.shown) f.cause f.told f.stops) f.kept
+      (λ is. lack f.during f.shown (f.lacks is))
 
   -- an operation that broke off
   pub broke_operation : (by : Broken) {dialog : Dialog ⊥ A} {m : Position} {o p : Devices} {terms : Terms} {L : Lacking}
@@ -437,66 +434,33 @@ module _ {R : Type 0} (xs : List Saying) (dialog : Dialog Saying R) (m : Positio
   broke_saying {terms = terms} {d = d} {e = e} why f =
       let prefix = f.prefix in
       let shown : List Saying = prefix.whole ++ prefix.begun in
-      let more = (played dialog m.next (on_tape m.unread ++ [])).events in
-      let place = place_more f.cause (map Said prefix.whole) (map Said prefix.begun) (map Said prefix.later) more
-      (λ listens. absurd (desk_says f.cause prefix.by_desk listens)) prefix.place in
-      record {
-        during = [];
-        shown = map Said shown;
-        cause = f.cause;
-        told = f.told;
-        grows = grows_none o.talk;
-        breaks = record {
-          prefix = record {
-            whole = map Said prefix.whole;
-            begun = map Said prefix.begun;
-            later = map Said prefix.later ++ more;
-            shown_is = map_append prefix.whole prefix.begun;
-            events_are = says_events xs dialog m.next m.unread
-                ∙ (ap (λ es. es ++ more) (ap (map {B = Event Saying} Said) prefix.sayings_are
-                ∙ map_append prefix.whole prefix.later) ∙ append_assoc (map Said prefix.whole) (map Said prefix.later)
-                more);
-            part = place_part f.cause (map Said prefix.whole) (map Said prefix.begun) (map Said prefix.later ++ more)
-                place;
-          };
-          all_sent = no_bytes shown;
-          in_turn = tt;
-        };
-        place = place;
-        listens = desk_listens f.cause (played (says xs dialog) m.next (on_tape m.unread ++ [])).outcome prefix.by_desk;
-        stops = subst (λ said. StopsBehind terms (devices o d) (devices o e) said f.cause f.told)
-            (sym (sayings_said shown)) (why f.between f.cause f.prefix f.told f.stops);
-        kept = kept_on (after_all shown) (after_err f.told)
-            (λ r. after_err f.told (after_all (sayings (map Said shown)) r)) d.kept f.between.kept e.kept
-            (λ r. ap (after_err f.told) (ap (λ ss. after_all ss r) (sayings_said shown))) f.prefix.kept f.kept;
-        lacks = λ is. absurd (subst IsOfDesk is prefix.by_desk);
-      }
+      broke_off [] (map Said shown) f.cause f.told (grows_none o.talk)
+      (subst (Placed f.cause (map Said shown)) (sym (says_events xs dialog m.next m.unread))
+      (placed_more (played_over dialog m []).events (λ listens. absurd (desk_says f.cause prefix.by_desk listens))
+      (record {
+        whole = map Said prefix.whole;
+        begun = map Said prefix.begun;
+        later = map Said prefix.later;
+        shown_is = map_append prefix.whole prefix.begun;
+        events_are = ap (map {B = Event Saying} Said) prefix.sayings_are ∙ map_append prefix.whole prefix.later;
+        place = prefix.place;
+      }))) (no_bytes shown) tt (desk_listens f.cause (played_over (says xs dialog) m []).outcome prefix.by_desk)
+      (subst (λ said. StopsBehind terms (devices o d) (devices o e) said f.cause f.told)
+      (sym (sayings_said shown)) (why f.between f.cause f.prefix f.told f.stops))
+      (kept_on (after_all shown) (after_err f.told) (λ r. after_err f.told (after_all (sayings (map Said shown)) r))
+      d.kept f.between.kept e.kept (λ r. ap (after_err f.told) (ap (λ ss. after_all ss r) (sayings_said shown)))
+      f.prefix.kept f.kept) (λ is. absurd (subst IsOfDesk is prefix.by_desk))
 
 -- at once, for want of memory
 pub broke_lacking : {R : Type 0} {terms : Terms} {L : Lacking} {o p : Devices} (dialog : Dialog Saying R) (m : Position)
     → p.link ≡ o.link → ToldBy terms OfMemory o p → L m [] [] → BrokeOff dialog m o p terms L
-broke_lacking {o = o} dialog m same some lack = record {
-  during = [];
-  shown = [];
-  cause = OfMemory;
-  told = some.0;
-  grows = subst (λ (v : LinkView). Grows o.link.talk [] v.talk) (sym same) (grows_none o.link.talk);
-  breaks = record {
-    prefix = record {
+broke_lacking {o = o} dialog m same some lack =
+    broke_silent [] [] OfMemory refl some
+    (subst (λ (v : LinkView). Grows o.link.talk [] v.talk) (sym same) (grows_none o.link.talk)) (record {
       whole = [];
       begun = [];
-      later = (played dialog m.next (on_tape m.unread ++ [])).events;
-      shown_is =
-          refl;
+      later = (played_over dialog m []).events;
+      shown_is = refl;
       events_are = refl;
-      part = tt;
-    };
-    all_sent = refl;
-    in_turn = tt;
-  };
-  place = refl;
-  listens = tt;
-  stops = some.1;
-  kept = some.2;
-  lacks = λ is. lack;
-}
+      place = refl;
+    }) refl tt tt (λ is. lack)

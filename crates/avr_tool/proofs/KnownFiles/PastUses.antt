@@ -78,9 +78,7 @@ only_opened (Opens (Found x) ∷ says) r reads =
     let later = only_opened says (after (Opens (Found x)) r) reads in
     (Found x ∷ later.0, one_more (all_uses r) (all_uses (after (Opens (Found x)) r)) _ (Found x) later.0 refl later.1)
 only_opened (Line bytes ∷ says) r reads = only_opened says (after (Line bytes) r) reads
-only_opened (Creates name ∷ says) r reads = absurd reads
-only_opened (Writes bytes ∷ says) r reads = absurd reads
-only_opened (Outs bytes ∷ says) r reads = absurd reads
+only_opened (saying ∷ says) r reads = absurd reads
 
 -- ---- what a session and a saving do
 

@@ -1,5 +1,5 @@
 -- A run over a desk in memory and a tape is the function of its files and that tape.
-use Rattle.std.proofs.Common.{◌≡◌, ◌∙◌, ◌⊎◌, inl, inr, ℕ, sym, ap, subst, refl, List, [], ◌∷◌, ◌++◌, append_assoc, append-nil, map, replicate, Option, Some}
+use Rattle.std.proofs.Common.{◌≡◌, ◌∙◌, ◌⊎◌, inl, inr, ℕ, sym, ap, ap₂, subst, refl, List, [], ◌∷◌, ◌++◌, append_assoc, append-nil, map, replicate, Option, Some}
 use Rattle.std.proofs.lemmas.List.{map-append}
 use Rattle.std.specs.Io.KnownBytes.{Appends, Consumes}
 use Rattle.ghosts.specs.Stays.{Stays}
@@ -58,119 +58,78 @@ opened_uses stock (Created file ∷ uses) none are = absurd (cc)
 seen_sayings : (stock : Stock) (says : List Saying) → AreOpened stock (openings_in says) → AreSeen stock says
 seen_sayings stock [] are = tt
 seen_sayings stock (Opens opening ∷ says) are = (are.0, seen_sayings stock says are.1)
-seen_sayings stock (Line bytes ∷ says) are = seen_sayings stock says are
-seen_sayings stock (Creates name ∷ says) are = seen_sayings stock says are
-seen_sayings stock (Writes bytes ∷ says) are = seen_sayings stock says are
-seen_sayings stock (Outs bytes ∷ says) are = seen_sayings stock says are
+seen_sayings stock (saying ∷ says) are = seen_sayings stock says are
 
 -- ---- what is left, but for what was opened
 
--- the same messages, output and files
-record IsAlike (r s : Record) : Type 0 where
-  pub messages : r.messages ≡ s.messages
-  pub output : r.output ≡ s.output
-  pub files : files_among r.uses ≡ files_among s.uses
-  pub file : file_of r.current ≡ file_of s.current
+-- the messages, the output, the files that were made and the one that is being written
+record Left : Type 0 where
+  messages : Bytes
+  output : Bytes
+  files : List Writing
+  file : List Writing
 
-same_files : (r s : Record) → IsAlike r s → all_files r ≡ all_files s
-same_files r s alike = ap (λ (fs : List Writing). fs ++ file_of r.current) alike.files
-    ∙ ap (λ (fs : List Writing). files_among s.uses ++ fs) alike.file
+abbrev left_in : Record → Left
+left_in r = record { messages = r.messages; output = r.output; files = files_among r.uses; file = file_of r.current }
 
-same_used : (r s : Record) → IsAlike r s → files_among (all_uses r) ≡ files_among (all_uses s)
-same_used r s alike = files_used r ∙ same_files r s alike ∙ sym (files_used s)
+abbrev all_left : Left → List Writing
+all_left v = v.files ++ v.file
 
-with_bytes : Bytes → Writing → Writing
+abbrev with_bytes : Bytes → Writing → Writing
 with_bytes bytes file = record file { bytes = file.bytes ++ bytes }
 
+abbrev left_after : Saying → Left → Left
+left_after (Opens opening) v = record v { files = all_left v; file = [] }
+left_after (Line bytes) v = record v { messages = v.messages ++ bytes }
+left_after (Creates name) v = record v { files = all_left v; file = record { name = name; bytes = [] } ∷ [] }
+left_after (Writes bytes) v = record v { file = map (with_bytes bytes) v.file }
+left_after (Outs bytes) v = record v { output = v.output ++ bytes }
+
+abbrev left_after_all : List Saying → Left → Left
+left_after_all [] v = v
+left_after_all (saying ∷ says) v = left_after_all says (left_after saying v)
+
 written_file : (bytes : Bytes) (o : Open) → file_of (written_on bytes o) ≡ map (with_bytes bytes) (file_of o)
-unfolding with_bytes
 written_file bytes Closed = refl
 written_file bytes (ToRead x) = refl
 written_file bytes (ToWrite x) = refl
 
-alike_on : (saying : Saying) (r s : Record) → IsAlike r s → IsAlike (after saying r) (after saying s)
-alike_on (Opens (Absent name)) r s alike = record {
-  messages = alike.messages;
-  output = alike.output;
-  files = absent_used name r ∙ same_files r s alike ∙ sym (absent_used name s);
-  file = refl;
-}
-alike_on (Opens (Found x)) r s alike = record
-    { messages = alike.messages; output = alike.output; files = same_used r s alike; file = refl }
-alike_on (Line bytes) r s alike =
-    record {
-      messages = ap (λ (b : Bytes). b ++ bytes) alike.messages;
-      output = alike.output;
-      files = alike.files;
-      file = alike.file;
-    }
-alike_on (Creates name) r s alike = record
-    { messages = alike.messages; output = alike.output; files = same_used r s alike; file = refl }
-alike_on (Writes bytes) r s alike = record {
-  messages = alike.messages;
-  output = alike.output;
-  files = alike.files;
-  file = written_file bytes r.current ∙ ap (map (with_bytes bytes)) alike.file ∙ sym (written_file bytes s.current);
-}
-alike_on (Outs bytes) r s alike =
-    record {
-      messages = alike.messages;
-      output = ap (λ (b : Bytes). b ++ bytes) alike.output;
-      files = alike.files;
-      file = alike.file;
-    }
+left_on : (saying : Saying) (r : Record) → left_in (after saying r) ≡ left_after saying (left_in r)
+left_on (Opens (Absent name)) r =
+    ap (λ (fs : List Writing). record (left_in r) { files = fs; file = [] }) (absent_used name r)
+left_on (Opens (Found x)) r =
+    ap (λ (fs : List Writing). record (left_in r) { files = fs; file = [] }) (files_used r)
+left_on (Line bytes) r = refl
+left_on (Creates name) r = ap (λ (fs : List Writing). record (left_in r)
+    { files = fs; file = record { name = name; bytes = [] } ∷ [] }) (files_used r)
+left_on (Writes bytes) r =
+    ap (λ (fs : List Writing). record (left_in r) { file = fs }) (written_file bytes r.current)
+left_on (Outs bytes) r = refl
 
-alike_all : (says : List Saying) (r s : Record) → IsAlike r s → IsAlike (after_all says r) (after_all says s)
-alike_all [] r s alike = alike
-alike_all (saying ∷ says) r s alike = alike_all says (after saying r) (after saying s) (alike_on saying r s alike)
+left_all : (says : List Saying) (r : Record) → left_in (after_all says r) ≡ left_after_all says (left_in r)
+left_all [] r = refl
+left_all (saying ∷ says) r = left_all says (after saying r) ∙ ap (left_after_all says) (left_on saying r)
 
 -- what reads and tells makes no file
 abbrev joined : List Bytes → Bytes
 joined [] = []
 joined (line ∷ lines) = line ++ joined lines
 
-record HasTold (r : Record) (lines : List Bytes) (s : Record) : Type 0 where
-  pub messages : s.messages ≡ r.messages ++ joined lines
-  pub output : s.output ≡ r.output
-  pub files : files_among s.uses ≡ []
-  pub file : file_of s.current ≡ []
+abbrev told_left : Bytes → Bytes → Left
+told_left messages output = record { messages = messages; output = output; files = []; file = [] }
 
-only_told : (says : List Saying) (r : Record) → OnlyReads says → files_among r.uses ≡ [] → file_of r.current ≡ []
-    → HasTold r (lines_in says) (after_all says r)
-only_told [] r reads files file = record
-    { messages = sym (append-nil r.messages); output = refl; files = files; file = file }
-only_told (Opens (Absent name) ∷ says) r reads files file =
-    let told = only_told says (after (Opens (Absent name)) r) reads
-    (absent_used name r ∙ ap (λ (fs : List Writing). fs ++ file_of r.current) files ∙ file) refl in
-    record { messages = told.messages; output = told.output; files = told.files; file = told.file }
-only_told (Opens (Found x) ∷ says) r reads files file =
-    let told = only_told says (after (Opens (Found x)) r) reads
-    (files_used r ∙ ap (λ (fs : List Writing). fs ++ file_of r.current) files ∙ file) refl in
-    record { messages = told.messages; output = told.output; files = told.files; file = told.file }
-only_told (Line bytes ∷ says) r reads files file =
-    let told = only_told says (after (Line bytes) r) reads files file in
-    record {
-      messages = told.messages ∙ append_assoc r.messages bytes (joined (lines_in says));
-      output = told.output;
-      files = told.files;
-      file = told.file;
-    }
-only_told (Creates name ∷ says) r reads files file = absurd reads
-only_told (Writes bytes ∷ says) r reads files file = absurd reads
-only_told (Outs bytes ∷ says) r reads files file = absurd reads
+only_told : (says : List Saying) (messages output : Bytes) → OnlyReads says
+    → left_after_all says (told_left messages output) ≡ told_left (messages ++ joined (lines_in says)) output
+only_told [] messages output reads = ap (λ (m : Bytes). told_left m output) (sym (append-nil messages))
+only_told (Opens opening ∷ says) messages output reads = only_told says messages output reads
+only_told (Line bytes ∷ says) messages output reads = only_told says (messages ++ bytes) output reads
+    ∙ ap (λ (m : Bytes). told_left m output) (append_assoc messages bytes (joined (lines_in says)))
+only_told (saying ∷ says) messages output reads = absurd reads
 
--- so two plannings that tell the same lines leave the same
-alike_planning : (first second : List Saying) → OnlyReads first → OnlyReads second → lines_in first ≡ lines_in second
-    → IsAlike (after_all first nothing_kept) (after_all second nothing_kept)
-alike_planning first second one other same =
-    let a = only_told first nothing_kept one refl refl in
-    let b = only_told second nothing_kept other refl refl in
-    record {
-      messages = a.messages ∙ ap joined same ∙ sym b.messages;
-      output = a.output ∙ sym b.output;
-      files = a.files ∙ sym b.files;
-      file = a.file ∙ sym b.file;
-    }
+-- so what planning leaves is the lines that it tells
+planning_left : (says : List Saying) → OnlyReads says
+    → left_in (after_all says nothing_kept) ≡ told_left (joined (lines_in says)) []
+planning_left says reads = left_all says nothing_kept ∙ only_told says [] [] reads
 
 -- ---- planning
 
@@ -198,10 +157,7 @@ module _ (settings : Settings) (stock : Stock) (old m : MemDeskState) (answer : 
   kept_is = went.kept ∙ ap (after_all told) unused
 
   no_files : all_files m.kept ≡ []
-  no_files =
-      let left = only_told told nothing_kept only_read refl refl in
-      ap all_files kept_is ∙ ap (λ (fs : List Writing). fs ++ file_of (after_all told nothing_kept).current) left.files
-      ∙ left.file
+  no_files = ap all_files kept_is ∙ ap all_left (planning_left told only_read)
 
   opened : all_openings m.kept ≡ openings_in told
   opened = ap all_openings kept_is ∙ openings_shown told nothing_kept
@@ -220,48 +176,35 @@ module _ (settings : Settings) (stock : Stock) (old m : MemDeskState) (answer : 
   same_answer : (planned_of settings stock).answer ≡ answer
   same_answer = both.0 ∙ ap (λ (p : StageResult Plan). p.answer) planned_is
 
-  same_left : IsAlike (after_all (all_told (planned_of settings stock).says answer) nothing_kept) m.kept
+  same_left : left_in (after_all (all_told (planned_of settings stock).says answer) nothing_kept) ≡ left_in m.kept
   same_left =
-      let told_whole = told_in (planned_of settings stock) in
-      let alike : IsAlike (after_all told_whole nothing_kept) m.kept =
-      subst (IsAlike (after_all told_whole nothing_kept)) (sym kept_is)
-      (alike_planning told_whole told (only_reads settings (files_give stock (files_read settings))) only_read
-      (both.1 ∙ ap (λ (p : StageResult Plan). lines_in (told_in p)) planned_is)) in
-      subst (λ (a : StageAnswer Plan). IsAlike (after_all (all_told (planned_of settings stock).says a) nothing_kept)
-      m.kept)
-      same_answer alike
+      let whole = told_in (planned_of settings stock) in
+      let lines : lines_in whole ≡ lines_in told =
+      both.1 ∙ ap (λ (p : StageResult Plan). lines_in (told_in p)) planned_is in
+      ap (λ (a : StageAnswer Plan). left_in (after_all (all_told (planned_of settings stock).says a) nothing_kept))
+      (sym same_answer)
+      ∙ planning_left whole (only_reads settings (files_give stock (files_read settings)))
+      ∙ ap (λ (ls : List Bytes). told_left (joined ls) []) lines ∙ sym (planning_left told only_read)
+      ∙ ap left_in (sym kept_is)
 
 -- ---- the run
 
--- equal in each part
-outcome_is : (status : ℕ) (sent sent' messages messages' output output' : Bytes) (files files' : List Writing)
-    → sent ≡ sent' → messages ≡ messages' → output ≡ output' → files ≡ files'
-    → ◌≡◌ {A = RunOutcome} (record {
-      status = status;
-      sent = sent;
-      messages = messages;
-      output = output;
-      files =
-          files;
-    })
-    (record { status = status; sent = sent'; messages = messages'; output = output'; files = files' })
-outcome_is status sent sent' messages messages' output output' files files' a b c d = rw (a, b, c, d) refl
+abbrev outcome_of : ℕ → Bytes → Left → RunOutcome
+outcome_of status sent v =
+    record { status = status; sent = sent; messages = v.messages; output = v.output; files = all_left v }
 
 -- planning's sayings, and then these events, leave what the desk shows
 left_is : (status : ℕ) (says : List Saying) (events : List (Event Saying)) (between kept : Record) (talk : Talk)
-    → IsAlike (after_all says nothing_kept) between → kept ≡ after_all (sayings events) between
+    → left_in (after_all says nothing_kept) ≡ left_in between → kept ≡ after_all (sayings events) between
     → bytes_sent events ≡ sent talk
     → left_by (map Said says ++ events) status ≡ shown_by status kept talk
 left_is status says events between kept talk alike then frames =
-    let all : after_all (sayings (map Said says ++ events)) nothing_kept
-    ≡ after_all (sayings events) (after_all says nothing_kept) =
-    ap (λ (s : List Saying). after_all s nothing_kept) (said_sayings says events)
-    ∙ after_append says (sayings events) nothing_kept in
-    let same : IsAlike (after_all (sayings (map Said says ++ events)) nothing_kept) kept =
-    subst (λ r. IsAlike r kept) (sym all) (subst (IsAlike (after_all (sayings events) (after_all says nothing_kept)))
-    (sym then)
-    (alike_all (sayings events) (after_all says nothing_kept) between alike)) in
-    outcome_is status _ _ _ _ _ _ _ _ (said_bytes says events ∙ frames) same.messages same.output (same_files _ _ same)
+    let same : left_in (after_all (sayings (map Said says ++ events)) nothing_kept) ≡ left_in kept =
+    ap (λ (ss : List Saying). left_in (after_all ss nothing_kept)) (said_sayings says events)
+    ∙ ap left_in (after_append says (sayings events) nothing_kept)
+    ∙ left_all (sayings events) (after_all says nothing_kept) ∙ ap (left_after_all (sayings events)) alike
+    ∙ sym (left_all (sayings events) between) ∙ ap left_in (sym then) in
+    ap₂ (outcome_of status) (said_bytes says events ∙ frames) same
 
 module _ (settings : Settings) (old new : MemDeskState) (before after : LinkView) (status : ℕ)
     (unused : AreUnused old before) where

@@ -20,13 +20,7 @@ put_whole (Err e) good put = cc
 behind : (all done waiting piece rest sent waits next more : List ℕ) → all ≡ done ++ (waiting ++ rest)
     → rest ≡ piece ++ more → waiting ≡ sent ++ waits → next ≡ waits ++ piece → all ≡ (done ++ sent) ++ (next ++ more)
 behind all done waiting piece rest sent waits next more first second third fourth =
-    let last : waits ++ rest ≡ next ++ more =
-    ap (λ (xs : List ℕ). waits ++ xs) second
-    ∙ (sym (append_assoc waits piece more) ∙ ap (λ (xs : List ℕ). xs ++ more) (sym fourth)) in
-    let inner : waiting ++ rest ≡ sent ++ (next ++ more) =
-    ap (λ (xs : List ℕ). xs ++ rest) third ∙
-    (append_assoc sent waits rest ∙ ap (λ (xs : List ℕ). sent ++ xs) last) in
-    first ∙ (ap (λ (xs : List ℕ). done ++ xs) inner ∙ sym (append_assoc done sent (next ++ more)))
+    rw (first, third, second, fourth) (simp append_assoc)
 
 -- what waits is the last
 all_sent : (s : Stream) (old now new : Record) (done waiting text : List ℕ) (r : Result (Unit {0}) DeskFault)

@@ -12,7 +12,7 @@ returns-clause-performs g c =
     let part = c.args.self.now.plan.now.part in
     let says = closed_says c.args.self.now.plan.now.switches.quiet part in
     let reports = c.report_closing-reported.ensures.reports in
-    operation_performs false closing says reports (print_stops_report _ _ reports)
+    operation_performs closing says reports false (print_stops_report _ _ reports)
     (told_of part says (λ stop. refl) reports) c.requires c.close-closed.ensures.calls
     (call_ended closing _ _ _ _ _ closing_lacks_none) c.conclude.ensures
 

@@ -13,7 +13,7 @@ returns-clause-performs g c =
     let part = c.args.self.now.plan.now.part in
     let says = erased_says c.args.self.now.plan.now.switches.quiet part in
     let reports = c.report_erased-reported.ensures.reports in
-    does_one c.args.self.now.plan.now EraseChip (operation_performs false erasing says reports
+    does_one c.args.self.now.plan.now EraseChip (operation_performs erasing says reports false
     (print_stops_report _ _ reports) (told_of part says (λ stop. refl) reports) c.requires.sound
     c.erase-erased.ensures.calls (call_ended erasing _ _ _ _ _ erasing_lacks_none) c.conclude.ensures)
 

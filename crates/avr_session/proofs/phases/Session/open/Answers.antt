@@ -14,7 +14,7 @@ returns-clause-performs g c =
     let operation = opening part.signature s.force in
     let reports = c.report_opening-reported.ensures.reports in
     does_one c.args.self.now.plan.now OpenSession
-    (operation_performs false operation (opening_says s.quiet part) reports
+    (operation_performs operation (opening_says s.quiet part) reports false
     (print_stops_report _ _ reports) (told_of part (opening_says s.quiet part) (opening_line s.quiet part) reports)
     c.requires.sound c.open-opened.ensures.calls
     (λ ends. call_ended operation _ _ _ _ _ (opening_lacks_none part.signature s.force)

@@ -25,7 +25,7 @@ returns-clause-performs g c =
     let good = read_says s c.args.mem format file in
     let reports = rw c.as_slice.ensures.value at c.report_read-reported.ensures.reports in
     does_one c.args.self.now.plan.now (SaveMemory c.args.mem format file)
-    (operation_performs true operation (fault_or part good) reports
+    (operation_performs operation (fault_or part good) reports true
     (read_stops_report part good items (read_none s c.args.mem format file items) c.read-outcome.result _ _ reports)
     (given_told items good part c.read-outcome.result reports) c.requires.sound c.read-outcome.ensures.calls
     (λ ends. lack_ended operation _ _ _ outcome _ (rw c.requires.part at ends))

@@ -15,7 +15,7 @@ returns-clause-performs g c =
     let says = verified_says c.args.self.now.plan.now.switches.quiet part c.args.mem c.args.image.now in
     let reports = c.report_image-reported.ensures.reports in
     does_one c.args.self.now.plan.now (CompareImage c.args.mem c.args.image.now)
-    (operation_performs true operation says reports (print_stops_report _ _ reports)
+    (operation_performs operation says reports true (print_stops_report _ _ reports)
     (told_of part says (λ stop. refl) reports) c.requires.sound c.verify-verified.ensures.calls
     (λ ends. lack_ended operation _ _ _ _ _ (rw c.requires.part at ends)) c.conclude.ensures)
 
