@@ -1,5 +1,5 @@
 #!/usr/bin/env python3
-"""Runs avrstk-serve: clients one after another, such as send nothing, reset the connection or are idle, and how it ends.
+"""Tests avrstk-serve: clients in turn, clients that send nothing, reset the connection or are idle, and how it ends.
 
     tests/serve.py [CASE ..]        needs a built program (program.py)
 """
@@ -24,13 +24,13 @@ room = Room()
 
 
 class Serving:
-    """The script with these words at a port of its own, once it listens; its messages are in a file."""
+    """The script with these options at a port of its own, once it listens. Its messages are in a file."""
 
     def __init__(self, *words, port="0", chip=M328P):
         self.messages = room.folder / "messages"
         with self.messages.open("wb") as messages:
             how = {"stdin": subprocess.DEVNULL, "stdout": subprocess.PIPE, "stderr": messages, "cwd": room.folder}
-            # (a group of its own, as a shell makes one)
+            # (a process group of its own, as from a shell)
             command = [SCRIPT, port, *chip, *words]
             self.started = subprocess.Popen(command, env=environment(), start_new_session=True, **how)
         self.said = self.started.stdout.readline()
@@ -40,12 +40,12 @@ class Serving:
         return socket.create_connection(("127.0.0.1", self.port), PATIENCE)
 
     def writes_fuse(self, value):
-        """The status and messages of a client that writes the low fuse."""
+        """Returns the status and messages of a client that writes the low fuse."""
         status, _, messages = room.run(["-p", "m328p", "-P", f"net:127.0.0.1:{self.port}", "-U", f"lfuse:w:{value}:m"])
         return status, messages
 
     def end(self, *numbers, group=False):
-        """Its status and messages after these signals, and that no run is left."""
+        """Sends these signals and returns its status and messages. Checks that no run is left."""
         for number in numbers or [signal.SIGTERM]:
             (os.killpg if group else os.kill)(self.started.pid, number)
         status = self.started.wait(timeout=PATIENCE)
@@ -68,7 +68,7 @@ def environment():
 
 
 def runs():
-    """The runs of the program in the room."""
+    """Returns the runs of the program in the room."""
     found = []
     for it in Path("/proc").glob("[0-9]*"):
         try:
@@ -88,13 +88,13 @@ def wait_for(seen):
 
 
 def fuse():
-    """The low fuse of the chip file; None where there is none."""
+    """Returns the low fuse of the chip file; None if there is no file."""
     chip = room.read("chip.bin")
     return chip[LFUSE] if chip else None
 
 
 def heard(client, count):
-    """So many bytes from a connection, or those up to its end."""
+    """Returns `count` bytes from a connection, or fewer at its end."""
     found = b""
     while len(found) < count and (piece := client.recv(count - len(found))):
         found += piece
@@ -102,13 +102,13 @@ def heard(client, count):
 
 
 def begins(client):
-    """A session that has been opened and stays open."""
+    """Sends SIGN_ON, and returns whether its reply came."""
     client.sendall(FRAMES[0])
     return heard(client, ENDS[0]) == ANSWERS[: ENDS[0]]
 
 
 def listens():
-    """It says where it listens, at a port that is given or at any."""
+    """It prints its port: a given one, or any free one."""
     room.clear()
     with Serving() as it:
         same("what it says", it.said, f"serving at 127.0.0.1:{it.port}\n".encode())
@@ -134,13 +134,13 @@ def listens():
 
 
 def clients_that_send_nothing():
-    """A client that only connects starts no run and keeps nobody waiting, before, while and after another is served."""
+    """A client that only connects starts no run and delays no other client, before, while or after that one is served."""
     room.clear()
     with Serving() as it:
         for _ in range(100):
             it.call().close()
         silent = [it.call() for _ in range(100)]
-        # (once a later client is served these were seen)
+        # (a later client is served only after the server has seen these)
         same("a client after them", it.writes_fuse(0x60)[0], 0)
         wait_for(lambda: fuse() == 0x60)
         with it.call() as client:
@@ -165,7 +165,7 @@ def clients_that_send_nothing():
 
 
 def one_after_another():
-    """A client waits until the one before it has hung up, and finds its chip."""
+    """A client waits until the one before it has hung up, and gets the chip that it left."""
     room.clear()
     with Serving() as it:
         first = it.call()
@@ -185,7 +185,7 @@ def one_after_another():
 
 
 def half_closed():
-    """A client that has hung up its side gets all answers."""
+    """A client that has closed its sending side gets all replies."""
     room.clear()
     with Serving() as it, it.call() as client:
         client.sendall(b"".join(FRAMES))
@@ -196,7 +196,7 @@ def half_closed():
 
 
 def clients_that_reset():
-    """Each second client resets the connection in the middle of a session, and the others get what they want."""
+    """Each second client resets the connection in the middle of a session, and the others are served."""
     room.clear()
     with Serving() as it:
         for value in range(0x60, 0x68):
@@ -209,7 +209,7 @@ def clients_that_reset():
 
 
 def a_chip_in_use():
-    """A client whose chip another run has hears the end, and the next one is served."""
+    """If another run holds the chip, the client's connection is closed, and the next client is served."""
     room.clear()
     os.mkfifo(room.folder / "pipe")
     with Serving() as it:
@@ -225,7 +225,7 @@ def a_chip_in_use():
 
 
 def idle_clients():
-    """A client that is idle is hung up on if that was asked for, and its chip is saved."""
+    """With --idle the server hangs up on an idle client, and its chip is saved."""
     room.clear()
     with Serving("--idle", "0.4") as it:
         with it.call() as silent, it.call() as client:
@@ -255,7 +255,7 @@ def programs_fuse(number, value):
 
 
 def ends_at_a_signal():
-    """It ends with status 0 at a signal, wherever it is: what its client did is saved, and no run is left."""
+    """At a signal it ends with status 0, whatever it is doing. Its client's changes are saved, and no run is left."""
     # (a terminal sends Ctrl-C to the whole group)
     for number, group in [(signal.SIGTERM, False), (signal.SIGINT, True), (signal.SIGHUP, False)]:
         name = number.name
@@ -282,7 +282,7 @@ def ends_at_a_signal():
 
 
 def refused():
-    """What is wrong is told before it listens, with status 1."""
+    """It reports errors before it listens, and ends with status 1."""
     room.clear()
     taken = kept_port()
     taken.listen()
@@ -326,7 +326,7 @@ def refused():
 
 
 def installed():
-    """Beside an installed program it finds that, and its part file."""
+    """If it is installed, it finds the program beside it, and the installed part file."""
     room.clear()
     (room.folder / "bin").mkdir()
     (room.folder / "share/avrstk").mkdir(parents=True)

@@ -1,5 +1,5 @@
 #!/usr/bin/env bash
-# Installs what the scripts compare with and would leave out (Debian's packages), where this is root and apt-get is here.
+# Installs the Debian packages of the tools that the scripts compare with, if this is root and apt-get is installed.
 set -u
 packages=(
     gcc libc6-dev avrdude srecord gcc-avr binutils-avr avr-libc python3-intelhex simavr libsimavr-dev libelf-dev
@@ -17,5 +17,5 @@ if [ "$(id -u)" != 0 ] || ! command -v apt-get >/dev/null; then
 fi
 export DEBIAN_FRONTEND=noninteractive
 install() { apt-get install -y -q --no-install-recommends "${lacking[@]}" </dev/null; }
-# (the lists may be old, or not there)
+# (the package lists may be old or missing)
 install >/dev/null 2>&1 || { apt-get update -q && install; }
