@@ -168,7 +168,7 @@ start() {
 
 # (if no program is built, ./avrstk reports it)
 built=${AVRSTK:-$("$top/avrstk" --which)}
-[ -f "$built" ] || fail "$built is no file"
+[ -f "$built" ] || fail "$built is not a file"
 check "$folders" "${tool[@]}"
 [ -z "$with_c" ] || check "${library[@]}"
 # (the part file first: the note of folders is beside it)
@@ -196,5 +196,5 @@ if [ -e "$top/out/c/$shared" ]; then
     put 644 "$top/out/c/$shared" "$prefix/lib/$shared"
     put_link "$shared" "$link"
 else
-    echo "no shared library was made, since there is no C compiler"
+    echo "no shared library was made, because there is no C compiler"
 fi

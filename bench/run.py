@@ -155,7 +155,7 @@ def time_line(room, runs):
     """Times a session over TCP on this machine, beside the smallest client that sends the same frames."""
     frames = frames_sent(room)
     taken = best_over_line(room, runs, session_over)
-    print(f"{taken:9.1f} ms  {'':9}  32 kB written and verified over a line, {len(frames)} frames")
+    print(f"{taken:9.1f} ms  {'':9}  32 kB written and verified over a link, {len(frames)} frames")
     if not shutil.which("cc"):
         print("          cc is not installed")
         return
@@ -164,7 +164,7 @@ def time_line(room, runs):
     subprocess.run(["cc", "-O2", "-o", str(client), str(TOP / "bench/least_client.c")], check=True)
     room.given |= {"frames", "least_client"}
     least = best_over_line(room, runs, lambda port: [str(client), str(port), "frames"])
-    print(f"{least:9.1f} ms  {'':9}  the least client with the same frames (the tool takes {taken / least:.2f} times this)")
+    print(f"{least:9.1f} ms  {'':9}  the smallest client with the same frames (the tool takes {taken / least:.2f} times this)")
 
 
 # ---- counts

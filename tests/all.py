@@ -57,8 +57,8 @@ REFUSALS = {
     "contradicted by values": re.compile(r"; the f"),
     "only by a limit": re.compile(r" \(only by a limit"),
     "first at a written answer": re.compile(r" \(only because a proof file|: (note: )?(\./)?proofs/"),
-    "where the line of rt is cut before it says how": re.compile(r": .{160}$"),
-    "where a search found nothing or gave up": re.compile(""),
+    "for an unknown reason, because the line of rt is cut": re.compile(r": .{160}$"),
+    "because a search found nothing or gave up": re.compile(""),
 }
 
 
@@ -201,7 +201,7 @@ def summary(done):
     kinds = Counter(next(kind for kind, words in REFUSALS.items() if words.search(how)) for how in refused)
     if refused:
         told = ", ".join(f"{kinds[kind]} {kind}" for kind in REFUSALS if kinds[kind])
-        print(f"wrong bodies: {len(refused)} refused, of these {told}")
+        print(f"mutants: {len(refused)} refused, of these {told}")
     left = [line for it in done for line in it.left_out()]
     print(f"left out because a tool isn't installed: {len(left) or 'nothing'}", *left, sep="\n    ")
     wrong = sum(it.status != 0 for it in done)

@@ -139,7 +139,7 @@ def held_by_a_session():
     """A served session holds the chip; before a caller comes, other runs may use it."""
     fresh_room()
     with Server(room, "chip.bin") as server:
-        is_good("a run while nobody has called", room.run(writes_fuse(0x62)))
+        is_good("a run before a caller comes", room.run(writes_fuse(0x62)))
         with server.call() as caller:
             wait_for(lambda: room.read(NEW_FILE) is not None)
             same("a run beside the session", room.run(writes_fuse(0xE2)), (1, b"", IN_USE))
@@ -155,8 +155,8 @@ def refused_by_then():
     with Server(room, "chip.bin") as server:
         holder = waiting_run()
         with server.call() as caller:
-            same("the caller hears", caller.recv(1), b"")
-        same("the server says", server.end(), (1, b"", IN_USE))
+            same("the caller receives", caller.recv(1), b"")
+        same("the server's message", server.end(), (1, b"", IN_USE))
     (room.folder / "pipe").read_bytes()
     holder.communicate(timeout=PATIENCE)
     see("the run ends well", holder.returncode == 0)
@@ -422,7 +422,7 @@ def a_full_disk():
         fresh_room()
         words = ["sh", "-c", f'{limit}; exec "$0" "$@"', str(PROGRAM), *writes_fuse(0x62)]
         found = subprocess.run(words, capture_output=True, cwd=room.folder)
-        same(f"{limit}: it is told", (found.returncode, found.stderr), (1, told))
+        same(f"{limit}: it is reported", (found.returncode, found.stderr), (1, told))
         see(f"{limit}: the chip is as it was", room.read("chip.bin") == OLD)
         same(f"{limit}: no file is left beside it", room.read(NEW_FILE), None)
 

@@ -117,7 +117,7 @@ def files_are_written_over():
     room.clear()
     found = room.run(["-p", "m328p", "-P", "emu:x.bin", "-U", "eeprom:r:x.bin:r"])
     see("a read into the chip file", found == (0, b"", lines(SIGNATURE, "eeprom: 1024 bytes read", "done")), found)
-    see("the chip stands there", room.read("x.bin") == NEW)
+    see("the chip is there", room.read("x.bin") == NEW)
     told = [SIGNATURE, "eeprom: 1024 bytes read", "lfuse: 1 bytes read", "done"]
     run("two reads into one file", ["-U", "eeprom:r:out:r", "-U", "lfuse:r:out:h"], told)
     see("the second stays", room.read("out") == b"0xff\n", room.read("out"))
@@ -131,7 +131,7 @@ def text_is_flashed():
         count = len(content)
         told = [*ERASED, f"flash: {count} bytes written", f"flash: {count} bytes verified", "done"]
         chip = run(f"{name} is flashed", ["-U", "flash:w:image.hex"], told, image_hex=content)
-        see(f"{name}: as it stands", chip[:count] == content)
+        see(f"{name}: unchanged", chip[:count] == content)
         run(f"{name} is refused by :i", ["-U", "flash:w:image.hex:i"], refusal, 1, image_hex=content)
     run("and by :s", ["-U", "flash:w:image.hex:s"], refusal, 1, image_hex=commented)
 
@@ -328,7 +328,7 @@ def ended_from_outside():
     caller.setsockopt(socket.SOL_SOCKET, socket.SO_LINGER, struct.pack("ii", 1, 0))
     caller.close()
     found = server.end()
-    see("--serve: status 1 where a caller resets", found == (1, b"", lines("error: link cannot be read")), found)
+    see("--serve: status 1 if a caller resets", found == (1, b"", lines("error: link cannot be read")), found)
     see("the chip is saved all the same", room.read("chip.bin") == NEW)
     room.clear()
     os.mkfifo(room.folder / "pipe")
@@ -348,13 +348,13 @@ def loaded_for_its_caller():
     server = Server(room, "chip.bin")
     told = [SIGNATURE, "lfuse: 1 bytes written", "lfuse: 1 bytes verified", "done"]
     found = room.run([*EMULATED, "-U", "lfuse:w:0xE2:m"])
-    see("a run while nobody has called", found == (0, b"", lines(*told)), found)
+    see("a run before a caller comes", found == (0, b"", lines(*told)), found)
     with server.call() as caller:
         answers = frames_of(caller)
         for number, (body, wanted) in enumerate([(ENTER, "10 00"), (bytes.fromhex("18 04 50 00 00 00"), "18 00 E2 00")], 1):
             caller.sendall(frame(number, body))
             found = next(answers)
-            see(f"frame {number} is answered", found == frame(number, bytes.fromhex(wanted)), found.hex(" "))
+            see(f"frame {number} gets a reply", found == frame(number, bytes.fromhex(wanted)), found.hex(" "))
     found = server.end()
     see("the caller has gone", found == (0, b"", b""), found)
     see("and the fuse is kept", room.read("chip.bin") == NEW[:LFUSE] + b"\xe2" + NEW[LFUSE + 1 :])
@@ -362,10 +362,10 @@ def loaded_for_its_caller():
     server = Server(room, "chip.bin")
     room.put("chip.bin", b"abc")
     with server.call() as caller:
-        see("a bad chip by then: the caller hears the end", caller.recv(1) == b"")
+        see("a bad chip by then: the connection is closed", caller.recv(1) == b"")
     found = server.end()
     wanted = f"error: chip.bin: 3 bytes, {CHIP_FILE} expected"
-    see("and it is told", found == (1, b"", lines(wanted)), found)
+    see("and it is reported", found == (1, b"", lines(wanted)), found)
     see("the file is left as it is", room.read("chip.bin") == b"abc")
 
 

@@ -235,7 +235,7 @@ def over_late_line(room, shim, label):
 
 def while_serving(room, shim, label):
     served = Serving(room, shim, label, [], b"")
-    same("what a sound session answers", served.sound[1], ANSWERS)
+    same("the replies of an undisturbed session", served.sound[1], ANSWERS)
     swept(served, ALL)
 
 

@@ -56,7 +56,7 @@ def with_output(words, target):
 def input_fails():
     """Tests a standard input that is empty, or a folder."""
     room.clear()
-    same("no answers", room.run(SESSION), (1, FRAMES[0], lines("error: link ended")))
+    same("no replies", room.run(SESSION), (1, FRAMES[0], lines("error: link ended")))
     folder = os.open(room.folder, os.O_RDONLY)
     started = room.start(SESSION, folder)
     same("a folder for a line", (*started.communicate(timeout=PATIENCE), started.returncode), (FRAMES[0], lines("error: link cannot be read"), 1))
@@ -215,7 +215,7 @@ def callers_are_odd():
         found, answer = served(sent)
         same(f"a caller with {name}", found, told)
         if answered is not None:
-            same(f"what is answered to {name}", answer, answered)
+            same(f"the reply to {name}", answer, answered)
         same(f"the chip after {name}", room.read("served.bin"), blank)
     room.clear()
     (status, messages), _ = served(FRAMES[0], resets=True)
@@ -233,7 +233,7 @@ def a_second_caller():
     room.clear()
     with Server(room) as server, server.call() as first:
         first.sendall(FRAMES[0])
-        see("the first caller is answered", first.recv(1) == b"\x1b")
+        see("the first caller gets a reply", first.recv(1) == b"\x1b")
         try:
             with server.call():
                 see("a second caller is refused", False, "a connection")

@@ -289,11 +289,11 @@ class Deaf(Peer):
 
 def a_silence_is_a_second():
     peer = Deaf()
-    run("a programmer that never answers", [*PART, "-P", f"net:127.0.0.1:{peer.port}"], ["error: no answer"])
+    run("a programmer that never replies", [*PART, "-P", f"net:127.0.0.1:{peer.port}"], ["error: no answer"])
     times = peer.end()
     same("four attempts to sign on, four to leave", len(times), 8)
     gaps = [later - time for time, later in zip(times, times[1:])]
-    see("each silence takes a second", all(0.9 <= gap <= 1.9 for gap in gaps), gaps)
+    see("each timeout takes a second", all(0.9 <= gap <= 1.9 for gap in gaps), gaps)
 
 
 def ports_are_refused():
@@ -303,7 +303,7 @@ def ports_are_refused():
         refused("a port that is taken", [*PART, *chip], f"port {taken} cannot be opened")
     with kept_port() as kept:
         nobody = f"net:127.0.0.1:{port_of(kept)}"
-        refused("a port where nobody listens", [*PART, "-P", nobody], f"port {nobody} cannot be opened")
+        refused("a port at which no process listens", [*PART, "-P", nobody], f"port {nobody} cannot be opened")
 
 
 # ---- a line is one write

@@ -166,7 +166,7 @@ def without_a_pause_all_is_seen():
     line = Line(chip_of(made_contents(0xAA, 7)))
     status, messages, _ = line.run("-U", f"flash:v:{image()}")
     told = lines(SIGNATURE, "error: flash: address 00000000: 55 expected, AA found")
-    see("without the pause the difference is told", (status, messages) == (1, told), (status, messages))
+    see("without the pause the difference is reported", (status, messages) == (1, told), (status, messages))
     other = bytes((place * 37 + 11) % 256 for place in range(256))
     front = bytes([0x1B, 7, 1, 3, 0x0E, 0x14, 0x00])
     line = Line(chip_of(other), pause_in=front, pause_at=11)

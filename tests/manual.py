@@ -396,7 +396,7 @@ def names_agree():
 def version_agrees():
     """The help, the header for C and the newest changes have the version in VERSION."""
     _, shown = of_help()
-    see("--help tells the version", f"This is avrstk {VERSION}." in " ".join(shown.split()), shown[-200:])
+    see("--help shows the version", f"This is avrstk {VERSION}." in " ".join(shown.split()), shown[-200:])
     see("the header has it", f'AVR_RECORDS_VERSION "{VERSION}"' in (TOP / "include/avr_records.h").read_text())
     newest = re.search(r"^## ([0-9.]+)", (TOP / "CHANGELOG.md").read_text(), re.M)[1]
     same("the newest changes are its own", newest, VERSION)

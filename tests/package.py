@@ -150,8 +150,8 @@ def packages_say_what_they_are():
         flat = " ".join(told.split())
         mark, proof = (" (unproved build)", UNPROVED) if name == "avrstk" else ("", PROVED)
         see(f"{name} is marked in its first line or not", told.splitlines()[0].endswith(mark), told)
-        same(f"{name} says once what is proved", flat.count(f"{proof}, by {KIT}. "), 1)
-        same(f"{name} says whether it is unproved", "unproved" in flat.lower(), bool(mark))
+        same(f"{name} states once what is proved", flat.count(f"{proof}, by {KIT}. "), 1)
+        same(f"{name} states whether it is unproved", "unproved" in flat.lower(), bool(mark))
         see(f"{name} has the commit", f"Commit {made()[0].commit()}" in flat, told)
     depends = field(package("avrstk"), "Depends")
     see("avrstk depends on libc6 and Python", re.match(r"libc6 \(>= 2\.\d+\).*, python3 \(>= 3\.8\)$", depends), depends)
@@ -176,7 +176,7 @@ def a_proved_program_is_not_marked():
     same("its version", field(found, "Version"), VERSION)
     see("it has no mark", "unproved" not in description.lower(), description)
     flat = " ".join(description.split())
-    see("it says that it is proved", f"{PROVED}, by {KIT}." in flat, description)
+    see("it states that it is proved", f"{PROVED}, by {KIT}." in flat, description)
     see("and of changes", f"Commit {made()[0].commit()}, with changes since." in flat, description)
     os.utime(program, (0, 0))
     ended(clone.start(AVRSTK=str(program)))
@@ -205,7 +205,7 @@ def packages_hold_what_is_installed():
         wanted = [*DEVELOPMENT, *(f"usr/share/doc/libavr-records-dev/{it}" for it in docs[3:])]
         same("libavr-records-dev", unpacked("libavr-records-dev", Path(folder, "dev")), wanted)
         copyright = Path(folder, "avrstk/usr/share/doc/avrstk/copyright").read_text()
-        see("the package says that there is no licence", "There is no licence yet." in copyright, copyright)
+        see("the package states that there is no licence", "There is no licence yet." in copyright, copyright)
         told = Path(folder, "avrstk/usr/share/doc/avrstk/built-from").read_text()
         see("and what it was built from", all(it in told for it in [KIT, made()[0].commit(), UNPROVED]), told)
         modes = {it: oct((Path(folder, "avrstk") / it).stat().st_mode & 0o777) for it in found}

@@ -217,7 +217,7 @@ def against_the_sources(parts, without):
     names = [it[2][""]["desc"].split()[0] for it in parts.values()]
     see("docs/PARTS has the parts", set(names) == set(re.findall(r"\bAT\w+\d\w*", listed)), listed)
     for name in [it.split()[0] for names in without.values() for it in names]:
-        see(f"docs/PARTS tells why {name} is not in", re.search(rf"\b{name}\b", others))
+        see(f"docs/PARTS gives the reason why {name} is not in", re.search(rf"\b{name}\b", others))
 
 
 def loaded():

@@ -216,9 +216,9 @@ def words_of_avrdude():
         ([*FLASH, "-cstk500v2", "-PDEVICE", "-b115200"], []),
         ([*FLASH, "-v", "-v", "-PDEVICE"], []),
         *(([f"-p{it}", "-PDEVICE", "-Uflash:w:blink.hex:i"], []) for it in [long, long.lower()]),
-        (recipe, ["left out: -C /etc/avrdude.conf"]),
-        ([*FLASH, "-C", "x.conf", "-l", "x.log", "-P", "DEVICE"], ["left out: -C x.conf, -l x.log"]),
-        ([*FLASH, "-us", "-P", "DEVICE"], ["left out: -u, -s"]),
+        (recipe, ["ignored: -C /etc/avrdude.conf"]),
+        ([*FLASH, "-C", "x.conf", "-l", "x.log", "-P", "DEVICE"], ["ignored: -C x.conf, -l x.log"]),
+        ([*FLASH, "-us", "-P", "DEVICE"], ["ignored: -u, -s"]),
         (["--wait", "0", *FLASH, "-P", "DEVICE"], []),
         *(([f"--wait={it}", *FLASH, "-P", "DEVICE"], []) for it in ["2.5", "3"]),
         *(([*FLASH, "-P", "DEVICE", "-b", it], []) for it in ["9600", "74880", "250000", "1000000"]),
@@ -313,30 +313,30 @@ def refused():
     room.put("empty.hex", b"")
     (room.folder / "gone.hex").symlink_to("nowhere")
     cases = [
-        (["-B", "10"], "-B is not here: the programmer has its own clock"),
-        (["-B10"], "-B is not here"),
-        (["-E", "noreset"], "-E is not here: the pins of a parallel port"),
-        (["-O"], "-O is not here: the oscillator is not calibrated"),
-        (["-i", "10"], "-i is not here: the programmer has its own clock"),
-        (["-t"], "-t is not here"),
-        (["-x", "vtarg=5"], "-x is not here"),
-        (["-y"], "-y is not here: erase cycles are not counted"),
+        (["-B", "10"], "-B is not supported: the programmer has its own clock"),
+        (["-B10"], "-B is not supported"),
+        (["-E", "noreset"], "-E is not supported: the pins of a parallel port"),
+        (["-O"], "-O is not supported: the oscillator is not calibrated"),
+        (["-i", "10"], "-i is not supported: the programmer has its own clock"),
+        (["-t"], "-t is not supported"),
+        (["-x", "vtarg=5"], "-x is not supported"),
+        (["-y"], "-y is not supported: erase cycles are not counted"),
         (["-c", "arduino"], "-c arduino is the bootloader of Uno and Nano"),
         (["-c", "usbasp"], "-c usbasp is a programmer with a protocol of its own"),
         (["-cusbtiny"], "-c usbtiny is a programmer with a protocol of its own"),
         (["-c", "avrispmkII"], "-c avrispmkII is a programmer on USB"),
         (["-c", "buspirate"], "-c buspirate: this speaks STK500v2 only: use avrdude -c buspirate"),
-        (["-b", "0"], "-b 0: no speed"),
-        (["-b", "fast"], "-b fast: no speed"),
-        (["--wait", "soon"], "--wait soon: no number of seconds from 0 to 3"),
-        (["--wait", "4"], "--wait 4: no number of seconds from 0 to 3"),
+        (["-b", "0"], "-b 0: not a speed"),
+        (["-b", "fast"], "-b fast: not a speed"),
+        (["--wait", "soon"], "--wait soon: not a number of seconds from 0 to 3"),
+        (["--wait", "4"], "--wait 4: not a number of seconds from 0 to 3"),
         (["--wait"], "--wait: its value is missing"),
         (["-U"], "-U: its value is missing"),
         (["--serve", "5000"], "--serve is for a programmer without a device"),
         (["-P", "usb"], "-P usb is for programmers without a serial device: use avrdude"),
         (["-p", "m8"], f"-p ? lists the parts; others need a part file (--parts); {note}"),
         (["-U", "nofile"], f"there is no such file; {note}"),
-        (["-U", "flash:w:gone.hex:i"], f"it is a link to a file that is not there; {note}"),
+        (["-U", "flash:w:gone.hex:i"], f"it is a symbolic link to a missing file; {note}"),
         (["-U", "lfuse:w:0xE2"], f"a value needs :m after it, as lfuse:w:0xE2:m; {note}"),
         (["-U", "flash:w:x.elf"], "avr-objcopy"),
         (["-U", "fuse:w:1:m"], "-U fuse:w:1:m: the memories are flash, eeprom, lfuse, "),
@@ -365,7 +365,7 @@ def ports_of_avrstk():
     wanted = flashed()
     room.clear()
     words = ["-C", "x.conf", "-c", "wiring", "-b", "9600", "-p", "atmega328p", "-U", "blink.hex"]
-    notes = ["left out: -C x.conf", "blink.hex is read as Intel HEX (:i)"]
+    notes = ["ignored: -C x.conf", "blink.hex is read as Intel HEX (:i)"]
     status, _, told, own = run([*words, "-P", "emu:chip.bin"])
     same("emu:", (status, told, own, room.read("chip.bin") == wanted), (0, lines(*FIRMWARE), notes, True))
     with Server(room) as server:
@@ -804,7 +804,7 @@ def strangers():
             heard = stranger.recv(100)
         except ConnectionResetError:
             heard = b""
-    same("the stranger hears", heard, b"")
+    same("the stranger receives", heard, b"")
     room.put("go", b"")
     _, told = started.communicate(timeout=PATIENCE)
     line = b"avrstk-serial: another program called the port of this run, and was refused\n"
@@ -877,7 +877,7 @@ def recipe_of_the_script():
     it = Board(part="m2560")
     status, told = ended(typed(recipe("avrstk-serial -C/etc/avrdude.conf"), it.device))
     told = told.decode().splitlines()
-    see("the recipe of an IDE", status == 0 and told[0] == "avrstk-serial: left out: -C /etc/avrdude.conf", told)
+    see("the recipe of an IDE", status == 0 and told[0] == "avrstk-serial: ignored: -C /etc/avrdude.conf", told)
     see("the chip then", it.end() == firmware)
 
 

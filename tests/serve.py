@@ -111,7 +111,7 @@ def listens():
     """It prints its port: a given one, or any free one."""
     room.clear()
     with Serving() as it:
-        same("what it says", it.said, f"serving at 127.0.0.1:{it.port}\n".encode())
+        same("its line", it.said, f"serving at 127.0.0.1:{it.port}\n".encode())
         for value in [0x60, 0x61, 0x62]:
             same(f"fuse {value}", it.writes_fuse(value)[0], 0)
             wait_for(lambda: fuse() == value)
@@ -190,7 +190,7 @@ def half_closed():
     with Serving() as it, it.call() as client:
         client.sendall(b"".join(FRAMES))
         client.shutdown(socket.SHUT_WR)
-        same("the answers", heard(client, 1000), ANSWERS)
+        same("the replies", heard(client, 1000), ANSWERS)
         wait_for(lambda: room.read("chip.bin") is not None)
         same("the messages", it.end(), (0, ""))
 
@@ -217,7 +217,7 @@ def a_chip_in_use():
         holder.stderr.readline()
         with it.call() as client:
             client.sendall(FRAMES[0])
-            same("the end is heard", heard(client, 1), b"")
+            same("the connection is closed", heard(client, 1), b"")
         holder.kill()
         holder.communicate()
         same("the next client", it.writes_fuse(0x65)[0], 0)
@@ -233,7 +233,7 @@ def idle_clients():
             for _ in range(4):
                 time.sleep(0.2)
                 see("one that isn't idle is served on", begins(client))
-            same("an idle one hears the end", client.recv(1), b"")
+            same("the connection of an idle one is closed", client.recv(1), b"")
             same("and one that has sent nothing", silent.recv(1), b"")
         see("the chip is saved", len(room.read("chip.bin") or b"") == CHIP_FILE)
         same("the next client", it.writes_fuse(0x60)[0], 0)
@@ -261,21 +261,21 @@ def ends_at_a_signal():
         name = number.name
         room.clear()
         with Serving() as it:
-            same(f"{name}: nobody is there", it.end(number, group=group), (0, ""))
+            same(f"{name}: no client is there", it.end(number, group=group), (0, ""))
         with Serving() as it, it.call():
             same(f"{name}: a silent client", it.end(number, group=group), (0, ""))
         same(f"{name}: no chip is made", room.read("chip.bin"), None)
         with Serving() as it, it.call() as client:
             for frame in [*FRAMES[:2], programs_fuse(3, 0x63)]:
                 client.sendall(frame)
-                see(f"{name}: an answer", heard(client, 6)[:1] == b"\x1b")
+                see(f"{name}: a reply", heard(client, 6)[:1] == b"\x1b")
                 client.recv(100)
             same(f"{name}: a session", it.end(number, group=group), (0, ""))
-            same(f"{name}: its client hears the end", client.recv(1), b"")
+            same(f"{name}: its client's connection is closed", client.recv(1), b"")
         same(f"{name}: its chip is saved", fuse(), 0x63)
         with Serving() as it, it.call() as client:
             client.sendall(FRAMES[0] * 2_000)
-            same(f"{name}: a client that takes no answers", it.end(number, group=group)[0], 0)
+            same(f"{name}: a client that takes no replies", it.end(number, group=group)[0], 0)
     with Serving() as it, it.call() as client:
         see("a session", begins(client))
         same("three signals at once", it.end(signal.SIGINT, signal.SIGTERM, signal.SIGHUP, group=True)[0], 0)
@@ -289,14 +289,14 @@ def refused():
     rows = [
         ([], 0, ""),
         (["--help"], 0, ""),
-        (["x", *M328P], 1, "avrstk-serve: x: no port from 0 to 65535\n"),
-        (["65536", *M328P], 1, "avrstk-serve: 65536: no port from 0 to 65535\n"),
+        (["x", *M328P], 1, "avrstk-serve: x: not a port from 0 to 65535\n"),
+        (["65536", *M328P], 1, "avrstk-serve: 65536: not a port from 0 to 65535\n"),
         (["-1", *M328P], 1, "avrstk-serve: option -1 not recognized\n"),
         (M328P, 1, "avrstk-serve: one port is needed: avrstk-serve PORT -p PART --chip FILE\n"),
         (["0", "5000", *M328P], 1, "avrstk-serve: one port is needed: avrstk-serve PORT -p PART --chip FILE\n"),
         ([str(port_of(taken)), *M328P], 1, f"avrstk-serve: port {port_of(taken)}: Address already in use\n"),
-        (["0", *M328P, "--idle", "0"], 1, "avrstk-serve: --idle 0: no number of seconds\n"),
-        (["0", *M328P, "--idle", "a"], 1, "avrstk-serve: --idle a: no number of seconds\n"),
+        (["0", *M328P, "--idle", "0"], 1, "avrstk-serve: --idle 0: not a number of seconds\n"),
+        (["0", *M328P, "--idle", "a"], 1, "avrstk-serve: --idle a: not a number of seconds\n"),
         (["0", *M328P, "-e"], 1, "avrstk-serve: option -e not recognized\n"),
         (["0", "--chip", "chip.bin"], 1, "avrstk: error: no part given (-p)\n"),
         (["0", "-p", "m328p"], 1, "avrstk: error: no chip file given (--chip)\n"),
@@ -308,7 +308,7 @@ def refused():
         how = {"cwd": room.folder, "env": environment(), "capture_output": True, "text": True, "timeout": PATIENCE}
         ran = subprocess.run([SCRIPT, *words], **how)
         same(f"{words}: the status", ran.returncode, status)
-        see(f"{words}: what is told", ran.stderr == told if told is not None else ran.stderr.count("\n") == 1, ran.stderr)
+        see(f"{words}: its messages", ran.stderr == told if told is not None else ran.stderr.count("\n") == 1, ran.stderr)
         see(f"{words}: it doesn't serve", "serving at 127.0.0.1:" not in ran.stdout.replace("`serving at", ""), ran.stdout)
     taken.close()
     for closed, status in [(">&-", 1), (">/dev/full", 1), ("<&- 2>&-", 0)]:

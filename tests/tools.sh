@@ -10,9 +10,9 @@ for it in "${packages[@]}"; do
     dpkg-query -W -f '${Status}\n' "$it" 2>/dev/null | grep -q '^install ok installed$' || lacking+=("$it")
 done
 [ ${#lacking[@]} -gt 0 ] || exit 0
-echo "lacking: ${lacking[*]}"
+echo "missing: ${lacking[*]}"
 if [ "$(id -u)" != 0 ] || ! command -v apt-get >/dev/null; then
-    echo "left as it is: apt-get, as root, would install them"
+    echo "nothing was installed: that needs root and apt-get"
     exit 0
 fi
 export DEBIAN_FRONTEND=noninteractive

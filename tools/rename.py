@@ -112,7 +112,7 @@ def main():
     for file in known_files("*.md"):
         for number, line in enumerate(file.read_text().splitlines(), 1):
             if word(it.old).search(line):
-                print(f"to be looked at: {file.relative_to(TOP)}:{number}")
+                print(f"check: {file.relative_to(TOP)}:{number}")
 
 
 if __name__ == "__main__":

@@ -20,7 +20,7 @@ refuse() {
 
 [ $# -ge 2 ] && [[ $1 != -* ]] || refuse "usage: tools/vendor.sh CRATE.. FOLDER"
 folder=${*: -1}
-[ -d "$folder" ] || refuse "$folder is no folder"
+[ -d "$folder" ] || refuse "$folder is not a folder"
 folder=$(readlink -f "$folder")
 [ "$folder" != "$top" ] || refuse "$folder is this repository"
 
@@ -69,7 +69,7 @@ is_same() {
 # everything is checked before anything is changed
 for name in "${crates[@]}"; do
     [ ! -e "$folder/crates/$name" ] || is_same "$name" ||
-        refuse "$folder/crates/$name differs: remove it to have it anew"
+        refuse "$folder/crates/$name differs: remove it to copy it again"
     there=$(line_of "$name" "$folder/crates.txt")
     [ -z "$there" ] || [ "$there" = "$(line_of "$name" "$top/crates.txt")" ] ||
         refuse "the line of $name in $folder/crates.txt differs: $there"
