@@ -1,7 +1,7 @@
 #!/usr/bin/env bash
-# Installs the built program, avrstk-serial, avrstk-serve, the part file, the man pages and the bash completions under a
-# folder, or removes all of it again. The program is the proved one, or else the one without proofs, and then a line
-# reports that. With --with-c the library for C is installed too (archive, shared library, header, pkg-config's file).
+# Installs the built program, avrstk-serial, avrstk-serve, the part file, the man pages and the bash completions, or removes
+# them again. The program is the proved one, or else the one without proofs, and then a line reports that. With --with-c
+# the library for C is installed too: archive, shared library, header, pkg-config's file.
 #
 #     ./install.sh [--with-c] [PREFIX]      PREFIX is /usr/local by default
 #     ./install.sh --remove [PREFIX]        removes what it installed there, and the folders that it made

@@ -64,7 +64,7 @@ REFUSALS = {
 
 @dataclass
 class Done:
-    """One step that has ended: its name, its status, how long it took, on a clock and of processors, and its lines."""
+    """A finished step: its name, its status, its seconds by the clock and of processors, and its output lines."""
 
     what: str
     status: int
@@ -86,7 +86,7 @@ class Done:
         return [f"{self.what}: {found[1]}" for found in map(LEFT_OUT.fullmatch, self.lines) if found]
 
     def counts(self):
-        """How many of its checks passed and how many failed; a step that counts none is one check."""
+        """Returns the numbers of its passed and failed checks. A step without counts is one check."""
         found = next(filter(None, map(COUNTS.match, reversed(self.lines))), None)
         passed, failed = (int(found[1]), int(found[2])) if found else (int(self.status == 0), 0)
         return passed, failed or int(self.status != 0)

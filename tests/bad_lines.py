@@ -3,9 +3,9 @@
 
     tests/bad_lines.py [SECONDS]
 
-For a loss of 1, 5 and 20 % it prints how many runs ended with status 0, of at most 1,000 in SECONDS (default 20), and the
-expected figure. A frame fails at random: its command is lost, its reply is lost, or its reply is late. An attempt at n
-commands succeeds if none of them fails: (1 - p)^n. A step succeeds if one of four attempts does: for two commands,
+For a loss of 1, 5 and 20 % it makes at most 1,000 runs in SECONDS (default 20). It prints how many ended with status 0, and
+the expected figure. A frame fails at random: its command is lost, its reply is lost, or its reply is late. An attempt at
+n commands succeeds if none of them fails: (1 - p)^n. A step succeeds if one of four attempts does: for two commands,
 1 - (1 - (1 - p)^2)^4. That is chance. Two things are proved: no run fails if of any seven frames in a row at most three
 fail; and status 0 is true over every link. So each run with status 0 is checked: its chip has the bytes. The random
 generators have fixed seeds.

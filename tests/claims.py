@@ -1,6 +1,6 @@
 #!/usr/bin/env python3
-"""Tests sentences of README, docs/USAGE, docs/PROTOCOL and docs/FORMATS: the meaning of `written` and of status 0, what is
-sent after an error, what a timeout is, how a file's format is detected, and what USAGE states about AVRDUDE.
+"""Tests sentences of README, docs/USAGE, docs/PROTOCOL and docs/FORMATS. They are about `written` and status 0, commands
+after an error, timeouts, the detection of file formats, and AVRDUDE.
 
     tests/claims.py        needs a built program (program.py); rows with AVRDUDE 7.1 are left out without it
 """

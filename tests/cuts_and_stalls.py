@@ -6,8 +6,8 @@
 The link loses no byte and adds none. It cuts the bytes into pieces and stalls at random places, also inside frames. Each
 run is checked against the laws of two processes. Without a stall it does the same as over `emu:`. With status 0 the chip
 has what was written, and the messages are those of `emu:`. With any status, the chip is the result of a prefix of the
-plan's writes (the erase, pages of flash in order, pages of EEPROM, the fuse). The messages before the error are then a
-prefix of those of `emu:`. A stall lasts until the run sends again, after its timeout of a second.
+plan's writes: the erase, pages of flash in order, pages of EEPROM, the fuse. The messages before an error are a prefix of
+those of `emu:`. A stall lasts until the run sends again, after its timeout of a second.
 """
 
 import random

@@ -9,10 +9,10 @@ erased one, or that of an undisturbed run's end. For every run below and every k
 n from 1 until a run has no nth call. For allocations, the nth and all later ones are refused too.
 
 A run with a refused call must end in one of two ways. Either it sends and prints a prefix of the undisturbed run, then
-the line of that error with the file that the call was for, and ends with status 1. (If a message couldn't be written,
-that line may be incomplete.) Or, if the call wasn't needed, it sends and prints all that the undisturbed run does, with
-the same status. Three faults must change nothing: a read or write interrupted by a signal, one that moves only one byte,
-and an error from closing a file. (Some allocations of the unproved program are not seen here.)
+prints the error's line, and ends with status 1. The line names the file that the call was for; if a message couldn't be
+written, it may be incomplete. Or, if the call wasn't needed, the run is the same as the undisturbed one. Three faults
+must change nothing: a read or write interrupted by a signal, one that moves only one byte, and an error from closing a
+file. (Some allocations of the unproved program are not seen here.)
 """
 
 import os

@@ -30,7 +30,7 @@ class Outcome(ctypes.Structure):
 
 
 class Cursor(ctypes.Structure):
-    """How far a file is written; all 0 at the beginning."""
+    """The position in a file that is being written; all 0 at the beginning."""
 
     _fields_ = [
         ("address", ctypes.c_uint32),
