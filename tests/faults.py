@@ -102,7 +102,7 @@ class Sweep:
         return *ran, self.room.read("chip.bin"), self.room.read("out.hex")
 
     def through(self, kind, how):
-        """Refuses each call of a kind in turn, up to the first with a wrong outcome, and counts the check."""
+        """Refuses each call of a kind in turn, up to the first with a wrong outcome. Returns the count of each outcome."""
         counts = Counter()
         for number in range(1, 100_000):
             done = self.done(f"{kind} {number} {how}")
