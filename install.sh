@@ -1,12 +1,12 @@
 #!/usr/bin/env bash
-# Installs the program that is there (the proved one, or else the one without proofs, which it says), avrstk-serial,
-# avrstk-serve, the part file, the man pages and the completions for bash under a folder, and with --with-c the library
-# for C (archive, shared library, header, pkg-config's file); or removes all of it again.
+# Installs the built program, avrstk-serial, avrstk-serve, the part file, the man pages and the bash completions, or removes
+# them again. The program is the proved one, or else the one without proofs, and then a line reports that. With --with-c
+# the library for C is installed too: archive, shared library, header, pkg-config's file.
 #
-#     ./install.sh [--with-c] [PREFIX]      PREFIX is /usr/local if it isn't given
-#     ./install.sh --remove [PREFIX]        removes what it installed there, and the folders that it made for it
+#     ./install.sh [--with-c] [PREFIX]      PREFIX is /usr/local by default
+#     ./install.sh --remove [PREFIX]        removes what it installed there, and the folders that it made
 #
-# AVRSTK in the environment names another program to install. With DESTDIR there, for packages, all goes under
+# The environment variable AVRSTK names another program to install. With DESTDIR, for packages, all files go under
 # $DESTDIR/PREFIX, without the note of folders that --remove needs.
 set -euo pipefail
 
@@ -33,12 +33,12 @@ prefix=${1-/usr/local}
 destination=${DESTDIR:-}
 given=$prefix$destination
 if [ -n "$destination" ]; then
-    # (a link of this system says nothing of the one that the package is for)
+    # (symbolic links of this system may not exist on the package's target system)
     prefix=$(realpath -m -- "$destination")$(realpath -ms -- "$prefix")
 else
     prefix=$(realpath -m -- "$prefix")
 fi
-# (the note of folders has one in a line)
+# (the note of folders has one folder per line)
 [[ $given$prefix != *$'\n'* ]] || fail "the folder's name has a newline"
 
 program=$prefix/bin/avrstk
@@ -54,7 +54,7 @@ for page in "$top"/docs/*.1; do
     tool+=("$prefix/share/man/man1/${page##*/}")
 done
 archive=$prefix/lib/libavr_records.a
-# (examples/c/build.sh says what the number is)
+# (examples/c/build.sh explains the number)
 version=$(cat "$top/VERSION")
 number=${version%%.*}
 [ "$number" != 0 ] || number=${version%.*}
@@ -64,10 +64,10 @@ config=$prefix/lib/pkgconfig/avr_records.pc
 header=$prefix/include/avr_records.h
 library=("$archive" "$header" "$config" "$link" "$prefix/lib/$shared")
 
-# the folders that were made for these, so that --remove takes away no other
+# the note of folders that this script made: --remove removes only these
 folders=$prefix/share/avrstk/folders
 
-# Fails where a file can't be put in its place, before anything is written.
+# Fails if a file can't be installed, before anything is written.
 check() {
     local file folder
     for file; do
@@ -81,7 +81,7 @@ check() {
     done
 }
 
-# Puts a file there, whole or not at all, with the folders that it needs.
+# Installs a file, whole or not at all, with the folders that it needs.
 put() {
     local folder made=()
     folder=$(dirname "$3")
@@ -91,7 +91,7 @@ put() {
     done
     install -d -m 755 "$(dirname "$3")"
     if [ -z "$destination" ]; then
-        # (it is there also where no folder was made: it says that this script was at work)
+        # (the note exists even if no folder was made: it marks the files as installed by this script)
         printf '%s\n' "${made[@]}" | sed '/^$/d' >>"$folders"
     fi
     unfinished=$3.new
@@ -106,7 +106,7 @@ put_link() {
     echo "installed $2"
 }
 
-# Prints the folders of all that is installed, from the prefix on, each behind those in it.
+# Prints the folders of all installed files up to the prefix, each after its subfolders.
 folders_of_all() {
     local file folder
     for file in "${tool[@]}" "${library[@]}"; do
@@ -118,7 +118,7 @@ folders_of_all() {
     done | LC_ALL=C sort -ru
 }
 
-# Removes what was installed, and the folders of it that the note has; gives whether nothing of it is left.
+# Removes the installed files, and those of their folders that the note names. Fails if a file is left.
 remove() {
     local file folder noted status=0 found=()
     for file in "${tool[@]}" "${library[@]}"; do
@@ -136,7 +136,7 @@ remove() {
     rm -f "$folders" || return 1
     while IFS= read -r folder; do
         if grep -qxF -- "$folder" <<<"$noted"; then
-            # (it stays where somebody else's files are in it)
+            # (a folder with other files stays)
             rmdir "$folder" 2>/dev/null || true
         fi
     done < <(folders_of_all)
@@ -147,7 +147,7 @@ if [ -n "$remove" ]; then
     exit 0
 fi
 
-# What is started runs in a group of its own, which ends with this script.
+# A started command runs in a process group of its own, which ends with this script.
 started='' unfinished=''
 finish() {
     [ -z "$started" ] || kill -- "-$started" 2>/dev/null || true
@@ -166,12 +166,12 @@ start() {
     return "$status"
 }
 
-# (if there is none, it says so)
+# (if no program is built, ./avrstk reports it)
 built=${AVRSTK:-$("$top/avrstk" --which)}
-[ -f "$built" ] || fail "$built is no file"
+[ -f "$built" ] || fail "$built is not a file"
 check "$folders" "${tool[@]}"
 [ -z "$with_c" ] || check "${library[@]}"
-# (the part file first, beside which the made folders are noted)
+# (the part file first: the note of folders is beside it)
 put 644 "$top/parts/classic.toml" "$parts"
 put 755 "$built" "$program"
 put 755 "$top/avrstk-serial" "$serial"
@@ -196,5 +196,5 @@ if [ -e "$top/out/c/$shared" ]; then
     put 644 "$top/out/c/$shared" "$prefix/lib/$shared"
     put_link "$shared" "$link"
 else
-    echo "no shared library was made, since there is no C compiler"
+    echo "no shared library was made, because there is no C compiler"
 fi

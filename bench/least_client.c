@@ -1,4 +1,4 @@
-/* The least client of an STK500v2 programmer: sends the frames of a file over TCP, one by one, and hears one answer to each.
+/* The smallest client of an STK500v2 programmer: sends a file's frames over TCP one by one, and receives one reply to each.
  *
  *     least_client PORT FILE
  */
@@ -14,13 +14,13 @@ enum { HEADER = 5, LONGEST = 281, FRAMES = 1 << 20 };
 
 static unsigned char frames[FRAMES];
 
-/* The length of a frame, by the size in its header. */
+/* Returns the length of a frame, from the size in its header. */
 static size_t length_of(const unsigned char *frame)
 {
     return HEADER + 1 + (frame[2] << 8 | frame[3]);
 }
 
-/* Hears one answer, which stands alone on the line. */
+/* Receives one reply; no other bytes are on the link. */
 static int hear(int line)
 {
     unsigned char answer[LONGEST];

@@ -1,8 +1,7 @@
 /*
- * Times readers of record files, without a process for each file: avr_records_read, and a plain reader that is written
- * as such readers often are.
+ * Times readers of record files, without a process for each file: avr_records_read, and a typical simple reader.
  *
- *     reader own|plain ihex|srec FILE SIZE ROUNDS     prints the best round in microseconds, and a sum of the memory
+ *     reader own|plain ihex|srec FILE SIZE ROUNDS     prints the best round in microseconds, and a checksum of the memory
  */
 #include <stdio.h>
 #include <stdlib.h>
@@ -22,7 +21,7 @@ static int digit(int c)
     return -1;
 }
 
-/* The bytes of a line's digits; how many there are, or -1. */
+/* Decodes a line's digits. Returns the number of bytes, or -1. */
 static int decode(const uint8_t *digits, size_t length, uint8_t *fields)
 {
     if (length % 2 != 0 || length / 2 > 256)

@@ -1,10 +1,10 @@
 #!/usr/bin/env python3
-"""Times the reader of record files alone, through its library for C, beside a plain reader in C and python3-intelhex.
+"""Times only the reader of record files, in the library for C, beside a simple reader in C and python3-intelhex.
 
-    bench/reader.py [ROUNDS]      megabytes of text a second, the best of so many rounds of each file
-    bench/reader.py --count       instructions of a call, by the bytes of its text (needs valgrind)
+    bench/reader.py [ROUNDS]      prints megabytes of text per second, the best of ROUNDS rounds of each file (default 50)
+    bench/reader.py --count       prints instructions per byte of text (needs valgrind)
 
-The library is made by examples/c/build.sh. Nothing is run where there is no C compiler; what else is missing is told.
+examples/c/build.sh builds the library. Without a C compiler nothing is run; other missing tools are reported.
 """
 
 import io
@@ -30,7 +30,7 @@ NAMES = {"own": "this project's reader", "plain": "a plain reader in C"}
 
 
 def built(folder):
-    """The program of bench/reader.c, with the library."""
+    """Builds bench/reader.c with the library, and returns the program."""
     subprocess.run([TOP / "examples/c/build.sh", folder], check=True, stdout=subprocess.DEVNULL)
     words = [os.environ.get("CC", "cc"), "-std=c99", "-O2", "-D_POSIX_C_SOURCE=199309L", f"-I{TOP / 'include'}"]
     program = folder / "reader"
@@ -65,7 +65,7 @@ def time_all(program, texts, rounds):
 
 
 def count_all(program, texts):
-    """What a call costs, with all that it does for its memory."""
+    """Counts the instructions of a call, with its allocations."""
     if not shutil.which("valgrind"):
         sys.exit("valgrind is not installed")
     front = ["valgrind", "--tool=callgrind", "--callgrind-out-file=/dev/null"]

@@ -1,12 +1,12 @@
 #!/usr/bin/env python3
-"""Measures the tool on large images, beside avr-objcopy and srec_cat where they are installed.
+"""Measures the tool on large images, beside avr-objcopy and srec_cat if they are installed.
 
     (cd crates/avrstk && rt run < stdin > /dev/null)    builds crates/avrstk/out/avrstk
-    bench/run.py [RUNS]                                 the best of so many runs of each command, in milliseconds
+    bench/run.py [RUNS]                                 the best of RUNS runs of each command (default 5), in milliseconds
     bench/run.py --count                                instructions, the same on every machine (needs valgrind)
-    bench/run.py --calls                                system calls for each frame, on either side of a line (needs strace)
+    bench/run.py --calls                                system calls per frame, on both sides of a link (needs strace)
 
-Every figure is that of a whole process. The images are the same in each run of this script.
+Every figure is for a whole process. The images are the same in each run of this script.
 """
 
 import random
@@ -30,7 +30,7 @@ SIZES = [32, 64, 128, 256]
 
 
 def image_of(size):
-    """So many bytes, none of them FF, the same each time."""
+    """Returns `size` bytes without FF, the same each time."""
     source = random.Random(size)
     return bytes(source.randrange(255) for _ in range(size))
 
@@ -58,9 +58,9 @@ def srec(image):
 
 
 def own_commands():
-    """The name of each measure of the tool, its command, and the status it ends with."""
+    """Yields the name of each measure of the tool, its command, and its status."""
     ours = str(PROGRAM)
-    # the plan is made before the line is asked, which has ended
+    # standard input is at its end, so the run ends once its plan is made
     plan = [ours, "-p", "m2560", "-P", "stdio:", "-q", "-q", "-U"]
     emulated = [ours, "-P", "emu:chip.bin", "-q", "-q", "-p"]
     yield "help", [ours, "-h"], 0
@@ -73,7 +73,7 @@ def own_commands():
 
 
 def other_commands():
-    """The same of other programs, where they are installed, with the measure to which each is compared."""
+    """Yields the same for other programs if they are installed, with the measure to compare each with."""
     read = "256 kB of Intel HEX read"
     for tool, words, beside in [
         ("true", [], "help"),
@@ -88,7 +88,7 @@ def other_commands():
 
 
 def done(command, room, wanted):
-    """One run from a folder without a chip file, in milliseconds."""
+    """Makes one run in a folder without a chip file. Returns its time in milliseconds."""
     begin = time.perf_counter()
     ran = subprocess.run(command, cwd=room.folder, stdin=subprocess.DEVNULL, capture_output=True)
     taken = 1000 * (time.perf_counter() - begin)
@@ -98,7 +98,7 @@ def done(command, room, wanted):
 
 
 def best(runs, command, room, wanted):
-    """The shortest of so many runs."""
+    """Returns the time of the fastest of `runs` runs."""
     times = []
     for _ in range(runs):
         room.clear()
@@ -107,7 +107,7 @@ def best(runs, command, room, wanted):
 
 
 def peak(command, room):
-    """The most memory that a run holds, by GNU time; nothing where that isn't installed."""
+    """Returns the peak memory of a run, by GNU time; nothing if that isn't installed."""
     if not shutil.which("time"):
         return ""
     room.clear()
@@ -126,7 +126,7 @@ def time_all(room, runs):
     time_line(room, runs)
 
 
-# ---- over a line
+# ---- over a link
 
 
 def session_over(port):
@@ -134,7 +134,7 @@ def session_over(port):
 
 
 def frames_sent(room):
-    """The frames of a session that writes and verifies 32 kB."""
+    """Returns the frames of a session that writes and verifies 32 kB."""
     room.clear()
     peer = BadLine(room, {})
     done(session_over(peer.port), room, 0)
@@ -152,10 +152,10 @@ def best_over_line(room, runs, command_for):
 
 
 def time_line(room, runs):
-    """A session over a TCP line of this machine, beside the least client that sends the same frames."""
+    """Times a session over TCP on this machine, beside the smallest client that sends the same frames."""
     frames = frames_sent(room)
     taken = best_over_line(room, runs, session_over)
-    print(f"{taken:9.1f} ms  {'':9}  32 kB written and verified over a line, {len(frames)} frames")
+    print(f"{taken:9.1f} ms  {'':9}  32 kB written and verified over a link, {len(frames)} frames")
     if not shutil.which("cc"):
         print("          cc is not installed")
         return
@@ -164,14 +164,14 @@ def time_line(room, runs):
     subprocess.run(["cc", "-O2", "-o", str(client), str(TOP / "bench/least_client.c")], check=True)
     room.given |= {"frames", "least_client"}
     least = best_over_line(room, runs, lambda port: [str(client), str(port), "frames"])
-    print(f"{least:9.1f} ms  {'':9}  the least client with the same frames (the tool takes {taken / least:.2f} times this)")
+    print(f"{least:9.1f} ms  {'':9}  the smallest client with the same frames (the tool takes {taken / least:.2f} times this)")
 
 
 # ---- counts
 
 
 def count_all(room):
-    """Instructions, by callgrind."""
+    """Counts instructions with callgrind."""
     if not shutil.which("valgrind"):
         sys.exit("valgrind is not installed")
     sizes = {"256 kB of Intel HEX read": "256.hex", "256 kB of S-records read": "256.srec"}
@@ -192,7 +192,7 @@ CALLS = "trace=read,recvfrom,recvmsg,write,sendto,sendmsg"
 
 
 def calls_of(traced):
-    """How many sends and receipts a trace has of bytes that begin as a frame does; strace writes the start byte in octal."""
+    """Returns the numbers of sends and receipts of frames in a trace; strace prints a frame's start byte in octal."""
     text = traced.read_text()
     sends = len(re.findall(r'^\d+ +(?:sendto|write)\(\d+, "\\0?33', text, re.M))
     receipts = len(re.findall(r'^\d+ +(?:recvfrom|read)\(\d+, "\\0?33', text, re.M))
@@ -200,7 +200,7 @@ def calls_of(traced):
 
 
 def count_calls(room):
-    """System calls that move a frame, on either side of a line; fails where a frame takes more than one of each."""
+    """Counts system calls that move a frame, on both sides of a link. Fails if a frame takes more than one of each."""
     if not shutil.which("strace"):
         return leave_out("the calls for each frame", "strace is not installed")
     frames = len(frames_sent(room))

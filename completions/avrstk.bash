@@ -1,7 +1,7 @@
-# Completions of bash for avrstk, avrstk-serial and avrstk-serve: options, parts with those of a given part file, ports and devices, and
-# updates piece by piece, also where they are glued to their option.
+# Bash completions for avrstk, avrstk-serial and avrstk-serve: options, parts (with those of a given part file), ports,
+# devices, and updates piece by piece, also if a value is joined to its option.
 
-# What can stand behind a front in colons: one of these words, or without words a file's name.
+# Completes after a prefix that ends with a colon: with one of these words, or without words with a file's name.
 _avrstk_behind() {
     local front=$1 words=${2-}
     if [ -n "$words" ]; then
@@ -11,7 +11,7 @@ _avrstk_behind() {
     fi
 }
 
-# The formats behind a file's name that is there, or behind the values of m.
+# Completes the format after the name of an existing file, or after the values of m.
 _avrstk_formats() {
     local front=$1 operation=$2 file=${value#"$1"} letters="a i s r m"
     [ "$operation" != r ] || letters="r i s d h o b"
@@ -41,12 +41,12 @@ _avrstk_update() {
     esac
 }
 
-# The folder of the command that is being typed.
+# Prints the folder of the command being typed.
 _avrstk_folder() {
     dirname "$(readlink -f "$(type -P "${line%%[[:blank:]]*}")" 2>/dev/null)" 2>/dev/null
 }
 
-# The parts: of the part file that is given, else the built-in ones, and for the scripts those that come with them.
+# Completes a part: the built-in ones, and those of the given part file, or for the scripts of the one that comes with them.
 _avrstk_parts() {
     local file built_in="m328p t85 m2560" found top
     file=$(sed -nE 's/.*[[:blank:]]--parts[=[:blank:]][[:blank:]]*([^[:blank:]]+).*/\1/p' <<<"$line")
@@ -60,7 +60,7 @@ _avrstk_parts() {
     compgen -W "$built_in" -- "$value" | awk '!seen[$0]++'
 }
 
-# What can be the value of an option.
+# Completes the value of an option.
 _avrstk_value() {
     case $1 in
         -p) _avrstk_parts ;;
@@ -92,7 +92,7 @@ _avrstk() {
     typed=${line##*[[:blank:]]}
     before=${line%"$typed"}
     before=${before%"${before##*[![:blank:]]}"}
-    # the first option in a clone
+    # in a clone, options that come first
     if [[ $before != *[[:blank:]]* ]] && [ -e "$(_avrstk_folder)/crates.txt" ]; then
         [ "$script" = avrstk-serve ] || options+=" --unproved"
         [ "$script" != avrstk ] || options+=" --build --which"
@@ -118,7 +118,7 @@ _avrstk() {
     mapfile -t COMPREPLY <<<"$found"
     [[ $found != *: ]] || compopt -o nospace 2>/dev/null
     [ ! -e "${COMPREPLY[0]#"${value%"${value##*:}"}"}" ] || compopt -o filenames 2>/dev/null
-    # an equals sign ends a word for bash, and a colon too, so that only what stands behind the last one is given
+    # bash ends a word at an equals sign and at a colon, so only the text after the last one is returned
     [[ $front != --* || $COMP_WORDBREAKS == *=* ]] || COMPREPLY=("${COMPREPLY[@]/#/$front}")
     [[ $front == --* ]] || COMPREPLY=("${COMPREPLY[@]/#/$front}")
     [[ $COMP_WORDBREAKS != *:* ]] || COMPREPLY=("${COMPREPLY[@]#"${typed%"${typed##*:}"}"}")

@@ -1,9 +1,9 @@
-/* A light on pin B5 of an ATmega328P (the LED of an Arduino Uno) blinks; how fast is kept in EEPROM. */
+/* Blinks a light on pin B5 of an ATmega328P (the LED of an Arduino Uno). The EEPROM has the times. */
 #include <avr/eeprom.h>
 #include <avr/io.h>
 #include <util/delay.h>
 
-/* Tenths of a second that the light is on, and off. */
+/* Tenths of a second that the light is on and off. */
 uint8_t EEMEM saved_on = 2;
 uint8_t EEMEM saved_off = 8;
 

@@ -1,5 +1,5 @@
 #!/usr/bin/env bash
-# Makes the example files from blink.c, by avr-gcc and avr-objcopy.
+# Builds the example files from blink.c with avr-gcc and avr-objcopy.
 set -eu
 cd "$(dirname "$0")"
 avr-gcc -mmcu=atmega328p -DF_CPU=16000000UL -Os -Wall -o blink.elf blink.c

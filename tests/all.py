@@ -1,16 +1,16 @@
 #!/usr/bin/env python3
 """Runs the tests side by side, each line of the log with the minutes so far.
 
-    tests/all.py             builds the program without proofs, and runs the quick scripts over it
-    tests/all.py NAME ..     runs these scripts, over the program that AVRSTK names, or the one that is built
-    tests/all.py --all       proves everything (rt ci), with the quick scripts beside it; then runs all scripts over the
+    tests/all.py             builds the program without proofs, and runs the quick scripts with it
+    tests/all.py NAME ..     runs these scripts, with the program that AVRSTK names, or the one that is built
+    tests/all.py --all       proves everything (rt ci), with the quick scripts beside it; then runs all scripts with the
                              proved program
 
-A script's output is printed when the script has ended. All steps run even if one fails; the status is then 1. A script
-that failed beside others is run once more with nothing beside it, since some measure silences; that run counts, and the
-summary names it. The summary has each step's status, minutes and last line, the lines that say what failed, and how the
-wrong bodies were refused. It lists what was left out because a tool isn't installed (`./test --tools` installs them);
-with NEED_ALL=1 in the environment that is a failure. Its last line counts what passed and what failed in all steps.
+A script's output is printed when the script has ended. All steps run even if one fails; the status is then 1. Some
+scripts measure timeouts, so a script that failed beside others is run once more alone. That run counts, and the summary
+names it. The summary has each step's status, minutes and last line, the lines that report failures, and how the mutants
+were refused. It lists checks that were left out because a tool isn't installed (`./test --tools` installs the tools);
+with NEED_ALL=1 in the environment these are failures. Its last line counts passed and failed checks of all steps.
 """
 
 import os
@@ -27,44 +27,44 @@ TOP = Path(__file__).resolve().parent.parent
 UNPROVED = TOP / "out/unproved/avrstk"
 PROVED = TOP / "crates/avrstk/out/avrstk"
 
-# those that only read
+# scripts that only read
 CHECKED = ("measure --check", "reach --check")
-# the scripts that run no program of this project, or compile it themselves, the longest first
+# scripts that run no program of this project, or compile it themselves; the longest first
 SOURCES = ("rattle tests", "rattle programs", "rattle refused", "rattle documentation", "vendor", "build", *CHECKED)
-# those that take seconds
+# scripts that take seconds
 SHORT = ("made_frames", "manual", "programmer")
-# those over the program without proofs, and those over the proved one, the longest first
+# scripts run with the unproved program, and with the proved one; the longest first
 QUICK = ("serial", "parts", "avrdude", "runs", "chips", "package", "serve", "recipes", "why", "claims", "lines", "hostile", *SHORT)
 PROGRAM = ("faults", "cuts_and_stalls", "mega", "from_c", "others", "vendor proof", "calls", *QUICK)
 
 LANES = len(os.sched_getaffinity(0))
-# what a check needs of memory at most, in kB
+# the most memory that a check needs, in kB
 CHECK = 3_000_000
 BEGUN = time.monotonic()
 
-# what a script says of what it leaves out, and of how many checks passed and failed
+# a script's lines about checks left out, and about passed and failed checks
 LEFT_OUT = re.compile(r"\s*(?:left out|skipped): (.*)")
 COUNTS = re.compile(r".*?(\d+) passed, (\d+) failed")
 
-# what a script, and rt, say of what fails, and how many such lines the summary repeats
+# the lines in which a script or rt reports a failure, and how many of them the summary repeats
 FAILURE = re.compile(r"(?:rt: )?FAILED: |.*(?:NOT PROVED|NOT REFUSED|BAD EDIT)")
 MOST_FAILURES = 20
 
-# what rt says of a wrong body that it refuses, and the kinds of it, the first that fits: rt cuts a line after its
-# 160th character, so also in the middle of these words
+# rt's line for a refused mutant, and the kinds of refusal; the first match counts. rt cuts a line after 160 characters,
+# so these words may be incomplete
 REFUSED = re.compile(r"(?:rt: )?must-fail \S+: refused, as it must be(.*)")
 REFUSALS = {
     "contradicted by values": re.compile(r"; the f"),
     "only by a limit": re.compile(r" \(only by a limit"),
     "first at a written answer": re.compile(r" \(only because a proof file|: (note: )?(\./)?proofs/"),
-    "where the line of rt is cut before it says how": re.compile(r": .{160}$"),
-    "where a search found nothing or gave up": re.compile(""),
+    "for an unknown reason, because the line of rt is cut": re.compile(r": .{160}$"),
+    "because a search found nothing or gave up": re.compile(""),
 }
 
 
 @dataclass
 class Done:
-    """One step that has ended: its name, its status, how long it took, on a clock and of processors, and its lines."""
+    """A finished step: its name, its status, its seconds by the clock and of processors, and its output lines."""
 
     what: str
     status: int
@@ -86,14 +86,14 @@ class Done:
         return [f"{self.what}: {found[1]}" for found in map(LEFT_OUT.fullmatch, self.lines) if found]
 
     def counts(self):
-        """How many of its checks passed and how many failed; a step that counts none is one check."""
+        """Returns the numbers of its passed and failed checks. A step without counts is one check."""
         found = next(filter(None, map(COUNTS.match, reversed(self.lines))), None)
         passed, failed = (int(found[1]), int(found[2])) if found else (int(self.status == 0), 0)
         return passed, failed or int(self.status != 0)
 
 
 def say(lines):
-    """Prints lines with the minutes so far, and none of another step between them."""
+    """Prints lines with the minutes so far, without lines of other steps between them."""
     minutes = (time.monotonic() - BEGUN) / 60
     sys.stdout.write("".join(f"{minutes:5.1f} {it}\n" for it in lines))
     sys.stdout.flush()
@@ -121,7 +121,7 @@ def run(what, command, comes=False, **environment):
 
 
 def script(name, kind="", **environment):
-    """Runs a script; what `kind` of program it runs is in its name in the log."""
+    """Runs a script. The log names it with the `kind` of program that it runs."""
     file, *words = name.split()
     command = [TOP / "bench/run.py", "--calls"] if file == "calls" else [TOP / f"tests/{file}.py", *words]
     once = lambda again="": run(f"{kind}{name}{again}", command, PYTHONUNBUFFERED="1", **environment)
@@ -131,7 +131,7 @@ def script(name, kind="", **environment):
 
 
 def settled(done):
-    """What came of all steps, where each script that failed was run again alone."""
+    """Returns the outcome of all steps. Each failed script is run again alone."""
     return [it.again() if it.status and it.again else it for it in done]
 
 
@@ -145,14 +145,14 @@ def current():
 
 
 def ci():
-    """Proves everything, with one task for each processor for which there is memory."""
+    """Proves everything, with one task per processor if there is enough memory for each."""
     free = int(re.search(r"MemAvailable: +(\d+)", Path("/proc/meminfo").read_text())[1])
     jobs = os.environ.get("RT_JOBS") or str(max(1, min(LANES, free // CHECK)))
     return run("rt ci", ["rt", "ci"], comes=True, RT_JOBS=jobs)
 
 
 def quick(lanes):
-    """Begins to build the program without proofs, and to run the scripts that need no program and those over it."""
+    """Starts the build of the unproved program, the scripts that need no program, and those that use it."""
     built = lanes.submit(build)
 
     def over_it(name):
@@ -164,14 +164,14 @@ def quick(lanes):
 
 
 def few():
-    """Runs the quick scripts, one a processor."""
+    """Runs the quick scripts, one per processor."""
     with ThreadPoolExecutor(LANES) as lanes:
         done = quick(lanes)()
     return settled(done)
 
 
 def everything():
-    """Runs rt ci with the quick scripts beside it, then all scripts over the proved program."""
+    """Runs rt ci with the quick scripts beside it, then all scripts with the proved program."""
     with ThreadPoolExecutor(1) as beside, ThreadPoolExecutor(max(1, LANES // 2)) as lanes:
         proving, others = beside.submit(ci), quick(lanes)
         done = [*others(), proving.result()]
@@ -181,7 +181,7 @@ def everything():
 
 
 def chosen(names):
-    """Runs the scripts of these names, which take the program that is built."""
+    """Runs the scripts of these names, with the built program."""
     known = list(dict.fromkeys([*SOURCES, *PROGRAM]))
     steps = [it for it in known if it in names or it.split()[0] in set(names) - set(known)]
     built = [] if os.environ.get("AVRSTK") or current() else [build()]
@@ -201,7 +201,7 @@ def summary(done):
     kinds = Counter(next(kind for kind, words in REFUSALS.items() if words.search(how)) for how in refused)
     if refused:
         told = ", ".join(f"{kinds[kind]} {kind}" for kind in REFUSALS if kinds[kind])
-        print(f"wrong bodies: {len(refused)} refused, of these {told}")
+        print(f"mutants: {len(refused)} refused, of these {told}")
     left = [line for it in done for line in it.left_out()]
     print(f"left out because a tool isn't installed: {len(left) or 'nothing'}", *left, sep="\n    ")
     wrong = sum(it.status != 0 for it in done)

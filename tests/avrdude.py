@@ -1,18 +1,18 @@
 #!/usr/bin/env python3
-"""AVRDUDE 7.1 as the client of the programmer that this program serves: what it writes, reads and erases is what this
-program does over `emu:`.
+"""Runs AVRDUDE 7.1 as the client of the programmer that this program serves. AVRDUDE's writes, reads and erases must have
+the same results as this program's over `emu:`.
 
-    tests/avrdude.py [CASE ..]    needs a built program (program.py); AVRDUDE 7.1, or all is left out
+    tests/avrdude.py [CASE ..]    needs a built program (program.py) and AVRDUDE 7.1; without it all is left out
 
-For an ATmega328P, an ATtiny85 and an ATmega2560, each request is made twice: by AVRDUDE over `net:` to `--serve`, and
-by this program over `emu:` to a chip file of its own, both with the same words. Flash and EEPROM are filled with drawn
-bytes, fuses and the lock are written, all memories are read into files, compared, erased with the EEPROM kept and
-without, and AVRDUDE is asked for what has to fail. Both end alike; the server ends with status 0 and without a word;
-the chip files are the same byte for byte, and so are the files read. Then AVRDUDE is killed in the middle of a session
-that writes flash, and of one that writes EEPROM: each byte is still the erased one or the one to be written, and its
-next run leaves what `emu:` leaves.
+For an ATmega328P, an ATtiny85 and an ATmega2560, each request is made twice with the same options: by AVRDUDE over `net:`
+to `--serve`, and by this program over `emu:` to a chip file of its own. Flash and EEPROM are filled with random bytes,
+and fuses and the lock are written. All memories are read into files, compared, and erased, with EEPROM kept and not kept.
+Some requests must fail. Both programs end with the same outcome; the server ends with status 0 and prints nothing. The
+chip files are identical, and so are the files read. Then AVRDUDE is killed in the middle of a session that writes flash,
+and of one that writes EEPROM. Each byte is then the erased one or the new one, and AVRDUDE's next run leaves the same
+chip as `emu:`.
 
-This is seen of this version, these parts and these requests. Of an extended fuse AVRDUDE sends only the bits that its
+This tests one version, three parts and these requests. AVRDUDE sends only the bits of an extended fuse that its
 configuration has, and 0 for the others: the values here have no others.
 """
 
@@ -30,7 +30,7 @@ from program import Room, Server, has_avrdude
 
 @dataclass
 class Part:
-    """The sizes of a part's flash and EEPROM, and values of its fuses."""
+    """A part: the sizes of its flash and EEPROM, and values of its fuses."""
 
     flash: int
     eeprom: int
@@ -46,13 +46,13 @@ PARTS = {
     "t85": Part(8_192, 512, {"lfuse": 0x62, "hfuse": 0xDF, "efuse": 0x00}),
     "m2560": Part(262_144, 4_096, {"lfuse": 0x5E, "hfuse": 0x99, "efuse": 0x04}),
 }
-# the bit of the high fuse that keeps the EEPROM, where it is 0
+# the bit of the high fuse that keeps the EEPROM if it is 0
 KEEPS_EEPROM = 0x08
 MEMORIES = ["flash", "eeprom", "lfuse", "hfuse", "efuse", "lock", "signature", "calibration"]
 
 
 def drawn(name, size):
-    """So many bytes, none of them FF, the same each time."""
+    """Returns `size` bytes without FF, the same each time."""
     source = random.Random(name)
     return bytes(source.randrange(255) for _ in range(size))
 
@@ -62,7 +62,7 @@ def updates(*texts):
 
 
 class Beside:
-    """A part at AVRDUDE's hands, served, and one at this program's, over `emu:`; both are new at first."""
+    """Two chips of one part: one served to AVRDUDE, one used by this program over `emu:`. Both are new at first."""
 
     def __init__(self, name):
         self.name, self.part = name, PARTS[name]
@@ -72,22 +72,22 @@ class Beside:
         self.room.put("eeprom.bin", self.eeprom)
 
     def asked(self, port, words):
-        """AVRDUDE, started with these words; its messages are not this project's, so its status is looked at alone."""
+        """Starts AVRDUDE with these options. Its messages are not this project's, so only its status is checked."""
         command = ["avrdude", "-q", "-c", "stk500v2", "-p", self.name, "-P", f"net:127.0.0.1:{port}", *words]
-        # a home without a configuration of one's own
+        # a home folder without a configuration of the user's own
         home = {"HOME": str(self.room.folder), "XDG_CONFIG_HOME": str(self.room.folder)}
         how = {"stdin": subprocess.DEVNULL, "stdout": subprocess.DEVNULL, "stderr": subprocess.PIPE}
         return subprocess.Popen(command, cwd=self.room.folder, env=os.environ | home, **how)
 
     def by_avrdude(self, words, part=None):
-        """AVRDUDE's status and messages, and how the server ended."""
+        """Returns AVRDUDE's status and messages, and how the server ended."""
         with Server(self.room, "served.bin", part or self.name) as server:
             with self.asked(server.port, words) as client:
                 _, messages = client.communicate(timeout=PATIENCE)
             return client.returncode, messages, server.end()
 
     def by_this(self, words):
-        """The same over `emu:`."""
+        """Makes the same request over `emu:`."""
         status, _, messages = self.room.run(["-c", "stk500v2", "-p", self.name, "-P", "emu:own.bin", "-qq", *words])
         return status, messages
 
@@ -99,7 +99,7 @@ class Beside:
         see(f"{self.name}: {what}: the chip file", good, f"{sizes} bytes, {len(differ)} differ, at {differ[:8]}")
 
     def request(self, what, words, status=0):
-        """One request, made by both."""
+        """Makes one request by both programs."""
         found, messages, ended = self.by_avrdude(words)
         own, own_messages = self.by_this(words)
         good = (found != 0) == (own != 0) == (status != 0)
@@ -109,7 +109,7 @@ class Beside:
         self.chips_are_alike(what)
 
     def written(self):
-        """Flash, EEPROM, fuses and the lock, in a request each; the fuses and the lock not before the memories."""
+        """Writes flash, EEPROM, fuses and the lock, each in one request; the fuses and the lock after the memories."""
         self.request("flash", updates("flash:w:flash.bin:r"))
         self.holds("flash", 0, self.flash)
         self.request("EEPROM", updates("eeprom:w:eeprom.bin:r"))
@@ -123,7 +123,7 @@ class Beside:
         see(f"{self.name}: {what}: is in the chip", chip[at : at + len(content)] == content)
 
     def read(self):
-        """Each memory into a file, by both; and records that one wrote, compared by the other."""
+        """Both programs read each memory into a file; each compares the records that the other wrote."""
         found, messages, _ = self.by_avrdude(updates(*(f"{it}:r:{it}.theirs:r" for it in MEMORIES)))
         own, _ = self.by_this(updates(*(f"{it}:r:{it}.own:r" for it in MEMORIES)))
         see(f"{self.name}: all memories are read", found == own == 0, f"{found}, {own}\n{messages.decode()}")
@@ -139,7 +139,7 @@ class Beside:
         self.chips_are_alike("after all was read")
 
     def refused(self):
-        """What has to fail leaves the chip as it was: another image compared, and a part of another signature."""
+        """Requests that must fail leave the chip unchanged: a different image compared, a part with another signature."""
         self.request("another image", updates("eeprom:v:flash.bin:r", "lfuse:w:0x00:m"), status=1)
         other = next(it for it in PARTS if it != self.name)
         (self.room.folder / "served.bin").rename(self.room.folder / "kept.bin")
@@ -150,7 +150,7 @@ class Beside:
         (self.room.folder / "kept.bin").rename(self.room.folder / "served.bin")
 
     def erased(self):
-        """An erase under a lock, with the EEPROM kept, and then without."""
+        """Erases a locked chip, with the EEPROM kept, and then not kept."""
         high = self.part.fuses["hfuse"]
         self.request("the fuse that keeps the EEPROM", updates(f"hfuse:w:{high & ~KEEPS_EEPROM:#04x}:m"))
         self.request("the lock", updates("lock:w:0xFC:m"))
@@ -161,7 +161,7 @@ class Beside:
         self.holds("an erase", 0, b"\xff" * (self.part.flash + self.part.eeprom))
 
     def killed(self, memory, frame):
-        """AVRDUDE writes a memory of an erased chip, and is killed when this frame comes; then it is asked once more."""
+        """AVRDUDE writes a memory of an erased chip and is killed at this frame; then it is run once more."""
         words = updates(f"{memory}:w:{memory}.bin:r")
         self.request(f"an erase before {memory}", ["-e"])
         fates = Killing(frame)
@@ -180,7 +180,7 @@ class Beside:
 
 
 class Killing:
-    """The fates of a line whose client is killed at a frame: the frame is obeyed, and its answer goes nowhere."""
+    """The fates of a link whose client is killed at a frame: the command is executed, and its reply is lost."""
 
     def __init__(self, frame):
         self.frame = frame
@@ -201,7 +201,7 @@ class Killing:
 
 
 def all_of(name):
-    """All requests to a part in turn, each to the chip that the one before left."""
+    """Makes all requests to a part in turn, each to the chip that the one before left."""
     if not has_avrdude():
         return leave_out(f"AVRDUDE as the client of --serve, {name}", "AVRDUDE 7.1 is not installed")
     beside = Beside(name)

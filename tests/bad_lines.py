@@ -1,14 +1,14 @@
 #!/usr/bin/env python3
-"""How often a run succeeds on a line that loses frames by lot: the built program, a lossy line, and an emulated programmer.
+"""Measures how often a run succeeds over a link that loses frames at random, to an emulated programmer.
 
     tests/bad_lines.py [SECONDS]
 
-For a loss of 1, 5 and 20 % it prints how many runs ended with status 0, of at most 1,000 in so many seconds (20, where no
-number is given), and beside it the figure that the steps of the run have. A frame goes wrong by lot: its command is lost, its
-answer is, or it comes late. An attempt at n commands succeeds where none of them goes wrong, (1 - p)^n, and a step where one
-of four attempts does: 1 - (1 - (1 - p)^2)^4 for two commands. That is chance; what is proved is that no run fails while of
-any seven frames in a row at most three go wrong, and that status 0 is true on every line. So each run of status 0 is looked
-at: its chip has the bytes. The lots have fixed seeds.
+For a loss of 1, 5 and 20 % it makes at most 1,000 runs in SECONDS (default 20). It prints how many ended with status 0, and
+the expected figure. A frame fails at random: its command is lost, its reply is lost, or its reply is late. An attempt at
+n commands succeeds if none of them fails: (1 - p)^n. A step succeeds if one of four attempts does: for two commands,
+1 - (1 - (1 - p)^2)^4. That is chance. Two things are proved: no run fails if of any seven frames in a row at most three
+fail; and status 0 is true over every link. So each run with status 0 is checked: its chip has the bytes. The random
+generators have fixed seeds.
 """
 
 import random
@@ -24,17 +24,17 @@ LOSSES = [1, 5, 20]
 RUNS = 1000
 AT_ONCE = 48
 
-# an EEPROM image of 16 bytes, written and read back: the program's words, and how many commands each of its steps has
+# an EEPROM image of 16 bytes, written and read back: the program's options, and the number of commands in each step
 IMAGE = bytes(range(0x10, 0x20))
 WORDS = ["-U", "eeprom:w:some.bin:r"]
 # SIGN_ON, ENTER, three bytes of the signature, and LEAVE; pages of four bytes, and blocks of 256
 STEPS = [1] * 6 + [2] * 4 + [2] * 4
-# where the chip file has the EEPROM
+# the address of the EEPROM in the chip file
 EEPROM = 32_768
 
 
 class Lots:
-    """The fate of each frame, drawn by lot."""
+    """The fate of each frame, drawn at random."""
 
     def __init__(self, loss, seed):
         self.loss = loss
@@ -47,7 +47,7 @@ class Lots:
 
 
 def run(loss, seed):
-    """Whether a run over such a line succeeded, and what speaks against its right to say so."""
+    """Returns whether a run over such a link succeeded, and what contradicts that."""
     room = Room()
     room.put("some.bin", IMAGE)
     peer = BadLine(room, Lots(loss, f"{loss} {seed}"))
@@ -63,7 +63,7 @@ def run(loss, seed):
 
 
 def figure(loss):
-    """The chance that each step comes to its data in one of four attempts."""
+    """The probability that each step gets its data in one of four attempts."""
     chance = 1.0
     for commands in STEPS:
         chance *= 1 - (1 - (1 - loss / 100) ** commands) ** 4

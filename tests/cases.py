@@ -1,13 +1,13 @@
-"""What the scripts beside this one count: what was seen, in cases that can be run alone by their names, and what is left
-out since a tool isn't installed."""
+"""Runs and counts the checks of the scripts beside this one. A case can be run alone by its name; a check is left out if
+its tool isn't installed."""
 
 import os
 import signal
 import sys
 import traceback
 
-# In the background of a shell SIGINT is ignored, and under nohup SIGHUP, also by what is started there; the programs that
-# are run here heed them.
+# A shell's background jobs ignore SIGINT, and jobs under nohup SIGHUP; their children inherit that. The programs run here
+# must not ignore them.
 for number, heeded in [(signal.SIGINT, signal.default_int_handler), (signal.SIGHUP, signal.SIG_DFL)]:
     if signal.getsignal(number) is signal.SIG_IGN:
         signal.signal(number, heeded)
@@ -16,16 +16,16 @@ passed = 0
 failed = 0
 left = 0
 
-# the seconds that a script waits for what has to come, at most: an end for what hangs, also on a machine that stands
-# still for minutes; nothing is measured by it
+# the most seconds that a script waits for an expected event. It ends a hang, and is long enough for a machine that stops
+# for minutes; nothing is measured by it
 PATIENCE = 600
 
-# how much of what was found, and of what was wanted, is printed
+# the most characters printed of a found or a wanted value
 SHOWN = 600
 
 
 def see(name, good, detail=""):
-    """Counts what has to hold; prints it where it doesn't, and what came instead. Gives whether it holds."""
+    """Counts a check and returns whether it holds. If not, prints its name and details."""
     global passed, failed
     if good:
         passed += 1
@@ -36,7 +36,7 @@ def see(name, good, detail=""):
 
 
 def same(name, found, wanted):
-    """Counts what has to have come to this."""
+    """Checks that `found` equals `wanted`."""
     return see(name, found == wanted, f"found:  {shown(found)}\nwanted: {shown(wanted)}")
 
 
@@ -46,27 +46,26 @@ def shown(what):
 
 
 def leave_out(what, why):
-    """Counts what isn't looked at here, and says why not."""
+    """Counts a check that is left out, and prints why."""
     global left
     left += 1
     print(f"left out: {what}: {why}", flush=True)
 
 
 def named(*functions):
-    """Functions by their names."""
+    """Returns functions by their names."""
     return {it.__name__: it for it in functions}
 
 
 def chosen(cases):
-    """Those of these names that are given on the command line; all where none is."""
+    """Returns the cases named on the command line; all if none is named."""
     given = sys.argv[1:]
     return [it for it in cases if it in given] if given else list(cases)
 
 
 def run_cases(cases, doc):
-    """Runs all cases, or those whose names are given on the command line, and gives the status; where a name is no
-    case's, prints what the script says of itself, and all names. A case that ends with an exception has failed; the
-    others are run."""
+    """Runs all cases, or those named on the command line, and returns the status. If a name is unknown, prints the
+    script's own help and the names of all cases. A case that raises an exception has failed; the others still run."""
     if set(sys.argv[1:]) - set(cases):
         print(doc.strip(), "", "Cases:", *(f"    {it}" for it in cases), sep="\n")
         return 2
@@ -81,6 +80,6 @@ def run_cases(cases, doc):
 
 
 def ended():
-    """Prints the counts, and gives the status: 1 where something failed, or was left out and NEED_ALL is 1."""
+    """Prints the counts and returns the status: 1 if a check failed, or if one was left out and NEED_ALL is 1."""
     print(f"{passed} passed, {failed} failed, {left} left out", flush=True)
     return int(failed > 0 or (left > 0 and os.environ.get("NEED_ALL") == "1"))

@@ -1,10 +1,11 @@
 #!/usr/bin/env python3
-"""A chip file is whole, and one run's at a time: whatever ends a run, the file is as it was or as the run leaves it.
+"""Tests that a chip file is whole, and used by one run at a time. Whatever ends a run, the file is the old one or the new
+one.
 
-    tests/chips.py [CASE ..]        needs a C compiler for the runs that are ended (tests/refuse.c); these are left out without
+    tests/chips.py [CASE ..]        needs a C compiler for runs ended by a signal (tests/refuse.c), or leaves these out
 
-A run is ended by a signal at each of its calls of the system in turn, runs that want one chip are started at once, and a
-chip is wanted while another run or a served session has it. What a refused call leaves is tried by tests/faults.py.
+A signal ends a run at each of its system calls in turn. Several runs are started at once with one chip. A run is started
+with a chip that another run or a served session holds. tests/faults.py tests refused calls.
 """
 
 import os
@@ -27,13 +28,13 @@ EMULATED = ["-p", "m328p", "-P", "emu:chip.bin"]
 SIGNATURE = "device signature = 1E 95 0F"
 IN_USE = lines("error: chip.bin: in use by another run")
 
-# where the EEPROM and the low fuse stand in a chip file
+# the addresses of the EEPROM and the low fuse in a chip file
 EEPROM, LFUSE = 32_768, 33_792
 
 # a chip with a program, data and fuses of its own, which isn't locked
 OLD = bytes(place % 241 for place in range(EEPROM)) + bytes(place % 239 for place in range(1024)) + b"\xe2\xd9\xfd\xff"
 
-# what is beside a chip file while it is held, and where a run was ended
+# the file beside a chip file while a run holds it, or after a run was ended
 NEW_FILE = "chip.bin.avrstk-new"
 
 
@@ -57,8 +58,8 @@ def is_good(what, found):
 
 
 def ended_anywhere():
-    """A run is ended at each of its calls in turn; then the chip is the old one or the new one with its permissions, and
-    each time the next run is as good as ever."""
+    """Ends a run at each of its calls in turn. The chip is then the old one or the new one with its permissions, and the
+    next run works as usual."""
     if not shutil.which("cc"):
         return leave_out("runs that are ended", "there is no C compiler")
     shim = room.folder / "refuse.so"
@@ -70,7 +71,7 @@ def ended_anywhere():
 
 
 def calls_of(shim):
-    """How many calls a run makes."""
+    """Returns the number of calls that a run makes."""
     for call in range(1, 10_000):
         fresh_room()
         ran = room.run(writes_fuse(0x62), b"", {"LD_PRELOAD": str(shim), "REFUSE": f"any {call} kill", "REFUSED": "refused"})
@@ -81,7 +82,7 @@ def calls_of(shim):
 
 
 def ended_at(shim, refused, number):
-    """The chip that a run leaves which is ended there."""
+    """Returns the chip that a run leaves if it is ended there."""
     fresh_room()
     (room.folder / "chip.bin").chmod(0o640)
     ran = room.run(writes_fuse(0x62), b"", {"LD_PRELOAD": str(shim), "REFUSE": refused, "REFUSED": "refused"})
@@ -100,7 +101,7 @@ def mode_of(name):
 
 
 def at_once():
-    """Of runs at once each that ends with 0 is in the chip, and each other one says that it was in use."""
+    """Starts runs at once. Each run with status 0 is in the chip; each other one reports that the chip was in use."""
     good = 0
     for _ in range(200):
         fresh_room()
@@ -121,7 +122,7 @@ def at_once():
 
 
 def held_by_a_run():
-    """While a run has the chip another one is refused, before a frame."""
+    """While a run holds the chip, another one is refused before any frame is sent."""
     fresh_room()
     holder = waiting_run()
     same("another run", room.run(writes_fuse(0x62)), (1, b"", IN_USE))
@@ -135,10 +136,10 @@ def held_by_a_run():
 
 
 def held_by_a_session():
-    """While a session is served the chip is its own, and before a caller comes anybody's."""
+    """A served session holds the chip; before a caller comes, other runs may use it."""
     fresh_room()
     with Server(room, "chip.bin") as server:
-        is_good("a run while nobody has called", room.run(writes_fuse(0x62)))
+        is_good("a run before a caller comes", room.run(writes_fuse(0x62)))
         with server.call() as caller:
             wait_for(lambda: room.read(NEW_FILE) is not None)
             same("a run beside the session", room.run(writes_fuse(0xE2)), (1, b"", IN_USE))
@@ -149,13 +150,13 @@ def held_by_a_session():
 
 
 def refused_by_then():
-    """Another run has the chip when the caller comes: he hears the end, which is told."""
+    """Another run holds the chip when the caller comes: the connection is closed, and that is reported."""
     fresh_room()
     with Server(room, "chip.bin") as server:
         holder = waiting_run()
         with server.call() as caller:
-            same("the caller hears", caller.recv(1), b"")
-        same("the server says", server.end(), (1, b"", IN_USE))
+            same("the caller receives", caller.recv(1), b"")
+        same("the server's message", server.end(), (1, b"", IN_USE))
     (room.folder / "pipe").read_bytes()
     holder.communicate(timeout=PATIENCE)
     see("the run ends well", holder.returncode == 0)
@@ -170,7 +171,7 @@ def wait_for(seen):
 
 
 def told_before():
-    """A chip file that can't be made is told before a frame is sent, or a caller is waited for."""
+    """A chip file that can't be created is reported before a frame is sent, or before the server waits for a caller."""
     room.clear()
     told = (1, b"", lines("error: nowhere/chip.bin: cannot be written"))
     same("emu:", room.run(["-p", "m328p", "-P", "emu:nowhere/chip.bin", "-e"]), told)
@@ -180,7 +181,7 @@ def told_before():
 
 
 def nobody(bare):
-    """How runs are started as nobody where this is root, who may write all: by a copy of the program in a bare folder."""
+    """Returns how to start runs of a copy of the program: as the user nobody if this is root, who may write everything."""
     copy = shutil.copy(PROGRAM, bare)
     for path in [bare, copy]:
         os.chmod(path, 0o755)
@@ -189,19 +190,19 @@ def nobody(bare):
 
 
 def give_to(how, *names):
-    """The room, and these files in it, are whose these runs are."""
+    """Gives the room, and these files in it, to the user of these runs."""
     for path in [room.folder, *(room.folder / it for it in names)]:
         os.chown(path, how.get("user", -1), how.get("group", -1))
 
 
 def ended(started):
-    """The status, the output and the messages."""
+    """Returns the status, the output and the messages."""
     output, messages = started.communicate(timeout=PATIENCE)
     return started.returncode, output, messages
 
 
 def may_not_write(how):
-    """The same of a chip, and of a folder, that may only be read."""
+    """A run is refused if the chip or its folder is read-only, and the chip stays as it is."""
     room.put("chip.bin", OLD)
     give_to(how, "chip.bin")
 
@@ -221,7 +222,7 @@ def may_not_write(how):
 
 
 def what_stays():
-    """A chip that is replaced keeps its permissions; a link to it stays one."""
+    """A chip that is replaced keeps its permissions; a symbolic link to it stays a link."""
     fresh_room()
     (room.folder / "chip.bin").chmod(0o640)
     (room.folder / "link.bin").symlink_to("chip.bin")
@@ -242,7 +243,7 @@ def what_stays():
 
 
 def whose_it_stays():
-    """A chip keeps its owner and its group where the system allows it, and what an ended run left is its owner's."""
+    """A chip keeps its owner and group if the system allows it; the file that an ended run left belongs to its owner."""
     groups = [it for it in os.getgroups() if it != os.getegid()]
     if os.geteuid() == 0:
         owner, group = 65534, 65533
@@ -265,7 +266,7 @@ def whose_it_stays():
 
 
 def after_root(how):
-    """What root's run left beside a chip of nobody's is used up by nobody; what is root's alone is in nobody's way."""
+    """The user nobody runs after a run of root's over nobody's chip. A file of root's own blocks nobody's runs."""
     give_to(how)
     is_good("a run after root's", ended(room.start(writes_fuse(0x63), **how)))
     room.put(NEW_FILE, b"")
@@ -282,7 +283,7 @@ def owner_of(name):
 
 
 def waiting_run(pipe="pipe", words=()):
-    """A run that has the chip and waits in its session, since nobody reads the pipe yet."""
+    """Starts a run that holds the chip and blocks in its session because no process reads the pipe yet."""
     os.mkfifo(room.folder / pipe)
     started = room.start([*EMULATED, *words, "-U", f"eeprom:r:{pipe}:r"])
     see("a run that waits", SIGNATURE.encode() in started.stderr.readline())
@@ -290,7 +291,7 @@ def waiting_run(pipe="pipe", words=()):
 
 
 def left_behind():
-    """A new file that an ended run left is used up by the next one: it is empty, or marked as being written."""
+    """The next run uses the new file that an ended run left: it is empty, or marked as being written."""
     for content, mode in [(b"", 0o644), (b"", 0o1600), (b"x" * 100_000, 0o1644)]:
         fresh_room()
         room.put(NEW_FILE, content)
@@ -300,8 +301,8 @@ def left_behind():
 
 
 def taken_away():
-    """Somebody removes the new file of a run that waits, and another run begins: the first one ends with the old chip in
-    place, whatever becomes of the other one."""
+    """The new file of a waiting run is removed, and another run starts. The first run ends with the old chip in place,
+    however the other one ends."""
     for ends_well in (True, False):
         fresh_room()
         first = waiting_run(words=["-U", "lfuse:w:0x11:m"])
@@ -324,7 +325,7 @@ def taken_away():
 
 
 def what_is_not_ours():
-    """What has the new file's name and was not left by a run stays as it is: the run is refused before a frame."""
+    """A file with the new file's name that no run left stays as it is: the run is refused before any frame is sent."""
     told = (1, b"", lines("error: chip.bin: cannot be written"))
 
     def plant_file(path):
@@ -360,7 +361,7 @@ def kept_of(status):
 
 
 def read_into_the_new_file():
-    """A read whose file has the new file's name: the run fails, what was read stays, and the chip is as it was."""
+    """Reads into a file with the new file's name: the run fails, the read data stays, and the chip is unchanged."""
     fresh_room()
     told = lines(SIGNATURE, "eeprom: 1024 bytes read", "done", "error: chip.bin: cannot be written")
     same("the run", room.run([*EMULATED, "-U", f"eeprom:r:{NEW_FILE}:r"]), (1, b"", told))
@@ -371,7 +372,7 @@ def read_into_the_new_file():
 
 
 def long_names():
-    """A chip's name may have 244 bytes; a longer one is refused before a frame, and nothing is made."""
+    """A chip's name may have 244 bytes; a longer one is refused before any frame is sent, and no file is created."""
     room.clear()
     for length, good in [(244, True), (245, False), (255, False)]:
         name = "c" * length
@@ -384,12 +385,12 @@ def long_names():
 
 
 def on_the_disk():
-    """The new file is on the disk before it has the chip's name, and the folder with that name before the run ends."""
+    """The new file is synced before it gets the chip's name, and the folder is synced before the run ends."""
     if not shutil.which("strace"):
         return leave_out("what is on the disk", "strace is not installed")
     fresh_room()
     traced = ["strace", "-y", "-o", "calls", "-e", "trace=fsync,rename,renameat,renameat2"]
-    # (what finds leaks in the program that is not proved can't run beside strace)
+    # (the unproved program's leak detector can't run under strace)
     started = room.start(writes_fuse(0x62), front=traced, env=os.environ | {"ASAN_OPTIONS": "detect_leaks=0"})
     started.communicate(timeout=PATIENCE)
     same("the run", started.returncode, 0)
@@ -404,7 +405,7 @@ def no_regular_file():
     room.clear()
     os.mkfifo(room.folder / "pipe")
     started = room.start(["-p", "m328p", "-P", "emu:pipe", "-U", "lfuse:w:0x62:m"])
-    # (an end to read from is there before the chip is, as the run doesn't wait for one)
+    # (the pipe's read end is opened before the run writes the chip, because the run doesn't wait for a reader)
     with open(room.folder / "pipe", "wb") as given:
         back = os.open(room.folder / "pipe", os.O_RDONLY | os.O_NONBLOCK)
         given.write(OLD)
@@ -415,13 +416,13 @@ def no_regular_file():
 
 
 def a_full_disk():
-    """A file that may not grow so long: the chip stays, whether or not the signal of that (SIGXFSZ) is ignored."""
+    """The file size limit is too small: the chip stays, whether or not SIGXFSZ is ignored."""
     told = lines(SIGNATURE, "lfuse: 1 bytes written", "lfuse: 1 bytes verified", "done", "error: chip.bin: cannot be written")
     for limit in ['trap "" XFSZ; ulimit -f 16', "ulimit -f 16", "ulimit -f 0"]:
         fresh_room()
         words = ["sh", "-c", f'{limit}; exec "$0" "$@"', str(PROGRAM), *writes_fuse(0x62)]
         found = subprocess.run(words, capture_output=True, cwd=room.folder)
-        same(f"{limit}: it is told", (found.returncode, found.stderr), (1, told))
+        same(f"{limit}: it is reported", (found.returncode, found.stderr), (1, told))
         see(f"{limit}: the chip is as it was", room.read("chip.bin") == OLD)
         same(f"{limit}: no file is left beside it", room.read(NEW_FILE), None)
 

@@ -1,8 +1,8 @@
 #!/usr/bin/env python3
-"""Tries sentences of README and docs/USAGE, docs/PROTOCOL and docs/FORMATS as they stand: what `written` and status 0
-mean, what is sent after a fault, what a silence is, what a file is taken for, and what AVRDUDE does where USAGE says.
+"""Tests sentences of README, docs/USAGE, docs/PROTOCOL and docs/FORMATS. They are about `written` and status 0, commands
+after an error, timeouts, the detection of file formats, and AVRDUDE.
 
-    tests/claims.py        needs a built program (program.py); AVRDUDE 7.1, or its rows are left out
+    tests/claims.py        needs a built program (program.py); rows with AVRDUDE 7.1 are left out without it
 """
 
 import fcntl
@@ -27,7 +27,7 @@ EMULATED = ["-p", "m328p", "-P", "emu:chip.bin"]
 SIGNATURE = "device signature = 1E 95 0F"
 ERASED = [SIGNATURE, "chip erased"]
 FLASH, EEPROM = 32_768, 1_024
-# where the fuses and the lock stand in a chip file
+# the addresses of the fuses and the lock in a chip file
 LFUSE, LOCK = FLASH + EEPROM, CHIP_FILE - 1
 NEW = b"\xff" * CHIP_FILE
 LOCKED = NEW[:-1] + b"\xfe"
@@ -37,7 +37,7 @@ LEAVE = 0x11
 
 
 def run(name, words, told, status=0, chip=None, **files):
-    """A run over `emu:` with this chip, or a new one, that says these lines; the chip file after it."""
+    """Checks the lines of a run over `emu:` with this chip, or a new one. Returns the chip file after it."""
     room.clear()
     for file, content in ({"chip.bin": chip} if chip else {}).items():
         room.put(file, content)
@@ -52,7 +52,7 @@ def text(name):
     return (TOP / name).read_text()
 
 
-# ---- what `written` and status 0 mean
+# ---- the meaning of `written` and status 0
 
 
 def written_is_no_more_than_answered():
@@ -117,7 +117,7 @@ def files_are_written_over():
     room.clear()
     found = room.run(["-p", "m328p", "-P", "emu:x.bin", "-U", "eeprom:r:x.bin:r"])
     see("a read into the chip file", found == (0, b"", lines(SIGNATURE, "eeprom: 1024 bytes read", "done")), found)
-    see("the chip stands there", room.read("x.bin") == NEW)
+    see("the chip is there", room.read("x.bin") == NEW)
     told = [SIGNATURE, "eeprom: 1024 bytes read", "lfuse: 1 bytes read", "done"]
     run("two reads into one file", ["-U", "eeprom:r:out:r", "-U", "lfuse:r:out:h"], told)
     see("the second stays", room.read("out") == b"0xff\n", room.read("out"))
@@ -131,7 +131,7 @@ def text_is_flashed():
         count = len(content)
         told = [*ERASED, f"flash: {count} bytes written", f"flash: {count} bytes verified", "done"]
         chip = run(f"{name} is flashed", ["-U", "flash:w:image.hex"], told, image_hex=content)
-        see(f"{name}: as it stands", chip[:count] == content)
+        see(f"{name}: unchanged", chip[:count] == content)
         run(f"{name} is refused by :i", ["-U", "flash:w:image.hex:i"], refusal, 1, image_hex=content)
     run("and by :s", ["-U", "flash:w:image.hex:s"], refusal, 1, image_hex=commented)
 
@@ -145,7 +145,7 @@ def an_empty_file_erases():
 
 
 def with_bad_sum():
-    """A firmware whose first record has another checksum."""
+    """Returns a firmware whose first record has a wrong checksum."""
     return re.sub(r"(?m)^(:.*)(..)\r?$", r"\g<1>00", text("examples/blink.hex"), count=1)
 
 
@@ -170,7 +170,7 @@ def headers_and_starts_are_dropped():
 
 
 def what_files_hold():
-    """docs/FORMATS, by single runs: each file, how it is named, and what is told of it."""
+    """Tests docs/FORMATS by single runs: each file, its name, and the lines about it."""
     data, end = ":0100000055AA\n", ":00000001FF\n"
     digit = ["error: image.hex: line 1: bad digit"]
     read = [*ERASED, "flash: 1 bytes written", "flash: 1 bytes verified", "done"]
@@ -203,7 +203,7 @@ def what_files_hold():
 
 
 def over(fates, words, part="m328p", parts=()):
-    """A run over a bad line to an emulated programmer: its status, messages and frames, and the chip."""
+    """Runs over a bad link to an emulated programmer. Returns the status, messages, frames and chip."""
     room.clear()
     line = BadLine(room, fates, part=part)
     status, _, messages = room.run([*parts, "-p", part, "-P", f"net:127.0.0.1:{line.port}", *words])
@@ -211,7 +211,7 @@ def over(fates, words, part="m328p", parts=()):
 
 
 def after_a_file_nothing_is_sent():
-    """Not even LEAVE; and the file is created only once its memory was read whole."""
+    """Nothing more is sent, not even LEAVE. A file is created only after its whole memory was read."""
     for name, update, frames in [("a fuse", "lfuse:r:nofolder/x:h", 6), ("flash", "flash:r:nofolder/x:r", 5 + 2 * 128)]:
         status, messages, sent, _ = over({}, ["-U", update])
         told = lines(SIGNATURE, "error: nofolder/x: cannot be created")
@@ -222,7 +222,7 @@ def after_a_file_nothing_is_sent():
 
 
 def silent_after_verified():
-    """`no answer` after `verified`, but before the line of the last update."""
+    """`no answer` comes after `verified`, but before the line of the last update."""
     lost = {number: "lost command" for number in range(8, 40)}
     status, messages, _, chip = over(lost, ["-U", "lfuse:w:0xE2:m", "-U", "lock:w:0xFC:m"])
     told = [SIGNATURE, "lfuse: 1 bytes written", "lfuse: 1 bytes verified", "error: no answer"]
@@ -234,7 +234,7 @@ def silent_after_verified():
 
 
 class Trickle(Peer):
-    """Sends a byte each quarter second, and nothing else, for more than three seconds."""
+    """Sends only a byte each quarter second, for more than three seconds."""
 
     def serve(self, caller):
         caller.settimeout(0.25)
@@ -249,7 +249,7 @@ class Trickle(Peer):
 
 
 def a_silence_is_a_second_without_a_byte():
-    """A byte each quarter second: in more than three seconds the first frame isn't sent again."""
+    """A byte comes each quarter second: the first frame isn't sent again within three seconds."""
     peer = Trickle()
     started = room.start(["-p", "m328p", "-P", f"net:127.0.0.1:{peer.port}"])
     started.communicate(timeout=PATIENCE)
@@ -270,12 +270,13 @@ def standard_streams_that_do_not_block():
     wanted += b"".join(frame(number, LEAVE, 1, 1) for number in range(5, 9))
     found = ran.returncode, ran.stderr
     see("input that doesn't block: `no answer`", found == (1, lines("error: no answer")), found)
-    # a second of silence for each would be eight
+    # with a timeout of a second for each it would take eight
     see("eight frames, at once", (ran.stdout, taken < 4) == (wanted, True), (len(ran.stdout), taken))
 
 
 def standard_streams_that_block():
-    """Nothing is sent again while nobody answers; but what was refused as spoiled, or had no answer in 4,096 bytes."""
+    """Nothing is retried while there is no reply. A command is retried if it was refused as damaged, or if 4,096 bytes
+    had no reply in them."""
     started = room.start(["-p", "m328p", "-P", "stdio:"], subprocess.PIPE)
     first = started.stdout.read(7)
     try:
@@ -296,7 +297,7 @@ def standard_streams_that_block():
 
 
 def served(chip=None):
-    """A program that serves a chip, and a connection to it."""
+    """Returns a program that serves a chip, and a connection to it."""
     room.clear()
     if chip:
         room.put("chip.bin", chip)
@@ -305,7 +306,7 @@ def served(chip=None):
 
 
 def ended_from_outside():
-    """A chip is saved only where a run comes to its end."""
+    """A chip is saved only if a run comes to its end."""
     server, caller = served()
     with caller:
         answers = frames_of(caller)
@@ -327,12 +328,12 @@ def ended_from_outside():
     caller.setsockopt(socket.SOL_SOCKET, socket.SO_LINGER, struct.pack("ii", 1, 0))
     caller.close()
     found = server.end()
-    see("--serve: status 1 where a caller resets", found == (1, b"", lines("error: link cannot be read")), found)
+    see("--serve: status 1 if a caller resets", found == (1, b"", lines("error: link cannot be read")), found)
     see("the chip is saved all the same", room.read("chip.bin") == NEW)
     room.clear()
     os.mkfifo(room.folder / "pipe")
     started = room.start([*EMULATED, "-U", "lfuse:w:0xE2:m", "-U", "lfuse:r:pipe:h"])
-    # the line stands once the second update is due, and nobody reads the pipe
+    # the run blocks at the second update, because no process reads the pipe
     while b"verified" not in started.stderr.readline():
         pass
     started.send_signal(signal.SIGINT)
@@ -341,19 +342,19 @@ def ended_from_outside():
 
 
 def loaded_for_its_caller():
-    """What `emu:` saves while nobody has called is in the chip that is served, and a chip that is refused by then is
-    told and left as it is."""
+    """A chip that `emu:` saves before a caller comes is the one served. If the chip is refused at that time, that is
+    reported, and the chip stays as it is."""
     room.clear()
     server = Server(room, "chip.bin")
     told = [SIGNATURE, "lfuse: 1 bytes written", "lfuse: 1 bytes verified", "done"]
     found = room.run([*EMULATED, "-U", "lfuse:w:0xE2:m"])
-    see("a run while nobody has called", found == (0, b"", lines(*told)), found)
+    see("a run before a caller comes", found == (0, b"", lines(*told)), found)
     with server.call() as caller:
         answers = frames_of(caller)
         for number, (body, wanted) in enumerate([(ENTER, "10 00"), (bytes.fromhex("18 04 50 00 00 00"), "18 00 E2 00")], 1):
             caller.sendall(frame(number, body))
             found = next(answers)
-            see(f"frame {number} is answered", found == frame(number, bytes.fromhex(wanted)), found.hex(" "))
+            see(f"frame {number} gets a reply", found == frame(number, bytes.fromhex(wanted)), found.hex(" "))
     found = server.end()
     see("the caller has gone", found == (0, b"", b""), found)
     see("and the fuse is kept", room.read("chip.bin") == NEW[:LFUSE] + b"\xe2" + NEW[LFUSE + 1 :])
@@ -361,15 +362,15 @@ def loaded_for_its_caller():
     server = Server(room, "chip.bin")
     room.put("chip.bin", b"abc")
     with server.call() as caller:
-        see("a bad chip by then: the caller hears the end", caller.recv(1) == b"")
+        see("a bad chip by then: the connection is closed", caller.recv(1) == b"")
     found = server.end()
     wanted = f"error: chip.bin: 3 bytes, {CHIP_FILE} expected"
-    see("and it is told", found == (1, b"", lines(wanted)), found)
+    see("and it is reported", found == (1, b"", lines(wanted)), found)
     see("the file is left as it is", room.read("chip.bin") == b"abc")
 
 
 def enter_and_the_mode():
-    """docs/PROTOCOL: a failing ENTER turns the mode off, but not one of another length."""
+    """docs/PROTOCOL: a failing ENTER turns programming mode off; an ENTER with a wrong length doesn't."""
     fuse = bytes.fromhex("18 04 50 00 00 00")
     polled = ENTER[:6] + b"\x54" + ENTER[7:]
     server, caller = served()
@@ -389,7 +390,7 @@ def enter_and_the_mode():
 
 
 class ByteOnly(BadLine):
-    """A line to a part that doesn't know how to write a page of EEPROM: the instructions of such a write are others."""
+    """A link to a part that can't write EEPROM by the page: such a write needs other instructions."""
 
     def serve(self, caller):
         with self.server.call() as programmer:
@@ -427,7 +428,7 @@ def parts_that_want_others():
 
 
 def the_recipe_of_an_ide():
-    """The recipe of USAGE for avrstk-serial, which avrstk refuses, and the same with other words, both over the
+    """avrstk refuses USAGE's recipe for avrstk-serial, and takes the same with other options. Both are run over the
     emulator; the last `-P` counts."""
     usage = text("docs/USAGE.md")
     refused = shlex.split(re.search(r"^ +avrstk-serial (-C.*)$", usage, re.M)[1])
@@ -447,7 +448,7 @@ def the_recipe_of_an_ide():
 
 
 def avrdude():
-    """What AVRDUDE 7.1 makes of files, over the served programmer, where it is installed."""
+    """How AVRDUDE 7.1 handles files, over the served programmer, if it is installed."""
     if not has_avrdude():
         return leave_out("AVRDUDE's part", "AVRDUDE 7.1 is not installed")
     hexes = text("examples/blink.hex")
@@ -478,7 +479,7 @@ def avrdude():
 
 
 def the_logic():
-    """The sum of the logic that the documents name is that of the kit that proves here."""
+    """The checksum of the logic in the documents is that of the installed kit."""
     if not shutil.which("rt"):
         return leave_out("the sum of the logic", "rt is not installed")
     ran = subprocess.run(["rt", "version"], capture_output=True, text=True)

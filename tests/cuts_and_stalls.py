@@ -1,13 +1,13 @@
 #!/usr/bin/env python3
-"""A run and the programmer that the program serves, as two processes at the ends of a line that keeps the order of bytes,
-loses none and adds none, and cuts and stalls wherever it was drawn to, inside frames too: 150 runs, of fixed seeds.
+"""Tests a run and the served programmer as two processes at the ends of an ordered link: 150 runs with fixed seeds.
 
     tests/cuts_and_stalls.py [CASE ..]    needs a built program (program.py)
 
-What the laws of two processes say is looked at in each run: without a stall it does what it does over `emu:`; with status
-0 the chip has what was written, and the messages are those of `emu:`; whatever the status, the chip is as the first so
-many strokes of the plan leave it (the erase, pages of flash in their order, pages of EEPROM, the fuse), and the messages
-in front of the error begin those of `emu:`. A stall lasts until the run sends again, after its second of silence.
+The link loses no byte and adds none. It cuts the bytes into pieces and stalls at random places, also inside frames. Each
+run is checked against the laws of two processes. Without a stall it does the same as over `emu:`. With status 0 the chip
+has what was written, and the messages are those of `emu:`. With any status, the chip is the result of a prefix of the
+plan's writes: the erase, pages of flash in order, pages of EEPROM, the fuse. The messages before an error are a prefix of
+those of `emu:`. A stall lasts until the run sends again, after its timeout of a second.
 """
 
 import random
@@ -28,18 +28,18 @@ LFUSE = FLASH + EEPROM
 
 
 class Plan:
-    """Images, drawn, and a chip that is full of other bytes; it has no lock, and an erase takes its EEPROM too."""
+    """Random images, and a chip full of other bytes. It has no lock, and an erase clears its EEPROM too."""
 
     def __init__(self, seed):
         lots = random.Random(f"plan {seed}")
-        # no image ends with FF, of which the end of one for flash is cut off
+        # no image ends with FF, because FF at the end of a flash image is cut off
         self.flash = lots.randbytes(lots.randint(1, 260)) + b"\x00"
         self.eeprom = lots.randbytes(lots.randint(1, 14))
         self.chip = lots.randbytes(FLASH + EEPROM) + b"\x62\xd9\xff\xff"
         self.strokes = list(self.states())
 
     def states(self):
-        """The chip at first, and after each stroke."""
+        """Returns the chip at first, and after each page write."""
         chip = bytearray(self.chip)
         yield bytes(chip)
         chip[: FLASH + EEPROM] = b"\xff" * (FLASH + EEPROM)
@@ -53,7 +53,7 @@ class Plan:
         yield bytes(chip)
 
     def run(self, room, port, chip):
-        """The status and messages of a run of this plan in this room, to a chip in this file."""
+        """Returns the status and messages of a run of this plan in this room, to a chip in this file."""
         room.put("flash.bin", self.flash)
         room.put("eeprom.bin", self.eeprom)
         room.put(chip, self.chip)
@@ -62,8 +62,8 @@ class Plan:
 
 
 class Line(Peer):
-    """An ordered line to a programmer. Each way is cut into pieces of at most so many bytes, and stalls in front of the
-    bytes at these places; from the place `lags_from` on each answer comes when the next frame was sent."""
+    """An ordered link to a programmer. Each way is cut into pieces of a limited size, and stalls before the bytes at these
+    places. From the place `lags_from` on, each reply comes only after the next frame was sent."""
 
     def __init__(self, room, lots, most, stalls_up=(), stalls_down=(), lags_from=None):
         self.lots, self.most, self.lags_from = lots, most, lags_from
@@ -82,11 +82,11 @@ class Line(Peer):
             up.join()
 
     def heard_from(self, caller):
-        """What the run sends next; nothing at its end."""
+        """Returns what the run sends next; nothing at its end."""
         try:
             piece = caller.recv(4096)
         except ConnectionResetError:
-            # it has gone, with answers that it didn't read
+            # the run has gone, with unread replies
             piece = b""
         with self.changed:
             self.count += len(piece)
@@ -100,7 +100,7 @@ class Line(Peer):
             while piece:
                 if place in self.stalls_up:
                     self.stalls_up.remove(place)
-                    # after a second of silence the run sends again
+                    # after its timeout of a second the run sends again
                     piece += self.heard_from(caller)
                 size = self.size(lots, place, self.stalls_up)
                 programmer.sendall(piece[:size])
@@ -123,30 +123,30 @@ class Line(Peer):
                     caller.sendall(piece[:size])
                     place, piece = place + len(piece[:size]), piece[size:]
         except OSError:
-            # the run has gone with answers on their way
+            # the run has gone, with replies still on their way
             while programmer.recv(4096):
                 pass
 
     def size(self, lots, place, stalls):
-        """How long the next piece is: not past a stall."""
+        """Returns the length of the next piece: it ends before a stall."""
         size = lots.randint(1, self.most)
         return next((far for far in range(1, size) if place + far in stalls), size)
 
     def await_more(self):
-        """Until the run has sent more, or has ended."""
+        """Waits until the run has sent more, or has ended."""
         with self.changed:
             count = self.count
             self.changed.wait_for(lambda: self.count > count or self.ended, PATIENCE)
 
     def end(self):
-        """The status of the programmer, once it has saved its chip."""
+        """Returns the programmer's status, once it has saved its chip."""
         super().end()
         return self.server.end()
 
 
 def over(plan, number, line):
-    """A run of a plan over a line that this makes of a room and lots: its status and messages, the chip, and what the
-    server has said."""
+    """Runs a plan over a link that this makes from a room and a random generator. Returns the status, messages and chip,
+    and the server's messages."""
     room = Room()
     peer = None
 
@@ -160,8 +160,8 @@ def over(plan, number, line):
 
 
 def many(numbers, line, at_once=AT_ONCE):
-    """The runs of these numbers, each over a line that this makes; gives the numbers of those that ended with another
-    status than 0."""
+    """Makes the runs of these numbers, each over a link that this makes. Returns the numbers of those with another status
+    than 0."""
     plans = [Plan(seed) for seed in range(10)]
     courses = [plan.run(Room(), lambda: "emu:chip.bin", "chip.bin") for plan in plans]
     same("over emu:", [status for status, _ in courses], [0] * len(plans))
@@ -175,7 +175,7 @@ def many(numbers, line, at_once=AT_ONCE):
 
 
 def holds(name, plan, told, status, messages, served, chip):
-    """What the laws say of a run and a server."""
+    """Checks the laws for a run and a server."""
     see(f"{name}: the server", served == (0, b"", b""), served)
     see(f"{name}: the chip is whole", chip is not None and len(chip) == CHIP_FILE)
     if status == 0:
@@ -189,17 +189,17 @@ def holds(name, plan, told, status, messages, served, chip):
 
 
 def cuts():
-    """A line that never stalls."""
+    """Tests a link that never stalls."""
     line = lambda room, lots: Line(room, lots, lots.choice([1, 7, 40, 300]))
     failed = list(range(45))
-    # (a machine so busy that nothing comes for a second spoils some: they are made again, fewer at once)
+    # (on a busy machine a pause of a second spoils some runs: they are made again, fewer at once)
     for at_once in [AT_ONCE, 8, 2, 1]:
         failed = many(failed, line, at_once) if failed else []
     same("each run succeeds", failed, [])
 
 
 def stalls():
-    """A line that stalls up to four times, anywhere."""
+    """Tests a link that stalls up to four times, anywhere."""
 
     def line(room, lots):
         places = [[lots.randint(0, 1_000) for _ in range(lots.randint(0, 2))] for _ in range(2)]
@@ -210,7 +210,7 @@ def stalls():
 
 
 def lags():
-    """A line on which, from some place on, each answer comes too late: a run ends there."""
+    """Tests a link on which each reply comes too late from some place on: a run ends there."""
     failed = many(range(15), lambda room, lots: Line(room, lots, 300, lags_from=lots.randint(0, 1_000)))
     see("most runs fail", len(failed) > 7, failed)
 

@@ -1,18 +1,18 @@
 #!/usr/bin/env python3
-"""Lets each call that the built program makes of the system fail in turn: requests for memory, reads, writes, openings, and
-what it asks of sockets.
+"""Makes each system call of the built program fail in turn: allocations, reads, writes, opens and socket calls.
 
-    tests/faults.py [CASE ..]        needs a built program (program.py), and a C compiler (tests/refuse.c),
-                                     or all is left out
+    tests/faults.py [CASE ..]        needs a built program (program.py) and a C compiler (tests/refuse.c);
+                                     without one all is left out
 
-The runs over the emulator begin with a chip that has something to lose, and its file has to be whole, and as it was or
-as the run leaves it: each byte the old one, an erased one, or that of the sound run's end. For every run below and every
-kind of call the nth is refused, for n from 1 upwards until a run meets no refusal; of the requests for memory also the
-nth and all after it. What was sent and said has to be a front of what the sound run sends and says, and then the line of
-that fault, with the name of the file that the call was for (a front of it where a message couldn't be written), with
-status 1; or all that the sound run sends and says, with its status, where what was refused wasn't needed. A read or a
-write that a signal breaks off, or that moves one byte alone, and a file that says a failure where it is closed, have to
-change nothing. (The program that is not proved asks for memory where this doesn't see it.)
+The runs over the emulator begin with a chip that isn't empty. Its file must stay whole: each byte is the old one, an
+erased one, or that of an undisturbed run's end. For every run below and every kind of call, the nth call is refused, for
+n from 1 until a run has no nth call. For allocations, the nth and all later ones are refused too.
+
+A run with a refused call must end in one of two ways. Either it sends and prints a prefix of the undisturbed run, then
+prints the error's line, and ends with status 1. The line names the file that the call was for; if a message couldn't be
+written, it may be incomplete. Or, if the call wasn't needed, the run is the same as the undisturbed one. Three faults
+must change nothing: a read or write interrupted by a signal, one that moves only one byte, and an error from closing a
+file. (Some allocations of the unproved program are not seen here.)
 """
 
 import os
@@ -32,14 +32,14 @@ EMULATED = ["-p", "m328p", "-P", "emu:chip.bin"]
 
 
 def full_chip(flash, eeprom):
-    """A chip with a program, data and fuses of its own, which isn't locked."""
+    """Returns a chip with a program, data and fuses of its own, which isn't locked."""
     return bytes(place % 241 for place in range(flash)) + bytes(place % 239 for place in range(eeprom)) + b"\xe2\xd9\xfd\xff"
 
 
 # the chip files that the runs begin with, by the part's name
 CHIPS = {"m328p": full_chip(32_768, 1024), "m2560": full_chip(262_144, 4096)}
 
-# the words after the program's name, and what stands on standard input
+# the program's options, and its standard input
 RUNS = {
     "a session opened and closed": (["-p", "m328p", "-P", "stdio:"], ANSWERS),
     "an empty file as flash": ([*EMULATED, "-U", "flash:w:empty.bin"], b""),
@@ -51,7 +51,7 @@ RUNS = {
     "a part file": ([*EMULATED, "--parts", "parts.toml"], b""),
 }
 
-# words that come to no session, and their status
+# options that start no session, and their status
 REFUSED = {
     "a request for help": (["--help"], 0),
     "an option that isn't known": (["-p", "m328p", "--nonsense"], 1),
@@ -59,8 +59,8 @@ REFUSED = {
     "a programmer that isn't known": ([*EMULATED, "-c", "arduino"], 1),
 }
 
-# The lines that a refused call of each kind may have; the file is the one that the call was for. (A device that lacks
-# memory fails like any other.)
+# The lines that may report a refused call of each kind; the file is the one that the call was for. (A device that can't
+# allocate fails like any other.)
 LINES = {
     "growth": ["out of memory", "link cannot be written", "link cannot be read", "chip.bin: cannot be written"],
     "read": ["link cannot be read", "{file}: cannot be read"],
@@ -70,15 +70,15 @@ LINES = {
     "socket": ["port net:127.0.0.1:PORT cannot be opened", "port PORT cannot be opened"],
 }
 
-# what is refused
+# the calls that are refused
 FAULTS = [*((kind, "fail") for kind in LINES), ("growth", "onwards")]
 
-# what has to change nothing
+# the faults that must change nothing
 HARMLESS = [("read", "interrupt"), ("read", "one"), ("write", "interrupt"), ("write", "one"), ("close", "fail")]
 
 
 class Sweep:
-    """The runs of some words with one call refused in each."""
+    """The runs with some options, with one call refused in each."""
 
     def __init__(self, room, shim, label, words, given, status=0):
         self.room, self.shim, self.label, self.words, self.given = room, shim, label, words, given
@@ -87,7 +87,7 @@ class Sweep:
             raise AssertionError(f"{label}: {self.sound}")
 
     def prepare(self):
-        """An empty room, but for the chip."""
+        """Empties the room, except for the chip."""
         self.room.clear()
         self.old = None
         if "emu:chip.bin" in self.words:
@@ -95,14 +95,14 @@ class Sweep:
             self.room.put("chip.bin", self.old)
 
     def done(self, refused=None):
-        """The status, the output and the messages, and the files that were made."""
+        """Returns the status, the output and the messages, and the files that were made."""
         self.prepare()
         environment = {"LD_PRELOAD": str(self.shim), "REFUSE": refused, "REFUSED": "refused"} if refused else None
         ran = self.room.run(self.words, self.given, environment)
         return *ran, self.room.read("chip.bin"), self.room.read("out.hex")
 
     def through(self, kind, how):
-        """Refuses each call of a kind in turn, to the first that has a wrong outcome, and counts what became of it."""
+        """Refuses each call of a kind in turn, up to the first with a wrong outcome. Returns the count of each outcome."""
         counts = Counter()
         for number in range(1, 100_000):
             done = self.done(f"{kind} {number} {how}")
@@ -116,15 +116,15 @@ class Sweep:
             counts["unneeded" if is_sound else "told"] += 1
 
     def is_told(self, kind, how, status, output, messages, chip, read_file):
-        """Whether a run says that it failed, and leaves nothing that is half written without a word."""
+        """Whether a failed run reports the failure, and reports each half-written file."""
         refused = Path(self.room.read("refused").decode())
-        # (the folder is waited for once the chip is in place)
+        # (the folder is synced after the chip is in place)
         file = "chip.bin" if refused == self.room.folder.resolve() else refused.name.removesuffix(".avrstk-new")
         lines = [line.format(file=file) for line in LINES[kind]]
         if how == "onwards" and self.old and chip == self.old:
-            # (after a fault of the session there is no memory to save the chip either, which is told too)
+            # (after an error of the session there is no memory to save the chip either, and that is reported too)
             lines += [f"{line}\navrstk: error: out of memory" for line in lines]
-        # (the line is whole, unless it was a message that couldn't be written)
+        # (the line is whole, unless a message couldn't be written)
         is_told = any(is_front_and_line(messages, self.sound[2], line, kind == "write") for line in lines)
         is_chip = chip in (self.old, self.sound[3]) or is_on_its_way(self.old, chip, self.sound[3])
         is_front = read_file is None or (self.sound[4] or b"").startswith(read_file)
@@ -132,7 +132,7 @@ class Sweep:
 
 
 class Serving(Sweep):
-    """The emulated programmer served to a caller who plays a session, and the chip file that it leaves."""
+    """The emulated programmer served to a caller that runs a session, and the chip file that it leaves."""
 
     def done(self, refused=None):
         self.room.clear()
@@ -146,7 +146,7 @@ class Serving(Sweep):
 
 
 def heard_from(server):
-    """What a program that serves answers to the frames of a session, as far as it does."""
+    """Returns the replies of a serving program to the frames of a session, as far as they come."""
     heard = b""
     try:
         with caller_of(server) as caller:
@@ -163,7 +163,7 @@ def heard_from(server):
 
 
 def caller_of(server):
-    """A connection to a program that will serve, unless it ends before."""
+    """Returns a connection to a program that will serve. Fails if the program ends before."""
     while server.started.poll() is None:
         try:
             return server.call()
@@ -173,20 +173,20 @@ def caller_of(server):
 
 
 def is_front_and_line(said, sound, line, may_stop):
-    """Whether it is a front of what a sound run says, and then the line of a fault, or a front of it where it may stop there."""
+    """Whether it is a prefix of an undisturbed run's messages, then the error line, or part of it if `may_stop`."""
     if may_stop and sound.startswith(said):
         return True
     return any(sound.startswith(said[:end]) and is_front_of_error(said[end:], line.encode(), may_stop) for end in range(len(said) + 1))
 
 
 def is_front_of_error(said, line, may_stop):
-    """Whether it is this line of an error, or a front of it where it may stop there."""
+    """Whether it is this error line, or a prefix of it if `may_stop`."""
     whole = b"avrstk: error: " + line + b"\n"
     return said == whole or (may_stop and whole.startswith(said))
 
 
 class OverNet(Sweep):
-    """A run over a line whose answer to frame 255 is late: it takes a second, which is the silence of a network."""
+    """A run over a link whose reply to frame 255 is late: it takes a second, the timeout of a network port."""
 
     def done(self, refused=None):
         self.prepare()
@@ -201,8 +201,8 @@ class OverNet(Sweep):
 
 
 def is_on_its_way(old, chip, end):
-    """Whether a chip is whole and as a run leaves it that was broken off: each byte is the old one, an erased one, or
-    that of the run's end."""
+    """Whether a chip is whole and as an interrupted run may leave it: each byte is the old one, an erased one, or that of
+    the run's end."""
     if old is None or chip is None or len(chip) != len(old):
         return False
     return all(now in (was, 0xFF, then) for was, now, then in zip(old, chip, end))
@@ -212,14 +212,14 @@ ALL = [*FAULTS, *HARMLESS]
 
 
 def swept(sweep, ways):
-    """Makes all the refusals of a run, in these ways."""
+    """Refuses each call of a run, in these ways."""
     for kind, how in ways:
         counts = sweep.through(kind, how)
         print(f"{counts['told']:6} told, {counts['unneeded']:5} of no effect: {kind}, {how}", flush=True)
 
 
 def prepared():
-    """A room, and in it the library that refuses."""
+    """Makes a room with the library that refuses calls."""
     room = Room()
     room.put("large.bin", bytes((7 * place + place // 256) % 255 for place in range(262_144)))
     shim = room.folder / "refuse.so"
@@ -235,12 +235,12 @@ def over_late_line(room, shim, label):
 
 def while_serving(room, shim, label):
     served = Serving(room, shim, label, [], b"")
-    same("what a sound session answers", served.sound[1], ANSWERS)
+    same("the replies of an undisturbed session", served.sound[1], ANSWERS)
     swept(served, ALL)
 
 
 def cases_of(room, shim):
-    """The cases by their names."""
+    """Returns the cases by their names."""
     cases = {label: lambda label=label, it=it: swept(Sweep(room, shim, label, *it), ALL) for label, it in RUNS.items()}
     for label, (words, status) in REFUSED.items():
         cases[label] = lambda it=(label, words, b"", status): swept(Sweep(room, shim, *it), ALL)

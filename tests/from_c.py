@@ -1,6 +1,6 @@
 #!/usr/bin/env python3
-"""The library for C: examples/c and examples/python, run on the examples' files, on seeded images with gaps, and on
-damaged files; is left out where there is no C compiler.
+"""Tests the library for C: runs examples/c and examples/python on the examples' files, on random images with gaps, and on
+damaged files. Without a C compiler all is left out.
 
     tests/from_c.py [CASE ..]
 """
@@ -23,7 +23,7 @@ IMAGES = 60
 CURSORS = 2000
 SECONDS = 20
 USAGE = "records FILE SIZE ihex|srec [ROOM]"
-# what the header declares, and the faults that have a text of their own
+# the functions that the header declares, and the faults with a text of their own
 CALLS = [f"avr_records_{it}" for it in ("detect", "fault_text", "length", "read", "version", "write")]
 FAULTS = [*range(9), 10, 11, 12]
 VERSION = (ROOT / "VERSION").read_text().strip()
@@ -57,7 +57,7 @@ def checksum(fields):
 
 
 def ihex_of(image):
-    """A plain writer: a record for each byte, after one for the upper half of its address."""
+    """A simple writer: a record for each byte, after one for the upper half of its address."""
     lines = []
     for address in sorted(image):
         offset, upper = (address % 65536).to_bytes(2, "big"), (address >> 16).to_bytes(2, "big")
@@ -67,7 +67,7 @@ def ihex_of(image):
 
 
 def parse(text):
-    """A plain reader of both formats: the byte at each address."""
+    """A simple reader of both formats. Returns the byte at each address."""
     image, upper = {}, 0
     for line in text.decode().split():
         if line[0] == ":":
@@ -89,7 +89,7 @@ def parse(text):
 
 
 def drawn(seed):
-    """An image with gaps, and the size of a memory that holds it."""
+    """Returns an image with gaps, and the size of a memory that holds it."""
     draw = random.Random(seed)
     size = draw.choice((1, 7, 8, 9, 64, 4096, 65_537, 262_144, 16_777_217))
     image = {}
@@ -101,7 +101,7 @@ def drawn(seed):
 
 
 def shown(image):
-    """What examples/python prints of an image."""
+    """Returns what examples/python prints for an image."""
     lines, last = [], None
     for address in sorted(image):
         if last is None or address != last + 1:
@@ -118,7 +118,7 @@ class Library:
         self.program = self.compiled(ROOT / "examples/c/records.c")
 
     def compiled(self, source):
-        """The program of a source, which is a file, linked with the archive."""
+        """Compiles a source file and links it with the archive. Returns the program."""
         program = self.folder / source.stem
         words = [os.environ.get("CC", "cc"), "-std=c99", "-Wall", "-Wextra", "-Werror", "-O2", f"-I{ROOT / 'include'}"]
         subprocess.run([*words, source, self.folder / "libavr_records.a", "-o", program], check=True)
@@ -141,7 +141,7 @@ class Library:
         return self.by_python(file, str(size), check=True).stdout.decode().splitlines()
 
     def in_python(self):
-        """examples/python/records.py as a module, and the library as it loads it."""
+        """Returns examples/python/records.py as a module, and the library as it loads it."""
         spec = importlib.util.spec_from_file_location("records", ROOT / "examples/python/records.py")
         records = importlib.util.module_from_spec(spec)
         spec.loader.exec_module(records)
@@ -183,7 +183,7 @@ def images_come_back(library):
 
 
 def pieces_join(library):
-    """However small the room, the pieces are the file."""
+    """The pieces make up the file, however small the buffer is."""
     for seed in range(IMAGES):
         image, size = drawn(seed)
         if size > 65_537:
@@ -213,7 +213,7 @@ def lengths_are_told(library):
 
 
 def time_is_linear(library):
-    """A file of some 11 MB comes in small rooms in seconds."""
+    """A file of about 11 MB is written through small buffers in seconds."""
     size = 4 << 20
     file = library.folder / "large"
     rows = (b"\x10" + (n & 0xFFF0).to_bytes(2, "big") + b"\0" + bytes(16) for n in range(0, size, 16))
@@ -234,7 +234,7 @@ def time_is_linear(library):
 
 
 def cursors_are_judged(library):
-    """A cursor of any numbers is taken or refused by these, and nothing beside room and cursor is changed."""
+    """A cursor with any numbers is accepted or refused by its values. Only the buffer and the cursor change."""
     records, loaded = library.in_python()
     draw = random.Random(0)
     data, present = bytearray(draw.randbytes(70_000)), bytearray(draw.randbytes(8750))
@@ -287,7 +287,7 @@ def sizes_are_judged(library):
 
 
 def texts_are_put(library):
-    """A fault's text is put into any room as C keeps texts: with a 0 after it, and cut short where the room is small."""
+    """A fault's text fits any buffer as a C string: it ends with a 0, and is cut if the buffer is small."""
     records, loaded = library.in_python()
     unknown = records.fault_text(loaded, 255)
     known = {records.fault_text(loaded, fault) for fault in FAULTS}
@@ -303,7 +303,7 @@ def texts_are_put(library):
 
 
 def versions_agree(library):
-    """The header, the library, pkg-config's file and the Python program are of the version that VERSION says."""
+    """The header, the library, pkg-config's file and the Python program have the version in VERSION."""
     source = library.folder / "versions.c"
     source.write_text(VERSIONS)
     major, minor, patch = map(int, VERSION.split("."))
@@ -324,14 +324,14 @@ def versions_agree(library):
 
 
 def other_names_are_free(library):
-    """A program may have functions that are named as those inside the archive, as another library of Rattle's has."""
+    """A program may have functions with the names of those inside the archive; another Rattle library has the same."""
     source = library.folder / "others.c"
     source.write_text(OTHERS)
     same("the fault of a good file", subprocess.run([library.compiled(source)]).returncode, 0)
 
 
 def only_its_calls_are_seen(library):
-    """The archive and the shared library export what the header declares, and nothing else."""
+    """The archive and the shared library export exactly what the header declares."""
     header = (ROOT / "include/avr_records.h").read_text()
     same("what is declared", sorted(re.findall(r"^[a-z].* \**(avr_records_\w+)\(", header, re.MULTILINE)), CALLS)
     for words in (["-g", "libavr_records.a"], ["-D", "libavr_records.so"]):

@@ -1,6 +1,6 @@
 #!/usr/bin/env python3
-"""Runs the built program where its surroundings fail it: outputs that are closed or full, files that can't be read or made,
-programmers that go away, and callers that send rubbish.
+"""Runs the built program in a failing environment: outputs that are closed or full, files that can't be read or created,
+programmers that disconnect, and callers that send garbage.
 
     tests/hostile.py [CASE ..]      needs a built program (program.py)
 """
@@ -24,7 +24,7 @@ room = Room()
 
 
 def output_fails():
-    """Outputs that are full, or that nobody reads."""
+    """Tests outputs that are full, or that no process reads."""
     read_fuse = [*EMULATED, "-U", "lfuse:r:-:h"]
     for name, target in [("full", "/dev/full"), ("closed pipe", None)]:
         for words, told in [(SESSION, ["error: link cannot be written"]), (read_fuse, [SIGNATURE, "error: -: cannot be written"])]:
@@ -38,7 +38,7 @@ def output_fails():
 
 
 def with_output(words, target):
-    """The status and messages of a run whose output goes to a file, or to a pipe that is closed at its other end."""
+    """Returns the status and messages of a run whose output is a file, or a pipe whose read end is closed."""
     if target:
         output = os.open(target, os.O_WRONLY)
     else:
@@ -54,9 +54,9 @@ def with_output(words, target):
 
 
 def input_fails():
-    """Standard input that is at its end, or a folder."""
+    """Tests a standard input that is empty, or a folder."""
     room.clear()
-    same("no answers", room.run(SESSION), (1, FRAMES[0], lines("error: link ended")))
+    same("no replies", room.run(SESSION), (1, FRAMES[0], lines("error: link ended")))
     folder = os.open(room.folder, os.O_RDONLY)
     started = room.start(SESSION, folder)
     same("a folder for a line", (*started.communicate(timeout=PATIENCE), started.returncode), (FRAMES[0], lines("error: link cannot be read"), 1))
@@ -67,7 +67,7 @@ def input_fails():
 
 
 def descriptors_are_closed():
-    """Standard input, output and messages that were closed before the program began."""
+    """Tests standard streams that were closed before the program started."""
     read_fuse = [*EMULATED, "-q", "-U", "lfuse:r:-:h"]
     for closed, words, wanted in [
         ("0<&-", SESSION, (1, FRAMES[0], lines("error: link cannot be read"))),
@@ -81,7 +81,7 @@ def descriptors_are_closed():
 
 
 def closed_streams_stay_closed():
-    """No file or connection takes the number of a stream that is closed: frames alone go over the line."""
+    """No file or connection takes the number of a closed stream: only frames go over the link."""
     for closed, status in [("0<&-", 0), ("1>&-", 0), ("2>&-", 1), ("0<&- 1>&- 2>&-", 1)]:
         peer = FrontOfAnswers(ANSWERS, resets=False)
         found = room.run(["-p", "m328p", "-P", f"net:127.0.0.1:{peer.port}"], closed=closed)
@@ -91,7 +91,7 @@ def closed_streams_stay_closed():
 
 
 def files_fail():
-    """Files that aren't there, folders in their place, and files that can't be made or written."""
+    """Tests missing files, folders in their place, and files that can't be created or written."""
     (room.folder / "folder").mkdir()
     room.given.add("folder")
     room.put("short.bin", bytes(100))
@@ -116,15 +116,15 @@ def files_fail():
 
 
 def with_limit(kibibytes, words, redirected=""):
-    """The status, output and messages of a run whose files may have so many KiB. (Python ignores the signal of that,
-    SIGXFSZ, for itself and not for the shell.)"""
+    """Returns the status, output and messages of a run with a file size limit in KiB. (Python ignores SIGXFSZ for itself,
+    but not for the shell.)"""
     started = room.start(words, closed=redirected, front=["bash", "-c", f'ulimit -f {kibibytes}; exec "$0" "$@"'])
     output, messages = started.communicate(timeout=PATIENCE)
     return started.returncode, output, messages
 
 
 def files_are_full():
-    """Files that become as long as they may be (`ulimit -f`): what doesn't fit is a failed write, and no death by SIGXFSZ."""
+    """A file reaches its size limit (`ulimit -f`): the write fails, and SIGXFSZ doesn't kill the program."""
     chip = bytes(place % 255 for place in range(32_768)) + b"\xff" * 1_028
     limit = 36 * 1_024
     whole = (0, b"", lines(SIGNATURE, "flash: 32768 bytes read", "done"))
@@ -149,7 +149,7 @@ def files_are_full():
         room.clear()
         room.put("chip.bin", chip)
         room.put("out", bytes(before))
-        # (a log that may be written to, and not read)
+        # (a log that is write-only)
         (room.folder / "out").chmod(0o200)
         same(f"{update} {redirected}", with_limit(36, [*EMULATED, "-U", update], redirected), wanted)
         same(f"{update} {redirected}: its length", (room.folder / "out").stat().st_size, length)
@@ -157,7 +157,7 @@ def files_are_full():
 
 
 def no_file_may_grow():
-    """Files that may hold nothing: streams that go to them fail, and streams that go elsewhere don't."""
+    """The file size limit is 0: streams to files fail, and other streams don't."""
     link = room.folder / "link.bin"
     for words, redirected, wanted in [
         (SESSION, ">out", (1, b"", lines("error: link cannot be written"))),
@@ -172,8 +172,8 @@ def no_file_may_grow():
 
 
 def answers_are_cut():
-    """A programmer behind a port that ends or resets the connection after each of its answers' bytes. A reset can come while the
-    call is made still, or before its options are set, and the port then cannot be opened; both are right."""
+    """A programmer closes or resets the connection after any number of reply bytes. If a reset comes during the call, or
+    before the socket's options are set, the port cannot be opened; both outcomes are right."""
     for count in range(len(ANSWERS)):
         whole = sum(end <= count for end in ENDS)
         said = [SIGNATURE] if whole >= 5 else []
@@ -189,7 +189,7 @@ def answers_are_cut():
 
 
 def lines_are_bad():
-    """Whole runs over TCP, between the tool and the emulated programmer that it serves, over a line that loses and delays."""
+    """Makes whole runs over TCP to the served programmer, over a link that loses and delays frames."""
     content = room.read("whole.bin")
     for fates, frames in [({255: "late answer"}, 520), ({6: "lost command", 8: "lost answer"}, 521)]:
         room.clear()
@@ -202,7 +202,7 @@ def lines_are_bad():
 
 
 def callers_are_odd():
-    """Callers of the served emulator that send nothing, rubbish, half a frame, or that reset the connection."""
+    """Tests callers of the served emulator that send nothing, garbage or half a frame, or reset the connection."""
     command = bytes.fromhex("1B0900010E0518")
     blank = b"\xff" * CHIP_FILE
     for name, sent, answered, told in [
@@ -215,7 +215,7 @@ def callers_are_odd():
         found, answer = served(sent)
         same(f"a caller with {name}", found, told)
         if answered is not None:
-            same(f"what is answered to {name}", answer, answered)
+            same(f"the reply to {name}", answer, answered)
         same(f"the chip after {name}", room.read("served.bin"), blank)
     room.clear()
     (status, messages), _ = served(FRAMES[0], resets=True)
@@ -229,11 +229,11 @@ def callers_are_odd():
 
 
 def a_second_caller():
-    """Who calls while another one is served is refused at once, and the other one is served on."""
+    """A second caller is refused at once, and the first one is still served."""
     room.clear()
     with Server(room) as server, server.call() as first:
         first.sendall(FRAMES[0])
-        see("the first caller is answered", first.recv(1) == b"\x1b")
+        see("the first caller gets a reply", first.recv(1) == b"\x1b")
         try:
             with server.call():
                 see("a second caller is refused", False, "a connection")
@@ -247,7 +247,7 @@ def a_second_caller():
 
 
 def served(sent, resets=False):
-    """The status and messages of a server whose caller sends this, and what the caller was answered."""
+    """Returns the status and messages of a server whose caller sends this, and the replies that the caller got."""
     answered = b""
     with Server(room) as server:
         with server.call() as caller:
@@ -262,7 +262,7 @@ def served(sent, resets=False):
 
 
 def exchanged(caller, sent):
-    """What comes for these bytes, up to the end."""
+    """Sends these bytes and returns all replies, up to the end."""
     answered = b""
     caller.setblocking(False)
     open_still = True

@@ -1,4 +1,4 @@
-"""Programmers behind a TCP port of 127.0.0.1: one that gives a prefix of a session's answers, and a bad line to an emulated one."""
+"""Programmers at a TCP port of 127.0.0.1: one that sends a prefix of a session's replies, and a bad link to an emulated one."""
 
 import socket
 import struct
@@ -9,7 +9,7 @@ from program import Server
 
 
 def frames_of(stream):
-    """The frames that come on a connection, to its end; each has its length in its third and fourth byte."""
+    """Yields the frames of a connection until its end. A frame's third and fourth bytes are its length."""
     held = b""
     while True:
         while len(held) >= 6 and len(held) >= 6 + int.from_bytes(held[2:4], "big"):
@@ -26,12 +26,12 @@ def frames_of(stream):
 
 
 def spoiled(frame):
-    """The frame with another XOR."""
+    """Returns the frame with a wrong XOR."""
     return frame[:-1] + bytes([frame[-1] ^ 1])
 
 
 class Peer:
-    """Serves one caller at a port, in a thread of its own."""
+    """Serves one caller at a port, in its own thread."""
 
     def __init__(self):
         self.listener = socket.create_server(("127.0.0.1", 0))
@@ -52,8 +52,8 @@ class Peer:
             self.serve(caller)
 
     def end(self):
-        """What was heard, once the caller has gone."""
-        # where nobody called, this one does, and says nothing; else it isn't met
+        """Returns what was received, once the caller has gone."""
+        # if there was no caller, this is one that sends nothing; otherwise it isn't accepted
         socket.create_connection(("127.0.0.1", self.port), PATIENCE).close()
         self.thread.join()
         self.listener.close()
@@ -61,7 +61,7 @@ class Peer:
 
 
 class FrontOfAnswers(Peer):
-    """Sends the first bytes of a session's answers, and then ends the connection, or resets it."""
+    """Sends the first bytes of a session's replies, and then closes or resets the connection."""
 
     def __init__(self, answers, resets):
         self.answers = answers
@@ -78,9 +78,9 @@ class FrontOfAnswers(Peer):
 
 
 class BadLine(Peer):
-    """A line to an emulated programmer, which the tool serves itself. The nth frame from 1 has its fate, and is good without one:
-    `lost command` never arrives, the answer of `lost answer` is dropped, and that of `late answer` comes in front of the next.
-    `spoiled command` and `spoiled answer` come with another last byte, which is the XOR."""
+    """A link to an emulated programmer that the tool serves. `fates` maps frame numbers, from 1, to what goes wrong: a
+    `lost command` never arrives, a `lost answer` drops the reply, and a `late answer` sends it just before the next reply.
+    A `spoiled command` or `spoiled answer` has a wrong last byte, which is the XOR."""
 
     def __init__(self, room, fates, part="m328p"):
         self.fates = fates
@@ -105,7 +105,7 @@ class BadLine(Peer):
                     late = b""
 
     def end(self):
-        """What was heard, once the emulated programmer has saved its chip."""
+        """Returns what was received, once the emulated programmer has saved its chip."""
         heard = super().end()
         self.server.end()
         return heard

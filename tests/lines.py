@@ -1,6 +1,6 @@
 #!/usr/bin/env python3
-"""Brings about each line that a user can meet, by the built program, and holds it to the text that docs/USAGE gives; and sees
-that none of USAGE's lines is left out.
+"""Makes the built program print each line that a user can meet, and compares it with docs/USAGE. Checks that no line of
+USAGE is left out.
 
     tests/lines.py [CASE ..]      needs a built program (program.py)
 """
@@ -27,7 +27,7 @@ ERASED = [SIGNATURE, "chip erased"]
 IMAGE_LIMIT = 4_194_304
 PART_FILE_LIMIT = 65_536
 
-# lines of USAGE that no row here brings about, and where they are met
+# lines of USAGE that no row here causes, and the scripts that do
 ELSEWHERE = {
     "error: out of memory": "tests/faults.py refuses each request for memory",
     "error: too many reads": "reported after 16,777,216 reads, by the contract of the call that serves",
@@ -44,7 +44,7 @@ met = set()
 
 
 def run(what, words, told, status=1, output=b"", given=b"", chip=None):
-    """A run from a folder without a chip file, or with this one, which says these lines."""
+    """Checks that a run prints these lines, in a folder without a chip file, or with this one."""
     room.clear()
     if chip is not None:
         room.put("chip.bin", chip)
@@ -53,13 +53,13 @@ def run(what, words, told, status=1, output=b"", given=b"", chip=None):
 
 
 def refused(what, words, told, **more):
-    """A run that is refused before anything is sent: its one line, and no chip file."""
+    """Checks that a run is refused before anything is sent: it prints one line, and creates no chip file."""
     run(what, words, [f"error: {told}"], **more)
     same(f"{what}: no chip file", room.read("chip.bin"), more.get("chip"))
 
 
 def with_file(name, content):
-    """The name of a file that now has this content."""
+    """Writes a file with this content and returns its name."""
     room.put(name, content if isinstance(content, bytes) else content.encode())
     room.given.add(name)
     return name
@@ -116,7 +116,7 @@ def help_is_printed():
 
 
 def words_are_refused():
-    """What `clap` refuses goes to standard error in its words, with status 1."""
+    """If `clap` refuses an option, its message goes to standard error, with status 1."""
     for words, told in [
         (["-C", "x.conf"], "error: unexpected argument '-C' found"),
         (["-t"], "error: unexpected argument '-t' found"),
@@ -176,7 +176,7 @@ def images_are_refused():
 
 
 def images_are_taken():
-    """Images at the edges of what is read."""
+    """Tests images at the limits of what is read."""
     blink = (TOP / "examples/blink.hex").read_bytes()
     flash = [*ERASED, "flash: 228 bytes written", "flash: 228 bytes verified", DONE]
     run("detected on standard input", [*EMULATED, "-U", "flash:w:-"], flash, 0, given=blink)
@@ -194,7 +194,7 @@ def images_are_taken():
     same("ELF in the chip", (room.read("chip.bin") or b"")[:5], b"\x7fELF\xff")
     fuse = [SIGNATURE, "lfuse: 0 bytes written", "lfuse: 0 bytes verified", DONE]
     run("a fuse from an empty file", [*EMULATED, "-U", "lfuse:w:empty.bin"], fuse, 0)
-    # what makes a line raw is looked for in the first 1,024 bytes alone
+    # only the first 1,024 bytes are searched for a sign of raw bytes
     record = ":0400000001020304F2\n:00000001FF\n"
     early = with_file("early.hex", "\n" * 1013 + record)
     run("a mark that is just seen", [*EMULATED, "-U", f"flash:w:{early}"], [*ERASED, "flash: 4 bytes written", "flash: 4 bytes verified", DONE], 0)
@@ -236,7 +236,7 @@ def chip_files():
 
 
 def nothing_is_written():
-    """Under -n reads and comparisons are made; writes and erases are not."""
+    """With -n the program reads and compares, but doesn't write or erase."""
     words = [*EMULATED, "-n", "-e", "-U", "lfuse:w:0xE2:m", "-U", "lfuse:v:0xFF:m", "-U", "lfuse:r:-:h", "-U", "flash:w:empty.bin"]
     told = ["lfuse: 1 bytes not written", "lfuse: 1 bytes verified", "lfuse: 1 bytes read", "flash: 0 bytes not written"]
     run("-n", words, [SIGNATURE, "warning: chip not erased because of -n", *told, DONE], 0, b"0xff\n")
@@ -271,7 +271,7 @@ def answers_are_bad():
 
 
 def count_of_frames(sent):
-    """How many frames were sent; each has the length of its body in its third and fourth byte."""
+    """Returns the number of frames sent. A frame's third and fourth bytes are the length of its body."""
     count = 0
     while sent:
         sent = sent[6 + int.from_bytes(sent[2:4], "big") :]
@@ -280,7 +280,7 @@ def count_of_frames(sent):
 
 
 class Deaf(Peer):
-    """Never answers, and keeps the times at which frames came."""
+    """Never replies, and records the times at which frames came."""
 
     def serve(self, caller):
         for _ in frames_of(caller):
@@ -289,11 +289,11 @@ class Deaf(Peer):
 
 def a_silence_is_a_second():
     peer = Deaf()
-    run("a programmer that never answers", [*PART, "-P", f"net:127.0.0.1:{peer.port}"], ["error: no answer"])
+    run("a programmer that never replies", [*PART, "-P", f"net:127.0.0.1:{peer.port}"], ["error: no answer"])
     times = peer.end()
     same("four attempts to sign on, four to leave", len(times), 8)
     gaps = [later - time for time, later in zip(times, times[1:])]
-    see("each silence takes a second", all(0.9 <= gap <= 1.9 for gap in gaps), gaps)
+    see("each timeout takes a second", all(0.9 <= gap <= 1.9 for gap in gaps), gaps)
 
 
 def ports_are_refused():
@@ -303,14 +303,14 @@ def ports_are_refused():
         refused("a port that is taken", [*PART, *chip], f"port {taken} cannot be opened")
     with kept_port() as kept:
         nobody = f"net:127.0.0.1:{port_of(kept)}"
-        refused("a port where nobody listens", [*PART, "-P", nobody], f"port {nobody} cannot be opened")
+        refused("a port at which no process listens", [*PART, "-P", nobody], f"port {nobody} cannot be opened")
 
 
 # ---- a line is one write
 
 
 def long_lines():
-    """A line of any length is printed whole, also where it is longer than what is written at once."""
+    """A line of any length is printed whole, even if it is longer than the buffer."""
     most = 4096 - len(lines("error: : cannot be opened"))
     for length in (most - 1, most, most + 1, 3 * most):
         name = "x" * length
@@ -318,10 +318,10 @@ def long_lines():
 
 
 def a_line_is_one_write():
-    """Each line goes out in one write: of a run that succeeds, and of one that is refused at a long name."""
+    """Each line is one write, in a run that succeeds and in one that is refused for a long name."""
     if not shutil.which("strace"):
         return leave_out("how lines are written", "strace is not installed")
-    # (what finds leaks in the program that is not proved can't run beside strace)
+    # (the unproved program's leak detector can't run under strace)
     more = {"front": ["strace", "-o", "calls", "-e", "trace=write"], "env": os.environ | {"ASAN_OPTIONS": "detect_leaks=0"}}
     for words, count in [([*EMULATED, "-e", "-n", "-U", "lfuse:w:0x62:m"], 4), ([*EMULATED, "-U", f"flash:w:{'x' * 4000}"], 1)]:
         room.clear()
@@ -332,7 +332,7 @@ def a_line_is_one_write():
 
 
 def runs_share_a_log():
-    """Fifty runs at once append to one log: no line of theirs is torn."""
+    """Fifty runs at once append to one log: no line is torn."""
     room.clear()
     with open(room.folder / "log", "ab") as log:
         words = ["-U", "lfuse:w:0x62:m", "-U", "hfuse:v:0xFF:m"]
@@ -344,11 +344,11 @@ def runs_share_a_log():
     same("the log", sorted((room.read("log") or b"").splitlines()), sorted(lines(*told).splitlines() * 50))
 
 
-# ---- nothing is left out
+# ---- no line is left out
 
 
 def usage_is_met():
-    """Each line of USAGE's table of messages was brought about above, or is met elsewhere: so all cases stand before this one."""
+    """Checks that each line of USAGE's table of messages was met above, or by another script. So this case is the last."""
     if len(chosen(CASES)) < len(CASES):
         for bring_about in (CASES[it] for it in CASES if it not in chosen(CASES)):
             bring_about()
@@ -362,7 +362,7 @@ def usage_is_met():
 
 
 def alternatives(texts):
-    """The lines of a row. A text without a colon or mark of its own stands for the end of the line before it."""
+    """Returns the lines of a row. A text without its own prefix replaces the end of the line before it."""
     first = texts[0]
     whole = [first]
     for text in texts[1:]:
@@ -376,7 +376,7 @@ def alternatives(texts):
 
 
 def pattern(line):
-    """What a line of USAGE stands for."""
+    """Returns a pattern for a line of USAGE."""
     words = {"XX": "[0-9A-F]{2}", "ADDR": "[0-9A-F]{8}", "N": "[0-9]+", "MEM": "[a-z]+", "FIELD": "[a-z_]+"}
     words |= {name: ".*" for name in ["FILE", "ID", "TEXT", "NAME"]}
     return re.sub(r"\b[A-Z]+\b", lambda it: words.get(it[0], it[0]), re.escape(line))

@@ -1,8 +1,8 @@
 #!/usr/bin/env python3
-"""Shows what the theorem leaves out: a line that makes a frame. It loses, changes and repeats nothing and pauses once,
-inside one answer, which carries bytes of the chip that read as the answers to what is sent again: a verified run of
-status 0 leaves another byte than the image's. And a line that spoils one byte, the size of a frame, makes none: the
-programmer takes what follows for the rest of that frame, and the run ends with an error.
+"""Shows what the theorem doesn't cover: a link that forges a frame. The link loses, changes and repeats nothing, but pauses
+once inside a reply. That reply carries bytes of the chip that look like replies to the retried commands. The verified run
+ends with status 0, but the chip has another byte than the image. A second link damages one byte, the size of a frame, and
+forges no frame: the programmer takes the following bytes as the rest of that frame, and the run ends with an error.
 
     tests/made_frames.py       needs a built program (program.py)
 """
@@ -19,20 +19,20 @@ from program import Room, Server, frame, lines
 room = Room()
 
 SIGNATURE = "device signature = 1E 93 0B"
-# of an ATtiny85, how many bytes of flash, EEPROM and fuses with the lock
+# an ATtiny85's bytes of flash, and of EEPROM, fuses and lock together
 FLASH, REST = 8_192, 512 + 4
-# what a line that pauses waits at most for a caller that sends again, as it does after a second of silence
+# the most seconds that a paused link waits for the caller to send again; a caller does after its timeout of a second
 PAUSE = 30
 # the byte that the image has at address 0
 WANTED = 0x55
 
 
 class Line:
-    """An ordered line from a caller to the programmer that the program serves; it may spoil a frame, or pause once."""
+    """An ordered link from a caller to the served programmer. It can damage a frame, or pause once."""
 
     def __init__(self, chip, spoil=None, pause_in=b"", pause_at=0):
-        """`spoil` changes a frame by its number; after `pause_in`, the prefix of an answer, the line gives so many
-        bytes more, and the others when the caller has sent again."""
+        """`spoil` changes a frame by its number. `pause_in` is the prefix of the reply in which the link pauses. It sends
+        `pause_at` more bytes, and the others once the caller has sent again."""
         self.spoil, self.pause_in, self.pause_at = spoil, pause_in, pause_at
         self.sent, self.heard, self.paused = [], b"", False
         room.clear()
@@ -75,13 +75,13 @@ class Line:
             given = len(self.heard)
 
     def await_more_than(self, sent):
-        """Returns when the caller has sent more than so many frames."""
+        """Waits until the caller has sent more than `count` frames."""
         end = time.monotonic() + PAUSE
         while len(self.sent) == sent and time.monotonic() < end:
             time.sleep(0.02)
 
     def run(self, *words):
-        """The status and messages of a run over this line, and the chip's flash after it."""
+        """Returns the status and messages of a run over this link, and the chip's flash after it."""
         status, output, messages = room.run(["-p", "t85", "-P", f"net:127.0.0.1:{self.port}", *words])
         self.thread.join(PATIENCE)
         self.listener.close()
@@ -94,16 +94,16 @@ def chip_of(block):
 
 
 def made_contents(first, read):
-    """The first 256 bytes of flash, `first` at address 0, so that an answer under number `read` to a read of them has
-    after its 12th byte what reads as two answers: to the address of the next attempt, and to its read; and the latter
-    has WANTED at address 0. Its rest is the rest of this answer and what is answered later, and so is its XOR, for which
-    one byte of the block is free."""
+    """Returns the first 256 bytes of flash, with `first` at address 0. The reply number `read` to a read of them has, after
+    its 12th byte, what looks like two replies: to the address of the next attempt, and to its read. The second has WANTED
+    at address 0. Its remaining bytes and its XOR come from the rest of this reply and from later replies; one byte of the
+    block is free to make the XOR right."""
     again, place = read + 1, 20
     block = bytearray(b"\xff" * 256)
     block[0], block[place - 10] = first, 0
     block[place - 9 : place - 1] = frame(again, b"\x06\x00")
     block[place : place + 8] = bytes([0x1B, read + 2, 1, 3, 0x0E, 0x14, 0x00, WANTED])
-    # what the host cuts a frame of 265 bytes from
+    # the bytes from which the host cuts a frame of 265 bytes
     for free in set(range(256)) - {0x1B}:
         block[place - 1] = free
         answered = frame(read, b"\x14\x00", bytes(block), b"\x00")
@@ -118,21 +118,21 @@ def made_contents(first, read):
 
 
 def image():
-    """A record file with WANTED at address 0."""
+    """Writes a record file with WANTED at address 0, and returns its name."""
     record = bytes([1, 0, 0, 0, WANTED])
     room.put("image.hex", f":{record.hex()}{-sum(record) & 255:02X}\n:00000001FF\n".upper().encode())
     return "image.hex:i"
 
 
 def paused(first, read):
-    """A line to a chip with made contents that pauses in the answer of this number, in front of what reads as an
-    answer."""
+    """Returns a link to a chip with these contents. It pauses in the reply of this number, before the bytes that look like
+    a reply."""
     front = bytes([0x1B, read, 1, 3, 0x0E, 0x14, 0x00])
     return Line(chip_of(made_contents(first, read)), pause_in=front, pause_at=11)
 
 
 def a_comparison_is_wrong():
-    """The chip has another byte than the image, and the comparison says that it is equal."""
+    """The chip has another byte than the image, but the comparison reports them as equal."""
     line = paused(0xAA, 7)
     status, messages, flash = line.run("-U", f"flash:v:{image()}")
     told = lines(SIGNATURE, "flash: 1 bytes verified", "done")
@@ -142,7 +142,7 @@ def a_comparison_is_wrong():
 
 
 def a_verified_write_is_wrong():
-    """Flash that can't take the byte, as it isn't erased: the comparison doesn't see it."""
+    """The flash isn't erased, so it can't take the byte; the comparison doesn't notice."""
     line = paused(0x50, 9)
     status, messages, flash = line.run("-D", "-U", f"flash:w:{image()}")
     told = lines(SIGNATURE, "flash: 1 bytes written", "flash: 1 bytes verified", "done")
@@ -151,7 +151,7 @@ def a_verified_write_is_wrong():
 
 
 def a_read_is_wrong():
-    """A file that was read has other bytes than the chip."""
+    """A file that was read differs from the chip."""
     line = paused(0xAA, 7)
     status, messages, flash = line.run("-A", "-U", "flash:r:out.bin:r")
     told = lines(SIGNATURE, f"flash: {FLASH} bytes read", "done")
@@ -162,11 +162,11 @@ def a_read_is_wrong():
 
 
 def without_a_pause_all_is_seen():
-    """The same chip over a line that doesn't pause; and a pause with contents that aren't made for it."""
+    """Tests the same chip over a link that doesn't pause, and a pause with ordinary contents."""
     line = Line(chip_of(made_contents(0xAA, 7)))
     status, messages, _ = line.run("-U", f"flash:v:{image()}")
     told = lines(SIGNATURE, "error: flash: address 00000000: 55 expected, AA found")
-    see("without the pause the difference is told", (status, messages) == (1, told), (status, messages))
+    see("without the pause the difference is reported", (status, messages) == (1, told), (status, messages))
     other = bytes((place * 37 + 11) % 256 for place in range(256))
     front = bytes([0x1B, 7, 1, 3, 0x0E, 0x14, 0x00])
     line = Line(chip_of(other), pause_in=front, pause_at=11)
@@ -177,7 +177,7 @@ def without_a_pause_all_is_seen():
 
 
 def a_spoiled_size_swallows_frames():
-    """One byte is spoiled: the size of one LOAD_ADDRESS. The programmer takes three frames more for its rest."""
+    """The link damages one byte: the size of one LOAD_ADDRESS. The programmer takes the next three frames as its rest."""
     content = bytes((place * 91 + 3) % 256 for place in range(FLASH))
     line = Line(content + b"\xff" * REST, spoil=lambda number, it: it[:3] + b"\x20" + it[4:] if number == 8 else it)
     room.put("image.bin", content)

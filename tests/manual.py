@@ -1,13 +1,12 @@
 #!/usr/bin/env python3
-"""Holds the man pages to docs/USAGE, and both to the options of the programs.
+"""Compares the man pages with docs/USAGE, and both with the options of the programs.
 
-    tests/manual.py [CASE ..]  docs/*.1 have what is made of docs/USAGE.md, the sections that a man page has, and every
-                               option of --help; mandoc and groff take them without a warning; USAGE, the completions and
-                               docs/PART name the options and parts that the program's --help names; runs over `emu:`
-                               print what README and USAGE show of them, and what USAGE says of differences from AVRDUDE
-                               holds: needs a built program (program.py)
-    tests/manual.py --write    makes those parts of docs/*.1 that come from docs/USAGE.md: each between a comment that
-                               names its section, perhaps with the one kind of block that is taken, and `.\\" end`
+    tests/manual.py [CASE ..]  docs/*.1 have the text from docs/USAGE.md, a man page's sections, and every option of --help;
+                               mandoc and groff give no warning; USAGE, the completions and docs/PART name the options and
+                               parts of the program's --help; runs over `emu:` print what README and USAGE show; USAGE's
+                               differences from AVRDUDE are true: needs a built program (program.py)
+    tests/manual.py --write    writes the parts of docs/*.1 that come from docs/USAGE.md: each is between a comment with its
+                               section (and the kind of block, if only one kind is taken) and `.\\" end`
 """
 
 import re
@@ -27,19 +26,19 @@ PAGES = {it: TOP / f"docs/{it}.1" for it in ["avrstk", "avrstk-serial", "avrstk-
 
 VERSION = (TOP / "VERSION").read_text().strip()
 
-# the first line of what comes from USAGE, with its section and a kind of block, and the last
+# the first line of a part that comes from USAGE, with its section and a kind of block; and the last line
 MADE = re.compile(r'\.\\" docs/(?:USAGE|BOARDS)\.md, ([^:\n]+)(?:: (\w+))?')
 END = '.\\" end'
 
-# how wide a line of a page may be, and a tag as it is shown
+# the greatest width of a page's line, and of a tag as it is shown
 WIDTH = 79
 SHOWN_WIDTH = 66
 
-# what is said for those who have the repository alone
+# sentences that only apply in the repository
 HERE_ALONE = re.compile(r"\bclone\b|\brepository\b")
 
 
-# what roff would take for something else
+# characters with a special meaning in roff
 ESCAPES = str.maketrans({"\\": "\\e", "-": "\\-", "'": "\\(aq", "`": "\\(ga", "^": "\\(ha", "~": "\\(ti"})
 
 
@@ -48,7 +47,7 @@ def escaped(text):
 
 
 def inline(text):
-    """A text with its code and strong words bold, and stressed ones underlined."""
+    """Returns a text with code and strong words bold, and emphasized words underlined."""
     pieces = re.split(r"(``? .*? ``?|`[^`]*`)", text)
     made = []
     for piece in pieces:
@@ -63,12 +62,12 @@ def inline(text):
 
 
 def line(text):
-    """A line of text, which is no request of roff's whatever it begins with."""
+    """Returns a line of text, marked if roff would take it as a request."""
     return f"\\&{text}" if text[:1] in (".", "'") else text
 
 
 def filled(text):
-    """A text in lines, each sentence on lines of its own."""
+    """Yields a text in lines; each sentence begins a new line."""
     for sentence in re.split(r"(?<=[.?!]) (?=[A-Z\\(])", text):
         for it in wrap(sentence, WIDTH - 2, break_long_words=False, break_on_hyphens=False):
             yield line(it)
@@ -79,7 +78,7 @@ def cells(row):
 
 
 def table(rows):
-    """A paragraph for each row: its first cell as the tag, then the others, from the third on after their headings."""
+    """Yields a paragraph for each row: the first cell is the tag; from the third on, a cell follows its heading."""
     heads = cells(rows[0])
     for row in rows[2:]:
         tag, *rest = cells(row)
@@ -90,7 +89,7 @@ def table(rows):
 
 
 def tagged(tag):
-    """A tag of as many lines as it needs; code is not broken."""
+    """Yields a tag, in several lines if it is wide; code is not broken."""
     lines = [""]
     for word in re.findall(r"(?:`[^`]*`|[^\s`])+", tag):
         longer = f"{lines[-1]} {word}".strip()
@@ -104,7 +103,7 @@ def tagged(tag):
 
 
 def ended(text, head=""):
-    """A cell as a sentence, after its heading."""
+    """Returns a cell as a sentence, after its heading."""
     if not text:
         return ""
     return (f"{head}: " if head else "") + text + ("" if text.endswith("?") else ".")
@@ -115,7 +114,7 @@ def code(rows):
 
 
 def item(rows):
-    """An item of a list, with its code."""
+    """Yields an item of a list, with its code."""
     mark, first = re.match(r"(-|\d+\.) +(.*)", rows[0]).groups()
     yield ".IP \\(bu 2" if mark == "-" else f".IP {mark} 4"
     texts, blocks = [first], []
@@ -132,7 +131,7 @@ def item(rows):
 
 
 def blocks_of(text):
-    """The paragraphs of a page: headings, tables, code, items and text, each with its lines."""
+    """Yields the paragraphs of a page: headings, tables, code, items and text, each with its lines."""
     kind, held = None, []
     for row in text.splitlines():
         is_more = kind == "item" and (row.startswith("  ") or not row)
@@ -150,7 +149,7 @@ def blocks_of(text):
 
 
 def sections():
-    """The blocks of each section of USAGE, by its heading."""
+    """Returns the blocks of each section of USAGE, by its heading."""
     found, blocks = {}, []
     for kind, rows in blocks_of(USAGE.read_text() + BOARDS.read_text()):
         if kind == "head":
@@ -161,7 +160,7 @@ def sections():
 
 
 def places():
-    """The page and the heading under which each section of USAGE is."""
+    """Returns the page and heading under which each section of USAGE is."""
     found = {}
     for name, file in PAGES.items():
         heading = None
@@ -173,7 +172,7 @@ def places():
 
 
 def for_page(text, page, places):
-    """A text of USAGE as the page says it: without what is only in the repository, and with the page's own headings."""
+    """Returns a text of USAGE for a man page: without references to the repository, and with the page's own headings."""
     text = re.sub(r"; docs/[A-Z]+(?=\))| \((?:docs/|CHANGELOG)[^()]*\)", "", text)
 
     def named(found):
@@ -186,7 +185,7 @@ def for_page(text, page, places):
 
 
 def made(page, section, only, places):
-    """What a page has of a section of USAGE."""
+    """Yields the lines that a page takes from a section of USAGE."""
     is_first = True
     for kind, rows in sections()[section]:
         if only not in (None, kind):
@@ -206,7 +205,7 @@ def made(page, section, only, places):
 
 
 def page(name):
-    """A page with what is made of USAGE."""
+    """Returns a page with its parts from USAGE rewritten."""
     rows, is_kept = [], True
     for row in PAGES[name].read_text().splitlines():
         is_kept |= row == END
@@ -218,7 +217,7 @@ def page(name):
 
 
 def of_help():
-    """The options that the program's help names, each with its value's name, and its text."""
+    """Returns the options of the program's help, each with its value's name, and the whole text."""
     ran = subprocess.run([PROGRAM, "--help"], capture_output=True, text=True)
     if ran.returncode:
         sys.exit(f"--help ends with status {ran.returncode}: {ran.stderr}")
@@ -228,20 +227,20 @@ def of_help():
 
 
 def of_usage():
-    """The options that the table of USAGE names, each with its value's name."""
+    """Returns the options of USAGE's table, each with its value's name."""
     rows = USAGE.read_text().split("| Option |")[1].split("\n\n")[0].splitlines()[2:]
     named = [it for row in rows for it in re.findall(r"`(-[^`]*)`", cells(row)[0])]
     return {(name, value or None) for name, _, value in (it.partition(" ") for it in named)}
 
 
 def parts():
-    """The ids of the built-in parts, by their table."""
+    """Returns the ids of the built-in parts from their table."""
     table = (TOP / "docs/PART.md").read_text().split("## Built-in parts")[1].split("| Id |")[1].split("\n\n")[0]
     return [cells(row)[0].strip("`") for row in table.splitlines()[2:]]
 
 
 def shown_runs(file):
-    """Runs the commands over `emu:` that a document shows, in turn in one folder: each prints what is shown of it."""
+    """Runs a document's commands over `emu:` one after another in one folder. Each prints what the document shows."""
     blocks = [rows for kind, rows in blocks_of((TOP / file).read_text()) if kind == "code"]
     with tempfile.TemporaryDirectory() as folder:
         shutil.copytree(TOP / "examples", f"{folder}/examples")
@@ -255,13 +254,13 @@ def shown_runs(file):
             ran = subprocess.run([PROGRAM, *words], cwd=folder, **how)
             wanted = [it for it in shown if "avrstk: unproved: " not in it]
             printed = ran.stdout.splitlines()
-            # (tests/recipes.py tries those of which nothing is shown)
+            # (tests/recipes.py runs the commands without shown output)
             if wanted:
                 yield f"{file}: {row}: {printed}", not ran.returncode and wanted == printed
 
 
 def differences():
-    """What USAGE tells those who know AVRDUDE, as far as single runs show it: each with what came, and if it had to."""
+    """Yields USAGE's differences from AVRDUDE that single runs can show, each with the outcome and whether it is right."""
     usage = USAGE.read_text()
     table = re.search(r"^ +\$ cat parts.toml\n((?: +.*\n)+?) +\$ avrstk", usage, re.M)[1]
     byte, end = re.search(r"`(:0100.*?)` and then\s+`(:.*?)`", usage).groups()
@@ -305,18 +304,18 @@ def differences():
 # the headings of each page, in this order, with others between OPTIONS and EXIT STATUS
 HEADINGS = ["NAME", "SYNOPSIS", "DESCRIPTION", "OPTIONS", "EXIT STATUS", "ENVIRONMENT", "FILES", "EXAMPLES", "SEE ALSO"]
 
-# what is not installed: folders and files of the repository
+# the repository's folders and files that are not installed
 NOT_INSTALLED = re.compile(r"\b(?:docs|examples|crates|tests|tools|parts)/|\./|\binstall\.sh|CHANGELOG|README|" + HERE_ALONE.pattern)
 
 
 def pages_are_made():
-    """What man pages have of docs/USAGE.md is made of it."""
+    """The man pages' parts from docs/USAGE.md are up to date."""
     for name, file in PAGES.items():
         see(f"docs/{name}.1 has what is made of docs/USAGE.md", file.read_text() == page(name), "tests/manual.py --write")
 
 
 def pages_are_whole():
-    """Each page has its headings, the version, and no name of a file that is not installed."""
+    """Each page has its headings and the version, and names no file that is not installed."""
     for name, file in PAGES.items():
         text = file.read_text()
         head = rf'\.TH {re.escape(escaped(name.upper()))} 1 \d{{4}}-\d\d-\d\d "avrstk {re.escape(VERSION)}" '
@@ -331,7 +330,7 @@ def pages_are_whole():
 
 
 def pages_have_the_options():
-    """Each option that --help names at the begin of a line is one of the page's."""
+    """Each option at the beginning of a line of --help is on the page."""
     scripts = [("avrstk", PROGRAM), ("avrstk-serial", TOP / "avrstk-serial"), ("avrstk-serve", TOP / "avrstk-serve")]
     for name, command in scripts:
         ran = subprocess.run([command, "--help"], capture_output=True, text=True)
@@ -345,7 +344,7 @@ def pages_have_the_options():
 
 
 def pages_are_clean():
-    """The pages are without warnings, also of style, and are shown as they are meant."""
+    """The pages cause no warnings, not even about style, and are shown as intended."""
     if shutil.which("mandoc"):
         for name, file in PAGES.items():
             ran = subprocess.run(["mandoc", "-T", "lint", file], capture_output=True, text=True)
@@ -363,7 +362,7 @@ def pages_are_clean():
 
 
 def examples_of(name):
-    """The commands under EXAMPLES of a page."""
+    """Yields the commands under EXAMPLES of a page."""
     text = PAGES[name].read_text().split("\n.SH EXAMPLES\n")[1].split("\n.SH ")[0]
     for block in re.findall(r"^\.nf\n(.*?)^\.fi", text, re.M | re.S):
         typed = block.replace("\\-", "-").replace("\\(aq", "'").replace("\\e\n", "")
@@ -371,7 +370,7 @@ def examples_of(name):
 
 
 def examples_run():
-    """The examples of pages that need no device do what they are to do."""
+    """The pages' examples without a device work."""
     with tempfile.TemporaryDirectory() as folder:
         shutil.copy(TOP / "examples/blink.hex", f"{folder}/firmware.hex")
         for words in (it for name in PAGES for it in examples_of(name)):
@@ -383,7 +382,7 @@ def examples_run():
 
 
 def names_agree():
-    """The options and parts that USAGE, docs/PART, the completions and --help name."""
+    """USAGE, docs/PART, the completions and --help name the same options and parts."""
     options, shown = of_help()
     completions = (TOP / "completions/avrstk.bash").read_text()
     completed = re.search(r'"(-p [^"]*)"', completions)[1].split()
@@ -395,9 +394,9 @@ def names_agree():
 
 
 def version_agrees():
-    """The version of VERSION is that of the help, of the header for C and of the newest changes."""
+    """The help, the header for C and the newest changes have the version in VERSION."""
     _, shown = of_help()
-    see("--help tells the version", f"This is avrstk {VERSION}." in " ".join(shown.split()), shown[-200:])
+    see("--help shows the version", f"This is avrstk {VERSION}." in " ".join(shown.split()), shown[-200:])
     see("the header has it", f'AVR_RECORDS_VERSION "{VERSION}"' in (TOP / "include/avr_records.h").read_text())
     newest = re.search(r"^## ([0-9.]+)", (TOP / "CHANGELOG.md").read_text(), re.M)[1]
     same("the newest changes are its own", newest, VERSION)

@@ -1,11 +1,11 @@
-/* A board of Arduino's, in part: an ATmega2560 of simavr with a bootloader's hex file in its flash, and its serial port
- * at a port of 127.0.0.1. A caller is what opens the device is on a board: it resets the chip, at the boot section.
- * When the caller has gone, the flash is saved, and the next one is met.
+/* Simulates part of an Arduino board: simavr's ATmega2560 with a bootloader's hex file in its flash. Its serial port is a
+ * port of 127.0.0.1. A call has the effect of opening a board's device: it resets the chip, which starts at the boot
+ * section. When the caller has gone, the flash is saved, and the next caller is accepted.
  *
- *     mega BOOTLOADER FLASH        prints its port; FLASH is read where it is there, and saved behind each caller
+ *     mega BOOTLOADER FLASH        prints its port; FLASH is read if it exists, and saved after each caller
  *
- * A byte takes the time of its ten bits at 115,200 baud, of a clock of 16 MHz. The chip runs as fast as it can while
- * bytes come or go, and no faster than a real one in a silence, which ends in its application. */
+ * A byte takes the time of its ten bits at 115,200 baud with a clock of 16 MHz. While bytes are sent, the chip runs as fast
+ * as it can. Otherwise it runs no faster than a real one, because the bootloader's timeout starts the application. */
 #include <arpa/inet.h>
 #include <errno.h>
 #include <netinet/tcp.h>
@@ -22,7 +22,7 @@
 enum { FREQUENCY = 16000000, BAUD = 115200, BYTE_CYCLES = FREQUENCY / BAUD * 10, BOOT = 0x3E000 };
 
 static int caller = -1;
-/* when a byte came or went */
+/* the cycle at which the last byte was sent or received */
 static avr_cycle_count_t moved;
 
 static void fail(const char *what) {
@@ -34,7 +34,7 @@ static void quiet(avr_t *avr, const int level, const char *format, va_list list)
     (void)avr, (void)level, (void)format, (void)list;
 }
 
-/* A byte that the chip sends. One that nobody hears any more is lost. */
+/* Passes on a byte that the chip sends. Without a caller the byte is lost. */
 static void sent(struct avr_irq_t *irq, uint32_t value, void *param) {
     (void)irq;
     moved = ((avr_t *)param)->cycle;
@@ -119,7 +119,7 @@ int main(int many, char **words) {
     printf("%d\n", ntohs(here.sin_port));
     fflush(stdout);
     while ((caller = accept(listener, NULL, NULL)) >= 0) {
-        /* an answer's bytes go out one by one, and none waits for others */
+        /* a reply's bytes are sent one by one, without waiting for more */
         setsockopt(caller, IPPROTO_TCP, TCP_NODELAY, &(int){1}, sizeof(int));
         meet(avr);
         close(caller);

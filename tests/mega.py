@@ -1,14 +1,14 @@
 #!/usr/bin/env python3
-"""A programmer that is not this project's own: the bootloader of the Arduino Mega 2560, as Debian's package has it, on
-an ATmega2560 of simavr (mega.c), behind `net:`.
+"""Tests a programmer that is not this project's own: the Arduino Mega 2560's bootloader from Debian's package, on an
+ATmega2560 simulated by simavr (mega.c), behind `net:`.
 
     tests/mega.py [CASE ..]    needs a built program (program.py); cc, and the Debian packages
-                               libsimavr-dev and arduino-core-avr, or all is left out
+                               libsimavr-dev and arduino-core-avr; without them all is left out
 
-Flash is written and verified with -D, read, compared with another image and with the simulated chip's own flash; a
-byte is lost each way; a board whose application runs is reset by the connection; and what this bootloader does not do
-is asked for. A page is written here as it was given: that bits of flash only fall where a page was not erased is not
-simulated. Nor are locks and fuses, and no wire is.
+Flash is written and verified with -D, read, and compared with another image and with the simulated chip's own flash.
+A byte is lost each way. The connection resets a board whose application runs. Requests that this bootloader doesn't
+support are made too. The simulation writes a page as given: it doesn't model that writing an unerased page only clears
+bits. Nor does it model locks, fuses or wires.
 """
 
 import random
@@ -38,7 +38,7 @@ def updates(*texts):
 
 
 class Board:
-    """The board, whose flash outside the boot section has this content, at a port of its own."""
+    """The board at a port of its own. Its flash outside the boot section has this content."""
 
     def __init__(self, content=b""):
         self.room = Room()
@@ -57,7 +57,7 @@ class Board:
         self.started.communicate()
 
     def run(self, words, port=None):
-        """The status and messages of a run over the board, once its flash is saved."""
+        """Returns the status and messages of a run over the board, once its flash is saved."""
         words = ["-c", "stk500v2", "-p", "m2560", "-P", f"net:127.0.0.1:{port or self.port}", *words]
         with self.room.start(words) as started:
             _, messages = started.communicate(timeout=PATIENCE)
@@ -68,7 +68,7 @@ class Board:
         return self.room.read("flash.bin")
 
     def holds(self, what, application):
-        """The flash below the boot section is this and erased after it, and the boot section is the bootloader's."""
+        """Checks that the flash has this application and is erased up to the boot section, which has the bootloader."""
         flash = self.flash()
         wanted = application + b"\xff" * (BOOT - len(application))
         differ = [at for at in range(BOOT) if flash[at] != wanted[at]]
@@ -77,7 +77,7 @@ class Board:
 
 
 def bootloader():
-    """The boot section as the hex file has it."""
+    """Returns the boot section from the hex file."""
     section, base = bytearray(b"\xff" * (FLASH - BOOT)), 0
     for line in HEX.read_text().split():
         record = bytes.fromhex(line[1:])
@@ -90,7 +90,7 @@ def bootloader():
 
 
 class LosingLine:
-    """A line to the board that loses one byte, the nth from 0 of those that go up to it, or come down from it."""
+    """A link to the board that loses one byte: the nth, from 0, on the way up to it or down from it."""
 
     def __init__(self, port, way, place):
         self.way, self.place, self.lost = way, place, None
@@ -122,7 +122,7 @@ class LosingLine:
 
 
 def written_and_read():
-    """Across 64 KiB and 128 KiB: written, verified, and read as the chip has it."""
+    """Flash across 64 KiB and 128 KiB is written, verified and read correctly."""
     image = drawn("image", 140_000)
     with Board() as board:
         board.room.put("image.bin", image)
@@ -137,7 +137,7 @@ def written_and_read():
 
 
 def another_image():
-    """A comparison that fails says where, and a run that fails leaves the flash; its application ran before."""
+    """A failed comparison reports the address, and a failed run doesn't change the flash. The application ran before."""
     image = drawn("small", 1_000)
     with Board(image) as board:
         board.room.put("other.bin", image[:700] + bytes([image[700] ^ 1]) + image[701:])
@@ -148,7 +148,7 @@ def another_image():
 
 
 def lost_bytes():
-    """Bytes of an opening, of a page and of its answer, each lost in a run of its own; the run repeats the command."""
+    """Loses a byte of SIGN_ON, of a page or of its reply, each in a run of its own; the run repeats the command."""
     image = drawn("small", 1_000)
     for way, place in [("up", 4), ("up", 300), ("down", 3), ("down", 80)]:
         with Board() as board:
@@ -162,7 +162,7 @@ def lost_bytes():
 
 
 def reset_by_the_connection():
-    """The application runs after each run; the connection of the next one brings the bootloader back."""
+    """The application runs after each run; the next run's connection starts the bootloader again."""
     with Board() as board:
         for seed in ["first", "second", "third"]:
             image = drawn(seed, 1_024)
@@ -173,8 +173,8 @@ def reset_by_the_connection():
 
 
 def erased_from_the_front():
-    """With each page that is written, the bootloader erases one, from address 0 on, whichever page it is; so an image
-    that begins further on costs what stands at the front, and a page that is sent again costs the one after it."""
+    """With each page write, the bootloader erases the next page from address 0 on, whichever page is written. So an image
+    with a higher start erases the bytes at the front, and a retried page erases the page after it."""
     image, old = drawn("small", 1_024), bytes(0x2000)
     with Board(old) as board:
         board.room.put("further.hex", records(0x1000, image))
@@ -190,7 +190,7 @@ def erased_from_the_front():
 
 
 def records(base, content):
-    """Content at an address below 64 KiB, as Intel HEX."""
+    """Returns content at an address below 64 KiB, as Intel HEX."""
     rows = [(base + at, 0, content[at : at + 16]) for at in range(0, len(content), 16)] + [(0, 1, b"")]
     texts = []
     for at, kind, data in rows:
@@ -200,8 +200,8 @@ def records(base, content):
 
 
 def eeprom():
-    """The first 256 bytes of EEPROM are verified; of more, the bootloader reads the wrong ones, as it takes the address
-    of a byte for that of a word."""
+    """The first 256 bytes of EEPROM can be verified. Above, the bootloader reads the wrong bytes, because it takes a byte
+    address as a word address."""
     with Board() as board:
         board.room.put("short.bin", drawn("short", 256))
         ended = board.run(["-D", *updates("eeprom:w:short.bin:r")])
@@ -214,7 +214,7 @@ def eeprom():
 
 
 def refused():
-    """What this bootloader does not do ends the run, and leaves the flash."""
+    """A request that this bootloader doesn't support ends the run, and the flash stays."""
     image = drawn("small", 1_000)
     asked = {
         "an erase": (["-e"], "12"),

@@ -1,12 +1,12 @@
 #!/usr/bin/env python3
-"""Holds the record files of this project beside those of other programs: srec_cat, avr-objcopy and python3-intelhex, as far as
-they are installed.
+"""Exchanges record files with other programs: srec_cat, avr-objcopy and python3-intelhex. A tool that isn't installed is
+left out, and reported.
 
-    tests/others.py [TOOL ..]        needs a C compiler, for examples/c/records.c over the library for C
+    tests/others.py [TOOL ..]        needs a C compiler, for examples/c/records.c with the library for C
 
-Images with gaps, drawn from fixed seeds, are written here as Intel HEX and S-records, and each of the others reads them; each of
-the others writes them, and they are read here. Every byte has to be at its address, and no other. A plain reader and writer
-in this file are between them. What isn't installed is left out, and reported.
+This project writes random images with gaps, from fixed seeds, as Intel HEX and S-records, and each other program reads
+them. Each other program writes them too, and this project reads them. Every byte must be at its address, and there must
+be no other byte. A simple reader and writer in this file check the results.
 """
 
 import functools
@@ -23,7 +23,7 @@ from from_c import Library
 
 IMAGES = 120
 
-# where a distribution keeps its modules, if this python looks elsewhere
+# the distribution's modules, if this python looks elsewhere
 sys.path.append("/usr/lib/python3/dist-packages")
 try:
     from intelhex import IntelHex
@@ -35,7 +35,7 @@ room = Path(held.name)
 
 
 def plain_read(text):
-    """The bytes of a record file by address; of either format. (srec_cat writes no end record where no start is known.)"""
+    """Returns the bytes of either format's file by address. (srec_cat writes no end record without a start address.)"""
     image, base, wraps = {}, 0, False
     for line in text.decode().split("\n"):
         line = line.rstrip(" \t\r")
@@ -66,7 +66,7 @@ def plain_read(text):
 
 
 def plain_ihex(image, draw):
-    """Intel HEX of an image, in rows of any length."""
+    """Returns an image as Intel HEX, with rows of any length."""
     lines, base, rows = [], 0, []
     for at in sorted(image):
         if rows and rows[-1][0] + len(rows[-1][1]) == at and at % 65_536 and draw.random() > 0.05 and len(rows[-1][1]) < 255:
@@ -88,7 +88,7 @@ def plain_ihex(image, draw):
 
 
 def drawn(seed):
-    """An image with gaps, and the size of its memory."""
+    """Returns an image with gaps, and the size of its memory."""
     draw = random.Random(seed)
     size = draw.choice([512, 4_096, 32_768, 65_536, 131_072, 262_144, 1 << 20, (1 << 24) + 4_096])
     image = {}
@@ -109,12 +109,12 @@ def run(words):
 
 @functools.cache
 def library():
-    """The library for C, and the program over it."""
+    """Builds the library for C, and the program that uses it."""
     return Library(room)
 
 
 def here(text, format, size):
-    """A record file, read and written again by this project."""
+    """Returns a record file that this project has read and written again."""
     return library().written(put("given", text), size, format)
 
 
@@ -154,13 +154,13 @@ def same_image(what, found, wanted):
 
 @functools.cache
 def written_here(seed, format):
-    """The image of a seed, the size of its memory, and its record file as this project writes it."""
+    """Returns the image of a seed, the size of its memory, and its record file as this project writes it."""
     image, size, draw = drawn(seed)
     return image, size, here(plain_ihex(image, draw), format, size)
 
 
 def here_alone():
-    """What is written here, and read here again."""
+    """Checks files that this project writes and reads again."""
     for seed in range(IMAGES):
         for format in ["ihex", "srec"]:
             image, size, ours = written_here(seed, format)
@@ -169,7 +169,7 @@ def here_alone():
 
 
 def beside(name):
-    """What is written here and read by another program, and what that writes and is read here."""
+    """Checks files that this project writes and another program reads, and the other way round."""
     installed, convert, formats = OTHERS[name]
     if not installed:
         return leave_out(f"record files beside {name}", f"{name} is not installed")

@@ -1,6 +1,7 @@
 #!/usr/bin/env python3
-"""Makes the packages of tools/package.sh in two clones of this repository, with a script in place of `rt`: they are the
-same to the byte, hold what install.sh installs and what they were made from, and can be installed, run and removed.
+"""Makes the packages of tools/package.sh in two clones of this repository, with a script in place of `rt`. The packages of
+both clones are identical. They contain what install.sh installs and name their sources. They can be installed, run and
+removed.
 
     tests/package.py [CASE ..]
 """
@@ -21,12 +22,12 @@ from recipes import Clone
 
 VERSION = (TOP / "VERSION").read_text().strip()
 MAJOR, MINOR, _ = VERSION.split(".")
-# in the name of the shared library
+# the number in the shared library's name
 NUMBER = MAJOR if MAJOR != "0" else f"0.{MINOR}"
 KIT = "rattle-kit-stand-in logic 0123456789abcdef"
 NEEDED = ["git", "dpkg-deb", "dpkg-shlibdeps", "strip", "xz", "gcc", "ar", "ld", "objcopy"]
 
-# `rt`: tells its version and where the kit is, and makes an archive for C
+# `rt`: prints its version and the kit's folder, and makes an archive for C
 RT = f"""#!/bin/sh
 case $1 in
     version) echo {KIT} ;;
@@ -51,7 +52,7 @@ DEVELOPMENT = [
 
 
 class Packager(Clone):
-    """A clone with the stand-in, in which packages are made."""
+    """A clone with the stand-in for `rt`, to make packages in."""
 
     def __init__(self, folder, name):
         (Path(folder) / name).mkdir()
@@ -65,14 +66,13 @@ class Packager(Clone):
         subprocess.run(["ar", "rcD", "liblibc_c.a", "heap.pic.o"], **kit)
 
     def give_to(self, user):
-        """Gives another user what packaging writes to."""
+        """Makes another user the owner of the folders that packaging writes to."""
         self.folder.chmod(0o755)
         written = [self.made, self.top / "out", self.top / "crates/avr_records_c", self.folder / "home"]
         subprocess.run(["chown", "-R", user, *written], check=True)
 
     def start(self, *words, front=(), **more):
-        """Begins to make the packages of the program that is there, or of the one that AVRSTK names; what stands in
-        front runs it."""
+        """Starts packaging the built program, or the one that AVRSTK names. `front` is a command that runs the script."""
         kept = {name: it for name, it in os.environ.items() if name not in ("AVRSTK", "SOURCE_DATE_EPOCH")}
         own = {"PATH": f"{self.folder}/bin:{os.environ['PATH']}", "HOME": str(self.folder / "home")}
         how = {"stdout": subprocess.PIPE, "stderr": subprocess.STDOUT, "text": True}
@@ -87,7 +87,7 @@ class Packager(Clone):
 
 
 def ended(started):
-    """The status of a run, and what it printed."""
+    """Returns the status of a run, and its output."""
     told = started.communicate(timeout=PATIENCE)[0]
     return started.returncode, told
 
@@ -97,7 +97,7 @@ def field(package, name):
 
 
 def files(folder):
-    """What is below a folder but folders."""
+    """Returns the files under a folder."""
     return sorted(str(it.relative_to(folder)) for it in folder.rglob("*") if it.is_symlink() or not it.is_dir())
 
 
@@ -108,14 +108,14 @@ NOBODY = ["setpriv", "--reuid=65534", "--regid=65534", "--clear-groups"] if os.g
 
 @functools.cache
 def made():
-    """Two clones in which the packages were made, side by side, by two users with habits of their own."""
+    """Makes the packages in two clones at the same time, as two users with different settings."""
     os.chmod(ROOM.name, 0o755)
     clones = [Packager(ROOM.name, it) for it in ["one", "two"]]
     if NOBODY:
         clones[1].give_to("65534:65534")
     private = ["sh", "-c", 'umask 077 && exec "$0" "$@"']
     started = [clones[0].start("--with-c", TZ="Asia/Tokyo", XZ_DEFAULTS="--check=none")]
-    # (so that the files of both have other times)
+    # (so the files of the two clones have different times)
     time.sleep(1.1)
     started.append(clones[1].start("--with-c", front=[*NOBODY, *private], LC_ALL="C.UTF-8"))
     for status, told in [ended(it) for it in started]:
@@ -125,13 +125,13 @@ def made():
 
 
 def package(name):
-    """The package of this name in the first clone."""
+    """Returns the package of this name in the first clone."""
     (found,) = made()[0].made.glob(f"{name}_*.deb")
     return found
 
 
 def packages_are_the_same():
-    """Two clones make the same packages, to the byte."""
+    """Two clones make identical packages."""
     one, two = (it.packages() for it in made())
     arch = field(package("avrstk"), "Architecture")
     debs = [("avrstk", f"{VERSION}~unproved"), (f"libavr-records{NUMBER}", VERSION), ("libavr-records-dev", VERSION)]
@@ -143,15 +143,15 @@ def packages_are_the_same():
 
 
 def packages_say_what_they_are():
-    """Each says from which commit and by which kit it was made; the program says that nothing of it was proved, and the
-    library, which `rt lib` proves, that it is."""
+    """Each package names its commit and kit. The program's package states that nothing of it was proved; the library's
+    package states that it is proved, because `rt lib` proves it."""
     for name in ["avrstk", f"libavr-records{NUMBER}", "libavr-records-dev"]:
         told = field(package(name), "Description")
         flat = " ".join(told.split())
         mark, proof = (" (unproved build)", UNPROVED) if name == "avrstk" else ("", PROVED)
         see(f"{name} is marked in its first line or not", told.splitlines()[0].endswith(mark), told)
-        same(f"{name} says once what is proved", flat.count(f"{proof}, by {KIT}. "), 1)
-        same(f"{name} says whether it is unproved", "unproved" in flat.lower(), bool(mark))
+        same(f"{name} states once what is proved", flat.count(f"{proof}, by {KIT}. "), 1)
+        same(f"{name} states whether it is unproved", "unproved" in flat.lower(), bool(mark))
         see(f"{name} has the commit", f"Commit {made()[0].commit()}" in flat, told)
     depends = field(package("avrstk"), "Depends")
     see("avrstk depends on libc6 and Python", re.match(r"libc6 \(>= 2\.\d+\).*, python3 \(>= 3\.8\)$", depends), depends)
@@ -161,7 +161,7 @@ def packages_say_what_they_are():
 
 
 def a_proved_program_is_not_marked():
-    """The proved program of a clone is packaged as such, also with changes since the commit, which are told."""
+    """The proved program of a clone is packaged as proved. If there are changes since the commit, the package states that."""
     clone = made()[0]
     shutil.rmtree(clone.made)
     program = clone.top / "crates/avrstk/out/avrstk"
@@ -176,7 +176,7 @@ def a_proved_program_is_not_marked():
     same("its version", field(found, "Version"), VERSION)
     see("it has no mark", "unproved" not in description.lower(), description)
     flat = " ".join(description.split())
-    see("it says that it is proved", f"{PROVED}, by {KIT}." in flat, description)
+    see("it states that it is proved", f"{PROVED}, by {KIT}." in flat, description)
     see("and of changes", f"Commit {made()[0].commit()}, with changes since." in flat, description)
     os.utime(program, (0, 0))
     ended(clone.start(AVRSTK=str(program)))
@@ -189,7 +189,7 @@ def unpacked(name, folder):
 
 
 def packages_hold_what_is_installed():
-    """A package holds what install.sh installs, with the documents of a package."""
+    """A package contains what install.sh installs, and a package's documents."""
     with tempfile.TemporaryDirectory() as folder:
         prefix = Path(folder, "installed")
         environment = os.environ | {"AVRSTK": str(PROGRAM)}
@@ -205,7 +205,7 @@ def packages_hold_what_is_installed():
         wanted = [*DEVELOPMENT, *(f"usr/share/doc/libavr-records-dev/{it}" for it in docs[3:])]
         same("libavr-records-dev", unpacked("libavr-records-dev", Path(folder, "dev")), wanted)
         copyright = Path(folder, "avrstk/usr/share/doc/avrstk/copyright").read_text()
-        see("the package says that there is no licence", "There is no licence yet." in copyright, copyright)
+        see("the package states that there is no licence", "There is no licence yet." in copyright, copyright)
         told = Path(folder, "avrstk/usr/share/doc/avrstk/built-from").read_text()
         see("and what it was built from", all(it in told for it in [KIT, made()[0].commit(), UNPROVED]), told)
         modes = {it: oct((Path(folder, "avrstk") / it).stat().st_mode & 0o777) for it in found}
@@ -215,7 +215,7 @@ def packages_hold_what_is_installed():
 
 
 def runs(prefix, folder):
-    """What is below the prefix runs from there."""
+    """The installed program runs from its prefix."""
     how = {"cwd": folder, "capture_output": True, "text": True, "timeout": PATIENCE}
     environment = {it: text for it, text in os.environ.items() if it != "AVRSTK"}
     words = ["-p", "m328p", "-P", "emu:chip.bin", "-U", f"flash:w:{TOP}/examples/blink.hex:i"]
@@ -229,13 +229,13 @@ def runs(prefix, folder):
 
 
 def package_is_installed_and_removed():
-    """dpkg installs the package below a folder, where it runs, and removes all of it."""
+    """dpkg installs the package under a folder. It runs there, and dpkg removes all of it."""
     with tempfile.TemporaryDirectory() as folder:
         root = Path(folder, "root")
         for it in ["updates", "info", "triggers"]:
             (root / "var/lib/dpkg" / it).mkdir(parents=True)
         (root / "var/lib/dpkg/status").write_text("")
-        # (what it depends on is not below that folder)
+        # (its dependencies are not installed under that folder)
         dpkg = ["dpkg", f"--root={root}", "--force-not-root", "--force-depends", "--log=/dev/null"]
         how = {"capture_output": True, "text": True}
         ran = subprocess.run([*dpkg, "-i", *(package(it) for it in ["avrstk", f"libavr-records{NUMBER}"])], **how)
@@ -249,7 +249,7 @@ def package_is_installed_and_removed():
 
 
 def archive_runs_anywhere():
-    """The archive runs where it is unpacked."""
+    """The program runs from the unpacked archive."""
     with tempfile.TemporaryDirectory() as folder:
         (archive,) = made()[0].made.glob("*.tar.xz")
         subprocess.run(["tar", "-xf", archive], cwd=folder, check=True)
@@ -267,7 +267,7 @@ def lintian_finds_no_error():
 
 
 def refusals():
-    """What tools/package.sh can't package, it refuses."""
+    """tools/package.sh refuses what it can't package."""
     clone = made()[1]
     nothing = f"{clone.folder}/nothing"
     told = f"package.sh: error: {nothing} is not there\n"

@@ -1,13 +1,13 @@
 #!/usr/bin/env python3
-"""Holds parts/classic.toml to two sources, the configuration of an installed AVRDUDE and the headers of avr-libc: every
-part that both describe alike, and that the program describes fully, stands in it with both of its names, and nothing
-else does. Each name is loaded by the program. AVRDUDE writes flash, EEPROM and fuses of a dozen parts at `--serve`, and
-the chip is that which the program itself leaves over `emu:`.
+"""Compares parts/classic.toml with two sources: the configuration of an installed AVRDUDE, and the headers of avr-libc. The
+file has exactly the parts that both describe alike and that the program describes fully, each with both its names. The
+program loads each name. AVRDUDE writes flash, EEPROM and fuses of a dozen parts by `--serve`; the chip must be the same
+as after the program's own run over `emu:`.
 
-    tests/parts.py [CASE ..]  needs a built program (program.py); without avrdude or avr-gcc with
-                              avr-libc what needs them is left out
-    tests/parts.py --all      a session for each part
-    tests/parts.py --write    makes parts/classic.toml of the two sources
+    tests/parts.py [CASE ..]  needs a built program (program.py); checks that need avrdude, or avr-gcc
+                              with avr-libc, are left out without them
+    tests/parts.py --all      runs a session for each part
+    tests/parts.py --write    writes parts/classic.toml from the two sources
 """
 
 import random
@@ -35,7 +35,7 @@ HEAD = """\
 [parts]
 """
 
-# the instructions that the program sends, by AVRDUDE's names of a memory and its operations: the first bytes of each
+# the first bytes of the instructions that the program sends, by AVRDUDE's names for memories and operations
 SENT = {
     ("part", "pgm_enable"): [0xAC, 0x53, 0, 0],
     ("part", "chip_erase"): [0xAC, 0x80, 0, 0],
@@ -60,7 +60,7 @@ SENT = {
 }
 
 def configured():
-    """The parts of AVRDUDE's configuration that are programmed over ISP: name, properties, memories, operations."""
+    """Returns the ISP parts of AVRDUDE's configuration: name, properties, memories, operations."""
     ran = subprocess.run(["avrdude", "-p", "*/At"], capture_output=True, text=True, errors="replace")
     parts = {}
     for row in ran.stdout.splitlines():
@@ -73,12 +73,12 @@ def configured():
 
 
 def bits(text):
-    """The 32 letters of an operation."""
+    """Returns the 32 letters of an operation."""
     return re.sub(r"[^01xaio]", "", text or "")
 
 
 def fits(text, sent):
-    """Whether these first bytes are the operation, what it leaves open apart."""
+    """Whether these first bytes match the operation, except for the bits that it leaves open."""
     wanted = "".join(f"{byte:08b}" for byte in sent)
     letters = bits(text)
     return len(letters) == 32 and all(it in (bit, "x", "a", "i", "o") for it, bit in zip(letters, wanted))
@@ -89,7 +89,7 @@ def number(memory, name):
 
 
 def lacking(part):
-    """What the program doesn't describe of a part, by AVRDUDE's configuration; a group's name, or None."""
+    """Returns the first property of a part that the program doesn't support, by AVRDUDE's configuration, or None."""
     flash, eeprom = part.get("flash", {}), part.get("eeprom", {})
     if flash.get("paged") != "yes":
         return "no flash pages"
@@ -115,14 +115,14 @@ def lacking(part):
 
 
 def by_avrdude(part):
-    """What the configuration says of a part, without the EESAVE bit, which isn't in it."""
+    """Returns a part's fields from the configuration, except the EESAVE bit, which isn't in it."""
     signature = "".join(f"{int(it, 0):02X}" for it in part[""]["signature"].split())
     sizes = [number(part[memory], name) for memory in ("flash", "eeprom") for name in ("size", "page_size")]
     return dict(zip(FIELDS, [signature, *sizes]))
 
 
 def header_rows(name, seen):
-    """The lines of a header of avr-libc with those that it includes, in their order."""
+    """Yields the lines of a header of avr-libc, with those of the headers that it includes, in order."""
     file = next(iter(HEADERS.glob(name)), None)
     if not file or name in seen:
         return
@@ -136,7 +136,7 @@ def header_rows(name, seen):
 
 
 def eesave_fuse(name):
-    """The fuse under whose heading a header has EESAVE: lfuse, hfuse or efuse, or None."""
+    """Returns the fuse under whose heading a header defines EESAVE: lfuse, hfuse, efuse or None."""
     fuse = None
     for row in header_rows(name, set()):
         low = row.lower()
@@ -149,7 +149,7 @@ def eesave_fuse(name):
 
 
 def by_headers(name):
-    """What avr-libc says of a part, or None where it doesn't know it."""
+    """Returns a part's fields from avr-libc; None if avr-libc doesn't know the part."""
     text = "#include <avr/io.h>\n"
     words = ["avr-gcc", f"-mmcu={name.lower()}", "-E", "-dD", "-x", "c", "-"]
     ran = subprocess.run(words, input=text, capture_output=True, text=True)
@@ -170,7 +170,7 @@ def by_headers(name):
 
 
 def sources():
-    """The parts that belong into the file, by their short names, and why each of the others doesn't."""
+    """Returns the parts that belong in the file, by their short names, and why each of the others doesn't."""
     parts, without = {}, {}
     for name, part in configured().items():
         short = part[""]["id"]
@@ -189,19 +189,19 @@ def sources():
 
 
 def row(name, fields):
-    """A part's line in the file."""
+    """Returns a part's line in the file."""
     told = ", ".join(f'{it} = "{fields[it]}"' if it == "signature" else f"{it} = {fields[it]}" for it in FIELDS)
     return f"{name} = {{ {told} }}\n"
 
 
 def made(parts):
-    """The file's text."""
+    """Returns the file's text."""
     names = sorted((name, fields) for short, (long, fields, _) in parts.items() for name in (short, long))
     return HEAD + "".join(row(*it) for it in names)
 
 
 def against_the_sources(parts, without):
-    """Every line against both sources, and that nothing is missing."""
+    """Compares every line with both sources, and checks that no part is missing."""
     file = tomllib.loads(CLASSIC.read_text())["parts"]
     wanted = {name: (short, it) for short, it in parts.items() for name in (short, it[0])}
     see("the names", set(file) == set(wanted), sorted(set(file) ^ set(wanted)))
@@ -217,12 +217,12 @@ def against_the_sources(parts, without):
     names = [it[2][""]["desc"].split()[0] for it in parts.values()]
     see("docs/PARTS has the parts", set(names) == set(re.findall(r"\bAT\w+\d\w*", listed)), listed)
     for name in [it.split()[0] for names in without.values() for it in names]:
-        see(f"docs/PARTS tells why {name} is not in", re.search(rf"\b{name}\b", others))
+        see(f"docs/PARTS gives the reason why {name} is not in", re.search(rf"\b{name}\b", others))
 
 
 def loaded():
-    """Each name is a part of the program: its signature is read of a chip of its sizes. The whole file, all of which is
-    judged at each run, is given for two of them, and for the others their own line."""
+    """The program loads each name: it reads the part's signature from a chip of its sizes. A run checks its whole part
+    file, so only two names get the whole file, and the others their own line."""
     room = Room()
     file = tomllib.loads(CLASSIC.read_text())["parts"]
     for name, it in file.items():
@@ -238,7 +238,7 @@ def loaded():
 
 
 def values_of(part, drawn, eesave_bit):
-    """A value for each fuse: a bit that a part doesn't have is as AVRDUDE writes it, and EESAVE is not
+    """Returns a value for each fuse. Bits that a part doesn't have are as AVRDUDE writes them, and EESAVE is not
     programmed."""
     found = {}
     for name in ("lfuse", "hfuse", "efuse"):
@@ -249,7 +249,7 @@ def values_of(part, drawn, eesave_bit):
 
 
 def session(room, short, fields, part):
-    """AVRDUDE at `--serve`, and the program over `emu:`, write the same."""
+    """AVRDUDE, by `--serve`, and the program, over `emu:`, write the same."""
     room.clear()
     drawn = random.Random(short)
     room.put("f.bin", drawn.randbytes(fields["flash_size"] - 1) + b"\x5a")
@@ -271,7 +271,7 @@ def session(room, short, fields, part):
 
 
 def has_sources():
-    """Whether both sources are installed, which is told where they are not."""
+    """Whether both sources are installed; reports it if not."""
     if shutil.which("avrdude") and shutil.which("avr-gcc") and HEADERS.is_dir():
         return True
     return leave_out("what needs two sources", "avrdude, or avr-gcc with avr-libc, is not installed")
@@ -283,7 +283,7 @@ def lines_of_the_file():
 
 
 def sessions(names=DOZEN):
-    """Sessions by AVRDUDE of a dozen parts."""
+    """Runs sessions of AVRDUDE for a dozen parts."""
     if not has_sources():
         return
     parts, _ = sources()
@@ -298,7 +298,7 @@ def all_sessions():
 
 
 def write():
-    """Makes the file, and tells what is not in it and why."""
+    """Writes the file, and prints which parts are not in it and why."""
     if not has_sources():
         return 1
     parts, without = sources()

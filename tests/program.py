@@ -1,5 +1,5 @@
-"""The built program in a folder of its own, and served at a port, for the scripts beside this one. AVRSTK names it, else
-it is the one that ./avrstk runs: the proved one, or else the one without proofs."""
+"""Runs the built program in a folder of its own, or serves it at a port, for the scripts beside this one. AVRSTK names the
+program; the default is the one that ./avrstk runs: the proved one, or else the one without proofs."""
 
 import os
 import socket
@@ -16,7 +16,7 @@ NAMED = os.environ.get("AVRSTK")
 
 
 def program():
-    """The program that is run: the one that AVRSTK names, else the one that ./avrstk runs, and then says which that is."""
+    """Returns the program to run: the one that AVRSTK names, or else the one that ./avrstk runs, and prints which it is."""
     if NAMED:
         return Path(NAMED).resolve()
     which = subprocess.run([TOP / "avrstk", "--which"], stdout=subprocess.PIPE, text=True)
@@ -29,7 +29,7 @@ def program():
 
 PROGRAM = program()
 
-# the answers of a session in which nothing is done, and how many bytes there are up to the end of each
+# the replies of a session that does nothing, and the number of bytes up to the end of each
 ANSWERS = (TOP / "crates/avrstk/stdin").read_bytes()
 ENDS = [17, 25, 35, 45, 55, 63]
 
@@ -51,7 +51,7 @@ CHIP_FILE = 33_796
 
 
 def has_avrdude():
-    """Whether AVRDUDE is here, in the version that README and docs speak of."""
+    """Whether AVRDUDE is installed, in the version that README and docs describe."""
     try:
         ran = subprocess.run(["avrdude", "-?"], capture_output=True, text=True)
     except FileNotFoundError:
@@ -60,7 +60,7 @@ def has_avrdude():
 
 
 class Room:
-    """A folder that is empty but for a few files."""
+    """A temporary folder with a few given files."""
 
     def __init__(self):
         self.held = tempfile.TemporaryDirectory()
@@ -75,36 +75,36 @@ class Room:
         (self.folder / name).write_bytes(content)
 
     def read(self, name):
-        """The content of a file, or None where there is none."""
+        """Returns the content of a file; None if there is none."""
         file = self.folder / name
         return file.read_bytes() if file.is_file() else None
 
     def clear(self):
-        """Removes what runs have made."""
+        """Removes the files that runs have made."""
         for file in self.folder.iterdir():
             if file.name not in self.given:
                 file.unlink()
 
     def start(self, words, given=subprocess.DEVNULL, closed="", front=(), **more):
-        """A run with these words; what stands in front of the program's name is another that runs it."""
+        """Starts a run with these options. `front` is a command that runs the program."""
         how = {"stdin": given, "stdout": subprocess.PIPE, "stderr": subprocess.PIPE, "cwd": self.folder} | more
         shell = ["sh", "-c", f'exec "$0" "$@" {closed}'] if closed else []
         return subprocess.Popen([*shell, *front, str(PROGRAM), *words], **how)
 
     def run(self, words, given=b"", environment=None, closed=""):
-        """The status, the output and the messages of a run; what is closed is in the words of the shell."""
+        """Returns the status, the output and the messages of a run. `closed` has shell redirections that close streams."""
         started = self.start(words, subprocess.PIPE, closed, env=os.environ | (environment or {}))
         output, messages = started.communicate(given, timeout=PATIENCE)
         return started.returncode, output, messages
 
 
 def lines(*texts):
-    """Messages, each with the program's name in front."""
+    """Returns messages as lines, each with the program's name in front."""
     return "".join(f"avrstk: {text}\n" for text in texts).encode()
 
 
 def frame(number, *body):
-    """The frame of a sequence number, modulo 256, and a body, which is given in bytes and lists of bytes."""
+    """Returns the frame of a sequence number, modulo 256, and a body, given as bytes and lists of bytes."""
     body = b"".join(bytes([it]) if isinstance(it, int) else it for it in body)
     whole = bytes([0x1B, number % 256]) + len(body).to_bytes(2, "big") + b"\x0e" + body
     check = 0
@@ -114,15 +114,15 @@ def frame(number, *body):
 
 
 def free_port():
-    """A port of 127.0.0.1 that nobody uses now, for a program that takes none that is kept."""
+    """Returns a free port of 127.0.0.1, for a program that can't use a kept one."""
     with socket.socket() as it:
         it.bind(("127.0.0.1", 0))
         return it.getsockname()[1]
 
 
 def kept_port():
-    """A socket that keeps a port of 127.0.0.1 for as long as it lives: the system gives the port to nobody else, and
-    nobody listens there but who asks for it by its number and says that he reuses it, as this program does that serves."""
+    """Returns a socket that keeps a port of 127.0.0.1 while it is open. The system gives the port to no other process. A
+    process can listen there only if it asks for that number with SO_REUSEADDR, as this program does when it serves."""
     kept = socket.socket()
     kept.setsockopt(socket.SOL_SOCKET, socket.SO_REUSEADDR, 1)
     kept.bind(("127.0.0.1", 0))
@@ -134,8 +134,8 @@ def port_of(kept):
 
 
 class Server:
-    """The program as the emulated programmer of a part, at a port that is kept for it; in a `with` it is ended at the
-    end, if it runs still."""
+    """The program as the emulated programmer of a part, at a port that is kept for it. At the end of a `with` it is ended
+    if it still runs."""
 
     def __init__(self, room, chip="served.bin", part="m328p", words=(), waits=True, **more):
         self.kept = kept_port()
@@ -146,7 +146,7 @@ class Server:
             self.wait_until_listens()
 
     def listens(self):
-        """Whether anybody listens at the port (state 0A), without a call, which would be the one that is served."""
+        """Whether a process listens at the port (state 0A). This makes no call, because the first caller is the one served."""
         return f" 0100007F:{self.port:04X} 00000000:0000 0A " in Path("/proc/net/tcp").read_text()
 
     def wait_until_listens(self):
@@ -157,17 +157,17 @@ class Server:
             time.sleep(0.002)
 
     def call(self):
-        """A connection to it."""
+        """Returns a connection to it."""
         return socket.create_connection(("127.0.0.1", self.port), PATIENCE)
 
     def end(self):
-        """Its status, output and messages, once its caller has gone."""
+        """Returns its status, output and messages, once its caller has gone."""
         output, messages = self.started.communicate(timeout=PATIENCE)
         self.kept.close()
         return self.started.returncode, output, messages
 
     def stop(self):
-        """Ends it, if it runs still."""
+        """Ends it if it still runs."""
         if self.started.poll() is None:
             self.started.kill()
         return self.end()

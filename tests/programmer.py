@@ -1,5 +1,5 @@
 #!/usr/bin/env python3
-"""Asks the programmer that the built program serves, frame by frame: what each command answers, up to the edges of its fields.
+"""Tests the served programmer frame by frame: the reply to each command, up to the limits of its fields.
 
     tests/programmer.py [CASE ..]      needs a built program (program.py)
 """
@@ -17,7 +17,7 @@ ENTER = "10 C8 64 19 20 00 53 03 AC 53 00 00"
 FLASH = "C1 0A 40 4C 20 FF FF"
 EEPROM = "C1 0A C1 C2 A0 FF FF"
 
-# what is asked, the body of the frame, and the body of its answer; one session
+# one session: a name, the body of the frame, and the body of its reply
 TALK = [
     ("SIGN_ON", "01", "01 00 08" + b"STK500_2".hex()),
     ("a command of another length", "01 00", "01 C0"),
@@ -90,13 +90,13 @@ TALK = [
 
 
 def served():
-    """The program as the programmer of a new ATmega328P."""
+    """Returns the program as the programmer of a new ATmega328P."""
     room.clear()
     return Server(room, "chip.bin")
 
 
 def ask_all(size):
-    """The whole talk, its frames in pieces of so many bytes. The server ends with its caller, and nothing was said."""
+    """Sends the whole session in pieces of `size` bytes. The server ends with its caller, and prints nothing."""
     with served() as server:
         with server.call() as caller:
             caller.setsockopt(socket.IPPROTO_TCP, socket.TCP_NODELAY, 1)
@@ -110,7 +110,7 @@ def ask_all(size):
 
 
 def frames_are_cut():
-    """What is no good frame: noise, bad headers, and a frame whose check is wrong."""
+    """Sends bytes that are no good frames: noise, bad headers, and a frame with a wrong XOR."""
     sign_on, answer = frame(9, b"\x01"), frame(9, b"\x01\x00\x08STK500_2")
     unknown = bytes.fromhex("1B0900010E0518")
     with served() as server:

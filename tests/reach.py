@@ -1,14 +1,14 @@
 #!/usr/bin/env python3
-"""How much a reader has to read: the definitions that a contract reaches.
+"""Measures how much a reader has to read: the definitions that a contract reaches.
 
-    tests/reach.py FILE.NAME ..      of these definitions of specs/; CRATE.FILE.NAME where several crates have one
-    tests/reach.py -v ..             and lists them, file by file
-    tests/reach.py --check           compares the table of docs/PROOFS with what its definitions reach; --write puts it there
+    tests/reach.py FILE.NAME ..      for these definitions of specs/; CRATE.FILE.NAME if several crates have one
+    tests/reach.py -v ..             also lists them, file by file
+    tests/reach.py --check           compares the table of docs/PROOFS with the figures; --write writes them there
 
-A definition reaches what its text names: definitions of its own file and those that the `use` lines bring in. What stands
-in std, in other libraries or in Rust (an enum, a struct) is named with the definition and not counted. A variable that has
-the name of a definition counts as that one, so the figures are no smaller than they should be. Lines are those of the
-definitions, without comments and `use` lines.
+A definition reaches the definitions that its text names, in its own file or brought in by `use` lines. Definitions of std,
+of other libraries and of Rust (an enum, a struct) are listed but not counted. A variable with the name of a definition
+counts as that definition, so a figure can be too high, but not too low. Lines are those of the definitions, without
+comments and `use` lines.
 """
 
 import re
@@ -26,7 +26,7 @@ WORD = re.compile(r"[A-Za-z_][\w']*(?:\.[A-Za-z_][\w']*)*")
 
 
 class File:
-    """A file of specs/: its definitions, each a list of lines, and the names that it can use."""
+    """A file of specs/: its definitions, each a list of lines, and the names in its scope."""
 
     def __init__(self, path):
         self.definitions = {}
@@ -67,7 +67,7 @@ FILES = {(p.parent.parent.name, p.stem): File(p) for p in TOP.glob("crates/*/spe
 
 
 def found(crate, file, name):
-    """The definition of this name in a file, if it is one of this project."""
+    """Returns the definition of this name in a file, if it is one of this project's."""
     here = FILES.get((crate, file))
     if here and name in here.owner:
         return crate, file, here.owner[name]
@@ -75,7 +75,7 @@ def found(crate, file, name):
 
 
 def named_in(crate, file, text):
-    """The definitions that a text in this file names."""
+    """Returns the definitions that a text in this file names."""
     here = FILES[crate, file]
     for word in WORD.findall(text):
         first, _, rest = word.partition(".")
@@ -104,7 +104,7 @@ def reached(roots):
 
 
 def definition(name):
-    """The definition that a name of two or three parts means."""
+    """Returns the definition for a name of two or three parts."""
     *crate, file, name = name.split(".")
     places = [found(*it, name) for it in FILES if it[1] == file and crate in ([], [it[0]])]
     known = [it for it in places if it]
@@ -118,7 +118,7 @@ def lines_of(places):
 
 
 def with_figures(page):
-    """The page with the figures of its table: in each row the definitions that are read together, then a `;`."""
+    """Returns the page with the figures of its table. A row has the definitions that are read together, then a `;`."""
     head, rest = page.split(TABLE, 1)
     rows, behind = rest.split("\n\n", 1)
     made = rows.splitlines()[:2]

@@ -1,12 +1,12 @@
 #!/usr/bin/env python3
-"""Runs the commands that README and docs/USAGE show, as they are typed, in a fresh clone in which only the first of README
-was run: each ends with status 0, none starts a build, and git sees no file that they made.
+"""Runs the commands of README and docs/USAGE as typed, in a fresh clone after README's first command. Each ends with status
+0, none starts a build, and git sees no file that they made.
 
-    tests/recipes.py [CASE ..]      needs a built program (program.py), which is the one without proofs in the clone; calls
-                                    of AVRDUDE are left out without AVRDUDE 7.1, and those of srec_cmp without srecord
+    tests/recipes.py [CASE ..]      needs a built program (program.py), used as the clone's unproved program; commands with
+                                    AVRDUDE are left out without AVRDUDE 7.1, and those with srec_cmp without srecord
 
-Only what is somebody's own is another here: the port, the home folder, the firmware, and the board, which is a pseudo
-terminal with the emulated programmer behind it.
+Only the user's own things differ: the port, the home folder, the firmware, and the board. The board is a pseudo terminal
+with the emulated programmer behind it.
 """
 
 import os
@@ -22,14 +22,13 @@ from cases import PATIENCE, leave_out, named, run_cases, same, see
 from program import PROGRAM, TOP, free_port, has_avrdude
 from serial import Board
 
-# what isn't a step of a user's work with the tool, or proves when it is typed
+# commands that are no step of using the tool, or that start proofs
 NOT_HERE = ("cd ", "git ", "./test", ".ci/", "./avrstk --build", "./install.sh --with-c")
 
-# `rt` here: notes that it was called
+# `rt` in the clone: notes that it was called
 RT = '#!/bin/sh\necho "$@" >>"$NOTED"\nexit 1\n'
 
-# in the shell of the commands: for a second's sleep what was started in the background is waited for until it listens or
-# ends, however long that takes
+# in the shell of the commands, `sleep 1` waits until the background job listens or ends, however long that takes
 WAITS = """
 listens() {{ grep -q " 0100007F:{0:04X} 00000000:0000 0A " /proc/net/tcp; }}
 sleep() {{ [ "$1" = 1 ] || command sleep "$1"; until [ "$1" != 1 ] || listens || ! kill -0 $!; do command sleep 0.02; done; }}
@@ -38,7 +37,7 @@ trap 'kill $(jobs -p) 2>/dev/null; wait' EXIT
 
 
 class Clone:
-    """A clone with what isn't committed yet, in a folder with a home and an `rt` that notes its words."""
+    """Makes a clone with the uncommitted changes, in a folder with a home and an `rt` that notes its calls."""
 
     def __init__(self, folder):
         self.folder = Path(folder)
@@ -46,7 +45,7 @@ class Clone:
         self.noted = self.folder / "noted"
         for it in ["home", "bin"]:
             (self.folder / it).mkdir()
-        # (whoever owns the repository)
+        # (git accepts a repository with any owner)
         (self.folder / "home/.gitconfig").write_text("[safe]\n\tdirectory = *\n")
         self.git("clone", "-q", TOP, self.top)
         changed = self.git("diff", "-z", "--name-only", "HEAD") + self.git("ls-files", "-z", "-o", "--exclude-standard")
@@ -67,11 +66,11 @@ class Clone:
         return ran.stdout
 
     def status(self):
-        """What git sees in it that isn't committed."""
+        """Returns the uncommitted changes that git sees in it."""
         return self.git("status", "--porcelain", at=self.top)
 
     def types(self, commands):
-        """Types commands, one after another, into one shell; gives what it printed."""
+        """Types commands, one after another, into one shell; returns what it printed."""
         port = free_port()
         path = f"{self.folder}/bin:{self.folder}/home/.local/bin:{os.environ['PATH']}"
         own = {"PATH": path, "HOME": str(self.folder / "home"), "NOTED": str(self.noted)}
@@ -82,7 +81,7 @@ class Clone:
         return subprocess.run(["bash", "-c", text], cwd=self.top, env=environment, timeout=PATIENCE, **how).stdout
 
     def tries(self, commands):
-        """Types the commands of one block, if they are for here."""
+        """Types the commands of one block, if they can run here."""
         for tool, is_here in [("avrdude", has_avrdude()), ("srec_cmp", shutil.which("srec_cmp"))]:
             if not is_here and any(it.startswith(f"{tool} ") for it in commands):
                 leave_out(f"calls of {tool}", "it is not installed")
@@ -102,14 +101,14 @@ class Clone:
 
 
 def blocks(file):
-    """The commands of each block of a document, as they are typed."""
+    """Yields the commands of each block of a document, as typed."""
     found = re.findall(r"(?:^    (?!  ).*\n)+", (TOP / file).read_text(), re.M)
-    # (what is noted behind a command is left out)
+    # (without the comment after a command)
     return [typed for block in found if (typed := re.findall(r"^    \$ (.*?)(?: +# .*)?$", block, re.M))]
 
 
 def in_a_clone(case):
-    """A case with a clone of its own, in which git sees nothing new at the end."""
+    """Runs a case in its own clone; at the end git sees nothing new there."""
 
     def run():
         with tempfile.TemporaryDirectory() as folder:
@@ -122,7 +121,7 @@ def in_a_clone(case):
 
 
 def readme(clone):
-    """The commands of README, from its first one."""
+    """Runs the commands of README, from its first one."""
     found = blocks("README.md")
     first = found[0][0]
     see("the first command needs no proof", first.startswith("./avrstk --unproved "), first)
@@ -131,14 +130,14 @@ def readme(clone):
 
 
 def usage(clone):
-    """The commands of docs/USAGE; those of an installed avrstk where install.sh has put it."""
+    """Runs the commands of docs/USAGE; those for an installed avrstk use a program that install.sh has installed."""
     clone.types(["./install.sh ~/.local"])
     for commands in blocks("docs/USAGE.md"):
         clone.tries(commands)
 
 
 def somebody_else(clone):
-    """Another user of the clone runs the program that is there, and builds nothing."""
+    """Another user of the clone runs the built program, and builds nothing."""
     if os.geteuid() != 0:
         leave_out("another user", "this isn't root")
         return

@@ -1,9 +1,8 @@
-/* Lets one call of the C library fail. With LD_PRELOAD in front of a program, REFUSE names the call by its kind, its
- * number from 1, and what becomes of it: "growth 3 fail" refuses the third request for memory, "growth 3 onwards" that one
- * and all after it. A read or a write may also be interrupted by a signal ("interrupt"), or move one byte alone ("one"). At
- * any call the program may be ended by a signal, "kill" or "int"; "any 3 kill" counts the calls of all kinds.
- * Whether the program came to that call is told by the file REFUSED, which then holds the name of the file that the call
- * was for, if it was for one. */
+/* Makes one call of the C library fail. Preload it with LD_PRELOAD; REFUSE then names the kind of call, its number from 1,
+ * and what happens: "growth 3 fail" refuses the third allocation, "growth 3 onwards" that one and all later ones. A read
+ * or a write can also be interrupted by a signal ("interrupt"), or move only one byte ("one"). At any call a signal can end
+ * the program: "kill" or "int". "any 3 kill" counts the calls of all kinds.
+ * When the call is refused, the file REFUSED is created. It contains the name of the file that the call was for, if any. */
 #define _GNU_SOURCE
 #include <dlfcn.h>
 #include <errno.h>
@@ -27,7 +26,7 @@ enum fate { PASS, FAIL, INTERRUPT, ONE };
 
 #define NEXT(name) ((__typeof__(&name))dlsym(RTLD_NEXT, #name))
 
-/* Tells that a call was refused, and for which file: by its name, or by its descriptor; a pipe is "-". */
+/* Records that a call was refused, and for which file: by its name, or by its descriptor; a pipe is "-". */
 static void tell_refused(const char *name, int file)
 {
     char link[32], held[4096] = "";
@@ -44,7 +43,7 @@ static void tell_refused(const char *name, int file)
     NEXT(close)(out);
 }
 
-/* What becomes of this call, which is counted. */
+/* Counts this call and returns what happens to it. */
 static enum fate fate_of(enum kind kind, const char *name, int file)
 {
     static long calls;
@@ -67,7 +66,7 @@ static enum fate fate_of(enum kind kind, const char *name, int file)
     return !strcmp(how, "interrupt") ? INTERRUPT : !strcmp(how, "one") ? ONE : FAIL;
 }
 
-/* A call that answers `refused` where it is refused, with this reason. */
+/* A call that returns `refused` if it is refused, and sets errno to `reason`. */
 #define REFUSABLE(kind, reason, refused, result, name, parameters, arguments) \
     result name parameters                                                    \
     {                                                                         \
@@ -96,7 +95,7 @@ static enum fate fate_of(enum kind kind, const char *name, int file)
         return -1;                                                \
     }
 
-/* (dlsym itself takes memory only for its error texts, which it doesn't need here) */
+/* (dlsym itself allocates only for its error texts, which are not needed here) */
 REFUSABLE(GROWTH, ENOMEM, NULL, void *, malloc, (size_t size), (size))
 REFUSABLE(GROWTH, ENOMEM, NULL, void *, realloc, (void *old, size_t size), (old, size))
 REFUSABLE(SOCKET, EMFILE, -1, int, socket, (int domain, int type, int protocol), (domain, type, protocol))
@@ -114,7 +113,7 @@ MOVING(READ, recv, bytes, (int file, void *bytes, size_t count, int flags), (fil
 MOVING(WRITE, write, bytes, (int file, const void *bytes, size_t count), (file, bytes, count), (file, bytes, 1))
 MOVING(WRITE, send, bytes, (int file, const void *bytes, size_t count, int flags), (file, bytes, count, flags), (file, bytes, 1, flags))
 
-/* A call that is for a file, by its name or its descriptor. */
+/* A call for a file, by its name or its descriptor. */
 #define OF_FILE(kind, reason, refused, result, name, path, file, parameters, arguments) \
     result name parameters                                                              \
     {                                                                                   \
@@ -136,7 +135,7 @@ OF_FILE(FILES, EACCES, NULL, char *, realpath, path, -1, (const char *path, char
 OF_FILE(FILES, EACCES, -1, int, statx, *path ? path : NULL, file, (int file, const char *path, int flags, unsigned int mask, struct statx *found),
         (file, path, flags, mask, found))
 
-/* A file that is closed is closed, whatever is answered. */
+/* The file is closed, whatever this returns. */
 int close(int file)
 {
     enum fate fate = fate_of(CLOSE, NULL, file);

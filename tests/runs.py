@@ -1,7 +1,7 @@
 #!/usr/bin/env python3
-"""Worked runs of the built program over an emulated part: what is printed, written and answered, the frames that are sent,
-and the chip that is left. Each run is made over the port `emu:`, and again over a TCP line to the emulator that the program
-serves, where its frames are seen. Then runs over bad lines, at once: each silence takes a second.
+"""Tests runs of the built program with an emulated part: the messages, output, files and status, the frames sent, and the
+chip at the end. Each run is made over `emu:`, and again over TCP to the served emulator to see its frames. Then runs
+over bad links are made at the same time, because each timeout takes a second.
 
     tests/runs.py [CASE ..]        needs a built program (program.py)
 """
@@ -15,7 +15,7 @@ from cases import chosen, run_cases, same, see
 from line import BadLine
 from program import CHIP_FILE, FRAMES, Room, frame, lines
 
-# where the memories of an ATmega328P begin in its chip file
+# the addresses of an ATmega328P's memories in its chip file
 EEPROM, LFUSE, HFUSE, EFUSE, LOCK = 32_768, 33_792, 33_793, 33_794, 33_795
 
 FUSE_NAMES = ["lfuse", "hfuse", "efuse", "lock"]
@@ -31,7 +31,7 @@ room = Room()
 
 @dataclass
 class Run:
-    """A run, and what it has to come to. The chip is one of FF in which these bytes stand, or None where there is no file."""
+    """A run and its expected outcome. A chip is given by its bytes that are not FF; None means that there is no file."""
 
     words: list
     said: list
@@ -59,14 +59,14 @@ def program_eeprom(number, run):
 
 
 def read_flash(number):
-    """The frames that read 32 kB of flash in blocks of 256 bytes; flash addresses count words."""
+    """Yields the frames that read 32 kB of flash in blocks of 256 bytes; flash addresses count words."""
     for block in range(128):
         yield load_address(number + 2 * block, 128 * block)
         yield frame(number + 2 * block + 1, bytes.fromhex("14010020"))
 
 
 def write_eeprom(number, content, blocks):
-    """The frames that write these blocks of four bytes; block 0 would have this number."""
+    """Yields the frames that write these blocks of four bytes; block 0 would have this number."""
     for block in blocks:
         yield load_address(number + 2 * block, 4 * block)
         yield program_eeprom(number + 2 * block + 1, content[4 * block : 4 * block + 4])
@@ -81,12 +81,12 @@ def leave(number):
 
 
 def page_of(places):
-    """A page of an ATmega328P's flash: FF but for these bytes."""
+    """Returns a page of an ATmega328P's flash: FF except for these bytes."""
     return bytes(places.get(place, 0xFF) for place in range(128))
 
 
 def chip_with(places, size=CHIP_FILE):
-    """A chip file of FF in which these bytes stand."""
+    """Returns a chip file of FF except for these bytes."""
     chip = bytearray(b"\xff" * size)
     for place, content in places.items():
         content = bytes([content]) if isinstance(content, int) else content
@@ -124,7 +124,7 @@ def over_emulator(label, run):
 
 
 def played_over_line(room, run):
-    """What a run over a line answers, and the frames that it sent."""
+    """Makes a run over a link. Returns its outcome, and the frames that it sent."""
     prepare(room, run, "served.bin")
     peer = BadLine(room, run.fates, run.part)
     found = room.run(["-P", f"net:127.0.0.1:{peer.port}", "-p", run.part, *run.words])
@@ -132,7 +132,7 @@ def played_over_line(room, run):
 
 
 def look_over_line(room, label, run, found, sent):
-    """Without a frame the served emulator has saved its chip as it was."""
+    """Checks a run over a link. If it sends no frame, the served emulator saves its chip unchanged."""
     if run.after is None:
         same(f"{label}: nothing is sent", sent, [])
         return
@@ -404,11 +404,11 @@ PARTS = {
     ),
 }
 
-# ---- what is refused sends nothing, and makes no file
+# ---- a refused run sends nothing, and creates no file
 
 
 def refusal(words, told, part="m328p", **files):
-    """A run that would read a fuse first."""
+    """Returns a run that would read a fuse first."""
     files = {name.replace("_", "."): text.encode() for name, text in files.items()}
     words = ["-U", "lfuse:r:out.h:h", *words]
     return Run(words, [f"error: {told}"], 1, part=part, files=files, after=None, written={"out.h": None})
@@ -427,7 +427,7 @@ REFUSALS = {
     "no such part": refusal([], "no part x1", "x1"),
 }
 
-# ---- lines that lose and delay
+# ---- links that lose and delay frames
 
 PATTERN = bytes(place % 256 for place in range(1024))
 
@@ -513,7 +513,7 @@ BAD_LINES = {
 }
 
 
-# ---- lines at the edge: of any seven frames in a row at most three go wrong, or one more
+# ---- links at the limit: of any seven frames in a row at most three fail, or one more
 
 WAYS = ["lost command", "lost answer", "late answer", "spoiled command", "spoiled answer"]
 IMAGE = bytes.fromhex("102132435465768798A9BACBDCEDFE0F")
@@ -521,7 +521,7 @@ PLAIN = "no frame goes wrong"
 
 
 def fates_at(places, count):
-    """Of each so many frames those at these places go wrong, each way in turn."""
+    """Returns the fates of 96 frames: of each `count` frames those at these places fail, each way in turn."""
     return {n + 1: WAYS[n // 3 % len(WAYS)] for n in range(96) if n % count in places}
 
 
@@ -546,16 +546,16 @@ MANY_BAD = {
 
 ALL_BAD = {PLAIN: at_edge({}), **BAD_LINES, **FEW_BAD, **MANY_BAD}
 
-# How many runs over bad lines are made at once. Where the machine is busy, a good answer may come after its second, which
-# makes another bad frame: what comes out otherwise than it should is made again, with fewer beside it.
+# The number of runs over bad links at a time. On a busy machine a good reply may come after the timeout, which makes
+# another bad frame. A run with a wrong outcome is made again, with fewer beside it.
 AT_ONCE = [24, 6, 1]
 
-# those that were made: the room of each, what it answered, and the frames that it sent
+# the runs made: the room of each, its outcome, and the frames that it sent
 made = {}
 
 
 def make(labels):
-    """Makes these runs over bad lines."""
+    """Makes these runs over bad links."""
     for at_once in AT_ONCE:
         with ThreadPoolExecutor(at_once) as pool:
             made.update(zip(labels, pool.map(made_over_bad_line, labels)))
@@ -570,19 +570,19 @@ def is_as_wanted(run, found, sent):
 
 
 def over_bad_line(label):
-    """A run over a bad line. The first makes all that are to be looked at."""
+    """Checks a run over a bad link. The first call makes all chosen runs."""
     if not made:
         make([PLAIN, *(it for it in ALL_BAD if it in chosen(CASES) and it != PLAIN)])
     its_room, found, sent = made[label]
     look_over_line(its_room, label, ALL_BAD[label], found, sent)
     if label in FEW_BAD:
-        # all goes as with no bad frame, but for the frames that go out again
+        # all goes as without bad frames, except for the retried frames
         frames = len(made[PLAIN][-1])
         see(f"{label}: more frames", len(sent) > frames, f"{len(sent)}, and {frames} where {PLAIN}")
 
 
 def made_over_bad_line(label):
-    """A run over a bad line, in a room of its own."""
+    """Makes a run over a bad link, in its own room."""
     its_room = Room()
     return its_room, *played_over_line(its_room, ALL_BAD[label])
 
@@ -594,7 +594,7 @@ def over_both(label, run):
 
 
 def record_ends():
-    """The files of a large flash end as they should."""
+    """The record files of a large flash have the right end."""
     over_emulator("large flash is read as records", MEMORIES["large flash is read as records"])
     see("upper half", room.read("f.hex").endswith(b":020000040002F8\n:0200000055FFAA\n:00000001FF\n"))
     srec = room.read("f.srec")

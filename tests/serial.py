@@ -1,10 +1,10 @@
 #!/usr/bin/env python3
-"""Runs avrstk-serial over pseudo terminals, with an emulated programmer behind them: each word of AVRDUDE that it
-takes, drops or refuses, each hint after a run that failed, boards that are deaf after a reset, vanish, are silent or
-talk, and how it ends at a signal; and the recipes of docs/USAGE for a serial line, as they stand there.
+"""Tests avrstk-serial over pseudo terminals with an emulated programmer behind them. Covers each AVRDUDE option that it
+takes, ignores or refuses, and each hint after a failed run. Covers boards that are deaf after a reset, disappear, don't
+reply or send other data, and signals. Runs the recipes of docs/USAGE for a serial link as they are printed there.
 
-    tests/serial.py [CASE ..]      needs a built program (program.py); of the recipes those that need
-                                   socat or ser2net are left out where these are not installed
+    tests/serial.py [CASE ..]      needs a built program (program.py); recipes with socat or ser2net
+                                   are left out if these are not installed
 """
 
 import array
@@ -49,10 +49,10 @@ def is_open(line):
 
 
 class Board:
-    """An emulated programmer of a part behind a pseudo terminal, as a board whose device resets it when it is opened:
-    it hears nothing for its first `deaf` seconds, and nothing more where nobody called in its first `gone` seconds.
-    With `talk` it has no programmer and prints this text all the time; `vanish` is how many of its answers come before
-    the device is gone; `answer` changes the bytes of each."""
+    """An emulated programmer behind a pseudo terminal, like a board that resets when its device is opened. It ignores the
+    bytes of its first `deaf` seconds, and all later ones if none came until second `gone`. With `talk` it has no
+    programmer and sends this text all the time. The device disappears after `vanish` replies. `answer` changes the
+    bytes of each reply."""
 
     def __init__(self, deaf=0.0, gone=None, part="m328p", talk=None, vanish=None, answer=None, words=()):
         self.deaf, self.gone, self.talk, self.vanish, self.answer = deaf, gone, talk, vanish, answer
@@ -98,7 +98,7 @@ class Board:
                     os.write(self.line, self.answer(answer) if self.answer else answer)
 
     def end(self):
-        """The chip, once the device was closed, which it has to be soon."""
+        """Waits until the device is closed, which must be soon, and returns the chip."""
         if not self.opened:
             self.stopped.set()
         self.thread.join(PATIENCE)
@@ -114,14 +114,14 @@ class Board:
 
 
 def start(words, **more):
-    """avrstk-serial with these words, in the room."""
+    """Starts avrstk-serial with these options, in the room."""
     how = {"cwd": room.folder, "stdin": subprocess.DEVNULL, "stdout": subprocess.PIPE, "stderr": subprocess.PIPE} | more
     how["env"] = os.environ | {"AVRSTK": str(PROGRAM)} | how.get("env", {})
     return subprocess.Popen([sys.executable, str(SCRIPT), *words], **how)
 
 
 def run(words, **more):
-    """Its status, output, the lines of avrstk, and its own."""
+    """Returns its status, output, the lines of avrstk, and its own lines."""
     started = start(words, **more)
     output, told = started.communicate(timeout=PATIENCE)
     own = [it[15:] for it in told.decode().splitlines() if it.startswith("avrstk-serial: ")]
@@ -138,21 +138,21 @@ def wait_until(what):
 
 
 def speed(line):
-    """Both speeds of a pseudo terminal, whose two ends have one set of flags (TCGETS2 has any speed)."""
+    """Returns both speeds of a pseudo terminal, whose ends share one set of flags (TCGETS2 has any speed)."""
     held = array.array("I", bytes(44))
     fcntl.ioctl(line, 0x802C542A, held)
     return held[9], held[10]
 
 
 def run_as_anyone(words, program):
-    """Runs the script as nobody if this is root, who may do all. (A Python that root alone may run doesn't serve.)"""
+    """Runs the script as nobody if this is root, who may do everything. (PYTHON must not be one that only root can run.)"""
     how = {"user": 65534, "group": 65534, "extra_groups": []} if os.geteuid() == 0 else {}
     how |= {"input": SCRIPT.read_bytes(), "capture_output": True, "cwd": "/", "timeout": PATIENCE}
     return subprocess.run([PYTHON, "-", *words], env=os.environ | {"AVRSTK": str(program)}, **how)
 
 
 def terminal():
-    """A pseudo terminal that passes each byte: its line, and the name of its device."""
+    """Returns a pseudo terminal that passes each byte: its file descriptor, and the name of its device."""
     line, slave = pty.openpty()
     tty.setraw(slave)
     device = os.ttyname(slave)
@@ -161,7 +161,7 @@ def terminal():
 
 
 def stand_in(text, folder=None):
-    """A program in Python to be run in the place of avrstk: it is called with the script's port as `port`."""
+    """Writes a Python program to run in place of avrstk; the script's port is its `port`. Returns the environment for it."""
     file = (folder or room.folder) / "stand-in"
     begin = f"#!{PYTHON}\nimport os, socket, sys, time\n"
     port = "port = int(sys.argv[sys.argv.index('-P') + 1].rpartition(':')[2])\n"
@@ -172,7 +172,7 @@ def stand_in(text, folder=None):
 
 @lru_cache
 def emulated(*words, part="m328p"):
-    """The chip that these words leave over `emu:`."""
+    """Returns the chip that these options leave over `emu:`."""
     room.clear()
     room.run(["-p", part, "-P", "emu:wanted.bin", "-qq", *words])
     return room.read("wanted.bin")
@@ -183,15 +183,15 @@ def flashed():
 
 
 def side_by_side(call, given):
-    """What comes of each call, of which some run at once since they wait for silences."""
+    """Returns the outcome of each call. Several run at once, because they wait for timeouts."""
     with ThreadPoolExecutor(8) as lanes:
         return list(lanes.map(call, given))
 
 
 def flashes(words, **board):
-    """Runs these words, with a board's device after -P. Returns the status, the lines of avrstk, whether the chip holds
+    """Runs these options, with a board's device after -P. Returns the status, the lines of avrstk, whether the chip has
     the firmware, and the script's own lines."""
-    # the window of a board that is deaf and gone soon can be missed where the machine is busy, as a person can miss it
+    # on a busy machine a run can miss the short time in which a board replies, as on a real one
     for _ in range(3):
         it = Board(**board)
         status, _, told, own = run([word.replace("DEVICE", it.device) for word in words])
@@ -202,7 +202,7 @@ def flashes(words, **board):
 
 
 def words_of_avrdude():
-    """Words as AVRDUDE has them."""
+    """Tests options in AVRDUDE's forms."""
     flashed()
     room.clear()
     long = "ATmega328P"
@@ -216,9 +216,9 @@ def words_of_avrdude():
         ([*FLASH, "-cstk500v2", "-PDEVICE", "-b115200"], []),
         ([*FLASH, "-v", "-v", "-PDEVICE"], []),
         *(([f"-p{it}", "-PDEVICE", "-Uflash:w:blink.hex:i"], []) for it in [long, long.lower()]),
-        (recipe, ["left out: -C /etc/avrdude.conf"]),
-        ([*FLASH, "-C", "x.conf", "-l", "x.log", "-P", "DEVICE"], ["left out: -C x.conf, -l x.log"]),
-        ([*FLASH, "-us", "-P", "DEVICE"], ["left out: -u, -s"]),
+        (recipe, ["ignored: -C /etc/avrdude.conf"]),
+        ([*FLASH, "-C", "x.conf", "-l", "x.log", "-P", "DEVICE"], ["ignored: -C x.conf, -l x.log"]),
+        ([*FLASH, "-us", "-P", "DEVICE"], ["ignored: -u, -s"]),
         (["--wait", "0", *FLASH, "-P", "DEVICE"], []),
         *(([f"--wait={it}", *FLASH, "-P", "DEVICE"], []) for it in ["2.5", "3"]),
         *(([*FLASH, "-P", "DEVICE", "-b", it], []) for it in ["9600", "74880", "250000", "1000000"]),
@@ -249,7 +249,7 @@ def speed_and_line():
 
 
 def reads():
-    """What is read goes to standard output, and what is written may come from standard input."""
+    """A read goes to standard output, and a write takes standard input."""
     room.clear()
     it = Board()
     status, output, _, own = run(["-p", "m328p", "-P", it.device, "-U", "lfuse:r:-:h"])
@@ -264,7 +264,7 @@ def reads():
 
 
 def boards_that_reset():
-    """A board that is deaf at first, and starts its application soon."""
+    """Tests a board that is deaf at first, and starts its application soon."""
     flashed()
     room.clear()
     longer = ["--wait", "1.5", *FLASH, "-P", "DEVICE"]
@@ -274,7 +274,7 @@ def boards_that_reset():
 
 
 def parts():
-    """The part file that comes with it."""
+    """Tests the part file that comes with it."""
     wanted = emulated("-e", part="t85")
     room.clear()
     it = Board(part="t85")
@@ -305,7 +305,7 @@ def parts():
 
 
 def refused():
-    """What is refused opens no device, and tells why."""
+    """A refused run opens no device, and reports why."""
     note = "nothing was sent, and the device was not opened"
     room.clear()
     room.put("x.elf", b"\x7fELF\x01\x01\x01")
@@ -313,30 +313,30 @@ def refused():
     room.put("empty.hex", b"")
     (room.folder / "gone.hex").symlink_to("nowhere")
     cases = [
-        (["-B", "10"], "-B is not here: the programmer has its own clock"),
-        (["-B10"], "-B is not here"),
-        (["-E", "noreset"], "-E is not here: the pins of a parallel port"),
-        (["-O"], "-O is not here: the oscillator is not calibrated"),
-        (["-i", "10"], "-i is not here: the programmer has its own clock"),
-        (["-t"], "-t is not here"),
-        (["-x", "vtarg=5"], "-x is not here"),
-        (["-y"], "-y is not here: erase cycles are not counted"),
+        (["-B", "10"], "-B is not supported: the programmer has its own clock"),
+        (["-B10"], "-B is not supported"),
+        (["-E", "noreset"], "-E is not supported: the pins of a parallel port"),
+        (["-O"], "-O is not supported: the oscillator is not calibrated"),
+        (["-i", "10"], "-i is not supported: the programmer has its own clock"),
+        (["-t"], "-t is not supported"),
+        (["-x", "vtarg=5"], "-x is not supported"),
+        (["-y"], "-y is not supported: erase cycles are not counted"),
         (["-c", "arduino"], "-c arduino is the bootloader of Uno and Nano"),
         (["-c", "usbasp"], "-c usbasp is a programmer with a protocol of its own"),
         (["-cusbtiny"], "-c usbtiny is a programmer with a protocol of its own"),
         (["-c", "avrispmkII"], "-c avrispmkII is a programmer on USB"),
         (["-c", "buspirate"], "-c buspirate: this speaks STK500v2 only: use avrdude -c buspirate"),
-        (["-b", "0"], "-b 0: no speed"),
-        (["-b", "fast"], "-b fast: no speed"),
-        (["--wait", "soon"], "--wait soon: no number of seconds from 0 to 3"),
-        (["--wait", "4"], "--wait 4: no number of seconds from 0 to 3"),
+        (["-b", "0"], "-b 0: not a speed"),
+        (["-b", "fast"], "-b fast: not a speed"),
+        (["--wait", "soon"], "--wait soon: not a number of seconds from 0 to 3"),
+        (["--wait", "4"], "--wait 4: not a number of seconds from 0 to 3"),
         (["--wait"], "--wait: its value is missing"),
         (["-U"], "-U: its value is missing"),
         (["--serve", "5000"], "--serve is for a programmer without a device"),
         (["-P", "usb"], "-P usb is for programmers without a serial device: use avrdude"),
         (["-p", "m8"], f"-p ? lists the parts; others need a part file (--parts); {note}"),
         (["-U", "nofile"], f"there is no such file; {note}"),
-        (["-U", "flash:w:gone.hex:i"], f"it is a link to a file that is not there; {note}"),
+        (["-U", "flash:w:gone.hex:i"], f"it is a symbolic link to a missing file; {note}"),
         (["-U", "lfuse:w:0xE2"], f"a value needs :m after it, as lfuse:w:0xE2:m; {note}"),
         (["-U", "flash:w:x.elf"], "avr-objcopy"),
         (["-U", "fuse:w:1:m"], "-U fuse:w:1:m: the memories are flash, eeprom, lfuse, "),
@@ -361,11 +361,11 @@ def refused():
 
 
 def ports_of_avrstk():
-    """A port of avrstk goes to it, with the words that are the script's put right; the programmers are listed."""
+    """One of avrstk's own ports goes to avrstk, with the script's options adapted. -c ? lists the programmers."""
     wanted = flashed()
     room.clear()
     words = ["-C", "x.conf", "-c", "wiring", "-b", "9600", "-p", "atmega328p", "-U", "blink.hex"]
-    notes = ["left out: -C x.conf", "blink.hex is read as Intel HEX (:i)"]
+    notes = ["ignored: -C x.conf", "blink.hex is read as Intel HEX (:i)"]
     status, _, told, own = run([*words, "-P", "emu:chip.bin"])
     same("emu:", (status, told, own, room.read("chip.bin") == wanted), (0, lines(*FIRMWARE), notes, True))
     with Server(room) as server:
@@ -378,7 +378,7 @@ def ports_of_avrstk():
 
 
 def devices():
-    """Devices that are not there, or can't be used."""
+    """Tests devices that don't exist, or can't be used."""
     line, slave = pty.openpty()
     device = os.ttyname(slave)
     here = str(room.folder)
@@ -392,7 +392,7 @@ def devices():
         status, _, _, own = run([*FLASH, *words])
         see(f"device {words}", (status, len(own)) == (1, 1) and own[0].startswith(wanted), own)
     os.chmod(device, 0)
-    # (group 5 is `tty`, which has terminals, in every Linux)
+    # (group 5 is `tty`, the owner of terminals, in every Linux)
     cure, belongs = "(often: sudo adduser ", "(its owner is "
     for mode, group, wanted in [(0o660, 5, cure), (0o600, 5, belongs), (0o660, 0, belongs)]:
         if os.geteuid() == 0:
@@ -418,7 +418,7 @@ def devices():
 
 
 def what_is_missing():
-    """What it says where something is missing."""
+    """Tests its messages if something is missing."""
     line, slave = pty.openpty()
     device = os.ttyname(slave)
     status, _, _, own = run(["-p", "m328p", "-P", device], env={"AVRSTK": "/nowhere/avrstk"})
@@ -438,7 +438,7 @@ def what_is_missing():
 
 
 def failing(cases):
-    """Runs what fails: each has a name, words, what its one hint holds, a line of avrstk, and a board. Returns the
+    """Makes runs that fail. Each has a name, options, a part of its one hint, a line of avrstk, and a board. Returns the
     chips."""
     room.clear()
 
@@ -454,7 +454,7 @@ def failing(cases):
 
     chips = []
     for case, found in zip(cases, side_by_side(ran, cases)):
-        # (on a busy machine an answer can come too late: such a run is made again, with none beside it)
+        # (on a busy machine a reply can come too late: such a run is made again, alone)
         for _ in range(2):
             found = found if is_right(case, found) else ran(case)
         name, _, wanted, told, _ = case
@@ -465,7 +465,7 @@ def failing(cases):
 
 
 def programs():
-    """Which program it runs if none is named: the one beside it, and in a clone what ./avrstk runs without building."""
+    """If no program is named, it runs the one beside it, and in a clone the one that ./avrstk runs without building."""
     room.clear()
     folder = room.folder / "clone"
     front, proved, unproved = (folder / it for it in ["avrstk", "crates/avrstk/out/avrstk", "out/unproved/avrstk"])
@@ -502,7 +502,7 @@ def programs():
 
 
 def screen(text):
-    """What stands on a terminal after a text."""
+    """Returns the lines on a terminal after a text."""
     rows, at = [""], 0
     for it in text:
         if it == "\n":
@@ -515,7 +515,7 @@ def screen(text):
 
 
 def on_a_terminal(words, answer=None):
-    """What a terminal gets as standard error, and the status."""
+    """Returns a terminal's text if it is standard error, and the status."""
     it = Board(answer=answer)
     line, slave = pty.openpty()
     started = start([*words, "-P", it.device], stderr=slave)
@@ -532,7 +532,7 @@ def on_a_terminal(words, answer=None):
 
 
 def progress():
-    """A sign of life on a terminal alone, which leaves the lines of messages as they are."""
+    """Only a terminal shows progress, and the message lines stay as they are."""
     flashed()
     room.clear()
     rows = [it.decode() for it in lines(*FIRMWARE).splitlines()]
@@ -559,7 +559,7 @@ def progress():
 
 
 def changes(command, body):
-    """Answers of this command have this body in their place."""
+    """Returns a function that replaces the body of this command's replies."""
 
     def change(answer):
         if answer[5] != command:
@@ -574,7 +574,7 @@ def changes(command, body):
 
 
 def hints():
-    """The hint after each fault."""
+    """Tests the hint after each error."""
     silent = lambda command: {"answer": lambda answer: b"" if answer[5] == command else answer}
     instead = lambda command, *body: {"answer": changes(command, bytes([command, *body]))}
     whole, partly = "the chip is unchanged", "the chip is erased or partly written, and may be held in reset: run the"
@@ -619,7 +619,7 @@ def hints():
 
 
 def signals():
-    """How it ends at a signal."""
+    """Tests how it ends at a signal."""
     for number, reach, wanted in [
         (signal.SIGINT, 0, "ended by SIGINT: the chip is unchanged"),
         (signal.SIGINT, 0x13, "ended by SIGINT: the chip is erased or partly written, and may be held in reset: run"),
@@ -649,7 +649,7 @@ def signals():
 
 
 def cut_lines():
-    """A line of avrstk that a signal cuts has an end before the script's own."""
+    """If a signal cuts a line of avrstk, the script ends that line before its own."""
     room.clear()
     halts = room.folder / "halts"
     halts.write_text("#!/bin/sh\nprintf 'avrstk: error: ' >&2\n: >told\nexec sleep 60\n")
@@ -665,12 +665,12 @@ def cut_lines():
     os.close(line)
 
 
-# what a stand-in does that calls, and stays until it hears its byte again
+# a stand-in that calls, sends a byte, and waits until it receives a byte
 CALLS = "line = socket.create_connection(('127.0.0.1', port))\nline.sendall(b'x')\nline.recv(1)\n"
 
 
 def echo(line):
-    """Once the device is opened gives back one byte. The list gets the speed then."""
+    """Sends back one byte once the device is opened. The returned list gets the speed at that time."""
     speeds = []
 
     def live():
@@ -684,7 +684,7 @@ def echo(line):
 
 
 def closed_streams():
-    """What is printed never goes to the board, and a run whose messages can't be printed goes on to its end."""
+    """Messages never go to the board. If they can't be printed, the run goes on to its end."""
     wanted = flashed()
     room.clear()
     for closed in ["2>&-", "0<&- 2>&-", "1>&- 2>&-", "2>/dev/full"]:
@@ -702,7 +702,7 @@ def closed_streams():
 
 
 def messages_that_nobody_reads():
-    """A pipe that is closed after the first line, or full, doesn't hold up the run."""
+    """A pipe that is closed after the first line, or full, doesn't block the run."""
     wanted = flashed()
     room.clear()
     it = Board()
@@ -729,7 +729,7 @@ def messages_that_nobody_reads():
 
 
 def one_run_at_a_time():
-    """A second run over a device is refused and changes nothing of it, also for root; one after the other isn't."""
+    """A second run over a device is refused and doesn't change its settings, also for root. Runs in turn are accepted."""
     room.clear()
     line, device = terminal()
     fake = stand_in(CALLS)
@@ -755,7 +755,7 @@ def one_run_at_a_time():
 
 
 def settings_that_are_kept():
-    """After a run the device has the settings that it had."""
+    """After a run the device has its old settings."""
     room.clear()
     line, device = terminal()
     kept = os.open(device, os.O_RDWR | os.O_NOCTTY)
@@ -774,7 +774,7 @@ def settings_that_are_kept():
 
 
 def devices_that_go():
-    """A device that goes while its board is left alone."""
+    """Tests a device that disappears while the script waits for its board."""
     room.clear()
     line, device = terminal()
     started = start([*FLASH, "-P", device, "--wait", "1"])
@@ -788,11 +788,11 @@ def devices_that_go():
 
 
 def strangers():
-    """Another program of the machine that calls the script's port first hears nothing of the board."""
+    """If another program of the machine calls the script's port first, it receives nothing from the board."""
     wanted = flashed()
     room.clear()
     it = Board()
-    # (a program that avrstk is started by may stay beside it)
+    # (the program that starts avrstk may keep running beside it)
     late = f"while not os.path.exists('go'):\n    time.sleep(0.01)\nimport subprocess\n"
     late += f"sys.exit(subprocess.call(['{PROGRAM}', *sys.argv[1:]]))\n"
     fake = stand_in("open('port', 'w').write(str(port) + '\\n')\n" + late)
@@ -804,7 +804,7 @@ def strangers():
             heard = stranger.recv(100)
         except ConnectionResetError:
             heard = b""
-    same("the stranger hears", heard, b"")
+    same("the stranger receives", heard, b"")
     room.put("go", b"")
     _, told = started.communicate(timeout=PATIENCE)
     line = b"avrstk-serial: another program called the port of this run, and was refused\n"
@@ -812,7 +812,7 @@ def strangers():
 
 
 def names_and_interrupts():
-    """Control bytes and bytes that are not UTF-8, and Ctrl-C before there is a run."""
+    """Tests names with control bytes and bytes that are not UTF-8, and Ctrl-C before a run."""
     for device, shown in [
         (b"/dev/\xff\xc3\xa9", "/dev/\\xff\u00e9"),
         ("/dev/\x1b[31m\nx\x7f\u009b".encode(), "/dev/\\x1b[31m\\x0ax\\x7f\\xc2\\x9b"),
@@ -821,7 +821,7 @@ def names_and_interrupts():
         _, told = started.communicate(timeout=PATIENCE)
         wanted = f"avrstk-serial: {shown}: there is no such device (is the cable in?)\n".encode()
         same(f"the name {device}", (started.returncode, told), (1, wanted))
-    # a module of this name is loaded in the place of Python's, and is where Ctrl-C comes
+    # this module is loaded in place of Python's own, and sends Ctrl-C
     modules = room.folder / "modules"
     modules.mkdir()
     (modules / "glob.py").write_text("import os, signal, time\nos.kill(os.getpid(), signal.SIGINT)\ntime.sleep(1)\n")
@@ -832,7 +832,7 @@ def names_and_interrupts():
 
 
 def recipe(begin):
-    """The command of docs/USAGE that begins so."""
+    """Returns the command of docs/USAGE with this beginning."""
     found = re.findall(rf"^ {{4,}}({re.escape(begin)}.*)$", (TOP / "docs/USAGE.md").read_text(), re.M)
     if len(found) != 1:
         raise SystemExit(f"docs/USAGE has {len(found)} commands that begin with '{begin}'")
@@ -840,7 +840,7 @@ def recipe(begin):
 
 
 def typed(command, device, port=0):
-    """A command as it is typed here: with this device, port, firmware, and the programs of this repository."""
+    """Starts a command with this device, port and firmware, and with the programs of this repository."""
     tools = room.folder / "bin"
     if not tools.exists():
         tools.mkdir()
@@ -854,14 +854,14 @@ def typed(command, device, port=0):
 
 
 def ended(started):
-    """The status and the tool's own messages of a run."""
+    """Returns the status and the tool's own messages of a run."""
     _, messages = started.communicate(timeout=PATIENCE)
     told = b"".join(it for it in messages.splitlines(True) if not re.match(rb"\d{4}/\d\d/\d\d .* socat\[", it))
     return started.returncode, told
 
 
 def wait_for(port):
-    """Waits until somebody listens, without a call."""
+    """Waits until a process listens at the port, without a call."""
     mark = f" 0100007F:{port:04X} 00000000:0000 0A "
     wait_until(lambda: mark in Path("/proc/net/tcp").read_text())
 
@@ -877,12 +877,12 @@ def recipe_of_the_script():
     it = Board(part="m2560")
     status, told = ended(typed(recipe("avrstk-serial -C/etc/avrdude.conf"), it.device))
     told = told.decode().splitlines()
-    see("the recipe of an IDE", status == 0 and told[0] == "avrstk-serial: left out: -C /etc/avrdude.conf", told)
+    see("the recipe of an IDE", status == 0 and told[0] == "avrstk-serial: ignored: -C /etc/avrdude.conf", told)
     see("the chip then", it.end() == firmware)
 
 
 def recipe_of_a_plain_bridge():
-    """socat alone, which opens the device when the tool calls: too late for a board that resets then."""
+    """Tests socat alone. It opens the device when the tool calls: too late for a board that resets then."""
     if not shutil.which("socat"):
         return leave_out("the recipes with socat", "socat is not installed")
     firmware = flashed()

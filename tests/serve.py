@@ -1,5 +1,5 @@
 #!/usr/bin/env python3
-"""Runs avrstk-serve: clients one after another, such as send nothing, reset the connection or are idle, and how it ends.
+"""Tests avrstk-serve: clients in turn, clients that send nothing, reset the connection or are idle, and how it ends.
 
     tests/serve.py [CASE ..]        needs a built program (program.py)
 """
@@ -24,13 +24,13 @@ room = Room()
 
 
 class Serving:
-    """The script with these words at a port of its own, once it listens; its messages are in a file."""
+    """The script with these options at a port of its own, once it listens. Its messages are in a file."""
 
     def __init__(self, *words, port="0", chip=M328P):
         self.messages = room.folder / "messages"
         with self.messages.open("wb") as messages:
             how = {"stdin": subprocess.DEVNULL, "stdout": subprocess.PIPE, "stderr": messages, "cwd": room.folder}
-            # (a group of its own, as a shell makes one)
+            # (a process group of its own, as from a shell)
             command = [SCRIPT, port, *chip, *words]
             self.started = subprocess.Popen(command, env=environment(), start_new_session=True, **how)
         self.said = self.started.stdout.readline()
@@ -40,12 +40,12 @@ class Serving:
         return socket.create_connection(("127.0.0.1", self.port), PATIENCE)
 
     def writes_fuse(self, value):
-        """The status and messages of a client that writes the low fuse."""
+        """Returns the status and messages of a client that writes the low fuse."""
         status, _, messages = room.run(["-p", "m328p", "-P", f"net:127.0.0.1:{self.port}", "-U", f"lfuse:w:{value}:m"])
         return status, messages
 
     def end(self, *numbers, group=False):
-        """Its status and messages after these signals, and that no run is left."""
+        """Sends these signals and returns its status and messages. Checks that no run is left."""
         for number in numbers or [signal.SIGTERM]:
             (os.killpg if group else os.kill)(self.started.pid, number)
         status = self.started.wait(timeout=PATIENCE)
@@ -68,7 +68,7 @@ def environment():
 
 
 def runs():
-    """The runs of the program in the room."""
+    """Returns the runs of the program in the room."""
     found = []
     for it in Path("/proc").glob("[0-9]*"):
         try:
@@ -88,13 +88,13 @@ def wait_for(seen):
 
 
 def fuse():
-    """The low fuse of the chip file; None where there is none."""
+    """Returns the low fuse of the chip file; None if there is no file."""
     chip = room.read("chip.bin")
     return chip[LFUSE] if chip else None
 
 
 def heard(client, count):
-    """So many bytes from a connection, or those up to its end."""
+    """Returns `count` bytes from a connection, or fewer at its end."""
     found = b""
     while len(found) < count and (piece := client.recv(count - len(found))):
         found += piece
@@ -102,16 +102,16 @@ def heard(client, count):
 
 
 def begins(client):
-    """A session that has been opened and stays open."""
+    """Sends SIGN_ON, and returns whether its reply came."""
     client.sendall(FRAMES[0])
     return heard(client, ENDS[0]) == ANSWERS[: ENDS[0]]
 
 
 def listens():
-    """It says where it listens, at a port that is given or at any."""
+    """It prints its port: a given one, or any free one."""
     room.clear()
     with Serving() as it:
-        same("what it says", it.said, f"serving at 127.0.0.1:{it.port}\n".encode())
+        same("its line", it.said, f"serving at 127.0.0.1:{it.port}\n".encode())
         for value in [0x60, 0x61, 0x62]:
             same(f"fuse {value}", it.writes_fuse(value)[0], 0)
             wait_for(lambda: fuse() == value)
@@ -134,13 +134,13 @@ def listens():
 
 
 def clients_that_send_nothing():
-    """A client that only connects starts no run and keeps nobody waiting, before, while and after another is served."""
+    """A client that only connects starts no run and delays no other client, before, while or after that one is served."""
     room.clear()
     with Serving() as it:
         for _ in range(100):
             it.call().close()
         silent = [it.call() for _ in range(100)]
-        # (once a later client is served these were seen)
+        # (a later client is served only after the server has seen these)
         same("a client after them", it.writes_fuse(0x60)[0], 0)
         wait_for(lambda: fuse() == 0x60)
         with it.call() as client:
@@ -165,7 +165,7 @@ def clients_that_send_nothing():
 
 
 def one_after_another():
-    """A client waits until the one before it has hung up, and finds its chip."""
+    """A client waits until the one before it has hung up, and gets the chip that it left."""
     room.clear()
     with Serving() as it:
         first = it.call()
@@ -185,18 +185,18 @@ def one_after_another():
 
 
 def half_closed():
-    """A client that has hung up its side gets all answers."""
+    """A client that has closed its sending side gets all replies."""
     room.clear()
     with Serving() as it, it.call() as client:
         client.sendall(b"".join(FRAMES))
         client.shutdown(socket.SHUT_WR)
-        same("the answers", heard(client, 1000), ANSWERS)
+        same("the replies", heard(client, 1000), ANSWERS)
         wait_for(lambda: room.read("chip.bin") is not None)
         same("the messages", it.end(), (0, ""))
 
 
 def clients_that_reset():
-    """Each second client resets the connection in the middle of a session, and the others get what they want."""
+    """Each second client resets the connection in the middle of a session, and the others are served."""
     room.clear()
     with Serving() as it:
         for value in range(0x60, 0x68):
@@ -209,7 +209,7 @@ def clients_that_reset():
 
 
 def a_chip_in_use():
-    """A client whose chip another run has hears the end, and the next one is served."""
+    """If another run holds the chip, the client's connection is closed, and the next client is served."""
     room.clear()
     os.mkfifo(room.folder / "pipe")
     with Serving() as it:
@@ -217,7 +217,7 @@ def a_chip_in_use():
         holder.stderr.readline()
         with it.call() as client:
             client.sendall(FRAMES[0])
-            same("the end is heard", heard(client, 1), b"")
+            same("the connection is closed", heard(client, 1), b"")
         holder.kill()
         holder.communicate()
         same("the next client", it.writes_fuse(0x65)[0], 0)
@@ -225,7 +225,7 @@ def a_chip_in_use():
 
 
 def idle_clients():
-    """A client that is idle is hung up on if that was asked for, and its chip is saved."""
+    """With --idle the server hangs up on an idle client, and its chip is saved."""
     room.clear()
     with Serving("--idle", "0.4") as it:
         with it.call() as silent, it.call() as client:
@@ -233,7 +233,7 @@ def idle_clients():
             for _ in range(4):
                 time.sleep(0.2)
                 see("one that isn't idle is served on", begins(client))
-            same("an idle one hears the end", client.recv(1), b"")
+            same("the connection of an idle one is closed", client.recv(1), b"")
             same("and one that has sent nothing", silent.recv(1), b"")
         see("the chip is saved", len(room.read("chip.bin") or b"") == CHIP_FILE)
         same("the next client", it.writes_fuse(0x60)[0], 0)
@@ -255,48 +255,48 @@ def programs_fuse(number, value):
 
 
 def ends_at_a_signal():
-    """It ends with status 0 at a signal, wherever it is: what its client did is saved, and no run is left."""
+    """At a signal it ends with status 0, whatever it is doing. Its client's changes are saved, and no run is left."""
     # (a terminal sends Ctrl-C to the whole group)
     for number, group in [(signal.SIGTERM, False), (signal.SIGINT, True), (signal.SIGHUP, False)]:
         name = number.name
         room.clear()
         with Serving() as it:
-            same(f"{name}: nobody is there", it.end(number, group=group), (0, ""))
+            same(f"{name}: no client is there", it.end(number, group=group), (0, ""))
         with Serving() as it, it.call():
             same(f"{name}: a silent client", it.end(number, group=group), (0, ""))
         same(f"{name}: no chip is made", room.read("chip.bin"), None)
         with Serving() as it, it.call() as client:
             for frame in [*FRAMES[:2], programs_fuse(3, 0x63)]:
                 client.sendall(frame)
-                see(f"{name}: an answer", heard(client, 6)[:1] == b"\x1b")
+                see(f"{name}: a reply", heard(client, 6)[:1] == b"\x1b")
                 client.recv(100)
             same(f"{name}: a session", it.end(number, group=group), (0, ""))
-            same(f"{name}: its client hears the end", client.recv(1), b"")
+            same(f"{name}: its client's connection is closed", client.recv(1), b"")
         same(f"{name}: its chip is saved", fuse(), 0x63)
         with Serving() as it, it.call() as client:
             client.sendall(FRAMES[0] * 2_000)
-            same(f"{name}: a client that takes no answers", it.end(number, group=group)[0], 0)
+            same(f"{name}: a client that takes no replies", it.end(number, group=group)[0], 0)
     with Serving() as it, it.call() as client:
         see("a session", begins(client))
         same("three signals at once", it.end(signal.SIGINT, signal.SIGTERM, signal.SIGHUP, group=True)[0], 0)
 
 
 def refused():
-    """What is wrong is told before it listens, with status 1."""
+    """It reports errors before it listens, and ends with status 1."""
     room.clear()
     taken = kept_port()
     taken.listen()
     rows = [
         ([], 0, ""),
         (["--help"], 0, ""),
-        (["x", *M328P], 1, "avrstk-serve: x: no port from 0 to 65535\n"),
-        (["65536", *M328P], 1, "avrstk-serve: 65536: no port from 0 to 65535\n"),
+        (["x", *M328P], 1, "avrstk-serve: x: not a port from 0 to 65535\n"),
+        (["65536", *M328P], 1, "avrstk-serve: 65536: not a port from 0 to 65535\n"),
         (["-1", *M328P], 1, "avrstk-serve: option -1 not recognized\n"),
         (M328P, 1, "avrstk-serve: one port is needed: avrstk-serve PORT -p PART --chip FILE\n"),
         (["0", "5000", *M328P], 1, "avrstk-serve: one port is needed: avrstk-serve PORT -p PART --chip FILE\n"),
         ([str(port_of(taken)), *M328P], 1, f"avrstk-serve: port {port_of(taken)}: Address already in use\n"),
-        (["0", *M328P, "--idle", "0"], 1, "avrstk-serve: --idle 0: no number of seconds\n"),
-        (["0", *M328P, "--idle", "a"], 1, "avrstk-serve: --idle a: no number of seconds\n"),
+        (["0", *M328P, "--idle", "0"], 1, "avrstk-serve: --idle 0: not a number of seconds\n"),
+        (["0", *M328P, "--idle", "a"], 1, "avrstk-serve: --idle a: not a number of seconds\n"),
         (["0", *M328P, "-e"], 1, "avrstk-serve: option -e not recognized\n"),
         (["0", "--chip", "chip.bin"], 1, "avrstk: error: no part given (-p)\n"),
         (["0", "-p", "m328p"], 1, "avrstk: error: no chip file given (--chip)\n"),
@@ -308,7 +308,7 @@ def refused():
         how = {"cwd": room.folder, "env": environment(), "capture_output": True, "text": True, "timeout": PATIENCE}
         ran = subprocess.run([SCRIPT, *words], **how)
         same(f"{words}: the status", ran.returncode, status)
-        see(f"{words}: what is told", ran.stderr == told if told is not None else ran.stderr.count("\n") == 1, ran.stderr)
+        see(f"{words}: its messages", ran.stderr == told if told is not None else ran.stderr.count("\n") == 1, ran.stderr)
         see(f"{words}: it doesn't serve", "serving at 127.0.0.1:" not in ran.stdout.replace("`serving at", ""), ran.stdout)
     taken.close()
     for closed, status in [(">&-", 1), (">/dev/full", 1), ("<&- 2>&-", 0)]:
@@ -326,7 +326,7 @@ def refused():
 
 
 def installed():
-    """Beside an installed program it finds that, and its part file."""
+    """If it is installed, it finds the program beside it, and the installed part file."""
     room.clear()
     (room.folder / "bin").mkdir()
     (room.folder / "share/avrstk").mkdir(parents=True)

@@ -1,5 +1,5 @@
 #!/usr/bin/env bash
-# Installs what the scripts compare with and would leave out (Debian's packages), where this is root and apt-get is here.
+# Installs the Debian packages of the tools that the scripts compare with, if this is root and apt-get is installed.
 set -u
 packages=(
     gcc libc6-dev avrdude srecord gcc-avr binutils-avr avr-libc python3-intelhex simavr libsimavr-dev libelf-dev
@@ -10,12 +10,12 @@ for it in "${packages[@]}"; do
     dpkg-query -W -f '${Status}\n' "$it" 2>/dev/null | grep -q '^install ok installed$' || lacking+=("$it")
 done
 [ ${#lacking[@]} -gt 0 ] || exit 0
-echo "lacking: ${lacking[*]}"
+echo "missing: ${lacking[*]}"
 if [ "$(id -u)" != 0 ] || ! command -v apt-get >/dev/null; then
-    echo "left as it is: apt-get, as root, would install them"
+    echo "nothing was installed: that needs root and apt-get"
     exit 0
 fi
 export DEBIAN_FRONTEND=noninteractive
 install() { apt-get install -y -q --no-install-recommends "${lacking[@]}" </dev/null; }
-# (the lists may be old, or not there)
+# (the package lists may be old or missing)
 install >/dev/null 2>&1 || { apt-get update -q && install; }

@@ -1,6 +1,6 @@
 #!/usr/bin/env python3
-"""Takes crates into other repositories by tools/vendor.sh, and builds a crate there that stands on them; `proof`, where
-it is named, proves it too, which takes minutes where rt ci has not proved the same files on this machine.
+"""Copies crates into other repositories by tools/vendor.sh, and builds a crate there that uses them. The case `proof`, which
+runs only if named, proves that crate too. That takes minutes if rt ci has not proved the same files on this machine.
 
     tests/vendor.py [CASE ..]
 """
@@ -20,14 +20,14 @@ FOREIGN = "serial_patch"
 
 
 def line_of(name, top=TOP):
-    """The line of a crate in a repository's crates.txt."""
+    """Returns the line of a crate in a repository's crates.txt."""
     lines = (top / "crates.txt").read_text().splitlines()
     return next((it for it in lines if it.split(":")[0] == name), None)
 
 
 @contextmanager
 def repository():
-    """The top of a repository that has nothing."""
+    """Makes an empty repository and yields its top folder."""
     with tempfile.TemporaryDirectory() as folder:
         top = Path(folder) / "another one"
         top.mkdir()
@@ -36,19 +36,19 @@ def repository():
 
 
 def vendor(*words):
-    """Runs the script: its status, and what it prints."""
+    """Runs the script and returns its status and output."""
     ran = subprocess.run([TOP / "tools/vendor.sh", *words], stdout=subprocess.PIPE, stderr=subprocess.STDOUT, text=True)
     return ran.returncode, ran.stdout
 
 
 def files(top):
-    """Each file of a repository, with its bytes."""
+    """Returns each file of a repository, with its bytes."""
     paths = [it for it in sorted(top.rglob("*")) if it.is_file() and ".git" not in it.parts]
     return {str(it.relative_to(top)): it.read_bytes() for it in paths}
 
 
 def copied(top, *crates):
-    """Whether these crates, and no other, are there as they are here, with their lines."""
+    """Checks that exactly these crates are there, identical to those here, with their lines."""
     same("crates", sorted(it.name for it in (top / "crates").iterdir()), sorted(crates))
     for name in crates:
         here = {it: text for it, text in files(TOP / "crates" / name).items() if it.split("/")[0] in PARTS}
@@ -94,10 +94,10 @@ def refusals():
         changed.write_text(changed.read_text() + "// changed\n")
         before = files(top)
         refused = [
-            (("avr_records", top), f"{top}/crates/avr_image differs: remove it to have it anew"),
+            (("avr_records", top), f"{top}/crates/avr_image differs: remove it to copy it again"),
             (("avrstk", top), "avrstk is a program, which no crate can name"),
             (("avr_nothing", top), "no crate is named avr_nothing"),
-            (("avr_image", top / "nowhere"), f"{top}/nowhere is no folder"),
+            (("avr_image", top / "nowhere"), f"{top}/nowhere is not a folder"),
             (("avr_image", TOP), f"{TOP} is this repository"),
             (("avr_image",), "usage: tools/vendor.sh CRATE.. FOLDER"),
         ]
@@ -112,7 +112,7 @@ def refusals():
 
 @contextmanager
 def foreign():
-    """A crate of another repository over crates of this one."""
+    """Makes a repository with a crate of its own that uses crates of this one."""
     with repository() as top:
         below = [it for it in line_of(FOREIGN).split(":")[1].split() if line_of(it)]
         status, text = vendor(*below, top)

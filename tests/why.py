@@ -1,7 +1,7 @@
 #!/usr/bin/env python3
-"""Runs examples/lossy/compare.py and holds the table of docs/WHY to what it prints.
+"""Runs examples/lossy/compare.py and compares the table of docs/WHY with its output.
 
-    tests/why.py        needs a built program (program.py); AVRDUDE 7.1, or its rows are left out
+    tests/why.py        needs a built program (program.py); rows with AVRDUDE 7.1 are left out without it
 """
 
 import os
@@ -13,12 +13,12 @@ from program import PROGRAM, TOP, has_avrdude
 
 
 def rows(text):
-    """The rows of a table."""
+    """Returns the rows of a table."""
     return [it for it in text.splitlines() if it.startswith("| ") and not it.startswith(("| ---", "| The line"))]
 
 
 def table_is_printed():
-    """Each row of the table is printed, and no other."""
+    """Checks that exactly the rows of the table are printed."""
     wanted = rows((TOP / "docs/WHY.md").read_text())
     how = {"capture_output": True, "text": True, "env": os.environ | {"AVRSTK": str(PROGRAM)}, "timeout": PATIENCE}
     ran = subprocess.run([TOP / "examples/lossy/compare.py"], **how)

@@ -1,14 +1,14 @@
 #!/usr/bin/env bash
-# Makes Debian packages, and an archive for other systems, of what install.sh installs: of the program that AVRSTK names,
-# or the one that is there. If it isn't the proved one, its version ends with ~unproved, and its description says so.
+# Makes Debian packages, and an archive for other systems, of what install.sh installs. The program is the one that
+# AVRSTK names, or the built one. If it isn't proved, its version ends with ~unproved, and its description states that.
 #
 #     tools/package.sh [--with-c] FOLDER
 #
-# FOLDER gets avrstk_VERSION_ARCH.deb and avrstk-VERSION-MACHINE.tar.xz. With --with-c the library for C, which is always
-# proved, is in libavr-recordsN_VERSION_ARCH.deb and libavr-records-dev_VERSION_ARCH.deb.
+# FOLDER gets avrstk_VERSION_ARCH.deb and avrstk-VERSION-MACHINE.tar.xz. With --with-c, libavr-recordsN_VERSION_ARCH.deb
+# and libavr-records-dev_VERSION_ARCH.deb contain the library for C, which is always proved.
 #
-# The same commit and program make the same packages, to the byte, wherever that is done (by the same dpkg-deb and xz).
-# Needed: git, rt of Rattle's kit, dpkg-dev, binutils, xz.
+# The packages are reproducible: the same commit, program, dpkg-deb and xz make the same bytes on every machine.
+# Needs git, rt of Rattle's kit, dpkg-dev, binutils, xz.
 set -euo pipefail
 umask 022
 export LC_ALL=C TZ=UTC
@@ -36,7 +36,7 @@ folder=$(cd "$1" && pwd)
 named=${AVRSTK:-$("$top/avrstk" --which)}
 program=$(readlink -e "$named") || fail "$named is not there"
 
-# what it rests on
+# the commit, the kit and the version that the packages name
 in_git() { git -C "$top" "$@"; }
 commit=$(in_git rev-parse HEAD)
 [ -z "$(in_git status --porcelain --untracked-files=no)" ] || commit+=", with changes since"
@@ -45,7 +45,7 @@ maintainer=$(in_git log -1 --format='%an <%ae>')
 SOURCE_DATE_EPOCH=${SOURCE_DATE_EPOCH:-$(in_git log -1 --format=%ct)}
 export SOURCE_DATE_EPOCH
 release=$(cat "$top/VERSION")
-# (examples/c/build.sh says what the number is)
+# (examples/c/build.sh explains the number)
 number=${release%%.*}
 [ "$number" != 0 ] || number=${release%.*}
 proved="Its behaviour is proved, by $kit."
@@ -56,7 +56,7 @@ mark=""
 if [ "$program" != "$top/crates/avrstk/out/avrstk" ] || [ "$("$top/avrstk" --which 2>/dev/null)" != "$program" ]; then
     proof="UNPROVED: this build was compiled without its proofs, by $kit. Nothing of it was proved."
     mark=" (unproved build)"
-    # (a proved package is newer than it)
+    # (dpkg takes a proved package of the same version as newer)
     version+="~unproved"
 fi
 arch=$(dpkg --print-architecture)
@@ -65,7 +65,7 @@ work=$(mktemp -d)
 trap 'rm -rf "$work"' EXIT
 all=$work/all
 
-# Writes a package's description: a line, and paragraphs in lines that are not too long.
+# Prints a package's description: a line, and paragraphs wrapped at 76 characters.
 described() {
     echo "Description: $1"
     shift
@@ -78,7 +78,7 @@ described() {
     done
 }
 
-# Puts the documents of a package of this version and proof below a folder.
+# Writes a package's documents, with its version and proof, under a folder.
 document() {
     local docs=$2/usr/share/doc/$1 version=$3 proof=$4
     mkdir -p "$docs"
@@ -108,14 +108,14 @@ proof: $proof
 END
 }
 
-# The packages of the shared libraries that these files are linked with, and their versions.
+# Prints the packages of the shared libraries that these files are linked with, and their versions.
 shared_by() {
     mkdir -p "$work/shlibs/debian"
     printf 'Source: avrstk\n\nPackage: avrstk\nArchitecture: any\n' >"$work/shlibs/debian/control"
     (cd "$work/shlibs" && dpkg-shlibdeps -O "${@/#/-e}") | sed -n 's/^shlibs:Depends=//p'
 }
 
-# Makes the package of this name and version of the files below a folder, with the fields that are read.
+# Makes a package of the files under a folder. The other control fields come from standard input.
 package() {
     local name=$1 root=$2 version=$3 control=$2/DEBIAN
     mkdir -p "$control"
@@ -133,7 +133,7 @@ package() {
     echo "made $folder/${name}_${version}_$arch.deb"
 }
 
-# Gives all that is below a folder the time of the commit.
+# Sets the time of all files under a folder to that of the commit.
 touched() {
     find "$1" -exec touch -h -d "@$SOURCE_DATE_EPOCH" {} +
 }
@@ -173,7 +173,7 @@ $(described "Intel HEX and S-records for C, to develop with" \
 END
 fi
 
-# (the archive can be unpacked below any prefix)
+# (the archive can be unpacked under any prefix)
 name=avrstk-$version-$(uname -m)
 mkdir "$work/$name"
 cp -a "$all/usr/." "$work/$name"

@@ -1,13 +1,13 @@
 #!/usr/bin/env python3
-"""Renames a definition wherever it is meant, and nowhere else.
+"""Renames a definition in every file that uses it, and nowhere else.
 
     tools/rename.py CRATE FILE OLD NEW    the definition OLD of crates/CRATE/specs/FILE.antt (or proofs/FILE, with
                                           proofs/ in front) becomes NEW
 
-It goes by imports: the word is changed in the file that defines it, in each definition, proof, contract and wrong body
-whose file imports it from there (or whose source does, for a wrong body), and after the name under which a file
-imports the whole module. A file that has the word from elsewhere too is refused, and nothing is changed then. Where
-documents and READMEs have the word it is printed, as only a reader knows which one is meant.
+It follows imports. The name changes in the file that defines it, and in each definition, proof and contract whose file
+imports it from there. In a mutant it changes if the mutant's source imports it. It also changes after the name under
+which a file imports the whole module. If a file has the same name from another module too, nothing is changed.
+Documents and READMEs are not changed: the lines with the name are printed for a reader to check.
 """
 
 import re
@@ -17,7 +17,7 @@ from pathlib import Path
 
 TOP = Path(__file__).resolve().parent.parent
 IMPORT = re.compile(r"\s*(?:pub |ghost )*use ")
-# what may stand in a name
+# the characters of a name
 PART = r"[\w'◌]"
 
 
@@ -27,12 +27,12 @@ def known_files(*patterns):
 
 
 def word(name):
-    """The name as a whole word; a hyphen makes another one of it."""
+    """Returns a pattern for the name as a whole word; a hyphenated word is another name."""
     return re.compile(rf"(?<!{PART})(?<!{PART}-){re.escape(name)}(?!{PART})(?!-{PART})")
 
 
 class Renaming:
-    """One definition, by its module and its old and new names."""
+    """One definition: its module, its old name and its new name."""
 
     def __init__(self, crate, file, old, new):
         folder, _, stem = file.rpartition("/")
@@ -41,7 +41,7 @@ class Renaming:
         self.old, self.new = old, new
 
     def names_in(self, text):
-        """The names under which a file has the definition: its own, or after the name of the whole module."""
+        """Returns the names under which a file has the definition: its own, or qualified by the whole module's name."""
         found = set()
         for listed in re.findall(rf"{re.escape(self.module)}\.\{{([^}}]*)\}}", text):
             if self.old in [it.split(" as ")[0].strip() for it in listed.split(",")]:
@@ -52,7 +52,7 @@ class Renaming:
         return found
 
     def has_another(self, text):
-        """Whether a file imports the same word from another module, or defines it."""
+        """Whether a file imports the same name from another module, or defines it."""
         others = re.findall(r"Rattle\.([\w.]+)\.\{([^}]*)\}", text)
         elsewhere = any(
             self.old in [it.split(" as ")[-1].strip() for it in listed.split(",")] and f"Rattle.{module}" != self.module
@@ -64,8 +64,8 @@ class Renaming:
         return "\n".join(self.renamed_line(line, names) for line in text.split("\n"))
 
     def renamed_line(self, line, names):
-        """In a comment it is the definition only where it is marked as code, and in an import among what is imported
-        from its module."""
+        """Renames in one line. In a comment only names marked as code change; in an import, only those imported from
+        the definition's module."""
         if IMPORT.match(line):
             path, brace, listed = line.partition("{")
             return path + brace + word(self.old).sub(self.new, listed) if f"{self.module}." in path else line
@@ -79,7 +79,7 @@ class Renaming:
 
 
 def changes(it):
-    """The new text of each file that is changed, by its path."""
+    """Returns the new text of each changed file, by its path, and what is refused."""
     new, refused = {}, []
     for file in known_files("crates/*.antt", "crates/*.rt"):
         text = file.read_text()
@@ -112,7 +112,7 @@ def main():
     for file in known_files("*.md"):
         for number, line in enumerate(file.read_text().splitlines(), 1):
             if word(it.old).search(line):
-                print(f"to be looked at: {file.relative_to(TOP)}:{number}")
+                print(f"check: {file.relative_to(TOP)}:{number}")
 
 
 if __name__ == "__main__":

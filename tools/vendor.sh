@@ -1,12 +1,12 @@
 #!/usr/bin/env bash
-# Copies libraries of this repository, with all that they stand on, into another repository, where a crate's line of
-# crates.txt can then name them.
+# Copies libraries of this repository, with all their dependencies, into another repository. Its crates.txt can then name
+# them.
 #
 #     tools/vendor.sh CRATE.. FOLDER
 #
-# FOLDER is the top of the other repository. Of each crate its src, specs, proofs and README.md are copied, and its line
-# of crates.txt is added there, in a file that is made where there is none. What is there already and is the same stays;
-# where a crate or its line is there and differs, nothing is done at all.
+# FOLDER is the top of the other repository. For each crate, src, specs, proofs and README.md are copied, and its line is
+# added to crates.txt there; the file is created if needed. Identical crates stay as they are. If an existing crate or its
+# line differs, nothing is changed at all.
 set -euo pipefail
 export LC_ALL=C
 
@@ -20,23 +20,23 @@ refuse() {
 
 [ $# -ge 2 ] && [[ $1 != -* ]] || refuse "usage: tools/vendor.sh CRATE.. FOLDER"
 folder=${*: -1}
-[ -d "$folder" ] || refuse "$folder is no folder"
+[ -d "$folder" ] || refuse "$folder is not a folder"
 folder=$(readlink -f "$folder")
 [ "$folder" != "$top" ] || refuse "$folder is this repository"
 
-# The line of a crate in a crates.txt, without its comment and needless spaces.
+# Prints the line of a crate in a crates.txt, without its comment and extra spaces.
 line_of() {
     [ ! -e "$2" ] || awk -v name="$1" '
         { sub(/#.*/, ""); head = $0; sub(/:.*/, "", head); split(head, words, " ") }
         /:/ && words[1] == name { $1 = $1; print; exit }' "$2"
 }
 
-# What the line of a crate names behind its colon.
+# Prints the dependencies of a crate, after the colon of its line.
 named_by() {
     line_of "$1" "$top/crates.txt" | sed 's/^[^:]*://'
 }
 
-# all that they stand on, the lowest first, and what of it is the kit's
+# the crates with all their dependencies, the lowest first; `kit` has those of the kit
 crates=() kit=() reached=" "
 reach() {
     local below
@@ -57,7 +57,7 @@ for name in "${@:1:$#-1}"; do
     reach "$name"
 done
 
-# Whether the copy of a crate there is what would be copied.
+# Whether the other repository's copy of a crate is identical.
 is_same() {
     local part
     for part in "${parts[@]}"; do
@@ -66,10 +66,10 @@ is_same() {
     done
 }
 
-# everything is judged before anything is done
+# everything is checked before anything is changed
 for name in "${crates[@]}"; do
     [ ! -e "$folder/crates/$name" ] || is_same "$name" ||
-        refuse "$folder/crates/$name differs: remove it to have it anew"
+        refuse "$folder/crates/$name differs: remove it to copy it again"
     there=$(line_of "$name" "$folder/crates.txt")
     [ -z "$there" ] || [ "$there" = "$(line_of "$name" "$top/crates.txt")" ] ||
         refuse "the line of $name in $folder/crates.txt differs: $there"
@@ -80,7 +80,7 @@ if [ ! -e "$folder/crates.txt" ]; then
     echo "# NAME: DEP DEP .." >"$folder/crates.txt"
     echo "made crates.txt"
 fi
-# (a last line that has no end gets one)
+# (adds a missing newline at the end of the file)
 [ -z "$(tail -c 1 "$folder/crates.txt")" ] || echo >>"$folder/crates.txt"
 for name in "${crates[@]}"; do
     did="there already"

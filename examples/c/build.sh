@@ -1,10 +1,10 @@
 #!/usr/bin/env bash
-# Makes the library for C: examples/c/build.sh DIR
-# DIR gets libavr_records.a, avr_records.pc (pkg-config's file, which looks for the library beside itself), and where
-# there is a C compiler the shared library libavr_records.so.N of the archive, with the link libavr_records.so to it.
-# N changes with each version that old programs don't run with: it is MAJOR, or 0.MINOR before version 1.0. The archive
-# is what `rt lib` makes of crates/avr_records_c, where a source is newer than what stands there, with the kit's calls of
-# malloc, realloc and free. Both libraries export nothing but the functions of include/avr_records.h.
+# Builds the library for C: examples/c/build.sh DIR
+# DIR gets libavr_records.a, and avr_records.pc for pkg-config, which looks for the library beside itself. If there is a C
+# compiler, it also gets the shared library libavr_records.so.N, and the symbolic link libavr_records.so to it. N changes
+# with each incompatible version: it is MAJOR, or 0.MINOR before version 1.0. `rt lib` makes the archive from
+# crates/avr_records_c if a source is newer than the last one; the kit's calls of malloc, realloc and free are added. Both
+# libraries export only the functions of include/avr_records.h.
 set -eu
 dir=$(mkdir -p "$1" && cd "$1" && pwd)
 top=$(dirname "$(readlink -f "$0")")/../..
@@ -24,7 +24,7 @@ if [ ! -e "$proved" ] || [ -n "$(find "${sources[@]}" -newer "$proved" -print -q
 fi
 cd "$dir"
 ar x "$(dirname "$(rt doc)")/c/liblibc_c.a" heap.pic.o
-# one object, in which all other names are local, so that a program may have another library of Rattle's beside it
+# one object, in which all other names are local, so that a program can also link another Rattle library
 ld -r -o avr_records.o --whole-archive "$proved" --no-whole-archive heap.pic.o
 objcopy --wildcard --keep-global-symbol='avr_records_*' avr_records.o
 rm -f libavr_records.a

@@ -1,6 +1,6 @@
-/* Writes a record file anew, as Intel HEX or as S-records: records FILE SIZE ihex|srec [ROOM] >OUT
- * SIZE is the memory's, in bytes; ROOM is how many bytes are written at a time (4096).
- * cc -I../../include records.c libavr_records.a, or where the library is installed
+/* Reads a record file and writes it as Intel HEX or as S-records: records FILE SIZE ihex|srec [ROOM] >OUT
+ * SIZE is the size of the memory in bytes; ROOM is the number of bytes written at a time (default 4096).
+ * Build: cc -I../../include records.c libavr_records.a; or, if the library is installed:
  * cc records.c $(pkg-config --cflags --libs avr_records) */
 #include "avr_records.h"
 
@@ -9,7 +9,7 @@
 #include <stdlib.h>
 #include <string.h>
 
-/* A file's bytes, or NULL. */
+/* Returns a file's bytes, or NULL if it can't be read. */
 static uint8_t *load(const char *name, size_t *length) {
     FILE *file = fopen(name, "rb");
     uint8_t *bytes = malloc(1);
@@ -31,7 +31,7 @@ static uint8_t *load(const char *name, size_t *length) {
     return bytes;
 }
 
-/* The size that a word says, in decimal digits and below 2 to the power 32. */
+/* Parses an argument as a size: decimal digits, below 2 to the power 32. */
 static bool is_size(const char *word, size_t *size) {
     char *end;
     errno = 0;
@@ -40,7 +40,7 @@ static bool is_size(const char *word, size_t *size) {
     return word[0] >= '0' && word[0] <= '9' && *end == '\0' && errno == 0 && told <= UINT32_MAX;
 }
 
-/* Prints the memory's file, piece by piece, as a device would get it; the number of the fault, or 0. */
+/* Prints the memory as a record file, piece by piece. Returns the number of the fault, or 0. */
 static uint8_t print(uint8_t format, const uint8_t *bytes, size_t size, const uint8_t *present, size_t length) {
     struct avr_records_cursor cursor = AVR_RECORDS_START;
     struct avr_records_piece piece;
@@ -48,14 +48,14 @@ static uint8_t print(uint8_t format, const uint8_t *bytes, size_t size, const ui
     if (room == NULL) return AVR_RECORDS_NO_MEMORY;
     do {
         piece = avr_records_write(format, bytes, size, present, AVR_RECORDS_BITMAP(size), &cursor, room, length);
-        /* (what stdout refuses, main sees) */
+        /* (main checks stdout for errors) */
         fwrite(room, 1, piece.length, stdout);
     } while (piece.fault == 0 && piece.length == length);
     free(room);
     return piece.fault;
 }
 
-/* Says what is wrong with a file, and where. */
+/* Prints what is wrong with a file, and in which line. */
 static void complain(const char *name, struct avr_records_outcome read) {
     char text[AVR_RECORDS_FAULT_TEXT];
     avr_records_fault_text(read.fault, text, sizeof text);

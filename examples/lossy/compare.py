@@ -1,12 +1,12 @@
 #!/usr/bin/env python3
-"""Flashes one firmware over a line that loses one frame, with AVRDUDE, where it is installed, and with avrstk, and
-looks at the chip afterwards.
+"""Flashes one firmware over a link that loses one frame, with avrstk, and with AVRDUDE if it is installed. Then checks the
+chip.
 
-    compare.py          AVRSTK names another program than the one of this repository that is there, proved or not
+    compare.py          AVRSTK names the program; the default is this repository's built one, proved or not
 
 The programmer and the ATmega328P are the emulated ones of `avrstk --serve`. The chip has an older firmware above the
-new one, so that an erase that never came is seen. Prints a row for each run; the status is 1 where a run of avrstk
-ended with status 0 and another chip than was asked for.
+new one, so that a lost erase is seen. Prints a row for each run. The status is 1 if a run of avrstk ended with status 0
+and a wrong chip.
 """
 
 import os
@@ -23,17 +23,17 @@ FIRMWARE = HERE.parent / "blink.hex"
 FLASH, CHIP = 32_768, 33_796
 OLD = slice(8192, 8448)
 
-# what is lost, with its command and which of them
+# the lost frame: its name, its command, and which frame with that command
 LOST = [("nothing", "00", 1), ("a PROGRAM_FLASH", "13", 2), ("the CHIP_ERASE", "12", 1)]
 
 
 def program():
-    """The program that AVRSTK names, or else the one of this repository that is there."""
+    """Returns the program that AVRSTK names, or else this repository's built one."""
     named = os.environ.get("AVRSTK")
     if named:
         return named
     found = subprocess.run([HERE.parent.parent / "avrstk", "--which"], stdout=subprocess.PIPE, text=True)
-    # (why there is none was printed)
+    # (if there is none, ./avrstk has reported why)
     return found.stdout.rstrip("\n") or sys.exit(1)
 
 
@@ -41,7 +41,7 @@ AVRSTK = program()
 
 
 def tools():
-    """The name of each tool with its options, and its command up to the port."""
+    """Yields the name of each tool with its options, and its command up to the port."""
     update = ["-U", f"flash:w:{FIRMWARE}:i"]
     for options in [[], ["-V"]]:
         if shutil.which("avrdude"):
@@ -58,7 +58,7 @@ def free_ports(count):
 
 
 def listens(port):
-    """Waits until somebody listens at the port, without a call."""
+    """Waits until a process listens at the port, without a call."""
     mark = f" 0100007F:{port:04X} 00000000:0000 0A "
     for _ in range(500):
         if mark in Path("/proc/net/tcp").read_text():
@@ -68,7 +68,7 @@ def listens(port):
 
 
 def flashed(command, lost, nth, folder):
-    """The status, the messages and the chip's flash of a run over a line that loses this frame."""
+    """Runs a command over a link that loses this frame. Returns the status, the messages and the chip's flash."""
     chip = folder / "chip.bin"
     blank = bytearray(b"\xff" * CHIP)
     blank[OLD] = bytes(256)
@@ -85,7 +85,7 @@ def flashed(command, lost, nth, folder):
 
 
 def wanted(folder):
-    """The flash that was asked for: the firmware, and FF elsewhere."""
+    """Returns the expected flash: the firmware, and FF elsewhere."""
     file = folder / "wanted.bin"
     file.unlink(missing_ok=True)
     words = ["-qq", "-p", "m328p", "-P", f"emu:{file}", "-U", f"flash:w:{FIRMWARE}:i"]
@@ -94,7 +94,7 @@ def wanted(folder):
 
 
 def told(flash, right):
-    """What is in the chip."""
+    """Describes the chip's flash."""
     if flash == right:
         return "right"
     page = next((at for at in range(0, 256, 128) if flash[at : at + 128] != right[at : at + 128]), None)

@@ -1,9 +1,9 @@
 #!/usr/bin/env python3
-"""A line between a tool and a programmer that loses one frame.
+"""A link between a tool and a programmer that loses one frame.
 
     line.py FROM TO COMMAND NTH     listens at port FROM of 127.0.0.1, serves one caller, and passes everything on to
-                                    the programmer at port TO, but for the NTH frame with this command (as 13,
-                                    hexadecimal)
+                                    the programmer at port TO, except the NTH frame with COMMAND (hexadecimal, for
+                                    example 13)
 
 A frame of STK500v2 is 1B, a sequence number, the length of its body in two bytes, 0E, the body and the XOR of all that;
 the body of a command begins with its number.
@@ -15,7 +15,7 @@ import threading
 
 
 def frames_of(stream):
-    """The frames that come on a connection, up to its end."""
+    """Yields the frames of a connection until its end."""
     held = b""
     while True:
         while len(held) >= 5 and len(held) >= (size := 6 + int.from_bytes(held[2:4], "big")):
@@ -28,7 +28,7 @@ def frames_of(stream):
 
 
 def pass_on(caller, programmer, command, nth):
-    """Passes on the caller's frames but for one."""
+    """Passes on all of the caller's frames except one."""
     seen = 0
     for frame in frames_of(caller):
         seen += frame[5] == command
@@ -38,7 +38,7 @@ def pass_on(caller, programmer, command, nth):
 
 
 def pass_back(programmer, caller):
-    """Passes back each answer as it is."""
+    """Passes back each reply unchanged."""
     while answer := programmer.recv(4096):
         caller.sendall(answer)
 

@@ -1,10 +1,10 @@
 #!/usr/bin/env python3
-"""Prints the runs of bytes of a record file, or the file anew as Intel HEX or S-records:
+"""Prints the runs of bytes in a record file, or converts the file to Intel HEX or S-records:
 
     records.py FILE SIZE [ihex | srec]
 
-SIZE is the memory's, in bytes. The library is the one that AVR_RECORDS_LIBRARY names in the environment, as
-examples/c/build.sh makes it; else the installed one.
+SIZE is the size of the memory in bytes. The environment variable AVR_RECORDS_LIBRARY names the library, as made by
+examples/c/build.sh; the default is the installed one.
 """
 
 import ctypes
@@ -30,7 +30,7 @@ class Outcome(ctypes.Structure):
 
 
 class Cursor(ctypes.Structure):
-    """Where a file that is written stands; all 0 at the beginning."""
+    """The position in a file that is being written; all 0 at the beginning."""
 
     _fields_ = [
         ("address", ctypes.c_uint32),
@@ -65,7 +65,7 @@ def load():
 
 
 def lent(data):
-    """The memory of a bytearray, and its length, as the library takes both."""
+    """Returns the memory of a bytearray and its length, as the library takes them."""
     return (ctypes.c_uint8 * len(data)).from_buffer(data), len(data)
 
 
@@ -77,7 +77,7 @@ def fault_text(library, fault, line=0, address=0):
 
 
 def read(library, text, size):
-    """The bytes of a memory of this size, its bitmap, and whether the end record came."""
+    """Reads a record file. Returns the bytes of a memory of this size, its bitmap, and whether there was an end record."""
     text, data, present = bytearray(text), bytearray(size), bytearray((size + 7) // 8)
     kind = library.avr_records_detect(*lent(text))
     outcome = library.avr_records_read(kind, *lent(text), *lent(data), *lent(present))
@@ -87,7 +87,7 @@ def read(library, text, size):
 
 
 def pieces(library, kind, data, present, length=4096):
-    """The record file of a memory, as many bytes at a time."""
+    """Yields the record file of a memory, `length` bytes at a time."""
     cursor, room = Cursor(), bytearray(length)
     while True:
         piece = library.avr_records_write(kind, *lent(data), *lent(present), cursor, *lent(room))
@@ -99,7 +99,7 @@ def pieces(library, kind, data, present, length=4096):
 
 
 def runs(data, present):
-    """(address, bytes) of each longest run of bytes that are there."""
+    """Yields (address, bytes) of each longest run of bytes that are there."""
     for there, places in itertools.groupby(range(len(data)), lambda n: present[n // 8] >> n % 8 & 1):
         places = list(places)
         if there:
