@@ -8,9 +8,8 @@ use Rattle.avr_image.specs.Image.{is_same}
 
 byte_decides : (first second : Option ℕ) → Decides (option_eq nat_eq first second) (first ≡ second)
 byte_decides None None = (λ e. refl, λ e. refl)
-byte_decides None (Some b) = (λ e. cc e, λ e. cc e)
-byte_decides (Some a) None = (λ e. cc e, λ e. cc e)
 byte_decides (Some a) (Some b) = grind (arith, nat_tests)
+byte_decides x y = (λ e. cc e, λ e. cc e)
 
 pub same_decides : (first second : List (Option ℕ)) → Decides (is_same first second) (first ≡ second)
 same_decides = pointwise_decides byte_decides

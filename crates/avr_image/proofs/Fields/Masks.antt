@@ -48,14 +48,7 @@ next_is n from fits f = elim (cases_eq (above n from) 0) [
 
 -- the other bits
 pub other_bit : (n i : ℕ) → n < 2 ^ 64 → i < 64 → eqb (bit_at (2 ^ 64 - 1 - n) i) 1 ≡ not (eqb (bit_at n i) 1)
-other_bit n i fits l =
-    let flipped = bit_at_not w64 n i fits l in
-    elim (cases_eq (bit_at n i) 1) [
-      | inl one ↦ let none : bit_at (2 ^ 64 - 1 - n) i ≡ 0 = omega (arith, flipped, one) in rw (none, one) refl
-      | inr some ↦
-          let zero_bit : bit_at n i ≡ 0 = omega (arith, some, bit_at-lt n i) in
-          let one : bit_at (2 ^ 64 - 1 - n) i ≡ 1 = omega (arith, flipped, zero_bit) in rw (one, zero_bit) refl
-    ]
+other_bit n i fits l = grind (arith, nat_tests, bit_at_not w64 n i fits l, cases_eq (bit_at n i) 1, bit_at-lt n i)
 
 -- a run of ones
 pub ones_are : (low high i : ℕ) → low < 64 → high ≤ 64 → i < 64

@@ -42,28 +42,25 @@ held_within (b ∷ bs) (suc addr) held = let rest = held_within bs addr held in 
 pub same_items : (xs ys : List (Option ℕ)) → length xs ≡ length ys
     → ((i : ℕ) → i < length ys → get_or xs i None ≡ get_or ys i None) → xs ≡ ys
 same_items [] [] len each = refl
-same_items [] (y ∷ ys) len each = absurd (omega (arith, len))
-same_items (x ∷ xs) [] len each = absurd (omega (arith, len))
 same_items (x ∷ xs) (y ∷ ys) len each =
     ap₂ (λ (z : Option ℕ) (zs : List (Option ℕ)). z ∷ zs) (each 0 (omega arith))
     (same_items xs ys (omega (arith, len)) (λ i l. each (suc i) (omega (arith, l))))
+same_items z w len each = absurd (omega (arith, len))
 
 pub filled_is : (image : List (Option ℕ)) (start n : ℕ) (ys : List ℕ) → length ys ≡ n
     → ((i : ℕ) → i < n → get_or ys i 0 ≡ or_blank (byte_at image (start + i))) → ys ≡ filled_bytes image start n
 filled_is image start zero [] len each = refl
-filled_is image start zero (y ∷ ys) len each = absurd (omega (arith, len))
-filled_is image start (suc n) [] len each = absurd (omega (arith, len))
 filled_is image start (suc n) (y ∷ ys) len each =
     let first : y ≡ or_blank (byte_at image start) =
     each 0 (omega arith) ∙ ap (λ (k : ℕ). or_blank (byte_at image k)) (omega arith) in
     let rest : ys ≡ filled_bytes image (start + 1) n = filled_is image (start + 1) n ys (omega (arith, len))
     (λ i l. each (suc i) (omega (arith, l)) ∙ ap (λ (k : ℕ). or_blank (byte_at image k)) (omega arith)) in
     ap₂ (λ (z : ℕ) (zs : List ℕ). z ∷ zs) first rest
+filled_is image start x z len each = absurd (omega (arith, len))
 
 pub get_or-zeros : (n i : ℕ) → ◌≡◌ {A = ℕ} (get_or {A = ℕ} (replicate {A = ℕ} n 0) i 0) 0
-get_or-zeros zero i = refl
-get_or-zeros (suc n) zero = refl
 get_or-zeros (suc n) (suc i) = get_or-zeros n i
+get_or-zeros x y = refl
 
 pub shown_from-zeros : (k n m b : ℕ) → shown_from k (replicate m 0) (replicate n b) ≡ replicate n None
 shown_from-zeros k zero m b = refl
@@ -227,8 +224,7 @@ run_is words bytes {image} addr end place seen found l =
     omega (arith, count, found.after)
 
 none_taken : (n : ℕ) → prefix_len is_some (take {A = Option ℕ} n []) ≡ 0
-none_taken zero = refl
-none_taken (suc n) = refl
+none_taken x = grind (arith, nat_tests)
 
 pub no_run_past : (image : List (Option ℕ)) (addr end : ℕ) → length image ≤ addr → addr ≡ run_end image addr end
 no_run_past image addr end l = grind (arith, nat_tests, drop_all, none_taken)
@@ -252,9 +248,8 @@ holds_bytes words bytes {image} seen small addr byte is = grind (arith, nat_test
 -- ---- bytes stay bytes
 
 pub small-blank : (n i : ℕ) → get_or {A = ℕ} (replicate {A = ℕ} n 255) i 0 < 256
-small-blank zero i = omega arith
-small-blank (suc n) zero = omega arith
 small-blank (suc n) (suc i) = small-blank n i
+small-blank x y = omega arith
 
 pub small-set : (xs : List ℕ) (at byte : ℕ) → byte < 256 → ((i : ℕ) → get_or xs i 0 < 256) → (i : ℕ)
     → get_or (set xs at byte) i 0 < 256
@@ -271,10 +266,9 @@ small-append (x ∷ xs) ys prefix back zero = prefix zero
 small-append (x ∷ xs) ys prefix back (suc i) = small-append xs ys (λ k. prefix (suc k)) back i
 
 small-take : (n : ℕ) (xs : List ℕ) → ((i : ℕ) → get_or xs i 0 < 256) → (i : ℕ) → get_or (take n xs) i 0 < 256
-small-take zero xs all i = omega arith
-small-take (suc n) [] all i = omega arith
 small-take (suc n) (x ∷ xs) all zero = all zero
 small-take (suc n) (x ∷ xs) all (suc i) = small-take n xs (λ k. all (suc k)) i
+small-take x y all i = omega arith
 
 pub small-pasted : (start : ℕ) (span bytes : List ℕ) → ((i : ℕ) → get_or span i 0 < 256)
     → ((i : ℕ) → get_or bytes i 0 < 256)

@@ -1,5 +1,5 @@
 -- Bytes laid down at addresses: place by place, in parts, and as a span.
-use Rattle.std.proofs.Common.{append_assoc, ◌≡◌, ◌≢◌, ◌∙◌, sym, ap, ap₂, refl, arith, ℕ, suc, zero, ◌+◌, ◌-◌, ◌<◌, ◌≤◌, List, [], ◌∷◌, ◌++◌, length, get_or, set, drop, replicate, Bool, true, false, cond, ◌||◌, Option, Some, None, inl, inr, ◌⊎◌}
+use Rattle.std.proofs.Common.{rules, append_assoc, ◌≡◌, ◌≢◌, ◌∙◌, sym, ap, ap₂, refl, arith, ℕ, suc, zero, ◌+◌, ◌-◌, ◌<◌, ◌≤◌, List, [], ◌∷◌, ◌++◌, length, get_or, set, drop, replicate, Bool, true, false, cond, ◌||◌, Option, Some, None, inl, inr, ◌⊎◌}
 use Rattle.std.proofs.lemmas.Bool.{cases_lt}
 use Rattle.std.proofs.lemmas.List.{get_or-set_same, get_or-set_other, length-set, length-drop, length-take, length-append, length-replicate, get_or_append_left, get_or-append_right, get_or-take, get_or-drop, length-map, map-append, set_at, append-nil}
 use Rattle.std.proofs.lemmas.Bool.Decides.{nat_tests}
@@ -24,10 +24,9 @@ laid_over-append image ((a, b) ∷ xs) ys = laid_over-append (set image a (Some 
 
 over-set : (a b : List (Option ℕ)) (i n : ℕ) → length a ≤ length b
     → set (over a b) i (Some n) ≡ over a (set b i (Some n))
-over-set [] b i n l = refl
 over-set (x ∷ a) [] i n l = absurd (omega (arith, l))
-over-set (x ∷ a) (y ∷ b) zero n l = refl
 over-set (x ∷ a) (y ∷ b) (suc i) n l = grind (arith, nat_tests, over-set a b i n (omega (arith, l)))
+over-set z w v n l = refl
 
 pub over-empty : (a : List (Option ℕ)) → over a (empty (length a)) ≡ a
 over-empty [] = refl
@@ -57,22 +56,18 @@ pub laid_append : (size : ℕ) (xs ys : List (ℕ × ℕ))
 laid_append size xs ys = grind (arith, nat_tests, length-laid_over, length-replicate, laid_over-append, laid_over_laid)
 
 pub over_over : (a b c : List (Option ℕ)) → length b ≡ length c → over (over a b) c ≡ over a (over b c)
-over_over [] b c l = refl
-over_over (x ∷ a) [] [] l = refl
 over_over (x ∷ a) [] (z ∷ c) l = absurd (omega (arith, l))
 over_over (x ∷ a) (y ∷ b) [] l = absurd (omega (arith, l))
 over_over (x ∷ a) (y ∷ b) (Some z ∷ c) l = grind (arith, nat_tests, over_over a b c (omega (arith, l)))
 over_over (x ∷ a) (y ∷ b) (None ∷ c) l = grind (arith, nat_tests, over_over a b c (omega (arith, l)))
+over_over y z w l = refl
 
 -- ---- a span, place by place
 
 pub span_low : (image : List (Option ℕ)) (addr : ℕ) (span : List ℕ) (i : ℕ) → i < addr
     → byte_at (laid_over image (enumerate_from addr span)) i ≡ byte_at image i
 span_low image addr [] i l = refl
-span_low image addr (b ∷ span) i l =
-    let other : i ≢ addr = omega (arith, l) in
-    span_low (set image addr (Some b)) (addr + 1) span i (omega (arith, l))
-    ∙ get_or-set_other image addr i (Some b) None other
+span_low image addr (b ∷ span) i l = search (rules, arith, span_low (set image addr (Some b)) (addr + 1) span i (omega (arith, l)), get_or-set_other)
 
 pub span_high : (image : List (Option ℕ)) (addr : ℕ) (span : List ℕ) (i : ℕ) → addr + length span ≤ i
     → byte_at (laid_over image (enumerate_from addr span)) i ≡ byte_at image i
@@ -198,10 +193,7 @@ from_zero-laid text (byte ∷ span) size addr here l =
 -- onto nothing
 pub from_zero-span : (text : List ℕ) (size : ℕ) → length text ≤ size
     → from_zero text size ≡ image_of_pairs size (enumerate_from 0 text)
-from_zero-span text size l =
-    let whole : size - 0 ≡ size = omega arith in
-    sym (from_zero-laid [] text size 0 refl (omega (arith, l)))
-    ∙ ap (λ (n : ℕ). laid_over (replicate n None) (enumerate_from 0 text)) whole
+from_zero-span text size l = grind (arith, nat_tests, from_zero-laid [] text size 0 refl (omega (arith, l)))
 
 pub length-from_zero : (text : List ℕ) (size : ℕ) → length text ≤ size → length (from_zero text size) ≡ size
 length-from_zero text size l = grind (arith, nat_tests, length-append, replicate, length-map, length-replicate)

@@ -2,7 +2,7 @@
 use Rattle.std.proofs.Common.{◌≡◌, ◌∙◌, sym, ap, ap₂, refl, arith, add-one, ℕ, suc, zero, ◌+◌, ◌*◌, ◌/◌, ◌%◌, ◌^◌, ◌<◌, ◌≤◌, List, [], ◌∷◌, length, get_or, set, drop, min, true, false, cond, eqb, nat_lt, ◌≢◌}
 use Rattle.std.proofs.lemmas.Bool.Decides.{nat_tests}
 use Rattle.std.proofs.lemmas.List.{drop_more, drop_all, drop-set}
-use Rattle.std.proofs.Math.Nat.{mul-le-mul_left, pow-suc, div-lt_iff_lt-mul}
+use Rattle.std.proofs.Math.Nat.{mul-le-mul_left, pow-suc}
 use Rattle.std.specs.List.{list_all}
 use Rattle.std.specs.Fmt.{digits_onto, digits, digit_glyph}
 use Rattle.std.specs.Char.{digit_value}
@@ -46,12 +46,7 @@ written-step radix rest at next glyph buffer step l here =
     rw (fuel, grown) refl
 
 pub digit_left : (radix rest at next : ℕ) → 2 ≤ radix → at ≡ next + 1 → rest < 2 ^ at → rest / radix < 2 ^ next
-digit_left radix rest at next low step l =
-    let power : 2 ^ at ≡ 2 ^ next * 2 = ap (λ (n : ℕ). 2 ^ n) (step ∙ add-one next) ∙ pow-suc 2 next in
-    let wider : 2 ^ next * 2 ≤ 2 ^ next * radix = mul-le-mul_left (2 ^ next) low in
-    let some : zero < radix = omega (arith, low) in
-    let bound : rest < 2 ^ next * radix = omega (arith, l, power, wider) in
-    (div-lt_iff_lt-mul some).1 bound
+digit_left radix rest at next low step l = grind (arith, nat_tests, add-one next, pow-suc 2 next, mul-le-mul_left (2 ^ next) low)
 
 -- the digits of a byte below `at` are to be written, and the others stand from there on
 pub record IsWritten (radix byte rest at : ℕ) (buffer : List ℕ) : Type 0 where

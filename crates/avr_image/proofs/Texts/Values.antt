@@ -37,8 +37,7 @@ before-onto bytes byte (Ok more) = ap ok_of (append_assoc bytes (byte ∷ []) mo
 before-onto bytes byte (Err fault) = refl
 
 pub before-none : (rest : Result (List ℕ) ImageFault) → before [] rest ≡ rest
-before-none (Ok more) = refl
-before-none (Err fault) = refl
+before-none x = grind (arith, nat_tests)
 
 -- a good value has an address below the size
 fitting_below : (size addr : ℕ) (value : Option ℕ) (byte : ℕ) → fitting size addr value ≡ Ok byte → addr < size

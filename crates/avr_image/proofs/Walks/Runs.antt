@@ -1,10 +1,10 @@
 -- The runs of an image, and a walk over them.
-use Rattle.std.proofs.Common.{◌≡◌, ◌∙◌, sym, ap, ap₂, refl, arith, ℕ, zero, suc, ◌+◌, ◌-◌, ◌<◌, ◌≤◌, ◌==◌, Bool, true, false, cond, not, List, [], ◌∷◌, ◌++◌, length, take, drop, fold, min, Option, Some, None, is_some, inl, inr, add-zero, get_or, All, ◌⊎◌}
 use Rattle.std.specs.List.{position_from, prefix_len, flat_map, slice_range}
-use Rattle.std.proofs.lemmas.List.Recursion.{is_count_by}
 use Rattle.std.proofs.lemmas.Bool.{cases_lt, true≢false}
+use Rattle.std.proofs.lemmas.List.{take_all, append_assoc, drop-drop, get_or-drop, length-drop, length-append, set_at}
+use Rattle.std.proofs.Common.{◌≡◌, ◌∙◌, sym, ap, ap₂, refl, arith, ℕ, zero, suc, ◌+◌, ◌-◌, ◌<◌, ◌≤◌, ◌==◌, Bool, true, false, cond, not, List, [], ◌∷◌, ◌++◌, length, take, drop, fold, min, Option, Some, None, is_some, inl, inr, add-zero, get_or, All, ◌⊎◌}
+use Rattle.std.proofs.lemmas.List.Recursion.{is_count_by}
 use Rattle.std.proofs.lemmas.Bool.Decides.{nat_tests}
-use Rattle.std.proofs.lemmas.List.{append_assoc, drop-drop, get_or-drop, length-drop, length-append, set_at, take_all}
 use Rattle.avr_image.specs.Image.{empty, byte_at, with_byte, first_from, run_end, filled_bytes, or_blank, image_of_pairs, laid_over, over, byte_count}
 use Rattle.avr_image.specs.Runs.{onto_runs, runs, lead, places_of}
 use Rattle.avr_image.proofs.Places.Laid.{laid_over_laid}
@@ -52,11 +52,10 @@ runs-lead addr b (Some c ∷ image) = grind (arith, nat_tests, runs-lead (addr +
 
 pub runs-first : (image : List (Option ℕ)) (addr : ℕ) → 0 < length (lead image)
     → runs addr image ≡ (addr, lead image) ∷ runs (addr + length (lead image)) (drop (length (lead image)) image)
-runs-first [] addr some = absurd (omega (arith, some))
-runs-first (None ∷ image) addr some = absurd (omega (arith, some))
 runs-first (Some b ∷ image) addr some =
     let next : addr + 1 + length (lead image) ≡ addr + suc (length (lead image)) = omega arith in
     runs-lead addr b image ∙ ap (λ (n : ℕ). (addr, b ∷ lead image) ∷ runs n (after image)) next
+runs-first x addr some = absurd (omega (arith, some))
 
 -- ---- as the walk finds them
 
@@ -113,8 +112,6 @@ drop-next image xs place x is = sym (drop-drop 1 place image) ∙ ap (drop 1) is
 pub filled-lead : (image xs : List (Option ℕ)) (n place : ℕ) → drop place image ≡ xs → n ≤ length (lead xs)
     → filled_bytes image place n ≡ take n (lead xs)
 filled-lead image xs zero place is l = refl
-filled-lead image [] (suc n) place is l = absurd (omega (arith, l))
-filled-lead image (None ∷ xs) (suc n) place is l = absurd (omega (arith, l))
 filled-lead image (Some b ∷ xs) (suc n) place is l =
     let here : byte_at image place ≡ Some b =
     ap (byte_at image) (sym (add-zero place)) ∙ sym (get_or-drop place image 0 None)
@@ -122,21 +119,19 @@ filled-lead image (Some b ∷ xs) (suc n) place is l =
     ap (λ (byte : Option ℕ). or_blank byte ∷ filled_bytes image (place + 1) n) here
     ∙ ap (λ (more : List ℕ). b ∷ more) (filled-lead image xs n (place + 1) (drop-next image xs place (Some b) is)
     (omega (arith, l)))
+filled-lead image x (suc n) place is l = absurd (omega (arith, l))
 
 prefix-lead : (k : ℕ) (image : List (Option ℕ)) → prefix_len is_some (take k image) ≡ min k (length (lead image))
-prefix-lead zero image = omega arith
-prefix-lead (suc k) [] = omega arith
-prefix-lead (suc k) (None ∷ image) = omega arith
 prefix-lead (suc k) (Some b ∷ image) = let more = prefix-lead k image in omega (arith, more)
+prefix-lead x y = omega arith
 
 pub lead-run : (image : List (Option ℕ)) (addr end : ℕ)
     → run_end image addr end ≡ addr + min (end - addr) (length (lead (drop addr image)))
 lead-run image addr end = ap (λ (n : ℕ). addr + n) (prefix-lead (end - addr) (drop addr image))
 
 pub lead-short : (image : List (Option ℕ)) → length (lead image) ≤ length image
-lead-short [] = omega arith
-lead-short (None ∷ image) = omega arith
 lead-short (Some b ∷ image) = let more = lead-short image in omega (arith, more)
+lead-short x = omega arith
 
 -- ---- the bytes of an image at their addresses
 
@@ -299,9 +294,8 @@ some-held addr place (Some b ∷ image) some = count-least 1 image
 pub empty-held : (image : List (Option ℕ)) (found : Option ℕ) (none : Bool) → found ≡ first_from image 0
     → is_some found ≡ not none → none ≡ (byte_count image == 0)
 empty-held image None true is told = grind (arith, nat_tests, none-held)
-empty-held image None false is told = absurd (cc told)
-empty-held image (Some place) true is told = absurd (cc told)
 empty-held image (Some place) false is told = grind (arith, nat_tests, some-held)
+empty-held image x y is told = absurd (cc told)
 
 -- ---- the runs are the longest
 

@@ -1,5 +1,5 @@
 -- How the lines of a text that a reader was fed change what it holds.
-use Rattle.std.proofs.Common.{◌≡◌, ◌∙◌, sym, ap, refl, arith, ℕ, zero, suc, ◌+◌, List, [], ◌∷◌, ◌++◌, length, map, take, true, false, nat_lt, Some, None, Ok, Err, subst, inl, inr}
+use Rattle.std.proofs.Common.{◌≡◌, ◌∙◌, sym, ap, refl, arith, ℕ, suc, ◌+◌, List, [], ◌∷◌, ◌++◌, length, map, take, true, false, nat_lt, Some, None, Ok, Err, subst, inl, inr}
 use Rattle.std.proofs.lemmas.Bool.{cases_Bool}
 use Rattle.std.proofs.lemmas.Bool.Decides.{nat_tests}
 use Rattle.std.proofs.Math.Seq.{take-append-add}
@@ -37,9 +37,8 @@ line-first line more one =
 
 pub closed-prefix : (prefix : List (List ℕ)) (first : List ℕ) (more : List (List ℕ))
     → all_but_last (prefix ++ first ∷ more) ≡ prefix ++ all_but_last (first ∷ more)
-closed-prefix [] first more = refl
-closed-prefix (line ∷ []) first more = refl
 closed-prefix (line ∷ next ∷ prefix) first more = grind (arith, nat_tests, closed-prefix (next ∷ prefix) first more)
+closed-prefix x first more = refl
 
 pub but_last : (first : List ℕ) (more : List (List ℕ))
     → (last : List ℕ) × (first ∷ more ≡ all_but_last (first ∷ more) ++ last ∷ [])
@@ -55,14 +54,12 @@ kept-more part more room is =
     sym (take-append-add part more room) ∙ ap (λ (n : ℕ). take n (part ++ more)) all
 
 take-again : (n : ℕ) (xs ys : List ℕ) → take n (take n xs ++ ys) ≡ take n (xs ++ ys)
-take-again zero xs ys = refl
-take-again (suc n) [] ys = refl
 take-again (suc n) (x ∷ xs) ys = ap (λ (zs : List ℕ). x ∷ zs) (take-again n xs ys)
+take-again x y ys = refl
 
 says-too_long : (kind : Kind) (line : List ℕ) → nat_lt longest (length line) ≡ true
     → said_by_line kind line ≡ Err TooLong
-says-too_long Ihex line is = rw is refl
-says-too_long Srec line is = rw is refl
+says-too_long x line is = grind (arith, nat_tests)
 
 -- what is kept says what the line says
 pub said-kept : (kind : Kind) (line : List ℕ) → said_by_line kind (kept line) ≡ said_by_line kind line
@@ -205,8 +202,7 @@ kept-nothing [] is = refl
 kept-nothing (c ∷ line) is = cc is
 
 pub says-nothing : (kind : Kind) → said_by_line kind [] ≡ Ok Nothing
-says-nothing Ihex = refl
-says-nothing Srec = refl
+says-nothing x = grind (arith, nat_tests)
 
 -- no byte came of the last line
 pub whole-empty : (kind : Kind) (p : Progress) (part text : List ℕ) → part ≡ [] → ReadsLines kind p part text

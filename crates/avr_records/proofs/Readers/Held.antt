@@ -120,8 +120,7 @@ with-good p new line (Ok e) is = grind (arith, nat_tests)
 
 with-bad : (p : Progress) (line : Said) (fault : RecordFault) (step : Result Extent RecordFault)
     → with_extent p line step ≡ Err fault → step ≡ Err fault
-with-bad p line fault (Err f) is = cc is
-with-bad p line fault (Ok e) is = cc is
+with-bad p line fault x is = grind (arith, nat_tests)
 
 pub holds-more : (p : Progress) (said more : List Said) → p.extent.ended ≡ true → Holds p said → Holds p (said ++ more)
 holds-more p said more done h = grind (arith, nat_tests, counts-more, up_to_end-done)

@@ -73,9 +73,7 @@ pasted (part ∷ next ∷ parts) more = part ∷ pasted (next ∷ parts) more
 
 pub onto-pasted : (x : ℕ) (part : List ℕ) (parts more : List (List ℕ))
     → onto_first x (pasted (part ∷ parts) more) ≡ pasted (onto_first x (part ∷ parts)) more
-onto-pasted x part [] [] = refl
-onto-pasted x part [] (first ∷ more) = refl
-onto-pasted x part (next ∷ parts) more = refl
+onto-pasted x part y z = grind (arith, nat_tests)
 
 pub nil-pasted : (parts more : List (List ℕ)) (first : List ℕ) (rest : List (List ℕ)) → parts ≡ first ∷ rest
     → pasted ([] ∷ parts) more ≡ [] ∷ pasted parts more
@@ -108,6 +106,5 @@ slice_split-append p (x ∷ xs) ys =
 
 pub pasted-last : (prefix : List (List ℕ)) (last first : List ℕ) (more : List (List ℕ))
     → pasted (prefix ++ last ∷ []) (first ∷ more) ≡ prefix ++ (last ++ first) ∷ more
-pasted-last [] last first more = refl
-pasted-last (part ∷ []) last first more = refl
 pasted-last (part ∷ next ∷ prefix) last first more = simp (pasted-last (next ∷ prefix) last first more)
+pasted-last x last first more = refl

@@ -3,7 +3,7 @@ use Rattle.std.proofs.Common.{◌≡◌, ◌∙◌, ap, refl, arith, ℕ, ◌+�
 use Rattle.std.proofs.lemmas.Bool.{cases_Bool}
 use Rattle.std.proofs.lemmas.Bool.Decides.{nat_tests}
 use Rattle.avr_records.specs.Lines.{lines}
-use Rattle.avr_records.specs.Meaning.{Nothing, Data, Rebase, Counted, End}
+use Rattle.avr_records.specs.Meaning.{Data, Counted}
 use Rattle.avr_records.specs.Needed.{largest, end_past, end_of, size_or_fault, needed_in_text}
 use Rattle.avr_records.specs.Reading.{Said, is_data, up_to_end, in_place, all_placed, first_fault, fault_in, fault_under, base_after, placed_bytes, placed_under, beyond, said_by_line, file_ending, image_or_fault, image_in_text}
 use Rattle.avr_image.specs.Image.{image_of_pairs}
@@ -39,21 +39,15 @@ none-mapped f (Some n) is = cc is
 good : (size other : ℕ) (base : Base) (count : ℕ) (line : Said) → fault_under size base count line ≡ None
     → beyond other (placed_under base line) ≡ None → fault_under other base count line ≡ None
 good size other base count (Err fault) none lies' = none
-good size other base count (Ok Nothing) none lies' = refl
 good size other base count (Ok (Data offset bytes)) none lies' = ap (option_map Range) lies'
-good size other base count (Ok (Rebase new)) none lies' = refl
 good size other base count (Ok (Counted n)) none lies' = none
-good size other base count (Ok End) none lies' = refl
+good size other base count x none lies' = refl
 
 -- and its bytes lie in that one
 lies : (size : ℕ) (base : Base) (count : ℕ) (line : Said) → fault_under size base count line ≡ None
     → beyond size (placed_under base line) ≡ None
-lies size base count (Err fault) none = refl
-lies size base count (Ok Nothing) none = refl
 lies size base count (Ok (Data offset bytes)) none = none-mapped _ _ none
-lies size base count (Ok (Rebase new)) none = refl
-lies size base count (Ok (Counted n)) none = refl
-lies size base count (Ok End) none = refl
+lies size base count x none = refl
 
 all-good : (size other : ℕ) (taken : List (List Said × Said)) → first_fault size taken ≡ None
     → beyond other (flat_map placed_bytes taken) ≡ None → first_fault other taken ≡ None

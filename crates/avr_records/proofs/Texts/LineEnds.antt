@@ -14,8 +14,6 @@ NoneUpTo n text = (k : ℕ) → k < n → is_line_end (get_or text k 0) ≢ true
 
 -- bytes without a line end are one line
 pub one_line : (n : ℕ) (text : List ℕ) → n ≤ length text → NoneUpTo n text → lines (take n text) ≡ take n text ∷ []
-one_line zero text len none = refl
-one_line (suc n) [] len none = refl
 one_line (suc n) (c ∷ text) len none =
     elim (cases_Bool (is_line_end c)) [
       | inl t ↦ absurd (none 0 (omega arith) t)
@@ -23,6 +21,7 @@ one_line (suc n) (c ∷ text) len none =
           slice_split-cons_no is_line_end c (take n text) f
           ∙ ap (onto_first c) (one_line n text (omega (arith, len)) (λ k l. none (suc k) (omega (arith, l))))
     ]
+one_line x y len none = refl
 
 -- a text is what stands before a place, what stands there, and the rest
 pub cut_at : (n : ℕ) (text : List ℕ) → n < length text → text ≡ take n text ++ get_or text n 0 ∷ drop (n + 1) text

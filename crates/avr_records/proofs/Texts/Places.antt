@@ -172,6 +172,5 @@ lays-span old new addr bytes result none is laid = grind (arith, nat_tests, case
 pub near : (kind : Kind) (base : Base) (offset : ℕ) (bytes : _) → FitsKind kind (Data offset bytes) → HasBase kind base
     → Near base offset
 near Ihex (Linear upper) offset bytes fits' has = inl fits'.0
-near Ihex (Segment paragraph) offset bytes fits' has = tt
 near Srec (Linear upper) offset bytes fits' has = inr (cc has)
-near Srec (Segment paragraph) offset bytes fits' has = tt
+near x (Segment paragraph) offset bytes fits' has = tt

@@ -15,7 +15,6 @@ use Rattle.avr_records.specs.Record.{bytes_of_digits, longest, unless_long}
 use Rattle.avr_records.specs.Line.{bare_record}
 use Rattle.avr_records.specs.Reading.{said_by_line, bare_says, record_meaning}
 use Rattle.avr_records.specs.declared.kind.Kind.{Kind}
-use Rattle.avr_records.specs.declared.kind.Kind.TheVariants.{Ihex, Srec}
 use Rattle.avr_records.specs.declared.fault.LineFault.TheVariants.{TooLong}
 
 -- neither a line end nor a blank
@@ -53,8 +52,7 @@ trimmed-plain line plain =
     take_all (length line - suffix_len is_blank line) line (omega (arith, none))
 
 says-bare : (kind : Kind) (line : List ℕ) → said_by_line kind line ≡ unless_long (bare_says kind) line
-says-bare Ihex line = refl
-says-bare Srec line = refl
+says-bare x line = grind (arith, nat_tests)
 
 -- a line that isn't too long says what its record means
 pub says-plain : (kind : Kind) (c : ℕ) (cs : List ℕ) → list_all is_plain (c ∷ cs) ≡ true

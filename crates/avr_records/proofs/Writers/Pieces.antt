@@ -78,13 +78,10 @@ length_low_bytes zero n = refl
 length_low_bytes (suc size) n = grind (arith, nat_tests, length_low_bytes size (n / 256), length-append)
 
 pub few_bytes : (size : AddressSize) → (2 ≤ bytes_of size) × (bytes_of size ≤ 4)
-few_bytes Two = (omega arith, omega arith)
-few_bytes Three = (omega arith, omega arith)
-few_bytes Four = (omega arith, omega arith)
+few_bytes x = grind (arith, nat_tests)
 
 pub wide_row : (kind : Kind) (addr : ℕ) → 0 < row_size kind addr
-wide_row Ihex addr = omega arith
-wide_row Srec addr = omega arith
+wide_row x addr = grind (arith, nat_tests)
 
 -- ---- what the text of rows begins with
 

@@ -36,12 +36,7 @@ threaded base [] = []
 threaded base (said ∷ more) = under base said ++ threaded (next_base base said) more
 
 placed-under : (before : List Said) (said : Said) → placed_bytes (before, said) ≡ under (base_after before) said
-placed-under before (Err fault) = refl
-placed-under before (Ok Nothing) = refl
-placed-under before (Ok (Data offset bytes)) = refl
-placed-under before (Ok (Rebase base)) = refl
-placed-under before (Ok (Counted n)) = refl
-placed-under before (Ok End) = refl
+placed-under before x = grind (arith, nat_tests)
 
 placed-threaded : (before said : List Said)
     → flat_map placed_bytes (in_place before said) ≡ threaded (base_after before) said
@@ -67,12 +62,10 @@ then_end prefix = prefix ++ Ok End ∷ []
 
 pub stops : (prefix more : List Said) → AllGoOn prefix → up_to_end (prefix ++ Ok End ∷ more) ≡ then_end prefix
 stops [] more on = refl
-stops (Err fault ∷ prefix) more on = absurd on.0
-stops (Ok (Counted n) ∷ prefix) more on = absurd on.0
-stops (Ok End ∷ prefix) more on = absurd on.0
 stops (Ok Nothing ∷ prefix) more on = ap (λ (zs : List Said). Ok Nothing ∷ zs) (stops prefix more on.1)
 stops (Ok (Data offset bytes) ∷ prefix) more on = grind (arith, nat_tests, stops prefix more on.1)
 stops (Ok (Rebase base) ∷ prefix) more on = ap (λ (zs : List Said). Ok (Rebase base) ∷ zs) (stops prefix more on.1)
+stops x more on = absurd on.0
 
 has_end : (prefix more : List Said) → list_any is_end (prefix ++ Ok End ∷ more) ≡ true
 has_end [] more = refl
@@ -83,12 +76,10 @@ ended prefix more = ap (λ (b : Bool). if b then Ended else NoEnd) (has_end pref
 
 fault-none : (size : ℕ) (before : List Said) (s : Said) → GoesOn s → beyond size (placed_bytes (before, s)) ≡ None
     → fault_in size (before, s) ≡ None
-fault-none size before (Err fault) on inside = absurd on
-fault-none size before (Ok (Counted n)) on inside = absurd on
-fault-none size before (Ok End) on inside = absurd on
 fault-none size before (Ok Nothing) on inside = refl
 fault-none size before (Ok (Data offset bytes)) on inside = ap (option_map line.Range) inside
 fault-none size before (Ok (Rebase base)) on inside = refl
+fault-none size before x on inside = absurd on
 
 pub first_fault-none : (size : ℕ) (before prefix : List Said) → AllGoOn prefix
     → beyond size (flat_map placed_bytes (in_place before (then_end prefix))) ≡ None

@@ -32,12 +32,10 @@ lead-held : (base addr n : ℕ) (bytes : List ℕ) → addr ≡ base + n
     → lead (drop addr (held base bytes)) ≡ drop n bytes
 lead-held zero zero zero [] is = refl
 lead-held zero zero zero (b ∷ bytes) is = ap (λ (more : List ℕ). b ∷ more) (lead-held zero zero zero bytes is)
-lead-held zero zero (suc n) bytes is = absurd (omega (arith, is))
-lead-held zero (suc addr) zero bytes is = absurd (omega (arith, is))
 lead-held zero (suc addr) (suc n) [] is = refl
 lead-held zero (suc addr) (suc n) (b ∷ bytes) is = lead-held zero addr n bytes (omega (arith, is))
-lead-held (suc base) zero n bytes is = absurd (omega (arith, is))
 lead-held (suc base) (suc addr) n bytes is = lead-held base addr n bytes (omega (arith, is))
+lead-held x y z bytes is = absurd (omega (arith, is))
 
 lead-in : (base addr n : ℕ) (bytes : List ℕ) → addr ≡ base + n → lead (drop addr (run_at base bytes)) ≡ drop n bytes
 lead-in base addr n [] is = ap lead (drop-nil addr) ∙ sym (drop-nil n)
@@ -59,11 +57,10 @@ pub row-in : (base addr most past few : ℕ) (bytes : List ℕ) → base ≤ add
 row-in base addr most past few bytes after past_is few_is = grind (arith, nat_tests, drop_min, take_min, take_rest, lead-in)
 
 bytes-held : (base : ℕ) (bytes : List ℕ) → IsBytes bytes → HoldsBytes (held base bytes)
-bytes-held zero [] all addr byte is = absurd (cc is)
 bytes-held zero (b ∷ bytes) all zero byte is = let same : b ≡ byte = cc is in omega (arith, same, all 0)
 bytes-held zero (b ∷ bytes) all (suc addr) byte is = bytes-held zero bytes (λ i. all (suc i)) addr byte is
-bytes-held (suc base) bytes all zero byte is = absurd (cc is)
 bytes-held (suc base) bytes all (suc addr) byte is = bytes-held base bytes all addr byte is
+bytes-held x y all z byte is = absurd (cc is)
 
 pub is-memory : (base : ℕ) (bytes : List ℕ) → base + length bytes ≤ 2 ^ 32 → IsBytes bytes
     → IsMemory (run_at base bytes)

@@ -53,8 +53,7 @@ pub record IsIn (end : ℕ) (run : ℕ × List ℕ) : Type 0 where
 
 onto-in : (end addr b : ℕ) (more : List (ℕ × List ℕ)) → addr < end → b < 256 → Every (IsIn end) more
     → Every (IsIn end) (onto_runs addr b more)
-onto-in end addr b [] inside byte all = grind (arith, nat_tests)
-onto-in end addr b ((next, bytes) ∷ more) inside byte all = grind (arith, nat_tests)
+onto-in end addr b x inside byte all = grind (arith, nat_tests)
 
 last-least : (last addr : ℕ) (image : List (Option ℕ)) → last ≤ addr → last ≤ last_held last addr image
 last-least last addr [] l = omega arith

@@ -20,15 +20,13 @@ after image = drop (length (lead image)) image
 
 lead-drop : (n : ℕ) (image : List (Option ℕ)) → n ≤ length (lead image) → lead (drop n image) ≡ drop n (lead image)
 lead-drop zero image l = refl
-lead-drop (suc n) [] l = absurd (omega (arith, l))
-lead-drop (suc n) (None ∷ image) l = absurd (omega (arith, l))
 lead-drop (suc n) (Some b ∷ image) l = lead-drop n image (omega (arith, l))
+lead-drop (suc n) x l = absurd (omega (arith, l))
 
 after-drop : (n : ℕ) (image : List (Option ℕ)) → n ≤ length (lead image) → after (drop n image) ≡ after image
 after-drop zero image l = refl
-after-drop (suc n) [] l = absurd (omega (arith, l))
-after-drop (suc n) (None ∷ image) l = absurd (omega (arith, l))
 after-drop (suc n) (Some b ∷ image) l = after-drop n image (omega (arith, l))
+after-drop (suc n) x l = absurd (omega (arith, l))
 
 pub rows-lead : (size : ℕ → ℕ) (addr : ℕ) (image : List (Option ℕ))
     → rows_of size (runs addr image) ≡ rows size addr (lead image)
@@ -130,10 +128,9 @@ last-next last addr place (Some b ∷ image) is = grind (arith, nat_tests)
 
 last-prefix : (last addr n : ℕ) (image : List (Option ℕ)) → n < length (lead image)
     → last_held last addr image ≡ last_held (addr + n) (addr + suc n) (drop (suc n) image)
-last-prefix last addr n [] some = absurd (omega (arith, some))
-last-prefix last addr n (None ∷ image) some = absurd (omega (arith, some))
 last-prefix last addr zero (Some b ∷ image) some = grind (arith, nat_tests)
 last-prefix last addr (suc n) (Some b ∷ image) some = grind (arith, nat_tests, last-prefix addr (addr + 1) n image (omega (arith, some)))
+last-prefix last addr n x some = absurd (omega (arith, some))
 
 pub last-done : (last addr : ℕ) (image : List (Option ℕ)) → first_from image addr ≡ None
     → last_held last addr (drop addr image) ≡ last

@@ -110,9 +110,7 @@ addressed-low type size addr row fits = grind (arith, nat_tests, length_low_byte
 
 meant-data : (size : AddressSize) (addr : ℕ) (row : List ℕ)
     → record_meaning Srec (record_with (bytes_of size - 1) addr row) ≡ Ok (Data addr row)
-meant-data Two addr row = refl
-meant-data Three addr row = refl
-meant-data Four addr row = refl
+meant-data x addr row = grind (arith, nat_tests)
 
 -- what a row of data says
 abbrev pub said_of : ℕ × List ℕ → Said

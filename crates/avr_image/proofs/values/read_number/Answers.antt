@@ -1,6 +1,6 @@
-use Rattle.std.proofs.Common.{◌≡◌, ◌<◌, ◌∙◌, ap, arith, get_or, length, ℕ, ◌+◌, min, drop}
+use Rattle.std.proofs.lemmas.Bool.Decides.{nat_tests}
+use Rattle.std.proofs.Common.{◌≡◌, ◌<◌, ap, arith, get_or, length}
 use Rattle.std.specs.Char.{digit_value}
-use Rattle.std.specs.Str.Parse.{digits_value_after}
 use Rattle.avr_image.proofs.Texts.Digits.{value-step, digits-step, lt_test}
 use Rattle.avr_image.proofs.values.read_number.Goals as goal
 
@@ -15,10 +15,7 @@ loop-c-preserved c =
     let small : digit_value (get_or digits i 0) < c.args.base = omega (arith, c.in-Some.ensures.value.0, value_is) in
     record {
       small = omega (arith, c.min-value.ensures);
-      digits = digits-step c.args.base i digits l (lt_test (digit_value (get_or digits i 0)) c.args.base small)
-          ∙ kept.digits;
+      digits = grind (arith, nat_tests, digits-step, lt_test);
       value =
-          ap (λ (n : ℕ). min (digits_value_after c.args.base n (drop (i + 1) digits)) 256) c.min-value.ensures
-          ∙ value-step c.args.base c.loop-c.value c.in-Some.digit i digits (omega (arith, c.requires.low)) l
-          (c.in-Some.ensures.value.1 ∙ value_is) ∙ kept.value;
+          grind (arith, nat_tests, value-step);
     }

@@ -1,3 +1,4 @@
+use Rattle.std.proofs.lemmas.Bool.Decides.{nat_tests}
 use Rattle.std.proofs.Common.{◌∙◌, arith}
 use Rattle.avr_image.proofs.Fields.Shown.{kept_whole, holds_bytes, sized}
 use Rattle.avr_image.proofs.image.Image.as_slice.Goals as goal
@@ -8,11 +9,4 @@ returns-clause-filled c =
     c.self.invariant.blank
 
 pub returns-clause-image : goal.returns-clause-image
-returns-clause-image c = record {
-  short = omega (
-    arith,
-    sized c.self.inside.words.items c.self.inside.bytes.items c.self.view_is,
-    c.self.invariant.below,
-  );
-  bytes = holds_bytes c.self.inside.words.items c.self.inside.bytes.items c.self.view_is c.self.invariant.small;
-}
+returns-clause-image c = grind (arith, nat_tests, sized, holds_bytes)

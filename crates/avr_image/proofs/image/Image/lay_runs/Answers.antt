@@ -1,4 +1,5 @@
-use Rattle.std.proofs.Common.{◌≡◌, ◌∙◌, sym, ap, refl, arith, length, ℕ, List}
+use Rattle.std.proofs.lemmas.Bool.Decides.{nat_tests}
+use Rattle.std.proofs.Common.{◌≡◌, ◌∙◌, sym, ap, arith, ℕ, List}
 use Rattle.std.specs.List.{flat_map}
 use Rattle.avr_image.specs.Image.{laid_over}
 use Rattle.avr_image.specs.Runs.{runs, places_of}
@@ -6,14 +7,7 @@ use Rattle.avr_image.proofs.Walks.Runs.{runs-end, runs-over}
 use Rattle.avr_image.proofs.image.Image.lay_runs.Goals as goal
 
 pub loop-addr-init : goal.loop-addr-init
-loop-addr-init c =
-    let into : c.into_iter-addr-iterator.result ≡ runs 0 c.args.other.now =
-    cc (c.into_iter-addr-iterator.ensures.into_iter_gives, c.runs-addr-items.ensures) in
-    record {
-      whole = refl;
-      size = refl;
-      inside = rw into (runs-end (length c.args.self.now) 0 c.args.other.now (omega (arith, c.requires)));
-    }
+loop-addr-init c = grind (arith, nat_tests, runs-end)
 
 pub returns-clause-over : goal.returns-clause-over
 returns-clause-over c =

@@ -1,12 +1,11 @@
-use Rattle.std.proofs.Common.{◌∙◌, sym, arith, length, ◌<◌}
+use Rattle.std.proofs.Common.{arith, length, ◌<◌}
 use Rattle.std.proofs.lemmas.Bool.Decides.{nat_tests}
 use Rattle.std.proofs.lemmas.List.{length-set}
 use Rattle.avr_image.proofs.Fields.Shown.{shown-marked, blank-marked, length-marked, length_shown, sized, small-set}
 use Rattle.avr_image.proofs.image.Image.put.Goals as goal
 
 pub returns-then-at-len-clause-judged : goal.returns-then-at-len-clause-judged
-returns-then-at-len-clause-judged c =
-    let size = sized _ _ c.self.view_is in grind (arith, nat_tests, size, c.len.ensures, c.if-at-len.true)
+returns-then-at-len-clause-judged c = grind (arith, nat_tests, sized)
 
 pub invariant_of-self : goal.invariant_of-self
 invariant_of-self c =
@@ -23,8 +22,7 @@ invariant_of-self c =
     })
 
 pub returns-clause-judged : goal.returns-clause-judged
-returns-clause-judged c =
-    let size = sized _ _ c.self.view_is in grind (arith, nat_tests, size, c.len.ensures, c.if-at-len.false)
+returns-clause-judged c = grind (arith, nat_tests, sized)
 
 pub returns-clause-laid : goal.returns-clause-laid
 returns-clause-laid c =
@@ -33,6 +31,4 @@ returns-clause-laid c =
     (shown-marked c.self.inside.words.items _ _ _ within (omega (arith, within, c.self.invariant.enough)))
 
 pub returns-clause-size : goal.returns-clause-size
-returns-clause-size c =
-    rw (← c.self.view_is) (length_shown _ _ ∙ length-set c.self.inside.bytes.items c.args.addr c.args.byte
-    ∙ sym (length_shown _ _))
+returns-clause-size c = grind (arith, nat_tests, length_shown, length-set)

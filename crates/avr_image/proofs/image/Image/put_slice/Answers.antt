@@ -1,4 +1,4 @@
-use Rattle.std.proofs.Common.{◌≡◌, ◌<◌, ◌+◌, ◌≤◌, ◌∙◌, sym, ap, arith, refl, ℕ, List, Option, length, max}
+use Rattle.std.proofs.Common.{◌<◌, ◌+◌, ◌≤◌, ◌∙◌, ap, arith, ℕ, List, Option, length}
 use Rattle.std.proofs.lemmas.Bool.Decides.{nat_tests}
 use Rattle.std.specs.List.{enumerate_from}
 use Rattle.avr_image.specs.Image.{laid_over}
@@ -8,14 +8,7 @@ use Rattle.avr_image.proofs.Places.Laid.{shown-pasted, kept-pasted, length-paste
 use Rattle.avr_image.proofs.image.Image.put_slice.Goals as goal
 
 pub returns-then-bytes-saturating_sub-clause-judged : goal.returns-then-bytes-saturating_sub-clause-judged
-returns-then-bytes-saturating_sub-clause-judged c =
-    let size = sized _ _ c.self.view_is in
-    let past : length c.args.self.now < c.args.addr + length c.args.bytes.now =
-    omega (arith, size, c.len-size.ensures, c.saturating_sub.ensures, c.if-bytes-saturating_sub.true) in
-    let some : 0 < length c.args.bytes.now = omega (arith, c.saturating_sub.ensures, c.if-bytes-saturating_sub.true) in
-    let same : c.max.result ≡ max c.args.addr (length c.args.self.now) =
-    omega (arith, size, c.len-size.ensures, c.max.ensures) in
-    rw (fits_no c.args.addr c.args.bytes.now (length c.args.self.now) some past, same) refl
+returns-then-bytes-saturating_sub-clause-judged c = grind (arith, nat_tests, sized, fits_no)
 
 pub invariant_of-self : goal.invariant_of-self
 invariant_of-self c =
@@ -30,12 +23,7 @@ invariant_of-self c =
     (λ i. omega (arith, c.type_inv.bytes i)) c.self.invariant)
 
 pub returns-clause-judged : goal.returns-clause-judged
-returns-clause-judged c =
-    let size = sized _ _ c.self.view_is in
-    let some : 0 < length c.args.bytes.now = grind (arith, nat_tests, c.is_empty.ensures, c.if-is_empty.false) in
-    let room : c.args.addr + length c.args.bytes.now ≤ length c.args.self.now =
-    omega (arith, some, size, c.len-size.ensures, c.saturating_sub.ensures, c.if-bytes-saturating_sub.false) in
-    rw (fits_yes c.args.addr c.args.bytes.now (length c.args.self.now) room) refl
+returns-clause-judged c = grind (arith, nat_tests, sized, fits_yes)
 
 pub returns-clause-laid : goal.returns-clause-laid
 returns-clause-laid c =
@@ -49,11 +37,4 @@ returns-clause-laid c =
     ∙ ap (λ (image : List (Option ℕ)). laid_over image (enumerate_from c.args.addr c.args.bytes.now)) c.self.view_is
 
 pub returns-clause-size : goal.returns-clause-size
-returns-clause-size c =
-    let words = c.self.inside.words.items in
-    let bytes = c.self.inside.bytes.items in
-    let some : 0 < length c.args.bytes.now = grind (arith, nat_tests, c.is_empty.ensures, c.if-is_empty.false) in
-    let room : c.args.addr + length c.args.bytes.now ≤ length bytes =
-    omega (arith, some, c.len-size.ensures, c.saturating_sub.ensures, c.if-bytes-saturating_sub.false) in
-    length_shown c.mark_span.new.words.items c.paste.new.bytes.items ∙ ap length c.paste.ensures
-    ∙ length-pasted c.args.addr c.args.bytes.now bytes room ∙ sym (sized _ _ c.self.view_is)
+returns-clause-size c = grind (arith, nat_tests, length_shown, length-pasted, sized)

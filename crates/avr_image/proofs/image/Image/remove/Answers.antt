@@ -1,13 +1,12 @@
-use Rattle.std.proofs.Common.{◌∙◌, sym, arith, length, ◌<◌}
+use Rattle.std.proofs.lemmas.Bool.Decides.{nat_tests}
+use Rattle.std.proofs.Common.{arith, length, ◌<◌}
 use Rattle.std.proofs.lemmas.List.{length-set}
 use Rattle.avr_image.proofs.Fields.Shown.{length_shown, sized, small-set}
 use Rattle.avr_image.proofs.Places.Removed.{shown-removed, blank-removed, length-cleared, removed-past}
 use Rattle.avr_image.proofs.image.Image.remove.Goals as goal
 
 pub returns-then-place-len-clause-removed : goal.returns-then-place-len-clause-removed
-returns-then-place-len-clause-removed c =
-    removed-past c.args.self.now c.args.addr
-    (omega (arith, sized _ _ c.self.view_is, c.len.ensures, c.if-place-len.true))
+returns-then-place-len-clause-removed c = grind (arith, nat_tests, removed-past, sized)
 
 pub invariant_of-self : goal.invariant_of-self
 invariant_of-self c =
@@ -29,6 +28,4 @@ returns-clause-removed c =
     (shown-removed c.self.inside.words.items _ _ within (omega (arith, within, c.self.invariant.enough)))
 
 pub returns-clause-size : goal.returns-clause-size
-returns-clause-size c =
-    rw (← c.self.view_is) (length_shown _ _ ∙ length-set c.self.inside.bytes.items c.args.addr 255
-    ∙ sym (length_shown _ _))
+returns-clause-size c = grind (arith, nat_tests, length_shown, length-set)

@@ -1,3 +1,4 @@
+use Rattle.std.proofs.lemmas.Bool.Decides.{nat_tests}
 use Rattle.std.proofs.Common.{◌∙◌, sym, ap, arith, ℕ, ◌∷◌, List, length, drop}
 use Rattle.std.specs.List.{slice_range}
 use Rattle.avr_image.specs.Image.{run_end}
@@ -7,10 +8,7 @@ use Rattle.avr_image.proofs.Walks.Places.{next_held}
 use Rattle.avr_image.proofs.runs.RunsIterator.next.Goals as goal
 
 pub returns-in_default-clause-steps : goal.returns-in_default-clause-steps
-returns-in_default-clause-steps c =
-    let none = sym c.self.view_is ∙ runs-none c.self.inside.image.now c.self.inside.addr
-    (sym c.first_from.ensures ∙ c.in_default.is) in
-    (none, none)
+returns-in_default-clause-steps c = grind (arith, nat_tests, runs-none)
 
 pub run_from-end-requires : goal.run_from-end-requires
 run_from-end-requires c =
