@@ -22,7 +22,7 @@ pub use Rattle.stk_emu.specs.Programmer
 pub use Rattle.stk_frame.specs.Cut
 pub use Rattle.stk_host.specs.Dialog
 pub use Rattle.stk_host.specs.Play
-pub use Rattle.stk_host.specs.Talk
+pub use Rattle.stk_host.specs.Transcript
 pub use Rattle.stk_host.specs.Tape
 -- its own
 pub mod TwoProcesses

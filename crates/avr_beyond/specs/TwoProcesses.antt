@@ -1,7 +1,7 @@
 -- TWO PROCESSES: a session's host and a server, at the two ends of a link. The link keeps the order of bytes, loses
 -- none and adds none, and cuts and has timeouts anywhere.
 use Rattle.std.specs.Prelude.{ℕ, zero, suc, List, [], ◌∷◌, ◌++◌, ◌≡◌}
-use Rattle.avr_desk.specs.Record.{Bytes, DeskView}
+use Rattle.avr_desk.specs.Record.{Bytes, DeskState}
 use Rattle.avr_part.specs.State.{ChipState as Chip}
 use Rattle.avr_plan.specs.Plan.{Plan}
 use Rattle.avr_session.specs.Runs.{Ran, devices, start}
@@ -9,7 +9,7 @@ use Rattle.avr_session.specs.Session.{session}
 use Rattle.stk_frame.specs.Cut.{frames, rest}
 use Rattle.stk_host.specs.declared.link.Item.TheVariants.{Byte, Silence, End}
 use Rattle.stk_host.specs.Play.{IsPrefixOf, Position}
-use Rattle.stk_host.specs.Talk.{LinkView, Talk, Sent, Got, sent, heard}
+use Rattle.stk_host.specs.Transcript.{LinkState, Transcript, Sent, Got, sent, heard}
 use Rattle.stk_host.specs.Tape.{Tape, bytes_of}
 use Rattle.stk_emu.specs.Device.{device, answers, after_frames}
 use Rattle.stk_emu.specs.Programmer.{Programmer}
@@ -27,14 +27,14 @@ pub data Call : Type 0 where
   ServerHears : Tape → Call
 
 -- The transcript of each end.
-abbrev pub of_host : List Call → Talk
+abbrev pub of_host : List Call → Transcript
 of_host [] = []
 of_host (HostSays bytes ∷ calls) = Sent bytes ∷ of_host calls
 of_host (HostHears items ∷ calls) = Got items ∷ of_host calls
 of_host (ServerSays bytes ∷ calls) = of_host calls
 of_host (ServerHears items ∷ calls) = of_host calls
 
-abbrev pub of_server : List Call → Talk
+abbrev pub of_server : List Call → Transcript
 of_server [] = []
 of_server (HostSays bytes ∷ calls) = of_server calls
 of_server (HostHears items ∷ calls) = of_server calls
@@ -42,7 +42,7 @@ of_server (ServerSays bytes ∷ calls) = Sent bytes ∷ of_server calls
 of_server (ServerHears items ∷ calls) = Got items ∷ of_server calls
 
 -- What each end has received is a prefix of what the other has sent.
-pub record IsJoined (host server : Talk) : Type 0 where
+pub record IsJoined (host server : Transcript) : Type 0 where
   pub up : IsPrefixOf (bytes_of (heard server)) (sent host)
   pub down : IsPrefixOf (bytes_of (heard host)) (sent server)
 
@@ -61,12 +61,12 @@ StallsBetweenAnswers tape = (before after : Tape) → tape ≡ before ++ Silence
 
 -- However serving ended, the server took the first bytes received, obeyed all frames in them, and sent their answers,
 -- the last one perhaps in part.
-pub record HasServed (p : Programmer) (talk : Talk) (left : Programmer) : Type 0 where
+pub record HasServed (p : Programmer) (transcript : Transcript) (left : Programmer) : Type 0 where
   pub used : List ℕ
   pub unused : List ℕ
-  pub heard_is : used ++ unused ≡ bytes_of (heard talk)
+  pub heard_is : used ++ unused ≡ bytes_of (heard transcript)
   pub unsent : List ℕ
-  pub sent_is : sent talk ++ unsent ≡ answers device (frames used) p
+  pub sent_is : sent transcript ++ unsent ≡ answers device (frames used) p
   pub left_is : left ≡ after_frames device (frames used) p
 
 -- ---- 3. What happened to the frames
@@ -86,8 +86,8 @@ IsPrompt (End ∷ tape) = IsPrompt tape
 
 -- ---- 5. Such a run exists
 
-abbrev pub passed : Talk → LinkView
-passed talk = record { talk = talk; failures = 0 }
+abbrev pub passed : Transcript → LinkState
+passed transcript = record { transcript = transcript; failures = 0 }
 
 -- A session of this plan that ran whole, and a server of status 0 with this chip, at the ends of an ordered link
 -- without timeouts. Nothing had passed before.
@@ -98,10 +98,10 @@ pub record HasRun (plan : Plan) (chip : Chip) (file : Bytes) : Type 0 where
   pub most : ℕ
   pub status : ℕ
   pub after : Position
-  pub host_desk : DeskView
-  pub host_desk_then : DeskView
-  pub server_desk : DeskView
-  pub server_desk_then : DeskView
+  pub host_desk : DeskState
+  pub host_desk_then : DeskState
+  pub server_desk : DeskState
+  pub server_desk_then : DeskState
   pub ran : Ran (session plan) start (devices (passed []) host_desk) (devices (passed (of_host calls)) host_desk_then)
       status after
   pub serves : ServesChip chip file most (devices (passed []) server_desk)

@@ -22,10 +22,10 @@ ghost use Rattle.stk_emu.specs.Emulator.{Machine};
 ghost use Rattle.stk_emu.specs.Effect.{memories_of};
 ghost use Rattle.stk_emu.specs.Programmer.{Programmer, fresh_programmer};
 ghost use Rattle.stk_frame.specs.Cut.{frames};
-ghost use Rattle.avr_course.specs.AnyTape.{AreHonest, after_sent, turns_heard};
+ghost use Rattle.avr_course.specs.AnyTape.{AreHonest, after_pieces, turns_heard};
 ghost use Rattle.avr_course.specs.NoFrame.{MakesNoFrame};
 ghost use Rattle.stk_host.specs.Dialog.{Event, played, frames_in, bytes_sent, sayings};
-ghost use Rattle.stk_host.specs.Talk.{Talk, heard, sent, Got};
+ghost use Rattle.stk_host.specs.Transcript.{Transcript, heard, sent, Got};
 ghost use Rattle.stk_host.specs.Play.{Position, Plays, IsPrefixOf, InTurn};
 ghost use Rattle.stk_host.specs.declared.link.Item.TheVariants.{Byte, Silence};
 ghost use Rattle.stk_host.specs.Tape.{Tape, bytes_of};
@@ -34,30 +34,30 @@ ghost use Rattle.stk_host.specs.Tape.{Tape, bytes_of};
 /// its programmer is as they left it. However serving ended, it took a prefix of the bytes received, obeyed all
 /// frames in it, and sent their answers, the last one perhaps in part.
 pub fn a_server_sends_the_answers_to_what_it_heard()
-    ensures all { (p : Programmer) (talk : Talk) (left : Machine)
-        → AnswersAll p [] (bytes_of (heard talk)) (sent talk) left
-        → (sent talk ≡ answers device (frames (bytes_of (heard talk))) p)
-        × (left.programmer ≡ after_frames device (frames (bytes_of (heard talk))) p) }
-    ensures however { (served : Served) (p : Programmer) (talk : Talk) (left : Machine)
-        → ServingLeaves served p [] talk left → HasServed p talk left.programmer }
+    ensures all { (p : Programmer) (transcript : Transcript) (left : Machine)
+        → AnswersAll p [] (bytes_of (heard transcript)) (sent transcript) left
+        → (sent transcript ≡ answers device (frames (bytes_of (heard transcript))) p)
+        × (left.programmer ≡ after_frames device (frames (bytes_of (heard transcript))) p) }
+    ensures however { (served : Served) (p : Programmer) (transcript : Transcript) (left : Machine)
+        → ServingLeaves served p [] transcript left → HasServed p transcript left.programmer }
 {}
 
 /// States that all a host reads from a server is honest, over a link that keeps their bytes in order and has timeouts
 /// only between answers. The frames that the server took were obeyed, and the others never arrived; the server's
 /// programmer is as they left it. This holds at any moment of a session, however it ends.
 pub fn what_a_host_hears_of_a_server_is_honest()
-    ensures honest { (plan : Plan) (s : Chip) (left : Programmer) (host server : Talk)
+    ensures honest { (plan : Plan) (s : Chip) (left : Programmer) (host server : Transcript)
         → IsSoundChip s → s.part ≡ plan.part → All (IsFitted plan.part) plan.tasks
         → (serves : HasServed (fresh_programmer s) server left) → IsJoined host server
         → HasNoEnd (heard host) → StallsBetweenAnswers (heard host)
         → IsPrefixOf (sent host) (bytes_sent (played (session plan) 1 (heard host)).events)
         → AreHonest device (session plan) 1 (heard host) (fresh_programmer s) (obeyed (length (frames serves.used))) }
-    ensures leaves { (plan : Plan) (s : Chip) (left : Programmer) (host server : Talk)
+    ensures leaves { (plan : Plan) (s : Chip) (left : Programmer) (host server : Transcript)
         → IsSoundChip s → s.part ≡ plan.part → All (IsFitted plan.part) plan.tasks
         → (serves : HasServed (fresh_programmer s) server left) → IsJoined host server
         → HasNoEnd (heard host) → StallsBetweenAnswers (heard host)
         → IsPrefixOf (sent host) (bytes_sent (played (session plan) 1 (heard host)).events)
-        → after_sent device (frames_in (played (session plan) 1 (heard host)).events)
+        → after_pieces device (frames_in (played (session plan) 1 (heard host)).events)
         (obeyed (length (frames serves.used))) (fresh_programmer s) ≡ left }
 {}
 
@@ -80,15 +80,16 @@ pub fn a_session_and_a_server_are_one_run()
         (file : Bytes) (most status served_status : ℕ) (after : Position)
         → IsSoundChip s → s.part ≡ plan.part → All (IsFitted plan.part) plan.tasks
         → IsOrdered calls → StallsBetweenAnswers (heard (of_host calls))
-        → old.link.talk ≡ [] → new.link.talk ≡ of_host calls
-        → server_old.link.talk ≡ [] → server_new.link.talk ≡ of_server calls
+        → old.link.transcript ≡ [] → new.link.transcript ≡ of_host calls
+        → server_old.link.transcript ≡ [] → server_new.link.transcript ≡ of_server calls
         → (ran : Ran (session plan) start old new status after)
         → (serves : ServesChip s file most server_old server_new served_status)
         → (served : HasServed (fresh_programmer s) (of_server calls) serves.left.programmer)
         × WholeOverTurns plan (fresh_programmer s) serves.left.programmer
         (turns_heard (session plan) 1 (heard (of_host calls)) (obeyed (length (frames served.used))))
         (sent (of_host calls)) ran.events status }
-    ensures anywhere { (plan : Plan) (s : Chip) (left : Programmer) (host server : Talk) (events : List (Event Saying))
+    ensures anywhere { (plan : Plan) (s : Chip) (left : Programmer) (host server : Transcript)
+        (events : List (Event Saying))
         (status : ℕ) (after : Position)
         → IsSoundChip s → s.part ≡ plan.part → All (IsFitted plan.part) plan.tasks
         → (serves : HasServed (fresh_programmer s) server left) → IsJoined host server
@@ -115,8 +116,8 @@ pub fn a_prompt_line_brings_the_course()
         (file : Bytes) (most status served_status : ℕ) (after : Position)
         → IsSoundChip s → s.part ≡ plan.part → All (IsFitted plan.part) plan.tasks
         → IsOrdered calls → IsPrompt (heard (of_host calls))
-        → old.link.talk ≡ [] → new.link.talk ≡ of_host calls
-        → server_old.link.talk ≡ [] → server_new.link.talk ≡ of_server calls
+        → old.link.transcript ≡ [] → new.link.transcript ≡ of_host calls
+        → server_old.link.transcript ≡ [] → server_new.link.transcript ≡ of_server calls
         → (ran : Ran (session plan) start old new status after)
         → (serves : ServesChip s file most server_old server_new served_status)
         → (status ≡ (course plan (memories_of s)).status) × (sayings ran.events ≡ (course plan (memories_of s)).says)
@@ -130,8 +131,8 @@ pub fn whatever_becomes_of_both_some_strokes_were_made()
         (file : Bytes) (most status served_status : ℕ)
         → IsSoundChip s → s.part ≡ plan.part → All (IsFitted plan.part) plan.tasks
         → IsOrdered calls → StallsBetweenAnswers (heard (of_host calls))
-        → old.link.talk ≡ [] → new.link.talk ≡ of_host calls
-        → server_old.link.talk ≡ [] → server_new.link.talk ≡ of_server calls
+        → old.link.transcript ≡ [] → new.link.transcript ≡ of_host calls
+        → server_old.link.transcript ≡ [] → server_new.link.transcript ≡ of_server calls
         → RunsSession plan old new status
         → (serves : ServesChip s file most server_old server_new served_status)
         → (served : HasServed (fresh_programmer s) (of_server calls) serves.left.programmer)

@@ -11,10 +11,10 @@ use Rattle.avr_session.specs.Session.{session}
 use Rattle.stk_frame.specs.Cut.{frames}
 use Rattle.stk_host.specs.Dialog.{Event, Done, played, frames_in, bytes_sent, sayings}
 use Rattle.stk_host.specs.Play.{InTurn, IsPrefixOf}
-use Rattle.stk_host.specs.Talk.{Talk, Grows, sent, heard}
+use Rattle.stk_host.specs.Transcript.{Transcript, Grows, sent, heard}
 use Rattle.stk_host.specs.Tape.{Tape}
 use Rattle.stk_emu.specs.Along.{along, said_along, AsksBodies}
-use Rattle.avr_course.specs.AnyTape.{AreHonest, GoesAs, CameThrough, after_sent, became_by, turns_heard}
+use Rattle.avr_course.specs.AnyTape.{AreHonest, GoesAs, CameThrough, after_pieces, became_by, turns_heard}
 use Rattle.avr_course.specs.NoFrame.{MakesNoFrame}
 use Rattle.avr_course.proofs.Lines.NoFrame.{no_frame_honest}
 use Rattle.stk_emu.specs.Turn.{Turn, Became}
@@ -27,16 +27,18 @@ use Rattle.avr_course.proofs.OverTurns.{asks, over_turns, comes_over_turns}
 use Rattle.avr_course.proofs.Reports.OverTape.{by_tape}
 
 -- a talk that began with nothing is what passed since
-pub since_none : (old now during talk : Talk) → old ≡ [] → now ≡ talk → Grows old during now → during ≡ talk
-since_none old now during talk none is grows = sym (subst (λ o. Grows o during now) none grows) ∙ is
+pub since_none : (old now during transcript : Transcript) → old ≡ [] → now ≡ transcript → Grows old during now
+    → during ≡ transcript
+since_none old now during transcript none is grows = sym (subst (λ o. Grows o during now) none grows) ∙ is
 
 -- what passed of a session is in turn, and what it sent a prefix of what it sends over what was heard
-abbrev pub IsFirst : Plan → Talk → Type 0
-IsFirst plan talk = InTurn (session plan) start talk
-    × IsPrefixOf (sent talk) (bytes_sent (played (session plan) 1 (heard talk)).events)
+abbrev pub IsFirst : Plan → Transcript → Type 0
+IsFirst plan transcript = InTurn (session plan) start transcript
+    × IsPrefixOf (sent transcript) (bytes_sent (played (session plan) 1 (heard transcript)).events)
 
-pub sent_first : (plan : Plan) (old new : Devices) (status : ℕ) → old.link.talk ≡ [] → RunsSession plan old new status
-    → IsFirst plan new.link.talk
+pub sent_first : (plan : Plan) (old new : Devices) (status : ℕ) → old.link.transcript ≡ []
+    → RunsSession plan old new status
+    → IsFirst plan new.link.transcript
 sent_first plan old new status silent runs = elim runs [
   | inl whole ↦
       let ran = whole.1 in
@@ -56,9 +58,11 @@ sent_first plan old new status silent runs = elim runs [
       (b.breaks.in_turn, (prefix.0, ap (λ bs. bs ++ prefix.0) (sym b.breaks.all_sent) ∙ prefix.1))
 ]
   where
-    now : (during : Talk) → Grows old.link.talk during new.link.talk → IsFirst plan during → IsFirst plan new.link.talk
+    now : (during : Transcript) → Grows old.link.transcript during new.link.transcript → IsFirst plan during
+        → IsFirst plan new.link.transcript
     now during grows first =
-        subst (IsFirst plan) (since_none old.link.talk new.link.talk during new.link.talk silent refl grows) first
+        subst (IsFirst plan) (since_none old.link.transcript new.link.transcript during new.link.transcript silent refl
+        grows) first
 
 module _ (plan : Plan) (s : chips.ChipState) (is_sound : IsSoundChip s) (part_is : s.part ≡ plan.part)
     (fitted : All (IsFitted plan.part) plan.tasks) where
@@ -93,12 +97,13 @@ module _ (plan : Plan) (s : chips.ChipState) (is_sound : IsSoundChip s) (part_is
       first_frames = ap (take count) some.1 ∙ (take-append-le count (frames bytes) some.0 (omega arith)
           ∙ take_all count (frames bytes) (omega arith))
 
-      stands : after_sent device (frames bytes) becames begun
+      stands : after_pieces device (frames bytes) becames begun
           ≡ (along device count (session plan) begun turns).programmer
-      stands = sym (goes.programmer count fewer ∙ ap (λ fs. after_sent device fs becames begun) first_frames)
+      stands = sym (goes.programmer count fewer ∙ ap (λ fs. after_pieces device fs becames begun) first_frames)
 
-      pub over_any_end : OverTurns plan begun (after_sent device (frames bytes) becames begun) turns bytes events_played
-      over_any_end = over_turns plan s is_sound part_is fitted turns (after_sent device (frames bytes) becames begun)
+      pub over_any_end : OverTurns plan begun (after_pieces device (frames bytes) becames begun) turns bytes
+          events_played
+      over_any_end = over_turns plan s is_sound part_is fitted turns (after_pieces device (frames bytes) becames begun)
           bytes stands tape becames prefix honest (by_tape (session plan) 1 tape becames)
 
     -- a whole session
@@ -121,12 +126,13 @@ module _ (plan : Plan) (s : chips.ChipState) (is_sound : IsSoundChip s) (part_is
       said = subst (λ fs. sayings events ≡ said_along device (length fs) (session plan) begun turns) same
           (ap (λ p. sayings p.events) (sym is) ∙ (goes.outcome status next left (ap (λ p. p.outcome) is)).1)
 
-      pub over_any_line : WholeOverTurns plan begun (after_sent device (frames bytes) becames begun) turns bytes events
+      pub over_any_line : WholeOverTurns plan begun (after_pieces device (frames bytes) becames begun) turns bytes
+          events
           status
       over_any_line = (
-        subst (OverTurns plan begun (after_sent device (frames bytes) becames begun) turns bytes)
+        subst (OverTurns plan begun (after_pieces device (frames bytes) becames begun) turns bytes)
             (ap (λ p. p.events) is) (over_any_end bytes all_sent),
-        comes_over_turns plan s is_sound part_is fitted turns (after_sent device (frames bytes) becames begun) bytes
+        comes_over_turns plan s is_sound part_is fitted turns (after_pieces device (frames bytes) becames begun) bytes
             (stands bytes all_sent) (sayings events) status comes said,
       )
 
@@ -136,7 +142,7 @@ module _ (plan : Plan) (s : chips.ChipState) (is_sound : IsSoundChip s) (part_is
     honest_bytes : AreHonest device (session plan) 1 tape begun (became_by through)
     honest_bytes = no_frame_honest device (session plan) 1 tape begun (became_by through) [] tt none
 
-    left_bytes : after_sent device (frames bytes) (became_by through) begun ≡ after_frames device (frames got) begun
+    left_bytes : after_pieces device (frames bytes) (became_by through) begun ≡ after_frames device (frames got) begun
     left_bytes = sym (through_after device got (frames bytes) through begun came)
 
     pub over_bytes : (left : Tape) (events : List (Event Saying)) (status next : ℕ)
@@ -159,15 +165,17 @@ module _ (plan : Plan) (s : chips.ChipState) (is_sound : IsSoundChip s) (part_is
         (over_any_end tape (became_by through) honest_bytes bytes prefix)
 
   -- whatever a call came to over a link that was new
-  module _ (got : List ℕ) (through : List Bool) (old new : Devices) (status : ℕ) (silent : old.link.talk ≡ []) where
-    abbrev talk : Talk
-    talk = new.link.talk
+  module _ (got : List ℕ) (through : List Bool) (old new : Devices) (status : ℕ)
+      (silent : old.link.transcript ≡ []) where
+    abbrev transcript : Transcript
+    transcript = new.link.transcript
 
     pub over_any_run : RunsSession plan old new status
-        → CameThrough got (frames (sent talk)) through
-        → MakesNoFrame device (session plan) 1 (heard talk) begun (became_by through) []
+        → CameThrough got (frames (sent transcript)) through
+        → MakesNoFrame device (session plan) 1 (heard transcript) begun (became_by through) []
         → OverTurns plan begun (after_frames device (frames got) begun)
-        (turns_heard (session plan) 1 (heard talk) (became_by through)) (sent talk)
-        (played (session plan) 1 (heard talk)).events
+        (turns_heard (session plan) 1 (heard transcript) (became_by through)) (sent transcript)
+        (played (session plan) 1 (heard transcript)).events
     over_any_run runs came none =
-        end_bytes got (sent talk) through (heard talk) came none (sent_first plan old new status silent runs).1
+        end_bytes got (sent transcript) through (heard transcript) came none
+        (sent_first plan old new status silent runs).1

@@ -4,11 +4,11 @@ use Rattle.std.proofs.lemmas.List.{append-nil}
 use Rattle.avr_desk.specs.Said.{Saying, after_all}
 use Rattle.avr_part.specs.Sound.{IsSoundChip}
 use Rattle.avr_plan.specs.Plan.{Plan, IsFitted}
-use Rattle.avr_desk.specs.Record.{DeskView, Passes}
+use Rattle.avr_desk.specs.Record.{DeskState, Passes}
 use Rattle.stk_host.specs.Dialog.{Event, played, sayings, frames_in}
 use Rattle.stk_host.specs.Play.{Plays}
 use Rattle.ghosts.specs.Stays.{Stays}
-use Rattle.stk_host.specs.Talk.{sent, heard}
+use Rattle.stk_host.specs.Transcript.{sent, heard}
 use Rattle.avr_session.specs.Run.{RunsSession}
 use Rattle.avr_session.specs.Runs.{start, devices}
 use Rattle.avr_session.specs.Session.{session}
@@ -19,7 +19,7 @@ use Rattle.stk_emu.specs.Effect.{effects, memories_of}
 use Rattle.stk_emu.specs.Programmer.{Programmer, fresh_programmer}
 use Rattle.stk_emu.specs.Turn.{Turn}
 use Rattle.stk_emu.specs.Wire.{turns_of, becames_of}
-use Rattle.stk_emu.specs.Wired.{WiredState, Keeps, ComesOf, IsFresh, wired_view}
+use Rattle.stk_emu.specs.Wired.{WiredState, FollowsFates, ComesOf, IsFresh, wired_view}
 use Rattle.avr_course.specs.AnyLine.{memories, frames_over, events_over, Stopped, WereTrue, OverTurns, ComesOverTurns, OverAnyLine}
 use Rattle.avr_course.specs.Outcome.{strokes}
 use Rattle.avr_course.specs.Told.{IsTrue}
@@ -31,7 +31,7 @@ use Rattle.avr_course.proofs.Reports.OverTape.{by_fates, said_prefix}
 module _ (plan : Plan) (w v : WiredState) (fresh : IsFresh w) (stays : Stays ComesOf w v)
     (is_sound : IsSoundChip w.wire.programmer.chip)
     (part_is : w.wire.programmer.chip.part ≡ plan.part) (fitted : All (IsFitted plan.part) plan.tasks)
-    (old now : DeskView) (status : ℕ) where
+    (old now : DeskState) (status : ℕ) where
   abbrev begun : Programmer
   begun = fresh_programmer w.wire.programmer.chip
 
@@ -41,24 +41,24 @@ module _ (plan : Plan) (w v : WiredState) (fresh : IsFresh w) (stays : Stays Com
   asks_bodies : AsksBodies (session plan)
   asks_bodies = asks plan w.wire.programmer.chip is_sound part_is fitted
 
-  keeps : Keeps begun w.wire.fates v
+  keeps : FollowsFates begun w.wire.fates v
   keeps = stays (record { programmer = begun; fates = w.wire.fates }) fresh.begins
 
   abbrev Runs : Type 0
   Runs = RunsSession plan (devices (wired_view w) old) (devices (wired_view v) now) status
 
-  first : Runs → IsFirst plan v.talk
+  first : Runs → IsFirst plan v.transcript
   first runs = sent_first plan (devices (wired_view w) old) (devices (wired_view v) now) status fresh.silent runs
 
   stands : Runs → v.wire.programmer ≡ (along device (length (frames_over v)) (session plan) begun turns).programmer
   stands runs = stands_along (session plan) 1 begun w.wire.fates v asks_bodies fresh.lawful keeps (first runs).0
       (first runs).1
 
-  over : Runs → OverTurns plan begun v.wire.programmer turns (sent v.talk) (events_over plan v)
+  over : Runs → OverTurns plan begun v.wire.programmer turns (sent v.transcript) (events_over plan v)
   over runs =
       let all = length (frames_in (events_over plan v)) in
-      over_turns plan w.wire.programmer.chip is_sound part_is fitted turns v.wire.programmer (sent v.talk)
-      (stands runs) (heard v.talk) (becames_of all w.wire.fates) (first runs).1
+      over_turns plan w.wire.programmer.chip is_sound part_is fitted turns v.wire.programmer (sent v.transcript)
+      (stands runs) (heard v.transcript) (becames_of all w.wire.fates) (first runs).1
       (honest_heard (session plan) 1 begun w.wire.fates v asks_bodies fresh.lawful keeps (first runs).0 (first runs).1)
       (by_fates all w.wire.fates)
 
@@ -66,14 +66,15 @@ module _ (plan : Plan) (w v : WiredState) (fresh : IsFresh w) (stays : Stays Com
       → ComesOverTurns plan (memories w) (memories v) turns (sayings (events_over plan v)) status
       × Passes (after_all (sayings (events_over plan v))) old now
   came whole =
-      let plays : Plays (session plan) start v.talk whole.1.events status whole.0 =
-      subst (λ talk. Plays (session plan) start talk whole.1.events status whole.0)
-      (since_none w.talk v.talk whole.1.during v.talk fresh.silent refl whole.1.grows) whole.1.plays in
+      let plays : Plays (session plan) start v.transcript whole.1.events status whole.0 =
+      subst (λ transcript. Plays (session plan) start transcript whole.1.events status whole.0)
+      (since_none w.transcript v.transcript whole.1.during v.transcript fresh.silent refl whole.1.grows) whole.1.plays
+      in
       let same : whole.1.events ≡ events_over plan v =
-      sym (ap (λ t. (played (session plan) 1 t).events) (sym (append-nil (heard v.talk)))
+      sym (ap (λ t. (played (session plan) 1 t).events) (sym (append-nil (heard v.transcript)))
       ∙ ap (λ x. x.events) (plays.plays [])) in
       let prefix = (first (inl whole)).1 in (
-        comes_over_turns plan w.wire.programmer.chip is_sound part_is fitted turns v.wire.programmer (sent v.talk)
+        comes_over_turns plan w.wire.programmer.chip is_sound part_is fitted turns v.wire.programmer (sent v.transcript)
             (stands (inl whole)) (sayings (events_over plan v)) status
             (whole_done (session plan) 1 begun w.wire.fates v asks_bodies fresh.lawful keeps plays.in_turn
             whole.1.events status whole.0 plays prefix)
@@ -90,7 +91,7 @@ one_no : ◌≡◌ {A = ℕ} 1 0 → ⊥
 one_no e = cc
 
 -- of a session with status 0, and of one that sent no frame
-module _ (plan : Plan) (w v : WiredState) (d e : DeskView) (status : ℕ) (over : OverAnyLine plan w v d e status) where
+module _ (plan : Plan) (w v : WiredState) (d e : DeskState) (status : ℕ) (over : OverAnyLine plan w v d e status) where
   abbrev said : List Saying
   said = sayings (events_over plan v)
 
@@ -103,7 +104,7 @@ module _ (plan : Plan) (w v : WiredState) (d e : DeskView) (status : ℕ) (over 
       ∙ ap (λ k. effects plan.part (take k (strokes plan)) (memories w)) (over.line.strokes.none (ap length none))
 
 -- what was reported is a prefix of what the session tells over what was heard
-module _ (plan : Plan) (w v : WiredState) (d e : DeskView) (status : ℕ) (silent : w.talk ≡ [])
+module _ (plan : Plan) (w v : WiredState) (d e : DeskState) (status : ℕ) (silent : w.transcript ≡ [])
     (over : OverAnyLine plan w v d e status) where
   abbrev AreTrue : List (Event Saying) → Type 0
   AreTrue = WereTrue plan (fresh_programmer w.wire.programmer.chip) (turns_of w.wire.fates)
@@ -112,14 +113,14 @@ module _ (plan : Plan) (w v : WiredState) (d e : DeskView) (status : ℕ) (silen
       → AreTrue whole.1.events
   played_truly whole =
       let over_heard = ap (λ t. (played (session plan) 1 t).events)
-      (ap heard (sym (since_none w.talk v.talk whole.1.during v.talk silent refl whole.1.grows))
+      (ap heard (sym (since_none w.transcript v.transcript whole.1.during v.transcript silent refl whole.1.grows))
       ∙ sym (append-nil (heard whole.1.during))) in
       subst AreTrue (over_heard ∙ ap (λ x. x.events) (whole.1.plays.plays [])) over.line.believable
 
   pub stopped_truly : (stopped : Stopped plan w v d e) → AreTrue stopped.breaks.prefix.whole
   stopped_truly stopped =
       let over_heard = ap (λ t. (played (session plan) 1 t).events)
-      (ap heard (sym (since_none w.talk v.talk stopped.during v.talk silent refl stopped.grows))) in
+      (ap heard (sym (since_none w.transcript v.transcript stopped.during v.transcript silent refl stopped.grows))) in
       said_prefix device (λ q saying. IsTrue plan (memories_of w.wire.programmer.chip) (memories_of q.chip) saying)
       stopped.breaks.prefix.whole stopped.breaks.prefix.later (turns_of w.wire.fates)
       (fresh_programmer w.wire.programmer.chip)

@@ -5,12 +5,12 @@ use Rattle.avr_part.specs.declared.part.Mem.{Mem}
 use Rattle.avr_plan.specs.Plan.{Plan}
 use Rattle.avr_session.specs.Actions.{Action, CompareImage, actions}
 use Rattle.stk_emu.specs.Effect.{Image, Memories, effects, memory_in}
-use Rattle.stk_emu.specs.Given.{Holds}
+use Rattle.stk_emu.specs.Given.{HoldsImage}
 use Rattle.avr_course.specs.Items.{action_items}
 
 -- The memory holds the image's byte at every address of the image.
 abbrev pub Shows : Part → Mem → Image → Memories → Type 0
-Shows part mem image m = Holds image (memory_in part mem m)
+Shows part mem image m = HoldsImage image (memory_in part mem m)
 
 abbrev pub ActionAgrees : Part → Action → Memories → Type 0
 ActionAgrees part (CompareImage mem image) m = Shows part mem image m

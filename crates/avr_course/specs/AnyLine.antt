@@ -1,7 +1,7 @@
 -- Section 4 of the page (avr_tool's specs/Headline): what the session of a plan did over a link, whatever the link
 -- loses, delays and spoils. By the turns of its frames, and over a wire to the emulated programmer by their fates.
 use Rattle.std.specs.Prelude.{ℕ, ◌+◌, ◌*◌, ◌≡◌, ◌≤◌, ◌⊎◌, true, false, List, [], ◌∷◌, ◌++◌, map, length}
-use Rattle.avr_desk.specs.Record.{DeskView, Passes}
+use Rattle.avr_desk.specs.Record.{DeskState, Passes}
 use Rattle.avr_desk.specs.Said.{Saying, after_all}
 use Rattle.avr_plan.specs.Plan.{Plan}
 use Rattle.avr_session.specs.Run.{StopsSession}
@@ -18,7 +18,7 @@ use Rattle.stk_frame.specs.Commands.{body}
 use Rattle.stk_frame.specs.Cut.{body_of, frames}
 use Rattle.stk_frame.specs.declared.command.Command.{Command}
 use Rattle.stk_host.specs.Dialog.{Event, played, sayings}
-use Rattle.stk_host.specs.Talk.{sent, heard}
+use Rattle.stk_host.specs.Transcript.{sent, heard}
 use Rattle.avr_course.specs.Again.{AgreesAnyway}
 use Rattle.avr_session.specs.PlanSteps.{run_steps}
 use Rattle.avr_course.specs.Foretold.{IsForetold, EndsAsForetold}
@@ -90,22 +90,22 @@ abbrev pub memories : WiredState → Memories
 memories w = memories_of w.wire.programmer.chip
 
 abbrev pub frames_over : WiredState → List (List ℕ)
-frames_over w = frames (sent w.talk)
+frames_over w = frames (sent w.transcript)
 
 abbrev pub events_over : Plan → WiredState → List (Event Saying)
-events_over plan w = (played (session plan) 1 (heard w.talk)).events
+events_over plan w = (played (session plan) 1 (heard w.transcript)).events
 
 -- The session stopped: a device failed, by its count of failures and as the first, or allocation failed at an action
 -- that allocates.
-abbrev pub Stopped : Plan → WiredState → WiredState → DeskView → DeskView → Type 0
+abbrev pub Stopped : Plan → WiredState → WiredState → DeskState → DeskState → Type 0
 Stopped plan before after old now =
     StopsSession plan (devices (wired_view before) old) (devices (wired_view after) now)
 
 -- What a session of this plan did between these states of a wire, whatever the fates of its frames. It ran to its
 -- status, and all its output was done at the desk; or it stopped with status 1.
-pub record OverAnyLine (plan : Plan) (before after : WiredState) (old now : DeskView) (status : ℕ) : Type 0 where
+pub record OverAnyLine (plan : Plan) (before after : WiredState) (old now : DeskState) (status : ℕ) : Type 0 where
   pub line : OverTurns plan (fresh_programmer before.wire.programmer.chip) after.wire.programmer
-      (turns_of before.wire.fates) (sent after.talk) (events_over plan after)
+      (turns_of before.wire.fates) (sent after.transcript) (events_over plan after)
   pub end : (ComesOverTurns plan (memories before) (memories after) (turns_of before.wire.fates)
       (sayings (events_over plan after)) status × Passes (after_all (sayings (events_over plan after))) old now)
       ⊎ (Stopped plan before after old now × (status ≡ 1))

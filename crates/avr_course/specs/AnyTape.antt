@@ -35,10 +35,10 @@ AreHonest m (Ask bytes go_on) n tape p becames =
     (answer n tape)
 
 -- The device after these frames were sent, given what happened to it at each.
-abbrev pub after_sent : {P : Type 0} → Device P → List (List ℕ) → List Became → P → P
-after_sent m [] becames p = p
-after_sent m (piece ∷ sent) becames p =
-    after_sent m sent (other_becames becames) (after_became (first_became becames) (after_frame m piece p) p m.reset)
+abbrev pub after_pieces : {P : Type 0} → Device P → List (List ℕ) → List Became → P → P
+after_pieces m [] becames p = p
+after_pieces m (piece ∷ sent) becames p =
+    after_pieces m sent (other_becames becames) (after_became (first_became becames) (after_frame m piece p) p m.reset)
 
 -- The turn of a question, from what happened to the programmer and what was read. The answer to a command that was
 -- obeyed is its own, unless it is the refusal.
@@ -78,7 +78,7 @@ pub record GoesAs {E R P : Type 0} (m : Device P) (d : Dialog E R) (n : ℕ) (ta
     (becames : List Became) : Type 0 where
   pub programmer : (k : ℕ) → k ≤ length (frames_in (played d n tape).events)
       → (along m k d p (turns_heard d n tape becames)).programmer
-      ≡ after_sent m (take k (frames_in (played d n tape).events)) becames p
+      ≡ after_pieces m (take k (frames_in (played d n tape).events)) becames p
   pub outcome : (r : R) (seq : ℕ) (left : Tape) → (played d n tape).outcome ≡ Some (r, seq, left)
       → ((along m (length (frames_in (played d n tape).events)) d p (turns_heard d n tape becames)).dialog ≡ Done r)
       × (sayings (played d n tape).events

@@ -3,7 +3,7 @@ use Rattle.std.specs.Prelude.{ℕ, suc, ◌+◌, ◌*◌, ◌<◌, ◌≤◌, Li
 use Rattle.stk_frame.specs.Cut.{frames}
 use Rattle.stk_host.specs.Dialog.{Dialog, Event, frames_in}
 use Rattle.stk_host.specs.Play.{Position, Plays, InTurn}
-use Rattle.stk_host.specs.Talk.{Talk, Got, sent, heard}
+use Rattle.stk_host.specs.Transcript.{Transcript, Got, sent, heard}
 use Rattle.stk_host.specs.Tape.{Tape, limit}
 use Rattle.stk_host.specs.declared.link.Item.TheVariants.{Byte, Silence, End}
 
@@ -24,11 +24,11 @@ bytes_on (End ∷ tape) = bytes_on tape
 -- bytes are read for each, except those left unread. Wherever it listens, also in a run that breaks off later, fewer
 -- came before.
 pub record ListensAtMost {E R : Type 0} (n : ℕ) (dialog : Dialog E R) : Type 0 where
-  pub whole : (first : Position) (talk : Talk) (events : List (Event E)) (result : R) (last : Position)
-      → Plays dialog first talk events result last
-      → (length (frames_in events) ≤ n) × ((silences (heard talk) ≤ length (frames_in events))
-      × (length first.unread + bytes_on (heard talk) ≤ limit * length (frames_in events) + length last.unread))
-  pub wherever : (first : Position) (before after : Talk) (items : Tape)
+  pub whole : (first : Position) (transcript : Transcript) (events : List (Event E)) (result : R) (last : Position)
+      → Plays dialog first transcript events result last
+      → (length (frames_in events) ≤ n) × ((silences (heard transcript) ≤ length (frames_in events))
+      × (length first.unread + bytes_on (heard transcript) ≤ limit * length (frames_in events) + length last.unread))
+  pub wherever : (first : Position) (before after : Transcript) (items : Tape)
       → InTurn dialog first (before ++ Got items ∷ after)
       → (length (frames (sent before)) ≤ n) × ((silences (heard before) < length (frames (sent before)))
       × (length first.unread + bytes_on (heard before) < limit * length (frames (sent before))))

@@ -48,5 +48,5 @@ pub use Rattle.stk_host.specs.Operations
 pub use Rattle.stk_host.specs.Play
 pub use Rattle.stk_host.specs.ReadSteps
 pub use Rattle.stk_host.specs.Steps
-pub use Rattle.stk_host.specs.Talk
+pub use Rattle.stk_host.specs.Transcript
 pub use Rattle.stk_host.specs.Tape

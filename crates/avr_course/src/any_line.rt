@@ -2,7 +2,7 @@
 #![tactic(auto)]
 
 ghost use Rattle.std.specs.Prelude.{◌≡◌, ◌*◌, ◌++◌, ℕ, Bool, List, [], All, Some, take};
-ghost use Rattle.avr_desk.specs.Record.{DeskView};
+ghost use Rattle.avr_desk.specs.Record.{DeskState};
 ghost use Rattle.avr_desk.specs.Said.{Saying, SaidPart};
 ghost use Rattle.avr_part.specs.Part.{IsPart};
 ghost use Rattle.avr_plan.specs.Plan.{Plan, IsFitted};
@@ -18,14 +18,14 @@ ghost use Rattle.stk_emu.specs.Settled.{Idle, FitsPart};
 ghost use Rattle.avr_course.specs.Tallies.{Tallies};
 ghost use Rattle.stk_emu.specs.Wired.{WiredState, wired_view};
 ghost use Rattle.stk_emu.specs.Turn.{Turn, Became};
-ghost use Rattle.avr_course.specs.AnyTape.{AreHonest, CameThrough, after_sent, became_by, turns_heard};
+ghost use Rattle.avr_course.specs.AnyTape.{AreHonest, CameThrough, after_pieces, became_by, turns_heard};
 ghost use Rattle.avr_course.specs.NoFrame.{MakesNoFrame};
 ghost use Rattle.avr_part.specs.Sound.{IsSoundChip};
 ghost use Rattle.avr_part.specs.State.{ChipState as Chip};
 ghost use Rattle.avr_session.specs.Run.{RunsSession};
 ghost use Rattle.stk_frame.specs.Cut.{frames};
 ghost use Rattle.stk_host.specs.Play.{IsPrefixOf};
-ghost use Rattle.stk_host.specs.Talk.{sent, heard};
+ghost use Rattle.stk_host.specs.Transcript.{sent, heard};
 ghost use Rattle.stk_emu.specs.Wire.{turns_of};
 ghost use Rattle.stk_host.specs.Tape.{Tape};
 ghost use Rattle.stk_host.specs.Dialog.{Done, Event, played, bytes_sent};
@@ -74,12 +74,12 @@ pub fn what_a_run_tells_is_true()
 /// States that everything reported over a wire was true of the chip at that moment. This covers all output of a
 /// session that ran whole, and all whole events of one that stopped.
 pub fn what_was_told_was_true()
-    ensures played { (plan : Plan) (w v : WiredState) (d e : DeskView) (status : ℕ)
-        → w.talk ≡ [] → OverAnyLine plan w v d e status
+    ensures played { (plan : Plan) (w v : WiredState) (d e : DeskState) (status : ℕ)
+        → w.transcript ≡ [] → OverAnyLine plan w v d e status
         → (whole : IsPlayed (session plan) (devices (wired_view w) d) (devices (wired_view v) e) status)
         → WereTrue plan (fresh_programmer w.wire.programmer.chip) (turns_of w.wire.fates) whole.1.events }
-    ensures stopped { (plan : Plan) (w v : WiredState) (d e : DeskView) (status : ℕ)
-        → w.talk ≡ [] → OverAnyLine plan w v d e status
+    ensures stopped { (plan : Plan) (w v : WiredState) (d e : DeskState) (status : ℕ)
+        → w.transcript ≡ [] → OverAnyLine plan w v d e status
         → (stopped : Stopped plan w v d e)
         → WereTrue plan (fresh_programmer w.wire.programmer.chip) (turns_of w.wire.fates) stopped.breaks.prefix.whole }
 {}
@@ -118,7 +118,7 @@ pub fn a_session_over_any_line()
         → AreHonest device (session plan) 1 tape (fresh_programmer s) becames
         → played (session plan) 1 tape ≡ record { events = events; outcome = Some (status, next, left) }
         → bytes_sent events ≡ bytes
-        → WholeOverTurns plan (fresh_programmer s) (after_sent device (frames bytes) becames (fresh_programmer s))
+        → WholeOverTurns plan (fresh_programmer s) (after_pieces device (frames bytes) becames (fresh_programmer s))
         (turns_heard (session plan) 1 tape becames) bytes events status }
     ensures bytes { (plan : Plan) (s : Chip) (got bytes : List ℕ) (through : List Bool) (tape left : Tape)
         (events : List (Event Saying)) (status next : ℕ)
@@ -133,7 +133,7 @@ pub fn a_session_over_any_line()
         → IsSoundChip s → s.part ≡ plan.part → All (IsFitted plan.part) plan.tasks
         → AreHonest device (session plan) 1 tape (fresh_programmer s) becames
         → IsPrefixOf bytes (bytes_sent (played (session plan) 1 tape).events)
-        → OverTurns plan (fresh_programmer s) (after_sent device (frames bytes) becames (fresh_programmer s))
+        → OverTurns plan (fresh_programmer s) (after_pieces device (frames bytes) becames (fresh_programmer s))
         (turns_heard (session plan) 1 tape becames) bytes (played (session plan) 1 tape).events }
 {}
 
@@ -143,10 +143,10 @@ pub fn a_session_over_any_line()
 pub fn whatever_becomes_of_a_session_its_first_strokes_were_made()
     ensures { (plan : Plan) (s : Chip) (got : List ℕ) (through : List Bool) (old new : Devices) (status : ℕ)
         → IsSoundChip s → s.part ≡ plan.part → All (IsFitted plan.part) plan.tasks
-        → old.link.talk ≡ [] → RunsSession plan old new status
-        → CameThrough got (frames (sent new.link.talk)) through
-        → MakesNoFrame device (session plan) 1 (heard new.link.talk) (fresh_programmer s) (became_by through) []
+        → old.link.transcript ≡ [] → RunsSession plan old new status
+        → CameThrough got (frames (sent new.link.transcript)) through
+        → MakesNoFrame device (session plan) 1 (heard new.link.transcript) (fresh_programmer s) (became_by through) []
         → OverTurns plan (fresh_programmer s) (after_frames device (frames got) (fresh_programmer s))
-        (turns_heard (session plan) 1 (heard new.link.talk) (became_by through)) (sent new.link.talk)
-        (played (session plan) 1 (heard new.link.talk)).events }
+        (turns_heard (session plan) 1 (heard new.link.transcript) (became_by through)) (sent new.link.transcript)
+        (played (session plan) 1 (heard new.link.transcript)).events }
 {}

@@ -9,11 +9,11 @@ ghost use Rattle.stk_frame.specs.Cut.{frames, is_good};
 ghost use Rattle.stk_host.specs.Tape.{Tape, answer};
 ghost use Rattle.stk_host.specs.Dialog.{Dialog, played, frames_in, Done};
 ghost use Rattle.stk_host.specs.Steps.{StepOutcome, step, play};
-ghost use Rattle.stk_host.specs.Talk.{sent};
+ghost use Rattle.stk_host.specs.Transcript.{sent};
 ghost use Rattle.stk_emu.specs.Programmer.{Programmer};
 ghost use Rattle.stk_emu.specs.Device.{device, after_frames};
 ghost use Rattle.avr_course.specs.NoFrame.{MakesNoFrame};
-ghost use Rattle.avr_course.specs.AnyTape.{AreHonest, GoesAs, CameThrough, after_sent, became_by};
+ghost use Rattle.avr_course.specs.AnyTape.{AreHonest, GoesAs, CameThrough, after_pieces, became_by};
 ghost use Rattle.stk_emu.specs.Lawful.{IsClear};
 ghost use Rattle.stk_emu.specs.Wire.{Wire, AreLawful, becames_of, tape_of};
 ghost use Rattle.stk_emu.specs.Turn.{Became, Turn};
@@ -58,7 +58,7 @@ pub fn over_any_tape_a_conversation_goes_along_turns<E, R>()
         → AsksBodies d → AreHonest device d n tape p becames → GoesAs device d n tape p becames }
     ensures got { (got : List ℕ) (sent : List (List ℕ)) (through : List Bool) (p : Programmer)
         → CameThrough got sent through
-        → after_frames device (frames got) p ≡ after_sent device sent (became_by through) p }
+        → after_frames device (frames got) p ≡ after_pieces device sent (became_by through) p }
 {}
 
 /// States that everything read on a link that forges no frame is honest, from the first frame on. An answer that is

@@ -5,7 +5,7 @@ use Rattle.avr_desk.specs.Failing.{Failing, FailsWhenDue}
 use Rattle.avr_desk.specs.Fault.{Counts}
 use Rattle.avr_desk.specs.Files.{FaultCounts}
 use Rattle.avr_desk.specs.Memory.{Stock}
-use Rattle.avr_desk.specs.Record.{Bytes, DeskView, Record, showing, nothing_kept, after_out}
+use Rattle.avr_desk.specs.Record.{Bytes, DeskState, Record, showing, nothing_kept, after_out}
 use Rattle.avr_desk.specs.Said.{TellsLine}
 use Rattle.avr_desk.specs.Shown.{AppendsPrefix}
 use Rattle.avr_desk.specs.Stream.{SendsTaken}
@@ -22,7 +22,7 @@ use Rattle.avr_desk.specs.declared.record.Writing.{Writing}
 use Rattle.avr_desk.specs.declared.stream.Stream.TheVariants.{File, Output, Messages}
 
 -- a desk of which nothing was asked, and that has failed so often, never at the messages
-abbrev silent : ℕ → DeskView
+abbrev silent : ℕ → DeskState
 silent failures = showing nothing_kept failures 0
 
 abbrev done : Result (Unit {0}) DeskFault

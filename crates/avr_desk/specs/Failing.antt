@@ -1,7 +1,7 @@
 -- A desk one of whose calls fails by plan.
 use Rattle.std.specs.Prelude.{◌≡◌, ◌≢◌, ◌==◌, ◌+◌, ◌-◌, ℕ, Result, Err, if◌then◌else◌}
 use Rattle.ghosts.specs.Failures.{counted}
-use Rattle.avr_desk.specs.Record.{DeskView}
+use Rattle.avr_desk.specs.Record.{DeskState}
 use Rattle.avr_desk.specs.declared.desk.DeskFault.{DeskFault}
 use Rattle.avr_desk.specs.declared.desk.DeskFault.TheVariants.{Failed}
 use Rattle.avr_desk.specs.declared.stream.Stream.{Stream}
@@ -16,7 +16,7 @@ pub record Failing (D : Type 0) : Type 0 where
   pub unsaid : ℕ
 
 -- what it shows: the inner desk's record, and its counts with the planned ones, each up to its end
-abbrev pub failing_view : {D : Type 0} → DeskView → Failing D → DeskView
+abbrev pub failing_view : {D : Type 0} → DeskState → Failing D → DeskState
 failing_view inner d = record {
   kept = inner.kept;
   failures = counted (inner.failures + d.planned);

@@ -1,6 +1,6 @@
 -- What passes when a whole file is read over a desk, to its end or past a limit.
 use Rattle.std.specs.Prelude.{◌≡◌, ◌≤◌, ◌<◌, ◌+◌, ℕ, length, Bool, Result, Ok, Err, false, MatchBool}
-use Rattle.avr_desk.specs.Record.{DeskView, Record, Bytes, Passes, noted, with_open, with_absent}
+use Rattle.avr_desk.specs.Record.{DeskState, Record, Bytes, Passes, noted, with_open, with_absent}
 use Rattle.avr_desk.specs.Fault.{Follows, HasFailedAt, HasSameCounts}
 use Rattle.avr_desk.specs.declared.record.Open.TheVariants.{ToRead}
 use Rattle.avr_desk.specs.declared.files.Contents.{Contents}
@@ -24,28 +24,28 @@ with_read name bytes ended r = with_open (ToRead (record { name = name; bytes = 
 
 -- The file was opened and gave what was returned. If it doesn't exist, that is noted; if it couldn't be opened,
 -- nothing passed; if reading broke off, it gave some bytes.
-abbrev pub ReadsFile : Bytes → DeskView → DeskView → Result Contents FileFault → Type 0
+abbrev pub ReadsFile : Bytes → DeskState → DeskState → Result Contents FileFault → Type 0
 ReadsFile name old new (Ok c) = Passes (with_read name c.bytes c.ended) old new
 ReadsFile name old new (Err Absent) = Passes (with_absent name) old new
 ReadsFile name old new (Err NotOpened) = new.kept ≡ old.kept
 ReadsFile name old new (Err fault) = (bytes : Bytes) × Passes (with_read name bytes false) old new
 
 -- the same of an open file
-abbrev pub ReadsOpen : DeskView → DeskView → Result Contents FileFault → Type 0
+abbrev pub ReadsOpen : DeskState → DeskState → Result Contents FileFault → Type 0
 ReadsOpen old new (Ok c) = Passes (after_reading c.bytes c.ended) old new
 ReadsOpen old new (Err Absent) = ⊥
 ReadsOpen old new (Err NotOpened) = ⊥
 ReadsOpen old new (Err fault) = (bytes : Bytes) × Passes (after_reading bytes false) old new
 
 -- How reading a file breaks off: the same faults; if allocation failed, it perhaps gave all bytes.
-abbrev pub FileBreaks : Bytes → DeskView → DeskView → FileFault → Type 0
+abbrev pub FileBreaks : Bytes → DeskState → DeskState → FileFault → Type 0
 FileBreaks name old new Absent = Passes (with_absent name) old new
 FileBreaks name old new NotOpened = new.kept ≡ old.kept
 FileBreaks name old new NotRead = (bytes : Bytes) × Passes (with_read name bytes false) old new
 FileBreaks name old new Memory = (bytes : Bytes) × (ended : Bool) × Passes (with_read name bytes ended) old new
 
 -- the counts of failures after such a fault
-abbrev pub IsCounted : DeskView → DeskView → FileFault → Type 0
+abbrev pub IsCounted : DeskState → DeskState → FileFault → Type 0
 IsCounted old new NotOpened = HasFailedAt File old new
 IsCounted old new NotRead = HasFailedAt File old new
 IsCounted old new fault = HasSameCounts old new
@@ -56,11 +56,11 @@ IsWhole limit c =
     MatchBool c.ended (length c.bytes ≤ limit) ((limit < length c.bytes) × (length c.bytes ≤ limit + 4096))
 
 -- the counts of failures after a fault; a failed allocation is no failure of the desk
-abbrev pub FaultIsCounted : DeskView → DeskView → Result Contents FileFault → Type 0
+abbrev pub FaultIsCounted : DeskState → DeskState → Result Contents FileFault → Type 0
 FaultIsCounted old new (Err NotOpened) = HasFailedAt File old new
 FaultIsCounted old new (Err NotRead) = HasFailedAt File old new
 FaultIsCounted old new r = HasSameCounts old new
 
 -- the counts never fall, and show whether the desk failed
-abbrev pub FaultCounts : DeskView → DeskView → Result Contents FileFault → Type 0
+abbrev pub FaultCounts : DeskState → DeskState → Result Contents FileFault → Type 0
 FaultCounts old new r = Follows old new × FaultIsCounted old new r

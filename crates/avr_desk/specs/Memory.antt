@@ -1,6 +1,6 @@
 -- A desk in memory: what contracts see of it, and the bytes that a name means.
 use Rattle.std.specs.Prelude.{ℕ, List, ◌++◌, drop, length, Option, Some, None, if◌then◌else◌}
-use Rattle.avr_desk.specs.Record.{DeskView, Record, Bytes, all_files, showing}
+use Rattle.avr_desk.specs.Record.{DeskState, Record, Bytes, all_files, showing}
 use Rattle.avr_desk.specs.Named.{bytes_given, is_dash, newest}
 use Rattle.avr_desk.specs.declared.record.Writing.{Writing}
 
@@ -15,7 +15,7 @@ pub record MemDeskState : Type 0 where
   pub opened : Bytes
 
 -- what it shows, as any desk does
-abbrev pub memory_view : MemDeskState → DeskView
+abbrev pub memory_view : MemDeskState → DeskState
 memory_view m = showing m.kept m.failures m.unsaid
 
 -- what was there to begin with: the standard input, and files

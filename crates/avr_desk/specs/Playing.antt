@@ -1,7 +1,7 @@
 -- The run of a stage over a desk: complete, or broken off by a fault of the desk or a failed allocation.
 use Rattle.std.specs.Prelude.{◌≡◌, ◌⊎◌, ℕ, Bool, List, [], ◌∷◌, ◌++◌, true, false, Result, Ok, Err}
 use Rattle.avr_desk.specs.Fault.{Follows, HasFailedToSay, HasSameCounts}
-use Rattle.avr_desk.specs.Record.{DeskView, Passes, Bytes}
+use Rattle.avr_desk.specs.Record.{DeskState, Passes, Bytes}
 use Rattle.avr_desk.specs.declared.record.Opening.{Opening}
 use Rattle.avr_desk.specs.declared.record.Opening.TheVariants.{Found}
 use Rattle.avr_desk.specs.declared.record.Reading.{Reading}
@@ -11,7 +11,7 @@ use Rattle.avr_desk.specs.Stage.{Stage, StageAnswer, Made, Refused, StageResult,
 
 -- These openings passed, and the desk got what the stage says of them, whatever later ones would give. If the stage
 -- refuses, the line of the refusal came last. No call of the desk failed.
-pub record Went {A : Type 0} (stage : Stage A) (old new : DeskView) (answer : StageAnswer A) : Type 0 where
+pub record Went {A : Type 0} (stage : Stage A) (old new : DeskState) (answer : StageAnswer A) : Type 0 where
   pub passed : List Opening
   pub says : List Saying
   pub comes : (more : List Opening) → stage (passed ++ more) ≡ record { says = says; answer = answer; left = more }
@@ -62,7 +62,7 @@ TakesThere taking break passed said = Unit {0}
 
 -- The desk failed at the file or allocation failed, and the line about that was then reported. Or a line couldn't be
 -- printed: a prefix of it was, a write to the messages failed, and nothing else is reported.
-abbrev pub TellsBreak : Break → Bytes → DeskView → DeskView → Type 0
+abbrev pub TellsBreak : Break → Bytes → DeskState → DeskState → Type 0
 TellsBreak (InLine line) told old new = IsPrefixOf told line × HasFailedToSay old new
 TellsBreak (NotOpened name) told old new = TellsFailure (not_opened_line name) told old new
 TellsBreak (NotRead name bytes) told old new = TellsFailure (not_read_line name) told old new
@@ -78,7 +78,7 @@ pub record Rest {A : Type 0} (played : StageResult A) (whole : List Saying) (bre
 
 -- These openings passed, and a prefix of the stage's events for them was done, whatever later ones would give. Then
 -- it broke off, and the reason was reported. It breaks off by a failed allocation only if it allocates there.
-pub record StageBrokeOff {A : Type 0} (taking : Taking) (stage : Stage A) (old new : DeskView) : Type 0 where
+pub record StageBrokeOff {A : Type 0} (taking : Taking) (stage : Stage A) (old new : DeskState) : Type 0 where
   pub passed : List Opening
   pub whole : List Saying
   pub break : Break
@@ -90,11 +90,11 @@ pub record StageBrokeOff {A : Type 0} (taking : Taking) (stage : Stage A) (old n
   pub follows : Follows old new
 
 -- it is refused, and that was reported last
-abbrev pub WentRefused : {A : Type 0} → Stage A → DeskView → DeskView → Type 0
+abbrev pub WentRefused : {A : Type 0} → Stage A → DeskState → DeskState → Type 0
 WentRefused stage old new = (line : Bytes) × Went stage old new (Refused line)
 
 -- The result was made by the stage; or the status is 1, for a reported refusal or a break.
-abbrev pub Goes : {A : Type 0} → Taking → Stage A → DeskView → DeskView → Result A ℕ → Type 0
+abbrev pub Goes : {A : Type 0} → Taking → Stage A → DeskState → DeskState → Result A ℕ → Type 0
 Goes taking stage old new (Ok a) = Went stage old new (Made a)
 Goes taking stage old new (Err status) =
     (status ≡ 1) × (WentRefused stage old new ⊎ StageBrokeOff taking stage old new)

@@ -24,16 +24,16 @@ pub record Record : Type 0 where
   pub messages : Bytes
 
 -- what a desk shows: its record, its failed calls, and how many of these wrote to the messages
-pub record DeskView : Type 0 where
+pub record DeskState : Type 0 where
   pub kept : Record
   pub failures : ℕ
   pub unsaid : ℕ
 
-abbrev pub showing : Record → ℕ → ℕ → DeskView
+abbrev pub showing : Record → ℕ → ℕ → DeskState
 showing kept failures unsaid = record { kept = kept; failures = failures; unsaid = unsaid }
 
 -- what a desk keeps has changed like this
-abbrev pub Passes : (Record → Record) → DeskView → DeskView → Type 0
+abbrev pub Passes : (Record → Record) → DeskState → DeskState → Type 0
 Passes change old new = new.kept ≡ change old.kept
 
 abbrev pub opening_of : Open → List Opening
@@ -102,7 +102,7 @@ abbrev pub with_none_held : Record → Record
 with_none_held r = record r { held = None }
 
 -- what a desk shows once it holds nothing
-abbrev pub released : DeskView → DeskView
+abbrev pub released : DeskState → DeskState
 released view = record view { kept = with_none_held view.kept }
 
 -- the open file is closed, a file of this name has these bytes, and nothing is held
@@ -159,7 +159,7 @@ is_to_write (ToWrite x) = true
 is_to_write o = false
 
 -- a successful call has its file
-abbrev pub HasOpen : {T : Type 0} → (Open → Bool) → DeskView → Result T DeskFault → Type 0
+abbrev pub HasOpen : {T : Type 0} → (Open → Bool) → DeskState → Result T DeskFault → Type 0
 HasOpen test old r = OnOk r (test old.kept.current ≡ true)
 
 abbrev pub nothing_kept : Record

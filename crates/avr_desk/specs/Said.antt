@@ -1,6 +1,6 @@
 -- What a run does at the desk: files that are read, lines that are printed, files and output that are written.
 use Rattle.std.specs.Prelude.{◌≡◌, ◌⊎◌, List, [], ◌∷◌, ◌++◌, Result, Ok, Err}
-use Rattle.avr_desk.specs.Record.{DeskView, Record, Passes, with_open, with_absent, after_write, after_out, after_err, Bytes}
+use Rattle.avr_desk.specs.Record.{DeskState, Record, Passes, with_open, with_absent, after_write, after_out, after_err, Bytes}
 use Rattle.avr_desk.specs.Fault.{Follows, HasFailedAt, HasFailedToSay, HasSameCounts}
 use Rattle.avr_desk.specs.Stream.{SendsPart}
 use Rattle.avr_desk.specs.declared.record.Opening.{Opening}
@@ -43,17 +43,17 @@ SaidPart (Outs part) (Outs whole) = IsPrefixOf part whole
 SaidPart _ _ = ⊥
 
 -- The line was printed, or a prefix of it if a write to the messages failed.
-abbrev pub IsPrinted : {T Fault : Type 0} → DeskView → DeskView → Bytes → Result T Fault → Type 0
+abbrev pub IsPrinted : {T Fault : Type 0} → DeskState → DeskState → Bytes → Result T Fault → Type 0
 IsPrinted old new bytes (Ok done) = Passes (after_err bytes) old new
 IsPrinted old new bytes (Err fault) = SendsPart Messages old new bytes
 
 -- The whole line was reported and no call failed; or a prefix of it was, and a write to the messages failed.
-abbrev pub TellsLine : Bytes → Bytes → DeskView → DeskView → Type 0
+abbrev pub TellsLine : Bytes → Bytes → DeskState → DeskState → Type 0
 TellsLine line told old new =
     ((told ≡ line) × HasSameCounts old new) ⊎ (IsPrefixOf told line × HasFailedToSay old new)
 
 -- This part of the line was reported, and nothing else happened.
-pub record Tells (old new : DeskView) (line : Bytes) : Type 0 where
+pub record Tells (old new : DeskState) (line : Bytes) : Type 0 where
   pub told : Bytes
   pub tells : TellsLine line told old new
   pub kept : Passes (after_err told) old new
@@ -61,8 +61,8 @@ pub record Tells (old new : DeskView) (line : Bytes) : Type 0 where
 
 -- The desk failed, for a file or the output and not yet at the messages. From its state then, `between`, the line
 -- about that was reported.
-pub record TellsFailure (line told : Bytes) (old new : DeskView) : Type 0 where
-  pub between : DeskView
+pub record TellsFailure (line told : Bytes) (old new : DeskState) : Type 0 where
+  pub between : DeskState
   pub failed : HasFailedAt File old between
   pub tells : TellsLine line told between new
   pub since : Follows old between

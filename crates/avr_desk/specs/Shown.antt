@@ -7,7 +7,7 @@ use Rattle.std.specs.declared.io.Read.{Ghosts as Reads}
 use Rattle.std.specs.declared.io.Write.{Ghosts as Writes}
 use Rattle.avr_desk.specs.Handles.{IsTrueRecord}
 use Rattle.avr_desk.specs.Named.{is_dash}
-use Rattle.avr_desk.specs.Record.{Bytes, Record, DeskView, all_files, showing}
+use Rattle.avr_desk.specs.Record.{Bytes, Record, DeskState, all_files, showing}
 use Rattle.avr_desk.specs.Standing.{is_output}
 use Rattle.avr_desk.specs.Stream.{after_sent}
 use Rattle.avr_desk.specs.declared.file_system.FileSystem.{Ghosts}
@@ -29,7 +29,7 @@ pub record Shown (F H I O E : Type 0) : Type 0 where
   pub hold : Option H
   pub kept : Record
 
-abbrev pub shown_view : {F H I O E : Type 0} → Shown F H I O E → DeskView
+abbrev pub shown_view : {F H I O E : Type 0} → Shown F H I O E → DeskState
 shown_view d = showing d.kept d.failures d.unsaid
 
 -- whether writes to the file go to the output

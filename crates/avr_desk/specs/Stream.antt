@@ -1,7 +1,7 @@
 -- Where bytes go, and a call that sends all or only a prefix of them.
 use Rattle.std.specs.Prelude.{◌≤◌, ℕ, take, length, Result, Ok, Err}
 use Rattle.avr_desk.specs.declared.desk.DeskFault.{DeskFault}
-use Rattle.avr_desk.specs.Record.{DeskView, Record, Bytes, Passes, after_write, after_out, after_err}
+use Rattle.avr_desk.specs.Record.{DeskState, Record, Bytes, Passes, after_write, after_out, after_err}
 use Rattle.avr_desk.specs.declared.stream.Stream.{Stream}
 use Rattle.avr_desk.specs.declared.stream.Stream.TheVariants.{File, Output, Messages}
 
@@ -11,10 +11,10 @@ after_sent Output bytes r = after_out bytes r
 after_sent Messages bytes r = after_err bytes r
 
 -- a prefix of these bytes went there, and nothing else happened
-abbrev pub SendsPart : Stream → DeskView → DeskView → Bytes → Type 0
+abbrev pub SendsPart : Stream → DeskState → DeskState → Bytes → Type 0
 SendsPart stream old new bytes = (n : ℕ) × (n ≤ length bytes) × Passes (after_sent stream (take n bytes)) old new
 
 -- the returned number of these bytes went there; after a fault perhaps a prefix
-abbrev pub SendsTaken : Stream → Bytes → DeskView → DeskView → Result ℕ DeskFault → Type 0
+abbrev pub SendsTaken : Stream → Bytes → DeskState → DeskState → Result ℕ DeskFault → Type 0
 SendsTaken stream bytes old new (Ok n) = Passes (after_sent stream (take n bytes)) old new
 SendsTaken stream bytes old new (Err fault) = SendsPart stream old new bytes

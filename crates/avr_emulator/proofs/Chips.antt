@@ -3,7 +3,7 @@ use Rattle.std.proofs.Common.{◌≡◌, refl, sym, ap, arith, ℕ, List, ◌∷
 use Rattle.std.proofs.lemmas.Bool.Decides.{nat_tests}
 use Rattle.avr_desk.specs.Fault.{HasSameCounts}
 use Rattle.avr_desk.specs.Files.{IsWhole, with_read}
-use Rattle.avr_desk.specs.Record.{DeskView, Passes, Bytes}
+use Rattle.avr_desk.specs.Record.{DeskState, Passes, Bytes}
 use Rattle.avr_desk.specs.declared.record.Opening.{Opening}
 use Rattle.avr_desk.specs.declared.record.Opening.TheVariants.{Found}
 use Rattle.avr_desk.specs.declared.record.Reading.{Reading}
@@ -25,7 +25,7 @@ use Rattle.avr_emulator.specs.Loading.{AtOpened, chip_or_line, judged_chip, chip
 
 -- ---- a fresh chip
 
-pub went_fresh : (part : Part) (chip : ChipState) (d : DeskView) → GivesOrMemory (Ok (fresh_state part)) (Ok chip)
+pub went_fresh : (part : Part) (chip : ChipState) (d : DeskState) → GivesOrMemory (Ok (fresh_state part)) (Ok chip)
     → Went (verdict_stage (Ok (fresh_state part))) d d (Made chip)
 went_fresh part chip d (inl gives) = let same : fresh_state part ≡ chip = cc in
     went_settled (Ok (fresh_state part)) chip d (ap Ok same)
@@ -51,7 +51,7 @@ right_length part bytes chip (inl gives) =
     chip_is (length bytes == chip_file_size part) (state_in part bytes) chip (length bytes) (sym gives)
 right_length part bytes chip (inr memory) = cc
 
-pub went_chip : (part : Part) (file bytes : Bytes) (chip : ChipState) (d : DeskView)
+pub went_chip : (part : Part) (file bytes : Bytes) (chip : ChipState) (d : DeskState)
     → GivesOrMemory (chip_in part bytes) (Ok chip)
     → Went (verdict_stage (chip_or_line part file bytes)) d d (Made chip)
 went_chip part file bytes chip d gives =
@@ -63,7 +63,7 @@ pub chip_of_part : (part : Part) (bytes : Bytes) (chip : ChipState) → GivesOrM
     → chip.part ≡ part
 chip_of_part part bytes chip gives = ap (λ (c : ChipState). c.part) (right_length part bytes chip gives).1
 
-pub goes_wrong_length : (part : Part) (file bytes : Bytes) (n : ℕ) (old new : DeskView) (status : ℕ)
+pub goes_wrong_length : (part : Part) (file bytes : Bytes) (n : ℕ) (old new : DeskState) (status : ℕ)
     → GivesOrMemory (chip_in part bytes) (Err (BadChipFile n)) → status ≡ 1
     → Tells old new (length_line file (length bytes) (chip_file_size part))
     → Goes (AtStart true) (verdict_stage (chip_or_line part file bytes)) old new (Err status)
@@ -86,7 +86,7 @@ opened_at opening passed said takes = (
 )
 
 -- the judgment of what the file gave
-goes_whole : (part : Part) (file bytes : Bytes) (ended : Bool) (old mid new : DeskView) (result : Result ChipState ℕ)
+goes_whole : (part : Part) (file bytes : Bytes) (ended : Bool) (old mid new : DeskState) (result : Result ChipState ℕ)
     → Passes (with_read file bytes ended) old mid → IsWhole LARGEST_CHIP_FILE (record { bytes = bytes; ended = ended })
     → HasSameCounts old mid
     → Goes (AtStart true) (verdict_stage (judged_chip part file bytes)) mid new result
@@ -98,7 +98,7 @@ goes_whole part file bytes ended old mid new result kept whole rose goes =
     new result whole goes)
 
 -- to its end
-pub goes_ended : (part : Part) (file bytes : Bytes) (ended : Bool) (old mid new : DeskView)
+pub goes_ended : (part : Part) (file bytes : Bytes) (ended : Bool) (old mid new : DeskState)
     (result : Result ChipState ℕ)
     → Passes (with_read file bytes ended) old mid → IsWhole LARGEST_CHIP_FILE (record { bytes = bytes; ended = ended })
     → ended ≡ true → HasSameCounts old mid
@@ -110,7 +110,7 @@ goes_ended part file bytes true old mid new result kept whole is rose goes =
     goes_whole part file bytes true old mid new result kept whole rose (rw fits goes)
 
 -- or past the limit
-pub goes_past : (part : Part) (file bytes : Bytes) (ended : Bool) (old mid new : DeskView) (status : ℕ)
+pub goes_past : (part : Part) (file bytes : Bytes) (ended : Bool) (old mid new : DeskState) (status : ℕ)
     → Passes (with_read file bytes ended) old mid → IsWhole LARGEST_CHIP_FILE (record { bytes = bytes; ended = ended })
     → ended ≡ false → HasSameCounts old mid
     → status ≡ 1 → Tells mid new (too_long_line file LARGEST_CHIP_FILE)

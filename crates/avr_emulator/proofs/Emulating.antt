@@ -3,7 +3,7 @@ use Rattle.std.proofs.Common.{◌≡◌, ℕ, [], All, ap, subst, ◌∙◌}
 use Rattle.avr_emulator.specs.Holding.{Loaded}
 use Rattle.avr_cli.specs.declared.settings.Settings.{Settings}
 use Rattle.avr_desk.specs.Fault.{Follows}
-use Rattle.avr_desk.specs.Record.{DeskView, Bytes}
+use Rattle.avr_desk.specs.Record.{DeskState, Bytes}
 use Rattle.avr_part.specs.ChipFile.{chip_file}
 use Rattle.avr_part.specs.Sound.{IsSoundChip}
 use Rattle.avr_part.specs.State.{ChipState as Chip}
@@ -12,7 +12,7 @@ use Rattle.avr_plan.specs.Planning.{planned}
 use Rattle.avr_desk.specs.Playing.{Went}
 use Rattle.avr_desk.specs.Stage.{Made}
 use Rattle.ghosts.specs.Stays.{Stays}
-use Rattle.stk_host.specs.Talk.{sent}
+use Rattle.stk_host.specs.Transcript.{sent}
 use Rattle.stk_emu.specs.Programmer.{fresh_programmer}
 use Rattle.stk_emu.specs.Wire.{fresh_wire}
 use Rattle.stk_emu.specs.Wired.{WiredState, ComesOf, wired_view}
@@ -23,28 +23,36 @@ use Rattle.avr_emulator.specs.Emulated.{IsSaved, new_wire, RunsOverEmulator}
 
 -- a wire that holds, brings and has passed nothing is a new one
 as_new : (chip : Chip) (w : WiredState) → w.held ≡ [] → w.wire ≡ fresh_wire (fresh_programmer chip) [] → w.waits ≡ []
-    → w.talk ≡ [] → w.failures ≡ 0 → w ≡ new_wire chip []
-as_new chip w held wire waits talk failures =
+    → w.transcript ≡ [] → w.failures ≡ 0 → w ≡ new_wire chip []
+as_new chip w held wire waits transcript failures =
     ap (λ x. record w { held = x }) held
     ∙ (ap (λ x. record w { held = []; wire = x }) wire
     ∙ (ap (λ x. record w { held = []; wire = fresh_wire (fresh_programmer chip) []; waits = x }) waits
-    ∙ (ap (λ x. record w { held = []; wire = fresh_wire (fresh_programmer chip) []; waits = []; talk = x }) talk
-    ∙ ap (λ x. record { held = []; wire = fresh_wire (fresh_programmer chip) []; waits = []; talk = []; failures = x })
+    ∙ (ap (λ x. record w { held = []; wire = fresh_wire (fresh_programmer chip) []; waits = []; transcript = x })
+    transcript
+    ∙ ap (λ x. record {
+      held = [];
+      wire = fresh_wire (fresh_programmer chip) [];
+      waits = [];
+      transcript = [];
+      failures =
+          x;
+    })
     failures)))
 
 module _ (settings : Settings) (file : Bytes) (plan : Plan) (chip : Chip) (w v : WiredState) (held : w.held ≡ [])
-    (begun : w.wire ≡ fresh_wire (fresh_programmer chip) []) (waits : w.waits ≡ []) (silent : w.talk ≡ [])
+    (begun : w.wire ≡ fresh_wire (fresh_programmer chip) []) (waits : w.waits ≡ []) (silent : w.transcript ≡ [])
     (unfailed : w.failures ≡ 0)
     (fitted : All (IsFitted plan.part) plan.tasks) (part_is : chip.part ≡ plan.part) (is_sound : IsSoundChip chip) where
   is_new : w ≡ new_wire chip []
   is_new = as_new chip w held begun waits silent unfailed
 
-  pub runs_over_emulator : (old planned_desk loaded_desk played_desk now : DeskView) (ran status : ℕ)
+  pub runs_over_emulator : (old planned_desk loaded_desk played_desk now : DeskState) (ran status : ℕ)
       → Went (planned settings) old planned_desk (Made plan) → Loaded plan.part file planned_desk loaded_desk chip
       → Follows loaded_desk played_desk → Follows played_desk now
       → RunsSession plan (devices (wired_view w) loaded_desk) (devices (wired_view v) played_desk) ran
       → Stays ComesOf w v → (w.wire.programmer.chip.part ≡ plan.part → OverAnyLine plan w v loaded_desk played_desk ran)
-      → IsSaved (sent v.talk) played_desk now file (chip_file v.wire.programmer.chip) ran status
+      → IsSaved (sent v.transcript) played_desk now file (chip_file v.wire.programmer.chip) ran status
       → RunsOverEmulator settings file old now status
   runs_over_emulator old planned_desk loaded_desk played_desk now ran status made is_loaded by_playing by_saving runs
       comes line saved = record {

@@ -2,7 +2,7 @@
 pub mod Chips
 pub mod Savings
 -- serving: talks and answers, a piece and its answers, read after read; serving whole
-pub mod Talks
+pub mod Transcripts
 pub mod Answers
 pub mod Replies
 pub mod ReadByRead

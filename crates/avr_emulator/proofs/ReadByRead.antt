@@ -5,9 +5,9 @@ use Rattle.std.proofs.lemmas.List.{append-nil}
 use Rattle.stk_host.specs.declared.link.Item.TheVariants.{End}
 use Rattle.stk_host.specs.Tape.{on_tape, bytes_of}
 use Rattle.ghosts.specs.Failures.{HasRisen}
-use Rattle.stk_host.specs.Talk.{Talk, Got, sent, heard as heard_in, Grows, LinkView}
+use Rattle.stk_host.specs.Transcript.{Transcript, Got, sent, heard as heard_in, Grows, LinkState}
 use Rattle.stk_host.specs.Reach.{IsQuiet}
-use Rattle.stk_host.proofs.Talks.Laws.{sent_append, heard_append, heard_quiet, grows_none, grows_on}
+use Rattle.stk_host.proofs.Transcripts.Laws.{sent_append, heard_append, heard_quiet, grows_none, grows_on}
 use Rattle.stk_host.proofs.Tapes.Answers.{bytes_of_append, bytes_of_on_tape}
 use Rattle.stk_emu.specs.Programmer.{Programmer}
 use Rattle.stk_emu.specs.Emulator.{Machine, emulate}
@@ -15,44 +15,44 @@ use Rattle.avr_emulator.specs.declared.serving.Served.{Served}
 use Rattle.avr_emulator.specs.declared.serving.Served.TheVariants.{Ended, SendFailed, TooManyReads}
 use Rattle.avr_emulator.specs.Serving.{HasNoEnd, HearsUntil, AnswersInTurn, AnswersAll, BreaksOff, ServingLeaves, Serves, FailsBy}
 use Rattle.avr_emulator.specs.Replying.{Replies, RepliesPart}
-use Rattle.avr_emulator.proofs.Talks.{no_end_append, no_end_on_tape, reads_append, reads_quiet, in_turn_quiet, in_turn_append}
+use Rattle.avr_emulator.proofs.Transcripts.{no_end_append, no_end_on_tape, reads_append, reads_quiet, in_turn_quiet, in_turn_append}
 use Rattle.avr_emulator.proofs.Answers.{all_nothing, all_more, breaks_more, breaks_prefix}
 
 -- what was heard and sent in two talks
-bytes_both : (x y : Talk) → bytes_of (heard_in x) ++ bytes_of (heard_in y) ≡ bytes_of (heard_in (x ++ y))
+bytes_both : (x y : Transcript) → bytes_of (heard_in x) ++ bytes_of (heard_in y) ≡ bytes_of (heard_in (x ++ y))
 bytes_both x y = sym (ap bytes_of (heard_append x y) ∙ bytes_of_append (heard_in x) (heard_in y))
 
-all_talk : (p : Programmer) (text : List ℕ) (x y : Talk) (mid now : Machine)
+all_transcript : (p : Programmer) (text : List ℕ) (x y : Transcript) (mid now : Machine)
     → AnswersAll p text (bytes_of (heard_in x)) (sent x) mid
     → AnswersAll p (text ++ bytes_of (heard_in x)) (bytes_of (heard_in y)) (sent y) now
     → AnswersAll p text (bytes_of (heard_in (x ++ y))) (sent (x ++ y)) now
-all_talk p text x y mid now first then =
+all_transcript p text x y mid now first then =
     subst (λ bs. AnswersAll p text bs (sent (x ++ y)) now) (bytes_both x y)
     (subst (λ o. AnswersAll p text (bytes_of (heard_in x) ++ bytes_of (heard_in y)) o now) (sym (sent_append x y))
     (all_more p text (bytes_of (heard_in x)) (sent x) (bytes_of (heard_in y)) (sent y) mid now first then))
 
-breaks_talk : (p : Programmer) (text : List ℕ) (x y : Talk) (mid now : Machine)
+breaks_transcript : (p : Programmer) (text : List ℕ) (x y : Transcript) (mid now : Machine)
     → AnswersAll p text (bytes_of (heard_in x)) (sent x) mid
     → BreaksOff p (text ++ bytes_of (heard_in x)) (bytes_of (heard_in y)) (sent y) now
     → BreaksOff p text (bytes_of (heard_in (x ++ y))) (sent (x ++ y)) now
-breaks_talk p text x y mid now first then =
+breaks_transcript p text x y mid now first then =
     subst (λ bs. BreaksOff p text bs (sent (x ++ y)) now) (bytes_both x y)
     (subst (λ o. BreaksOff p text (bytes_of (heard_in x) ++ bytes_of (heard_in y)) o now) (sym (sent_append x y))
     (breaks_more p text (bytes_of (heard_in x)) (sent x) (bytes_of (heard_in y)) (sent y) mid now first then))
 
-leaves_more : (served : Served) (p : Programmer) (text : List ℕ) (x y : Talk) (mid now : Machine)
+leaves_more : (served : Served) (p : Programmer) (text : List ℕ) (x y : Transcript) (mid now : Machine)
     → AnswersAll p text (bytes_of (heard_in x)) (sent x) mid
     → ServingLeaves served p (text ++ bytes_of (heard_in x)) y now → ServingLeaves served p text (x ++ y) now
 leaves_more SendFailed p text x y mid now first then =
-    let b = breaks_talk p text x y mid now first then.1 in
+    let b = breaks_transcript p text x y mid now first then.1 in
     (breaks_prefix p text (bytes_of (heard_in (x ++ y))) (sent (x ++ y)) now b, b)
-leaves_more served p text x y mid now first then = all_talk p text x y mid now first then
+leaves_more served p text x y mid now first then = all_transcript p text x y mid now first then
 
-no_end_both : (x y : Talk) → HasNoEnd (heard_in x) → HasNoEnd (heard_in y) → HasNoEnd (heard_in (x ++ y))
+no_end_both : (x y : Transcript) → HasNoEnd (heard_in x) → HasNoEnd (heard_in y) → HasNoEnd (heard_in (x ++ y))
 no_end_both x y f g = subst HasNoEnd (sym (heard_append x y)) (no_end_append (heard_in x) (heard_in y) f g)
 
 -- one read more
-hears_more : (served : Served) (turns : ℕ) (x y : Talk) → HearsUntil TooManyReads turns x → HearsUntil served 1 y
+hears_more : (served : Served) (turns : ℕ) (x y : Transcript) → HearsUntil TooManyReads turns x → HearsUntil served 1 y
     → HearsUntil served (turns + 1) (x ++ y)
 hears_more Ended turns x y first then = (
   heard_in x ++ then.0,
@@ -63,21 +63,21 @@ hears_more Ended turns x y first then = (
 hears_more served turns x y first then =
     (no_end_both x y first.0 then.0, omega (arith, reads_append x y, first.1, then.1))
 
-pub serves_none : (machine : Machine) (o : LinkView) → Serves machine 0 TooManyReads o o machine
+pub serves_none : (machine : Machine) (o : LinkState) → Serves machine 0 TooManyReads o o machine
 serves_none machine o = record {
   during = [];
-  grows = grows_none o.talk;
+  grows = grows_none o.transcript;
   hears = (tt, refl);
   in_turn = λ p text f. tt;
   leaves = λ p text f. all_nothing p text machine f;
 }
 
-pub serves_more : (served : Served) (turns : ℕ) (old mid now : Machine) (a b c : LinkView)
+pub serves_more : (served : Served) (turns : ℕ) (old mid now : Machine) (a b c : LinkState)
     → Serves old turns TooManyReads a b mid → Serves mid 1 served b c now
     → Serves old (turns + 1) served a c now
 serves_more served turns old mid now a b c first then = record {
   during = first.during ++ then.during;
-  grows = grows_on a.talk b.talk c.talk first.during then.during first.grows then.grows;
+  grows = grows_on a.transcript b.transcript c.transcript first.during then.during first.grows then.grows;
   hears = hears_more served turns first.during then.during first.hears then.hears;
   in_turn = λ p text f.
       let done = first.leaves p text f in
@@ -91,13 +91,13 @@ serves_more served turns old mid now a b c first then = record {
 }
 
 -- what ended early ended within more reads too
-hears_within : (served : Served) (few many : ℕ) (talk : Talk) → served ≢ TooManyReads → few ≤ many
-    → HearsUntil served few talk → HearsUntil served many talk
-hears_within Ended few many talk other le h = (h.0, h.1, h.2, omega (arith, h.3))
-hears_within TooManyReads few many talk other le h = absurd (other refl)
-hears_within served few many talk other le h = (h.0, omega (arith, h.1))
+hears_within : (served : Served) (few many : ℕ) (transcript : Transcript) → served ≢ TooManyReads → few ≤ many
+    → HearsUntil served few transcript → HearsUntil served many transcript
+hears_within Ended few many transcript other le h = (h.0, h.1, h.2, omega (arith, h.3))
+hears_within TooManyReads few many transcript other le h = absurd (other refl)
+hears_within served few many transcript other le h = (h.0, omega (arith, h.1))
 
-pub serves_within : (served : Served) (few many : ℕ) (old now : Machine) (a b : LinkView) → served ≢ TooManyReads
+pub serves_within : (served : Served) (few many : ℕ) (old now : Machine) (a b : LinkState) → served ≢ TooManyReads
     → few ≤ many → Serves old few served a b now → Serves old many served a b now
 serves_within served few many old now a b other le s = record {
   during = s.during;
@@ -107,7 +107,7 @@ serves_within served few many old now a b other le s = record {
   leaves = s.leaves;
 }
 
-pub fails_more : (served : Served) (a b c : LinkView) → b.failures ≡ a.failures → FailsBy served b c
+pub fails_more : (served : Served) (a b c : LinkState) → b.failures ≡ a.failures → FailsBy served b c
     → FailsBy served a c
 fails_more Ended a b c same f = f ∙ same
 fails_more TooManyReads a b c same f = f ∙ same
@@ -115,7 +115,7 @@ fails_more served a b c same f = subst (λ n. HasRisen n c.failures) same f
 
 -- what one read comes to
 
-pub read_end : (machine : Machine) (a b : LinkView) → Grows a.talk (Got (End ∷ []) ∷ []) b.talk
+pub read_end : (machine : Machine) (a b : LinkState) → Grows a.transcript (Got (End ∷ []) ∷ []) b.transcript
     → Serves machine 1 Ended a b machine
 read_end machine a b g = record {
   during = Got (End ∷ []) ∷ [];
@@ -126,52 +126,57 @@ read_end machine a b g = record {
 }
 
 -- a piece, and then nothing but answers to it
-heard_piece : (piece : List ℕ) (talk : Talk) → IsQuiet talk → on_tape piece ++ heard_in talk ≡ on_tape piece
-heard_piece piece talk quiet = ap (λ t. on_tape piece ++ t) (heard_quiet talk quiet) ∙ append-nil (on_tape piece)
+heard_piece : (piece : List ℕ) (transcript : Transcript) → IsQuiet transcript
+    → on_tape piece ++ heard_in transcript ≡ on_tape piece
+heard_piece piece transcript quiet =
+    ap (λ t. on_tape piece ++ t) (heard_quiet transcript quiet) ∙ append-nil (on_tape piece)
 
-bytes_heard : (piece : List ℕ) (talk : Talk) → IsQuiet talk → piece ≡ bytes_of (on_tape piece ++ heard_in talk)
-bytes_heard piece talk quiet = sym (ap bytes_of (heard_piece piece talk quiet) ∙ bytes_of_on_tape piece)
+bytes_heard : (piece : List ℕ) (transcript : Transcript) → IsQuiet transcript
+    → piece ≡ bytes_of (on_tape piece ++ heard_in transcript)
+bytes_heard piece transcript quiet = sym (ap bytes_of (heard_piece piece transcript quiet) ∙ bytes_of_on_tape piece)
 
-pub read_answered : (piece : List ℕ) (old now : Machine) (a b c : LinkView)
-    → Grows a.talk (Got (on_tape piece) ∷ []) b.talk → Replies old piece b c now → Serves old 1 TooManyReads a c now
+pub read_answered : (piece : List ℕ) (old now : Machine) (a b c : LinkState)
+    → Grows a.transcript (Got (on_tape piece) ∷ []) b.transcript → Replies old piece b c now
+    → Serves old 1 TooManyReads a c now
 read_answered piece old now a b c g r =
-    let talk : Talk = r.says.during in
+    let transcript : Transcript = r.says.during in
     record {
-      during = Got (on_tape piece) ∷ talk;
-      grows = grows_on a.talk b.talk c.talk (Got (on_tape piece) ∷ []) talk g r.says.grows;
+      during = Got (on_tape piece) ∷ transcript;
+      grows = grows_on a.transcript b.transcript c.transcript (Got (on_tape piece) ∷ []) transcript g r.says.grows;
       hears = (
-        subst HasNoEnd (sym (heard_piece piece talk r.says.quiet)) (no_end_on_tape piece),
-        ap (λ n. n + 1) (reads_quiet talk r.says.quiet),
+        subst HasNoEnd (sym (heard_piece piece transcript r.says.quiet)) (no_end_on_tape piece),
+        ap (λ n. n + 1) (reads_quiet transcript r.says.quiet),
       );
       in_turn = λ p text f. (
         refl,
-        in_turn_quiet p (text ++ bytes_of (on_tape piece)) (emulate p text) talk
+        in_turn_quiet p (text ++ bytes_of (on_tape piece)) (emulate p text) transcript
             r.says.quiet,
       );
       leaves = λ p text f.
-          subst (λ bs. AnswersAll p text bs (sent talk) now) (bytes_heard piece talk r.says.quiet)
+          subst (λ bs. AnswersAll p text bs (sent transcript) now) (bytes_heard piece transcript r.says.quiet)
           (subst (λ o. AnswersAll p text piece o now) (sym r.says.bytes_sent) (r.answers p text f));
     }
 
-pub read_broken : (piece : List ℕ) (old now : Machine) (a b c : LinkView)
-    → Grows a.talk (Got (on_tape piece) ∷ []) b.talk → RepliesPart old piece b c now → Serves old 1 SendFailed a c now
+pub read_broken : (piece : List ℕ) (old now : Machine) (a b c : LinkState)
+    → Grows a.transcript (Got (on_tape piece) ∷ []) b.transcript → RepliesPart old piece b c now
+    → Serves old 1 SendFailed a c now
 read_broken piece old now a b c g r =
-    let talk : Talk = r.says.during in
+    let transcript : Transcript = r.says.during in
     record {
-      during = Got (on_tape piece) ∷ talk;
-      grows = grows_on a.talk b.talk c.talk (Got (on_tape piece) ∷ []) talk g r.says.grows;
+      during = Got (on_tape piece) ∷ transcript;
+      grows = grows_on a.transcript b.transcript c.transcript (Got (on_tape piece) ∷ []) transcript g r.says.grows;
       hears = (
-        subst HasNoEnd (sym (heard_piece piece talk r.says.quiet)) (no_end_on_tape piece),
-        omega (arith, reads_quiet talk r.says.quiet),
+        subst HasNoEnd (sym (heard_piece piece transcript r.says.quiet)) (no_end_on_tape piece),
+        omega (arith, reads_quiet transcript r.says.quiet),
       );
       in_turn = λ p text f. (
         refl,
-        in_turn_quiet p (text ++ bytes_of (on_tape piece)) (emulate p text) talk
+        in_turn_quiet p (text ++ bytes_of (on_tape piece)) (emulate p text) transcript
             r.says.quiet,
       );
       leaves = λ p text f.
-          let b : BreaksOff p text (bytes_of (on_tape piece ++ heard_in talk)) (sent talk) now =
-          subst (λ bs. BreaksOff p text bs (sent talk) now) (bytes_heard piece talk r.says.quiet)
+          let b : BreaksOff p text (bytes_of (on_tape piece ++ heard_in transcript)) (sent transcript) now =
+          subst (λ bs. BreaksOff p text bs (sent transcript) now) (bytes_heard piece transcript r.says.quiet)
           (subst (λ o. BreaksOff p text piece o now) (sym r.says.bytes_sent) (r.breaks p text f)) in
-          (breaks_prefix p text (bytes_of (on_tape piece ++ heard_in talk)) (sent talk) now b, b);
+          (breaks_prefix p text (bytes_of (on_tape piece ++ heard_in transcript)) (sent transcript) now b, b);
     }

@@ -2,15 +2,15 @@
 use Rattle.std.proofs.Common.{◌≡◌, ℕ, ◌+◌, List, [], ◌++◌, take, drop, refl, sym, ap, ◌∙◌, subst}
 use Rattle.std.proofs.lemmas.List.{take-append-drop}
 use Rattle.std.proofs.Math.Seq.{take-add}
-use Rattle.stk_host.specs.Talk.{Talk, LinkView, sent}
+use Rattle.stk_host.specs.Transcript.{Transcript, LinkState, sent}
 use Rattle.stk_host.specs.Reach.{Says, SaysPart}
-use Rattle.stk_host.proofs.Talks.Laws.{sent_append, grows_none, grows_on, quiet_append}
+use Rattle.stk_host.proofs.Transcripts.Laws.{sent_append, grows_none, grows_on, quiet_append}
 use Rattle.stk_emu.specs.Emulator.{Machine, Answers}
 use Rattle.avr_emulator.specs.Serving.{AnswersAll, BreaksOff}
 use Rattle.avr_emulator.specs.Replying.{Replies, RepliesPart}
 use Rattle.avr_emulator.proofs.Answers.{all_nothing, all_fed, all_more, breaks_here, breaks_more}
 
-says_both : (x y : List ℕ) (a b c : Talk) → Says x a b → Says y b c → Says (x ++ y) a c
+says_both : (x y : List ℕ) (a b c : Transcript) → Says x a b → Says y b c → Says (x ++ y) a c
 says_both x y a b c first then = record {
   during = first.during ++ then.during;
   grows = grows_on a b c first.during then.during first.grows then.grows;
@@ -19,22 +19,22 @@ says_both x y a b c first then = record {
       ∙ (ap (λ bs. bs ++ sent then.during) first.bytes_sent ∙ ap (λ bs. x ++ bs) then.bytes_sent);
 }
 
-pub replies_none : (machine : Machine) (o : LinkView) → Replies machine [] o o machine
+pub replies_none : (machine : Machine) (o : LinkState) → Replies machine [] o o machine
 replies_none machine o = record {
   out = [];
-  says = record { during = []; grows = grows_none o.talk; quiet = tt; bytes_sent = refl };
+  says = record { during = []; grows = grows_none o.transcript; quiet = tt; bytes_sent = refl };
   answers = λ p text f. all_nothing p text machine f;
 }
 
 -- what is after the first n bytes is fed, up to the first answer
-module _ (piece part out : List ℕ) (n used : ℕ) (old mid now : Machine) (a b c : LinkView)
+module _ (piece part out : List ℕ) (n used : ℕ) (old mid now : Machine) (a b c : LinkState)
     (r : Replies old (take n piece) a b mid) (is : part ≡ drop n piece)
     (one : Answers mid (take used part) now out) where
   -- which is sent
-  pub replies_more : Says out b.talk c.talk → Replies old (take (n + used) piece) a c now
+  pub replies_more : Says out b.transcript c.transcript → Replies old (take (n + used) piece) a c now
   replies_more says = record {
     out = r.out ++ out;
-    says = says_both r.out out a.talk b.talk c.talk r.says says;
+    says = says_both r.out out a.transcript b.transcript c.transcript r.says says;
     answers = λ p text f.
         let first = r.answers p text f in
         subst (λ bs. AnswersAll p text bs (r.out ++ out) now)
@@ -44,10 +44,10 @@ module _ (piece part out : List ℕ) (n used : ℕ) (old mid now : Machine) (a b
   }
 
   -- or of which only a part is sent
-  pub replies_part : SaysPart out b.talk c.talk → RepliesPart old piece a c now
+  pub replies_part : SaysPart out b.transcript c.transcript → RepliesPart old piece a c now
   replies_part s = record {
     out = r.out ++ s.part;
-    says = says_both r.out s.part a.talk b.talk c.talk r.says s.says;
+    says = says_both r.out s.part a.transcript b.transcript c.transcript r.says s.says;
     breaks = λ p text f.
         let first = r.answers p text f in
         subst (λ bs. BreaksOff p text bs (r.out ++ s.part) now)

@@ -2,7 +2,7 @@
 -- answers to a frame with a command that no programmer knows.
 use Rattle.std.proofs.Common.{◌≡◌, ◌≤◌, refl, ap, ℕ, List, [], ◌∷◌, length, Ok, Err, arith}
 use Rattle.ghosts.specs.Failures.{HasRisen}
-use Rattle.avr_desk.specs.Record.{Bytes, DeskView, Record, Passes, after_err, nothing_kept, showing, with_held, with_replaced}
+use Rattle.avr_desk.specs.Record.{Bytes, DeskState, Record, Passes, after_err, nothing_kept, showing, with_held, with_replaced}
 use Rattle.avr_emulator.specs.declared.loading.TheConstants.{LARGEST_CHIP_FILE}
 use Rattle.avr_emulator.specs.Holding as holding
 use Rattle.avr_emulator.specs.Holding.{HoldsFile}
@@ -10,7 +10,7 @@ use Rattle.avr_emulator.specs.Lines.{in_use_line}
 use Rattle.avr_emulator.specs.Saving.{Saves}
 use Rattle.stk_host.specs.declared.link.Item.TheVariants.{End}
 use Rattle.stk_host.specs.Tape.{on_tape}
-use Rattle.stk_host.specs.Talk.{Talk, Sent, Got}
+use Rattle.stk_host.specs.Transcript.{Transcript, Sent, Got}
 use Rattle.stk_emu.specs.Programmer.{Programmer}
 use Rattle.avr_emulator.specs.declared.served_run.TheConstants.{READS}
 use Rattle.avr_emulator.specs.Serving.{AnswersInTurn}
@@ -22,10 +22,10 @@ most_reads : READS ≡ 16777216
 most_reads = refl
 
 -- a desk that was asked for nothing and never failed, and one that shows this and has failed so often
-abbrev begun : DeskView
+abbrev begun : DeskState
 begun = showing nothing_kept 0 0
 
-abbrev now : Record → ℕ → DeskView
+abbrev now : Record → ℕ → DeskState
 now r failures = showing r failures 0
 
 no_rise : (n : ℕ) → HasRisen 0 n → n ≤ 0 → ⊥
@@ -38,7 +38,7 @@ abbrev file_count : Record → ℕ
 file_count r = length r.uses
 
 -- that a file is in use, reported of a desk that was not asked
-unasked : (file told : Bytes) (trouble : holding.HoldingTrouble) (after : DeskView)
+unasked : (file told : Bytes) (trouble : holding.HoldingTrouble) (after : DeskState)
     → after ≡ now (after_err (in_use_line file) nothing_kept) 0
     → holding.TellsHoldingTrouble file trouble told begun after
     → Passes (λ r. after_err told (holding.denied_by file trouble r)) begun after → ⊥
@@ -78,13 +78,13 @@ abbrev answer : List ℕ
 answer = 0x1B ∷ 0x09 ∷ 0x00 ∷ 0x02 ∷ 0x0E ∷ 0x05 ∷ 0xC9 ∷ 0xD2 ∷ []
 
 -- a programmer that listens before it answers isn't in turn, nor is one that keeps a byte of its answer
-abbrev ahead : Talk
+abbrev ahead : Transcript
 ahead = Got (on_tape frame) ∷ (Got (End ∷ []) ∷ (Sent answer ∷ []))
 
 pub not_ahead : (p : Programmer) → AnswersInTurn p [] [] ahead → ⊥
 not_ahead p in_turn = let none : [] ≡ answer = in_turn.1.0 in absurd (cc)
 
-abbrev short : Talk
+abbrev short : Transcript
 short = Got (on_tape frame) ∷ (Sent (0x1B ∷ 0x09 ∷ 0x00 ∷ 0x02 ∷ 0x0E ∷ 0x05 ∷ 0xC9 ∷ []) ∷ (Got (End ∷ []) ∷ []))
 
 pub not_short : (p : Programmer) → AnswersInTurn p [] [] short → ⊥

@@ -2,7 +2,7 @@
 use Rattle.std.proofs.Common.{◌≡◌, ℕ, Err, subst}
 use Rattle.std.specs.Prelude.{⊤}
 use Rattle.avr_desk.specs.Fault.{Counts}
-use Rattle.avr_desk.specs.Record.{DeskView, Record, Passes, after_replace, after_err, released, with_none_held, Bytes}
+use Rattle.avr_desk.specs.Record.{DeskState, Record, Passes, after_replace, after_err, released, with_none_held, Bytes}
 use Rattle.avr_desk.specs.declared.desk.DeskFault.{DeskFault}
 use Rattle.avr_desk.specs.declared.desk.DeskFault.TheVariants.{NotFound, Failed}
 use Rattle.avr_desk.specs.declared.stream.Stream.TheVariants.{File}
@@ -12,14 +12,14 @@ use Rattle.avr_desk.specs.Said.{Tells}
 use Rattle.avr_emulator.specs.Saving.{NoMemory, NotReplaced, Saves}
 
 -- memory was refused for the bytes
-pub no_memory : (old new : DeskView) (file bytes : Bytes) (status : ℕ) → status ≡ 1
+pub no_memory : (old new : DeskState) (file bytes : Bytes) (status : ℕ) → status ≡ 1
     → Tells (released old) new memory_line
     → Saves old new file bytes (Err status)
 no_memory old new file bytes status one told =
     (one, record { trouble = NoMemory; told = told.told; tells = told.tells; kept = told.kept })
 
 -- the file was not replaced
-pub not_replaced : (old mid new : DeskView) (file bytes : Bytes) (status : ℕ) (fault : DeskFault)
+pub not_replaced : (old mid new : DeskState) (file bytes : Bytes) (status : ℕ) (fault : DeskFault)
     → fault ≡ Failed → Passes (after_replace file bytes (Err fault)) old mid → Counts {T = ⊤} File old mid (Err fault)
     → status ≡ 1 → Tells (released mid) new (not_written_line file) → Saves old new file bytes (Err status)
 not_replaced old mid new file bytes status NotFound only kept counts one told = cc

@@ -1,7 +1,7 @@
 -- A fresh emulator that served, from settings to status.
 use Rattle.std.proofs.Common.{◌≡◌, ℕ, false, List, [], ap₂, subst, Result, Ok, Err, IfErr}
 use Rattle.avr_cli.specs.declared.settings.Settings.{Settings}
-use Rattle.avr_desk.specs.Record.{DeskView, Bytes}
+use Rattle.avr_desk.specs.Record.{DeskState, Bytes}
 use Rattle.avr_part.specs.Part.{Part}
 use Rattle.avr_part.specs.State as chips
 use Rattle.avr_plan.proofs.Stages.Plans.{lacks_part}
@@ -14,13 +14,13 @@ use Rattle.stk_emu.specs.Programmer.{fresh_programmer}
 use Rattle.stk_emu.specs.Emulator.{Machine}
 use Rattle.avr_emulator.specs.ServedRun.{settings_part, fresh_machine}
 
-pub goes_without_parts : (s : Settings) (old new : DeskView) (status : ℕ)
+pub goes_without_parts : (s : Settings) (old new : DeskState) (status : ℕ)
     → Goes (AtStart false) (parts_stage s.parts) old new (Err status)
     → Goes (AtStart false) (settings_part s) old new (Err status)
 goes_without_parts s old new status goes =
     goes_no_further (AtStart false) (parts_stage s.parts) (λ parts. part_stage s.part parts) old new status goes
 
-pub goes_with_parts : (s : Settings) (id : Bytes) (old mid new : DeskView) (parts : List Part) (result : Result Part ℕ)
+pub goes_with_parts : (s : Settings) (id : Bytes) (old mid new : DeskState) (parts : List Part) (result : Result Part ℕ)
     → id ≡ s.part
     → Went (parts_stage s.parts) old mid (Made parts) → Goes (AtStart false) (part_stage id parts) mid new result
     → Goes (AtStart false) (settings_part s) old new result
@@ -30,7 +30,8 @@ goes_with_parts s id old mid new parts result same went goes =
     (subst (λ (i : Bytes). Goes (AtStart false) (part_stage i parts) mid new result) same goes)
 
 -- without a part file there are no parts but the built-in ones
-pub bare_part : {E : Type 0} (id own : Bytes) (parts : List Part) (old mid new : DeskView) (result : Result Part ℕ) → id ≡ own
+pub bare_part : {E : Type 0} (id own : Bytes) (parts : List Part) (old mid new : DeskState) (result : Result Part ℕ)
+    → id ≡ own
     → ◌≡◌ {A = Result (List Part) E} (Ok parts) (Ok []) → mid ≡ old
     → IfErr result (λ status. LacksPart id parts mid new) → IfErr result (λ status. LacksPart own [] old new)
 bare_part id own parts old mid new (Ok part) same given view lacks = tt

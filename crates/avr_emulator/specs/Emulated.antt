@@ -4,7 +4,7 @@ use Rattle.avr_emulator.specs.Holding.{HoldsAndLoads, Loaded}
 use Rattle.avr_emulator.specs.Saving.{Saves}
 use Rattle.avr_cli.specs.declared.settings.Settings.{Settings}
 use Rattle.avr_desk.specs.Fault.{Follows}
-use Rattle.avr_desk.specs.Record.{DeskView, Bytes, released}
+use Rattle.avr_desk.specs.Record.{DeskState, Bytes, released}
 use Rattle.avr_part.specs.ChipFile.{chip_file}
 use Rattle.avr_part.specs.Sound.{IsSoundChip}
 use Rattle.avr_part.specs.State.{ChipState as Chip}
@@ -14,7 +14,7 @@ use Rattle.avr_plan.specs.Taking.{AtUpdate}
 use Rattle.avr_desk.specs.Playing.{Goes, Went}
 use Rattle.avr_desk.specs.Stage.{Made}
 use Rattle.ghosts.specs.Stays.{Stays}
-use Rattle.stk_host.specs.Talk.{sent}
+use Rattle.stk_host.specs.Transcript.{sent}
 use Rattle.stk_emu.specs.Programmer.{fresh_programmer}
 use Rattle.stk_emu.specs.Wire.{fresh_wire}
 use Rattle.stk_emu.specs.Wired.{WiredState, ComesOf, wired_view}
@@ -25,7 +25,7 @@ use Rattle.avr_course.specs.AnyLine.{OverAnyLine}
 
 -- The chip's file is replaced if anything was sent, otherwise only unlocked. If it can't be replaced, the status is
 -- 1.
-abbrev pub IsSaved : List ℕ → DeskView → DeskView → Bytes → Bytes → ℕ → ℕ → Type 0
+abbrev pub IsSaved : List ℕ → DeskState → DeskState → Bytes → Bytes → ℕ → ℕ → Type 0
 IsSaved [] old now file bytes ran status = (now ≡ released old) × (status ≡ ran)
 IsSaved (byte ∷ sent) old now file bytes ran status =
     (Saves old now file bytes (Ok tt) × (status ≡ ran))
@@ -34,20 +34,20 @@ IsSaved (byte ∷ sent) old now file bytes ran status =
 -- A fresh wire to a chip, with these fates.
 abbrev pub new_wire : Chip → List Fate → WiredState
 new_wire chip fates =
-    record { held = []; wire = fresh_wire (fresh_programmer chip) fates; waits = []; talk = []; failures = 0 }
+    record { held = []; wire = fresh_wire (fresh_programmer chip) fates; waits = []; transcript = []; failures = 0 }
 
 -- A plan was made, whose images have the sizes of their memories. The file was locked, and a chip of the plan's part,
 -- with memories of its sizes, was loaded from it. The session ran to a status over a new wire to that chip, on which
 -- no frame goes wrong. Unless it stopped, it is the expected run. If anything was sent, the chip as the wire left it
 -- was saved to the file, which was then unlocked. A failure of the desk in a stage is one since the stage before it.
-pub record RunsOverEmulator (settings : Settings) (file : Bytes) (old now : DeskView) (status : ℕ) : Type 0 where
+pub record RunsOverEmulator (settings : Settings) (file : Bytes) (old now : DeskState) (status : ℕ) : Type 0 where
   pub plan : Plan
   pub chip : Chip
   pub after : WiredState
   pub ran : ℕ
-  pub planned_desk : DeskView
-  pub loaded_desk : DeskView
-  pub played_desk : DeskView
+  pub planned_desk : DeskState
+  pub loaded_desk : DeskState
+  pub played_desk : DeskState
   pub made : Went (planned settings) old planned_desk (Made plan)
   pub fitted : All (IsFitted plan.part) plan.tasks
   pub loaded : Loaded plan.part file planned_desk loaded_desk chip
@@ -57,23 +57,23 @@ pub record RunsOverEmulator (settings : Settings) (file : Bytes) (old now : Desk
       (devices (wired_view after) played_desk) ran
   pub comes : Stays ComesOf (new_wire chip []) after
   pub line : OverAnyLine plan (new_wire chip []) after loaded_desk played_desk ran
-  pub saved : IsSaved (sent after.talk) played_desk now file (chip_file after.wire.programmer.chip) ran status
+  pub saved : IsSaved (sent after.transcript) played_desk now file (chip_file after.wire.programmer.chip) ran status
   pub in_order : Follows loaded_desk played_desk × Follows played_desk now
 
 -- There is a plan but no chip: nothing was sent.
-pub record LacksChip (settings : Settings) (file : Bytes) (old now : DeskView) (status : ℕ) : Type 0 where
+pub record LacksChip (settings : Settings) (file : Bytes) (old now : DeskState) (status : ℕ) : Type 0 where
   pub plan : Plan
-  pub between : DeskView
+  pub between : DeskState
   pub made : Went (planned settings) old between (Made plan)
   pub refused : HoldsAndLoads plan.part file between now (Err status)
 
 -- There is no plan: nothing was sent. Without a part file and updates the only fault is an unknown part.
-abbrev pub LacksPlan : Settings → DeskView → DeskView → ℕ → Type 0
+abbrev pub LacksPlan : Settings → DeskState → DeskState → ℕ → Type 0
 LacksPlan settings old now status =
     Goes (AtUpdate settings) (planned settings) old now (Err status)
     × (settings.parts ≡ None → settings.updates ≡ [] → LacksPart settings.part [] old now)
 
-abbrev pub RunsEmulator : Settings → Bytes → DeskView → DeskView → ℕ → Type 0
+abbrev pub RunsEmulator : Settings → Bytes → DeskState → DeskState → ℕ → Type 0
 RunsEmulator settings file old now status =
     RunsOverEmulator settings file old now status
     ⊎ (LacksChip settings file old now status ⊎ LacksPlan settings old now status)

@@ -19,4 +19,4 @@ pub use Rattle.avr_session.specs.Run
 pub use Rattle.avr_session.specs.Runs
 pub use Rattle.ghosts.specs.Stays
 pub use Rattle.stk_emu.specs.Wired
-pub use Rattle.stk_host.specs.Talk
+pub use Rattle.stk_host.specs.Transcript

@@ -1,7 +1,7 @@
 -- Saving a chip file: it is replaced whole, or it is as it was.
 use Rattle.std.specs.Prelude.{◌≡◌, ℕ, Result, Ok, Err, ⊤}
 use Rattle.avr_desk.specs.Fault.{HasSameCounts}
-use Rattle.avr_desk.specs.Record.{DeskView, Passes, Bytes, after_err, released, with_replaced}
+use Rattle.avr_desk.specs.Record.{DeskState, Passes, Bytes, after_err, released, with_replaced}
 use Rattle.avr_desk.specs.Lines.{memory_line, not_written_line}
 use Rattle.avr_desk.specs.Said.{TellsLine, TellsFailure}
 
@@ -11,18 +11,18 @@ pub data SavingTrouble : Type 0 where
   NotReplaced : SavingTrouble
 
 -- The out-of-memory line was reported; or the desk failed at the file, and its line was reported from there on.
-abbrev pub TellsSavingTrouble : Bytes → SavingTrouble → Bytes → DeskView → DeskView → Type 0
+abbrev pub TellsSavingTrouble : Bytes → SavingTrouble → Bytes → DeskState → DeskState → Type 0
 TellsSavingTrouble file NoMemory told old new = TellsLine memory_line told old new
 TellsSavingTrouble file NotReplaced told old new = TellsFailure (not_written_line file) told old new
 
 -- Saving failed, and this was reported. Nothing else was done, and nothing is locked.
-pub record Unsaved (old new : DeskView) (file : Bytes) : Type 0 where
+pub record Unsaved (old new : DeskState) (file : Bytes) : Type 0 where
   pub trouble : SavingTrouble
   pub told : Bytes
   pub tells : TellsSavingTrouble file trouble told old new
   pub kept : Passes (after_err told) (released old) new
 
 -- The file was replaced by these bytes and no call of the desk failed, or it is as it was and the status is 1.
-abbrev pub Saves : DeskView → DeskView → Bytes → Bytes → Result ⊤ ℕ → Type 0
+abbrev pub Saves : DeskState → DeskState → Bytes → Bytes → Result ⊤ ℕ → Type 0
 Saves old new file bytes (Ok done) = Passes (with_replaced file bytes) old new × HasSameCounts old new
 Saves old new file bytes (Err status) = (status ≡ 1) × Unsaved old new file

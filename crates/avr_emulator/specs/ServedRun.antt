@@ -4,7 +4,7 @@ use Rattle.avr_emulator.specs.Holding.{HoldsAndLoads, Loaded}
 use Rattle.avr_emulator.specs.Saving.{Saves}
 use Rattle.avr_cli.specs.declared.settings.Settings.{Settings}
 use Rattle.avr_desk.specs.Fault.{Follows}
-use Rattle.avr_desk.specs.Record.{DeskView, Bytes, released}
+use Rattle.avr_desk.specs.Record.{DeskState, Bytes, released}
 use Rattle.avr_desk.specs.Lines.{error}
 use Rattle.avr_desk.specs.Said.{Tells}
 use Rattle.avr_part.specs.ChipFile.{chip_file}
@@ -26,30 +26,30 @@ abbrev pub settings_part : Settings → Stage Part
 settings_part s = parts_stage s.parts >>= λ parts. part_stage s.part parts
 
 -- The file was locked, a chip of this part was loaded from it, and it was unlocked.
-pub record JudgedChip (part : Part) (file : Bytes) (old new : DeskView) : Type 0 where
+pub record JudgedChip (part : Part) (file : Bytes) (old new : DeskState) : Type 0 where
   pub chip : chips.ChipState
-  pub loaded_desk : DeskView
+  pub loaded_desk : DeskState
   pub loaded : Loaded part file old loaded_desk chip
   pub released_is : new ≡ released loaded_desk
 
-abbrev pub JudgesChip : Part → Bytes → DeskView → DeskView → Result Part ℕ → Type 0
+abbrev pub JudgesChip : Part → Bytes → DeskState → DeskState → Result Part ℕ → Type 0
 JudgesChip part file old new (Ok judged) = (judged ≡ part) × JudgedChip part file old new
 JudgesChip part file old new (Err status) = HoldsAndLoads part file old new (Err status)
 
 -- The part of the settings was found, and then this holds.
-pub record WithPart (settings : Settings) (old : DeskView) (Then : Part → DeskView → Type 0) : Type 0 where
+pub record WithPart (settings : Settings) (old : DeskState) (Then : Part → DeskState → Type 0) : Type 0 where
   pub part : Part
-  pub part_desk : DeskView
+  pub part_desk : DeskState
   pub found : Went (settings_part settings) old part_desk (Made part)
   pub then_is : Then part part_desk
 
 -- There is no part. Without a part file the only reason is that no built-in part has the name.
-pub record FindsNoPart (settings : Settings) (old new : DeskView) (status : ℕ) : Type 0 where
+pub record FindsNoPart (settings : Settings) (old new : DeskState) (status : ℕ) : Type 0 where
   pub refused : Goes (AtStart false) (settings_part settings) old new (Err status)
   pub bare : settings.parts ≡ None → LacksPart settings.part [] old new
 
 -- The part of the settings was found and this file judged as a chip of it, or one of these is refused.
-abbrev pub JudgesPart : Settings → Bytes → DeskView → DeskView → Result Part ℕ → Type 0
+abbrev pub JudgesPart : Settings → Bytes → DeskState → DeskState → Result Part ℕ → Type 0
 JudgesPart settings file old new (Ok judged) =
     WithPart settings old (λ part desk. JudgesChip part file desk new (Ok judged))
 JudgesPart settings file old new (Err status) =
@@ -67,11 +67,11 @@ end_pieces SendFailed = Some (codes "link cannot be written" ∷ [])
 end_pieces TooManyReads = Some (codes "too many reads" ∷ [])
 
 -- If there is a message, its line was printed; or a write to the messages failed after a prefix of it.
-abbrev pub TellsIfAny : Option (List Bytes) → DeskView → DeskView → Type 0
+abbrev pub TellsIfAny : Option (List Bytes) → DeskState → DeskState → Type 0
 TellsIfAny None old new = new ≡ old
 TellsIfAny (Some pieces) old new = Tells old new (error pieces)
 
-abbrev pub TellsEnd : Served → DeskView → DeskView → Type 0
+abbrev pub TellsEnd : Served → DeskState → DeskState → Type 0
 TellsEnd served = TellsIfAny (end_pieces served)
 
 abbrev pub status_of_end : Served → ℕ
@@ -82,7 +82,7 @@ status_of_end TooManyReads = 1
 
 -- The chip's file was written, and the status is that of how serving ended; or it could not be written, and the
 -- status is 1.
-abbrev pub SavesAfterServing : Served → DeskView → DeskView → Bytes → Bytes → ℕ → Type 0
+abbrev pub SavesAfterServing : Served → DeskState → DeskState → Bytes → Bytes → ℕ → Type 0
 SavesAfterServing served old new file bytes status =
     (Saves old new file bytes (Ok tt) × (status ≡ status_of_end served))
     ⊎ ((fault : ℕ) × Saves old new file bytes (Err fault) × (status ≡ 1))
@@ -94,7 +94,7 @@ pub record ServesChip (chip : chips.ChipState) (file : Bytes) (turns : ℕ) (old
     : Type 0 where
   pub served : Served
   pub left : Machine
-  pub told_desk : DeskView
+  pub told_desk : DeskState
   pub serves : Serves (fresh_machine chip) turns served old.link new.link left
   pub in_turn : AnswersInTurn (fresh_programmer chip) [] [] serves.during
   pub leaves : ServingLeaves served (fresh_programmer chip) [] serves.during left
@@ -107,7 +107,7 @@ pub record ServesChip (chip : chips.ChipState) (file : Bytes) (turns : ℕ) (old
 -- The file was locked, the chip of this part was loaded from it, and it was served.
 pub record ServesLoaded (part : Part) (file : Bytes) (turns : ℕ) (old new : Devices) (status : ℕ) : Type 0 where
   pub chip : chips.ChipState
-  pub loaded_desk : DeskView
+  pub loaded_desk : DeskState
   pub loaded : Loaded part file old.desk loaded_desk chip
   pub serves : ServesChip chip file turns (devices old.link loaded_desk) new status
 

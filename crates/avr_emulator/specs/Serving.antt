@@ -3,7 +3,7 @@ use Rattle.std.specs.Prelude.{ℕ, List, [], ◌∷◌, ◌++◌, ◌+◌, ◌�
 use Rattle.stk_frame.specs.Cut.{frames}
 use Rattle.stk_host.specs.declared.link.Item.TheVariants.{Byte, Silence, End}
 use Rattle.stk_host.specs.Tape.{Tape, bytes_of}
-use Rattle.stk_host.specs.Talk.{Talk, LinkView, Sent, Got, sent, heard, Grows, HasFailed}
+use Rattle.stk_host.specs.Transcript.{Transcript, LinkState, Sent, Got, sent, heard, Grows, HasFailed}
 use Rattle.stk_host.specs.Play.{IsPrefixOf}
 use Rattle.stk_emu.specs.Programmer.{Programmer}
 use Rattle.stk_emu.specs.Device.{device, answers, answer_frame, after_frames}
@@ -17,26 +17,26 @@ HasNoEnd (Byte byte ∷ tape) = HasNoEnd tape
 HasNoEnd (Silence ∷ tape) = HasNoEnd tape
 HasNoEnd (End ∷ tape) = ⊥
 
-abbrev pub reads : Talk → ℕ
+abbrev pub reads : Transcript → ℕ
 reads [] = 0
-reads (Sent bytes ∷ talk) = reads talk
-reads (Got tape ∷ talk) = reads talk + 1
+reads (Sent bytes ∷ transcript) = reads transcript
+reads (Got tape ∷ transcript) = reads transcript + 1
 
 -- What was received in at most `turns` reads: an end only as its last item, and only if serving ended with it.
-abbrev pub HearsUntil : Served → ℕ → Talk → Type 0
-HearsUntil Ended turns talk = (before : Tape) × HasNoEnd before × (heard talk ≡ before ++ End ∷ [])
-    × (reads talk ≤ turns)
-HearsUntil RecvFailed turns talk = HasNoEnd (heard talk) × (reads talk < turns)
-HearsUntil SendFailed turns talk = HasNoEnd (heard talk) × (reads talk ≤ turns)
-HearsUntil TooManyReads turns talk = HasNoEnd (heard talk) × (reads talk ≡ turns)
+abbrev pub HearsUntil : Served → ℕ → Transcript → Type 0
+HearsUntil Ended turns transcript = (before : Tape) × HasNoEnd before × (heard transcript ≡ before ++ End ∷ [])
+    × (reads transcript ≤ turns)
+HearsUntil RecvFailed turns transcript = HasNoEnd (heard transcript) × (reads transcript < turns)
+HearsUntil SendFailed turns transcript = HasNoEnd (heard transcript) × (reads transcript ≤ turns)
+HearsUntil TooManyReads turns transcript = HasNoEnd (heard transcript) × (reads transcript ≡ turns)
 
 -- Before each piece received, all answers to what was fed before had been sent. The programmer was fed `text` and had
 -- sent `answered` when the transcript began.
-abbrev pub AnswersInTurn : Programmer → List ℕ → List ℕ → Talk → Type 0
+abbrev pub AnswersInTurn : Programmer → List ℕ → List ℕ → Transcript → Type 0
 AnswersInTurn p text answered [] = Unit {0}
-AnswersInTurn p text answered (Sent bytes ∷ talk) = AnswersInTurn p text (answered ++ bytes) talk
-AnswersInTurn p text answered (Got tape ∷ talk) =
-    (answered ≡ emulate p text) × AnswersInTurn p (text ++ bytes_of tape) answered talk
+AnswersInTurn p text answered (Sent bytes ∷ transcript) = AnswersInTurn p text (answered ++ bytes) transcript
+AnswersInTurn p text answered (Got tape ∷ transcript) =
+    (answered ≡ emulate p text) × AnswersInTurn p (text ++ bytes_of tape) answered transcript
 
 -- An emulator that was fed `text` was fed these bytes, and `out` is exactly its answers to them.
 pub record AnswersAll (p : Programmer) (text bytes out : List ℕ) (now : Machine) : Type 0 where
@@ -60,24 +60,24 @@ pub record BreaksOff (p : Programmer) (text bytes out : List ℕ) (now : Machine
   pub sent_is : emulate p text ++ out ≡ answers device earlier p ++ part
 
 -- What was sent, and the emulator after it. If a send failed, only a prefix of all answers was sent.
-abbrev pub ServingLeaves : Served → Programmer → List ℕ → Talk → Machine → Type 0
-ServingLeaves SendFailed p text talk now =
-    IsPrefixOf (emulate p text ++ sent talk) (emulate p (text ++ bytes_of (heard talk)))
-    × BreaksOff p text (bytes_of (heard talk)) (sent talk) now
-ServingLeaves _ p text talk now = AnswersAll p text (bytes_of (heard talk)) (sent talk) now
+abbrev pub ServingLeaves : Served → Programmer → List ℕ → Transcript → Machine → Type 0
+ServingLeaves SendFailed p text transcript now =
+    IsPrefixOf (emulate p text ++ sent transcript) (emulate p (text ++ bytes_of (heard transcript)))
+    × BreaksOff p text (bytes_of (heard transcript)) (sent transcript) now
+ServingLeaves _ p text transcript now = AnswersAll p text (bytes_of (heard transcript)) (sent transcript) now
 
 -- An emulator served a link between these states, in at most `turns` reads, and ended like this. This holds whatever
 -- programmer it began with and whatever text it was fed before.
-pub record Serves (old : Machine) (turns : ℕ) (served : Served) (before after : LinkView)
+pub record Serves (old : Machine) (turns : ℕ) (served : Served) (before after : LinkState)
     (now : Machine) : Type 0 where
-  pub during : Talk
-  pub grows : Grows before.talk during after.talk
+  pub during : Transcript
+  pub grows : Grows before.transcript during after.transcript
   pub hears : HearsUntil served turns during
   pub in_turn : (p : Programmer) (text : List ℕ) → IsFed p text old → AnswersInTurn p text (emulate p text) during
   pub leaves : (p : Programmer) (text : List ℕ) → IsFed p text old → ServingLeaves served p text during now
 
 -- If the link failed, its count of failures rose or is at its end. Otherwise the count is what it was.
-abbrev pub FailsBy : Served → LinkView → LinkView → Type 0
+abbrev pub FailsBy : Served → LinkState → LinkState → Type 0
 FailsBy Ended before after = after.failures ≡ before.failures
 FailsBy RecvFailed before after = HasFailed before after
 FailsBy SendFailed before after = HasFailed before after

@@ -2,7 +2,7 @@
 ghost use Rattle.std.specs.Prelude.{◌≡◌, ◌≤◌, true, IfOk, Ok, length};
 ghost use Rattle.avr_desk.specs.Fault.{Follows};
 ghost use Rattle.avr_desk.specs.Files.{FileBreaks, IsCounted};
-ghost use Rattle.avr_desk.specs.Record.{DeskView};
+ghost use Rattle.avr_desk.specs.Record.{DeskState};
 ghost use Rattle.avr_part.specs.State.{fresh_state};
 ghost use Rattle.avr_desk.specs.Playing.{AtStart, Goes};
 ghost use Rattle.avr_desk.specs.Stage.{verdict_stage};
@@ -63,7 +63,7 @@ fn unread_chip<D: Desk>(
     fault: FileFault,
     desk: &mut D,
 ) -> Result<Chip, u8>
-    ensures goes { (old : DeskView) → FileBreaks file.now old (D.view desk.old) fault
+    ensures goes { (old : DeskState) → FileBreaks file.now old (D.view desk.old) fault
         → Follows old (D.view desk.old)
         → IsCounted old (D.view desk.old) fault
         → Goes AtOpened (chip_stage part.now file.now) old (D.view desk.new) result }

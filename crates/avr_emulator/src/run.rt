@@ -6,7 +6,7 @@ ghost use Rattle.avr_session.specs.Run.{RunsSession};
 ghost use Rattle.avr_session.specs.Runs.{devices};
 ghost use Rattle.stk_emu.specs.Wired.{ComesOf, IsFresh, wired_view};
 ghost use Rattle.ghosts.specs.Stays.{Stays};
-ghost use Rattle.stk_host.specs.Talk.{sent};
+ghost use Rattle.stk_host.specs.Transcript.{sent};
 ghost use Rattle.avr_part.specs.ChipFile.{chip_file};
 ghost use Rattle.avr_emulator.specs.Emulated.{IsSaved, RunsEmulator};
 
@@ -46,7 +46,7 @@ pub fn drive_wired<D: Desk>(alloc: Global, plan: &Plan, desk: &mut D, wire: &mut
 
 /// Saves the chip of a wire if anything was sent over it, unlocks its file, and returns the run's status.
 fn save_if_sent<D: Desk>(alloc: Global, wire: &Wired, file: &str, desk: &mut D, status: u8) -> u8
-    ensures saved { IsSaved (sent wire.now.talk) (D.view desk.old) (D.view desk.new) file.now
+    ensures saved { IsSaved (sent wire.now.transcript) (D.view desk.old) (D.view desk.new) file.now
         (chip_file wire.now.wire.programmer.chip) status result }
     ensures follows { Follows (D.view desk.old) (D.view desk.new) }
     ensures stays { Stays D.comes_of desk.old desk.new }

@@ -1,7 +1,7 @@
 //! Serving a link.
 ghost use Rattle.std.specs.Prelude.{◌≡◌, ◌≤◌, OnOk, OnErr};
 ghost use Rattle.ghosts.specs.Stays.{Stays};
-ghost use Rattle.stk_host.specs.Talk.{HasFailed};
+ghost use Rattle.stk_host.specs.Transcript.{HasFailed};
 ghost use Rattle.avr_emulator.specs.Serving.{Serves, FailsBy};
 ghost use Rattle.avr_emulator.specs.Replying.{Replies, RepliesPart};
 

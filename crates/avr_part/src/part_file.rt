@@ -92,7 +92,8 @@ fn utf8_text(bytes: &[u8]) -> Result<&str, PartFileFault>
 pub fn parse_parts(alloc: Global, text: &[u8]) -> Result<Parts, PartFileFault>
     ensures reads { ReadsOrMemory (parts_of text.now) (unplaced result) }
     ensures line { IfErr result (IsPlaced text.now) }
-    ensures no_text { is_utf8 text.now ≡ false → result ≡ Err (not_toml_at (line_at text.now (utf8_valid_len text.now))) }
+    ensures no_text { is_utf8 text.now ≡ false → result ≡ Err
+        (not_toml_at (line_at text.now (utf8_valid_len text.now))) }
 {
     let text = utf8_text(text)?;
     let document = read_document(alloc, text)?;

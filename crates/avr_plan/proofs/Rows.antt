@@ -10,7 +10,7 @@ use Rattle.avr_cli.specs.declared.update.Format.TheVariants.{Ihex, Immediate}
 use Rattle.avr_cli.specs.declared.update.Op.TheVariants as op
 use Rattle.avr_cli.specs.declared.update.Update.{Update}
 use Rattle.ghosts.specs.Failures.{HasRisen, HasStood}
-use Rattle.avr_desk.specs.Record.{DeskView, Record, after_err, showing, Bytes}
+use Rattle.avr_desk.specs.Record.{DeskState, Record, after_err, showing, Bytes}
 use Rattle.avr_desk.specs.declared.record.Opening.{Opening}
 use Rattle.avr_desk.specs.declared.record.Opening.TheVariants.{Found}
 use Rattle.avr_desk.specs.Lines.{memory_line, not_opened_line}
@@ -83,7 +83,7 @@ begins =
     (begins_then file task (λ first. verdict_stage (Ok (first ∷ []))) begins_task)
 
 -- a line and a text that differ at this place
-differs : (place : ℕ) (line told : Bytes) (old new : DeskView)
+differs : (place : ℕ) (line told : Bytes) (old new : DeskState)
     → ((back : Bytes) → get_or (told ++ back) place 0 ≡ get_or line place 0 → ⊥) → TellsLine line told old new → ⊥
 differs place line told old new apart (inl whole) =
     apart [] (ap (λ (bytes : Bytes). get_or bytes place 0) (append-nil told ∙ whole.0))

@@ -3,7 +3,7 @@ use Rattle.std.specs.Prelude.{◌≡◌, ◌≤◌, ◌+◌, ℕ, List, ◌++◌
 use Rattle.avr_cli.specs.declared.update.Format.{Format}
 use Rattle.avr_desk.specs.Fault.{HasSameCounts}
 use Rattle.avr_desk.specs.Files.{after_reading, with_read, FileBreaks, IsCounted, IsWhole}
-use Rattle.avr_desk.specs.Record.{DeskView, Passes, Bytes}
+use Rattle.avr_desk.specs.Record.{DeskState, Passes, Bytes}
 use Rattle.avr_desk.specs.declared.files.FileFault.{FileFault}
 use Rattle.avr_desk.specs.declared.files.FileFault.TheVariants.{Absent, NotOpened, NotRead, Memory}
 use Rattle.avr_records.specs.declared.kind.Ending.{Ending}
@@ -25,25 +25,25 @@ IsGiven given (Err (Image bad)) = Err bad ≡ given
 IsGiven given (Err (File fault)) = ⊥
 
 -- How a fault changes the counts of failures.
-abbrev pub IsCountedRead : DeskView → DeskView → ReadFault → Type 0
+abbrev pub IsCountedRead : DeskState → DeskState → ReadFault → Type 0
 IsCountedRead old new (File fault) = IsCounted old new fault
 IsCountedRead old new (Image bad) = HasSameCounts old new
 
 -- The open file was read to its end, or far enough to show its format.
-pub record ReadsFirstBytes (old new : DeskView) (prefix : FirstBytes) : Type 0 where
+pub record ReadsFirstBytes (old new : DeskState) (prefix : FirstBytes) : Type 0 where
   pub kept : Passes (after_reading prefix.bytes.items prefix.ended) old new
   pub enough : MatchBool prefix.ended (length prefix.bytes.items ≤ 1024) (length prefix.bytes.items ≡ 1024)
 
 -- The open file gave some bytes, and no end.
-abbrev pub IsReadInPart : DeskView → DeskView → Type 0
+abbrev pub IsReadInPart : DeskState → DeskState → Type 0
 IsReadInPart old new = (bytes : Bytes) × Passes (after_reading bytes false) old new
 
-abbrev pub FirstBytesAreRead : DeskView → DeskView → Result FirstBytes FileFault → Type 0
+abbrev pub FirstBytesAreRead : DeskState → DeskState → Result FirstBytes FileFault → Type 0
 FirstBytesAreRead old new (Ok prefix) = ReadsFirstBytes old new prefix
 FirstBytesAreRead old new (Err fault) = (fault ≡ NotRead) × IsReadInPart old new
 
 -- After these bytes the rest of the open file was read, to its end or past the limit. The whole is this.
-pub record ReadsRest (limit : ℕ) (found : Found) (size : ℕ) (before : Bytes) (old new : DeskView)
+pub record ReadsRest (limit : ℕ) (found : Found) (size : ℕ) (before : Bytes) (old new : DeskState)
     (given : Given) : Type 0 where
   pub bytes : Bytes
   pub ended : Bool
@@ -51,13 +51,13 @@ pub record ReadsRest (limit : ℕ) (found : Found) (size : ℕ) (before : Bytes)
   pub whole : IsWhole limit (record { bytes = before ++ bytes; ended = ended })
   pub gives : given ≡ file_within limit found (before ++ bytes) size
 
-abbrev pub RestIsRead : ℕ → Found → ℕ → Bytes → DeskView → DeskView → ImageOrFault → Type 0
+abbrev pub RestIsRead : ℕ → Found → ℕ → Bytes → DeskState → DeskState → ImageOrFault → Type 0
 RestIsRead limit found size before old new (Ok good) = ReadsRest limit found size before old new (Ok good)
 RestIsRead limit found size before old new (Err (Image bad)) = ReadsRest limit found size before old new (Err bad)
 RestIsRead limit found size before old new (Err (File fault)) = (fault ≡ NotRead) × IsReadInPart old new
 
 -- The open file was read to its end or past the limit, and is this.
-pub record ReadsOpenImage (limit : ℕ) (format : Format) (size : ℕ) (old new : DeskView)
+pub record ReadsOpenImage (limit : ℕ) (format : Format) (size : ℕ) (old new : DeskState)
     (given : Given) : Type 0 where
   pub bytes : Bytes
   pub ended : Bool
@@ -66,19 +66,19 @@ pub record ReadsOpenImage (limit : ℕ) (format : Format) (size : ℕ) (old new 
   pub gives : given ≡ image_within limit format bytes size
 
 -- An open file is never missing and never fails to open.
-abbrev pub OpenBreaks : DeskView → DeskView → FileFault → Type 0
+abbrev pub OpenBreaks : DeskState → DeskState → FileFault → Type 0
 OpenBreaks old new Absent = ⊥
 OpenBreaks old new NotOpened = ⊥
 OpenBreaks old new NotRead = IsReadInPart old new
 OpenBreaks old new Memory = (bytes : Bytes) × (ended : Bool) × Passes (after_reading bytes ended) old new
 
-abbrev pub OpenIsRead : ℕ → Format → ℕ → DeskView → DeskView → ImageOrFault → Type 0
+abbrev pub OpenIsRead : ℕ → Format → ℕ → DeskState → DeskState → ImageOrFault → Type 0
 OpenIsRead limit format size old new (Ok good) = ReadsOpenImage limit format size old new (Ok good)
 OpenIsRead limit format size old new (Err (Image bad)) = ReadsOpenImage limit format size old new (Err bad)
 OpenIsRead limit format size old new (Err (File fault)) = OpenBreaks old new fault
 
 -- The file was opened and read to its end or past the limit, and is this.
-pub record ReadsImage (limit : ℕ) (format : Format) (size : ℕ) (name : Bytes) (old new : DeskView)
+pub record ReadsImage (limit : ℕ) (format : Format) (size : ℕ) (name : Bytes) (old new : DeskState)
     (given : Given) : Type 0 where
   pub bytes : Bytes
   pub ended : Bool
@@ -86,13 +86,13 @@ pub record ReadsImage (limit : ℕ) (format : Format) (size : ℕ) (name : Bytes
   pub whole : IsWhole limit (record { bytes = bytes; ended = ended })
   pub gives : given ≡ image_within limit format bytes size
 
-abbrev pub ImageIsRead : ℕ → Format → ℕ → Bytes → DeskView → DeskView → ImageOrFault → Type 0
+abbrev pub ImageIsRead : ℕ → Format → ℕ → Bytes → DeskState → DeskState → ImageOrFault → Type 0
 ImageIsRead limit format size name old new (Ok good) = ReadsImage limit format size name old new (Ok good)
 ImageIsRead limit format size name old new (Err (Image bad)) = ReadsImage limit format size name old new (Err bad)
 ImageIsRead limit format size name old new (Err (File fault)) = FileBreaks name old new fault
 
 -- The open file gave some bytes, which were fed. Together with those left they fill the room.
-pub record Going (old now : DeskView) (first last : Intake) (room left : ℕ) : Type 0 where
+pub record Going (old now : DeskState) (first last : Intake) (room left : ℕ) : Type 0 where
   pub bytes : Bytes
   pub kept : Passes (after_reading bytes false) old now
   pub feeds : (found : Found) (size : ℕ) (text : Bytes) → Takes found size first text

@@ -1,6 +1,6 @@
 -- The plan of a run, in order: the part file, the part, and each update with its file.
 use Rattle.std.specs.Prelude.{ℕ, Bool, false, nat_le, nat_lt, List, [], ◌∷◌, ◌++◌, length, Option, Some, None, Result, Ok, Err, IsErr, if◌then◌else◌}
-use Rattle.avr_desk.specs.Record.{DeskView, Bytes}
+use Rattle.avr_desk.specs.Record.{DeskState, Bytes}
 use Rattle.avr_cli.specs.declared.settings.Settings.{Settings}
 use Rattle.avr_cli.specs.declared.settings.Switches.{Switches}
 use Rattle.avr_cli.specs.declared.update.Format.{Format}
@@ -52,7 +52,7 @@ part_or_line id (Err fault) = Err (no_part_line id)
 abbrev pub part_stage : Bytes → List Part → Stage Part
 part_stage id parts = verdict_stage (part_or_line id (part_of_id id parts))
 
-abbrev pub LacksPart : Bytes → List Part → DeskView → DeskView → Type 0
+abbrev pub LacksPart : Bytes → List Part → DeskState → DeskState → Type 0
 LacksPart id parts old new = IsErr (part_of_id id parts) × Tells old new (no_part_line id)
 
 -- ---- the image of an update

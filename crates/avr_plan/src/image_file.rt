@@ -1,7 +1,7 @@
 //! Reads an image file over a desk: in pieces to its end, or past the limit, and judges it only then.
 ghost use Rattle.std.specs.Prelude.{◌≡◌, ◌+◌, ◌<◌, ◌≤◌, ◌^◌, ℕ, IfErr, OnOk, length};
 ghost use Rattle.avr_desk.specs.Fault.{Follows, HasSameCounts};
-ghost use Rattle.avr_desk.specs.Record.{DeskView, Bytes};
+ghost use Rattle.avr_desk.specs.Record.{DeskState, Bytes};
 ghost use Rattle.avr_records.specs.declared.kind.Found.{Found as AnyFound};
 ghost use Rattle.avr_records.specs.declared.detection.TheConstants.{FIRST_BYTES};
 ghost use Rattle.avr_plan.specs.Faults.{read_fault_number};
@@ -96,7 +96,7 @@ fn read_first_bytes<D: Desk>(desk: &mut D) -> Result<FirstBytes, FileFault>
 fn finish(intake: Intake) -> Result<(Image, Ending), ReadFault>
     ensures given { (found : AnyFound) (size : ℕ) (text : Bytes) → Takes found size intake text
         → IsGiven (whole_file found text size) result }
-    ensures counted { IfErr result (λ fault. (old new : DeskView) → HasSameCounts old new
+    ensures counted { IfErr result (λ fault. (old new : DeskState) → HasSameCounts old new
         → IsCountedRead old new fault) }
 {
     match intake.finish() {

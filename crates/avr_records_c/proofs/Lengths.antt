@@ -36,7 +36,8 @@ weight (row ∷ more) = 1 + length row.1 + weight more
 
 ihex-lines : (upper : ℕ) (cut : List (ℕ × List ℕ)) → length (ihex_rows upper cut) ≤ 28 * weight cut + 12
 ihex-lines upper [] = omega (arith, ihex-line 1 0 [])
-ihex-lines upper ((addr, bytes) ∷ more) = grind (arith, nat_tests, ihex-lines (addr / 65536) more, length-append, upper-line, ihex-line)
+ihex-lines upper ((addr, bytes) ∷ more) =
+    grind (arith, nat_tests, ihex-lines (addr / 65536) more, length-append, upper-line, ihex-line)
 
 srec-end : (size : ℕ) → size ≤ 4 → length (srec_record (11 - size) (low_bytes size 0)) ≤ 15
 srec-end size few = grind (arith, nat_tests, length-append, length-encode_with, length_low_bytes)

@@ -106,4 +106,5 @@ pub record IsRow (addr most end : ℕ) (present bytes : List ℕ) : Type 0 where
 
 pub row-is : (addr most end : ℕ) (present bytes : List ℕ) → addr ≤ length bytes
     → end ≡ addr + min most (run addr present bytes) → IsRow addr most end present bytes
-row-is addr most end present bytes inside is = grind (arith, nat_tests, from-here, lead-long, length-drop, lead-bytes, take_min)
+row-is addr most end present bytes inside is =
+    grind (arith, nat_tests, from-here, lead-long, length-drop, lead-bytes, take_min)

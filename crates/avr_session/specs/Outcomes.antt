@@ -1,6 +1,6 @@
 -- The outcome of a session, and the fault whose line was reported.
 use Rattle.std.specs.Prelude.{ℕ, ◌≡◌, ◌++◌, Result, Ok, Err, ⊤}
-use Rattle.avr_desk.specs.Record.{Bytes, DeskView}
+use Rattle.avr_desk.specs.Record.{Bytes, DeskState}
 use Rattle.avr_part.specs.Part.{Part}
 use Rattle.avr_plan.specs.Plan.{Plan}
 use Rattle.avr_session.specs.declared.ending.End.{End}
@@ -32,7 +32,7 @@ ComesTo plan old new outcome.Stopped = StopsSession plan old new
 -- ---- inside: how a session ended
 
 -- If a fault ended the session, the fault's line is the last one reported.
-abbrev pub EndsTold : Part → DeskView → Result ⊤ End → Type 0
+abbrev pub EndsTold : Part → DeskState → Result ⊤ End → Type 0
 EndsTold part view (Ok done) = ⊤
 EndsTold part view (Err (ends.Faulty fault)) = EndWith (fault_line part fault) view.kept.messages
 EndsTold part view (Err (ends.Over fault)) = EndWith (fault_line part fault) view.kept.messages

@@ -2,7 +2,7 @@
 use Rattle.std.specs.Prelude.{Bool, true, false, ◌≡◌, ◌≤◌, List, Result, Ok, Err, ⊤}
 use Rattle.std.specs.List.{list_any}
 use Rattle.avr_desk.specs.Fault.{Follows}
-use Rattle.avr_desk.specs.Record.{DeskView}
+use Rattle.avr_desk.specs.Record.{DeskState}
 use Rattle.avr_desk.specs.declared.desk.DeskFault.{DeskFault}
 use Rattle.avr_plan.specs.Plan.{Plan}
 use Rattle.stk_host.specs.Dialog.{Dialog}
@@ -51,7 +51,7 @@ Does plan actions host_old host_new old new result =
     (phases plan.part plan.switches actions) host_old host_new old new result
 
 -- These events were output in place of an action.
-pub record LeavesOut (sayings : List Saying) (old new : DeskView) (result : Result ⊤ End) : Type 0 where
+pub record LeavesOut (sayings : List Saying) (old new : DeskState) (result : Result ⊤ End) : Type 0 where
   pub told : Result ⊤ DeskFault
   pub reports : Reports PrintStops old new sayings told
   pub result_is : result ≡ conclusion {A = ⊤} (Ok tt) told

@@ -2,7 +2,7 @@
 use Rattle.std.specs.Prelude.{List, map, ◌≡◌, ◌++◌, [], Result, Ok, Err, ⊤}
 use Rattle.avr_desk.specs.Fault as desk
 use Rattle.avr_desk.specs.Fault.{Follows, HasSameCounts}
-use Rattle.avr_desk.specs.Record.{DeskView, Passes, after_err, Bytes}
+use Rattle.avr_desk.specs.Record.{DeskState, Passes, after_err, Bytes}
 use Rattle.avr_desk.specs.Said.{Saying, TellsFailure, after_all}
 use Rattle.stk_host.specs.Dialog.{Said}
 use Rattle.avr_desk.specs.declared.desk.DeskFault.{DeskFault}
@@ -15,7 +15,7 @@ IsOfDesk OfPrinting = Unit {0}
 IsOfDesk cause = ⊥
 
 -- A prefix of the output events was done, and perhaps a part of the next one, at which this cause stops them.
-pub record SaysPrefix (cause : Cause) (old new : DeskView) (sayings : List Saying) : Type 0 where
+pub record SaysPrefix (cause : Cause) (old new : DeskState) (sayings : List Saying) : Type 0 where
   pub whole : List Saying
   pub begun : List Saying
   pub later : List Saying
@@ -25,9 +25,9 @@ pub record SaysPrefix (cause : Cause) (old new : DeskView) (sayings : List Sayin
   pub kept : Passes (after_all (whole ++ begun)) old new
 
 -- A prefix of the output events was done, and then the report of the cause. Such a cause may stop them.
-pub record SaidSome (By : DeskView → DeskView → Cause → Bytes → Type 0) (old new : DeskView)
+pub record SaidSome (By : DeskState → DeskState → Cause → Bytes → Type 0) (old new : DeskState)
     (sayings : List Saying) : Type 0 where
-  pub between : DeskView
+  pub between : DeskState
   pub cause : Cause
   pub prefix : SaysPrefix cause old between sayings
   pub told : Bytes
@@ -35,30 +35,30 @@ pub record SaidSome (By : DeskView → DeskView → Cause → Bytes → Type 0) 
   pub kept : Passes (after_err told) between new
 
 -- All output events were done and no call failed, or a prefix of them was done.
-abbrev pub SaysOrStops : (DeskView → DeskView → Cause → Bytes → Type 0) → DeskView → DeskView → List Saying
+abbrev pub SaysOrStops : (DeskState → DeskState → Cause → Bytes → Type 0) → DeskState → DeskState → List Saying
     → Result ⊤ DeskFault → Type 0
 SaysOrStops By old new sayings (Ok done) = Passes (after_all sayings) old new × HasSameCounts old new
 SaysOrStops By old new sayings (Err _) = SaidSome By old new sayings
 
-pub record Reports (By : DeskView → DeskView → Cause → Bytes → Type 0) (old new : DeskView) (sayings : List Saying)
+pub record Reports (By : DeskState → DeskState → Cause → Bytes → Type 0) (old new : DeskState) (sayings : List Saying)
     (result : Result ⊤ DeskFault) : Type 0 where
   pub says : SaysOrStops By old new sayings result
   pub follows : Follows old new
 
 -- A write to the messages failed; nothing reports this.
-abbrev pub PrintStops : DeskView → DeskView → Cause → Bytes → Type 0
+abbrev pub PrintStops : DeskState → DeskState → Cause → Bytes → Type 0
 PrintStops old new OfPrinting told = desk.HasFailedToSay old new × (told ≡ [])
 PrintStops old new cause told = ⊥
 
 -- The desk failed at a file, and this was reported.
-abbrev pub FileStops : DeskView → DeskView → Bytes → FileTrouble → Bytes → Type 0
+abbrev pub FileStops : DeskState → DeskState → Bytes → FileTrouble → Bytes → Type 0
 FileStops old new file trouble told = TellsFailure (cause_line (OfFile file trouble)) told old new
 
-abbrev pub DeskStops : DeskView → DeskView → Cause → Bytes → Type 0
+abbrev pub DeskStops : DeskState → DeskState → Cause → Bytes → Type 0
 DeskStops old new (OfFile file trouble) told = FileStops old new file trouble told
 DeskStops old new cause told = PrintStops old new cause told
 
 -- It fails at a file only if there is something to save.
-abbrev pub ReadStops : {A Fault : Type 0} → Result A Fault → DeskView → DeskView → Cause → Bytes → Type 0
+abbrev pub ReadStops : {A Fault : Type 0} → Result A Fault → DeskState → DeskState → Cause → Bytes → Type 0
 ReadStops (Ok read) = DeskStops
 ReadStops (Err fault) = PrintStops

@@ -1,7 +1,7 @@
 -- A run, from settings to status.
 use Rattle.std.specs.Prelude.{ℕ, ◌≡◌, ◌⊎◌, [], None}
 use Rattle.avr_cli.specs.declared.settings.Settings.{Settings}
-use Rattle.avr_desk.specs.Record.{DeskView}
+use Rattle.avr_desk.specs.Record.{DeskState}
 use Rattle.avr_plan.specs.Plan.{Plan}
 use Rattle.avr_plan.specs.Planning.{LacksPart, planned}
 use Rattle.avr_plan.specs.Taking.{AtUpdate}
@@ -13,7 +13,7 @@ use Rattle.avr_session.specs.Runs.{Devices, devices, start, untold, BrokeOff, Ru
 use Rattle.avr_session.specs.Session.{session}
 use Rattle.avr_session.specs.Taking.{AtTaking}
 use Rattle.ghosts.specs.Stays.{Stays}
-use Rattle.stk_host.specs.Talk.{LinkView}
+use Rattle.stk_host.specs.Transcript.{LinkState}
 
 -- The session of a plan was run whole to its status, or it broke off. Allocation can fail only at an action that
 -- allocates.
@@ -27,7 +27,7 @@ StopsSession plan old new =
     (AtTaking plan.part plan.switches (actions plan))
 
 -- The plan was made from what the files gave, up to `between`, and its session was run from there.
-pub record RunsPlan (settings : Settings) (old : Devices) (between : DeskView) (new : Devices)
+pub record RunsPlan (settings : Settings) (old : Devices) (between : DeskState) (new : Devices)
     (status : ℕ) : Type 0 where
   pub plan : Plan
   pub made : Went (planned settings) old.desk between (Made plan)
@@ -43,13 +43,13 @@ pub record RunsNone (settings : Settings) (old new : Devices) (status : ℕ) : T
   pub same : new.link ≡ old.link
   pub status_is : status ≡ 1
 
-abbrev pub RunsSettings : Settings → Devices → DeskView → Devices → ℕ → Type 0
+abbrev pub RunsSettings : Settings → Devices → DeskState → Devices → ℕ → Type 0
 RunsSettings settings old between new status =
     RunsPlan settings old between new status ⊎ RunsNone settings old new status
 
 -- The same for a link and a desk, with the desk `between`, which stays what it came from.
-pub record RunsBetween {D Start : Type 0} (view : D → DeskView) (ComesOf : Start → D → Type 0) (settings : Settings)
-    (link_old link_new : LinkView) (old new : D) (status : ℕ) : Type 0 where
+pub record RunsBetween {D Start : Type 0} (view : D → DeskState) (ComesOf : Start → D → Type 0) (settings : Settings)
+    (link_old link_new : LinkState) (old new : D) (status : ℕ) : Type 0 where
   pub between : D
   pub stays : Stays ComesOf old between
   pub runs : RunsSettings settings (devices link_old (view old)) (view between) (devices link_new (view new)) status

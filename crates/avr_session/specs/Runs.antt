@@ -1,13 +1,13 @@
 -- The result of a call over a link and a desk: its dialog ran whole, or it broke off.
 use Rattle.std.specs.Prelude.{ℕ, Bool, true, false, ◌||◌, List, [], ◌∷◌, ◌++◌, ◌≡◌, ◌<◌, ◌≤◌, ◌⊎◌, length, nat_eq, Option, None, codes}
 use Rattle.std.specs.List.{list_any, starts_with}
-use Rattle.avr_desk.specs.Record.{DeskView, Passes, after_err, Bytes}
+use Rattle.avr_desk.specs.Record.{DeskState, Passes, after_err, Bytes}
 use Rattle.avr_desk.specs.Fault as desk
 use Rattle.avr_desk.specs.Fault.{Follows, HasSameCounts, HasFailedAt}
 use Rattle.avr_desk.specs.declared.stream.Stream.TheVariants.{File}
-use Rattle.stk_host.specs.Talk as link
+use Rattle.stk_host.specs.Transcript as link
 use Rattle.stk_host.specs.Tape.{on_tape}
-use Rattle.stk_host.specs.Talk.{Talk, LinkView, heard, Grows}
+use Rattle.stk_host.specs.Transcript.{Transcript, LinkState, heard, Grows}
 use Rattle.stk_host.specs.Dialog.{Dialog, Event, Frame, Said, played, sayings}
 use Rattle.stk_host.specs.Play.{Position, Plays, Breaks}
 use Rattle.avr_desk.specs.Lines.{error, memory_line, not_created_pieces, not_written_pieces}
@@ -16,10 +16,10 @@ use Rattle.avr_desk.specs.Said.{Saying, Line, Creates, Writes, Outs, SaidPart, I
 
 -- The state of a link and a desk.
 pub record Devices : Type 0 where
-  pub link : LinkView
-  pub desk : DeskView
+  pub link : LinkState
+  pub desk : DeskState
 
-abbrev pub devices : LinkView → DeskView → Devices
+abbrev pub devices : LinkState → DeskState → Devices
 devices link desk = record { link = link; desk = desk }
 
 abbrev pub NoneFailed : Devices → Devices → Type 0
@@ -112,7 +112,7 @@ HasCome takes old then cause = HasFailedAt File old.desk then.desk × (then.link
 
 -- The cause's line was reported. After a fault's line only the link or the printing can fail, and nothing more is
 -- reported.
-abbrev pub TellsCause : Bool → Cause → Bytes → DeskView → DeskView → Type 0
+abbrev pub TellsCause : Bool → Cause → Bytes → DeskState → DeskState → Type 0
 TellsCause false cause told old new = TellsLine (cause_line cause) told old new
 TellsCause true OfSending told old new = told ≡ []
 TellsCause true OfListening told old new = told ≡ []
@@ -129,13 +129,13 @@ untold takes = record { takes = takes; was_told = false }
 
 -- When allocation can fail: a predicate of the start, the transcript and the events so far.
 abbrev pub Lacking : Type 1
-Lacking = Position → Talk → List (Event Saying) → Type 0
+Lacking = Position → Transcript → List (Event Saying) → Type 0
 
 -- Why a run stops after this output, and what is reported: the cause occurred by `between`, and was reported from
 -- there on.
 pub record StopsBehind (terms : Terms) (old new : Devices) (said : List Saying) (cause : Cause)
     (told : Bytes) : Type 0 where
-  pub between : DeskView
+  pub between : DeskState
   pub has_come : HasCome terms.takes old (devices new.link between) cause
   pub tells : TellsCause (terms.was_told || tells_fault said) cause told between new.desk
   pub since : Follows old.desk between
@@ -146,9 +146,9 @@ pub record StopsBehind (terms : Terms) (old new : Devices) (said : List Saying) 
 -- a run.
 pub record Ran {R : Type 0} (dialog : Dialog Saying R) (before : Position) (old new : Devices) (result : R)
     (after : Position) : Type 0 where
-  pub during : Talk
+  pub during : Transcript
   pub events : List (Event Saying)
-  pub grows : Grows old.link.talk during new.link.talk
+  pub grows : Grows old.link.transcript during new.link.transcript
   pub plays : Plays dialog before during events result after
   pub few : length before.unread ≤ 281 → length after.unread ≤ 281
   pub kept : Passes (after_all (sayings events)) old.desk new.desk
@@ -158,11 +158,11 @@ pub record Ran {R : Type 0} (dialog : Dialog Saying R) (before : Position) (old 
 -- the report of the cause. If allocation failed, it did so at a moment that `Lacks` allows.
 pub record BrokeOff {R : Type 0} (dialog : Dialog Saying R) (before : Position) (old new : Devices)
     (terms : Terms) (Lacks : Lacking) : Type 0 where
-  pub during : Talk
+  pub during : Transcript
   pub shown : List (Event Saying)
   pub cause : Cause
   pub told : Bytes
-  pub grows : Grows old.link.talk during new.link.talk
+  pub grows : Grows old.link.transcript during new.link.transcript
   pub breaks : Breaks SaidPart dialog before during shown
   pub place : StopsAt cause breaks.prefix.whole breaks.prefix.begun breaks.prefix.later
   pub listens : Listens cause (played dialog before.next (on_tape before.unread ++ heard during)).outcome

@@ -1,7 +1,7 @@
 -- Bytes written to a file or to standard output: for contracts inside this crate.
 use Rattle.std.specs.Prelude.{◌≡◌, ◌++◌, Result, Ok, Err, ⊤}
 use Rattle.avr_desk.specs.Fault.{HasSameCounts}
-use Rattle.avr_desk.specs.Record.{DeskView, Passes, after_err, Bytes}
+use Rattle.avr_desk.specs.Record.{DeskState, Passes, after_err, Bytes}
 use Rattle.avr_desk.specs.Stream.{SendsPart, after_sent}
 use Rattle.avr_desk.specs.declared.stream.Stream.{Stream}
 use Rattle.avr_desk.specs.declared.stream.Stream.TheVariants.{Messages}
@@ -14,25 +14,25 @@ IsForData Messages = ⊥
 IsForData stream = Unit {0}
 
 -- The bytes before those that wait were sent.
-abbrev pub SendsPrefix : Stream → DeskView → DeskView → Bytes → Bytes → Type 0
+abbrev pub SendsPrefix : Stream → DeskState → DeskState → Bytes → Bytes → Type 0
 SendsPrefix stream old new bytes waiting =
     (sent : Bytes) × (bytes ≡ sent ++ waiting) × Passes (after_sent stream sent) old new
 
 -- The desk failed at creating or writing this file, and this was reported.
-abbrev pub SaveStops : Bytes → DeskView → DeskView → Cause → Bytes → Type 0
+abbrev pub SaveStops : Bytes → DeskState → DeskState → Cause → Bytes → Type 0
 SaveStops file old new (OfFile named NotCreated) told = (named ≡ file) × FileStops old new named NotCreated told
 SaveStops file old new (OfFile named NotWritten) told = (named ≡ file) × FileStops old new named NotWritten told
 SaveStops file old new cause told = ⊥
 
 -- A prefix of the bytes was written. Then the desk failed, and this was reported for this file.
-pub record WritesSome (stream : Stream) (file : Bytes) (old new : DeskView) (bytes : Bytes) : Type 0 where
-  pub between : DeskView
+pub record WritesSome (stream : Stream) (file : Bytes) (old new : DeskState) (bytes : Bytes) : Type 0 where
+  pub between : DeskState
   pub part : SendsPart stream old between bytes
   pub told : Bytes
   pub stops : FileStops old new file NotWritten told
   pub kept : Passes (after_err told) between new
 
 -- All bytes were written and no call failed, or a prefix of them was written.
-abbrev pub WritesAll : Stream → Bytes → DeskView → DeskView → Bytes → Result ⊤ DeskFault → Type 0
+abbrev pub WritesAll : Stream → Bytes → DeskState → DeskState → Bytes → Result ⊤ DeskFault → Type 0
 WritesAll stream file old new bytes (Ok done) = Passes (after_sent stream bytes) old new × HasSameCounts old new
 WritesAll stream file old new bytes (Err _) = WritesSome stream file old new bytes

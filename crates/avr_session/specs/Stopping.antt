@@ -1,18 +1,18 @@
 -- What the contract of a run says if no device failed.
 use Rattle.std.specs.Prelude.{ℕ, ◌++◌, ◌≡◌}
 use Rattle.ghosts.specs.Failures.{HasStood}
-use Rattle.avr_desk.specs.Record.{Record, DeskView, showing, Bytes}
-use Rattle.stk_host.specs.Talk.{Talk, LinkView}
+use Rattle.avr_desk.specs.Record.{Record, DeskState, showing, Bytes}
+use Rattle.stk_host.specs.Transcript.{Transcript, LinkState}
 use Rattle.stk_host.specs.Dialog.{Dialog}
 use Rattle.stk_host.specs.Play.{Position}
 use Rattle.avr_desk.specs.Said.{Saying}
 use Rattle.avr_session.specs.Runs.{Devices, OfMemory, cause_line, start, Ran}
 
-abbrev pub keeping : Record → ℕ × ℕ → DeskView
+abbrev pub keeping : Record → ℕ × ℕ → DeskState
 keeping kept counts = showing kept counts.0 counts.1
 
-abbrev pub talking : Talk → ℕ → LinkView
-talking talk failures = record { talk = talk; failures = failures }
+abbrev pub link_state : Transcript → ℕ → LinkState
+link_state transcript failures = record { transcript = transcript; failures = failures }
 
 -- No device failed, by counts of failures that have not reached their end.
 pub record IsSound (old new : Devices) : Type 0 where

@@ -5,18 +5,19 @@ use Rattle.avr_desk.specs.Said.{Saying}
 use Rattle.avr_part.specs.Part.{Part}
 use Rattle.stk_host.specs.Dialog.{Event}
 use Rattle.stk_host.specs.Play.{Position, played_over}
-use Rattle.stk_host.specs.Talk.{Talk}
+use Rattle.stk_host.specs.Transcript.{Transcript}
 use Rattle.stk_host.specs.Tape.{Tape}
 use Rattle.avr_session.specs.Standing.{Fine}
 use Rattle.avr_session.specs.Actions.{Action, action_takes_memory}
 use Rattle.avr_session.specs.Session.{phases}
 
 -- At the start, if the dialog allocates.
-abbrev pub AtOnce : Bool → Position → Talk → List (Event Saying) → Type 0
+abbrev pub AtOnce : Bool → Position → Transcript → List (Event Saying) → Type 0
 AtOnce takes before during shown = (takes ≡ true) × (shown ≡ [])
 
 -- An action that allocates is next, and what happened so far is the whole run of the actions before it.
-pub record AtTaking (part : Part) (switches : Switches) (actions : List Action) (before : Position) (during : Talk)
+pub record AtTaking (part : Part) (switches : Switches) (actions : List Action) (before : Position)
+    (during : Transcript)
     (shown : List (Event Saying)) : Type 0 where
   pub done : List Action
   pub due : Action

@@ -1,7 +1,7 @@
 //! What the contract of a run says if no device failed: a law of the contract alone.
 ghost use Rattle.std.specs.Prelude.{◌≡◌, ℕ, false};
 ghost use Rattle.avr_desk.specs.Record.{Record};
-ghost use Rattle.stk_host.specs.Talk.{LinkView};
+ghost use Rattle.stk_host.specs.Transcript.{LinkState};
 ghost use Rattle.avr_plan.specs.Plan.{Plan};
 ghost use Rattle.avr_session.specs.Actions.{takes_memory};
 ghost use Rattle.avr_session.specs.Runs.{Devices, devices};
@@ -12,7 +12,7 @@ ghost use Rattle.avr_session.specs.Stopping.{IsSound, LacksMemory, IsPlayed, kee
 /// States when a session without a failed device ran whole: if its messages do not end with the out-of-memory line, or
 /// if its plan never allocates.
 pub fn a_sound_run_is_played()
-    ensures played { (plan : Plan) (o p : LinkView) (before after : Record) (a b : ℕ × ℕ)
+    ensures played { (plan : Plan) (o p : LinkState) (before after : Record) (a b : ℕ × ℕ)
         (status : ℕ)
         → IsSound (devices o (keeping before a)) (devices p (keeping after b)) → (LacksMemory after.messages → ⊥)
         → RunsSession plan (devices o (keeping before a)) (devices p (keeping after b)) status

@@ -3,14 +3,14 @@ use Rattle.std.proofs.Common.{◌≡◌, ◌≢◌, ◌∙◌, ◌<◌, refl, ar
 use Rattle.std.proofs.lemmas.Bool.Decides.{nat_tests}
 use Rattle.ghosts.specs.Failures.{HasRisen}
 use Rattle.avr_desk.specs.Fault.{Follows, HasFailedAt, HasSameCounts}
-use Rattle.avr_desk.specs.Record.{Bytes, DeskView, Passes}
+use Rattle.avr_desk.specs.Record.{Bytes, DeskState, Passes}
 use Rattle.avr_desk.specs.Stream.{SendsPart, after_sent}
 use Rattle.avr_desk.specs.declared.stream.Stream.{Stream}
 use Rattle.avr_desk.specs.declared.stream.Stream.TheVariants.{File, Output, Messages}
 use Rattle.avr_desk.proofs.Lines.SentBytes.{sent_next, sent_none}
 use Rattle.avr_tool.specs.Texts.{HasPrinted, PrintsMore, PrintsText, ReportsText}
 
-pub printed_none : (s : Stream) (v : DeskView) → HasPrinted s v v 0
+pub printed_none : (s : Stream) (v : DeskState) → HasPrinted s v v 0
 printed_none s v = record {
   text = [];
   kept = sent_none s v.kept;
@@ -23,7 +23,7 @@ not_none : (text piece : Bytes) → piece ≢ [] → text ++ piece ≢ []
 not_none [] piece some = some
 not_none (x ∷ text) piece some = λ is. absurd (cc)
 
-pub printed_more : (s : Stream) (a b c : DeskView) (piece : Bytes) (n m : ℕ) → HasPrinted s a b n → piece ≢ []
+pub printed_more : (s : Stream) (a b c : DeskState) (piece : Bytes) (n m : ℕ) → HasPrinted s a b n → piece ≢ []
     → Passes (after_sent s piece) b c → HasSameCounts b c → 0 < m → HasPrinted s a c m
 printed_more s a b c piece n m before some kept counted more = record {
   text = before.text ++ piece;
@@ -33,10 +33,10 @@ printed_more s a b c piece n m before some kept counted more = record {
   none = λ is. absurd (omega (arith, is, more));
 }
 
-same_follows : (a b : DeskView) → HasSameCounts a b → Follows a b
+same_follows : (a b : DeskState) → HasSameCounts a b → Follows a b
 same_follows a b same = (omega (arith, same.0), omega (arith, same.1))
 
-of_count : (s : Stream) (a b : DeskView) (n : ℕ) (up : Bool) → nat_lt 0 n ≡ up → HasPrinted s a b n
+of_count : (s : Stream) (a b : DeskState) (n : ℕ) (up : Bool) → nat_lt 0 n ≡ up → HasPrinted s a b n
     → PrintsText s a b up
 of_count s a b n true is before = record {
   text = before.text;
@@ -51,16 +51,16 @@ of_count s a b n false is before = record {
   follows = same_follows a b before.counted;
 }
 
-pub printed_end : (s : Stream) (a b : DeskView) (n : ℕ) → HasPrinted s a b n → PrintsText s a b (nat_lt 0 n)
+pub printed_end : (s : Stream) (a b : DeskState) (n : ℕ) → HasPrinted s a b n → PrintsText s a b (nat_lt 0 n)
 printed_end s a b n before = of_count s a b n (nat_lt 0 n) refl before
 
-failed_since : (s : Stream) (a b c : DeskView) → HasSameCounts a b → HasFailedAt s b c → HasFailedAt s a c
+failed_since : (s : Stream) (a b c : DeskState) → HasSameCounts a b → HasFailedAt s b c → HasFailedAt s a c
 failed_since File a b c same failed = (subst (λ n. HasRisen n c.failures) same.0 failed.0, failed.1 ∙ same.1)
 failed_since Output a b c same failed = (subst (λ n. HasRisen n c.failures) same.0 failed.0, failed.1 ∙ same.1)
 failed_since Messages a b c same failed =
     (subst (λ n. HasRisen n c.failures) same.0 failed.0, subst (λ n. HasRisen n c.unsaid) same.1 failed.1)
 
-pub printed_part : (s : Stream) (a b c : DeskView) (piece : Bytes) (n : ℕ) → HasPrinted s a b n
+pub printed_part : (s : Stream) (a b c : DeskState) (piece : Bytes) (n : ℕ) → HasPrinted s a b n
     → SendsPart s b c piece → HasFailedAt s b c → Follows b c → PrintsText s a c false
 printed_part s a b c piece n before part failed follows = record {
   text = before.text ++ take part.0 piece;
@@ -71,10 +71,10 @@ printed_part s a b c piece n before part failed follows = record {
 
 -- ---- an error of which no clause knows the text
 
-pub more_text : (a b : DeskView) (printed : Bool) → PrintsText Messages a b printed → PrintsMore a b
+pub more_text : (a b : DeskState) (printed : Bool) → PrintsText Messages a b printed → PrintsMore a b
 more_text a b printed prints = record { told = prints.text; kept = prints.kept; follows = prints.follows }
 
-pub more_all : (a b c : DeskView) (bytes : Bytes) → PrintsMore a b → Passes (after_sent Messages bytes) b c
+pub more_all : (a b c : DeskState) (bytes : Bytes) → PrintsMore a b → Passes (after_sent Messages bytes) b c
     → Follows b c → PrintsMore a c
 more_all a b c bytes before kept follows = record {
   told = before.told ++ bytes;
@@ -82,7 +82,7 @@ more_all a b c bytes before kept follows = record {
   follows = (omega (arith, before.follows.0, follows.0), omega (arith, before.follows.1, follows.1));
 }
 
-pub reported : (a b c : DeskView) → Passes (after_sent Messages (codes "avrstk: error: ")) a b → Follows a b
+pub reported : (a b c : DeskState) → Passes (after_sent Messages (codes "avrstk: error: ")) a b → Follows a b
     → PrintsMore b c → ReportsText a c
 reported a b c mark follows more = record {
   told = codes "avrstk: error: " ++ more.told;
@@ -91,7 +91,7 @@ reported a b c mark follows more = record {
   follows = (omega (arith, more.follows.0, follows.0), omega (arith, more.follows.1, follows.1));
 }
 
-pub reported_part : (a b : DeskView) (bytes : Bytes) → SendsPart Messages a b bytes → HasFailedAt Messages a b
+pub reported_part : (a b : DeskState) (bytes : Bytes) → SendsPart Messages a b bytes → HasFailedAt Messages a b
     → Follows a b → ReportsText a b
 reported_part a b bytes part failed follows =
     record { told = take part.0 bytes; kept = part.2; tells = inr failed; follows = follows }

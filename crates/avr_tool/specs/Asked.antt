@@ -6,14 +6,14 @@ use Rattle.avr_cli.specs.Command.{avrstk, asked_by}
 use Rattle.avr_cli.specs.Settings.{GivesOrMemory, TellsAnyway}
 use Rattle.avr_cli.specs.declared.settings.Settings.{Settings}
 use Rattle.avr_cli.specs.declared.settings.SettingsFault.{SettingsFault}
-use Rattle.avr_desk.specs.Record.{DeskView, Bytes}
+use Rattle.avr_desk.specs.Record.{DeskState, Bytes}
 use Rattle.avr_desk.specs.Said.{Tells}
 use Rattle.avr_session.specs.Refusal.{refusal_line}
 use Rattle.avr_tool.specs.declared.asking.NotAsked.{NotAsked}
 use Rattle.avr_tool.specs.declared.asking.NotAsked.TheVariants.{Words, Refused}
 
 -- The fault, or a failed allocation, was reported, and the status is 1.
-pub record IsRefused (words : List Bytes) (old new : DeskView) (status : ℕ) : Type 0 where
+pub record IsRefused (words : List Bytes) (old new : DeskState) (status : ℕ) : Type 0 where
   pub fault : SettingsFault
   pub is : GivesOrMemory (asked_by words) (Err fault)
   pub anyway : TellsAnyway (asked_by words) (Err fault)
@@ -23,7 +23,7 @@ pub record IsRefused (words : List Bytes) (old new : DeskView) (status : ℕ) : 
 -- The settings are those of a command line that the command takes. A fault of them was reported. Any other command
 -- line has an error of a kind that it calls for. A command line that the command takes has an error only if
 -- allocation failed. With an error nothing was done at the desk.
-abbrev pub Asks : List Bytes → DeskView → DeskView → Result Settings NotAsked → Type 0
+abbrev pub Asks : List Bytes → DeskState → DeskState → Result Settings NotAsked → Type 0
 Asks words old new (Ok settings) = (Ok settings ≡ asked_by words) × (fault_of avrstk words ≡ []) × (new ≡ old)
 Asks words old new (Err (Refused status)) = IsRefused words old new status
 Asks words old new (Err (Words error)) =

@@ -19,7 +19,7 @@
 use Rattle.std.specs.Prelude.{ℕ, ◌≡◌, ◌≤◌, ◌⊎◌, List, [], ◌∷◌, ◌++◌, map, length, Some, None}
 use Rattle.avr_cli.specs.declared.settings.Settings.{Settings}
 use Rattle.avr_desk.specs.Fault.{Follows}
-use Rattle.avr_desk.specs.Record.{DeskView, Passes}
+use Rattle.avr_desk.specs.Record.{DeskState, Passes}
 use Rattle.avr_desk.specs.declared.record.Opening.{Opening}
 use Rattle.avr_desk.specs.Said.{Saying, Line, SaidPart, after_all}
 use Rattle.avr_plan.specs.Plan.{Plan}
@@ -39,7 +39,7 @@ use Rattle.stk_emu.specs.Wire.{AreLawful}
 use Rattle.stk_emu.specs.Wired.{WiredState, wired_view}
 use Rattle.stk_host.specs.Dialog.{Event, Said, Played, played, behind, bytes_sent, sayings}
 use Rattle.stk_host.specs.Play.{InTurn, IsPrefixOfEvents}
-use Rattle.stk_host.specs.Talk.{Talk, sent, heard, Grows}
+use Rattle.stk_host.specs.Transcript.{Transcript, sent, heard, Grows}
 use Rattle.stk_host.specs.Tape.{Tape, on_tape}
 
 -- ---- 1. The run, as one function of the settings, of what opening files gives, and of what the link gives
@@ -61,17 +61,17 @@ run settings openings tape = after_planning (planned settings openings) tape
 
 -- Before each piece received the plan's session was waiting, with all its frames sent. Without a plan nothing was
 -- received.
-abbrev pub IsInTurn : StageAnswer Plan → Talk → Type 0
-IsInTurn (Made plan) talk = InTurn (session plan) start talk
-IsInTurn (Refused line) talk = heard talk ≡ []
-IsInTurn Unread talk = heard talk ≡ []
+abbrev pub IsInTurn : StageAnswer Plan → Transcript → Type 0
+IsInTurn (Made plan) transcript = InTurn (session plan) start transcript
+IsInTurn (Refused line) transcript = heard transcript ≡ []
+IsInTurn Unread transcript = heard transcript ≡ []
 
 -- For these openings and what was received, whatever follows on either, the run is these events and this status. The
 -- bytes sent are its frames, and the desk did its output events, in order. At most one piece is left unread. No call
 -- of a device failed, because a failure stops a run.
 pub record IsRun (settings : Settings) (before now : Devices) (status : ℕ) : Type 0 where
   pub openings : List Opening
-  pub during : Talk
+  pub during : Transcript
   pub events : List (Event Saying)
   pub next : ℕ
   pub left : List ℕ
@@ -79,7 +79,7 @@ pub record IsRun (settings : Settings) (before now : Devices) (status : ℕ) : T
       ≡ record { events = events; outcome = Some (status, next, on_tape left ++ more) }
   pub in_turn : (later : List Opening) → IsInTurn (planned settings (openings ++ later)).answer during
   pub all_sent : bytes_sent events ≡ sent during
-  pub grows : Grows before.link.talk during now.link.talk
+  pub grows : Grows before.link.transcript during now.link.transcript
   pub kept : Passes (after_all (sayings events)) before.desk now.desk
   pub few : length left ≤ 281
   pub sound : NoneFailed before now
@@ -91,7 +91,7 @@ pub record IsRun (settings : Settings) (before now : Devices) (status : ℕ) : T
 -- It stopped while its plan was run: a prefix of the session was sent and output, and then the cause was reported.
 pub record StoppedPlaying (settings : Settings) (before now : Devices) (status : ℕ) : Type 0 where
   pub plan : Plan
-  pub between : DeskView
+  pub between : DeskState
   pub made : Went (planned settings) before.desk between (Made plan)
   pub broke : StopsSession plan (devices before.link between) now
   pub status_is : status ≡ 1
@@ -112,13 +112,13 @@ IsStopped settings before now status =
 -- What a stopped run did is a prefix of the run over what was received; only the last event may be incomplete.
 pub record IsPrefixOfRun (settings : Settings) (before now : Devices) : Type 0 where
   pub openings : List Opening
-  pub during : Talk
+  pub during : Transcript
   pub shown : List (Event Saying)
   pub prefix : (later : List Opening) → IsPrefixOfEvents SaidPart shown
       (run settings (openings ++ later) (heard during)).events
   pub in_turn : (later : List Opening) → IsInTurn (planned settings (openings ++ later)).answer during
   pub all_sent : bytes_sent shown ≡ sent during
-  pub grows : Grows before.link.talk during now.link.talk
+  pub grows : Grows before.link.transcript during now.link.transcript
 
 -- ---- 4. Over any link to the emulated programmer, as long as it forges no frame: avr_course's specs/AnyLine
 --
@@ -135,20 +135,20 @@ pub record IsPrefixOfRun (settings : Settings) (before now : Devices) : Type 0 w
 pub record IsNew (w : WiredState) : Type 0 where
   pub none_held : w.held ≡ []
   pub none_waits : w.waits ≡ []
-  pub none_passed : w.talk ≡ []
+  pub none_passed : w.transcript ≡ []
   pub none_late : w.wire.late ≡ none_late
   pub programmer : w.wire.programmer ≡ fresh_programmer w.wire.programmer.chip
   pub lawful : AreLawful w.wire.fates
 
-abbrev pub wire_and_desk : WiredState → DeskView → Devices
+abbrev pub wire_and_desk : WiredState → DeskState → Devices
 wire_and_desk w desk = devices (wired_view w) desk
 
 -- A plan was made from these openings, and its session was run, or stopped. If the chip is of the plan's part, `line`
 -- states what happened to it. A failure of the desk that stopped it is one since before the run.
-pub record PlaysOverWire (settings : Settings) (before after : WiredState) (desk_before desk_now : DeskView)
+pub record PlaysOverWire (settings : Settings) (before after : WiredState) (desk_before desk_now : DeskState)
     (status : ℕ) : Type 0 where
   pub plan : Plan
-  pub between : DeskView
+  pub between : DeskState
   pub made : Went (planned settings) desk_before between (Made plan)
   pub follows : Follows between desk_now
   pub runs : ((r : IsRun settings (wire_and_desk before desk_before) (wire_and_desk after desk_now) status)
@@ -157,14 +157,14 @@ pub record PlaysOverWire (settings : Settings) (before after : WiredState) (desk
   pub line : before.wire.programmer.chip.part ≡ plan.part → OverAnyLine plan before after between desk_now status
 
 -- There is no plan: this was reported, or planning stopped. The wire is untouched.
-pub record HasNoPlan (settings : Settings) (before after : WiredState) (desk_before desk_now : DeskView)
+pub record HasNoPlan (settings : Settings) (before after : WiredState) (desk_before desk_now : DeskState)
     (status : ℕ) : Type 0 where
   pub runs : IsRun settings (wire_and_desk before desk_before) (wire_and_desk after desk_now) status
       ⊎ StoppedPlanning settings (wire_and_desk before desk_before) (wire_and_desk after desk_now) status
   pub untouched : after ≡ before
   pub status_is : status ≡ 1
 
-abbrev pub RunsWired : Settings → WiredState → WiredState → DeskView → DeskView → ℕ → Type 0
+abbrev pub RunsWired : Settings → WiredState → WiredState → DeskState → DeskState → ℕ → Type 0
 RunsWired settings before after desk_before desk_now status =
     PlaysOverWire settings before after desk_before desk_now status
     ⊎ HasNoPlan settings before after desk_before desk_now status

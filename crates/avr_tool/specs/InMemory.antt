@@ -10,7 +10,7 @@ use Rattle.avr_desk.specs.declared.record.Writing.{Writing}
 use Rattle.avr_plan.specs.FilesRead.{files_give, files_read}
 use Rattle.stk_host.specs.Dialog.{Event, Played, bytes_sent, sayings}
 use Rattle.stk_host.specs.Links.{StreamState}
-use Rattle.stk_host.specs.Talk.{LinkView, Talk, sent}
+use Rattle.stk_host.specs.Transcript.{LinkState, Transcript, sent}
 use Rattle.stk_host.specs.Tape.{Tape, bytes_of}
 use Rattle.stk_host.specs.declared.link.Item.TheVariants.{End}
 use Rattle.avr_tool.specs.Headline.{run}
@@ -66,14 +66,14 @@ pub record LeavesStreams {R W : Type 0} (remaining : R → Option Bytes) (conten
   pub is : IsLeft settings stock tape outcome
 
 -- Nothing has passed over the desk and the link, and they never failed.
-pub record AreUnused (desk : MemDeskState) (link : LinkView) : Type 0 where
+pub record AreUnused (desk : MemDeskState) (link : LinkState) : Type 0 where
   pub desk_is : desk.kept ≡ nothing_kept
-  pub link_is : link ≡ record { talk = []; failures = 0 }
+  pub link_is : link ≡ record { transcript = []; failures = 0 }
 
-abbrev pub shown_by : ℕ → Record → Talk → RunOutcome
-shown_by status kept talk = record {
+abbrev pub shown_by : ℕ → Record → Transcript → RunOutcome
+shown_by status kept transcript = record {
   status = status;
-  sent = sent talk;
+  sent = sent transcript;
   messages = kept.messages;
   output = kept.output;
   files = all_files kept;

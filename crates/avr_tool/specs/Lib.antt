@@ -40,7 +40,7 @@ pub use Rattle.stk_frame.specs.Cut
 pub use Rattle.stk_host.specs.Dialog
 pub use Rattle.stk_host.specs.Links
 pub use Rattle.stk_host.specs.Play
-pub use Rattle.stk_host.specs.Talk
+pub use Rattle.stk_host.specs.Transcript
 pub use Rattle.stk_host.specs.Tape
 pub use Rattle.avr_course.specs.AnyTape
 pub use Rattle.avr_course.specs.Few

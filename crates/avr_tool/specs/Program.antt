@@ -10,7 +10,7 @@ use Rattle.avr_cli.specs.declared.settings.Port.{Port}
 use Rattle.avr_cli.specs.declared.settings.Port.TheVariants.{Stdio, Emulated, Network, Served}
 use Rattle.avr_cli.specs.declared.settings.Settings.{Settings}
 use Rattle.avr_cli.specs.declared.settings.SettingsFault.TheVariants.{Memory}
-use Rattle.avr_desk.specs.Record.{DeskView, Bytes}
+use Rattle.avr_desk.specs.Record.{DeskState, Bytes}
 use Rattle.avr_desk.specs.Said.{Tells}
 use Rattle.avr_emulator.specs.Emulated.{RunsEmulator}
 use Rattle.avr_session.specs.Refusal.{refusal_line}
@@ -23,7 +23,7 @@ use Rattle.avr_tool.specs.OverNet.{RunsOverNet}
 use Rattle.avr_tool.specs.ServedNet.{ServesNet}
 use Rattle.avr_tool.specs.Sockets.{Peers}
 use Rattle.avr_tool.specs.Texts.{PrintsText, ReportsText}
-use Rattle.stk_host.specs.Talk.{LinkView}
+use Rattle.stk_host.specs.Transcript.{LinkState}
 
 -- The port of the settings decides. It is standard input and output, which is the link; the emulator over a chip
 -- file; a connection to the address; or a service at the port. A service uses only the chip file, the port and the
@@ -38,7 +38,7 @@ ActsAtPort peers (Served port chip) settings old new status =
     ServesNet (peers.at_port (port_number port)) settings port chip old.desk new.desk status × (new.link ≡ old.link)
 
 -- The command takes the command line, which asks for these settings, and they were run.
-pub record TakesWords (peers : Peers) (words : List Bytes) (before after : LinkView) (old new : DeskView) (status : ℕ)
+pub record TakesWords (peers : Peers) (words : List Bytes) (before after : LinkState) (old new : DeskState) (status : ℕ)
     : Type 0 where
   pub settings : Settings
   pub asked : Ok settings ≡ asked_by words
@@ -46,14 +46,15 @@ pub record TakesWords (peers : Peers) (words : List Bytes) (before after : LinkV
   pub runs : ActsAtPort peers settings.port settings (devices before old) (devices after new) status
 
 -- The settings have a fault, or allocation failed. This was reported, and nothing else was done.
-pub record RefusesWords (words : List Bytes) (before after : LinkView) (old new : DeskView) (status : ℕ) : Type 0 where
+pub record RefusesWords (words : List Bytes) (before after : LinkState) (old new : DeskState)
+    (status : ℕ) : Type 0 where
   pub why : IsRefused words old new status ⊎ Tells old new (refusal_line Memory)
   pub untouched : after ≡ before
   pub status_is : status ≡ 1
 
 -- The command refuses the command line, or this asks for help. The error is of a kind that it calls for and is left
 -- to be printed; nothing was done.
-pub record LeavesError (words : List Bytes) (before after : LinkView) (old new : DeskView) (error : Error)
+pub record LeavesError (words : List Bytes) (before after : LinkState) (old new : DeskState) (error : Error)
     : Type 0 where
   pub kind : HasKind (fault_of avrstk words) error
   pub not_memory : kind_of error ≢ OutOfMemory
@@ -61,13 +62,13 @@ pub record LeavesError (words : List Bytes) (before after : LinkView) (old new :
   pub untold : new ≡ old
   pub untouched : after ≡ before
 
-abbrev pub ActsOnWords : Peers → List Bytes → LinkView → LinkView → DeskView → DeskView → Result ℕ Error → Type 0
+abbrev pub ActsOnWords : Peers → List Bytes → LinkState → LinkState → DeskState → DeskState → Result ℕ Error → Type 0
 ActsOnWords peers words before after old new (Ok status) =
     TakesWords peers words before after old new status ⊎ RefusesWords words before after old new status
 ActsOnWords peers words before after old new (Err error) = LeavesError words before after old new error
 
 -- An error of `clap`: a failed allocation is reported, any other error is left.
-abbrev pub LeavesWords : Error → DeskView → DeskView → Result ℕ Error → Type 0
+abbrev pub LeavesWords : Error → DeskState → DeskState → Result ℕ Error → Type 0
 LeavesWords error old new (Ok status) =
     (kind_of error ≡ OutOfMemory) × Tells old new (refusal_line Memory) × (status ≡ 1)
 LeavesWords error old new (Err left) = (kind_of error ≢ OutOfMemory) × (left ≡ error) × (new ≡ old)
@@ -85,7 +86,7 @@ usage_stream kind = Messages
 
 -- The text of the error was printed there, or printing failed, and nothing else was done. The status follows from the
 -- error. No clause knows the text.
-pub record TellsUsage (words : List Bytes) (before after : LinkView) (old new : DeskView) (status : ℕ) : Type 0 where
+pub record TellsUsage (words : List Bytes) (before after : LinkState) (old new : DeskState) (status : ℕ) : Type 0 where
   pub error : Error
   pub leaves : LeavesError words before after old old error
   pub printed : Bool
@@ -93,13 +94,13 @@ pub record TellsUsage (words : List Bytes) (before after : LinkView) (old new : 
   pub status_is : status ≡ usage_status (kind_of error) printed
 
 -- From a command line to a status.
-abbrev pub RunsProgram : Peers → List Bytes → LinkView → LinkView → DeskView → DeskView → ℕ → Type 0
+abbrev pub RunsProgram : Peers → List Bytes → LinkState → LinkState → DeskState → DeskState → ℕ → Type 0
 RunsProgram peers words before after old new status =
     ActsOnWords peers words before after old new (Ok status) ⊎ TellsUsage words before after old new status
 
 -- From the start of a process: its command line, which no clause knows, was read and run. Or it could not be read,
 -- this was reported, and the status is 1.
-abbrev pub StartsProgram : Peers → LinkView → LinkView → DeskView → DeskView → ℕ → Type 0
+abbrev pub StartsProgram : Peers → LinkState → LinkState → DeskState → DeskState → ℕ → Type 0
 StartsProgram peers before after old new status =
     ((words : List Bytes) × RunsProgram peers words before after old new status)
     ⊎ ((status ≡ 1) × ReportsText old new × (after ≡ before))

@@ -6,18 +6,18 @@ use Rattle.avr_desk.specs.Record.{Bytes}
 use Rattle.avr_tool.specs.declared.network.Callers.{Ghosts as Called}
 use Rattle.avr_tool.specs.declared.network.Network.{Ghosts as Networks}
 use Rattle.stk_host.specs.Links.{IsTrueSince, StreamState, stream_view}
-use Rattle.stk_host.specs.Talk.{LinkView}
+use Rattle.stk_host.specs.Transcript.{LinkState}
 
 -- A link over two sides of this socket, over which nothing has passed.
 pub record IsNewLink {S : Type 0} (IsSide : S → Type 0) (link : StreamState S S) : Type 0 where
   pub reader : IsSide link.reader
   pub writer : IsSide link.writer
   pub fresh : link.failures ≡ 0
-  pub quiet : link.talk ≡ []
+  pub quiet : link.transcript ≡ []
 
 -- The state of a link that was new over two sides of this socket. Its reader gave what it received, and its writer
 -- took what it sent.
-pub record IsOver {S : Type 0} (reads : Reads S) (writes : Writes S) (IsSide : S → Type 0) (now : LinkView)
+pub record IsOver {S : Type 0} (reads : Reads S) (writes : Writes S) (IsSide : S → Type 0) (now : LinkState)
     : Type 0 where
   pub before : StreamState S S
   pub after : StreamState S S
@@ -28,24 +28,25 @@ pub record IsOver {S : Type 0} (reads : Reads S) (writes : Writes S) (IsSide : S
 -- What happened to a socket: a link over it has this state, or there was none.
 
 -- A connection to this address.
-abbrev pub IsOverAddress : {N S L : Type 0} → Networks N S L → Reads S → Writes S → Bytes → Option LinkView → Type 0
+abbrev pub IsOverAddress : {N S L : Type 0} → Networks N S L → Reads S → Writes S → Bytes → Option LinkState → Type 0
 IsOverAddress network reads writes address (Some now) =
     IsOver reads writes (λ side. network.reaches side address) now
 IsOverAddress network reads writes address None = network.misses address
 
 -- A connection accepted at this listener.
-abbrev pub IsOverCaller : {L S : Type 0} → Called L S → Reads S → Writes S → L → Option LinkView → Type 0
+abbrev pub IsOverCaller : {L S : Type 0} → Called L S → Reads S → Writes S → L → Option LinkState → Type 0
 IsOverCaller called reads writes listener (Some now) = IsOver reads writes (called.calls listener) now
 IsOverCaller called reads writes listener None = called.lacks listener
 
 -- A connection accepted at a listener at this port.
-abbrev pub IsAtPort : {N S L : Type 0} → Networks N S L → Called L S → Reads S → Writes S → ℕ → Option LinkView
+abbrev pub IsAtPort : {N S L : Type 0} → Networks N S L → Called L S → Reads S → Writes S → ℕ → Option LinkState
     → Type 0
 IsAtPort {L = L} network called reads writes port seen =
     (listener : L) × network.listens listener port × IsOverCaller called reads writes listener seen
 
 -- Without a link there was no listener, or no client could be accepted, or the port's text is no number.
-abbrev pub IsOverPort : {N S L : Type 0} → Networks N S L → Called L S → Reads S → Writes S → Option ℕ → Option LinkView
+abbrev pub IsOverPort : {N S L : Type 0} → Networks N S L → Called L S → Reads S → Writes S → Option ℕ
+    → Option LinkState
     → Type 0
 IsOverPort network called reads writes (Some port) (Some now) = IsAtPort network called reads writes port (Some now)
 IsOverPort network called reads writes (Some port) None =
@@ -55,8 +56,8 @@ IsOverPort network called reads writes None None = Unit {0}
 
 -- The other sides that a run may connect to: at an address, and at a port.
 pub record Peers : Type 1 where
-  pub at_address : Bytes → Option LinkView → Type 0
-  pub at_port : Option ℕ → Option LinkView → Type 0
+  pub at_address : Bytes → Option LinkState → Type 0
+  pub at_port : Option ℕ → Option LinkState → Type 0
 
 abbrev pub peers_of : {N S L : Type 0} → Networks N S L → Called L S → Reads S → Writes S → Peers
 peers_of network called reads writes =

@@ -5,7 +5,7 @@ ghost use Rattle.avr_cli.specs.declared.settings.Settings.{Settings as AnySettin
 ghost use Rattle.avr_desk.specs.Memory.{MemDeskState, Stock, memory_view};
 ghost use Rattle.avr_desk.specs.Named.{is_dash};
 ghost use Rattle.avr_desk.specs.Truth.{HoldsTrue};
-ghost use Rattle.avr_desk.specs.Record.{DeskView, Passes, Record, Bytes};
+ghost use Rattle.avr_desk.specs.Record.{DeskState, Passes, Record, Bytes};
 ghost use Rattle.avr_course.specs.Again.{AgreesAnyway, AreKeeping};
 ghost use Rattle.avr_course.specs.AnyLine.{Stopped, OverAnyLine, OverTurns, WholeOverTurns, Weight, weighed, bodies_in, memories, events_over, frames_over};
 ghost use Rattle.avr_session.specs.PlanSteps.{run_steps};
@@ -22,7 +22,7 @@ ghost use Rattle.avr_plan.specs.Plan.{Plan, IsFitted};
 ghost use Rattle.avr_session.specs.Run.{RunsSettings};
 ghost use Rattle.avr_session.specs.Runs.{Devices, devices};
 ghost use Rattle.avr_session.specs.Session.{session};
-ghost use Rattle.avr_session.specs.Stopping.{IsSound, LacksMemory, keeping, talking};
+ghost use Rattle.avr_session.specs.Stopping.{IsSound, LacksMemory, keeping, link_state};
 ghost use Rattle.ghosts.specs.Stays.{Stays};
 ghost use Rattle.avr_tool.specs.ChipFound.{IsChipOf, file_held};
 ghost use Rattle.avr_tool.specs.Headline.{IsRun, IsStopped, StoppedPlaying, IsPrefixOfRun, wire_and_desk};
@@ -41,13 +41,13 @@ ghost use Rattle.stk_emu.specs.Turn.{Turn};
 ghost use Rattle.avr_course.specs.AnyTape.{CameThrough, became_by};
 ghost use Rattle.avr_course.specs.NoFrame.{MakesNoFrame};
 ghost use Rattle.stk_host.specs.Dialog.{Event, played, bytes_sent, sayings};
-ghost use Rattle.stk_host.specs.Talk.{Talk, heard, sent};
+ghost use Rattle.stk_host.specs.Transcript.{Transcript, heard, sent};
 ghost use Rattle.stk_host.specs.Tape.{Tape};
 
 /// States that a run of settings is the one function `run`, or that it stopped.
 #[tactic(auto, using(crate::proofs::Runs::Joined::is_run))]
 pub fn a_run_is_one_function()
-    ensures { (s : AnySettings) (x : Devices) (between : DeskView) (y : Devices) (status : ℕ)
+    ensures { (s : AnySettings) (x : Devices) (between : DeskState) (y : Devices) (status : ℕ)
         → RunsSettings s x between y status → IsRun s x y status ⊎ IsStopped s x y status }
 {}
 
@@ -63,14 +63,14 @@ pub fn a_stop_is_a_prefix()
 /// output other than over a perfect link. With any status: a chip that changed though no frame was sent, or more than
 /// four frames for each command, by any weight.
 pub fn a_wrong_outcome_is_refused()
-    ensures memories { (plan : Plan) (w v : WiredState) (d e : DeskView)
+    ensures memories { (plan : Plan) (w v : WiredState) (d e : DeskState)
         → (memories v ≡ effects plan.part (items plan) (memories w) → ⊥) → OverAnyLine plan w v d e 0 → ⊥ }
-    ensures sayings { (plan : Plan) (w v : WiredState) (d e : DeskView)
+    ensures sayings { (plan : Plan) (w v : WiredState) (d e : DeskState)
         → (Passes (after_all (course plan (memories w)).says) d e → ⊥)
         → OverAnyLine plan w v d e 0 → ⊥ }
-    ensures silence { (plan : Plan) (w v : WiredState) (d e : DeskView) (status : ℕ)
+    ensures silence { (plan : Plan) (w v : WiredState) (d e : DeskState) (status : ℕ)
         → frames_over v ≡ [] → (memories v ≡ memories w → ⊥) → OverAnyLine plan w v d e status → ⊥ }
-    ensures frames { (plan : Plan) (w v : WiredState) (d e : DeskView) (status : ℕ) (weight : Weight)
+    ensures frames { (plan : Plan) (w v : WiredState) (d e : DeskState) (status : ℕ) (weight : Weight)
         → 4 * weighed weight (bodies_in (run_steps plan)) < weighed weight (map body_of (frames_over v))
         → OverAnyLine plan w v d e status → ⊥ }
 {}
@@ -103,7 +103,7 @@ pub fn a_sound_run_is_its_course()
 /// If the chip keeps EEPROM at an erase, each byte that the plan writes to the high fuse must keep it too. `wire`
 /// states this over a wire, `link` over any link that forges no frame, by the turns and without regard to devices.
 pub fn a_further_run_heals()
-    ensures wire { (plan : Plan) (w v x y : WiredState) (d e f g : DeskView) (status further : ℕ)
+    ensures wire { (plan : Plan) (w v x y : WiredState) (d e f g : DeskState) (status further : ℕ)
         → IsPart plan.part → All (IsFitted plan.part) plan.tasks → FitsPart plan.part (memories w)
         → has_erase (items plan) ≡ true → AgreesAnyway plan
         → (erase_keeps_eeprom plan.part (memories w) ≡ true → AreKeeping plan.part (items plan))
@@ -155,15 +155,16 @@ pub fn a_further_run_over_its_chip_file_heals()
 /// States that a worked run, `-p m328p` with all its answers, has one outcome: with another status, frame or line it
 /// is no run.
 pub fn a_worked_run_has_one_outcome()
-    ensures status { (talk : Talk) (a b : ℕ) (d e : DeskView)
-        → heard talk ≡ worked_answers → IsRun worked_settings (devices (talking [] a) d) (devices (talking talk b) e) 1
+    ensures status { (transcript : Transcript) (a b : ℕ) (d e : DeskState)
+        → heard transcript ≡ worked_answers → IsRun worked_settings (devices (link_state [] a) d)
+        (devices (link_state transcript b) e) 1
         → ⊥ }
-    ensures frames { (talk : Talk) (a b : ℕ) (d e : DeskView) (status : ℕ)
-        → heard talk ≡ worked_answers → (sent talk ≡ frames_due → ⊥)
-        → IsRun worked_settings (devices (talking [] a) d) (devices (talking talk b) e) status → ⊥ }
-    ensures lines { (talk : Talk) (a b : ℕ) (d e : DeskView) (status : ℕ)
-        → heard talk ≡ worked_answers → (Passes (after_all lines_due) d e → ⊥)
-        → IsRun worked_settings (devices (talking [] a) d) (devices (talking talk b) e) status → ⊥ }
+    ensures frames { (transcript : Transcript) (a b : ℕ) (d e : DeskState) (status : ℕ)
+        → heard transcript ≡ worked_answers → (sent transcript ≡ frames_due → ⊥)
+        → IsRun worked_settings (devices (link_state [] a) d) (devices (link_state transcript b) e) status → ⊥ }
+    ensures lines { (transcript : Transcript) (a b : ℕ) (d e : DeskState) (status : ℕ)
+        → heard transcript ≡ worked_answers → (Passes (after_all lines_due) d e → ⊥)
+        → IsRun worked_settings (devices (link_state [] a) d) (devices (link_state transcript b) e) status → ⊥ }
 {}
 
 /// States that what a run leaves over some files and a tape is one outcome. For `-p m328p` with all its answers it is

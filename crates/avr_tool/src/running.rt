@@ -95,7 +95,7 @@ pub fn run_in_memory(
 ) -> u8
     requires unused { AreUnused desk.old (tape_view tape.old) }
     ensures leaves { Leaves settings.now (stock_of desk.old) tape.old.left
-        (shown_by result desk.new.kept tape.new.talk)
+        (shown_by result desk.new.kept tape.new.transcript)
         ⊎ IsStopped settings.now (devices (tape_view tape.old) (memory_view desk.old))
         (devices (tape_view tape.new) (memory_view desk.new)) result }
     ensures comes { Stays IsOfTape tape.old tape.new }
@@ -123,7 +123,7 @@ pub fn run_streams_in_memory<R: Read + Drop, W: Write + Drop>(
 ) -> u8
     requires unused { AreUnused desk.old (stream_view streams.old) }
     ensures leaves { LeavesStreams R.remaining W.contents settings.now (stock_of desk.old) streams.old streams.new
-        (shown_by result desk.new.kept streams.new.talk)
+        (shown_by result desk.new.kept streams.new.transcript)
         ⊎ IsStopped settings.now (devices (stream_view streams.old) (memory_view desk.old))
         (devices (stream_view streams.new) (memory_view desk.new)) result }
     ensures tells { IsTrueSince R.remaining W.contents streams.old streams.new }

@@ -1,7 +1,7 @@
 -- What an emulator holds, what it was fed, and what it answers.
 use Rattle.std.specs.Prelude.{ℕ, List, ◌≡◌, ◌<◌, ◌≤◌, ◌++◌, length, filter}
 use Rattle.stk_frame.specs.Cut.{frames, is_frame}
-use Rattle.stk_frame.specs.Reader.{HoldsFrame, Stands, Fed}
+use Rattle.stk_frame.specs.Reader.{HoldsFrame, MayHold, Fed}
 use Rattle.stk_emu.specs.Programmer.{Programmer}
 use Rattle.stk_emu.specs.Device.{device, answers, after_frames}
 
@@ -16,7 +16,7 @@ emulate p text = answers device (frames text) p
 
 -- An emulator that began with this programmer and was fed this text.
 pub record IsFed (p : Programmer) (text : List ℕ) (machine : Machine) : Type 0 where
-  pub stands : Stands machine.held text
+  pub stands : MayHold machine.held text
   pub obeyed : machine.programmer ≡ after_frames device (frames text) p
 
 -- It was fed these bytes, and `out` is the answer. At most one frame ends in them, with the last byte.
@@ -33,8 +33,8 @@ pub record Answers (old : Machine) (used : List ℕ) (new : Machine) (out : List
 -- appended in order.
 pub record AppendsAnswers (old : Machine) (bytes : List ℕ) (new : Machine) (before after : List ℕ) : Type 0 where
   pub found : List (List ℕ)
-  pub ends : (text : List ℕ) → Stands old.held text → frames (text ++ bytes) ≡ frames text ++ found
-  pub stands : (text : List ℕ) → Stands old.held text → Stands new.held (text ++ bytes)
+  pub ends : (text : List ℕ) → MayHold old.held text → frames (text ++ bytes) ≡ frames text ++ found
+  pub stands : (text : List ℕ) → MayHold old.held text → MayHold new.held (text ++ bytes)
   pub appended : after ≡ before ++ answers device found old.programmer
   pub obeyed : new.programmer ≡ after_frames device found old.programmer
 

@@ -26,14 +26,14 @@ read_by part instruction.ReadCalibration m = 255 ∷ []
 read_by part i m = []
 
 -- A block read at an address, which counts words of flash and bytes of EEPROM.
-abbrev pub read_at : ℕ → List Command → Memories → List ℕ
-read_at address (ReadFlash f ∷ []) m = take f.count (drop (address % 2 ^ 31 * 2) m.flash)
-read_at address (ReadEeprom f ∷ []) m = take f.count (drop address m.eeprom)
-read_at address commands m = []
+abbrev pub block_at : ℕ → List Command → Memories → List ℕ
+block_at address (ReadFlash f ∷ []) m = take f.count (drop (address % 2 ^ 31 * 2) m.flash)
+block_at address (ReadEeprom f ∷ []) m = take f.count (drop address m.eeprom)
+block_at address commands m = []
 
 -- The data of a step, from these memories; a step that writes brings none.
 abbrev pub given_by : Part → List Command → Memories → List ℕ
-given_by part (LoadAddress address ∷ commands) m = read_at address commands m
+given_by part (LoadAddress address ∷ commands) m = block_at address commands m
 given_by part (ReadFuse f ∷ []) m = read_by part (instruction_of f.instruction) m
 given_by part (ReadLock f ∷ []) m = read_by part (instruction_of f.instruction) m
 given_by part (ReadSignature f ∷ []) m = read_by part (instruction_of f.instruction) m
@@ -66,5 +66,5 @@ pub record Gives {P : Type 0} (m : Device P) (commands : List Command) (Before A
   pub is : joined_reply m commands [] from ≡ Data bytes
 
 -- The memory has the image's byte at each address that the image holds.
-abbrev pub Holds : Image → List ℕ → Type 0
-Holds image bytes = (i b : ℕ) → byte_at image i ≡ Some b → i < length bytes → slice_index bytes i ≡ b
+abbrev pub HoldsImage : Image → List ℕ → Type 0
+HoldsImage image bytes = (i b : ℕ) → byte_at image i ≡ Some b → i < length bytes → slice_index bytes i ≡ b

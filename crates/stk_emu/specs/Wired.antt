@@ -1,10 +1,10 @@
 -- A wire as a link: what passes over it is what the fates say.
 use Rattle.std.specs.Prelude.{ℕ, List, [], ◌∷◌, ◌++◌, ◌≡◌, ◌≢◌, length, take, drop, ◌<◌, ◌≤◌, filter}
 use Rattle.stk_frame.specs.Cut.{frames, is_frame}
-use Rattle.stk_frame.specs.Reader.{Stands, Fed}
+use Rattle.stk_frame.specs.Reader.{MayHold, Fed}
 use Rattle.stk_host.specs.declared.link.Item.TheVariants.{Silence}
 use Rattle.stk_host.specs.Tape.{Tape}
-use Rattle.stk_host.specs.Talk.{Talk, LinkView, Sent, Got, sent, heard}
+use Rattle.stk_host.specs.Transcript.{Transcript, LinkState, Sent, Got, sent, heard}
 use Rattle.stk_emu.specs.declared.fate.Fate.{Fate}
 use Rattle.stk_emu.specs.Programmer.{Programmer, fresh_programmer}
 use Rattle.stk_emu.specs.Device.{device}
@@ -15,28 +15,28 @@ pub record WiredState : Type 0 where
   pub held : List ℕ
   pub wire : Wire Programmer
   pub waits : Tape
-  pub talk : Talk
+  pub transcript : Transcript
   pub failures : ℕ
 
-abbrev pub wired_view : WiredState → LinkView
-wired_view wired = record { talk = wired.talk; failures = wired.failures }
+abbrev pub wired_view : WiredState → LinkState
+wired_view wired = record { transcript = wired.transcript; failures = wired.failures }
 
 -- What the frames of these bytes bring over a fresh wire.
 abbrev pub brought : Programmer → List Fate → List ℕ → Tape
 brought p fates bytes = tape_of device (frames bytes) (fresh_wire p fates)
 
 -- Nobody listened when nothing waited.
-abbrev pub NeverIdle : Programmer → List Fate → Talk → Type 0
-NeverIdle p fates talk =
-    (before after : Talk) (items : Tape) → talk ≡ before ++ Got items ∷ after
+abbrev pub NeverIdle : Programmer → List Fate → Transcript → Type 0
+NeverIdle p fates transcript =
+    (before after : Transcript) (items : Tape) → transcript ≡ before ++ Got items ∷ after
     → brought p fates (sent before) ≢ heard before
 
 -- A wire that began with this programmer and these fates. It is what the frames sent have made of it. Unless somebody
 -- listened when nothing waited, the items received and those that wait are what these frames bring.
-pub record Keeps (p : Programmer) (fates : List Fate) (w : WiredState) : Type 0 where
-  pub held : Stands w.held (sent w.talk)
-  pub stands : w.wire ≡ wire_after device (frames (sent w.talk)) (fresh_wire p fates)
-  pub brings : NeverIdle p fates w.talk → brought p fates (sent w.talk) ≡ heard w.talk ++ w.waits
+pub record FollowsFates (p : Programmer) (fates : List Fate) (w : WiredState) : Type 0 where
+  pub held : MayHold w.held (sent w.transcript)
+  pub stands : w.wire ≡ wire_after device (frames (sent w.transcript)) (fresh_wire p fates)
+  pub brings : NeverIdle p fates w.transcript → brought p fates (sent w.transcript) ≡ heard w.transcript ++ w.waits
 
 -- The programmer of a wire at its start, and the fates of its frames.
 pub record Start : Type 0 where
@@ -44,12 +44,12 @@ pub record Start : Type 0 where
   pub fates : List Fate
 
 abbrev pub ComesOf : Start → WiredState → Type 0
-ComesOf start w = Keeps start.programmer start.fates w
+ComesOf start w = FollowsFates start.programmer start.fates w
 
 -- Nothing has passed over the wire, its programmer has done nothing yet, and its fates are lawful.
 pub record IsFresh (w : WiredState) : Type 0 where
-  pub silent : w.talk ≡ []
-  pub begins : Keeps (fresh_programmer w.wire.programmer.chip) w.wire.fates w
+  pub silent : w.transcript ≡ []
+  pub begins : FollowsFates (fresh_programmer w.wire.programmer.chip) w.wire.fates w
   pub lawful : AreLawful w.wire.fates
 
 -- Bytes were sent, in which these frames ended. What they bring waits behind what waited.
@@ -59,7 +59,7 @@ pub record PassesBytes (old new : WiredState) (used : List ℕ) : Type 0 where
   pub fed : Fed old.held used new.held found
   pub waits : new.waits ≡ old.waits ++ tape_of device found old.wire
   pub wire : new.wire ≡ wire_after device found old.wire
-  pub talk : new.talk ≡ old.talk ++ Sent used ∷ []
+  pub transcript : new.transcript ≡ old.transcript ++ Sent used ∷ []
 
 -- Passes the first `count` bytes, up to the end of the first frame.
 pub record PassesSome (bytes : List ℕ) (old new : WiredState) (count : ℕ) : Type 0 where
@@ -69,7 +69,7 @@ pub record PassesSome (bytes : List ℕ) (old new : WiredState) (count : ℕ) : 
 
 -- These items are received, and wait no more.
 abbrev pub after_hearing : Tape → WiredState → WiredState
-after_hearing items w = record w { talk = w.talk ++ Got items ∷ []; waits = drop (length items) w.waits }
+after_hearing items w = record w { transcript = w.transcript ++ Got items ∷ []; waits = drop (length items) w.waits }
 
 -- What is received next: some of the first items that wait, or a timeout if nothing waits.
 abbrev pub IsNext : Tape → Tape → Type 0

@@ -9,7 +9,7 @@ wired_state w = record {
   held = w.reader;
   wire = w.wire;
   waits = tape_in (drop w.at w.waits.items);
-  talk = w.log.talk;
+  transcript = w.log.transcript;
   failures = w.failures;
 }
 

@@ -4,10 +4,10 @@ ghost use Rattle.std.specs.Prelude.{◌≡◌, ◌+◌, ◌<◌, ◌≤◌, ◌+
 ghost use Rattle.stk_emu.specs.declared.segment.TheConstants.{ROOM};
 ghost use Rattle.stk_host.specs.declared.link.Item.TheVariants as item;
 ghost use Rattle.stk_host.specs.Tape.{Tape, on_tape, bytes_of};
-ghost use Rattle.stk_host.specs.Talk as talk;
+ghost use Rattle.stk_host.specs.Transcript as transcript;
 ghost use Rattle.ghosts.specs.Failures.{HasRisen};
 ghost use Rattle.ghosts.specs.Stays.{Stays};
-ghost use Rattle.stk_host.specs.Talk.{Sends, Receives, FitsBuffer, items_of};
+ghost use Rattle.stk_host.specs.Transcript.{Sends, Receives, FitsBuffer, items_of};
 ghost use Rattle.stk_emu.specs.Programmer.{fresh_programmer};
 ghost use Rattle.stk_emu.specs.Wire.{fresh_wire};
 ghost use Rattle.stk_emu.specs.Wired.{Start, wired_view, ComesOf, IsFresh, PassesBytes, PassesSome, IsNext, after_hearing};
@@ -64,7 +64,7 @@ impl Model for Wired {
 /// Makes room for all that a frame can bring, and for a piece of `count` bytes sent.
 fn make_room(waits: &mut Vec<Option<u8>>, log: &mut Log, count: usize) -> Result<(), AllocError>
     ensures waits { waits.new.items ≡ waits.old.items }
-    ensures talk { log.new.talk ≡ log.old.talk }
+    ensures transcript { log.new.transcript ≡ log.old.transcript }
     ensures wait_room { OnOk result (vec_len waits.new + ROOM ≤ vec_capacity waits.new) }
     ensures piece_room { OnOk result (0 < log.new.piece_room) }
     ensures byte_room { OnOk result (count ≤ log.new.byte_room) }
@@ -80,7 +80,7 @@ fn keep(waits: &mut Vec<Option<u8>>, log: &mut Log, brought: &Segment, sent: &[u
     requires piece_room { 0 < log.old.piece_room }
     requires byte_room { length sent.now ≤ log.old.byte_room }
     ensures waits { waits.new.items ≡ waits.old.items ++ brought.now.items }
-    ensures talk { log.new.talk ≡ log.old.talk ++ talk.Sent sent.now ∷ [] }
+    ensures transcript { log.new.transcript ≡ log.old.transcript ++ transcript.Sent sent.now ∷ [] }
 {
     let _ = waits.extend_from_slice(brought.as_slice());
     log.say(sent);
@@ -114,7 +114,7 @@ impl Wired {
         ensures held { result.held ≡ [] }
         ensures wire { result.wire ≡ fresh_wire (fresh_programmer chip) fates }
         ensures waits { result.waits ≡ [] }
-        ensures talk { result.talk ≡ [] }
+        ensures transcript { result.transcript ≡ [] }
         ensures sound { result.failures ≡ 0 }
         ensures fresh { IsFresh result }
     {
@@ -179,7 +179,7 @@ impl Wired {
     /// assert!(rt; wire.sent() == b"\x1B".as_slice());
     /// ```
     pub fn sent(&self) -> &[u8]
-        ensures { result.now ≡ talk.sent self.now.talk }
+        ensures { result.now ≡ transcript.sent self.now.transcript }
     {
         self.log.sent()
     }
@@ -194,7 +194,7 @@ impl Wired {
     /// assert!(rt; wire.heard() == b"\x1B\x01\x00".as_slice());
     /// ```
     pub fn heard(&self) -> &[u8]
-        ensures { result.now ≡ bytes_of (talk.heard self.now.talk) }
+        ensures { result.now ≡ bytes_of (transcript.heard self.now.transcript) }
     {
         self.log.heard()
     }

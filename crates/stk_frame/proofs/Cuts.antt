@@ -120,7 +120,8 @@ rest_append x y = by_pieces (λ x. rest (x ++ y) ≡ rest (rest x ++ y)) (λ x p
 -- the pieces and what is left are the bytes
 pub cut_joined : (x : List ℕ) → concat (cut x) ++ rest x ≡ x
 cut_joined = by_pieces (λ x. concat (cut x) ++ rest x ≡ x) (λ x part. rw (cut_none x part, rest_none x part) refl)
-    (λ x whole inner. rw (cut_piece x whole, rest_piece x whole, append_assoc, inner) (take-append-drop (piece_size x) x))
+    (λ x whole inner. rw (cut_piece x whole, rest_piece x whole, append_assoc, inner)
+    (take-append-drop (piece_size x) x))
 
 -- a piece taken off has its own size
 one_taken : (a : ℕ) (y : List ℕ) → (a == 27) ≡ false

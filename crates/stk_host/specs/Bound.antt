@@ -4,7 +4,7 @@ use Rattle.stk_frame.specs.declared.command.Command.{Command}
 use Rattle.stk_frame.specs.declared.command.Command.TheVariants.{SignOn}
 use Rattle.stk_frame.specs.HostCommands.{enter, leave, erase}
 use Rattle.stk_host.specs.Tape.{Tape, Reading}
-use Rattle.stk_host.specs.Talk.{Talk}
+use Rattle.stk_host.specs.Transcript.{Transcript}
 use Rattle.stk_host.specs.Dialog.{Dialog, Done, Say, Ask, Event, played, frames_in}
 use Rattle.stk_host.specs.Play.{Position, Plays, Breaks, NoPart}
 use Rattle.stk_host.specs.ReadSteps.{signature_steps}
@@ -20,10 +20,10 @@ AsksAtMost (suc n) (Ask body answered) = (reading : Reading) → AsksAtMost n (a
 -- off.
 pub record SendsAtMost {E R : Type 0} (SaidPart : E → E → Type 0) (n : ℕ) (dialog : Dialog E R) : Type 0 where
   pub over_tape : (seq : ℕ) (tape : Tape) → length (frames_in (played dialog seq tape).events) ≤ n
-  pub whole : (before : Position) (talk : Talk) (events : List (Event E)) (result : R) (after : Position)
-      → Plays dialog before talk events result after → length (frames_in events) ≤ n
-  pub broken_off : (before : Position) (talk : Talk) (shown : List (Event E))
-      → Breaks SaidPart dialog before talk shown → length (frames_in shown) ≤ n
+  pub whole : (before : Position) (transcript : Transcript) (events : List (Event E)) (result : R) (after : Position)
+      → Plays dialog before transcript events result after → length (frames_in events) ≤ n
+  pub broken_off : (before : Position) (transcript : Transcript) (shown : List (Event E))
+      → Breaks SaidPart dialog before transcript shown → length (frames_in shown) ≤ n
 
 abbrev pub commands_in : List (List Command) → ℕ
 commands_in [] = 0

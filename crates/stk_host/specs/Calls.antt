@@ -28,7 +28,7 @@ use Rattle.stk_host.specs.Tape.{on_tape}
 use Rattle.stk_host.specs.Steps as steps
 use Rattle.stk_host.specs.Steps.{play}
 use Rattle.stk_host.specs.Operations.{host_fault, signature_judged, comparison}
-use Rattle.stk_host.specs.Talk.{LinkView, Got, Grows, HasFailed, LinkCounts}
+use Rattle.stk_host.specs.Transcript.{LinkState, Got, Grows, HasFailed, LinkCounts}
 use Rattle.stk_host.specs.Dialog.{Dialog}
 use Rattle.stk_host.specs.Play.{Position, PlaysOver, FailsOver}
 use Rattle.stk_host.specs.Reach.{Reaches, Hears, HearsNone}
@@ -39,17 +39,19 @@ abbrev pub HasFewUnread : Position → Type 0
 HasFewUnread progress = length progress.unread ≤ LARGEST_FRAME
 
 -- What was received; bytes become unread.
-abbrev pub HearsPiece : Heard → List ℕ → LinkView → LinkView → Type 0
-HearsPiece (heard.Bytes n) unread old new = (0 < length unread) × Grows old.talk (Got (on_tape unread) ∷ []) new.talk
-HearsPiece heard.Silence unread old new = (unread ≡ []) × Grows old.talk (Got (item.Silence ∷ []) ∷ []) new.talk
-HearsPiece heard.End unread old new = (unread ≡ []) × Grows old.talk (Got (item.End ∷ []) ∷ []) new.talk
+abbrev pub HearsPiece : Heard → List ℕ → LinkState → LinkState → Type 0
+HearsPiece (heard.Bytes n) unread old new =
+    (0 < length unread) × Grows old.transcript (Got (on_tape unread) ∷ []) new.transcript
+HearsPiece heard.Silence unread old new =
+    (unread ≡ []) × Grows old.transcript (Got (item.Silence ∷ []) ∷ []) new.transcript
+HearsPiece heard.End unread old new = (unread ≡ []) × Grows old.transcript (Got (item.End ∷ []) ∷ []) new.transcript
 
 -- Receives the next piece, of at most `most` bytes, which alone is unread then.
-pub record HearsNext (most : ℕ) (old new : LinkView) (unread : List ℕ) (result : Result Heard LinkFault) : Type 0 where
+pub record HearsNext (most : ℕ) (old new : LinkState) (unread : List ℕ) (result : Result Heard LinkFault) : Type 0 where
   pub within : length unread ≤ most
   pub fits : length unread ≤ LARGEST_FRAME
   pub ok : IfOk result (λ heard. HearsPiece heard unread old new)
-  pub err : OnErr result (Grows old.talk [] new.talk)
+  pub err : OnErr result (Grows old.transcript [] new.transcript)
   pub counts : LinkCounts old new result
 
 -- How listening ended; the reader holds the answer.
@@ -64,7 +66,7 @@ HoldsAnswer read.Answered held = HoldsFrame held
 HoldsAnswer _ held = Unit {0}
 
 -- How listening for the answer to a frame ends, with what the reader holds and what is unread then.
-pub record HearsAnswer (seq : ℕ) (before : List ℕ) (old new : LinkView) (result : Result Reading LinkFault)
+pub record HearsAnswer (seq : ℕ) (before : List ℕ) (old new : LinkState) (result : Result Reading LinkFault)
     (held after : List ℕ) : Type 0 where
   pub ok : IfOk result (λ reading. Hears seq before old new (reading_of reading held) after)
   pub holds : IfOk result (λ reading. HoldsAnswer reading held)
@@ -79,12 +81,12 @@ reply_of (said.Again fault) bytes = steps.Again fault
 reply_of (said.Stop fault) bytes = steps.Stop fault
 
 -- Steps that stop: their run ended with a fault, or it broke off because the link failed.
-abbrev pub StopsSteps : Dialog ⊥ steps.StepOutcome → Position → LinkView → LinkView → Stop → Position → Type 0
+abbrev pub StopsSteps : Dialog ⊥ steps.StepOutcome → Position → LinkState → LinkState → Stop → Position → Type 0
 StopsSteps dialog before old new (Fault fault) after = PlaysOver dialog before old new (Err fault) after
 StopsSteps dialog before old new (Link broken) after = FailsOver broken dialog before old new
 
 -- Steps that ended: they returned these data, or they stopped.
-abbrev pub EndsSteps : {A : Type 0} → Dialog ⊥ steps.StepOutcome → (A → List ℕ) → Position → LinkView → LinkView
+abbrev pub EndsSteps : {A : Type 0} → Dialog ⊥ steps.StepOutcome → (A → List ℕ) → Position → LinkState → LinkState
     → Result A Stop → Position → Type 0
 EndsSteps dialog bytes before old new (Ok a) after = PlaysOver dialog before old new (Ok (bytes a)) after
 EndsSteps dialog bytes before old new (Err stop) after = StopsSteps dialog before old new stop after
@@ -104,7 +106,7 @@ abbrev pub without_step : List ℕ → Playing
 without_step before steps = play steps before
 
 -- A step that others follow: they remain, after all data so far, or all stop with it.
-abbrev pub EndsInnerStep : Playing → Playing → Position → LinkView → LinkView → Result (Unit {0}) Stop → Position
+abbrev pub EndsInnerStep : Playing → Playing → Position → LinkState → LinkState → Result (Unit {0}) Stop → Position
     → Type 0
 EndsInnerStep whole rest before old new (Ok done) after =
     (steps : List (List Command)) → Reaches (whole steps) before old (rest steps) after new
@@ -122,32 +124,32 @@ IsSizedShape Name = ⊥
 IsSizedShape (Bytes n) = Unit {0}
 IsSizedShape (Closed n) = Unit {0}
 
-abbrev pub FailsByLink : {A : Type 0} → LinkView → LinkView → Result A Stop → Type 0
+abbrev pub FailsByLink : {A : Type 0} → LinkState → LinkState → Result A Stop → Type 0
 FailsByLink old new (Ok done) = new.failures ≡ old.failures
 FailsByLink old new (Err (Fault fault)) = new.failures ≡ old.failures
 FailsByLink old new (Err (Link broken)) = HasFailed old new
 
-abbrev pub CountsLink : {A : Type 0} → LinkView → LinkView → Result A Stop → Type 0
+abbrev pub CountsLink : {A : Type 0} → LinkState → LinkState → Result A Stop → Type 0
 CountsLink old new result = (old.failures ≤ new.failures) × FailsByLink old new result
 
 -- A call of a conversation that asks. It ends like this, counts the failures of its link, and leaves at most one
 -- piece unread.
-pub record AsksLink {A : Type 0} (Ends : Position → LinkView → LinkView → Result A Stop → Position → Type 0)
-    (before : Position) (old new : LinkView) (result : Result A Stop) (after : Position) : Type 0 where
+pub record AsksLink {A : Type 0} (Ends : Position → LinkState → LinkState → Result A Stop → Position → Type 0)
+    (before : Position) (old new : LinkState) (result : Result A Stop) (after : Position) : Type 0 where
   pub played : Ends before old new result after
   pub counted : CountsLink old new result
   pub bound : HasFewUnread after
 
 -- A call that may have nothing to ask.
-pub record MayAsk {A : Type 0} (Ends : Position → LinkView → LinkView → Result A Stop → Position → Type 0)
-    (before : Position) (old new : LinkView) (result : Result A Stop) (after : Position) : Type 0 where
+pub record MayAsk {A : Type 0} (Ends : Position → LinkState → LinkState → Result A Stop → Position → Type 0)
+    (before : Position) (old new : LinkState) (result : Result A Stop) (after : Position) : Type 0 where
   pub played : Ends before old new result after
   pub counted : CountsLink old new result
   pub bound : HasFewUnread before → HasFewUnread after
 
 -- How some commands are answered: their run returned this reply, or it broke off because the link failed. Data have
 -- the size that the last command asks for.
-pub record GetsReply (dialog : Dialog ⊥ steps.Reply) (last : Command) (before : Position) (old new : LinkView)
+pub record GetsReply (dialog : Dialog ⊥ steps.Reply) (last : Command) (before : Position) (old new : LinkState)
     (result : Result Reply Broken) (after : ConversationState) : Type 0 where
   pub ok : IfOk result (λ reply. PlaysOver dialog before old new (reply_of reply (data_held last after.held))
       after.progress)
@@ -158,7 +160,7 @@ pub record GetsReply (dialog : Dialog ⊥ steps.Reply) (last : Command) (before 
 
 -- How a call of a host ends. If the link failed, its dialog broke off at sending or at listening; otherwise it was
 -- run whole.
-abbrev pub EndsCall : {A : Type 0} → Dialog ⊥ (Result A HostFault) → Position → LinkView → LinkView
+abbrev pub EndsCall : {A : Type 0} → Dialog ⊥ (Result A HostFault) → Position → LinkState → LinkState
     → Result A HostFault → Position → Type 0
 EndsCall dialog before old new (Ok a) after = PlaysOver dialog before old new (Ok a) after
 EndsCall dialog before old new (Err SendFailed) after = FailsOver broken.Send dialog before old new
@@ -166,7 +168,7 @@ EndsCall dialog before old new (Err RecvFailed) after = FailsOver broken.Recv di
 EndsCall dialog before old new (Err fault) after = PlaysOver dialog before old new (Err fault) after
 
 -- A call that allocates first: if that fails, nothing is sent or received.
-abbrev pub EndsOrLacks : {A : Type 0} → Dialog ⊥ (Result A HostFault) → Position → LinkView → LinkView
+abbrev pub EndsOrLacks : {A : Type 0} → Dialog ⊥ (Result A HostFault) → Position → LinkState → LinkState
     → Result A HostFault → Position → Type 0
 EndsOrLacks dialog before old new (Err Memory) after = (new ≡ old) × (after ≡ before)
 EndsOrLacks dialog before old new result after = EndsCall dialog before old new result after
@@ -203,8 +205,8 @@ pub record IsSizedStep (first : Option Command) (last : Command) : Type 0 where
   pub counted : IsSizedShape (shape last)
 
 -- A call of a host that ends like this.
-pub record CallsBy {A : Type 0} (Ends : Position → LinkView → LinkView → Result A HostFault → Position → Type 0)
-    (old new : HostState) (before after : LinkView) (result : Result A HostFault) : Type 0 where
+pub record CallsBy {A : Type 0} (Ends : Position → LinkState → LinkState → Result A HostFault → Position → Type 0)
+    (old new : HostState) (before after : LinkState) (result : Result A HostFault) : Type 0 where
   -- After a lasting fault each call returns that fault and changes nothing.
   pub stays : (fault : HostFault) → old.broken ≡ Some fault → (result ≡ Err fault) × (new ≡ old) × (after ≡ before)
   pub played : old.broken ≡ None → Ends old.progress before after result new.progress
@@ -217,12 +219,12 @@ pub record CallsBy {A : Type 0} (Ends : Position → LinkView → LinkView → R
   pub bound : old.broken ≡ None → HasFewUnread new.progress
 
 -- A call runs this dialog, or if the link fails a prefix of it.
-abbrev pub Calls : {A : Type 0} → Dialog ⊥ (Result A HostFault) → HostState → HostState → LinkView → LinkView
+abbrev pub Calls : {A : Type 0} → Dialog ⊥ (Result A HostFault) → HostState → HostState → LinkState → LinkState
     → Result A HostFault → Type 0
 Calls dialog old new before after result = CallsBy (EndsCall dialog) old new before after result
 
 -- A call that allocates first.
-abbrev pub CallsOrLacks : {A : Type 0} → Dialog ⊥ (Result A HostFault) → HostState → HostState → LinkView → LinkView
+abbrev pub CallsOrLacks : {A : Type 0} → Dialog ⊥ (Result A HostFault) → HostState → HostState → LinkState → LinkState
     → Result A HostFault → Type 0
 CallsOrLacks dialog old new before after result = CallsBy (EndsOrLacks dialog) old new before after result
 

@@ -1,6 +1,6 @@
 -- the definitions that contracts of public calls cite
 pub mod Tape
-pub mod Talk
+pub mod Transcript
 pub mod Dialog
 pub mod Play
 pub mod Steps

@@ -11,12 +11,12 @@ use Rattle.stk_host.specs.declared.link.LinkFault.{LinkFault}
 use Rattle.stk_host.specs.declared.link.LinkFault.TheVariants.{Failed}
 use Rattle.stk_host.specs.Tape.{Tape, on_tape, bytes_in, bytes_of}
 use Rattle.ghosts.specs.Failures.{HasRisen}
-use Rattle.stk_host.specs.Talk.{Talk, LinkView, HasFailed, heard, sent}
+use Rattle.stk_host.specs.Transcript.{Transcript, LinkState, HasFailed, heard, sent}
 use Rattle.stk_host.specs.Play.{IsPrefixOf}
 
 -- A log: the transcript, and its room for pieces and for bytes sent.
 pub record LogState : Type 0 where
-  pub talk : Talk
+  pub transcript : Transcript
   pub piece_room : ℕ
   pub byte_room : ℕ
 
@@ -24,19 +24,19 @@ pub record LogState : Type 0 where
 pub record TapeState : Type 0 where
   pub left : Tape
   pub cut : ℕ
-  pub talk : Talk
+  pub transcript : Transcript
   pub failures : ℕ
 
 -- The items received since `old` and then those left are the items that were left; after the last come only ends.
 pub record IsOfTape (old new : TapeState) : Type 0 where
-  pub during : Talk
-  pub grows : new.talk ≡ old.talk ++ during
+  pub during : Transcript
+  pub grows : new.transcript ≡ old.transcript ++ during
   pub ends : ℕ
   pub gave : heard during ++ new.left ≡ old.left ++ replicate ends End
   pub over : 0 < ends → new.left ≡ []
 
-abbrev pub tape_view : TapeState → LinkView
-tape_view link = record { talk = link.talk; failures = link.failures }
+abbrev pub tape_view : TapeState → LinkState
+tape_view link = record { transcript = link.transcript; failures = link.failures }
 
 -- The next piece of a tape, of at most `most` bytes; an end if no item is left.
 abbrev pub next_piece : ℕ → Tape → Tape
@@ -55,17 +55,17 @@ pub record StreamState (R W : Type 0) : Type 0 where
   pub writer : W
   pub failures : ℕ
   pub last_error : Option ErrorKind
-  pub talk : Talk
+  pub transcript : Transcript
 
-abbrev pub stream_view : {R W : Type 0} → StreamState R W → LinkView
-stream_view link = record { talk = link.talk; failures = link.failures }
+abbrev pub stream_view : {R W : Type 0} → StreamState R W → LinkState
+stream_view link = record { transcript = link.transcript; failures = link.failures }
 
 -- The record since `old` is true. The bytes received are those that the reader gave, in order and none lost. While
 -- nothing has failed, the bytes sent are those that the writer took.
 pub record IsTrueSince {R W : Type 0} (remaining : R → Option (List ℕ)) (contents : W → Option (List ℕ))
     (old new : StreamState R W) : Type 0 where
-  pub during : Talk
-  pub grows : new.talk ≡ old.talk ++ during
+  pub during : Transcript
+  pub grows : new.transcript ≡ old.transcript ++ during
   pub gave : Consumes (remaining old.reader) (remaining new.reader) (bytes_of (heard during))
   pub took : new.failures ≡ 0 → Appends (contents old.writer) (contents new.writer) (sent during)
   pub counted : old.failures ≤ new.failures
@@ -103,7 +103,7 @@ pub record CountsCall {L : Type 0} (old new : FailingState L) (is_due : Bool) : 
   pub counted : old.failed ≤ new.failed
 
 -- The due call fails without calling the inner link. Any other fails only if the inner link does.
-pub record FailsAsPlanned {A L : Type 0} (view : L → LinkView) (old new : FailingState L)
+pub record FailsAsPlanned {A L : Type 0} (view : L → LinkState) (old new : FailingState L)
     (result : Result A LinkFault) : Type 0 where
   pub due : new.due ≡ old.due - 1
   pub cut : new.cut ≡ old.cut
@@ -113,8 +113,8 @@ pub record FailsAsPlanned {A L : Type 0} (view : L → LinkView) (old new : Fail
 abbrev pub total_failures : ℕ → ℕ → ℕ
 total_failures inner own = min (inner + own) (2 ^ 64 - 1)
 
-abbrev pub failing_link_view : {L : Type 0} → (L → LinkView) → FailingState L → LinkView
+abbrev pub failing_link_view : {L : Type 0} → (L → LinkState) → FailingState L → LinkState
 failing_link_view view link = record {
-  talk = (view link.inner).talk;
+  transcript = (view link.inner).transcript;
   failures = total_failures (view link.inner).failures link.failed;
 }

@@ -3,7 +3,7 @@ use Rattle.std.specs.Prelude.{ℕ, List, [], ◌∷◌, ◌++◌, ◌≡◌, ◌
 use Rattle.stk_host.specs.declared.fault.Broken.{Broken}
 use Rattle.stk_host.specs.declared.fault.Broken.TheVariants.{Send, Recv}
 use Rattle.stk_host.specs.Tape.{Tape, on_tape}
-use Rattle.stk_host.specs.Talk.{Talk, LinkView, Sent, Got, sent, heard, Grows}
+use Rattle.stk_host.specs.Transcript.{Transcript, LinkState, Sent, Got, sent, heard, Grows}
 use Rattle.stk_host.specs.Dialog.{Dialog, Event, Frame, Said, Played, played, bytes_sent}
 
 -- A conversation's state: the next sequence number, and the bytes received and not yet read.
@@ -20,28 +20,29 @@ pub record IsDue {E R : Type 0} (dialog : Dialog E R) (seq : ℕ) (tape : Tape) 
   pub all_sent : bytes_sent (played dialog seq tape).events ≡ bytes
 
 -- Before each piece received it was time to listen: the dialog's run over all received so far waits.
-abbrev pub TurnsFrom : {E R : Type 0} → Dialog E R → ℕ → Tape → List ℕ → Talk → Type 0
+abbrev pub TurnsFrom : {E R : Type 0} → Dialog E R → ℕ → Tape → List ℕ → Transcript → Type 0
 TurnsFrom dialog seq tape bytes [] = Unit {0}
-TurnsFrom dialog seq tape bytes (Sent more ∷ talk) = TurnsFrom dialog seq tape (bytes ++ more) talk
-TurnsFrom dialog seq tape bytes (Got items ∷ talk) =
-    IsDue dialog seq tape bytes × TurnsFrom dialog seq (tape ++ items) bytes talk
+TurnsFrom dialog seq tape bytes (Sent more ∷ transcript) = TurnsFrom dialog seq tape (bytes ++ more) transcript
+TurnsFrom dialog seq tape bytes (Got items ∷ transcript) =
+    IsDue dialog seq tape bytes × TurnsFrom dialog seq (tape ++ items) bytes transcript
 
 -- The dialog sends and listens in turn, from a state on.
-abbrev pub InTurn : {E R : Type 0} → Dialog E R → Position → Talk → Type 0
-InTurn dialog before talk = TurnsFrom dialog before.next (on_tape before.unread) [] talk
+abbrev pub InTurn : {E R : Type 0} → Dialog E R → Position → Transcript → Type 0
+InTurn dialog before transcript = TurnsFrom dialog before.next (on_tape before.unread) [] transcript
 
 -- The run over the unread bytes and the items received.
-abbrev pub played_over : {E R : Type 0} → Dialog E R → Position → Talk → Played E R
-played_over dialog before talk = played dialog before.next (on_tape before.unread ++ heard talk)
+abbrev pub played_over : {E R : Type 0} → Dialog E R → Position → Transcript → Played E R
+played_over dialog before transcript = played dialog before.next (on_tape before.unread ++ heard transcript)
 
 -- The transcript is the dialog's whole run over the unread bytes and the items received. Exactly these events
 -- happened, with this result and this state after them, whatever follows on the tape.
-pub record Plays {E R : Type 0} (dialog : Dialog E R) (before : Position) (talk : Talk) (events : List (Event E))
+pub record Plays {E R : Type 0} (dialog : Dialog E R) (before : Position) (transcript : Transcript)
+    (events : List (Event E))
     (result : R) (after : Position) : Type 0 where
-  pub plays : (more : Tape) → played dialog before.next (on_tape before.unread ++ (heard talk ++ more))
+  pub plays : (more : Tape) → played dialog before.next (on_tape before.unread ++ (heard transcript ++ more))
       ≡ record { events = events; outcome = Some (result, after.next, on_tape after.unread ++ more) }
-  pub all_sent : bytes_sent events ≡ sent talk
-  pub in_turn : InTurn dialog before talk
+  pub all_sent : bytes_sent events ≡ sent transcript
+  pub in_turn : InTurn dialog before transcript
 
 abbrev pub IsPrefixOf : List ℕ → List ℕ → Type 0
 IsPrefixOf prefix bytes = (back : List ℕ) × (prefix ++ back ≡ bytes)
@@ -68,54 +69,55 @@ pub record IsPrefixOfEvents {E : Type 0} (SaidPart : E → E → Type 0) (shown 
   pub part : IsBegun SaidPart begun later
 
 -- The run broke off: what happened is a prefix of its events over the items received.
-pub record Breaks {E R : Type 0} (SaidPart : E → E → Type 0) (dialog : Dialog E R) (before : Position) (talk : Talk)
+pub record Breaks {E R : Type 0} (SaidPart : E → E → Type 0) (dialog : Dialog E R) (before : Position)
+    (transcript : Transcript)
     (shown : List (Event E)) : Type 0 where
-  pub prefix : IsPrefixOfEvents SaidPart shown (played_over dialog before talk).events
-  pub all_sent : bytes_sent shown ≡ sent talk
-  pub in_turn : InTurn dialog before talk
+  pub prefix : IsPrefixOfEvents SaidPart shown (played_over dialog before transcript).events
+  pub all_sent : bytes_sent shown ≡ sent transcript
+  pub in_turn : InTurn dialog before transcript
 
 -- The run broke off at sending. What happened is a prefix of its events, up to a frame that was sent in part, or not
 -- at all.
-pub record BreaksSending {E R : Type 0} (dialog : Dialog E R) (before : Position) (talk : Talk)
+pub record BreaksSending {E R : Type 0} (dialog : Dialog E R) (before : Position) (transcript : Transcript)
     (shown : List (Event E)) : Type 0 where
   pub whole : List (Event E)
   pub part : List ℕ
   pub unsent : List ℕ
   pub later : List (Event E)
   pub shown_is : shown ≡ whole ++ Frame part ∷ []
-  pub events_are : (played_over dialog before talk).events ≡ whole ++ Frame (part ++ unsent) ∷ later
+  pub events_are : (played_over dialog before transcript).events ≡ whole ++ Frame (part ++ unsent) ∷ later
   pub not_whole : 0 < length unsent
-  pub all_sent : bytes_sent shown ≡ sent talk
-  pub in_turn : InTurn dialog before talk
+  pub all_sent : bytes_sent shown ≡ sent transcript
+  pub in_turn : InTurn dialog before transcript
 
 -- The run broke off at listening: it waits, and all its events happened.
-pub record BreaksListening {E R : Type 0} (dialog : Dialog E R) (before : Position) (talk : Talk)
+pub record BreaksListening {E R : Type 0} (dialog : Dialog E R) (before : Position) (transcript : Transcript)
     (shown : List (Event E)) : Type 0 where
-  pub waits : (played_over dialog before talk).outcome ≡ None
-  pub shown_is : shown ≡ (played_over dialog before talk).events
-  pub all_sent : bytes_sent shown ≡ sent talk
-  pub in_turn : InTurn dialog before talk
+  pub waits : (played_over dialog before transcript).outcome ≡ None
+  pub shown_is : shown ≡ (played_over dialog before transcript).events
+  pub all_sent : bytes_sent shown ≡ sent transcript
+  pub in_turn : InTurn dialog before transcript
 
-abbrev pub BreaksBy : {E R : Type 0} → Broken → Dialog E R → Position → Talk → List (Event E) → Type 0
-BreaksBy Send dialog before talk shown = BreaksSending dialog before talk shown
-BreaksBy Recv dialog before talk shown = BreaksListening dialog before talk shown
+abbrev pub BreaksBy : {E R : Type 0} → Broken → Dialog E R → Position → Transcript → List (Event E) → Type 0
+BreaksBy Send dialog before transcript shown = BreaksSending dialog before transcript shown
+BreaksBy Recv dialog before transcript shown = BreaksListening dialog before transcript shown
 
 -- For dialogs without output events.
 abbrev pub NoPart : ⊥ → ⊥ → Type 0
 NoPart part whole = ⊥
 
 -- A call that ran a dialog whole, between these states of the link.
-pub record PlaysOver {R : Type 0} (dialog : Dialog ⊥ R) (before : Position) (old new : LinkView) (result : R)
+pub record PlaysOver {R : Type 0} (dialog : Dialog ⊥ R) (before : Position) (old new : LinkState) (result : R)
     (after : Position) : Type 0 where
-  pub during : Talk
+  pub during : Transcript
   pub events : List (Event ⊥)
-  pub grows : Grows old.talk during new.talk
+  pub grows : Grows old.transcript during new.transcript
   pub plays : Plays dialog before during events result after
 
 -- A call that broke off because the link failed at this.
 pub record FailsOver {R : Type 0} (broken : Broken) (dialog : Dialog ⊥ R) (before : Position)
-    (old new : LinkView) : Type 0 where
-  pub during : Talk
+    (old new : LinkState) : Type 0 where
+  pub during : Transcript
   pub shown : List (Event ⊥)
-  pub grows : Grows old.talk during new.talk
+  pub grows : Grows old.transcript during new.transcript
   pub breaks : BreaksBy broken dialog before during shown

@@ -2,42 +2,42 @@
 -- host.
 use Rattle.std.specs.Prelude.{ℕ, List, [], ◌∷◌, ◌++◌, ◌+◌, ◌≡◌, ◌<◌, ◌≤◌, length, Some, None, Result, OnOk, OnErr}
 use Rattle.stk_host.specs.Tape.{Tape, Reading, on_tape, answer, limit}
-use Rattle.stk_host.specs.Talk.{Talk, LinkView, Sent, Got, sent, heard, Grows, LinkCounts}
+use Rattle.stk_host.specs.Transcript.{Transcript, LinkState, Sent, Got, sent, heard, Grows, LinkCounts}
 use Rattle.stk_host.specs.Dialog.{Dialog, Event, played, behind, bytes_sent}
 use Rattle.stk_host.specs.Play.{InTurn, Position}
 
 -- A transcript leads from a dialog to its rest: the dialog's run is these events and then the run of the rest,
 -- whatever follows on the tape.
-pub record TalkLeads {E R : Type 0} (dialog : Dialog E R) (before : Position) (talk : Talk)
+pub record TranscriptLeads {E R : Type 0} (dialog : Dialog E R) (before : Position) (transcript : Transcript)
     (events : List (Event E)) (rest : Dialog E R) (after : Position) : Type 0 where
-  pub goes_on : (more : Tape) → played dialog before.next (on_tape before.unread ++ (heard talk ++ more))
+  pub goes_on : (more : Tape) → played dialog before.next (on_tape before.unread ++ (heard transcript ++ more))
       ≡ behind events (played rest after.next (on_tape after.unread ++ more))
-  pub all_sent : bytes_sent events ≡ sent talk
-  pub in_turn : InTurn dialog before talk
+  pub all_sent : bytes_sent events ≡ sent transcript
+  pub in_turn : InTurn dialog before transcript
 
 -- A call has come this far, between these states of the link.
-pub record Reaches {R : Type 0} (dialog : Dialog ⊥ R) (before : Position) (old : LinkView)
-    (rest : Dialog ⊥ R) (after : Position) (new : LinkView) : Type 0 where
-  pub during : Talk
+pub record Reaches {R : Type 0} (dialog : Dialog ⊥ R) (before : Position) (old : LinkState)
+    (rest : Dialog ⊥ R) (after : Position) (new : LinkState) : Type 0 where
+  pub during : Transcript
   pub events : List (Event ⊥)
-  pub grows : Grows old.talk during new.talk
-  pub leads : TalkLeads dialog before during events rest after
+  pub grows : Grows old.transcript during new.transcript
+  pub leads : TranscriptLeads dialog before during events rest after
 
 -- Nothing was received.
-abbrev pub IsQuiet : Talk → Type 0
+abbrev pub IsQuiet : Transcript → Type 0
 IsQuiet [] = Unit {0}
-IsQuiet (Sent bytes ∷ talk) = IsQuiet talk
-IsQuiet (Got tape ∷ talk) = ⊥
+IsQuiet (Sent bytes ∷ transcript) = IsQuiet transcript
+IsQuiet (Got tape ∷ transcript) = ⊥
 
 -- These bytes were sent, and nothing was received.
-pub record Says (bytes : List ℕ) (old new : Talk) : Type 0 where
-  pub during : Talk
+pub record Says (bytes : List ℕ) (old new : Transcript) : Type 0 where
+  pub during : Transcript
   pub grows : Grows old during new
   pub quiet : IsQuiet during
   pub bytes_sent : sent during ≡ bytes
 
 -- Only a part of these bytes was sent, perhaps nothing, and nothing was received.
-pub record SaysPart (bytes : List ℕ) (old new : Talk) : Type 0 where
+pub record SaysPart (bytes : List ℕ) (old new : Transcript) : Type 0 where
   pub part : List ℕ
   pub unsent : List ℕ
   pub bytes_are : bytes ≡ part ++ unsent
@@ -45,30 +45,30 @@ pub record SaysPart (bytes : List ℕ) (old new : Talk) : Type 0 where
   pub says : Says part old new
 
 -- Sends all of these bytes, or a part if the link fails.
-pub record SendsAll {E : Type 0} (bytes : List ℕ) (old new : LinkView) (result : Result (Unit {0}) E) : Type 0 where
-  pub ok : OnOk result (Says bytes old.talk new.talk)
-  pub err : OnErr result (SaysPart bytes old.talk new.talk)
+pub record SendsAll {E : Type 0} (bytes : List ℕ) (old new : LinkState) (result : Result (Unit {0}) E) : Type 0 where
+  pub ok : OnOk result (Says bytes old.transcript new.transcript)
+  pub err : OnErr result (SaysPart bytes old.transcript new.transcript)
   pub counts : LinkCounts old new result
 
 -- At each piece received there was no answer yet, and nothing was sent.
-abbrev pub WaitsFrom : ℕ → Tape → Talk → Type 0
+abbrev pub WaitsFrom : ℕ → Tape → Transcript → Type 0
 WaitsFrom seq tape [] = Unit {0}
-WaitsFrom seq tape (Sent bytes ∷ talk) = ⊥
-WaitsFrom seq tape (Got items ∷ talk) = (answer seq tape ≡ None) × WaitsFrom seq (tape ++ items) talk
+WaitsFrom seq tape (Sent bytes ∷ transcript) = ⊥
+WaitsFrom seq tape (Got items ∷ transcript) = (answer seq tape ≡ None) × WaitsFrom seq (tape ++ items) transcript
 
 -- The answer was waited for, within the limit of bytes.
-pub record Hears (seq : ℕ) (unread : List ℕ) (old new : LinkView) (reading : Reading) (left : List ℕ) : Type 0 where
-  pub during : Talk
-  pub grows : Grows old.talk during new.talk
+pub record Hears (seq : ℕ) (unread : List ℕ) (old new : LinkState) (reading : Reading) (left : List ℕ) : Type 0 where
+  pub during : Transcript
+  pub grows : Grows old.transcript during new.transcript
   pub waits : WaitsFrom seq (on_tape unread) during
   pub few : length unread + length (heard during) ≤ limit
   pub answers : (more : Tape) → answer seq (on_tape unread ++ (heard during ++ more))
       ≡ Some (reading, on_tape left ++ more)
 
 -- The wait broke off before the answer arrived.
-pub record HearsNone (seq : ℕ) (unread : List ℕ) (old new : LinkView) : Type 0 where
-  pub during : Talk
-  pub grows : Grows old.talk during new.talk
+pub record HearsNone (seq : ℕ) (unread : List ℕ) (old new : LinkState) : Type 0 where
+  pub during : Transcript
+  pub grows : Grows old.transcript during new.transcript
   pub waits : WaitsFrom seq (on_tape unread) during
   pub few : length unread + length (heard during) ≤ limit
   pub no_answer : answer seq (on_tape unread ++ heard during) ≡ None

@@ -2,7 +2,7 @@
 ghost use Rattle.std.specs.Prelude.{◌≡◌, ◌==◌, ◌<◌, ◌≤◌, ◌+◌, ◌-◌, ◌^◌, ◌∷◌, [], ℕ, length, take, min, Err, IfOk, OnOk};
 ghost use Rattle.stk_host.specs.Links.{failing_link_view, CountsCall, FailsAsPlanned};
 ghost use Rattle.ghosts.specs.Stays.{Stays};
-ghost use Rattle.stk_host.specs.Talk.{Sends, Receives, FitsBuffer};
+ghost use Rattle.stk_host.specs.Transcript.{Sends, Receives, FitsBuffer};
 
 use crate::link::{Heard, Link, LinkFault};
 use std::marker::Model;

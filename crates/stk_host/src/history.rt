@@ -1,7 +1,7 @@
 //! The transcript of a link, for proofs alone. It takes no memory, and its methods do nothing at run time.
 ghost use Rattle.std.specs.Prelude.{◌≡◌, [], ◌∷◌, ◌++◌, take};
 ghost use Rattle.std.specs.Borrow.{ftrue};
-ghost use Rattle.stk_host.specs.Talk.{Talk, Sent, Got, items_of};
+ghost use Rattle.stk_host.specs.Transcript.{Transcript, Sent, Got, items_of};
 
 use crate::link::Heard;
 use std::marker::Model;
@@ -9,7 +9,7 @@ use std::marker::Model;
 /// All pieces sent and received, in order. Only clauses read it, as `items`.
 #[derive(Drop)]
 pub struct History {
-    pub ghost items: { Talk },
+    pub ghost items: { Transcript },
 }
 
 impl Model for History {

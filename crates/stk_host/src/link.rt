@@ -1,7 +1,7 @@
 //! The link between the host and a programmer.
 ghost use Rattle.std.specs.Prelude.{◌≡◌, ◌<◌, length, ◌≤◌, ℕ, OnOk, OnErr};
 ghost use Rattle.ghosts.specs.Stays.{Stays};
-ghost use Rattle.stk_host.specs.Talk.{LinkView, Sends, Receives};
+ghost use Rattle.stk_host.specs.Transcript.{LinkState, Sends, Receives};
 ghost use Rattle.stk_host.specs.Reach.{SendsAll};
 
 use thiserror::Error;
@@ -87,7 +87,7 @@ pub enum Item {
 /// To connect your own device, write an `impl Link`: `examples/library/a_link_of_ones_own.rs` is a whole one.
 pub trait Link {
     /// The transcript and the count of failures. A link may keep the transcript for proofs alone.
-    ghost view: { Self → LinkView };
+    ghost view: { Self → LinkState };
 
     /// The state a link may start from, if that state determines what the link does later: for a wire, its programmer
     /// and its fates.

@@ -2,7 +2,7 @@
 ghost use Rattle.std.specs.Prelude.{◌≡◌, ◌<◌, ◌≤◌, ◌++◌, ◌∷◌, [], length, OnOk, OnErr};
 ghost use Rattle.stk_host.specs.declared.link.Item.TheVariants as item;
 ghost use Rattle.stk_host.specs.Tape.{on_tape, bytes_of};
-ghost use Rattle.stk_host.specs.Talk as talk;
+ghost use Rattle.stk_host.specs.Transcript as piece;
 
 use crate::link::Heard;
 use std::alloc::{AllocError, Global};
@@ -42,7 +42,7 @@ impl Model for Log {
 impl Log {
     /// Creates an empty transcript.
     pub fn new(alloc: Global) -> Self
-        ensures { result.talk ≡ [] }
+        ensures { result.transcript ≡ [] }
     {
         Log {
             marks: Vec::new(alloc),
@@ -53,21 +53,21 @@ impl Log {
 
     /// Returns the bytes sent.
     pub fn sent(&self) -> &[u8]
-        ensures { result.now ≡ talk.sent self.now.talk }
+        ensures { result.now ≡ piece.sent self.now.transcript }
     {
         self.out.as_slice()
     }
 
     /// Returns the bytes received.
     pub fn heard(&self) -> &[u8]
-        ensures { result.now ≡ bytes_of (talk.heard self.now.talk) }
+        ensures { result.now ≡ bytes_of (piece.heard self.now.transcript) }
     {
         self.back.as_slice()
     }
 
     /// Makes room for one more piece of at most `count` bytes sent. The transcript stays, also if allocation fails.
     pub fn reserve(&mut self, count: usize) -> Result<(), AllocError>
-        ensures talk { self.new.talk ≡ self.old.talk }
+        ensures transcript { self.new.transcript ≡ self.old.transcript }
         ensures piece { OnOk result (0 < self.new.piece_room) }
         ensures bytes { OnOk result (count ≤ self.new.byte_room) }
     {
@@ -80,15 +80,15 @@ impl Log {
     pub fn say(&mut self, bytes: &[u8])
         requires piece { 0 < self.old.piece_room }
         requires bytes { length bytes.now ≤ self.old.byte_room }
-        ensures { self.new.talk ≡ self.old.talk ++ talk.Sent bytes.now ∷ [] }
+        ensures { self.new.transcript ≡ self.old.transcript ++ piece.Sent bytes.now ∷ [] }
     {
         let _there_is_room = self.out.extend_from_slice(bytes);
         self.marks.push_reserved(Mark::Sent(bytes.len()));
     }
 
     fn hear_bytes(&mut self, bytes: &[u8]) -> Result<(), AllocError>
-        ensures ok { OnOk result (self.new.talk ≡ self.old.talk ++ talk.Got (on_tape bytes.now) ∷ []) }
-        ensures err { OnErr result (self.new.talk ≡ self.old.talk) }
+        ensures ok { OnOk result (self.new.transcript ≡ self.old.transcript ++ piece.Got (on_tape bytes.now) ∷ []) }
+        ensures err { OnErr result (self.new.transcript ≡ self.old.transcript) }
     {
         self.marks.reserve(1)?;
         self.back.extend_from_slice(bytes)?;
@@ -97,16 +97,16 @@ impl Log {
     }
 
     fn silence(&mut self) -> Result<(), AllocError>
-        ensures ok { OnOk result (self.new.talk ≡ self.old.talk ++ talk.Got (item.Silence ∷ []) ∷ []) }
-        ensures err { OnErr result (self.new.talk ≡ self.old.talk) }
+        ensures ok { OnOk result (self.new.transcript ≡ self.old.transcript ++ piece.Got (item.Silence ∷ []) ∷ []) }
+        ensures err { OnErr result (self.new.transcript ≡ self.old.transcript) }
     {
         self.marks.push(Mark::Silence)?;
         Ok(())
     }
 
     fn end(&mut self) -> Result<(), AllocError>
-        ensures ok { OnOk result (self.new.talk ≡ self.old.talk ++ talk.Got (item.End ∷ []) ∷ []) }
-        ensures err { OnErr result (self.new.talk ≡ self.old.talk) }
+        ensures ok { OnOk result (self.new.transcript ≡ self.old.transcript ++ piece.Got (item.End ∷ []) ∷ []) }
+        ensures err { OnErr result (self.new.transcript ≡ self.old.transcript) }
     {
         self.marks.push(Mark::End)?;
         Ok(())
@@ -114,9 +114,10 @@ impl Log {
 
     /// Adds what was received; its bytes are at the start of the buffer. If allocation fails, the transcript stays.
     pub fn hear(&mut self, heard: Heard, buffer: &[u8]) -> Result<(), AllocError>
-        requires { talk.FitsBuffer heard (length buffer.now) }
-        ensures ok { OnOk result (self.new.talk ≡ self.old.talk ++ talk.Got (talk.items_of heard buffer.now) ∷ []) }
-        ensures err { OnErr result (self.new.talk ≡ self.old.talk) }
+        requires { piece.FitsBuffer heard (length buffer.now) }
+        ensures ok { OnOk result (self.new.transcript ≡ self.old.transcript ++ piece.Got
+            (piece.items_of heard buffer.now) ∷ []) }
+        ensures err { OnErr result (self.new.transcript ≡ self.old.transcript) }
     {
         match heard {
             Heard::Bytes(count) => self.hear_bytes(&buffer[..count]),

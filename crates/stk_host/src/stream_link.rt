@@ -4,7 +4,7 @@ ghost use Rattle.std.specs.IoError.{error_kind};
 ghost use Rattle.std.specs.Io.{ReadsAtMost, WritesAtMost};
 ghost use Rattle.std.specs.Io.KnownBytes.{Keeps, Appends, Consumes, IsAtEnd};
 ghost use Rattle.ghosts.specs.Stays.{Stays};
-ghost use Rattle.stk_host.specs.Talk.{Sends, Receives, FitsBuffer};
+ghost use Rattle.stk_host.specs.Transcript.{Sends, Receives, FitsBuffer};
 ghost use Rattle.stk_host.specs.declared.link.Heard.TheVariants.{Silence};
 ghost use Rattle.stk_host.specs.Links.{StreamState, IsTrueSince, stream_view, HearsKnown, AppendsPrefix, IsOfListening};
 
@@ -49,7 +49,7 @@ impl<R, W> Model for StreamLink<R, W> {
       writer = link.writer;
       failures = link.failures;
       last_error = link.last_error;
-      talk = link.history.items;
+      transcript = link.history.items;
     } };
 }
 
@@ -94,7 +94,7 @@ impl<R, W> StreamLink<R, W> {
     /// assert!(rt; link.recv(&mut buffer)? == Heard::End);
     /// ```
     pub fn new(reader: R, writer: W) -> Self
-        ensures { result ≡ record { reader = reader; writer = writer; failures = 0; last_error = None; talk = [] } }
+        ensures { result ≡ record { reader = reader; writer = writer; failures = 0; last_error = None; transcript = [] } }
     {
         StreamLink {
             reader,

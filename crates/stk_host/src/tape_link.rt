@@ -1,8 +1,8 @@
 //! A link over a tape.
 ghost use Rattle.std.specs.Prelude.{◌≡◌, ◌<◌, ◌≤◌, ◌++◌, ◌∷◌, [], ℕ, List, length, take, drop, min, slice_get, Some, IfOk, OnOk, OnErr};
 ghost use Rattle.stk_host.specs.Tape.{bytes_in};
-ghost use Rattle.stk_host.specs.Talk.{Sends, Receives, FitsBuffer, items_of};
-ghost use Rattle.stk_host.specs.Talk as talk;
+ghost use Rattle.stk_host.specs.Transcript.{Sends, Receives, FitsBuffer, items_of};
+ghost use Rattle.stk_host.specs.Transcript as transcript;
 ghost use Rattle.stk_host.specs.Links.{IsOfTape, TapeState, tape_view, next_piece, byte_of};
 ghost use Rattle.ghosts.specs.Stays.{Stays};
 
@@ -42,7 +42,7 @@ impl Model for TapeLink {
     ghost view = { λ link. record {
       left = drop link.at link.items.items;
       cut = link.cut;
-      talk = link.log.talk;
+      transcript = link.log.transcript;
       failures = link.failures;
     } };
 
@@ -110,7 +110,7 @@ impl TapeLink {
     /// ```
     pub fn new(alloc: Global, items: Vec<Item>, cut: usize) -> Self
         requires { 0 < cut }
-        ensures { result ≡ record { left = items.items; cut = cut; talk = []; failures = 0 } }
+        ensures { result ≡ record { left = items.items; cut = cut; transcript = []; failures = 0 } }
     {
         TapeLink {
             items,
@@ -129,7 +129,7 @@ impl TapeLink {
     /// assert!(rt; link.sent() == b"\x1B".as_slice());
     /// ```
     pub fn sent(&self) -> &[u8]
-        ensures { result.now ≡ talk.sent self.now.talk }
+        ensures { result.now ≡ transcript.sent self.now.transcript }
     {
         self.log.sent()
     }

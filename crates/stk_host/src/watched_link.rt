@@ -1,7 +1,7 @@
 //! A link that reports each call to a watcher, such as a window that draws a progress bar.
 ghost use Rattle.std.specs.Prelude.{◌<◌, length};
 ghost use Rattle.ghosts.specs.Stays.{Stays};
-ghost use Rattle.stk_host.specs.Talk.{Sends, Receives};
+ghost use Rattle.stk_host.specs.Transcript.{Sends, Receives};
 ghost use Rattle.stk_host.specs.Watching.{ToldOfLink, Sent, Listened, link_told};
 
 use crate::link::{Heard, Link, LinkFault};

@@ -9,7 +9,7 @@ use Rattle.stk_frame.proofs.Laws.{frame_is_good, body_of_frame}
 use Rattle.stk_host.specs.Tape.{Tape, Reading, Answered, Silent, answer}
 use Rattle.stk_host.specs.Dialog.{Dialog, Done, Say, Ask, played, by_answer, next, frames_in}
 use Rattle.stk_emu.specs.Along.{AsksBodies}
-use Rattle.avr_course.specs.AnyTape.{first_became, other_becames, on_answer, AreHonest, after_sent}
+use Rattle.avr_course.specs.AnyTape.{first_became, other_becames, on_answer, AreHonest, after_pieces}
 use Rattle.avr_course.proofs.Lines.Plays.{cons_none, head_is, tail_is}
 use Rattle.stk_emu.specs.Device.{Device, answer_frame, after_frame, after_frames, answers}
 use Rattle.stk_emu.specs.Lawful.{IsBody}
@@ -352,7 +352,7 @@ module _ {P : Type 0} (m : Device P) (sound : AnswersBodies m) where
   answers_joined (f ∷ frames) p = ap (λ x. answer_frame m f p ++ x) (answers_joined frames (after_frame m f p))
 
   pub after_first : (h : ℕ) (sent : List (List ℕ)) (p : P)
-      → after_frames m (first_of h sent) p ≡ after_sent m sent (obeyed h) p
+      → after_frames m (first_of h sent) p ≡ after_pieces m sent (obeyed h) p
   after_first zero [] p = refl
   after_first zero (f ∷ sent) p = after_first zero sent p
   after_first (suc h) [] p = refl

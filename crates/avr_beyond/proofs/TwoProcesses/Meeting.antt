@@ -10,10 +10,10 @@ use Rattle.stk_frame.proofs.Cuts.{cut_append}
 use Rattle.stk_frame.proofs.Laws.{frame_is_piece, length_frame}
 use Rattle.stk_host.specs.Dialog.{Dialog, Event, played, frames_in, bytes_sent}
 use Rattle.stk_host.specs.Play.{IsPrefixOf}
-use Rattle.stk_host.specs.Talk.{Talk, sent, heard}
+use Rattle.stk_host.specs.Transcript.{Transcript, sent, heard}
 use Rattle.stk_host.specs.Tape.{Tape, bytes_of}
 use Rattle.stk_emu.specs.Along.{AsksBodies}
-use Rattle.avr_course.specs.AnyTape.{AreHonest, after_sent}
+use Rattle.avr_course.specs.AnyTape.{AreHonest, after_pieces}
 use Rattle.stk_emu.specs.Device.{device, refusal, answer_body, answer_frame, after_frame, after_frames, answers}
 use Rattle.stk_emu.specs.Emulator.{Machine}
 use Rattle.stk_emu.specs.Lawful.{IsBody}
@@ -57,20 +57,20 @@ answers_short (piece ∷ pieces) p = (answer_short piece p, answers_short pieces
 
 -- ---- the server's end
 
-pub all_served : (p : Programmer) (talk : Talk) (left : Machine)
-    → AnswersAll p [] (bytes_of (heard talk)) (sent talk) left → HasServed p talk left.programmer
-all_served p talk left all = record {
-  used = bytes_of (heard talk);
+pub all_served : (p : Programmer) (transcript : Transcript) (left : Machine)
+    → AnswersAll p [] (bytes_of (heard transcript)) (sent transcript) left → HasServed p transcript left.programmer
+all_served p transcript left all = record {
+  used = bytes_of (heard transcript);
   unused = [];
-  heard_is = append-nil (bytes_of (heard talk));
+  heard_is = append-nil (bytes_of (heard transcript));
   unsent = [];
-  sent_is = append-nil (sent talk) ∙ sym all.answered;
+  sent_is = append-nil (sent transcript) ∙ sym all.answered;
   left_is = all.fed.obeyed;
 }
 
-broken_served : (p : Programmer) (talk : Talk) (left : Machine)
-    → BreaksOff p [] (bytes_of (heard talk)) (sent talk) left → HasServed p talk left.programmer
-broken_served p talk left b = record {
+broken_served : (p : Programmer) (transcript : Transcript) (left : Machine)
+    → BreaksOff p [] (bytes_of (heard transcript)) (sent transcript) left → HasServed p transcript left.programmer
+broken_served p transcript left b = record {
   used = b.used;
   unused = b.unused;
   heard_is = sym b.bytes_are;
@@ -84,12 +84,13 @@ broken_served p talk left b = record {
   left_is = b.fed.obeyed;
 }
 
-pub has_served : (served : Served) (p : Programmer) (talk : Talk) (left : Machine) → ServingLeaves served p [] talk left
-    → HasServed p talk left.programmer
-has_served Ended p talk left l = all_served p talk left l
-has_served RecvFailed p talk left l = all_served p talk left l
-has_served SendFailed p talk left l = broken_served p talk left l.1
-has_served TooManyReads p talk left l = all_served p talk left l
+pub has_served : (served : Served) (p : Programmer) (transcript : Transcript) (left : Machine)
+    → ServingLeaves served p [] transcript left
+    → HasServed p transcript left.programmer
+has_served Ended p transcript left l = all_served p transcript left l
+has_served RecvFailed p transcript left l = all_served p transcript left l
+has_served SendFailed p transcript left l = broken_served p transcript left l.1
+has_served TooManyReads p transcript left l = all_served p transcript left l
 
 -- ---- both ends
 
@@ -99,8 +100,9 @@ frames_more used more = ap (filter is_frame) (cut_append used more)
     ∙ filter-append is_frame (cut used) (cut (rest used ++ more))
 
 -- of the frames that were sent those were obeyed that the server took, and so it stands
-pub meet_sent : (p left : Programmer) (host server : Talk) (serves : HasServed p server left) → IsJoined host server
-    → after_sent device (frames (sent host)) (obeyed (length (frames serves.used))) p ≡ left
+pub meet_sent : (p left : Programmer) (host server : Transcript) (serves : HasServed p server left)
+    → IsJoined host server
+    → after_pieces device (frames (sent host)) (obeyed (length (frames serves.used))) p ≡ left
 meet_sent p left host server serves joined =
     let arrived = length (frames serves.used) in
     let more = serves.unused ++ joined.up.0 in
@@ -114,7 +116,7 @@ meet_sent p left host server serves joined =
     sym (after_first device answers_bodies arrived (frames (sent host)) p)
     ∙ (ap (λ fs. after_frames device fs p) first ∙ sym serves.left_is)
 
-module _ {E R : Type 0} (d : Dialog E R) (asks : AsksBodies d) (p left : Programmer) (host server : Talk)
+module _ {E R : Type 0} (d : Dialog E R) (asks : AsksBodies d) (p left : Programmer) (host server : Transcript)
     (serves : HasServed p server left) (joined : IsJoined host server)
     (plays : IsPrefixOf (sent host) (bytes_sent (played d 1 (heard host)).events)) where
   abbrev events : List (Event E)
@@ -141,7 +143,7 @@ module _ {E R : Type 0} (d : Dialog E R) (asks : AsksBodies d) (p left : Program
   arrived_are = ap (first_of arrived) some_frames.1 ∙ first_prefix (frames serves.used) some_frames.0
 
   -- so the server stands
-  pub meet_leaves : after_sent device (frames_in events) (obeyed arrived) p ≡ left
+  pub meet_leaves : after_pieces device (frames_in events) (obeyed arrived) p ≡ left
   meet_leaves = sym (after_first device answers_bodies arrived (frames_in events) p)
       ∙ (ap (λ fs. after_frames device fs p) arrived_are ∙ sym serves.left_is)
 

@@ -9,7 +9,7 @@ use Rattle.stk_host.specs.declared.link.Item.TheVariants.{Byte, Silence, End}
 use Rattle.stk_host.specs.Tape.{Tape, Reading, Answered, Silent, Babbled, answer, read_to, silence_or_end, first_answer, bytes_in, limit}
 use Rattle.stk_host.specs.Dialog.{Dialog, Done, Say, Ask, Frame, played, behind, by_answer, next, frames_in, sayings}
 use Rattle.stk_emu.specs.Along.{along, said_along, AsksBodies}
-use Rattle.avr_course.specs.AnyTape.{first_became, other_becames, after_sent}
+use Rattle.avr_course.specs.AnyTape.{first_became, other_becames, after_pieces}
 use Rattle.stk_emu.specs.Device.{Device, after_frame}
 use Rattle.stk_emu.specs.Turn.{after_became}
 use Rattle.stk_emu.proofs.Answers.BodySizes.{AnswersBodies}
@@ -74,7 +74,7 @@ pub record Straight {E R P : Type 0} (m : Device P) (d : Dialog E R) (n : ℕ) (
     Type 0 where
   pub dialog : (along m (length (frames_in (played d n tape).events)) d p []).dialog ≡ Done r
   pub programmer : (along m (length (frames_in (played d n tape).events)) d p []).programmer
-      ≡ after_sent m (frames_in (played d n tape).events) (obeyed h) p
+      ≡ after_pieces m (frames_in (played d n tape).events) (obeyed h) p
   pub says : sayings (played d n tape).events ≡ said_along m (length (frames_in (played d n tape).events)) d p []
 
 abbrev result_of : {R : Type 0} → R → Option (R × ℕ × Tape) → R
@@ -108,17 +108,17 @@ module _ {P : Type 0} (m : Device P) (sound : AnswersBodies m) where
       let there : Straight m d (next n) c.left (m.after bytes p) (one_less h) r =
       subst (λ q. Straight m d (next n) c.left q (one_less h) r) obeys inner in
       let fs : List (List ℕ) = frames_in (played d (next n) c.left).events in
-      let stands : after_sent m fs (obeyed (one_less h)) (m.after bytes p)
-      ≡ after_sent m (frame n bytes ∷ fs) (obeyed h) p =
-      ap (λ bs. after_sent m fs bs (m.after bytes p)) (sym (others_obeyed h))
-      ∙ ap (after_sent m fs (other_becames (obeyed h)))
+      let stands : after_pieces m fs (obeyed (one_less h)) (m.after bytes p)
+      ≡ after_pieces m (frame n bytes ∷ fs) (obeyed h) p =
+      ap (λ bs. after_pieces m fs bs (m.after bytes p)) (sym (others_obeyed h))
+      ∙ ap (after_pieces m fs (other_becames (obeyed h)))
       (sym (ap (λ b. after_became b (after_frame m (frame n bytes) p) p m.reset) c.became
       ∙ after_is m sound n bytes p asks.0)) in
       record {
         dialog = subst (λ x. (along m (length (frames_in x.events)) (Ask bytes go_on) p []).dialog ≡ Done r) (sym first)
             there.dialog;
         programmer = subst (λ x. (along m (length (frames_in x.events)) (Ask bytes go_on) p []).programmer
-            ≡ after_sent m (frames_in x.events) (obeyed h) p) (sym first) (there.programmer ∙ stands);
+            ≡ after_pieces m (frames_in x.events) (obeyed h) p) (sym first) (there.programmer ∙ stands);
         says = subst (λ x. sayings x.events ≡ said_along m (length (frames_in x.events)) (Ask bytes go_on) p [])
             (sym first) there.says;
       }

@@ -3,7 +3,7 @@ use Rattle.std.proofs.Common.{◌≡◌, ◌∙◌, ap, subst, sym, refl, arith,
 use Rattle.std.proofs.lemmas.Bool.{and_from, eq-eqb, cond-true, and_parts}
 use Rattle.std.proofs.lemmas.List.Elements.{filter-append}
 use Rattle.std.specs.Prelude.{filter}
-use Rattle.avr_desk.specs.Record.{Bytes, DeskView, nothing_kept, showing, with_replaced}
+use Rattle.avr_desk.specs.Record.{Bytes, DeskState, nothing_kept, showing, with_replaced}
 use Rattle.avr_desk.specs.Said.{after_all}
 use Rattle.avr_part.specs.ChipFile.{chip_file}
 use Rattle.avr_part.specs.State as chips
@@ -17,10 +17,10 @@ use Rattle.stk_frame.proofs.FedReaders.{cut_whole, rest_whole}
 use Rattle.stk_frame.proofs.Laws.{body_of_frame, frame_is_good, frame_is_piece, length_frame}
 use Rattle.stk_host.specs.Dialog.{Dialog, Done, Say, Ask, Event, Frame, Said, behind, by_answer, bytes_sent, next, played, sayings}
 use Rattle.stk_host.specs.Play.{IsPrefixOf, TurnsFrom}
-use Rattle.stk_host.specs.Talk.{LinkView, Talk, Sent, Got, heard, sent}
+use Rattle.stk_host.specs.Transcript.{LinkState, Transcript, Sent, Got, heard, sent}
 use Rattle.stk_host.specs.Tape.{Tape, Answered, Reading, answer, bytes_of, first_answer, is_answer, limit, on_tape}
 use Rattle.stk_host.specs.declared.link.Item.TheVariants.{End}
-use Rattle.stk_host.proofs.Talks.InDialogs.{bytes_append}
+use Rattle.stk_host.proofs.Transcripts.InDialogs.{bytes_append}
 use Rattle.stk_host.proofs.Tapes.Answers.{answer_found, answer_waits, bytes_of_append, bytes_of_on_tape}
 use Rattle.stk_emu.proofs.Answers.Texts.{after_more, answers_more}
 use Rattle.stk_emu.proofs.Answers.BodySizes.{answers_bodies}
@@ -191,13 +191,13 @@ asked bytes go_on n reply later b =
     (own_answer n reply later b)
 
 -- the play of the dialog, whatever follows on the line
-pub record IsWhole {E R : Type 0} (d : Dialog E R) (n : ℕ) (talk : Talk) : Type 0 where
+pub record IsWhole {E R : Type 0} (d : Dialog E R) (n : ℕ) (transcript : Transcript) : Type 0 where
   pub events : List (Event E)
   pub result : R
   pub at : ℕ
-  pub plays : (later : Tape) → played d n (heard talk ++ later)
+  pub plays : (later : Tape) → played d n (heard transcript ++ later)
       ≡ record { events = events; outcome = Some (result, at, later) }
-  pub all_sent : bytes_sent events ≡ sent talk
+  pub all_sent : bytes_sent events ≡ sent transcript
 
 pub host_plays : {E R : Type 0} (d : Dialog E R) (n : ℕ) (p : Programmer) → AsksBodies d
     → IsWhole d n (of_host (calls_of d n p))
@@ -216,14 +216,14 @@ host_plays (Ask bytes go_on) n p asks =
     let d = go_on (Answered reply) in
     let inner = host_plays (go_on (Answered (device.answer bytes p))) (next n) (device.after bytes p)
     (asks.1 (Answered (device.answer bytes p))) in
-    let talk = of_host (calls_of d (next n) (device.after bytes p)) in
+    let transcript = of_host (calls_of d (next n) (device.after bytes p)) in
     record {
       events = Frame (frame n bytes) ∷ inner.events;
       result = inner.result;
       at = inner.at;
       plays = λ later.
-          ap (played (Ask bytes go_on) n) (append_assoc (on_tape (frame n reply)) (heard talk) later)
-          ∙ asked bytes go_on n reply (heard talk ++ later) (answers_bodies bytes p asks.0)
+          ap (played (Ask bytes go_on) n) (append_assoc (on_tape (frame n reply)) (heard transcript) later)
+          ∙ asked bytes go_on n reply (heard transcript ++ later) (answers_bodies bytes p asks.0)
           ∙ ap (behind (Frame (frame n bytes) ∷ [])) (inner.plays later);
       all_sent = ap (λ bs. frame n bytes ++ bs) inner.all_sent;
     }
@@ -231,20 +231,20 @@ host_plays (Ask bytes go_on) n p asks =
 -- a dialog in turn, as one that it goes on as
 module _ {E R : Type 0} (d e : Dialog E R) (n k : ℕ) (prefix : Tape) (events : List (Event E))
     (goes : (tape : Tape) → played d n (prefix ++ tape) ≡ behind events (played e k tape)) where
-  turns_behind : (talk : Talk) (tape : Tape) (bytes : List ℕ) → TurnsFrom e k tape bytes talk
-      → TurnsFrom d n (prefix ++ tape) (bytes_sent events ++ bytes) talk
+  turns_behind : (transcript : Transcript) (tape : Tape) (bytes : List ℕ) → TurnsFrom e k tape bytes transcript
+      → TurnsFrom d n (prefix ++ tape) (bytes_sent events ++ bytes) transcript
   turns_behind [] tape bytes turns = tt
-  turns_behind (Sent more ∷ talk) tape bytes turns =
-      subst (λ bs. TurnsFrom d n (prefix ++ tape) bs talk) (sym (append_assoc (bytes_sent events) bytes more))
-      (turns_behind talk tape (bytes ++ more) turns)
-  turns_behind (Got items ∷ talk) tape bytes turns = (
+  turns_behind (Sent more ∷ transcript) tape bytes turns =
+      subst (λ bs. TurnsFrom d n (prefix ++ tape) bs transcript) (sym (append_assoc (bytes_sent events) bytes more))
+      (turns_behind transcript tape (bytes ++ more) turns)
+  turns_behind (Got items ∷ transcript) tape bytes turns = (
     record {
       waits = ap (λ p. p.outcome) (goes tape) ∙ turns.0.waits;
       all_sent = ap (λ p. bytes_sent p.events) (goes tape) ∙ bytes_append events (played e k tape).events
           ∙ ap (λ bs. bytes_sent events ++ bs) turns.0.all_sent;
     },
-    subst (λ t. TurnsFrom d n t (bytes_sent events ++ bytes) talk) (sym (append_assoc prefix tape items))
-        (turns_behind talk (tape ++ items) bytes turns.1),
+    subst (λ t. TurnsFrom d n t (bytes_sent events ++ bytes) transcript) (sym (append_assoc prefix tape items))
+        (turns_behind transcript (tape ++ items) bytes turns.1),
   )
 
 pub host_in_turn : {E R : Type 0} (d : Dialog E R) (n : ℕ) (p : Programmer) → AsksBodies d
@@ -256,13 +256,13 @@ host_in_turn (Say e d) n p asks =
 host_in_turn (Ask bytes go_on) n p asks =
     let reply = device.answer bytes p in
     let d = go_on (Answered reply) in
-    let talk = of_host (calls_of d (next n) (device.after bytes p)) in
+    let transcript = of_host (calls_of d (next n) (device.after bytes p)) in
     let waits : answer n [] ≡ None = answer_waits n [] refl (omega arith) in
     let nothing : played (Ask bytes go_on) n [] ≡ record { events = Frame (frame n bytes) ∷ []; outcome = None } =
     ap (λ o. behind (Frame (frame n bytes) ∷ []) (by_answer (λ reading. played (go_on reading) (next n)) o)) waits in
-    let later : TurnsFrom (Ask bytes go_on) n (on_tape (frame n reply) ++ []) ((frame n bytes ++ []) ++ []) talk =
+    let later : TurnsFrom (Ask bytes go_on) n (on_tape (frame n reply) ++ []) ((frame n bytes ++ []) ++ []) transcript =
     turns_behind (Ask bytes go_on) d n (next n) (on_tape (frame n reply)) (Frame (frame n bytes) ∷ [])
-    (λ tape. asked bytes go_on n reply tape (answers_bodies bytes p asks.0)) talk [] []
+    (λ tape. asked bytes go_on n reply tape (answers_bodies bytes p asks.0)) transcript [] []
     (host_in_turn (go_on (Answered (device.answer bytes p))) (next n) (device.after bytes p)
     (asks.1 (Answered (device.answer bytes p)))) in (
       record {
@@ -270,8 +270,8 @@ host_in_turn (Ask bytes go_on) n p asks =
         all_sent =
             ap (λ q. bytes_sent q.events) nothing ∙ append-nil (frame n bytes);
       },
-      subst (λ t. TurnsFrom (Ask bytes go_on) n t (frame n bytes) talk) (append-nil (on_tape (frame n reply)))
-          (subst (λ bs. TurnsFrom (Ask bytes go_on) n (on_tape (frame n reply) ++ []) bs talk)
+      subst (λ t. TurnsFrom (Ask bytes go_on) n t (frame n bytes) transcript) (append-nil (on_tape (frame n reply)))
+          (subst (λ bs. TurnsFrom (Ask bytes go_on) n (on_tape (frame n reply) ++ []) bs transcript)
           (append-nil (frame n bytes ++ []) ∙ append-nil (frame n bytes)) later),
     )
 
@@ -319,10 +319,10 @@ left_of (Say e d) n p = left_of d n p
 left_of (Ask bytes go_on) n p = left_of (go_on (Answered (device.answer bytes p))) (next n) (device.after bytes p)
 
 -- After any text of whole frames, that it answered, it answers all that it hears.
-record ServesOn (p : Programmer) (text : List ℕ) (talk : Talk) (left : Programmer) : Type 0 where
-  in_turn : AnswersInTurn p text (emulate p text) talk
-  fed : HasObeyed p (text ++ bytes_of (heard talk)) left
-  answered : emulate p (text ++ bytes_of (heard talk)) ≡ emulate p text ++ sent talk
+record ServesOn (p : Programmer) (text : List ℕ) (transcript : Transcript) (left : Programmer) : Type 0 where
+  in_turn : AnswersInTurn p text (emulate p text) transcript
+  fed : HasObeyed p (text ++ bytes_of (heard transcript)) left
+  answered : emulate p (text ++ bytes_of (heard transcript)) ≡ emulate p text ++ sent transcript
 
 serves_on : {E R : Type 0} (d : Dialog E R) (n : ℕ) (now p : Programmer) (text : List ℕ) → AsksBodies d
     → HasObeyed p text now
@@ -377,31 +377,32 @@ module _ (plan : Plan) (s : chips.ChipState) (file : Bytes) (asks : AsksBodies (
   abbrev calls : List Call
   calls = calls_of (session plan) 1 (fresh_programmer s)
 
-  abbrev host : Talk
+  abbrev host : Transcript
   host = of_host calls
 
-  abbrev server : Talk
+  abbrev server : Transcript
   server = of_server calls
 
   abbrev left : Machine
   left = record { held = []; programmer = left_of (session plan) 1 (fresh_programmer s) }
 
-  abbrev silent : LinkView
-  silent = record { talk = []; failures = 0 }
+  abbrev silent : LinkState
+  silent = record { transcript = []; failures = 0 }
 
-  abbrev empty_desk : DeskView
+  abbrev empty_desk : DeskState
   empty_desk = showing nothing_kept 0 0
 
   whole : IsWhole (session plan) 1 host
   whole = host_plays (session plan) 1 (fresh_programmer s) asks
 
-  abbrev said_desk : DeskView
+  abbrev said_desk : DeskState
   said_desk = showing (after_all (sayings whole.events) nothing_kept) 0 0
 
-  abbrev saved_desk : DeskView
+  abbrev saved_desk : DeskState
   saved_desk = showing (with_replaced file (chip_file left.programmer.chip) nothing_kept) 0 0
 
-  runs : Ran (session plan) start (devices silent empty_desk) (devices (record { talk = host; failures = 0 }) said_desk)
+  runs : Ran (session plan) start (devices silent empty_desk)
+      (devices (record { transcript = host; failures = 0 }) said_desk)
       whole.result (record { next = whole.at; unread = [] })
   runs = record {
     during = host;
@@ -432,7 +433,7 @@ module _ (plan : Plan) (s : chips.ChipState) (file : Bytes) (asks : AsksBodies (
   fed_nothing = record { stands = refl; obeyed = refl }
 
   serves : ServesChip s file (reads server) (devices silent empty_desk)
-      (devices (record { talk = server; failures = 0 }) saved_desk) 0
+      (devices (record { transcript = server; failures = 0 }) saved_desk) 0
   serves =
       let last = ends (session plan) 1 (fresh_programmer s) in
       record {

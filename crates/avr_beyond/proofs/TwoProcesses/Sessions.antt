@@ -14,7 +14,7 @@ use Rattle.stk_frame.specs.Cut.{frames}
 use Rattle.stk_host.specs.Dialog.{Event, played, frames_in, bytes_sent, sayings}
 use Rattle.stk_host.specs.Play.{Position, Plays, IsPrefixOf, IsDue, InTurn}
 use Rattle.stk_host.specs.Tape.{Tape, on_tape, bytes_of}
-use Rattle.stk_host.specs.Talk.{Talk, Sent, Got, sent, heard}
+use Rattle.stk_host.specs.Transcript.{Transcript, Sent, Got, sent, heard}
 use Rattle.stk_host.proofs.Tapes.Answers.{bytes_of_append}
 use Rattle.stk_emu.specs.Along.{along, AsksBodies}
 use Rattle.stk_emu.specs.Effect.{memories_of}
@@ -22,7 +22,7 @@ use Rattle.stk_emu.specs.Settled.{Idle, FitsPart}
 use Rattle.avr_course.proofs.Given.FirstSteps.{fresh_idle, fresh_fits}
 use Rattle.avr_course.specs.Course.{course}
 use Rattle.avr_course.proofs.FewBad.Sessions.{session_ends}
-use Rattle.avr_course.specs.AnyTape.{AreHonest, after_sent, turns_heard}
+use Rattle.avr_course.specs.AnyTape.{AreHonest, after_pieces, turns_heard}
 use Rattle.stk_emu.specs.Device.{device, after_frames}
 use Rattle.stk_emu.specs.Emulator.{emulate}
 use Rattle.stk_emu.specs.Programmer.{Programmer, fresh_programmer}
@@ -42,7 +42,7 @@ use Rattle.avr_beyond.proofs.TwoProcesses.Misses.{session_few}
 use Rattle.avr_course.proofs.AnyLink.{since_none, over_any_line, over_any_end, IsFirst, sent_first}
 
 -- where something is heard, all answers had been sent
-answered_at : (p : Programmer) (text answered : List ℕ) (before after : Talk) (items : Tape)
+answered_at : (p : Programmer) (text answered : List ℕ) (before after : Transcript) (items : Tape)
     → AnswersInTurn p text answered (before ++ Got items ∷ after)
     → answered ++ sent before ≡ emulate p (text ++ bytes_of (heard before))
 answered_at p text answered [] after items turns =
@@ -70,7 +70,8 @@ module _ (plan : Plan) (s : chips.ChipState) (is_sound : IsSoundChip s) (part_is
   pub asks : AsksBodies (session plan)
   asks = session_asks plan (subst IsPart part_is is_sound.part) fitted
 
-  module _ (host server : Talk) (endless : HasNoEnd (heard host)) (stalls : StallsBetweenAnswers (heard host)) where
+  module _ (host server : Transcript) (endless : HasNoEnd (heard host))
+      (stalls : StallsBetweenAnswers (heard host)) where
     pub honest : (left : Programmer) (serves : HasServed (fresh_programmer s) server left) → IsJoined host server
         → IsPrefixOf (sent host) (bytes_sent (played (session plan) 1 (heard host)).events)
         → AreHonest device (session plan) 1 (heard host) (fresh_programmer s) (obeyed (length (frames serves.used)))
@@ -79,7 +80,7 @@ module _ (plan : Plan) (s : chips.ChipState) (is_sound : IsSoundChip s) (part_is
 
     pub leaves : (left : Programmer) (serves : HasServed (fresh_programmer s) server left) → IsJoined host server
         → IsPrefixOf (sent host) (bytes_sent (played (session plan) 1 (heard host)).events)
-        → after_sent device (frames_in (played (session plan) 1 (heard host)).events)
+        → after_pieces device (frames_in (played (session plan) 1 (heard host)).events)
         (obeyed (length (frames serves.used))) (fresh_programmer s) ≡ left
     leaves left serves joined plays = meet_leaves (session plan) asks (fresh_programmer s) left host server serves
         joined plays
@@ -181,7 +182,8 @@ module _ (plan : Plan) (s : chips.ChipState) (is_sound : IsSoundChip s) (part_is
           )
 
   -- over an ordered line that stalls anywhere, and makes no frame
-  pub stalling : (left : Programmer) (host server : Talk) (events : List (Event Saying)) (status : ℕ) (after : Position)
+  pub stalling : (left : Programmer) (host server : Transcript) (events : List (Event Saying)) (status : ℕ)
+      (after : Position)
       (serves : HasServed (fresh_programmer s) server left) → IsJoined host server
       → Plays (session plan) start host events status after
       → MakesNoFrame device (session plan) 1 (heard host) (fresh_programmer s) (obeyed (length (frames serves.used))) []
@@ -208,7 +210,7 @@ module _ (plan : Plan) (s : chips.ChipState) (is_sound : IsSoundChip s) (part_is
         (sent (of_host calls))
         (played (session plan) 1 (heard (of_host calls))).events
 
-    after_run : (old new : Devices) (status : ℕ) → old.link.talk ≡ [] → new.link.talk ≡ of_host calls
+    after_run : (old new : Devices) (status : ℕ) → old.link.transcript ≡ [] → new.link.transcript ≡ of_host calls
         → RunsSession plan old new status → Ended
     after_run old new status host_old host_new runs =
         touched (of_host calls) (of_server calls) ordered.endless stalls left serves
@@ -219,25 +221,26 @@ module _ (plan : Plan) (s : chips.ChipState) (is_sound : IsSoundChip s) (part_is
   module _ (calls : List Call) (old new : Devices) (server_old server_new : Devices) (file : Bytes)
       (most status served_status : ℕ) where
     -- what passed since nothing had passed is all of it, at the server's end and at the host's
-    served_all : server_old.link.talk ≡ [] → server_new.link.talk ≡ of_server calls
+    served_all : server_old.link.transcript ≡ [] → server_new.link.transcript ≡ of_server calls
         → (serves : ServesChip s file most server_old server_new served_status)
         → HasServed (fresh_programmer s) (of_server calls) serves.left.programmer
     served_all none some serves =
         subst (λ t. HasServed (fresh_programmer s) t serves.left.programmer)
-        (since_none server_old.link.talk server_new.link.talk serves.serves.during (of_server calls) none some
+        (since_none server_old.link.transcript server_new.link.transcript serves.serves.during
+        (of_server calls) none some
         serves.serves.grows)
         (has_served serves.served (fresh_programmer s) serves.serves.during serves.left serves.leaves)
 
-    played_all : (after : Position) → old.link.talk ≡ [] → new.link.talk ≡ of_host calls
+    played_all : (after : Position) → old.link.transcript ≡ [] → new.link.transcript ≡ of_host calls
         → (ran : Ran (session plan) start old new status after)
         → Plays (session plan) start (of_host calls) ran.events status after
     played_all after none some ran =
         subst (λ t. Plays (session plan) start t ran.events status after)
-        (since_none old.link.talk new.link.talk ran.during (of_host calls) none some ran.grows) ran.plays
+        (since_none old.link.transcript new.link.transcript ran.during (of_host calls) none some ran.grows) ran.plays
 
     pub one_run : (after : Position) → IsOrdered calls → StallsBetweenAnswers (heard (of_host calls))
-        → old.link.talk ≡ [] → new.link.talk ≡ of_host calls → server_old.link.talk ≡ []
-        → server_new.link.talk ≡ of_server calls
+        → old.link.transcript ≡ [] → new.link.transcript ≡ of_host calls → server_old.link.transcript ≡ []
+        → server_new.link.transcript ≡ of_server calls
         → (ran : Ran (session plan) start old new status after)
         → (serves : ServesChip s file most server_old server_new served_status)
         → (served : HasServed (fresh_programmer s) (of_server calls) serves.left.programmer)
@@ -254,8 +257,8 @@ module _ (plan : Plan) (s : chips.ChipState) (is_sound : IsSoundChip s) (part_is
 
     -- and over a line that is never silent
     pub one_course : (after : Position) → IsOrdered calls → IsPrompt (heard (of_host calls))
-        → old.link.talk ≡ [] → new.link.talk ≡ of_host calls → server_old.link.talk ≡ []
-        → server_new.link.talk ≡ of_server calls
+        → old.link.transcript ≡ [] → new.link.transcript ≡ of_host calls → server_old.link.transcript ≡ []
+        → server_new.link.transcript ≡ of_server calls
         → (ran : Ran (session plan) start old new status after)
         → (serves : ServesChip s file most server_old server_new served_status)
         → (status ≡ (course plan (memories_of s)).status) × (sayings ran.events ≡ (course plan (memories_of s)).says)
@@ -267,8 +270,8 @@ module _ (plan : Plan) (s : chips.ChipState) (is_sound : IsSoundChip s) (part_is
 
     -- and however both end
     pub any_run : IsOrdered calls → StallsBetweenAnswers (heard (of_host calls))
-        → old.link.talk ≡ [] → new.link.talk ≡ of_host calls → server_old.link.talk ≡ []
-        → server_new.link.talk ≡ of_server calls
+        → old.link.transcript ≡ [] → new.link.transcript ≡ of_host calls → server_old.link.transcript ≡ []
+        → server_new.link.transcript ≡ of_server calls
         → RunsSession plan old new status → (serves : ServesChip s file most server_old server_new served_status)
         → (served : HasServed (fresh_programmer s) (of_server calls) serves.left.programmer)
         × OverTurns plan (fresh_programmer s) serves.left.programmer

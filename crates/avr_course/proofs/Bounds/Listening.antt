@@ -12,7 +12,7 @@ use Rattle.stk_frame.proofs.Cuts.{cut_joined}
 use Rattle.stk_host.specs.Bound.{AsksAtMost, commands_in}
 use Rattle.stk_host.specs.Dialog.{Dialog, Done, Say, Ask, Event, Frame, Played, behind, by_answer, next, played, frames_in}
 use Rattle.stk_host.specs.Play.{Position, Plays, InTurn}
-use Rattle.stk_host.specs.Talk.{Talk, Got, sent, heard}
+use Rattle.stk_host.specs.Transcript.{Transcript, Got, sent, heard}
 use Rattle.stk_host.specs.Tape.{Tape, Reading, on_tape, bytes_in, answer, read_to, silence_or_end, first_answer, limit, Babbled}
 use Rattle.stk_host.specs.declared.link.Item.TheVariants.{Byte, Silence, End}
 use Rattle.stk_host.proofs.Dialogs.Questions.{sends_most}
@@ -227,16 +227,16 @@ listens (Ask body answered) seq tape =
 
 pub listens_at_most : {E R : Type 0} (n : ℕ) (d : Dialog E R) → AsksAtMost n d → AsksBodies d → ListensAtMost n d
 listens_at_most {E = E} {R = R} n d most bodies = record {
-  whole = λ first talk events result last p. whole first talk events result last p;
+  whole = λ first transcript events result last p. whole first transcript events result last p;
   wherever = λ first before after items turns. wherever first before after items turns;
 }
   where
-    whole : (first : Position) (talk : Talk) (events : List (Event E)) (result : R) (last : Position)
-        → Plays d first talk events result last
-        → (length (frames_in events) ≤ n) × ((silences (heard talk) ≤ length (frames_in events))
-        × (length first.unread + bytes_on (heard talk) ≤ limit * length (frames_in events) + length last.unread))
-    whole first talk events result last p =
-        let tape = on_tape first.unread ++ (heard talk ++ []) in
+    whole : (first : Position) (transcript : Transcript) (events : List (Event E)) (result : R) (last : Position)
+        → Plays d first transcript events result last
+        → (length (frames_in events) ≤ n) × ((silences (heard transcript) ≤ length (frames_in events))
+        × (length first.unread + bytes_on (heard transcript) ≤ limit * length (frames_in events) + length last.unread))
+    whole first transcript events result last p =
+        let tape = on_tape first.unread ++ (heard transcript ++ []) in
         let same : length (frames_in (played d first.next tape).events) ≡ length (frames_in events) =
         ap (λ x. length (frames_in x.events)) (p.plays []) in
         let l = (listens d first.next tape).done result last.next (on_tape last.unread ++ [])
@@ -244,13 +244,13 @@ listens_at_most {E = E} {R = R} n d most bodies = record {
         let l0 = l.0 in
         let l1 = l.1 in
         let sends = sends_most n d first.next tape most in
-        let a0 = silences_on (on_tape first.unread) (heard talk ++ []) in
-        let a1 = silences_on (heard talk) [] in
+        let a0 = silences_on (on_tape first.unread) (heard transcript ++ []) in
+        let a1 = silences_on (heard transcript) [] in
         let a2 = no_silences first.unread in
         let a3 = silences_on (on_tape last.unread) [] in
         let a4 = no_silences last.unread in
-        let b0 = bytes_append (on_tape first.unread) (heard talk ++ []) in
-        let b1 = bytes_append (heard talk) [] in
+        let b0 = bytes_append (on_tape first.unread) (heard transcript ++ []) in
+        let b1 = bytes_append (heard transcript) [] in
         let b2 = all_bytes first.unread in
         let b3 = bytes_append (on_tape last.unread) [] in
         let b4 = all_bytes last.unread in (
@@ -261,7 +261,8 @@ listens_at_most {E = E} {R = R} n d most bodies = record {
           ),
         )
 
-    wherever : (first : Position) (before after : Talk) (items : Tape) → InTurn d first (before ++ Got items ∷ after)
+    wherever : (first : Position) (before after : Transcript) (items : Tape)
+        → InTurn d first (before ++ Got items ∷ after)
         → (length (frames (sent before)) ≤ n) × ((silences (heard before) < length (frames (sent before)))
         × (length first.unread + bytes_on (heard before) < limit * length (frames (sent before))))
     wherever first before after items turns =

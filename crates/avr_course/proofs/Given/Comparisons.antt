@@ -7,7 +7,7 @@ use Rattle.std.proofs.lemmas.Nat.{and_comm}
 use Rattle.std.specs.Prelude.{◌==◌}
 use Rattle.stk_host.specs.Operations.{Difference, difference_from}
 use Rattle.stk_emu.specs.Effect.{Image, with_image}
-use Rattle.stk_emu.specs.Given.{Holds}
+use Rattle.stk_emu.specs.Given.{HoldsImage}
 use Rattle.stk_emu.proofs.Memories.LaidImages.{get_laid, length-laid}
 
 none_some : (b : ℕ) → ◌≡◌ {A = Option ℕ} None (Some b) → ⊥
@@ -38,7 +38,7 @@ same_byte addr want found image bytes e = elim (cases_Bool (found == want)) [
 
 -- without a difference the memory holds the image
 pub no_difference : (addr : ℕ) (image : Image) (bytes : List ℕ) → difference_from addr image bytes ≡ None
-    → Holds image bytes
+    → HoldsImage image bytes
 no_difference addr [] bytes e i b held l = absurd (none_some b held)
 no_difference addr (x ∷ image) [] e i b held l = absurd (omega (arith, l))
 no_difference addr (None ∷ image) (found ∷ bytes) e zero b held l = absurd (none_some b held)
@@ -50,7 +50,7 @@ no_difference addr (Some want ∷ image) (found ∷ bytes) e (suc i) b held l =
     no_difference (addr + 1) image bytes (same_byte addr want found image bytes e).1 i b held (omega (arith, l))
 
 -- and where it holds it there is none
-pub held_same : (addr : ℕ) (image : Image) (bytes : List ℕ) → Holds image bytes
+pub held_same : (addr : ℕ) (image : Image) (bytes : List ℕ) → HoldsImage image bytes
     → difference_from addr image bytes ≡ None
 held_same addr [] bytes holds = refl
 held_same addr (x ∷ image) [] holds = refl
@@ -63,7 +63,7 @@ held_same addr (Some want ∷ image) (found ∷ bytes) holds =
     ∙ held_same (addr + 1) image bytes (λ i b held l. holds (suc i) b held (omega (arith, l)))
 
 -- an image that was laid over a memory is held
-pub laid_holds : (image : Image) (bytes : List ℕ) → Holds image (with_image image bytes)
+pub laid_holds : (image : Image) (bytes : List ℕ) → HoldsImage image (with_image image bytes)
 laid_holds image bytes i b held l =
     get_laid image bytes i (omega (arith, l, length-laid image bytes))
     ∙ ap (λ (o : Option ℕ). unwrap_or o (get_or bytes i 0)) held

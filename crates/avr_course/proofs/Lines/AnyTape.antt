@@ -14,7 +14,7 @@ use Rattle.stk_emu.specs.Device.{Device, after_frame, after_frames, refusal}
 use Rattle.stk_emu.specs.Lawful.{IsBody}
 use Rattle.stk_emu.specs.Turn.{Became, Kept, Obeyed, Anew, Refusal, Nothing, Turn, Right, Wrong, after_became, after_turn, became_in, turn_reading, IsHonest}
 use Rattle.stk_emu.specs.Along.{along, said_along, AsksBodies}
-use Rattle.avr_course.specs.AnyTape.{first_became, other_becames, on_answer, AreHonest, after_sent, turn_by, turns_from, turns_heard, GoesAs, let_through, CameThrough, became_by}
+use Rattle.avr_course.specs.AnyTape.{first_became, other_becames, on_answer, AreHonest, after_pieces, turn_by, turns_from, turns_heard, GoesAs, let_through, CameThrough, became_by}
 use Rattle.avr_course.proofs.Given.LaterAnswers.{answer_extends}
 use Rattle.avr_course.proofs.Lines.Plays.{played_along, said_played, done_played, waits_played}
 
@@ -86,7 +86,7 @@ record HeardAs {E R P : Type 0} (m : Device P) (d : Dialog E R) (n : ℕ) (tape 
   all : (r : R) (seq : ℕ) (rest : Tape) → (played_along m answered d n p turns left).outcome ≡ Some (r, seq, rest)
       → length (frames_in (played_along m answered d n p turns left).events) ≡ answered
   programmer : (k : ℕ) → k ≤ length (frames_in (played_along m answered d n p turns left).events)
-      → (along m k d p turns).programmer ≡ after_sent m
+      → (along m k d p turns).programmer ≡ after_pieces m
       (take k (frames_in (played_along m answered d n p turns left).events)) becames p
 
 module _ {P : Type 0} (m : Device P) where
@@ -116,7 +116,7 @@ module _ {P : Type 0} (m : Device P) where
     }
       where
         stands : (k : ℕ) → k ≤ 1 → (along m k (Ask bytes go_on) p (Wrong became Nothing ∷ [])).programmer
-            ≡ after_sent m (take k (frame n bytes ∷ [])) becames p
+            ≡ after_pieces m (take k (frame n bytes ∷ [])) becames p
         stands zero le = refl
         stands (suc zero) le = none_asked m (go_on Silent) on_time [] ∙ arrives
         stands (suc (suc k)) le = absurd (omega (arith, le))
@@ -132,10 +132,10 @@ module _ {P : Type 0} (m : Device P) where
           (after_turn turn (m.after bytes p) p m.reset) later goes.left).events
 
       stands : (k : ℕ) → k ≤ suc (length fs) → (along m k (Ask bytes go_on) p (turn ∷ later)).programmer
-          ≡ after_sent m (take k (frame n bytes ∷ fs)) becames p
+          ≡ after_pieces m (take k (frame n bytes ∷ fs)) becames p
       stands zero le = refl
       stands (suc k) le = goes.programmer k (omega (arith, le))
-          ∙ ap (after_sent m (take k fs) (other_becames becames)) (leaves ∙ arrives)
+          ∙ ap (after_pieces m (take k fs) (other_becames becames)) (leaves ∙ arrives)
 
       by_turn : HeardAs m (Ask bytes go_on) n tape p becames (turn ∷ later)
       by_turn = record {
@@ -171,7 +171,7 @@ module _ {P : Type 0} (m : Device P) where
   heard_as (Done r) n tape p becames asks h =
       record { answered = 0; left = tape; play = refl; all = λ q seq rest o. refl; programmer = none_sent }
     where
-      none_sent : (k : ℕ) → k ≤ 0 → p ≡ after_sent m (take k []) becames p
+      none_sent : (k : ℕ) → k ≤ 0 → p ≡ after_pieces m (take k []) becames p
       none_sent zero le = refl
       none_sent (suc k) le = absurd (omega (arith, le))
   heard_as (Say e d) n tape p becames asks h =
@@ -198,7 +198,7 @@ module _ {P : Type 0} (m : Device P) where
       ap (λ x. sayings x.events) goes.play ∙ said_played m goes.answered d n p turns goes.left in
       record {
         programmer = subst (λ x. (k : ℕ) → k ≤ length (frames_in x.events)
-            → (along m k d p turns).programmer ≡ after_sent m (take k (frames_in x.events)) becames p) (sym goes.play)
+            → (along m k d p turns).programmer ≡ after_pieces m (take k (frames_in x.events)) becames p) (sym goes.play)
             goes.programmer;
         outcome = λ r seq rest o.
             let done : (played_along m goes.answered d n p turns goes.left).outcome ≡ Some (r, seq, rest) =
@@ -266,7 +266,7 @@ module _ {P : Type 0} (m : Device P) where
   ]
 
   let_through_after : (through : List Bool) (sent : List (List ℕ)) (p : P)
-      → after_frames m (let_through through sent) p ≡ after_sent m sent (became_by through) p
+      → after_frames m (let_through through sent) p ≡ after_pieces m sent (became_by through) p
   let_through_after [] [] p = refl
   let_through_after [] (piece ∷ sent) p = let_through_after [] sent p
   let_through_after (through ∷ more) [] p = refl
@@ -274,6 +274,6 @@ module _ {P : Type 0} (m : Device P) where
   let_through_after (false ∷ more) (piece ∷ sent) p = let_through_after more sent p
 
   pub through_after : (got : List ℕ) (sent : List (List ℕ)) (through : List Bool) (p : P) → CameThrough got sent through
-      → after_frames m (frames got) p ≡ after_sent m sent (became_by through) p
+      → after_frames m (frames got) p ≡ after_pieces m sent (became_by through) p
   through_after got sent through p c = good_alone (frames got) p
       ∙ (ap (λ ps. after_frames m ps p) c.good ∙ let_through_after through sent p)

@@ -8,15 +8,15 @@ use Rattle.stk_frame.specs.Cut.{cut, frames, is_frame, IsPiece, piece_size}
 use Rattle.stk_frame.proofs.Cuts.{cut_none, size_stays}
 use Rattle.stk_frame.proofs.Laws.{cut_first, frame_is_piece, frame_is_good}
 use Rattle.stk_host.specs.Tape.{Tape, Reading, answer, on_tape}
-use Rattle.stk_host.specs.Talk.{Talk, Sent, Got, sent, heard}
+use Rattle.stk_host.specs.Transcript.{Transcript, Sent, Got, sent, heard}
 use Rattle.stk_host.specs.Dialog.{Dialog, Done, Say, Ask, Event, Frame, Said, Played, played, by_answer, next, bytes_sent, sayings, frames_in}
 use Rattle.stk_host.specs.Play.{Position, position, IsDue, TurnsFrom, InTurn, Plays, IsPrefixOfEvents, IsBegun, IsPrefixOf}
-use Rattle.stk_host.proofs.Talks.InDialogs.{bytes_append}
+use Rattle.stk_host.proofs.Transcripts.InDialogs.{bytes_append}
 use Rattle.stk_emu.specs.declared.fate.Fate.{Fate}
 use Rattle.stk_emu.specs.Programmer.{Programmer}
 use Rattle.stk_emu.specs.Device.{device}
 use Rattle.stk_emu.specs.Wire.{AreLawful, turns_of, becames_of, fresh_wire}
-use Rattle.stk_emu.specs.Wired.{WiredState, Keeps, NeverIdle, brought}
+use Rattle.stk_emu.specs.Wired.{WiredState, FollowsFates, NeverIdle, brought}
 use Rattle.stk_emu.specs.Lawful.{IsBody}
 use Rattle.stk_emu.specs.Along.{along, said_along, AsksBodies}
 use Rattle.stk_emu.proofs.Wires.Segments.{none_clear}
@@ -72,7 +72,8 @@ frames_sent (Frame f ∷ events) whole = frame_first f (bytes_sent events) whole
 frames_sent (Said e ∷ events) whole = frames_sent events whole
 
 -- where something is heard, it was due
-pub due_at : {E R : Type 0} (d : Dialog E R) (n : ℕ) (tape : Tape) (bytes : List ℕ) (before after : Talk) (items : Tape)
+pub due_at : {E R : Type 0} (d : Dialog E R) (n : ℕ) (tape : Tape) (bytes : List ℕ) (before after : Transcript)
+    (items : Tape)
     → TurnsFrom d n tape bytes (before ++ Got items ∷ after) → IsDue d n (tape ++ heard before) (bytes ++ sent before)
 due_at d n tape bytes [] after items turns =
     subst (λ t. IsDue d n t (bytes ++ [])) (sym (append-nil tape))
@@ -85,9 +86,9 @@ due_at d n tape bytes (Got got ∷ before) after items turns =
     (due_at d n (tape ++ got) bytes before after items turns.1)
 
 -- a talk in turn never listens where nothing waits: of a play over all that was brought each question was answered
-pub never_idle : {E R : Type 0} (d : Dialog E R) (n : ℕ) (p : Programmer) (fates : List Fate) (talk : Talk)
-    → AsksBodies d → AreLawful fates → InTurn d (position n []) talk → NeverIdle p fates talk
-never_idle d n p fates talk asks lawful turns before after items split same =
+pub never_idle : {E R : Type 0} (d : Dialog E R) (n : ℕ) (p : Programmer) (fates : List Fate) (transcript : Transcript)
+    → AsksBodies d → AreLawful fates → InTurn d (position n []) transcript → NeverIdle p fates transcript
+never_idle d n p fates transcript asks lawful turns before after items split same =
     let due : IsDue d n (heard before) (sent before) =
     due_at d n [] [] before after items (subst (TurnsFrom d n [] []) split turns) in
     let here : IsDue d n (brought p fates (sent before)) (sent before) =
@@ -196,37 +197,38 @@ shown_prefix SaidPart shown events f =
     )
 
 module _ {E R : Type 0} (d : Dialog E R) (n : ℕ) (p : Programmer) (fates : List Fate) (w : WiredState)
-    (asks : AsksBodies d) (lawful : AreLawful fates) (keeps : Keeps p fates w)
-    (turns : InTurn d (position n []) w.talk) where
-  brings : brought p fates (sent w.talk) ≡ heard w.talk ++ w.waits
-  brings = keeps.brings (never_idle d n p fates w.talk asks lawful turns)
+    (asks : AsksBodies d) (lawful : AreLawful fates) (keeps : FollowsFates p fates w)
+    (turns : InTurn d (position n []) w.transcript) where
+  brings : brought p fates (sent w.transcript) ≡ heard w.transcript ++ w.waits
+  brings = keeps.brings (never_idle d n p fates w.transcript asks lawful turns)
 
   -- what was sent is a prefix of what the play over what was heard sends
   abbrev SendsFirst : Type 0
-  SendsFirst = IsPrefixOf (sent w.talk) (bytes_sent (played d n (heard w.talk)).events)
+  SendsFirst = IsPrefixOf (sent w.transcript) (bytes_sent (played d n (heard w.transcript)).events)
 
   abbrev count : ℕ
-  count = length (frames (sent w.talk))
+  count = length (frames (sent w.transcript))
 
-  goes_along : SendsFirst → GoesOver device d n (fresh_wire p fates) (frames (sent w.talk)) p (turns_of fates)
+  goes_along : SendsFirst → GoesOver device d n (fresh_wire p fates) (frames (sent w.transcript)) p (turns_of fates)
   goes_along prefix =
-      let f = frames_prefix (played d n (heard w.talk)).events (sent w.talk) prefix.0
-      (sends_whole d n (heard w.talk) asks) prefix.1 in
-      let g = played_goes d n (heard w.talk) w.waits in
-      over_wire device answers_bodies d n (fresh_wire p fates) (frames (sent w.talk)) (f.0 ++ g.0) asks (none_clear n)
+      let f = frames_prefix (played d n (heard w.transcript)).events (sent w.transcript) prefix.0
+      (sends_whole d n (heard w.transcript) asks) prefix.1 in
+      let g = played_goes d n (heard w.transcript) w.waits in
+      over_wire device answers_bodies d n (fresh_wire p fates) (frames (sent w.transcript)) (f.0 ++ g.0) asks
+      (none_clear n)
       lawful
       (ap (λ t. frames_in (played d n t).events) brings
-      ∙ (g.1 ∙ (ap (λ fs. fs ++ g.0) f.1 ∙ append_assoc (frames (sent w.talk)) f.0 g.0)))
+      ∙ (g.1 ∙ (ap (λ fs. fs ++ g.0) f.1 ∙ append_assoc (frames (sent w.transcript)) f.0 g.0)))
 
   -- what was heard is honest, by the fates of all frames that the play over it sends
-  pub honest_heard : SendsFirst → AreHonest device d n (heard w.talk) p
-      (becames_of (length (frames_in (played d n (heard w.talk)).events)) fates)
+  pub honest_heard : SendsFirst → AreHonest device d n (heard w.transcript) p
+      (becames_of (length (frames_in (played d n (heard w.transcript)).events)) fates)
   honest_heard prefix =
-      let f = frames_prefix (played d n (heard w.talk)).events (sent w.talk) prefix.0
-      (sends_whole d n (heard w.talk) asks) prefix.1 in
-      let all = length (frames_in (played d n (heard w.talk)).events) in
-      let enough : count ≤ all = omega (arith, ap length f.1, length-append (frames (sent w.talk)) f.0) in
-      honest_prefix device d n (heard w.talk) w.waits p (becames_of all fates)
+      let f = frames_prefix (played d n (heard w.transcript)).events (sent w.transcript) prefix.0
+      (sends_whole d n (heard w.transcript) asks) prefix.1 in
+      let all = length (frames_in (played d n (heard w.transcript)).events) in
+      let enough : count ≤ all = omega (arith, ap length f.1, length-append (frames (sent w.transcript)) f.0) in
+      honest_prefix device d n (heard w.transcript) w.waits p (becames_of all fates)
       (subst (λ t. AreHonest device d n t p (becames_of all fates)) brings ((goes_along prefix).honest all enough))
 
   -- the programmer stands along the line
@@ -235,7 +237,7 @@ module _ {E R : Type 0} (d : Dialog E R) (n : ℕ) (p : Programmer) (fates : Lis
 
   -- where the talk was whole the dialog has said the same and come to the same result there
   module _ (events : List (Event E)) (r : R) (after : Position)
-      (plays : Plays d (position n []) w.talk events r after) (prefix : SendsFirst) where
+      (plays : Plays d (position n []) w.transcript events r after) (prefix : SendsFirst) where
     -- the play along the line
     over : played_along device count d n p (turns_of fates) []
         ≡ record { events = events; outcome = Some (r, after.next, on_tape after.unread ++ w.waits) }

@@ -8,7 +8,7 @@ use Rattle.avr_part.specs.Part.{Part}
 use Rattle.avr_part.specs.declared.part.Mem.{Mem}
 use Rattle.avr_part.specs.declared.part.Mem.TheVariants.{Flash, Eeprom, Lfuse, Hfuse, Efuse, Lock, Signature, Calibration}
 use Rattle.stk_emu.specs.Effect.{Image, Item, Erase, Write, Memories, with_image, and_in, and_with, are_locked, effect, effects, write_effect, memory_in}
-use Rattle.stk_emu.specs.Given.{Holds}
+use Rattle.stk_emu.specs.Given.{HoldsImage}
 use Rattle.avr_course.proofs.Given.Comparisons.{and_from_blank, laid_holds}
 use Rattle.stk_emu.proofs.Memories.LaidImages.{length-and_in, get_and_in}
 use Rattle.avr_course.proofs.Strokes.Pages.{effects_on}
@@ -73,7 +73,7 @@ anded_blank o x b is blank small = ap (λ (p : Option ℕ). and_with p x) is
 
 flash_there : (image : Image) (xs : List ℕ) (is_locked : Bool) → is_locked ≡ false → HoldsBytes image
     → ((i b : ℕ) → byte_at image i ≡ Some b → i < length xs → get_or xs i 0 ≡ 255)
-    → Holds image (if is_locked then xs else and_in image xs)
+    → HoldsImage image (if is_locked then xs else and_in image xs)
 flash_there image xs true free bytes blank = absurd (true≢false free)
 flash_there image xs false free bytes blank = λ i b is l.
     let inside : i < length xs = omega (arith, l, length-and_in image xs) in
@@ -81,16 +81,16 @@ flash_there image xs false free bytes blank = λ i b is l.
     (bytes i b is)
 
 eeprom_there : (image : Image) (xs : List ℕ) (is_locked : Bool) → is_locked ≡ false
-    → Holds image (if is_locked then xs else with_image image xs)
+    → HoldsImage image (if is_locked then xs else with_image image xs)
 eeprom_there image xs true free = absurd (true≢false free)
 eeprom_there image xs false free = laid_holds image xs
 
-one_there : (image : Image) (y : ℕ) → ((b : ℕ) → byte_at image 0 ≡ Some b → y ≡ b) → Holds image (y ∷ [])
+one_there : (image : Image) (y : ℕ) → ((b : ℕ) → byte_at image 0 ≡ Some b → y ≡ b) → HoldsImage image (y ∷ [])
 one_there image y there zero b is l = there b is
 one_there image y there (suc i) b is l = absurd (omega (arith, l))
 
 fuse_there : (image : Image) (x : ℕ) (is_locked : Bool) → is_locked ≡ false
-    → Holds image ((if is_locked then x else unwrap_or (byte_at image 0) x) ∷ [])
+    → HoldsImage image ((if is_locked then x else unwrap_or (byte_at image 0) x) ∷ [])
 fuse_there image x true free = absurd (true≢false free)
 fuse_there image x false free = one_there image (unwrap_or (byte_at image 0) x)
     (λ b is. ap (λ (o : Option ℕ). unwrap_or o x) is)

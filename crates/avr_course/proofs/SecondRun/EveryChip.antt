@@ -12,7 +12,7 @@ use Rattle.avr_part.specs.declared.part.Mem.TheVariants.{Flash, Eeprom, Lfuse, H
 use Rattle.avr_plan.specs.Plan.{Plan}
 use Rattle.avr_session.specs.Actions.{Action, EraseChip, WriteImage, CompareImage, tasks_actions}
 use Rattle.stk_emu.specs.Effect.{Image, Memories, Erase, with_image, and_in, are_locked, erase_keeps_eeprom, write_effect, effect, effects, memory_in}
-use Rattle.stk_emu.specs.Given.{Holds}
+use Rattle.stk_emu.specs.Given.{HoldsImage}
 use Rattle.stk_emu.specs.Settled.{FitsPart}
 use Rattle.avr_course.proofs.Strokes.EachMemory.{keeps_zeros, laid, spares, write_is}
 use Rattle.avr_course.specs.Again.{chip_of, AgreesAnyway}
@@ -54,7 +54,8 @@ third_at (z ∷ zs) (o ∷ os) (m ∷ ms) (suc i) t l =
 third_at [] [] [] i t l = absurd (omega (arith, l))
 third_at zs os ms i t l = absurd t
 
-held_third : (image : Image) (zs os ms : List ℕ) → Thirds zs os ms → Holds image zs → Holds image os → Holds image ms
+held_third : (image : Image) (zs os ms : List ℕ) → Thirds zs os ms → HoldsImage image zs → HoldsImage image os
+    → HoldsImage image ms
 held_third image zs os ms t hz ho = λ i b held l.
     let a = third_at zs os ms i t l in
     a.is (hz i b held a.in_zeros ∙ sym (ho i b held a.in_ones)) ∙ hz i b held a.in_zeros
@@ -73,9 +74,9 @@ alike_written true zeros image zs os ms t = t
 alike_written false true image zs os ms t = (ap (and_in image) t.0, ap (and_in image) t.1)
 alike_written false false image zs os ms t = thirds_laid image zs os ms t
 
-alike_holds : (zeros : Bool) (image : Image) (zs os ms : List ℕ) → Alike zeros zs os ms → Holds image zs
-    → Holds image os → Holds image ms
-alike_holds true image zs os ms t hz ho = subst (Holds image) (sym t.1) hz
+alike_holds : (zeros : Bool) (image : Image) (zs os ms : List ℕ) → Alike zeros zs os ms → HoldsImage image zs
+    → HoldsImage image os → HoldsImage image ms
+alike_holds true image zs os ms t hz ho = subst (HoldsImage image) (sym t.1) hz
 alike_holds false image zs os ms t hz ho = held_third image zs os ms t hz ho
 
 module _ (part : Part) where

@@ -35,7 +35,8 @@ pub true_behind : (stock : Stock) (made : List Writing) (first last : List FileU
     → AreTrue stock (made ++ files_among first) last
 true_behind stock made [] last are = subst (λ fs. AreTrue stock fs last) (sym (append-nil made)) are
 true_behind stock made (Opened opening ∷ first) last are = true_behind stock made first last are.1
-true_behind stock made (Created file ∷ first) last are = grind (arith, nat_tests, true_behind stock (made ++ file ∷ []) first last are, subst, append_assoc)
+true_behind stock made (Created file ∷ first) last are =
+    grind (arith, nat_tests, true_behind stock (made ++ file ∷ []) first last are, subst, append_assoc)
 
 -- what is open is a use too
 of_open : (stock : Stock) (m : MemDeskState) (o : Open) → IsOpenTrue stock m o
@@ -123,7 +124,8 @@ replaced_true ok file old new input stored opened kept = grind (arith, nat_tests
 pub absent_true : (ok : Bool) (name own : Bytes) (old new : MemDeskState) → own ≡ name → None ≡ contents name old
     → new.input ≡ old.input → new.stored ≡ old.stored → new.opened ≡ old.opened
     → new.kept ≡ (if ok then with_absent own old.kept else old.kept) → Stays HoldsTrue old new
-absent_true ok name own old new same none input stored opened kept = grind (arith, nat_tests, changed_true, put_by_true, stands, subst)
+absent_true ok name own old new same none input stored opened kept =
+    grind (arith, nat_tests, changed_true, put_by_true, stands, subst)
 
 -- a file is opened that has these bytes
 pub opened_true : (ok : Bool) (name own bytes first : Bytes) (old new : MemDeskState) → ok ≡ true → own ≡ name

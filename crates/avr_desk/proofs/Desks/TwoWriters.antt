@@ -223,13 +223,15 @@ module _ {S F H I O E : Type 0} (system : Ghosts S F H) (reads : Reads F) (write
   absent_true {b = b} {own = own} same lacks kept =
       rw kept (quiet refl refl
       (λ none. sym (ap has_dash (files_absent own b.kept)) ∙ none) (λ none was. refl)
-      (λ are. files_now are (more_true b.opened b.hold b.kept (Opened (Absent own)) (subst system.lacks (sym same) lacks) are) refl))
+      (λ are. files_now are (more_true b.opened b.hold b.kept (Opened (Absent own))
+      (subst system.lacks (sym same) lacks) are) refl))
 
   -- it was created
   create_true : {b : Desk} {f u : ℕ} {e : Option ErrorKind} {o : Held F I} {k : Record} (x : Writing)
       → k ≡ with_open (ToWrite x) b.kept → is_output o ≡ is_dash x.name → TrueOpen o (ToWrite x)
       → Since b (Next b f u e o b.hold k)
-  create_true {b = b} x kept to_output is = grind (arith, nat_tests, files_opened, quiet, no_dash_in_front, or_parts, no_dash_behind, files_now, uses_true)
+  create_true {b = b} x kept to_output is =
+      grind (arith, nat_tests, files_opened, quiet, no_dash_in_front, or_parts, no_dash_behind, files_now, uses_true)
 
   pub output_true : {b : Desk} {f u : ℕ} {e : Option ErrorKind} {k : Record} {name own : Bytes} → own ≡ name
       → true ≡ is_dash name → k ≡ with_open (ToWrite (record { name = own; bytes = [] })) b.kept
@@ -257,7 +259,8 @@ module _ {S F H I O E : Type 0} (system : Ghosts S F H) (reads : Reads F) (write
       let files = ap has_dash (files_replaced own bytes b.kept) in
       let now = Next b c.failures c.unsaid c.error held.Nothing None (with_replaced own bytes b.kept) in
       let is : c ≡ now = rw (← output, ← messages, ← hold, ← opened, ← kept) refl in
-      subst (Since b) (sym is) (quiet refl refl (λ none. no_dash_in_front (all_files b.kept) (x ∷ []) (sym files ∙ none)) (λ none was. refl)
+      subst (Since b) (sym is) (quiet refl refl (λ none. no_dash_in_front (all_files b.kept) (x ∷ [])
+      (sym files ∙ none)) (λ none was. refl)
       (λ are. record {
         uses = more_true b.opened b.hold b.kept (Created x)
             (inr (inr (subst (λ n. system.replaced n bytes) (sym same) replaced))) are;
@@ -332,7 +335,8 @@ module _ {S F H I O E : Type 0} (system : Ghosts S F H) (reads : Reads F) (write
   write_true {b = b} {old = old} {new = new} bytes was took kept =
       rw kept (quiet refl refl
       (λ none. sym (written_dashes bytes b.kept) ∙ none) (λ none elsewhere. refl)
-      (λ are. files_now are are.uses (write_on old new bytes b.kept.current took (subst (λ (h : Held F I). TrueOpen h b.kept.current) was are.current))))
+      (λ are. files_now are are.uses (write_on old new bytes b.kept.current took
+      (subst (λ (h : Held F I). TrueOpen h b.kept.current) was are.current))))
 
   -- a desk after a call that sent to the output
   abbrev Put : Desk → O → ℕ → ℕ → Option ErrorKind → Record → Desk

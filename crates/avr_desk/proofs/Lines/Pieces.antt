@@ -23,7 +23,8 @@ all_text-append (p ∷ ps) qs = grind (arith, nat_tests, all_text-append ps qs, 
 -- the pieces before the ith, the ith and those after it
 pub all_text_at : (ps : List Piece) (i : ℕ) (d : Piece) → i < length ps
     → all_text ps ≡ all_text (take i ps) ++ (text_of (get_or ps i d) ++ all_text (drop (i + 1) ps))
-all_text_at ps i d l = grind (arith, nat_tests, take-append-drop i ps, all_text-append (take i ps) (drop i ps), drop_more ps i d l)
+all_text_at ps i d l =
+    grind (arith, nat_tests, take-append-drop i ps, all_text-append (take i ps) (drop i ps), drop_more ps i d l)
 
 pub all_text_more : (ps : List Piece) (i : ℕ) (d : Piece) → i < length ps
     → all_text (take (i + 1) ps) ≡ all_text (take i ps) ++ text_of (get_or ps i d)

@@ -66,4 +66,5 @@ sent_next_part s old now new a b c first then =
     let e = sent_next s old now new a (take then.0 b) first then.2 in
     let within : then.0 ≤ length b = then.1 in
     let cut : take (length a + then.0) (a ++ (b ++ c)) ≡ a ++ take then.0 b =
-    take-append-add a (b ++ c) then.0 ∙ ap (λ (x : Bytes). a ++ x) (take-append-le then.0 b c within) in grind (arith, nat_tests, length-append)
+    take-append-add a (b ++ c) then.0 ∙ ap (λ (x : Bytes). a ++ x) (take-append-le then.0 b c within) in grind
+    (arith, nat_tests, length-append)

@@ -5,7 +5,7 @@ use Rattle.std.proofs.lemmas.List.{take-append-drop}
 use Rattle.ghosts.proofs.Failures.{stood_has_not_risen}
 use Rattle.ghosts.specs.Failures.{HasRisen, HasStood}
 use Rattle.avr_desk.specs.Fault.{Counts, Follows, HasFailed, HasFailedAt, HasFailedToSay, HasSameCounts}
-use Rattle.avr_desk.specs.Record.{DeskView}
+use Rattle.avr_desk.specs.Record.{DeskState}
 use Rattle.avr_desk.specs.declared.desk.DeskFault.{DeskFault}
 use Rattle.avr_desk.specs.declared.desk.DeskFault.TheVariants.{NotFound, Failed}
 use Rattle.avr_desk.specs.declared.stream.Stream.{Stream}
@@ -13,44 +13,44 @@ use Rattle.avr_desk.specs.declared.stream.Stream.TheVariants.{File, Messages}
 use Rattle.avr_desk.specs.Said.{IsPrinted, TellsLine, Tells, TellsFailure}
 
 -- a desk follows itself
-pub follows_here : (a : DeskView) → Follows a a
+pub follows_here : (a : DeskState) → Follows a a
 follows_here a = (omega arith, omega arith)
 
 -- and one that follows one that follows another
-pub follows_on : (a b c : DeskView) → Follows a b → Follows b c → Follows a c
+pub follows_on : (a b c : DeskState) → Follows a b → Follows b c → Follows a c
 follows_on a b c first then = (omega (arith, first.0, then.0), omega (arith, first.1, then.1))
 
 -- no failure was counted of one that is as it was, nor after one and another
-pub same_here : (a : DeskView) → HasSameCounts a a
+pub same_here : (a : DeskState) → HasSameCounts a a
 same_here a = (refl, refl)
 
-pub same_on : (a b c : DeskView) → HasSameCounts a b → HasSameCounts b c → HasSameCounts a c
+pub same_on : (a b c : DeskState) → HasSameCounts a b → HasSameCounts b c → HasSameCounts a c
 same_on a b c first then = (then.0 ∙ first.0, then.1 ∙ first.1)
 
 -- and such a desk follows
-pub follows_same : (a b : DeskView) → HasSameCounts a b → Follows a b
+pub follows_same : (a b : DeskState) → HasSameCounts a b → Follows a b
 follows_same a b same = (omega (arith, same.0), omega (arith, same.1))
 
 -- a failure at the file, or at the messages, is the first since before where none was counted
-pub failed_since : (a b c : DeskView) → HasSameCounts a b → HasFailedAt File b c → HasFailedAt File a c
+pub failed_since : (a b c : DeskState) → HasSameCounts a b → HasFailedAt File b c → HasFailedAt File a c
 failed_since a b c same failed = (subst (λ n. HasRisen n c.failures) same.0 failed.0, failed.1 ∙ same.1)
 
-pub unsaid_since : (a b c : DeskView) → HasSameCounts a b → HasFailedToSay b c → HasFailedToSay a c
+pub unsaid_since : (a b c : DeskState) → HasSameCounts a b → HasFailedToSay b c → HasFailedToSay a c
 unsaid_since a b c same failed = grind (arith, nat_tests)
 
 -- a desk whose count stood has not failed in between
-pub not_failed : (a b c d : DeskView) → Follows a b → Follows c d → HasStood a.failures d.failures → HasFailed b c → ⊥
+pub not_failed : (a b c d : DeskState) → Follows a b → Follows c d → HasStood a.failures d.failures → HasFailed b c → ⊥
 not_failed a b c d first last = stood_has_not_risen a.failures b.failures c.failures d.failures first.0 last.0
 
 -- a failed call is counted
-pub failed_by : (stream : Stream) (old new : DeskView) (result : Result (Unit {0}) DeskFault) (fault : DeskFault)
+pub failed_by : (stream : Stream) (old new : DeskState) (result : Result (Unit {0}) DeskFault) (fault : DeskFault)
     → result ≡ Err fault → IfErr result (λ e. e ≡ Failed)
     → Counts stream old new result → HasFailedAt stream old new
 failed_by stream old new (Err Failed) fault is only counts = counts.1
 failed_by stream old new x fault is only counts = cc
 
 -- a line that was printed, or a prefix of it
-pub tells_line : (old new : DeskView) (line : List ℕ) (printed : Result (Unit {0}) DeskFault)
+pub tells_line : (old new : DeskState) (line : List ℕ) (printed : Result (Unit {0}) DeskFault)
     → IsPrinted old new line printed
     → Counts Messages old new printed → IfErr printed (λ e. e ≡ Failed) → Tells old new line
 tells_line old new line (Ok done) is counts only = grind (arith, nat_tests)
@@ -58,17 +58,17 @@ tells_line old new line (Err NotFound) is counts only = cc
 tells_line old new line (Err Failed) is counts only = grind (arith, nat_tests, take-append-drop is.0 line)
 
 -- what was reported since then was reported since before, where no failure was counted
-pub tells_since : (line told : List ℕ) (a b c : DeskView) → HasSameCounts a b → TellsLine line told b c
+pub tells_since : (line told : List ℕ) (a b c : DeskState) → HasSameCounts a b → TellsLine line told b c
     → TellsLine line told a c
 tells_since line told a b c first (inl whole) = inl (whole.0, same_on a b c first whole.1)
 tells_since line told a b c first (inr part) = inr (part.0, unsaid_since a b c first part.1)
 
-pub failure_since : (line told : List ℕ) (a b c : DeskView) → HasSameCounts a b → TellsFailure line told b c
+pub failure_since : (line told : List ℕ) (a b c : DeskState) → HasSameCounts a b → TellsFailure line told b c
     → TellsFailure line told a c
 failure_since line told a b c first failure = grind (arith, nat_tests)
 
 -- The desk failed, and from then on that was reported.
-pub failure_told : (old mid new : DeskView) (line : List ℕ) → Follows old mid → HasFailedAt File old mid
+pub failure_told : (old mid new : DeskState) (line : List ℕ) → Follows old mid → HasFailedAt File old mid
     → (told : Tells mid new line)
     → TellsFailure line told.told old new
 failure_told old mid new line rose failed told = grind (arith, nat_tests)

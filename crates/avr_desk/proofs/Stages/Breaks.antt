@@ -3,7 +3,7 @@ use Rattle.std.proofs.lemmas.Bool.Decides.{nat_tests}
 use Rattle.std.proofs.Common.{arith, ◌≡◌, ◌∙◌, sym, ap, subst, refl, ℕ, ◌⊎◌, inl, inr, List, [], ◌∷◌, ◌++◌, drop, append-nil, append_assoc, Result, Ok, Err, true, false}
 use Rattle.std.proofs.lemmas.List.{append_cancel_left}
 use Rattle.ghosts.specs.Failures.{HasStood}
-use Rattle.avr_desk.specs.Record.{DeskView, Record, showing, all_openings, opening_of, openings_among, after_err, written_on, Bytes}
+use Rattle.avr_desk.specs.Record.{DeskState, Record, showing, all_openings, opening_of, openings_among, after_err, written_on, Bytes}
 use Rattle.avr_desk.specs.declared.record.Open.{Open}
 use Rattle.avr_desk.specs.declared.record.Open.TheVariants.{ToRead, ToWrite}
 use Rattle.avr_desk.specs.declared.record.Opening.{Opening}
@@ -31,7 +31,8 @@ told_last : (before after : Record) (said last : List Saying) (told line : Bytes
 told_last before after said last told line whole ends kept = grind (arith, nat_tests, after_append)
 
 -- of a desk that did not fail a line was reported whole
-whole_line : (line told : Bytes) (old new : DeskView) → HasStood old.failures new.failures → TellsLine line told old new
+whole_line : (line told : Bytes) (old new : DeskState) → HasStood old.failures new.failures
+    → TellsLine line told old new
     → told ≡ line
 whole_line line told old new sound (inl whole) = whole.0
 whole_line line told old new sound (inr part) = grind (arith, nat_tests)
@@ -41,10 +42,10 @@ broke_lacks : {A : Type 0} (taking : Taking) (stage : Stage A) (before after : R
     → StageBrokeOff taking stage (showing before k m) (showing after l n) → EndsWith memory_line after
 broke_lacks taking stage before after k l m n sound b = by_break b.break b.told b.tells b.kept
   where
-    old : DeskView
+    old : DeskState
     old = showing before k m
 
-    new : DeskView
+    new : DeskState
     new = showing after l n
 
     by_break : (break : Break) (told : Bytes) → TellsBreak break told old new
@@ -165,10 +166,10 @@ only_told r told line kept = grind (arith, nat_tests, append_cancel_left)
 -- memory was refused, and that was, where it is taken before anything was said.
 module _ {A : Type 0} (taking : Taking) (name told : Bytes) (stage : Stage A) (begins : Begins name stage) (r : Record)
     (k l m n : ℕ) where
-  abbrev pub Old : DeskView
+  abbrev pub Old : DeskState
   Old = showing r k m
 
-  abbrev pub New : DeskView
+  abbrev pub New : DeskState
   New = showing (after_err told r) l n
 
   abbrev pub Told : Type 0
@@ -244,10 +245,10 @@ module _ {A : Type 0} (taking : Taking) (name told : Bytes) (stage : Stage A) (b
 -- it was read to its end, and this is what it comes to
 module _ {A : Type 0} (name : Bytes) (limit : ℕ) (judge : Bytes → Result A Bytes) (bytes told : Bytes) (good : A)
     (given : judge bytes ≡ Ok good) (taking : Taking) (r : Record) (k l m n : ℕ) where
-  abbrev Before : DeskView
+  abbrev Before : DeskState
   Before = showing r k m
 
-  abbrev After : DeskView
+  abbrev After : DeskState
   After = showing (after_all (Opens (Found (record { name = name; bytes = bytes; ended = true })) ∷ Line told ∷ []) r) l
       n
 
@@ -366,10 +367,10 @@ module _ {A : Type 0} (line told : Bytes) (stage : Stage A)
     (refuses : (openings : List Opening) → stage openings
     ≡ record { says = []; answer = Refused line; left = openings })
     (taking : Taking) (r : Record) (k l m n : ℕ) where
-  abbrev Here : DeskView
+  abbrev Here : DeskState
   Here = showing r k m
 
-  abbrev There : DeskView
+  abbrev There : DeskState
   There = showing (after_err told r) l n
 
   abbrev pub TellsOne : Type 0

@@ -2,7 +2,7 @@
 use Rattle.std.proofs.Common.{◌≡◌, refl, ℕ, Bool, true, false, List, Result, Ok, Err}
 use Rattle.avr_desk.specs.Fault.{Follows, HasSameCounts}
 use Rattle.avr_desk.specs.Files.{IsWhole, with_read, FileBreaks, IsCounted}
-use Rattle.avr_desk.specs.Record.{DeskView, Passes, Bytes}
+use Rattle.avr_desk.specs.Record.{DeskState, Passes, Bytes}
 use Rattle.avr_desk.specs.declared.files.FileFault.{FileFault}
 use Rattle.avr_desk.specs.declared.files.FileFault.TheVariants as file_fault
 use Rattle.avr_desk.specs.declared.record.Opening.{Opening}
@@ -21,7 +21,7 @@ taken_never passed said never = let clash : false ≡ true = never.0 in cc
 
 module _ {A : Type 0} (taking : Taking) (name : Bytes) (limit : ℕ) (judge : Bytes → Result A Bytes) where
   -- the judgment of what the file gave
-  pub goes_whole : (bytes : Bytes) (ended : Bool) (old mid new : DeskView) (result : Result A ℕ)
+  pub goes_whole : (bytes : Bytes) (ended : Bool) (old mid new : DeskState) (result : Result A ℕ)
       → Passes (with_read name bytes ended) old mid → IsWhole limit (record { bytes = bytes; ended = ended })
       → HasSameCounts old mid
       → Goes (AtStart false) (verdict_stage (judge bytes)) mid new result
@@ -32,7 +32,7 @@ module _ {A : Type 0} (taking : Taking) (name : Bytes) (limit : ℕ) (judge : By
       kept same (λ passed said never. absurd (taken_never passed said never))
       (goes_judged (AtStart false) name limit judge reading mid new result whole goes)
 
-  pub went_whole : (bytes : Bytes) (ended : Bool) (old mid : DeskView) (a : A)
+  pub went_whole : (bytes : Bytes) (ended : Bool) (old mid : DeskState) (a : A)
       → Passes (with_read name bytes ended) old mid → IsWhole limit (record { bytes = bytes; ended = ended })
       → HasSameCounts old mid
       → Went (verdict_stage (judge bytes)) mid mid (Made a) → Went (file_stage name limit judge) old mid (Made a)
@@ -40,7 +40,7 @@ module _ {A : Type 0} (taking : Taking) (name : Bytes) (limit : ℕ) (judge : By
       goes_whole bytes ended old mid mid (Ok a) kept whole same went
 
   -- any fault of the reading
-  pub goes_file_fault : (fault : FileFault) (old mid new : DeskView) (status : ℕ)
+  pub goes_file_fault : (fault : FileFault) (old mid new : DeskState) (status : ℕ)
       → FileBreaks name old mid fault → Follows old mid → IsCounted old mid fault → status ≡ 1
       → Tells mid new (file_fault_line name fault)
       → Goes taking (file_stage name limit judge) old new (Err status)

@@ -3,7 +3,7 @@ use Rattle.std.proofs.Common.{◌≡◌, refl, subst, ap, arith, ℕ, List, [], 
 use Rattle.std.proofs.lemmas.Bool.Decides.{nat_tests}
 use Rattle.avr_desk.specs.Fault.{Follows, HasFailedAt, HasSameCounts}
 use Rattle.avr_desk.specs.Files.{FaultCounts, IsWhole, ReadsFile, with_read, FileBreaks, IsCounted}
-use Rattle.avr_desk.specs.Record.{DeskView, Record, Passes, after_err, nothing_kept, showing, Bytes}
+use Rattle.avr_desk.specs.Record.{DeskState, Record, Passes, after_err, nothing_kept, showing, Bytes}
 use Rattle.avr_desk.specs.declared.files.FileFault.{FileFault}
 use Rattle.avr_desk.specs.declared.files.FileFault.TheVariants as file_fault
 use Rattle.avr_desk.specs.declared.record.Opening.{Opening}
@@ -25,7 +25,7 @@ after_opening more opening = record { says = Opens opening ∷ []; answer = Made
 
 -- the file of this name gave this, and so the stage goes on
 pub goes_opened : {A : Type 0} (inner taking : Taking) (name : Bytes) (next : Opening → Stage A) (opening : Opening)
-    (old mid new : DeskView) (result : Result A ℕ)
+    (old mid new : DeskState) (result : Result A ℕ)
     → under_name name opening ≡ opening → Passes (after_all (Opens opening ∷ [])) old mid → HasSameCounts old mid
     → ((passed : List Opening) (said : List Saying) → inner passed said
     → taking (opening ∷ passed) (Opens opening ∷ said))
@@ -48,7 +48,7 @@ whole-is limit bytes false whole = let past = whole.0 in grind (arith, nat_tests
 -- it was read to its end or past the limit, and judged
 pub goes_judged : {A : Type 0} (taking : Taking) (name : Bytes) (limit : ℕ) (judge : Bytes → Result A Bytes)
     (reading : Reading)
-    (old new : DeskView) (result : Result A ℕ)
+    (old new : DeskState) (result : Result A ℕ)
     → IsWhole limit (record { bytes = reading.bytes; ended = reading.ended })
     → Goes taking (verdict_stage (judge reading.bytes)) old new result
     → Goes taking (content_stage name limit judge (Found reading)) old new result
@@ -57,7 +57,7 @@ goes_judged taking name limit judge reading old new result whole goes = grind (a
 -- ---- the opening broke off
 
 broke_opening : {A : Type 0} (taking : Taking) (name : Bytes) (next : Opening → Stage A) (break : Break) (told : Bytes)
-    (old new : DeskView) (status : ℕ)
+    (old new : DeskState) (status : ℕ)
     → TakesThere taking break [] [] → status ≡ 1
     → ((more : List Opening) → IsBreak break more (Opens (next_opening name more) ∷ []))
     → TellsBreak break told old new
@@ -66,7 +66,7 @@ broke_opening : {A : Type 0} (taking : Taking) (name : Bytes) (next : Opening �
 broke_opening taking name next break told old new status taken one is tells kept follows = grind (arith, nat_tests)
 
 -- the file could not be opened
-goes_unopened : {A : Type 0} (taking : Taking) (name : Bytes) (next : Opening → Stage A) (old mid new : DeskView)
+goes_unopened : {A : Type 0} (taking : Taking) (name : Bytes) (next : Opening → Stage A) (old mid new : DeskState)
     (status : ℕ)
     → mid.kept ≡ old.kept → Follows old mid → HasFailedAt File old mid → status ≡ 1
     → Tells mid new (not_opened_line name)
@@ -78,7 +78,7 @@ goes_unopened taking name next old mid new status same rose failed one told =
     (follows_on old mid new rose told.follows)
 
 -- or not be read on
-goes_unread : {A : Type 0} (taking : Taking) (name bytes : Bytes) (next : Opening → Stage A) (old mid new : DeskView)
+goes_unread : {A : Type 0} (taking : Taking) (name bytes : Bytes) (next : Opening → Stage A) (old mid new : DeskState)
     (status : ℕ)
     → Passes (with_read name bytes false) old mid → Follows old mid → HasFailedAt File old mid → status ≡ 1
     → Tells mid new (not_read_line name) → Goes taking (open_stage name >>= next) old new (Err status)
@@ -90,7 +90,7 @@ goes_unread taking name bytes next old mid new status kept rose failed one told 
 
 -- or there was no memory for it
 goes_unheld : {A : Type 0} (taking : Taking) (name bytes : Bytes) (ended : Bool) (next : Opening → Stage A)
-    (old mid new : DeskView)
+    (old mid new : DeskState)
     (status : ℕ)
     → Passes (with_read name bytes ended) old mid → HasSameCounts old mid → status ≡ 1 → Tells mid new memory_line
     → Goes taking (open_stage name >>= next) old new (Err status)
@@ -103,7 +103,7 @@ goes_unheld taking name bytes ended next old mid new status kept same one told =
 
 -- any fault of the file but that it is not there
 pub goes_broken : {A : Type 0} (taking : Taking) (name : Bytes) (next : Opening → Stage A) (fault : FileFault)
-    (old mid new : DeskView)
+    (old mid new : DeskState)
     (status : ℕ)
     → (fault ≡ file_fault.Absent → ⊥) → FileBreaks name old mid fault → Follows old mid → IsCounted old mid fault
     → status ≡ 1 → Tells mid new (file_fault_line name fault)

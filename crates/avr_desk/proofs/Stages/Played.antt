@@ -2,7 +2,7 @@
 use Rattle.std.proofs.lemmas.Bool.Decides.{nat_tests}
 use Rattle.std.proofs.Common.{arith, ◌≡◌, sym, subst, inl, inr, ap, List, [], ◌∷◌, ◌++◌, ℕ, take, drop, refl, Ok, Err, Result, append_assoc, append-nil}
 use Rattle.std.proofs.lemmas.List.{take-append-drop}
-use Rattle.avr_desk.specs.Record.{DeskView, Passes}
+use Rattle.avr_desk.specs.Record.{DeskState, Passes}
 use Rattle.avr_desk.specs.Fault.{HasFailedToSay, HasSameCounts, Counts, Follows}
 use Rattle.avr_desk.specs.declared.desk.DeskFault.{DeskFault}
 use Rattle.avr_desk.specs.declared.desk.DeskFault.TheVariants.{NotFound, Failed}
@@ -18,7 +18,7 @@ use Rattle.avr_desk.specs.Stage.{Stage, StageAnswer, Made, Refused, StageResult,
 
 -- ---- counts
 
-break_since : (break : Break) (told : List ℕ) (first old new : DeskView) → HasSameCounts first old
+break_since : (break : Break) (told : List ℕ) (first old new : DeskState) → HasSameCounts first old
     → TellsBreak break told old new → TellsBreak break told first new
 break_since (InLine line) told first old new same tells = (tells.0, unsaid_since first old new same tells.1)
 break_since NoMemory told first old new same tells = tells_since memory_line told first old new same tells
@@ -55,7 +55,8 @@ rest_on : {A B : Type 0} (says : List Saying) (left : List Opening) (go_on : A �
     (whole : List Saying) (break : Break) (more : List Opening)
     → Rest (record { says = says; answer = answer; left = left }) whole break more
     → Rest (going_on says left go_on answer) whole break more
-rest_on says left go_on (Made a) whole break more rest = grind (arith, nat_tests, append_assoc, subst, told_append, break_more)
+rest_on says left go_on (Made a) whole break more rest =
+    grind (arith, nat_tests, append_assoc, subst, told_append, break_more)
 rest_on says left go_on x whole break more rest = grind (arith, nat_tests)
 
 rest_more : {A B : Type 0} (p : StageResult A) (go_on : A → Stage B) (whole : List Saying) (break : Break)
@@ -70,13 +71,13 @@ rest_behind : {A : Type 0} (says whole : List Saying) (p : StageResult A) (break
 rest_behind says whole p break more rest = grind (arith, nat_tests, append_assoc)
 
 -- a stage that made something, and openings after its own
-pub made_then : {A B : Type 0} (stage : Stage A) (go_on : A → Stage B) (old new : DeskView) (a : A)
+pub made_then : {A B : Type 0} (stage : Stage A) (go_on : A → Stage B) (old new : DeskState) (a : A)
     (w : Went stage old new (Made a))
     (later : List Opening)
     → (stage >>= go_on) (w.passed ++ later) ≡ behind_sayings w.says (go_on a later)
 made_then stage go_on old new a w later = ap (λ p. going_on p.says p.left go_on p.answer) (w.comes later)
 
-pub went_went : {A B : Type 0} (stage : Stage A) (go_on : A → Stage B) (old mid new : DeskView) (a : A)
+pub went_went : {A B : Type 0} (stage : Stage A) (go_on : A → Stage B) (old mid new : DeskState) (a : A)
     (answer : StageAnswer B)
     → Went stage old mid (Made a)
     → Went (go_on a) mid new answer → Went (stage >>= go_on) old new answer
@@ -95,12 +96,12 @@ taken_there inner taking NoMemory passed all said told there is = there is
 taken_there inner taking x passed all said told there is = tt
 
 -- what takes memory after a stage that made something
-abbrev pub TakesBehind : {A : Type 0} (inner taking : Taking) (stage : Stage A) (old mid : DeskView) (a : A)
+abbrev pub TakesBehind : {A : Type 0} (inner taking : Taking) (stage : Stage A) (old mid : DeskState) (a : A)
     → Went stage old mid (Made a) → Type 0
 TakesBehind inner taking stage old mid a first = (passed : List Opening) (said : List Saying) → inner passed said
     → taking (first.passed ++ passed) (first.says ++ said)
 
-went_broke : {A B : Type 0} (inner taking : Taking) (stage : Stage A) (go_on : A → Stage B) (old mid new : DeskView)
+went_broke : {A B : Type 0} (inner taking : Taking) (stage : Stage A) (go_on : A → Stage B) (old mid new : DeskState)
     (a : A) (first : Went stage old mid (Made a))
     → TakesBehind inner taking stage old mid a first
     → StageBrokeOff inner (go_on a) mid new → StageBrokeOff taking (stage >>= go_on) old new
@@ -116,17 +117,17 @@ went_broke inner taking stage go_on old mid new a first behind then = record {
   follows = follows_on old mid new (follows_same old mid first.sound) then.follows;
 }
 
-refused_then : {A B : Type 0} (stage : Stage A) (go_on : A → Stage B) (old new : DeskView) (line : List ℕ)
+refused_then : {A B : Type 0} (stage : Stage A) (go_on : A → Stage B) (old new : DeskState) (line : List ℕ)
     → Went stage old new (Refused line)
     → Went (stage >>= go_on) old new (Refused line)
 refused_then stage go_on old new line first = grind (arith, nat_tests)
 
-broke_then : {A B : Type 0} (taking : Taking) (stage : Stage A) (go_on : A → Stage B) (old new : DeskView)
+broke_then : {A B : Type 0} (taking : Taking) (stage : Stage A) (go_on : A → Stage B) (old new : DeskState)
     → StageBrokeOff taking stage old new → StageBrokeOff taking (stage >>= go_on) old new
 broke_then taking stage go_on old new first = grind (arith, nat_tests, rest_more)
 
 -- a stage that made something, and how the next one goes
-pub goes_on : {A B : Type 0} (inner taking : Taking) (stage : Stage A) (go_on : A → Stage B) (old mid new : DeskView)
+pub goes_on : {A B : Type 0} (inner taking : Taking) (stage : Stage A) (go_on : A → Stage B) (old mid new : DeskState)
     (a : A) (result : Result B ℕ) (went : Went stage old mid (Made a))
     → TakesBehind inner taking stage old mid a went
     → Goes inner (go_on a) mid new result → Goes taking (stage >>= go_on) old new result
@@ -138,13 +139,13 @@ goes_on inner taking stage go_on old mid new a (Err status) went behind (one, in
     (one, inr (went_broke inner taking stage go_on old mid new a went behind then))
 
 -- a stage that made nothing
-pub goes_no_further : {A B : Type 0} (taking : Taking) (stage : Stage A) (go_on : A → Stage B) (old new : DeskView)
+pub goes_no_further : {A B : Type 0} (taking : Taking) (stage : Stage A) (go_on : A → Stage B) (old new : DeskState)
     (status : ℕ) → Goes taking stage old new (Err status) → Goes taking (stage >>= go_on) old new (Err status)
 goes_no_further taking stage go_on old new status (one, inl went) = grind (arith, nat_tests)
 goes_no_further taking stage go_on old new status (one, inr broke) = grind (arith, nat_tests, broke_then)
 
 -- where memory may be refused in more places
-pub goes_within : {A : Type 0} (inner taking : Taking) (stage : Stage A) (old new : DeskView) (result : Result A ℕ)
+pub goes_within : {A : Type 0} (inner taking : Taking) (stage : Stage A) (old new : DeskState) (result : Result A ℕ)
     → ((passed : List Opening) (said : List Saying) → inner passed said → taking passed said)
     → Goes inner stage old new result → Goes taking stage old new result
 goes_within inner taking stage old new (Ok a) within went = went
@@ -154,18 +155,18 @@ goes_within inner taking stage old new (Err status) within (one, inr broke) = gr
 -- ---- stages that read nothing
 
 -- nothing is said or read
-pub went_nowhere : {A : Type 0} (d : DeskView) (a : A) → Went (verdict_stage (Ok a)) d d (Made a)
+pub went_nowhere : {A : Type 0} (d : DeskState) (a : A) → Went (verdict_stage (Ok a)) d d (Made a)
 went_nowhere d a = record { passed = []; says = []; comes = λ more. refl; kept = kept_none d.kept; sound = same_here d }
 
 -- a line was printed whole
-told_whole : {A : Type 0} (old new : DeskView) (line : List ℕ) → Passes (after_all (Line line ∷ [])) old new
+told_whole : {A : Type 0} (old new : DeskState) (line : List ℕ) → Passes (after_all (Line line ∷ [])) old new
     → HasSameCounts old new
     → Went {A = A} (verdict_stage (Err line)) old new (Refused line)
 told_whole old new line kept same =
     record { passed = []; says = []; comes = λ more. refl; kept = kept; sound = same }
 
 -- or it broke off there
-broke_here : {A : Type 0} (taking : Taking) (stage : Stage A) (old new : DeskView) (break : Break) (told : List ℕ)
+broke_here : {A : Type 0} (taking : Taking) (stage : Stage A) (old new : DeskState) (break : Break) (told : List ℕ)
     → TakesThere taking break [] []
     → ((more : List Opening) → IsBreak break more (all_told (stage more).says (stage more).answer))
     → TellsBreak break told old new
@@ -173,7 +174,7 @@ broke_here : {A : Type 0} (taking : Taking) (stage : Stage A) (old new : DeskVie
 broke_here taking stage old new break told taken is tells kept follows = grind (arith, nat_tests)
 
 -- a refusal that was reported, or a prefix of its line
-refused_by : {A : Type 0} (taking : Taking) (old new : DeskView) (line told : List ℕ) → TellsLine line told old new
+refused_by : {A : Type 0} (taking : Taking) (old new : DeskState) (line told : List ℕ) → TellsLine line told old new
     → Passes (after_all (Line told ∷ [])) old new → Follows old new
     → Goes {A = A} taking (verdict_stage (Err line)) old new (Err 1)
 refused_by {A} taking old new line told (inl whole) kept follows = (
@@ -190,44 +191,44 @@ refused_by {A} taking old new line told (inr part) kept follows = (
       kept follows),
 )
 
-pub goes_refused : {A : Type 0} (taking : Taking) (old new : DeskView) (line : List ℕ) (status : ℕ) → status ≡ 1
+pub goes_refused : {A : Type 0} (taking : Taking) (old new : DeskState) (line : List ℕ) (status : ℕ) → status ≡ 1
     → Tells old new line → Goes {A = A} taking (verdict_stage (Err line)) old new (Err status)
 goes_refused {A} taking old new line status one told =
     (one, (refused_by {A = A} taking old new line told.told told.tells told.kept told.follows).1)
 
 -- memory that was refused
-pub goes_without_memory : {A : Type 0} (taking : Taking) (stage : Stage A) (old new : DeskView) (status : ℕ)
+pub goes_without_memory : {A : Type 0} (taking : Taking) (stage : Stage A) (old new : DeskState) (status : ℕ)
     → taking [] [] → status ≡ 1 → Tells old new memory_line → Goes taking stage old new (Err status)
 goes_without_memory taking stage old new status takes one told =
     (one, inr (broke_here taking stage old new NoMemory told.told takes (λ more. tt) told.tells told.kept told.follows))
 
 -- ---- judgments, and what is said
 
-pub went_settled : {A : Type 0} (r : Result A (List ℕ)) (a : A) (d : DeskView) → r ≡ Ok a
+pub went_settled : {A : Type 0} (r : Result A (List ℕ)) (a : A) (d : DeskState) → r ≡ Ok a
     → Went (verdict_stage r) d d (Made a)
 went_settled r a d is = subst (λ x. Went (verdict_stage x) d d (Made a)) (sym is) (went_nowhere d a)
 
-pub goes_unsettled : {A : Type 0} (taking : Taking) (r : Result A (List ℕ)) (line : List ℕ) (old new : DeskView)
+pub goes_unsettled : {A : Type 0} (taking : Taking) (r : Result A (List ℕ)) (line : List ℕ) (old new : DeskState)
     (status : ℕ) → r ≡ Err line → status ≡ 1 → Tells old new line → Goes taking (verdict_stage r) old new (Err status)
 goes_unsettled taking r line old new status is one told =
     subst (λ x. Goes taking (verdict_stage x) old new (Err status)) (sym is)
     (goes_refused taking old new line status one told)
 
-pub went_silent : (d : DeskView) → Went (saying_stage []) d d (Made tt)
+pub went_silent : (d : DeskState) → Went (saying_stage []) d d (Made tt)
 went_silent d = record { passed = []; says = []; comes = λ more. refl; kept = kept_none d.kept; sound = same_here d }
 
-pub went_saying : (old new : DeskView) (line : List ℕ) → Passes (after_all (Line line ∷ [])) old new
+pub went_saying : (old new : DeskState) (line : List ℕ) → Passes (after_all (Line line ∷ [])) old new
     → HasSameCounts old new → Went (saying_stage (Line line ∷ [])) old new (Made tt)
 went_saying old new line kept same =
     record { passed = []; says = Line line ∷ []; comes = λ more. refl; kept = kept; sound = same }
 
 -- a failed call is counted
-failed_counts : (old new : DeskView) (fault : DeskFault) → fault ≡ Failed
+failed_counts : (old new : DeskState) (fault : DeskFault) → fault ≡ Failed
     → Counts {T = Unit {0}} Messages old new (Err fault) → HasFailedToSay old new
 failed_counts old new NotFound is counts = cc
 failed_counts old new Failed is counts = counts.1
 
-pub goes_saying_part : (taking : Taking) (old new : DeskView) (line : List ℕ) (fault : DeskFault)
+pub goes_saying_part : (taking : Taking) (old new : DeskState) (line : List ℕ) (fault : DeskFault)
     → SendsPart Messages old new line → fault ≡ Failed → Counts {T = Unit {0}} Messages old new (Err fault)
     → Goes taking (saying_stage (Line line ∷ [])) old new (Err 1)
 goes_saying_part taking old new line fault part is counts = (
@@ -238,13 +239,13 @@ goes_saying_part taking old new line fault part is counts = (
 )
 
 -- what was made, made into something else
-pub went_into : {A B : Type 0} (stage : Stage A) (f : A → B) (old new : DeskView) (a : A) → Went stage old new (Made a)
+pub went_into : {A B : Type 0} (stage : Stage A) (f : A → B) (old new : DeskState) (a : A) → Went stage old new (Made a)
     → Went (stage >>= λ x. verdict_stage (Ok (f x))) old new (Made (f a))
 went_into stage f old new a went = went_went stage (λ x. verdict_stage (Ok (f x))) old new new a (Made (f a)) went
     (went_nowhere new (f a))
 
 -- however a stage goes, the counts of failures never fall
-pub goes_follows : {A : Type 0} (taking : Taking) (stage : Stage A) (old new : DeskView) (result : Result A ℕ)
+pub goes_follows : {A : Type 0} (taking : Taking) (stage : Stage A) (old new : DeskState) (result : Result A ℕ)
     → Goes taking stage old new result → Follows old new
 goes_follows taking stage old new (Ok a) went = follows_same old new went.sound
 goes_follows taking stage old new (Err status) (one, inl went) = follows_same old new went.1.sound

@@ -22,7 +22,8 @@ pub get_or-shown_from : (k : ℕ) (words bytes : List ℕ) (i : ℕ) → i < len
     → get_or (shown_from k words bytes) i None ≡ shown_byte words (k + i) (get_or bytes i 0)
 get_or-shown_from k words [] i l = absurd (omega (arith, l))
 get_or-shown_from k words (b ∷ bs) zero l = ap (λ (n : ℕ). shown_byte words n b) (omega arith)
-get_or-shown_from k words (b ∷ bs) (suc i) l = grind (arith, nat_tests, get_or-shown_from (suc k) words bs i (omega (arith, l)))
+get_or-shown_from k words (b ∷ bs) (suc i) l =
+    grind (arith, nat_tests, get_or-shown_from (suc k) words bs i (omega (arith, l)))
 
 pub byte_at-shown : (words bytes : List ℕ) (i : ℕ) → i < length bytes
     → byte_at (dense_image words bytes) i ≡ shown_byte words i (get_or bytes i 0)
@@ -64,7 +65,8 @@ get_or-zeros x y = refl
 
 pub shown_from-zeros : (k n m b : ℕ) → shown_from k (replicate m 0) (replicate n b) ≡ replicate n None
 shown_from-zeros k zero m b = refl
-shown_from-zeros k (suc n) m b = grind (arith, nat_tests, shown_from-zeros (suc k) n m b, replicate, get_or-zeros, bit_at-zero)
+shown_from-zeros k (suc n) m b =
+    grind (arith, nat_tests, shown_from-zeros (suc k) n m b, replicate, get_or-zeros, bit_at-zero)
 
 pub count-none : (n : ℕ) → count_by is_some (replicate {A = Option ℕ} n None) ≡ 0
 count-none zero = refl
@@ -135,7 +137,8 @@ past words bytes {image} i seen l = grind (arith, nat_tests, byte_at-past, lengt
 pub blank-marked : (words bytes : List ℕ) (a b : ℕ) → a < length bytes → a / 64 < length words
     → ((i : ℕ) → i < length bytes → is_present words i ≡ false → get_or bytes i 0 ≡ 255)
     → (i : ℕ) → i < length (set bytes a b) → is_present (with_mark words a) i ≡ false → get_or (set bytes a b) i 0 ≡ 255
-blank-marked words bytes a b l within blank i j none = grind (arith, nat_tests, cases_eq, present-same, get_or-set_other, length-set, present-other)
+blank-marked words bytes a b l within blank i j none =
+    grind (arith, nat_tests, cases_eq, present-same, get_or-set_other, length-set, present-other)
 
 -- a byte as it is kept is what `fill` writes for its address
 pub kept_byte : (words bytes : List ℕ) {image : List (Option ℕ)} (a : ℕ) → dense_image words bytes ≡ image
@@ -243,7 +246,8 @@ kept_whole words bytes {image} seen blank =
 -- what is kept as bytes is seen as bytes
 pub holds_bytes : (words bytes : List ℕ) {image : List (Option ℕ)} → dense_image words bytes ≡ image
     → ((i : ℕ) → get_or bytes i 0 < 256) → HoldsBytes image
-holds_bytes words bytes {image} seen small addr byte is = grind (arith, nat_tests, cases_lt, byte_at-shown, cases_Bool, past, byte_at-past, sized)
+holds_bytes words bytes {image} seen small addr byte is =
+    grind (arith, nat_tests, cases_lt, byte_at-shown, cases_Bool, past, byte_at-past, sized)
 
 -- ---- bytes stay bytes
 

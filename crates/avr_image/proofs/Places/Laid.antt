@@ -67,7 +67,8 @@ over_over y z w l = refl
 pub span_low : (image : List (Option ℕ)) (addr : ℕ) (span : List ℕ) (i : ℕ) → i < addr
     → byte_at (laid_over image (enumerate_from addr span)) i ≡ byte_at image i
 span_low image addr [] i l = refl
-span_low image addr (b ∷ span) i l = search (rules, arith, span_low (set image addr (Some b)) (addr + 1) span i (omega (arith, l)), get_or-set_other)
+span_low image addr (b ∷ span) i l =
+    search (rules, arith, span_low (set image addr (Some b)) (addr + 1) span i (omega (arith, l)), get_or-set_other)
 
 pub span_high : (image : List (Option ℕ)) (addr : ℕ) (span : List ℕ) (i : ℕ) → addr + length span ≤ i
     → byte_at (laid_over image (enumerate_from addr span)) i ≡ byte_at image i
@@ -160,7 +161,18 @@ pub kept-pasted : (words words' bytes span : List ℕ) (addr : ℕ) → addr + l
     → ((k : ℕ) → is_present words' k ≡ (is_within addr (addr + length span) k || is_present words k))
     → length words' ≡ length words
     → ((i : ℕ) → get_or span i 0 < 256) → IsKept words bytes → IsKept words' (with_span addr span bytes)
-kept-pasted words words' bytes span addr room bits same small kept = grind (arith, nat_tests, length-pasted, small-pasted, cases_lt, within_low, pasted_low, within_yes, within_high, pasted_high)
+kept-pasted words words' bytes span addr room bits same small kept = grind (
+  arith,
+  nat_tests,
+  length-pasted,
+  small-pasted,
+  cases_lt,
+  within_low,
+  pasted_low,
+  within_yes,
+  within_high,
+  pasted_high,
+)
 
 -- ---- whether a span fits
 
@@ -177,7 +189,8 @@ fits_no addr (b ∷ bytes) size some l = let n = length (b ∷ bytes) in grind (
 
 pub from_zero-next : (text : List ℕ) (byte size : ℕ) → length text < size
     → set (from_zero text size) (length text) (Some byte) ≡ from_zero (text ++ byte ∷ []) size
-from_zero-next text byte size l = grind (arith, nat_tests, length-map, length-append, set, replicate, set_at, append_assoc, map-append)
+from_zero-next text byte size l =
+    grind (arith, nat_tests, length-map, length-append, set, replicate, set_at, append_assoc, map-append)
 
 pub from_zero-laid : (text span : List ℕ) (size addr : ℕ) → addr ≡ length text → length text + length span ≤ size
     → laid_over (from_zero text size) (enumerate_from addr span) ≡ from_zero (text ++ span) size

@@ -53,7 +53,8 @@ pub blank-removed : (words bytes : List ℕ) (a : ℕ) → a < length bytes → 
     → ((i : ℕ) → i < length bytes → is_present words i ≡ false → get_or bytes i 0 ≡ 255)
     → (i : ℕ) → i < length (set bytes a 255) → is_present (without_mark words a) i ≡ false
     → get_or (set bytes a 255) i 0 ≡ 255
-blank-removed words bytes a l within blank i j none = grind (arith, nat_tests, cases_eq, get_or-set_same, get_or-set_other, length-set, cleared-other)
+blank-removed words bytes a l within blank i j none =
+    grind (arith, nat_tests, cases_eq, get_or-set_same, get_or-set_other, length-set, cleared-other)
 
 -- outside the memory nothing is taken away
 pub removed-past : (image : List (Option ℕ)) (a : ℕ) → length image ≤ a → image ≡ set image a None

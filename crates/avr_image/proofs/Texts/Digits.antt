@@ -46,7 +46,8 @@ written-step radix rest at next glyph buffer step l here =
     rw (fuel, grown) refl
 
 pub digit_left : (radix rest at next : ℕ) → 2 ≤ radix → at ≡ next + 1 → rest < 2 ^ at → rest / radix < 2 ^ next
-digit_left radix rest at next low step l = grind (arith, nat_tests, add-one next, pow-suc 2 next, mul-le-mul_left (2 ^ next) low)
+digit_left radix rest at next low step l =
+    grind (arith, nat_tests, add-one next, pow-suc 2 next, mul-le-mul_left (2 ^ next) low)
 
 -- the digits of a byte below `at` are to be written, and the others stand from there on
 pub record IsWritten (radix byte rest at : ℕ) (buffer : List ℕ) : Type 0 where

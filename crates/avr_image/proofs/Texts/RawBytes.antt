@@ -20,4 +20,5 @@ pub stands-fed : (image after : List (Option ℕ)) (fed end : ℕ) (failed : Boo
     (cond (fits fed piece (length image)) (Ok (fed + length piece)) (Err fault))
     → after ≡ laid_over image (enumerate_from fed piece)
     → HoldsText (record { image = after; fed = end; failed = failed }) (text ++ piece)
-stands-fed image after fed end failed text piece fault stands judged laid = grind (arith, nat_tests, ok_chosen, fits_within, length-laid_over, length-append, from_zero-laid)
+stands-fed image after fed end failed text piece fault stands judged laid =
+    grind (arith, nat_tests, ok_chosen, fits_within, length-laid_over, length-append, from_zero-laid)

@@ -128,7 +128,8 @@ pieces_tails (x ∷ xs) n here = elim (cases_Bool (is_separator x)) [
 
 pub pieces_prefix : (xs : List ℕ) (n : ℕ) → n ≡ position_or_len is_separator xs → 0 < n
     → pieces xs ≡ take n xs ∷ pieces (drop n xs)
-pieces_prefix xs n here some = grind (arith, nat_tests, prefix_len-le-length, length-take, nat_lt, lt_test, filter, prefix, pieces_tails)
+pieces_prefix xs n here some =
+    grind (arith, nat_tests, prefix_len-le-length, length-take, nat_lt, lt_test, filter, prefix, pieces_tails)
 
 -- one piece more, at fault or not
 pub piece_bad : (image : List (Option ℕ)) (addr : ℕ) (piece : List ℕ) (more : List (List ℕ)) (fault : ImageFault)

@@ -254,7 +254,8 @@ onto-end size addr b ((next, bytes) ∷ more) inside all = grind (arith, nat_tes
 pub runs-end : (size addr : ℕ) (image : List (Option ℕ)) → addr + length image ≤ size → EndBy size (runs addr image)
 runs-end size addr [] room = tt
 runs-end size addr (None ∷ image) room = runs-end size (addr + 1) image (omega (arith, room))
-runs-end size addr (Some b ∷ image) room = grind (arith, nat_tests, runs-end size (addr + 1) image (omega (arith, room)))
+runs-end size addr (Some b ∷ image) room =
+    grind (arith, nat_tests, runs-end size (addr + 1) image (omega (arith, room)))
 
 pub runs-inside : (image : List (Option ℕ)) → All (λ run. run.0 + length run.1 ≤ length image) (runs 0 image)
 runs-inside image = each (runs 0 image) (runs-end (length image) 0 image (omega arith))

@@ -8,7 +8,7 @@ use Rattle.avr_desk.proofs.FileUses.Pieces.{read_next, read_piece, opened_read}
 use Rattle.avr_cli.specs.declared.update.Format.{Format}
 use Rattle.avr_cli.specs.declared.update.Format.TheVariants as letter
 use Rattle.avr_desk.specs.Files.{after_reading}
-use Rattle.avr_desk.specs.Record.{DeskView, Record, Passes, after_open, after_read, noted, is_nil, Bytes}
+use Rattle.avr_desk.specs.Record.{DeskState, Record, Passes, after_open, after_read, noted, is_nil, Bytes}
 use Rattle.avr_desk.specs.declared.record.Open.{Open}
 use Rattle.avr_desk.specs.declared.record.Open.TheVariants.{Closed, ToRead, ToWrite}
 use Rattle.avr_desk.specs.declared.files.FileFault.TheVariants.{NotRead, Memory}
@@ -45,7 +45,7 @@ read_end old now new a buf n first then zero some =
 
 -- ---- the rest of a file
 
-pub going_begins : (d : DeskView) (intake : Intake) (room : ℕ) → Going d d intake intake room room
+pub going_begins : (d : DeskState) (intake : Intake) (room : ℕ) → Going d d intake intake room room
 going_begins d intake room = record {
   bytes = [];
   kept = read_nothing d.kept;
@@ -58,7 +58,7 @@ within : (limit : ℕ) (found : Found) (bytes : Bytes) (size : ℕ) → length b
 within limit found bytes size len = let fits : nat_le (length bytes) limit ≡ true = grind (arith, nat_tests) in
     rw fits refl
 
-rest-is : (limit : ℕ) (found : Found) (size : ℕ) (before : Bytes) (old new : DeskView) (given : Given)
+rest-is : (limit : ℕ) (found : Found) (size : ℕ) (before : Bytes) (old new : DeskState) (given : Given)
     (result : ImageOrFault)
     → IsGiven given result
     → ReadsRest limit found size before old new given → RestIsRead limit found size before old new result
@@ -75,7 +75,7 @@ take-prefix all buf limit left n count less =
     (take-append-add all (take n buf) left ∙ ap (λ (b : Bytes). all ++ b) (take-take left n buf less))
 
 -- so far it went, and then n bytes were read
-module _ (old now new : DeskView) (first last : Intake) (room left n : ℕ) (buf : Bytes)
+module _ (old now new : DeskState) (first last : Intake) (room left n : ℕ) (buf : Bytes)
     (going : Going old now first last room left) (then : Passes (after_read buf (Ok n)) now new) where
   pub going_on : (next : Intake) (rest : ℕ) → (n ≡ 0 → ⊥) → length (take n buf) + rest ≡ left
       → ((found : Found) (size : ℕ) (text : Bytes) → Takes found size last text
@@ -152,7 +152,7 @@ kind-prefix letter.Raw prefix more len = refl
 kind-prefix format prefix more len = detected-prefix prefix more len
 
 -- the prefix, and after it the rest
-open_rest : (limit : ℕ) (format : Format) (size : ℕ) (prefix : Bytes) (old now new : DeskView) (given : Given)
+open_rest : (limit : ℕ) (format : Format) (size : ℕ) (prefix : Bytes) (old now new : DeskState) (given : Given)
     → Passes (after_reading prefix false) old now
     → length prefix ≡ 1024 → ReadsRest limit (kind_of format prefix) size prefix now new given
     → ReadsOpenImage limit format size old new given
@@ -165,7 +165,7 @@ open_rest limit format size prefix old now new given first len rest = record {
       (sym (kind-prefix format prefix rest.bytes len));
 }
 
-pub open_is_rest : (limit : ℕ) (format : Format) (size : ℕ) (prefix : Bytes) (old now new : DeskView)
+pub open_is_rest : (limit : ℕ) (format : Format) (size : ℕ) (prefix : Bytes) (old now new : DeskState)
     (result : ImageOrFault)
     → Passes (after_reading prefix false) old now
     → length prefix ≡ 1024 → RestIsRead limit (kind_of format prefix) size prefix now new result
@@ -179,7 +179,7 @@ open_is_rest limit format size prefix old now new (Err (File NotRead)) first len
     (prefix ++ rest.1.0, read_next old.kept now.kept new.kept prefix rest.1.0 false first rest.1.1)
 open_is_rest limit format size prefix old now new (Err (File fault)) first len rest = cc rest.0
 
-opened_image : (limit : ℕ) (format : Format) (size : ℕ) (name : Bytes) (old now new : DeskView) (given : Given)
+opened_image : (limit : ℕ) (format : Format) (size : ℕ) (name : Bytes) (old now new : DeskState) (given : Given)
     → Passes (after_open name (Ok tt)) old now
     → ReadsOpenImage limit format size now new given → ReadsImage limit format size name old new given
 opened_image limit format size name old now new given opened reads = record {
@@ -190,7 +190,7 @@ opened_image limit format size name old now new given opened reads = record {
   gives = reads.gives;
 }
 
-pub image_is_open : (limit : ℕ) (format : Format) (size : ℕ) (name : Bytes) (old now new : DeskView)
+pub image_is_open : (limit : ℕ) (format : Format) (size : ℕ) (name : Bytes) (old now new : DeskState)
     (result : ImageOrFault)
     → Passes (after_open name (Ok tt)) old now
     → OpenIsRead limit format size now new result → ImageIsRead limit format size name old new result

@@ -5,7 +5,7 @@ use Rattle.avr_cli.specs.declared.update.Format.{Format}
 use Rattle.avr_desk.specs.Fault.{Follows, HasSameCounts}
 use Rattle.avr_desk.specs.Lines.{memory_line}
 use Rattle.avr_desk.specs.declared.files.FileFault.TheVariants as file_fault
-use Rattle.avr_desk.specs.Record.{DeskView, Bytes}
+use Rattle.avr_desk.specs.Record.{DeskState, Bytes}
 use Rattle.avr_desk.specs.Said.{Tells}
 use Rattle.avr_records.specs.declared.kind.Ending.{Ending}
 use Rattle.avr_desk.proofs.Lines.Told.{follows_same}
@@ -28,7 +28,7 @@ Image = List (Option ℕ)
 abbrev behind_file : Switches → Bytes → Image × Ending → Stage Image
 behind_file switches file given = saying_stage (warning_says switches file given.1) >>= λ ok. verdict_stage (Ok given.0)
 
-went_file : (file : Bytes) (format : Format) (size : ℕ) (old mid : DeskView) (image : Image) (ending : Ending)
+went_file : (file : Bytes) (format : Format) (size : ℕ) (old mid : DeskState) (image : Image) (ending : Ending)
     → ReadsImage LARGEST_IMAGE_FILE format size file old mid (Ok (image, ending)) → HasSameCounts old mid
     → Went (file_stage file LARGEST_IMAGE_FILE (judged_image file format size)) old mid (Made (image, ending))
 went_file file format size old mid image ending reads same =
@@ -39,7 +39,7 @@ went_file file format size old mid image ending reads same =
 
 module _ (switches : Switches) (file : Bytes) (format : Format) (size : ℕ) where
   -- a file that is an image, and its warning
-  pub went_image : (old mid new : DeskView) (image : Image) (ending : Ending)
+  pub went_image : (old mid new : DeskState) (image : Image) (ending : Ending)
       → ReadsImage LARGEST_IMAGE_FILE format size file old mid (Ok (image, ending)) → HasSameCounts old mid
       → Went (saying_stage (warning_says switches file ending)) mid new (Made tt)
       → Went (file_image_stage switches file format size) old new (Made image)
@@ -51,7 +51,7 @@ module _ (switches : Switches) (file : Bytes) (format : Format) (size : ℕ) whe
       (Made image) warns (went_nowhere new image))
 
   -- its warning broke off
-  pub goes_unwarned : (old mid new : DeskView) (image : Image) (ending : Ending) (status : ℕ)
+  pub goes_unwarned : (old mid new : DeskState) (image : Image) (ending : Ending) (status : ℕ)
       → ReadsImage LARGEST_IMAGE_FILE format size file old mid (Ok (image, ending)) → HasSameCounts old mid
       → Goes (AtStart false) (saying_stage (warning_says switches file ending)) mid new (Err status)
       → Goes (AtStart false) (file_image_stage switches file format size) old new (Err status)
@@ -64,7 +64,7 @@ module _ (switches : Switches) (file : Bytes) (format : Format) (size : ℕ) whe
       (λ ok. verdict_stage (Ok image)) mid new status warns)
 
   -- a file that is none
-  goes_bad : (old mid new : DeskView) (bad : BadFile) (status : ℕ)
+  goes_bad : (old mid new : DeskState) (bad : BadFile) (status : ℕ)
       → ReadsImage LARGEST_IMAGE_FILE format size file old mid (Err bad) → HasSameCounts old mid → status ≡ 1
       → Tells mid new (bad_file_line file bad)
       → Goes (AtStart false) (file_image_stage switches file format size) old new (Err status)
@@ -77,7 +77,7 @@ module _ (switches : Switches) (file : Bytes) (format : Format) (size : ℕ) whe
       status given one told))
 
   -- a file that was not read
-  goes_unread : (old new : DeskView) (status : ℕ)
+  goes_unread : (old new : DeskState) (status : ℕ)
       → Goes (AtStart false) (file_stage file LARGEST_IMAGE_FILE (judged_image file format size)) old new (Err status)
       → Goes (AtStart false) (file_image_stage switches file format size) old new (Err status)
   goes_unread old new status goes =
@@ -85,7 +85,7 @@ module _ (switches : Switches) (file : Bytes) (format : Format) (size : ℕ) whe
       (behind_file switches file) old new status goes
 
   -- an image, but no room for its task
-  pub goes_without_room : (old mid new : DeskView) (image : Image) (ending : Ending) (status : ℕ)
+  pub goes_without_room : (old mid new : DeskState) (image : Image) (ending : Ending) (status : ℕ)
       → ReadsImage LARGEST_IMAGE_FILE format size file old mid (Ok (image, ending)) → HasSameCounts old mid
       → status ≡ 1 → Tells mid new memory_line
       → Goes (AtStart false) (file_image_stage switches file format size) old new (Err status)
@@ -95,7 +95,7 @@ module _ (switches : Switches) (file : Bytes) (format : Format) (size : ℕ) whe
       new status (reads.bytes, reads.ended, reads.kept) (follows_same old mid same) same one told)
 
   -- no image came of the file
-  pub goes_without_image : (old mid new : DeskView) (fault : ReadFault) (status : ℕ)
+  pub goes_without_image : (old mid new : DeskState) (fault : ReadFault) (status : ℕ)
       → ImageIsRead LARGEST_IMAGE_FILE format size file old mid (Err fault) → Follows old mid
       → IsCountedRead old mid fault
       → status ≡ 1

@@ -4,7 +4,7 @@ use Rattle.std.proofs.lemmas.Bool.Decides.{nat_tests}
 use Rattle.avr_desk.specs.Fault.{HasSameCounts}
 use Rattle.avr_desk.specs.Files.{IsWhole, with_read}
 use Rattle.avr_desk.specs.declared.files.FileFault.TheVariants as file_fault
-use Rattle.avr_desk.specs.Record.{DeskView, Passes, Bytes}
+use Rattle.avr_desk.specs.Record.{DeskState, Passes, Bytes}
 use Rattle.avr_desk.specs.Lines.{too_long_line}
 use Rattle.avr_desk.specs.Said.{Tells}
 use Rattle.avr_part.specs.Part.{Part}
@@ -26,7 +26,7 @@ judged-within file bytes whole = let fits : nat_le (length bytes) LARGEST_PART_F
     grind (arith, nat_tests, whole) in
     rw fits refl
 
-pub goes_long_parts : (file bytes : Bytes) (ended : Bool) (old mid new : DeskView) (status : ℕ)
+pub goes_long_parts : (file bytes : Bytes) (ended : Bool) (old mid new : DeskState) (status : ℕ)
     → Passes (with_read file bytes ended) old mid
     → IsWhole LARGEST_PART_FILE (record { bytes = bytes; ended = ended }) → ended ≡ false → HasSameCounts old mid
     → status ≡ 1
@@ -41,7 +41,7 @@ goes_long_parts file bytes false old mid new status kept whole is same one told 
     (goes_unsettled (AtStart false) (judged_parts file bytes) (too_long_line file LARGEST_PART_FILE) mid new status
     given one told)
 
-pub went_parts : (file bytes : Bytes) (ended : Bool) (old mid : DeskView) (parts : List Part)
+pub went_parts : (file bytes : Bytes) (ended : Bool) (old mid : DeskState) (parts : List Part)
     → Passes (with_read file bytes ended) old mid
     → IsWhole LARGEST_PART_FILE (record { bytes = bytes; ended = ended }) → ended ≡ true → HasSameCounts old mid
     → ReadsOrMemory (parts_of bytes) (Ok parts)
@@ -54,7 +54,7 @@ went_parts file bytes true old mid parts kept whole is same (inl gives) =
     (went_settled (judged_parts file bytes) parts mid given)
 went_parts file bytes true old mid parts kept whole is same (inr memory) = cc
 
-pub goes_bad_parts : (file bytes : Bytes) (ended : Bool) (old mid new : DeskView) (status : ℕ) (refused : FileFault)
+pub goes_bad_parts : (file bytes : Bytes) (ended : Bool) (old mid new : DeskState) (status : ℕ) (refused : FileFault)
     → Passes (with_read file bytes ended) old mid → IsWhole LARGEST_PART_FILE (record { bytes = bytes; ended = ended })
     → ended ≡ true → HasSameCounts old mid
     → ReadsOrMemory (parts_of bytes) (Err refused) → status ≡ 1 → Tells mid new (part_file_line file refused.fault)

@@ -1,7 +1,7 @@
 -- The stages of a plan, one after the other.
 use Rattle.std.proofs.Common.{◌≡◌, ◌∙◌, ap, append-nil, subst, ℕ, false, List, [], ◌++◌, Result, Ok, Err}
 use Rattle.avr_cli.specs.declared.settings.Settings.{Settings}
-use Rattle.avr_desk.specs.Record.{DeskView, Bytes}
+use Rattle.avr_desk.specs.Record.{DeskState, Bytes}
 use Rattle.avr_part.specs.Part.{Part}
 use Rattle.avr_desk.specs.Said.{Saying}
 use Rattle.avr_desk.specs.declared.record.Opening.{Opening}
@@ -23,7 +23,7 @@ behind_part s part = tasks_stage s.switches part [] s.updates >>= λ tasks. verd
 abbrev pub behind_parts : Settings → List Part → Stage Plan
 behind_parts s parts = part_stage s.part parts >>= behind_part s
 
-pub goes_without_parts : (s : Settings) (old new : DeskView) (status : ℕ)
+pub goes_without_parts : (s : Settings) (old new : DeskState) (status : ℕ)
     → Goes (AtStart false) (parts_stage s.parts) old new (Err status)
     → Goes (AtUpdate s) (planned s) old new (Err status)
 goes_without_parts s old new status goes =
@@ -31,7 +31,7 @@ goes_without_parts s old new status goes =
     (goes_within (AtStart false) (AtUpdate s) (parts_stage s.parts) old new (Err status)
     (λ passed said never. absurd (taken_never passed said never)) goes)
 
-pub goes_without_part : (s : Settings) (old mid new : DeskView) (status : ℕ) (parts : List Part)
+pub goes_without_part : (s : Settings) (old mid new : DeskState) (status : ℕ) (parts : List Part)
     → Went (parts_stage s.parts) old mid (Made parts)
     → Goes (AtStart false) (part_stage s.part parts) mid new (Err status)
     → Goes (AtUpdate s) (planned s) old new (Err status)
@@ -41,7 +41,7 @@ goes_without_part s old mid new status parts went goes =
     (goes_no_further (AtStart false) (part_stage s.part parts) (behind_part s) mid new status goes)
 
 -- where an update is due behind the part, there it is due in the plan
-at_due : (s : Settings) (old first mid : DeskView) (parts : List Part) (part : Part)
+at_due : (s : Settings) (old first mid : DeskState) (parts : List Part) (part : Part)
     (went : Went (parts_stage s.parts) old first (Made parts))
     (found : Went (part_stage s.part parts) first mid (Made part)) (passed : List Opening) (said : List Saying)
     → AtTask s.switches part [] s.updates passed said
@@ -79,7 +79,7 @@ at_due s old first mid parts part went found passed said due = record {
 abbrev Behind : Settings → List Opening → List Saying → Taking
 Behind s before says passed said = AtUpdate s (before ++ passed) (says ++ said)
 
-pub goes_without_tasks : (s : Settings) (old first mid new : DeskView) (status : ℕ) (parts : List Part) (part : Part)
+pub goes_without_tasks : (s : Settings) (old first mid new : DeskState) (status : ℕ) (parts : List Part) (part : Part)
     → Went (parts_stage s.parts) old first (Made parts) → Went (part_stage s.part parts) first mid (Made part)
     → Goes (AtTask s.switches part [] s.updates) (tasks_stage s.switches part [] s.updates) mid new (Err status)
     → Goes (AtUpdate s) (planned s) old new (Err status)
@@ -91,7 +91,7 @@ goes_without_tasks s old first mid new status parts part went found goes =
     (goes_no_further (AtTask s.switches part [] s.updates) (tasks_stage s.switches part [] s.updates)
     (λ ts. verdict_stage (Ok (plan_of s part ts))) mid new status goes))
 
-pub went_whole_plan : (s : Settings) (old first mid new : DeskView) (parts : List Part) (part : Part)
+pub went_whole_plan : (s : Settings) (old first mid new : DeskState) (parts : List Part) (part : Part)
     (tasks : List Task)
     → Went (parts_stage s.parts) old first (Made parts) → Went (part_stage s.part parts) first mid (Made part)
     → Went (tasks_stage s.switches part [] s.updates) mid new (Made tasks)
@@ -102,11 +102,11 @@ went_whole_plan s old first mid new parts part tasks went found made =
     (went_into (tasks_stage s.switches part [] s.updates) (plan_of s part) mid new tasks made))
 
 -- no part has the id, whatever it is called here
-pub lacks_part : {E : Type 0} (id own : Bytes) (parts : List Part) (old mid new : DeskView) → id ≡ own
+pub lacks_part : {E : Type 0} (id own : Bytes) (parts : List Part) (old mid new : DeskState) → id ≡ own
     → ◌≡◌ {A = Result (List Part) E} (Ok parts) (Ok []) → mid ≡ old → LacksPart id parts mid new
     → LacksPart own [] old new
 lacks_part id own parts old mid new same given view lacks =
     let none : parts ≡ [] = cc in
-    subst (λ (d : DeskView). LacksPart own [] d new) view
+    subst (λ (d : DeskState). LacksPart own [] d new) view
     (subst (λ (ps : List Part). LacksPart own ps mid new) none
     (subst (λ (i : Bytes). LacksPart i parts mid new) same lacks))

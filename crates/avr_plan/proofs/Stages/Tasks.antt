@@ -5,7 +5,7 @@ use Rattle.avr_cli.specs.declared.update.Format.{Format}
 use Rattle.avr_cli.specs.declared.update.Format.TheVariants.{Immediate}
 use Rattle.avr_cli.specs.declared.update.Op.TheVariants as op
 use Rattle.avr_cli.specs.declared.update.Update.{Update}
-use Rattle.avr_desk.specs.Record.{DeskView, Bytes}
+use Rattle.avr_desk.specs.Record.{DeskState, Bytes}
 use Rattle.avr_desk.specs.Said.{Saying, Tells}
 use Rattle.avr_desk.specs.declared.record.Opening.{Opening}
 use Rattle.avr_part.specs.Mem.{is_writable}
@@ -32,7 +32,7 @@ no_values Immediate other = absurd (other refl)
 no_values format other = refl
 
 module _ (switches : Switches) (memory : Mem) (size size' : ℕ) (file file' : Bytes) (format : Format)
-    (old new : DeskView) (result : Result (List (Option ℕ)) ℕ) (sizes : size ≡ size') (files : file ≡ file') where
+    (old new : DeskState) (result : Result (List (Option ℕ)) ℕ) (sizes : size ≡ size') (files : file ≡ file') where
   goes_of_same : (takes : Bool) → has_values format ≡ takes
       → Goes (AtStart takes) (image_stage switches memory size file format) old new result
       → Goes (AtStart (has_values format)) (image_stage switches memory size' file' format) old new result
@@ -61,7 +61,7 @@ module _ (switches : Switches) (memory : Mem) (size size' : ℕ) (file file' : B
 abbrev writes : Switches → Part → Update → Stage Task
 writes switches part u = update_image switches part u >>= λ image. verdict_stage (Ok (Write u.memory image))
 
-pub goes_writable : (switches : Switches) (part : Part) (u : Update) (old new : DeskView) (result : Result Task ℕ)
+pub goes_writable : (switches : Switches) (part : Part) (u : Update) (old new : DeskState) (result : Result Task ℕ)
     → true ≡ is_writable u.memory
     → Goes (AtStart (has_values u.format)) (writes switches part u) old new result
     → Goes (AtStart (op_takes_memory u op.Write)) (write_stage switches part u) old new result
@@ -69,7 +69,7 @@ goes_writable switches part u old new result is goes =
     subst (λ b. Goes (AtStart (if b then has_values u.format else false))
     (if b then writes switches part u else verdict_stage (Err (read_only_line u.memory))) old new result) is goes
 
-pub goes_read_only : (switches : Switches) (part : Part) (u : Update) (old new : DeskView) (status : ℕ)
+pub goes_read_only : (switches : Switches) (part : Part) (u : Update) (old new : DeskState) (status : ℕ)
     → false ≡ is_writable u.memory
     → status ≡ 1 → Tells old new (read_only_line u.memory)
     → Goes (AtStart (op_takes_memory u op.Write)) (write_stage switches part u) old new (Err status)
@@ -95,7 +95,7 @@ module _ (switches : Switches) (part : Part) (tasks : List Task) (u : Update) (u
   }
 
   -- or one after it, of which it is made
-  at_later : (old mid : DeskView) (task : Task) (went : Went (task_stage switches part u) old mid (Made task))
+  at_later : (old mid : DeskState) (task : Task) (went : Went (task_stage switches part u) old mid (Made task))
       (passed : List Opening) (said : List Saying)
       → AtTask switches part (tasks ++ task ∷ []) updates passed said
       → AtTask switches part tasks (u ∷ updates) (went.passed ++ passed) (went.says ++ said)
@@ -113,7 +113,7 @@ module _ (switches : Switches) (part : Part) (tasks : List Task) (u : Update) (u
   }
 
 module _ (switches : Switches) (part : Part) (tasks : List Task) (updates : List Update) (i : ℕ) (u : Update) where
-  pub goes_with_next : (old mid new : DeskView) (task : Task) (result : Result (List Task) ℕ)
+  pub goes_with_next : (old mid new : DeskState) (task : Task) (result : Result (List Task) ℕ)
       → drop i updates ≡ u ∷ drop (i + 1) updates → Went (task_stage switches part u) old mid (Made task)
       → Goes (AtTask switches part (tasks ++ task ∷ []) (drop (i + 1) updates))
       (tasks_stage switches part (tasks ++ task ∷ []) (drop (i + 1) updates)) mid new result
@@ -127,7 +127,7 @@ module _ (switches : Switches) (part : Part) (tasks : List Task) (updates : List
       (λ t. tasks_stage switches part (tasks ++ t ∷ []) (drop (i + 1) updates)) old mid new task result went
       (at_later switches part tasks u (drop (i + 1) updates) old mid task went) goes)
 
-  pub goes_without_next : (old new : DeskView) (status : ℕ) → drop i updates ≡ u ∷ drop (i + 1) updates
+  pub goes_without_next : (old new : DeskState) (status : ℕ) → drop i updates ≡ u ∷ drop (i + 1) updates
       → Goes (AtStart (op_takes_memory u u.op)) (task_stage switches part u) old new (Err status)
       → Goes (AtTask switches part tasks (drop i updates)) (tasks_stage switches part tasks (drop i updates)) old new
       (Err status)

@@ -2,7 +2,7 @@
 use Rattle.std.proofs.Common.{◌≡◌, refl, sym, ap, ℕ, true, List, Option, Ok, Err, inl, inr, subst}
 use Rattle.avr_cli.specs.declared.settings.Switches.{Switches}
 use Rattle.avr_cli.specs.declared.update.Format.TheVariants.{Immediate}
-use Rattle.avr_desk.specs.Record.{DeskView, Bytes}
+use Rattle.avr_desk.specs.Record.{DeskState, Bytes}
 use Rattle.avr_image.specs.Fault.{OrMemory}
 use Rattle.avr_image.specs.Values.{values}
 use Rattle.avr_image.specs.declared.fault.ImageFault.{ImageFault}
@@ -24,14 +24,14 @@ pub given_values : (text : Bytes) (size : ℕ) (image : Image) → OrMemory (Ok 
 given_values text size image (inl is) = is
 given_values text size image (inr memory) = cc
 
-pub went_values : (switches : Switches) (memory : Mem) (size : ℕ) (text : Bytes) (d : DeskView) (image : Image)
+pub went_values : (switches : Switches) (memory : Mem) (size : ℕ) (text : Bytes) (d : DeskState) (image : Image)
     → OrMemory (Ok image) (values text size)
     → Went (image_stage switches memory size text Immediate) d d (Made image)
 went_values switches memory size text d image gives =
     went_settled (values_or_line memory (values text size)) image d
     (ap (values_or_line memory) (sym (given_values text size image gives)))
 
-pub goes_bad_values : (switches : Switches) (memory : Mem) (size : ℕ) (text : Bytes) (old new : DeskView) (status : ℕ)
+pub goes_bad_values : (switches : Switches) (memory : Mem) (size : ℕ) (text : Bytes) (old new : DeskState) (status : ℕ)
     (fault : ImageFault)
     → OrMemory (Err fault) (values text size) → status ≡ 1 → Tells old new (values_line memory fault)
     → Goes (AtStart true) (image_stage switches memory size text Immediate) old new (Err status)
@@ -45,7 +45,8 @@ goes_bad_values switches memory size text old new status fault (inr refused) one
     (subst (λ f. Tells old new (values_line memory f)) same told)
 
 -- or there was no room for its task
-pub goes_without_room : (switches : Switches) (memory : Mem) (size : ℕ) (text : Bytes) (old new : DeskView) (status : ℕ)
+pub goes_without_room : (switches : Switches) (memory : Mem) (size : ℕ) (text : Bytes) (old new : DeskState)
+    (status : ℕ)
     → status ≡ 1 → Tells old new memory_line
     → Goes (AtStart true) (image_stage switches memory size text Immediate) old new (Err status)
 goes_without_room switches memory size text old new status one told =

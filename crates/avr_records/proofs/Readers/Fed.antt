@@ -240,7 +240,8 @@ pub carries-next : (kind : Kind) (old now new : LineState) (piece left line more
     → Carries kind old now piece left → lines line ≡ line ∷ [] → left ≡ line ++ 10 ∷ more
     → next_progress now.progress (said_by_line kind (now.part ++ line)) ≡ Ok new.progress → new.part ≡ []
     → Carries kind old new piece more
-carries-next kind old now new piece left line more carries one end is clear = grind (arith, nat_tests, rearranged, append_assoc, subst, ends-good)
+carries-next kind old now new piece left line more carries one end is clear =
+    grind (arith, nat_tests, rearranged, append_assoc, subst, ends-good)
 
 pub carries-fault : (kind : Kind) (old now : LineState) (piece left line more : List ℕ) (fault : RecordFault)
     → Carries kind old now piece left → lines line ≡ line ∷ [] → left ≡ line ++ 10 ∷ more
@@ -260,7 +261,8 @@ pub carries-last : (kind : Kind) (old now new : LineState) (piece left : List �
     → new.progress ≡ now.progress → (now.progress.extent.ended ≡ false → new.part ≡ kept (now.part ++ left))
     → (text : List ℕ) → ReadsLines kind old.progress old.part text
     → ReadsLines kind new.progress new.part (text ++ piece)
-carries-last kind old now new piece left carries one is goes text r = grind (arith, nat_tests, append_assoc, cases_Bool, keeps-done, keeps)
+carries-last kind old now new piece left carries one is goes text r =
+    grind (arith, nat_tests, append_assoc, cases_Bool, keeps-done, keeps)
 
 pub carries-start : (kind : Kind) (state : LineState) (piece : List ℕ) → Carries kind state state piece piece
 carries-start kind state piece = grind (arith, nat_tests, append-nil)

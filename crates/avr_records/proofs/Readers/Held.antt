@@ -81,7 +81,8 @@ extent-next size e new said line m is =
 extent-bad : (size : ℕ) (e : Extent) (said more : List Said) (line : Said) (fault : RecordFault)
     → IsExtentOf size e said
     → next_extent size e line ≡ Err fault → first_fault size (in_place [] (said ++ line ∷ more)) ≡ Some fault
-extent-bad size e said more line fault m is = grind (arith, nat_tests, unless-bad, fault-same, in_place-append, first_fault-append)
+extent-bad size e said more line fault m is =
+    grind (arith, nat_tests, unless-bad, fault-same, in_place-append, first_fault-append)
 
 -- ---- up to an end record
 
@@ -158,7 +159,8 @@ holds-next p new said line h is = elim (cases_Bool p.extent.ended) [
 -- a line at fault decides
 pub holds-bad : (p : Progress) (said more : List Said) (line : Said) (fault : RecordFault) → Holds p said
     → next_progress p line ≡ Err fault → fault_among (image_size p) (said ++ line ∷ more) ≡ Some fault
-holds-bad p said more line fault h is = grind (arith, nat_tests, cases_Bool, done-step, counts-bad, with-bad, cond-false)
+holds-bad p said more line fault h is =
+    grind (arith, nat_tests, cases_Bool, done-step, counts-bad, with-bad, cond-false)
 
 -- the file that such lines are
 pub together-holds : (p : Progress) (said : List Said) → Holds p said

@@ -35,7 +35,8 @@ first_fault-stands size (p ∷ ps) qs told is = grind (arith, nat_tests, first_f
 -- lines after a fault change nothing
 pub among-stands : (size : ℕ) (said more : List Said) (told : RecordFault) → fault_among size said ≡ Some told
     → fault_among size (said ++ more) ≡ Some told
-among-stands size said more told is = grind (arith, nat_tests, cases_Bool, up_to_end-done, up_to_end-open, in_place-append, first_fault-stands)
+among-stands size said more told is =
+    grind (arith, nat_tests, cases_Bool, up_to_end-done, up_to_end-open, in_place-append, first_fault-stands)
 
 pub closed-told : (kind : Kind) (size : ℕ) (text : List ℕ) (told : RecordFault)
     → closed_fault kind text size ≡ Some told → image_in_text kind text size ≡ Err told

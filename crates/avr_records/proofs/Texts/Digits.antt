@@ -32,9 +32,11 @@ no_digit digits out answer (Err e) is none fact = (e, fact, rw none refl)
 
 pub decoded-ok : (digits out : List ℕ) (n : ℕ) (answer : Result Unit FromHexError) → length digits ≡ 2 * n
     → Decoded digits out answer (decode_sized digits n) → answer ≡ Ok tt → bytes_of_digits digits ≡ Ok out
-decoded-ok digits out n answer len facts ok = grind (arith, nat_tests, decode_sized-twice, cases_Bool, all_digits, no_digit)
+decoded-ok digits out n answer len facts ok =
+    grind (arith, nat_tests, decode_sized-twice, cases_Bool, all_digits, no_digit)
 
 pub decoded-err : (digits out : List ℕ) (n : ℕ) (answer : Result Unit FromHexError) (e : FromHexError)
     → length digits ≡ 2 * n
     → Decoded digits out answer (decode_sized digits n) → answer ≡ Err e → bytes_of_digits digits ≡ Err Digit
-decoded-err digits out n answer e len facts err = grind (arith, nat_tests, decode_sized-twice, cases_Bool, all_digits, no_digit)
+decoded-err digits out n answer e len facts err =
+    grind (arith, nat_tests, decode_sized-twice, cases_Bool, all_digits, no_digit)

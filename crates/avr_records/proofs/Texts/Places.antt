@@ -28,7 +28,8 @@ places_from base offset i bytes = map (λ p. (address base offset p.0, p.1)) (en
 linear-from : (upper offset i : ℕ) (bytes : List ℕ) (addr : ℕ) → addr ≡ upper * 65536 + offset + i
     → places_from (Linear upper) offset i bytes ≡ enumerate_from addr bytes
 linear-from upper offset i [] addr is = refl
-linear-from upper offset i (b ∷ bs) addr is = grind (arith, nat_tests, linear-from upper offset (i + 1) bs (addr + 1) (omega (arith, is)))
+linear-from upper offset i (b ∷ bs) addr is =
+    grind (arith, nat_tests, linear-from upper offset (i + 1) bs (addr + 1) (omega (arith, is)))
 
 -- without a segment the addresses follow each other
 pub places-linear : (upper offset : ℕ) (bytes : List ℕ)
@@ -60,7 +61,8 @@ pub places-wrapped : (paragraph offset : ℕ) (before behind : List ℕ) → off
     → length behind ≤ 65536
     → places (Segment paragraph) offset (before ++ behind)
     ≡ enumerate_from (paragraph * 16 + offset % 65536) before ++ enumerate_from (paragraph * 16) behind
-places-wrapped paragraph offset before behind full short = grind (arith, nat_tests, places_from-append, places-segment, segment-from)
+places-wrapped paragraph offset before behind full short =
+    grind (arith, nat_tests, places_from-append, places-segment, segment-from)
 
 -- the same, cut where the segment ends
 pub places-wrapped-at : (paragraph offset n : ℕ) (bytes : List ℕ) → offset % 65536 + n ≡ 65536 → n ≤ length bytes
@@ -132,7 +134,8 @@ end-past-span : (end addr : ℕ) (bytes : List ℕ) → 0 < length bytes
     → max end (addr + length bytes) ≡ end_past end (enumerate_from addr bytes)
 end-past-span end addr [] some = absurd (omega (arith, some))
 end-past-span end addr (b ∷ []) some = refl
-end-past-span end addr (b ∷ c ∷ bs) some = grind (arith, nat_tests, end-past-span (max end (addr + 1)) (addr + 1) (c ∷ bs) (omega arith))
+end-past-span end addr (b ∷ c ∷ bs) some =
+    grind (arith, nat_tests, end-past-span (max end (addr + 1)) (addr + 1) (c ∷ bs) (omega arith))
 
 -- ---- how far spans reach
 

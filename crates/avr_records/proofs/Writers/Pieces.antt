@@ -65,7 +65,8 @@ pub rows-next : (size : ℕ → ℕ) (addr n : ℕ) (bytes : List ℕ) → 0 < l
     → n ≡ min (size addr) (length bytes)
     → rows size addr bytes ≡ (addr, take n bytes) ∷ rows size (addr + n) (drop n bytes)
 rows-next size addr n [] some wide is = absurd (omega arith)
-rows-next size addr n (b ∷ bs) some wide is = grind (arith, nat_tests, take_min, rows_behind-drop, drop-one_less, rows-min)
+rows-next size addr n (b ∷ bs) some wide is =
+    grind (arith, nat_tests, take_min, rows_behind-drop, drop-one_less, rows-min)
 
 pub low_bytes_is : (size : AddressSize) (n : ℕ)
     → drop (4 - bytes_of size) (to_be_bytes w32 n) ≡ low_bytes (bytes_of size) n

@@ -41,7 +41,8 @@ placed-under before x = grind (arith, nat_tests)
 placed-threaded : (before said : List Said)
     → flat_map placed_bytes (in_place before said) ≡ threaded (base_after before) said
 placed-threaded before [] = refl
-placed-threaded before (s ∷ more) = grind (arith, nat_tests, placed-threaded (before ++ s ∷ []) more, placed-under, fold-append)
+placed-threaded before (s ∷ more) =
+    grind (arith, nat_tests, placed-threaded (before ++ s ∷ []) more, placed-under, fold-append)
 
 -- a line that is no fault, no count and no end
 abbrev pub GoesOn : Said → Type 0
@@ -98,7 +99,8 @@ pub together-laid : (size : ℕ) (image : List (Option ℕ)) (places : List (ℕ
     → AllGoOn prefix
     → threaded (Linear 0) (then_end prefix) ≡ places → beyond size places ≡ None → image_of_pairs size places ≡ image
     → together size (prefix ++ Ok End ∷ more) ≡ Ok (image, Ended)
-together-laid size image places prefix more on follow inside_is laid_is = grind (arith, nat_tests, placed-threaded, stops, first_fault-none, ended)
+together-laid size image places prefix more on follow inside_is laid_is =
+    grind (arith, nat_tests, placed-threaded, stops, first_fault-none, ended)
 
 -- the places of a data record where a linear base is in force
 pub places-linear : (upper offset addr : ℕ) (bytes : List ℕ) → upper * 65536 + offset ≡ addr

@@ -54,7 +54,8 @@ gap-in base addr most (b ∷ bytes) before = ap (take most) (gap-held base addr 
 pub row-in : (base addr most past few : ℕ) (bytes : List ℕ) → base ≤ addr → past ≡ min (addr - base) (length bytes)
     → few ≡ min most (length (take (length bytes - past) (drop past bytes)))
     → take few (take (length bytes - past) (drop past bytes)) ≡ take most (lead (drop addr (run_at base bytes)))
-row-in base addr most past few bytes after past_is few_is = grind (arith, nat_tests, drop_min, take_min, take_rest, lead-in)
+row-in base addr most past few bytes after past_is few_is =
+    grind (arith, nat_tests, drop_min, take_min, take_rest, lead-in)
 
 bytes-held : (base : ℕ) (bytes : List ℕ) → IsBytes bytes → HoldsBytes (held base bytes)
 bytes-held zero (b ∷ bytes) all zero byte is = let same : b ≡ byte = cc is in omega (arith, same, all 0)

@@ -26,7 +26,8 @@ use Rattle.avr_records.proofs.Writers.Srec as srec
 beyond-run : (size addr : ℕ) (bytes : List ℕ) (more : List (ℕ × ℕ)) → addr + length bytes ≤ size
     → beyond size more ≡ None → beyond size (enumerate_from addr bytes ++ more) ≡ None
 beyond-run size addr [] more room none = none
-beyond-run size addr (b ∷ bytes) more room none = grind (arith, nat_tests, beyond-run size (addr + 1) bytes more (omega (arith, room)) none)
+beyond-run size addr (b ∷ bytes) more room none =
+    grind (arith, nat_tests, beyond-run size (addr + 1) bytes more (omega (arith, room)) none)
 
 beyond-cut : (size : ℕ) (cut : List (ℕ × List ℕ)) → All (λ run. run.0 + length run.1 ≤ size) cut
     → beyond size (flat_map places_of cut) ≡ None
@@ -91,7 +92,8 @@ every-append P (x ∷ xs) ys prefix back = (prefix.0, every-append P xs ys prefi
 pub rows_of-are : (size : ℕ → ℕ) (end : ℕ) (cut : List (ℕ × List ℕ)) → ((a : ℕ) → 0 < size a) → Every (IsIn end) cut
     → Every (IsRow size end) (rows_of size cut)
 rows_of-are size end [] wide all = tt
-rows_of-are size end (run ∷ cut) wide all = grind (arith, nat_tests, rows_of-are size end cut wide all.1, IsRow, rows_behind-are, every-append, rows-up)
+rows_of-are size end (run ∷ cut) wide all =
+    grind (arith, nat_tests, rows_of-are size end cut wide all.1, IsRow, rows_behind-are, every-append, rows-up)
 
 -- ---- a memory with gaps after it
 

@@ -39,7 +39,8 @@ rows-lead size addr (Some b ∷ image) = ap (rows_of size) (runs_first (Some b �
 pub rows-step : (size : ℕ → ℕ) (addr n : ℕ) (image : List (Option ℕ)) → 0 < length (lead image) → 0 < size addr
     → n ≡ min (size addr) (length (lead image))
     → rows_of size (runs addr image) ≡ (addr, take n (lead image)) ∷ rows_of size (runs (addr + n) (drop n image))
-rows-step size addr n image some wide is = grind (arith, nat_tests, length-drop, rows-lead, lead-drop, after-drop, rows-next)
+rows-step size addr n image some wide is =
+    grind (arith, nat_tests, length-drop, rows-lead, lead-drop, after-drop, rows-next)
 
 -- ---- as the walk finds them
 
@@ -56,7 +57,8 @@ pub record IsPart (place most end : ℕ) (bytes : List ℕ) (image : List (Optio
 pub row-part : (place most end : ℕ) (bytes : List ℕ) (image : List (Option ℕ)) → place < length image
     → end ≡ place + min most (length (lead (drop place image))) → bytes ≡ filled_bytes image 0 (length image)
     → IsPart place most end bytes image
-row-part place most end bytes image inside is whole = grind (arith, nat_tests, lead_within, length-drop, filled_is, filled_part, lead_is_filled, take_min)
+row-part place most end bytes image inside is whole =
+    grind (arith, nat_tests, lead_within, length-drop, filled_is, filled_part, lead_is_filled, take_min)
 
 row-long : (size place : ℕ) (row : List ℕ) (image : List (Option ℕ)) → row ≡ take size (lead (drop place image))
     → length row ≡ min size (length (lead (drop place image)))
@@ -129,7 +131,8 @@ last-next last addr place (Some b ∷ image) is = grind (arith, nat_tests)
 last-prefix : (last addr n : ℕ) (image : List (Option ℕ)) → n < length (lead image)
     → last_held last addr image ≡ last_held (addr + n) (addr + suc n) (drop (suc n) image)
 last-prefix last addr zero (Some b ∷ image) some = grind (arith, nat_tests)
-last-prefix last addr (suc n) (Some b ∷ image) some = grind (arith, nat_tests, last-prefix addr (addr + 1) n image (omega (arith, some)))
+last-prefix last addr (suc n) (Some b ∷ image) some =
+    grind (arith, nat_tests, last-prefix addr (addr + 1) n image (omega (arith, some)))
 last-prefix last addr n x some = absurd (omega (arith, some))
 
 pub last-done : (last addr : ℕ) (image : List (Option ℕ)) → first_from image addr ≡ None

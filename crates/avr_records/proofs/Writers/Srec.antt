@@ -30,7 +30,8 @@ use Rattle.avr_records.proofs.Writers.Reread.{AllGoOn, then_end, threaded, place
 
 IsBytes-low_bytes : (size n : ℕ) → IsBytes (low_bytes size n)
 IsBytes-low_bytes zero n = IsBytes-nil
-IsBytes-low_bytes (suc size) n = grind (arith, nat_tests, IsBytes-low_bytes size (n / 256), IsBytes-append, IsBytes-cons, IsBytes-nil)
+IsBytes-low_bytes (suc size) n =
+    grind (arith, nat_tests, IsBytes-low_bytes size (n / 256), IsBytes-append, IsBytes-cons, IsBytes-nil)
 
 number-low_bytes : (size n : ℕ) → n < 256 ^ size → number (low_bytes size n) ≡ n
 number-low_bytes zero n fits = omega arith
@@ -106,7 +107,8 @@ record_with type addr row = Ok (record { type = type; address = addr; bytes = ro
 
 addressed-low : (type size addr : ℕ) (row : List ℕ) → addr < 256 ^ size
     → record_with_address type size (low_bytes size addr ++ row) ≡ record_with type addr row
-addressed-low type size addr row fits = grind (arith, nat_tests, length_low_bytes, nat_le, length-append, take_at, drop_at, number-low_bytes)
+addressed-low type size addr row fits =
+    grind (arith, nat_tests, length_low_bytes, nat_le, length-append, take_at, drop_at, number-low_bytes)
 
 meant-data : (size : AddressSize) (addr : ℕ) (row : List ℕ)
     → record_meaning Srec (record_with (bytes_of size - 1) addr row) ≡ Ok (Data addr row)

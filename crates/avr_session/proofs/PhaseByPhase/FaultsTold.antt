@@ -4,7 +4,7 @@ use Rattle.std.proofs.lemmas.Bool.{cases_Bool, or_parts}
 use Rattle.std.proofs.lemmas.List.Folds.{list_any-append}
 use Rattle.std.proofs.lemmas.Slice.Eq.{starts_is}
 use Rattle.std.specs.Cmp.{unsigned_Decides}
-use Rattle.avr_desk.specs.Record.{DeskView, Bytes}
+use Rattle.avr_desk.specs.Record.{DeskState, Bytes}
 use Rattle.avr_cli.specs.declared.settings.Switches.{Switches}
 use Rattle.avr_cli.specs.declared.update.Format.{Format}
 use Rattle.avr_image.specs.Image.{byte_count}
@@ -16,7 +16,7 @@ use Rattle.stk_host.specs.declared.fault.HostFault.{HostFault}
 use Rattle.stk_host.specs.declared.fault.HostFault.TheVariants.{NoAnswer, WrongSignature}
 use Rattle.stk_host.specs.Tape.{Tape, Reading, on_tape, answer}
 use Rattle.stk_host.specs.Play.{Position}
-use Rattle.stk_host.specs.Talk.{heard}
+use Rattle.stk_host.specs.Transcript.{heard}
 use Rattle.stk_host.specs.Dialog.{Dialog, Done, Say, Ask, ◌>>=◌, lifted, Event, Frame, Said, Played, played, by_answer, next, sayings}
 use Rattle.stk_host.specs.Operations.{opening, erasing, writing, reading, verifying}
 use Rattle.avr_desk.specs.Lines.{information, warning}
@@ -269,7 +269,7 @@ begun_none OfPrinting whole begun later x none =
     quiet_by begun (Said (Line x.done) ∷ []) x.part (ap (λ b. b || false) one)
 begun_none OfMemory whole begun later x none = quiet_by begun [] x refl
 
-pub prefix_tells_none : {cause : Cause} {old new : DeskView} {sayings : List Saying}
+pub prefix_tells_none : {cause : Cause} {old new : DeskState} {sayings : List Saying}
     (prefix : SaysPrefix cause old new sayings) → tells_fault sayings ≡ false
     → tells_fault (prefix.whole ++ prefix.begun) ≡ false
 prefix_tells_none {cause = cause} prefix none =

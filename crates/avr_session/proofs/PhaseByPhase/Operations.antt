@@ -1,11 +1,11 @@
 -- An operation of the host and its report, as a phase of a session.
 use Rattle.std.proofs.Common.{◌≡◌, ℕ, ◌≤◌, Bool, true, false, List, [], ◌++◌, length, refl, sym, ap, ◌∙◌, ◌∷◌, subst, bytes_eq, if◌then◌else◌, Option, Some, None, Result, Ok, Err, inl, inr, ◌⊎◌}
-use Rattle.avr_desk.specs.Record.{DeskView}
+use Rattle.avr_desk.specs.Record.{DeskState}
 use Rattle.avr_desk.specs.declared.desk.DeskFault.{DeskFault}
 use Rattle.avr_part.specs.Part.{Part}
 use Rattle.stk_host.specs.declared.fault.HostFault.{HostFault}
 use Rattle.stk_host.specs.declared.fault.HostFault.TheVariants.{LinkEnded, SendFailed, WrongSignature, ReadOnly, Memory, RecvFailed}
-use Rattle.stk_host.specs.Talk as link
+use Rattle.stk_host.specs.Transcript as link
 use Rattle.stk_host.specs.declared.fault.StepFault.TheVariants as of_step
 use Rattle.stk_host.specs.declared.fault.StepFault.{StepFault}
 use Rattle.stk_frame.specs.declared.command.Command.{Command}
@@ -16,7 +16,7 @@ use Rattle.stk_host.specs.Tape.{Tape, on_tape}
 use Rattle.stk_host.specs.Steps.{StepOutcome, step, play}
 use Rattle.stk_host.specs.WriteSteps.{write_steps}
 use Rattle.stk_host.specs.Operations.{host_fault, signature_judged, without_bytes, handshake, opening, closing, operation, judged_by, no_result, erasing, writing}
-use Rattle.stk_host.specs.Talk.{LinkView, heard}
+use Rattle.stk_host.specs.Transcript.{LinkState, heard}
 use Rattle.stk_host.specs.Dialog.{Dialog, Done, ◌>>=◌, lifted, Played, played}
 use Rattle.stk_host.specs.declared.fault.Broken.{Broken}
 use Rattle.stk_host.specs.declared.fault.Broken.TheVariants.{Send, Recv}
@@ -24,7 +24,7 @@ use Rattle.stk_host.specs.Play.{Position, PlaysOver, FailsOver}
 use Rattle.stk_host.specs.State.{lasting_fault}
 use Rattle.stk_host.specs.Calls.{EndsCall, EndsOrLacks, IsBroken, UnlessBroken}
 use Rattle.stk_host.proofs.Dialogs.Lifted.{sayings_raised}
-use Rattle.stk_host.proofs.Talks.InDialogs.{continued, played_bind}
+use Rattle.stk_host.proofs.Transcripts.InDialogs.{continued, played_bind}
 use Rattle.avr_desk.specs.Said.{Saying, Line, Tells}
 use Rattle.avr_session.specs.Concluding.{HostServes, after_outcome, conclusion, stands}
 use Rattle.avr_session.specs.Lines.{fault_line}
@@ -55,18 +55,18 @@ abbrev pub StopsAs : {A : Type 0} → Result A HostFault → Stop → Type 0
 StopsAs outcome stop = outcome ≡ Err (fault_at stop)
 
 -- the link broke the dialog off, or memory, where it is taken, was refused before anything was sent or heard
-abbrev pub StopsOver : {R : Type 0} → Bool → Dialog ⊥ R → Position → LinkView → LinkView → Stop → Type 0
+abbrev pub StopsOver : {R : Type 0} → Bool → Dialog ⊥ R → Position → LinkState → LinkState → Stop → Type 0
 StopsOver takes dialog m o p (Broke by) = FailsOver by dialog m o p
 StopsOver takes dialog m o p Lacks = (takes ≡ true) × (p ≡ o)
 
 -- How a call ended: it was played whole to an outcome that stops nothing, or it stopped.
-abbrev pub Ended : {A : Type 0} → Bool → Dialog ⊥ (Result A HostFault) → Position → LinkView → LinkView
+abbrev pub Ended : {A : Type 0} → Bool → Dialog ⊥ (Result A HostFault) → Position → LinkState → LinkState
     → Result A HostFault → Position → Type 0
 Ended takes dialog m o p outcome n =
     (PlaysOver dialog m o p outcome n × (stands (after_outcome outcome) ≡ Ok (standing outcome)))
     ⊎ ((stop : Stop) × StopsAs outcome stop × StopsOver takes dialog m o p stop)
 
-module _ {A : Type 0} (dialog : Dialog ⊥ (Result A HostFault)) (m : Position) (o p : LinkView) where
+module _ {A : Type 0} (dialog : Dialog ⊥ (Result A HostFault)) (m : Position) (o p : LinkState) where
   pub call_ended : (outcome : Result A HostFault) (n : Position) → (PlaysOver dialog m o p (Err Memory) n → ⊥)
       → EndsCall dialog m o p outcome n → Ended false dialog m o p outcome n
   call_ended (Err SendFailed) n never ends = inr (Broke Send, refl, ends)
@@ -97,7 +97,7 @@ judged_not : {A : Type 0} (judge : StepOutcome → Result A HostFault)
 judged_not judge not None is = is
 judged_not judge not (Some x) is = not x.0 is
 
-judged_lacks_none : {A : Type 0} {m n : Position} {o p : LinkView} (first : Dialog ⊥ StepOutcome)
+judged_lacks_none : {A : Type 0} {m n : Position} {o p : LinkState} (first : Dialog ⊥ StepOutcome)
     (judge : StepOutcome → Result A HostFault) → ((outcome : StepOutcome) → IsMemory (judge outcome) → ⊥)
     → PlaysOver (first >>= λ outcome. Done (judge outcome)) m o p (Err Memory) n → ⊥
 judged_lacks_none {A = A} {m = m} first judge not f =
@@ -129,25 +129,25 @@ signature_not wanted false (Ok found) is = by_test (bytes_eq found wanted) is
     by_test false is = is
 signature_not wanted force (Err fault) is = host_fault_not (List ℕ) fault is
 
-pub opening_lacks_none : {m n : Position} {o p : LinkView} (wanted : List ℕ) (force : Bool)
+pub opening_lacks_none : {m n : Position} {o p : LinkState} (wanted : List ℕ) (force : Bool)
     → PlaysOver (opening wanted force) m o p (Err Memory) n → ⊥
 unfolding opening
 opening_lacks_none wanted force f = judged_lacks_none handshake (signature_judged wanted force)
     (signature_not wanted force) f
 
-pub closing_lacks_none : {m n : Position} {o p : LinkView} → PlaysOver closing m o p (Err Memory) n → ⊥
+pub closing_lacks_none : {m n : Position} {o p : LinkState} → PlaysOver closing m o p (Err Memory) n → ⊥
 unfolding closing
 closing_lacks_none f = judged_lacks_none (step (leave ∷ [])) without_bytes ended_not f
 
-operation_lacks_none : {m n : Position} {o p : LinkView} (steps : List (List Command))
+operation_lacks_none : {m n : Position} {o p : LinkState} (steps : List (List Command))
     → PlaysOver (operation steps no_result) m o p (Err Memory) n → ⊥
 unfolding operation
 operation_lacks_none steps f = judged_lacks_none (play steps []) (judged_by no_result) done_not f
 
-pub erasing_lacks_none : {m n : Position} {o p : LinkView} → PlaysOver erasing m o p (Err Memory) n → ⊥
+pub erasing_lacks_none : {m n : Position} {o p : LinkState} → PlaysOver erasing m o p (Err Memory) n → ⊥
 erasing_lacks_none f = operation_lacks_none ((erase ∷ []) ∷ []) f
 
-pub writing_lacks_none : {m n : Position} {o p : LinkView} (part : Part) (mem : Mem) (image : List (Option ℕ))
+pub writing_lacks_none : {m n : Position} {o p : LinkState} (part : Part) (mem : Mem) (image : List (Option ℕ))
     → PlaysOver (writing part mem image) m o p (Err Memory) n → ⊥
 writing_lacks_none {m = m} {n = n} {o = o} {p = p} part mem image f = by_test (is_writable mem) f
   where
@@ -191,7 +191,7 @@ line_at part Lacks = refl
 
 -- and it is reported, where the line of such a fault is all that is said of it
 pub told_of : {A : Type 0} (part : Part) (tells : Result A HostFault → List Saying)
-    → ((stop : Stop) → tells (Err (fault_at stop)) ≡ Line (fault_line part (fault_at stop)) ∷ []) → {d e : DeskView}
+    → ((stop : Stop) → tells (Err (fault_at stop)) ≡ Line (fault_line part (fault_at stop)) ∷ []) → {d e : DeskState}
     {outcome : Result A HostFault} {said : Result (Unit {0}) DeskFault} → Reports PrintStops d e (tells outcome) said
     → (stop : Stop) → StopsAs outcome stop → Tells d e (cause_line (cause_at stop))
 told_of part tells line {d = d} {e = e} {said = said} reports stop is =
@@ -205,13 +205,13 @@ opening_line quiet part (Broke Recv) = refl
 opening_line quiet part Lacks = refl
 
 -- what stops a run is counted, or is want of memory
-pub stop_come : {A R : Type 0} (takes : Bool) (dialog : Dialog ⊥ R) (m : Position) (o p : LinkView)
-    {outcome : Result A HostFault} (d : DeskView) (stop : Stop) → (IsBroken outcome → link.HasFailed o p)
+pub stop_come : {A R : Type 0} (takes : Bool) (dialog : Dialog ⊥ R) (m : Position) (o p : LinkState)
+    {outcome : Result A HostFault} (d : DeskState) (stop : Stop) → (IsBroken outcome → link.HasFailed o p)
     → StopsAs outcome stop
     → StopsOver takes dialog m o p stop → HasCome takes (devices o d) (devices p d) (cause_at stop)
 stop_come takes dialog m o p d (Broke Send) failed is over = (failed (subst IsBroken (sym is) tt), same_here d)
 stop_come takes dialog m o p d (Broke Recv) failed is over = (failed (subst IsBroken (sym is) tt), same_here d)
-stop_come takes dialog m o p d Lacks failed is over = (over.0, (ap (λ (v : LinkView). v.failures) over.1, same_here d))
+stop_come takes dialog m o p d Lacks failed is over = (over.0, (ap (λ (v : LinkState). v.failures) over.1, same_here d))
 
 stopped_runs : {A R : Type 0} (go_on : A → Dialog Saying R) (dialog : Dialog ⊥ A) {m : Position} {o p : Devices}
     {terms : Terms} (stop : Stop) → StopsOver terms.takes dialog m o.link p.link stop → ToldBy terms (cause_at stop) o p
@@ -222,9 +222,9 @@ stopped_runs go_on dialog {m = m} Lacks over told =
 
 -- An operation and its report are a phase of a session.
 pub operation_runs : {A : Type 0} (operation : Dialog ⊥ (Result A HostFault))
-    (outcome_says : Result A HostFault → List Saying) (m n : Position) {o p : LinkView} {d e : DeskView}
+    (outcome_says : Result A HostFault → List Saying) (m n : Position) {o p : LinkState} {d e : DeskState}
     (outcome : Result A HostFault) (said : Result (Unit {0}) DeskFault) (terms : Terms)
-    (By : DeskView → DeskView → Cause → List ℕ → Type 0) → StopsReport terms p d e (outcome_says outcome) By
+    (By : DeskState → DeskState → Cause → List ℕ → Type 0) → StopsReport terms p d e (outcome_says outcome) By
     → Ended terms.takes operation m o p outcome n → length n.unread ≤ 281
     → UnlessBroken outcome (p.failures ≡ o.failures) → SaysOrStops By d e (outcome_says outcome) said
     → ((stop : Stop) → StopsAs outcome stop → StopsOver terms.takes operation m o p stop

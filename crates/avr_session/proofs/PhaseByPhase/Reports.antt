@@ -1,7 +1,7 @@
 -- What is reported, one thing after another.
 use Rattle.std.proofs.Common.{◌≡◌, ◌≤◌, ℕ, arith, List, [], ◌∷◌, ◌++◌, Result, Ok, Err, refl, sym, ap, ◌∙◌, subst, inl, inr, IfErr, append-nil, nat_lt, false}
 use Rattle.std.proofs.lemmas.Bool.Decides.{nat_tests}
-use Rattle.avr_desk.specs.Record.{Record, DeskView, Passes, after_err}
+use Rattle.avr_desk.specs.Record.{Record, DeskState, Passes, after_err}
 use Rattle.avr_desk.specs.Fault.{Counts, Follows, HasFailedAt, HasFailedToSay, HasSameCounts}
 use Rattle.avr_desk.specs.declared.desk.DeskFault.{DeskFault}
 use Rattle.avr_desk.specs.declared.desk.DeskFault.TheVariants.{NotFound, Failed}
@@ -15,17 +15,17 @@ use Rattle.avr_session.specs.Reporting.{SaysPrefix, SaidSome, SaysOrStops, Repor
 use Rattle.avr_session.specs.Saving.{SaveStops}
 use Rattle.avr_session.proofs.Runs.Stops.{sayings_by, line_part, prefix_behind, prefix_of}
 
-pub print_stops_later : (a b c : DeskView) → HasSameCounts a b → (cause : Cause) (told : List ℕ)
+pub print_stops_later : (a b c : DeskState) → HasSameCounts a b → (cause : Cause) (told : List ℕ)
     → PrintStops b c cause told → PrintStops a c cause told
 print_stops_later a b c same OfPrinting told stops = (unsaid_since a b c same stops.0, stops.1)
 print_stops_later a b c same cause told stops = absurd stops
 
-pub print_is_desk : (a b : DeskView) (cause : Cause) (told : List ℕ) → PrintStops a b cause told
+pub print_is_desk : (a b : DeskState) (cause : Cause) (told : List ℕ) → PrintStops a b cause told
     → DeskStops a b cause told
 print_is_desk a b (OfFile file trouble) told stops = absurd stops
 print_is_desk a b cause told stops = stops
 
-pub file_stops_in : (a b c : DeskView) (file : List ℕ) (trouble : FileTrouble) (told : List ℕ) → HasSameCounts a b
+pub file_stops_in : (a b c : DeskState) (file : List ℕ) (trouble : FileTrouble) (told : List ℕ) → HasSameCounts a b
     → FileStops b c file trouble told → FileStops a c file trouble told
 file_stops_in a b c file trouble told same stops =
     failure_since (cause_line (OfFile file trouble)) told a b c same stops
@@ -37,7 +37,7 @@ pub kept_nothing : (d : Record) → d ≡ after_err [] d
 kept_nothing d = sym (nothing_printed d)
 
 -- nothing more is printed where printing failed
-said_until : (old new : DeskView) (sayings : List Saying) → SaysPrefix OfPrinting old new sayings
+said_until : (old new : DeskState) (sayings : List Saying) → SaysPrefix OfPrinting old new sayings
     → HasFailedToSay old new → SaidSome PrintStops old new sayings
 said_until old new sayings prefix failed = record {
   between = new;
@@ -48,7 +48,7 @@ said_until old new sayings prefix failed = record {
   kept = kept_nothing new.kept;
 }
 
-line_said : (old new : DeskView) (bytes : List ℕ) (printed : Result (Unit {0}) DeskFault)
+line_said : (old new : DeskState) (bytes : List ℕ) (printed : Result (Unit {0}) DeskFault)
     → IsPrinted old new bytes printed → Counts Messages old new printed → IfErr printed (λ e. e ≡ Failed)
     → SaysOrStops PrintStops old new (Line bytes ∷ []) printed
 line_said old new bytes (Ok done) is counts only = (is, counts.1)
@@ -57,14 +57,14 @@ line_said old new bytes (Err Failed) is counts only =
     said_until old new (Line bytes ∷ []) (line_part old new bytes is) counts.1
 
 -- a line that was printed, or not
-pub reports_line : (old new : DeskView) (bytes : List ℕ) (printed : Result (Unit {0}) DeskFault)
+pub reports_line : (old new : DeskState) (bytes : List ℕ) (printed : Result (Unit {0}) DeskFault)
     → IsPrinted old new bytes printed → Counts Messages old new printed → IfErr printed (λ e. e ≡ Failed)
     → Reports PrintStops old new (Line bytes ∷ []) printed
 reports_line old new bytes printed is counts only =
     record { says = line_said old new bytes printed is counts only; follows = counts.0 }
 
 -- a report and then a line, where a cause that stops the line stops both
-said_then : (By : DeskView → DeskView → Cause → List ℕ → Type 0) (old mid new : DeskView) (first more : List Saying)
+said_then : (By : DeskState → DeskState → Cause → List ℕ → Type 0) (old mid new : DeskState) (first more : List Saying)
     (result : Result (Unit {0}) DeskFault)
     → ((cause : Cause) (told : List ℕ) → PrintStops mid new cause told → By old new cause told)
     → Passes (after_all first) old mid × HasSameCounts old mid → SaysOrStops PrintStops mid new more result
@@ -81,7 +81,7 @@ said_then By old mid new first more (Err _) why was then = record {
 }
 
 -- one report and then another
-pub reports_then : (old mid new : DeskView) (first more : List Saying) {done : Unit {0}}
+pub reports_then : (old mid new : DeskState) (first more : List Saying) {done : Unit {0}}
     (result : Result (Unit {0}) DeskFault) → Reports PrintStops old mid first (Ok done)
     → Reports PrintStops mid new more result → Reports PrintStops old new (first ++ more) result
 reports_then old mid new first more result was then = record {
@@ -91,7 +91,7 @@ reports_then old mid new first more result was then = record {
 }
 
 -- something is saved, and then a line is printed
-pub saves_then : (old mid new : DeskView) (file : List ℕ) (first more : List Saying) {done : Unit {0}}
+pub saves_then : (old mid new : DeskState) (file : List ℕ) (first more : List Saying) {done : Unit {0}}
     (result : Result (Unit {0}) DeskFault) → Reports (SaveStops file) old mid first (Ok done)
     → Reports PrintStops mid new more result → Reports DeskStops old new (first ++ more) result
 saves_then old mid new file first more result was then = record {
@@ -102,7 +102,7 @@ saves_then old mid new file first more result was then = record {
 }
 
 -- the first report was the last
-pub reports_until : (By Then : DeskView → DeskView → Cause → List ℕ → Type 0) {old new : DeskView}
+pub reports_until : (By Then : DeskState → DeskState → Cause → List ℕ → Type 0) {old new : DeskState}
     (first more : List Saying) (fault : DeskFault)
     → ((cause : Cause) (told : List ℕ) → By old new cause told → Then old new cause told)
     → Reports By old new first (Err fault) → Reports Then old new (first ++ more) (Err fault)
@@ -127,7 +127,7 @@ one_only l x [] more is = let e : Line l ≡ Line x = cc in let same : l ≡ x =
 one_only l x (s ∷ []) more is = let e : [] ≡ Line x ∷ more = cc in absurd (cc)
 one_only l x (s ∷ t ∷ whole) more is = let e : [] ≡ t ∷ (whole ++ (Line x ∷ more)) = cc in absurd (cc)
 
-one_line : {d e : DeskView} (l : List ℕ) → SaysPrefix OfPrinting d e (Line l ∷ [])
+one_line : {d e : DeskState} (l : List ℕ) → SaysPrefix OfPrinting d e (Line l ∷ [])
     → (prefix : List ℕ) × IsPrefixOf prefix l × Passes (after_err prefix) d e
 one_line {d = d} {e = e} l prefix =
     let p = prefix.place in
@@ -140,7 +140,7 @@ one_line {d = d} {e = e} l prefix =
       subst (λ ss. Passes (after_all ss) d e) (ap (λ ss. ss ++ prefix.begun) one.0 ∙ begun) prefix.kept,
     )
 
-told_line : (cause : Cause) (told l : List ℕ) (old new between : DeskView) → Follows old new
+told_line : (cause : Cause) (told l : List ℕ) (old new between : DeskState) → Follows old new
     → SaysPrefix cause old between (Line l ∷ []) → PrintStops old new cause told → Passes (after_err told) between new
     → Tells old new l
 told_line OfPrinting told l old new between follows prefix stops kept =
@@ -150,7 +150,7 @@ told_line OfPrinting told l old new between follows prefix stops kept =
     record { told = some.0; tells = inr (some.1, stops.0); kept = same ∙ some.2; follows = follows }
 told_line cause told l old new between follows prefix stops kept = absurd stops
 
-some_told : (old new : DeskView) (l : List ℕ) (result : Result (Unit {0}) DeskFault) → Follows old new
+some_told : (old new : DeskState) (l : List ℕ) (result : Result (Unit {0}) DeskFault) → Follows old new
     → SaysOrStops PrintStops old new (Line l ∷ []) result → Tells old new l
 some_told old new l (Ok done) follows said =
     record { told = l; tells = inl (refl, said.1); kept = said.0; follows = follows }
@@ -158,12 +158,13 @@ some_told old new l (Err _) follows some =
     told_line some.cause some.told l old new some.between follows some.prefix some.stops some.kept
 
 -- what was printed of a line that was reported
-pub told_some : (old new : DeskView) (l : List ℕ) (result : Result (Unit {0}) DeskFault)
+pub told_some : (old new : DeskState) (l : List ℕ) (result : Result (Unit {0}) DeskFault)
     → Reports PrintStops old new (Line l ∷ []) result → Tells old new l
 told_some old new l result reports = some_told old new l result reports.follows reports.says
 
 -- a file's trouble is reported after what was done
-pub file_stops : (By : DeskView → DeskView → Cause → List ℕ → Type 0) (old mid new : DeskView) (sayings : List Saying)
+pub file_stops : (By : DeskState → DeskState → Cause → List ℕ → Type 0) (old mid new : DeskState)
+    (sayings : List Saying)
     (file : List ℕ) (trouble : FileTrouble) → SaysPrefix (OfFile file trouble) old mid sayings
     → HasFailedAt File old mid → Follows old mid
     → ((told : List ℕ) → FileStops old new file trouble told → By old new (OfFile file trouble) told)

@@ -1,7 +1,7 @@
 -- Files that are created and written.
 use Rattle.std.proofs.Common.{◌≡◌, ℕ, true, List, [], ◌∷◌, map, bytes_eq, codes, Result, Ok, Err, ◌∙◌, refl}
 use Rattle.std.proofs.lemmas.Slice.Eq.{bytes_eq-Decides}
-use Rattle.avr_desk.specs.Record.{DeskView, Passes, after_create}
+use Rattle.avr_desk.specs.Record.{DeskState, Passes, after_create}
 use Rattle.avr_desk.specs.Fault.{Counts, Follows, HasFailedAt, HasSameCounts}
 use Rattle.avr_desk.specs.Stream.{SendsPart}
 use Rattle.avr_desk.specs.declared.stream.Stream.{Stream}
@@ -18,7 +18,7 @@ use Rattle.avr_session.specs.Saving.{IsForData, SaveStops, WritesSome, WritesAll
 use Rattle.avr_session.proofs.Runs.Stops.{file_part, output_part}
 use Rattle.avr_session.proofs.PhaseByPhase.Reports.{file_stops_in}
 
-pub not_created : (old new : DeskView) (file : List ℕ) (result : Result (Unit {0}) DeskFault) (fault : DeskFault)
+pub not_created : (old new : DeskState) (file : List ℕ) (result : Result (Unit {0}) DeskFault) (fault : DeskFault)
     (more : List Saying) → result ≡ Err fault → Passes (after_create file result) old new
     → SaysPrefix (OfFile file NotCreated) old new (Creates file ∷ more)
 not_created old new file (Ok done) fault more is kept = cc
@@ -33,14 +33,14 @@ not_created old new file (Err other) fault more is kept = record {
 }
 
 -- where a file can't be saved the desk has failed
-pub save_is_desk : (file : List ℕ) (before now : DeskView) (cause : Cause) (told : List ℕ)
+pub save_is_desk : (file : List ℕ) (before now : DeskState) (cause : Cause) (told : List ℕ)
     → SaveStops file before now cause told → DeskStops before now cause told
 save_is_desk file before now (OfFile named NotCreated) told stops = stops.1
 save_is_desk file before now (OfFile named NotWritten) told stops = stops.1
 save_is_desk file before now cause told stops = absurd stops
 
 -- a file was created, and its bytes were written, or a prefix of them
-text_then : (old mid new : DeskView) (file text : List ℕ) (result : Result (Unit {0}) DeskFault)
+text_then : (old mid new : DeskState) (file text : List ℕ) (result : Result (Unit {0}) DeskFault)
     → Passes (after_all (Creates file ∷ [])) old mid → HasSameCounts old mid → WritesAll File file mid new text result
     → SaysOrStops (SaveStops file) old new (Creates file ∷ Writes text ∷ []) result
 text_then old mid new file text (Ok done) kept same writes = (
@@ -56,7 +56,7 @@ text_then old mid new file text (Err _) kept same writes = record {
   kept = writes.kept;
 }
 
-pub created_then : (old mid new : DeskView) (file text : List ℕ) (created : Result (Unit {0}) DeskFault)
+pub created_then : (old mid new : DeskState) (file text : List ℕ) (created : Result (Unit {0}) DeskFault)
     (result : Result (Unit {0}) DeskFault) {done : Unit {0}} → created ≡ Ok done
     → Passes (after_create file created) old mid → Counts File old mid created → Follows mid new
     → WritesAll File file mid new text result
@@ -70,7 +70,7 @@ created_then old mid new file text (Ok ok) result is kept first last writes =
     }
 
 -- bytes were written to standard output, or a prefix of them
-put_out : (old new : DeskView) (file text : List ℕ) (result : Result (Unit {0}) DeskFault) → file ≡ codes "-"
+put_out : (old new : DeskState) (file text : List ℕ) (result : Result (Unit {0}) DeskFault) → file ≡ codes "-"
     → WritesAll Output file old new text result → SaysOrStops (SaveStops file) old new (Outs text ∷ []) result
 put_out old new file text (Ok done) named writes = writes
 put_out old new file text (Err _) named writes = record {
@@ -82,7 +82,7 @@ put_out old new file text (Err _) named writes = record {
   kept = writes.kept;
 }
 
-pub saved_out : (old new : DeskView) (file text : List ℕ) (result : Result (Unit {0}) DeskFault)
+pub saved_out : (old new : DeskState) (file text : List ℕ) (result : Result (Unit {0}) DeskFault)
     → bytes_eq file (codes "-") ≡ true → WritesAll Output file old new text result → Follows old new
     → Reports (SaveStops file) old new (saving_says file text) result
 saved_out old new file text result same writes follows =
@@ -92,14 +92,14 @@ saved_out old new file text result same writes follows =
     }
 
 -- what fails as it is written fails as a file
-pub failed_at_file : (stream : Stream) (old new : DeskView) → IsForData stream → HasFailedAt stream old new
+pub failed_at_file : (stream : Stream) (old new : DeskState) → IsForData stream → HasFailedAt stream old new
     → HasFailedAt File old new
 failed_at_file File old new written failed = failed
 failed_at_file Output old new written failed = failed
 failed_at_file Messages old new written failed = absurd written
 
 -- what was reported of a file after a prefix of its bytes
-pub writes_some : (stream : Stream) (file text : List ℕ) (old mid new : DeskView) → SendsPart stream old mid text
+pub writes_some : (stream : Stream) (file text : List ℕ) (old mid new : DeskState) → SendsPart stream old mid text
     → HasFailedAt File old mid → Follows old mid → Tells mid new (cause_line (OfFile file NotWritten))
     → WritesSome stream file old new text
 writes_some stream file text old mid new part failed first some = record {

@@ -5,7 +5,7 @@ use Rattle.std.specs.List.{list_any}
 use Rattle.std.proofs.lemmas.Grind.{common_steps}
 use Rattle.std.proofs.lemmas.List.Folds.{list_any-append}
 use Rattle.avr_desk.specs.Fault.{Follows}
-use Rattle.avr_desk.specs.Record.{DeskView}
+use Rattle.avr_desk.specs.Record.{DeskState}
 use Rattle.avr_desk.specs.declared.desk.DeskFault.{DeskFault}
 use Rattle.avr_cli.specs.declared.settings.Switches.{Switches}
 use Rattle.avr_part.specs.Part.{Part}
@@ -13,12 +13,12 @@ use Rattle.stk_host.specs.declared.fault.HostFault.{HostFault}
 use Rattle.stk_host.specs.declared.fault.Broken.TheVariants.{Send, Recv}
 use Rattle.stk_host.specs.Operations.{closing}
 use Rattle.stk_host.specs.State.{HostState}
-use Rattle.stk_host.specs.Talk as link
+use Rattle.stk_host.specs.Transcript as link
 use Rattle.stk_host.specs.Play.{Position}
-use Rattle.stk_host.specs.Talk.{LinkView, heard}
+use Rattle.stk_host.specs.Transcript.{LinkState, heard}
 use Rattle.stk_host.specs.Tape.{Tape, on_tape}
-use Rattle.stk_host.proofs.Talks.InDialogs.{followed, played_bind}
-use Rattle.stk_host.proofs.Talks.Laws.{heard_append}
+use Rattle.stk_host.proofs.Transcripts.InDialogs.{followed, played_bind}
+use Rattle.stk_host.proofs.Transcripts.Laws.{heard_append}
 use Rattle.stk_host.specs.Calls.{IsBroken, Calls, CallsBy, given_or_fault}
 use Rattle.stk_host.specs.Dialog.{Dialog, Done, ◌>>=◌, Event, Played, played, behind, sayings}
 use Rattle.avr_desk.specs.Said.{Saying, Tells}
@@ -45,12 +45,12 @@ use Rattle.avr_session.proofs.PhaseByPhase.Actions.{phases-one, phases-append}
 use Rattle.avr_session.proofs.PhaseByPhase.Operations.{call_ended, closing_lacks_none, Stop, Broke, Lacks, cause_at, StopsAs, StopsOver, Ended, operation_runs, serves_after, stop_come, told_of}
 
 -- a desk that failed as it printed stops the run, whatever was reported
-printing_tells : (flag : Bool) (told : List ℕ) (d : DeskView) → told ≡ [] → TellsCause flag OfPrinting told d d
+printing_tells : (flag : Bool) (told : List ℕ) (d : DeskState) → told ≡ [] → TellsCause flag OfPrinting told d d
 unfolding cause_line
 printing_tells false told d none = inl (none, same_here d)
 printing_tells true told d none = none
 
-pub print_stops_run : (terms : Terms) (o : LinkView) (d e : DeskView) → Follows d e
+pub print_stops_run : (terms : Terms) (o : LinkState) (d e : DeskState) → Follows d e
     → (said : List Saying) (cause : Cause) (told : List ℕ) → PrintStops d e cause told
     → StopsBehind terms (devices o d) (devices o e) said cause told
 print_stops_run terms o d e le said OfPrinting told stops =
@@ -65,7 +65,7 @@ print_stops_run terms o d e le said OfPrinting told stops =
 print_stops_run terms o d e le said cause told stops = absurd stops
 
 -- at a file too, where no fault was reported
-desk_stops_run : (takes : Bool) (o : LinkView) (d e : DeskView) → Follows d e → (said : List Saying)
+desk_stops_run : (takes : Bool) (o : LinkState) (d e : DeskState) → Follows d e → (said : List Saying)
     → tells_fault said ≡ false → (cause : Cause) (told : List ℕ) → DeskStops d e cause told
     → StopsBehind (untold takes) (devices o d) (devices o e) said cause told
 desk_stops_run takes o d e le said none (OfFile file trouble) told stops = record {
@@ -81,20 +81,20 @@ desk_stops_run takes o d e le said none cause told stops = absurd stops
 
 -- what a report stops by, after a prefix of what it says
 
-pub print_stops_report : (terms : Terms) (o : LinkView) {d e : DeskView} {sayings : List Saying}
+pub print_stops_report : (terms : Terms) (o : LinkState) {d e : DeskState} {sayings : List Saying}
     {told : Result (Unit {0}) DeskFault} → Reports PrintStops d e sayings told
     → StopsReport terms o d e sayings PrintStops
 print_stops_report terms o {d = d} {e = e} reports mid cause prefix told stops =
     print_stops_run terms o d e reports.follows (prefix.whole ++ prefix.begun) cause told stops
 
-desk_stops_report : (takes : Bool) (o : LinkView) (d e : DeskView) (sayings : List Saying) → Follows d e
+desk_stops_report : (takes : Bool) (o : LinkState) (d e : DeskState) (sayings : List Saying) → Follows d e
     → tells_fault sayings ≡ false → StopsReport (untold takes) o d e sayings DeskStops
 desk_stops_report takes o d e sayings le none mid cause prefix told stops =
     desk_stops_run takes o d e le (prefix.whole ++ prefix.begun) (prefix_tells_none prefix none) cause told stops
 
 -- a cause that was reported
-told_by : {A R : Type 0} (takes : Bool) (dialog : Dialog ⊥ R) (m : Position) (o p : LinkView)
-    {outcome : Result A HostFault} {d e : DeskView} (stop : Stop) → (IsBroken outcome → link.HasFailed o p)
+told_by : {A R : Type 0} (takes : Bool) (dialog : Dialog ⊥ R) (m : Position) (o p : LinkState)
+    {outcome : Result A HostFault} {d e : DeskState} (stop : Stop) → (IsBroken outcome → link.HasFailed o p)
     → StopsAs outcome stop → StopsOver takes dialog m o p stop → Tells d e (cause_line (cause_at stop))
     → ToldBy (untold takes) (cause_at stop) (devices o d) (devices p e)
 told_by takes dialog m o p {d = d} stop failed is over some = (
@@ -111,9 +111,9 @@ told_by takes dialog m o p {d = d} stop failed is over some = (
 
 -- An operation of the host, and what is said of its outcome: of a call that ended it so, and that was reported so.
 module _ {A : Type 0} (operation : Dialog ⊥ (Result A HostFault)) (outcome_says : Result A HostFault → List Saying)
-    {Ends : Position → LinkView → LinkView → Result A HostFault → Position → Type 0} {old new : HostState}
-    {o p : LinkView} {d e : DeskView} {outcome : Result A HostFault} {told : Result (Unit {0}) DeskFault}
-    {result : Result (Unit {0}) End} {By : DeskView → DeskView → Cause → List ℕ → Type 0}
+    {Ends : Position → LinkState → LinkState → Result A HostFault → Position → Type 0} {old new : HostState}
+    {o p : LinkState} {d e : DeskState} {outcome : Result A HostFault} {told : Result (Unit {0}) DeskFault}
+    {result : Result (Unit {0}) End} {By : DeskState → DeskState → Cause → List ℕ → Type 0}
     (reports : Reports By d e (outcome_says outcome) told) where
   phase_performs : (terms : Terms) → StopsReport terms p d e (outcome_says outcome) By
       → ((stop : Stop) → StopsAs outcome stop → StopsOver terms.takes operation old.progress o p stop
@@ -142,7 +142,7 @@ module _ {A : Type 0} (operation : Dialog ⊥ (Result A HostFault)) (outcome_say
       (λ stop at over. told_by takes operation old.progress o p stop (calls.failed sound) at over (some stop at)) sound
       calls
 
-left_out_runs : (takes : Bool) (sayings : List Saying) (m : Position) (o : LinkView) (d e : DeskView)
+left_out_runs : (takes : Bool) (sayings : List Saying) (m : Position) (o : LinkState) (d e : DeskState)
     (told : Result (Unit {0}) DeskFault) → Reports PrintStops d e sayings told
     → Runs (says sayings (Done Fine)) m (devices o d) (devices o e) (untold takes) (AtOnce takes)
     (stands (conclusion {A = Unit {0}} (Ok tt) told)) m
@@ -151,16 +151,17 @@ left_out_runs takes sayings m o d e (Err _) reports =
     broke_saying sayings (Done Fine) m o (print_stops_report (untold takes) o reports) reports.says
 
 -- something said in its place
-pub left_out_performs : (takes : Bool) (sayings : List Saying) {host : HostState} {o : LinkView} {d e : DeskView}
+pub left_out_performs : (takes : Bool) (sayings : List Saying) {host : HostState} {o : LinkState} {d e : DeskState}
     (result : Result (Unit {0}) End) → host.broken ≡ None → LeavesOut sayings d e result
     → Performs takes (says sayings (Done Fine)) host host (devices o d) (devices o e) (stands result)
-left_out_performs takes sayings {host = host} {o = o} {d = d} {e = e} result sound leaves = rw leaves.result_is (record {
-  runs = left_out_runs takes sayings host.progress o d e leaves.told leaves.reports;
-  serves = serves_after {A = Unit {0}} (Ok tt) leaves.told host.broken sound;
-  part = refl;
-  link = omega arith;
-  desk = leaves.reports.follows;
-})
+left_out_performs takes sayings {host = host} {o = o} {d = d} {e = e} result sound leaves =
+    rw leaves.result_is (record {
+      runs = left_out_runs takes sayings host.progress o d e leaves.told leaves.reports;
+      serves = serves_after {A = Unit {0}} (Ok tt) leaves.told host.broken sound;
+      part = refl;
+      link = omega arith;
+      desk = leaves.reports.follows;
+    })
 
 -- nothing
 pub nothing_performs : {terms : Terms} {L : Lacking} (standing : Standing) (host : HostState) (o : Devices)
@@ -359,7 +360,7 @@ given_concluded a (Err fault) (Ok done) = refl
 given_concluded a outcome (Err _) = refl
 
 -- a fault alone tells why a run stops
-pub given_told : {A : Type 0} (a : A) (good : A → List Saying) {d e : DeskView} (part : Part)
+pub given_told : {A : Type 0} (a : A) (good : A → List Saying) {d e : DeskState} (part : Part)
     (outcome : Result (Unit {0}) HostFault) {told : Result (Unit {0}) DeskFault}
     → Reports (ReadStops outcome) d e (fault_or part good (given_or_fault a outcome)) told
     → (stop : Stop) → StopsAs (given_or_fault a outcome) stop → Tells d e (cause_line (cause_at stop))
@@ -368,7 +369,7 @@ given_told a good part (Err fault) reports stop is = told_of part (fault_or part
 
 -- only where bytes were read there is something to save, and no fault is reported of them
 pub read_stops_report : (part : Part) (good : List ℕ → List Saying) (items : List ℕ) → tells_fault (good items) ≡ false
-    → (outcome : Result (Unit {0}) HostFault) (takes : Bool) (o : LinkView) {d e : DeskView}
+    → (outcome : Result (Unit {0}) HostFault) (takes : Bool) (o : LinkState) {d e : DeskState}
     {told : Result (Unit {0}) DeskFault}
     → Reports (ReadStops outcome) d e (fault_or part good (given_or_fault items outcome)) told
     → StopsReport (untold takes) o d e (fault_or part good (given_or_fault items outcome)) (ReadStops outcome)
@@ -403,14 +404,14 @@ abbrev told_before : Terms
 told_before = record { takes = false; was_told = true }
 
 -- nothing is reported there of a link that failed, and memory is taken nowhere
-silent_at : {R : Type 0} (dialog : Dialog ⊥ R) (m : Position) (o p : LinkView) (d : DeskView) (stop : Stop)
+silent_at : {R : Type 0} (dialog : Dialog ⊥ R) (m : Position) (o p : LinkState) (d : DeskState) (stop : Stop)
     → StopsOver false dialog m o p stop → TellsCause true (cause_at stop) [] d d
 silent_at dialog m o p d (Broke Send) over = refl
 silent_at dialog m o p d (Broke Recv) over = refl
 silent_at dialog m o p d Lacks over = let e = over.0 in absurd (cc)
 
-told_nothing : {A R : Type 0} (dialog : Dialog ⊥ R) (m : Position) (o p : LinkView) {outcome : Result A HostFault}
-    (d : DeskView) → (IsBroken outcome → link.HasFailed o p) → (stop : Stop) → StopsAs outcome stop
+told_nothing : {A R : Type 0} (dialog : Dialog ⊥ R) (m : Position) (o p : LinkState) {outcome : Result A HostFault}
+    (d : DeskState) → (IsBroken outcome → link.HasFailed o p) → (stop : Stop) → StopsAs outcome stop
     → StopsOver false dialog m o p stop → ToldBy told_before (cause_at stop) (devices o d) (devices p d)
 told_nothing dialog m o p d failed stop is over = (
   [],
@@ -425,7 +426,7 @@ told_nothing dialog m o p d failed stop is over = (
 )
 
 -- programming mode is left, and nothing is reported of it
-pub quietly_performs : {old new : HostState} {o p : LinkView} (d : DeskView) {outcome : Result (Unit {0}) HostFault}
+pub quietly_performs : {old new : HostState} {o p : LinkState} (d : DeskState) {outcome : Result (Unit {0}) HostFault}
     {result : Result (Unit {0}) End} → old.broken ≡ None → Calls closing old new o p outcome
     → result ≡ conclusion outcome (Ok tt)
     → PerformsBehind told_before (AtOnce false) (reported closing (λ _. [])) old new (devices o d) (devices p d)

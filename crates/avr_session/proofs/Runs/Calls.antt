@@ -4,18 +4,18 @@ use Rattle.std.proofs.Math.Bool.{or_assoc, or-false}
 use Rattle.std.proofs.lemmas.List.Folds.{list_any-append}
 use Rattle.ghosts.specs.Failures.{HasRisen}
 use Rattle.avr_desk.specs.Fault.{HasSameCounts}
-use Rattle.avr_desk.specs.Record.{Record, DeskView, Passes, after_err}
+use Rattle.avr_desk.specs.Record.{Record, DeskState, Passes, after_err}
 use Rattle.stk_host.specs.declared.fault.Broken.{Broken}
 use Rattle.stk_host.specs.declared.fault.Broken.TheVariants.{Send, Recv}
 use Rattle.stk_host.specs.Tape.{Tape, on_tape}
-use Rattle.stk_host.specs.Talk.{Talk, LinkView, Grows, heard, sent}
+use Rattle.stk_host.specs.Transcript.{Transcript, LinkState, Grows, heard, sent}
 use Rattle.stk_host.specs.Dialog.{Dialog, Done, ◌>>=◌, lifted, Event, Frame, Said, Played, played, bytes_sent, sayings}
 use Rattle.stk_host.specs.Play.{Position, InTurn, played_over, PlaysOver, FailsOver}
-use Rattle.stk_host.specs.Reach.{TalkLeads}
-use Rattle.stk_host.proofs.Talks.Laws.{grows_none, grows_on}
-use Rattle.stk_host.proofs.Talks.InDialogs.{continued, played_bind, leads_here, leads_on, leads_bind, leads_say, leads_from, plays_from, breaks_on, breaks_bind}
+use Rattle.stk_host.specs.Reach.{TranscriptLeads}
+use Rattle.stk_host.proofs.Transcripts.Laws.{grows_none, grows_on}
+use Rattle.stk_host.proofs.Transcripts.InDialogs.{continued, played_bind, leads_here, leads_on, leads_bind, leads_say, leads_from, plays_from, breaks_on, breaks_bind}
 use Rattle.stk_host.proofs.Dialogs.Lifted.{raised, plays_lifted, by_lifted, sayings_raised}
-use Rattle.stk_host.proofs.Talks.Laws.{heard_append}
+use Rattle.stk_host.proofs.Transcripts.Laws.{heard_append}
 use Rattle.avr_desk.specs.Said.{Saying, SaidPart, after_all}
 use Rattle.avr_desk.proofs.Stages.Sayings.{kept_on, kept_none, after_append}
 use Rattle.avr_desk.proofs.Lines.Told.{failed_since, follows_on, follows_same, same_here, same_on, unsaid_since}
@@ -35,10 +35,10 @@ point left position devices = record { left = left; position = position; devices
 
 -- a call has come from one point to another: what was sent and said between them
 pub record Came {R : Type 0} (x y : Point R) : Type 0 where
-  pub during : Talk
+  pub during : Transcript
   pub events : List (Event Saying)
-  pub grows : Grows x.devices.link.talk during y.devices.link.talk
-  pub leads : TalkLeads x.left x.position during events y.left y.position
+  pub grows : Grows x.devices.link.transcript during y.devices.link.transcript
+  pub leads : TranscriptLeads x.left x.position during events y.left y.position
   pub few : length x.position.unread ≤ 281 → length y.position.unread ≤ 281
   pub kept : Passes (after_all (sayings events)) x.devices.desk y.devices.desk
   pub sound : NoneFailed x.devices y.devices
@@ -68,7 +68,7 @@ unfoldable pub came_here : {R : Type 0} (dialog : Dialog Saying R) (m : Position
 came_here dialog m o = record {
   during = [];
   events = [];
-  grows = grows_none o.link.talk;
+  grows = grows_none o.link.transcript;
   leads = leads_here dialog m;
   few = λ f. f;
   kept = kept_none o.desk.kept;
@@ -83,7 +83,7 @@ came_on {x = x} {y = y} {z = z} f g =
     record {
       during = f.during ++ g.during;
       events = f.events ++ g.events;
-      grows = grows_on o.link.talk p.link.talk q.link.talk f.during g.during f.grows g.grows;
+      grows = grows_on o.link.transcript p.link.transcript q.link.transcript f.during g.during f.grows g.grows;
       leads = leads_on f.leads g.leads;
       few = λ few. g.few (f.few few);
       kept = kept_on (after_all (sayings f.events)) (after_all (sayings g.events))
@@ -108,7 +108,7 @@ ran_from f = record {
 
 -- so a part of a dialog was, by what its talk leads to
 abbrev came_of : {A R : Type 0} {a : Dialog Saying A} {m n : Position} {o p : Devices} {result : A}
-    {b c : Dialog Saying R} (f : Ran a m o p result n) → TalkLeads b m f.during f.events c n
+    {b c : Dialog Saying R} (f : Ran a m o p result n) → TranscriptLeads b m f.during f.events c n
     → Came (point b m o) (point c n p)
 came_of f leads = record {
   during = f.during;
@@ -132,9 +132,9 @@ StopsWhole some all before o p q = (said : List Saying) (cause : Cause) (told : 
     → StopsBehind some p q said cause told → StopsBehind all o q (before ++ said) cause told
 
 -- where want of memory may stop what is left of a dialog it may stop the whole, after this talk and these events
-abbrev pub LacksLater : Lacking → Position → Talk → List (Event Saying) → Lacking → Position → Type 0
-LacksLater L m talk events M n = (during : Talk) (shown : List (Event Saying)) → M n during shown
-    → L m (talk ++ during) (events ++ shown)
+abbrev pub LacksLater : Lacking → Position → Transcript → List (Event Saying) → Lacking → Position → Type 0
+LacksLater L m transcript events M n = (during : Transcript) (shown : List (Event Saying)) → M n during shown
+    → L m (transcript ++ during) (events ++ shown)
 
 -- a cause that comes in a part comes in the whole
 has_come_in : (some all : Bool) (o p then : Devices) → (some ≡ true → all ≡ true) → NoneFailed o p → (cause : Cause)
@@ -218,8 +218,8 @@ module _ {R : Type 0} {dialog : Dialog Saying R} {m : Position} {o p : Devices} 
         place = f.place;
       }
 
-  broke_off : (during : Talk) (shown : List (Event Saying)) (cause : Cause) (told : List ℕ)
-      → Grows o.link.talk during p.link.talk → Placed cause shown (played_over dialog m during).events
+  broke_off : (during : Transcript) (shown : List (Event Saying)) (cause : Cause) (told : List ℕ)
+      → Grows o.link.transcript during p.link.transcript → Placed cause shown (played_over dialog m during).events
       → bytes_sent shown ≡ sent during → InTurn dialog m during
       → Listens cause (played_over dialog m during).outcome → StopsBehind terms o p (sayings shown) cause told
       → Passes (λ r. after_err told (after_all (sayings shown) r)) o.desk p.desk
@@ -250,8 +250,8 @@ module _ {R : Type 0} {dialog : Dialog Saying R} {m : Position} {o p : Devices} 
   }
 
   -- before anything was said
-  broke_silent : (during : Talk) (shown : List (Event Saying)) (cause : Cause) → sayings shown ≡ []
-      → ToldBy terms cause o p → Grows o.link.talk during p.link.talk
+  broke_silent : (during : Transcript) (shown : List (Event Saying)) (cause : Cause) → sayings shown ≡ []
+      → ToldBy terms cause o p → Grows o.link.transcript during p.link.transcript
       → Placed cause shown (played_over dialog m during).events → bytes_sent shown ≡ sent during
       → InTurn dialog m during → Listens cause (played_over dialog m during).outcome
       → (cause ≡ OfMemory → L m during shown) → BrokeOff dialog m o p terms L
@@ -272,7 +272,7 @@ broke_on {R = R} {x = x} {y = y} {q = q} {all = all} came why lack broke =
     let play = ap (λ t. played x.left m.next (on_tape m.unread ++ t)) (heard_append came.during broke.during)
     ∙ came.leads.goes_on (heard broke.during) in
     broke_off (came.during ++ broke.during) (came.events ++ broke.shown) broke.cause broke.told
-    (grows_on o.link.talk p.link.talk q.link.talk came.during broke.during came.grows broke.grows)
+    (grows_on o.link.transcript p.link.transcript q.link.transcript came.during broke.during came.grows broke.grows)
     (subst (λ (play : Played Saying R). Placed broke.cause (came.events ++ broke.shown) play.events) (sym play)
     (placed_behind came.events (placed_of broke))) whole.all_sent whole.in_turn
     (subst (λ (play : Played Saying R). Listens broke.cause play.outcome) (sym play) broke.listens)
@@ -349,7 +349,7 @@ broke_raised Recv {dialog = dialog} {m = m} f some =
 -- what follows a part of a dialog
 module _ {A R : Type 0} (go_on : A → Dialog Saying R) where
   -- an operation of the host, played whole
-  unfoldable pub came_lifted : {dialog : Dialog ⊥ A} {m n : Position} {o p : LinkView} {result : A} (d : DeskView)
+  unfoldable pub came_lifted : {dialog : Dialog ⊥ A} {m n : Position} {o p : LinkState} {result : A} (d : DeskState)
       → PlaysOver dialog m o p result n → length n.unread ≤ 281 → p.failures ≡ o.failures
       → Came (point (lifted dialog >>= go_on) m (devices o d)) (point (go_on result) n (devices p d))
   came_lifted d f few same = record {
@@ -393,7 +393,7 @@ module _ {A R : Type 0} (go_on : A → Dialog Saying R) where
 -- what is said
 
 leads_says : {R : Type 0} (xs : List Saying) (dialog : Dialog Saying R) (m : Position)
-    → TalkLeads (says xs dialog) m [] (map Said xs) dialog m
+    → TranscriptLeads (says xs dialog) m [] (map Said xs) dialog m
 leads_says [] dialog m = leads_here dialog m
 leads_says (x ∷ xs) dialog m = leads_on (leads_say x (says xs dialog) m) (leads_says xs dialog m)
 
@@ -408,33 +408,34 @@ no_bytes [] = refl
 no_bytes (x ∷ xs) = no_bytes xs
 
 -- what stops a report stops it after a prefix of what it says
-abbrev pub StopsReport : Terms → LinkView → DeskView → DeskView → List Saying
-    → (DeskView → DeskView → Cause → List ℕ → Type 0) → Type 0
-StopsReport terms o d e sayings By = (mid : DeskView) (cause : Cause) (prefix : SaysPrefix cause d mid sayings)
+abbrev pub StopsReport : Terms → LinkState → DeskState → DeskState → List Saying
+    → (DeskState → DeskState → Cause → List ℕ → Type 0) → Type 0
+StopsReport terms o d e sayings By = (mid : DeskState) (cause : Cause) (prefix : SaysPrefix cause d mid sayings)
     (told : List ℕ) → By d e cause told → StopsBehind terms (devices o d) (devices o e) (prefix.whole ++ prefix.begun)
     cause told
 
 -- and then the rest of a dialog
-module _ {R : Type 0} (xs : List Saying) (dialog : Dialog Saying R) (m : Position) (o : LinkView) where
-  pub came_said : {d e : DeskView} → Passes (after_all xs) d e × HasSameCounts d e
+module _ {R : Type 0} (xs : List Saying) (dialog : Dialog Saying R) (m : Position) (o : LinkState) where
+  pub came_said : {d e : DeskState} → Passes (after_all xs) d e × HasSameCounts d e
       → Came (point (says xs dialog) m (devices o d)) (point dialog m (devices o e))
   came_said {d = d} {e = e} said = record {
     during = [];
     events = map Said xs;
-    grows = grows_none o.talk;
+    grows = grows_none o.transcript;
     leads = leads_says xs dialog m;
     few = λ f. f;
     kept = subst (λ ss. Passes (after_all ss) d e) (sym (sayings_said xs)) said.0;
     sound = (refl, said.1);
   }
 
-  pub broke_saying : {By : DeskView → DeskView → Cause → List ℕ → Type 0} {terms : Terms} {L : Lacking} {d e : DeskView}
+  pub broke_saying : {By : DeskState → DeskState → Cause → List ℕ → Type 0} {terms : Terms} {L : Lacking}
+      {d e : DeskState}
       → StopsReport terms o d e xs By → SaidSome By d e xs
       → BrokeOff (says xs dialog) m (devices o d) (devices o e) terms L
   broke_saying {terms = terms} {d = d} {e = e} why f =
       let prefix = f.prefix in
       let shown : List Saying = prefix.whole ++ prefix.begun in
-      broke_off [] (map Said shown) f.cause f.told (grows_none o.talk)
+      broke_off [] (map Said shown) f.cause f.told (grows_none o.transcript)
       (subst (Placed f.cause (map Said shown)) (sym (says_events xs dialog m.next m.unread))
       (placed_more (played_over dialog m []).events (λ listens. absurd (desk_says f.cause prefix.by_desk listens))
       (record {
@@ -456,7 +457,8 @@ pub broke_lacking : {R : Type 0} {terms : Terms} {L : Lacking} {o p : Devices} (
     → p.link ≡ o.link → ToldBy terms OfMemory o p → L m [] [] → BrokeOff dialog m o p terms L
 broke_lacking {o = o} dialog m same some lack =
     broke_silent [] [] OfMemory refl some
-    (subst (λ (v : LinkView). Grows o.link.talk [] v.talk) (sym same) (grows_none o.link.talk)) (record {
+    (subst (λ (v : LinkState). Grows o.link.transcript [] v.transcript) (sym same) (grows_none o.link.transcript))
+    (record {
       whole = [];
       begun = [];
       later = (played_over dialog m []).events;

@@ -1,6 +1,6 @@
 -- What came of a session: the line of its fault is the last one that was reported.
 use Rattle.std.proofs.Common.{◌≡◌, ◌++◌, ℕ, List, [], ◌∷◌, Result, Ok, Err, inl, inr, refl}
-use Rattle.avr_desk.specs.Record.{Bytes, DeskView, Record}
+use Rattle.avr_desk.specs.Record.{Bytes, DeskState, Record}
 use Rattle.avr_desk.specs.Said.{Saying, Line, after, after_all}
 use Rattle.avr_part.specs.Part.{Part}
 use Rattle.avr_plan.specs.Plan.{Plan}
@@ -39,7 +39,7 @@ opening_last quiet part (WrongSignature found) r =
 opening_last quiet part fault r = last_line [] (fault_line part fault) r
 
 -- a fault that doesn't stop the run was reported last
-after_fault : (A : Type 0) (part : Part) (fault : HostFault) (view : DeskView)
+after_fault : (A : Type 0) (part : Part) (fault : HostFault) (view : DeskState)
     → EndWith (fault_line part fault) view.kept.messages → EndsTold part view (after_outcome {A = A} (Err fault))
 after_fault A part SendFailed view last = tt
 after_fault A part Memory view last = tt
@@ -53,7 +53,7 @@ module _ {A : Type 0} (part : Part) (tells : Result A HostFault → List Saying)
   TellsLast = (fault : HostFault) (r : Record)
       → EndWith (fault_line part fault) (after_all (tells (Err fault)) r).messages
 
-  concluded : (By : DeskView → DeskView → Cause → Bytes → Type 0) (old new : DeskView) (outcome : Result A HostFault)
+  concluded : (By : DeskState → DeskState → Cause → Bytes → Type 0) (old new : DeskState) (outcome : Result A HostFault)
       (reported : Result (Unit {0}) DeskFault) → TellsLast → Reports By old new (tells outcome) reported
       → EndsTold part new (conclusion outcome reported)
   concluded By old new (Ok x) (Ok done) last reports = tt
@@ -64,19 +64,20 @@ module _ {A : Type 0} (part : Part) (tells : Result A HostFault → List Saying)
       after_fault A part fault new ends
 
   -- after an operation that was reported so the line of its fault is the last one
-  pub told_by : {By : DeskView → DeskView → Cause → Bytes → Type 0} {old new : DeskView} {outcome : Result A HostFault}
+  pub told_by : {By : DeskState → DeskState → Cause → Bytes → Type 0} {old new : DeskState}
+      {outcome : Result A HostFault}
       {reported : Result (Unit {0}) DeskFault} {result : Result (Unit {0}) End} → TellsLast
       → Reports By old new (tells outcome) reported → result ≡ conclusion outcome reported → EndsTold part new result
   told_by {By = By} {old = old} {new = new} {outcome = outcome} {reported = reported} last reports is =
       rw is (concluded By old new outcome reported last reports)
 
 -- where something was left out no fault was reported
-said_told : (part : Part) (view : DeskView) (said : Result (Unit {0}) DeskFault)
+said_told : (part : Part) (view : DeskState) (said : Result (Unit {0}) DeskFault)
     → EndsTold part view (conclusion {A = Unit {0}} (Ok tt) said)
 said_told part view (Ok done) = tt
 said_told part view (Err _) = tt
 
-pub left_out_told : (part : Part) (view : DeskView) {sayings : List Saying} {old new : DeskView}
+pub left_out_told : (part : Part) (view : DeskState) {sayings : List Saying} {old new : DeskState}
     (result : Result (Unit {0}) End) → LeavesOut sayings old new result → EndsTold part view result
 left_out_told part view result leaves = rw leaves.result_is (said_told part view leaves.told)
 

@@ -3,11 +3,11 @@ use Rattle.std.proofs.Common.{◌≡◌, arith, ℕ, Bool, true, false, List, �
 use Rattle.ghosts.proofs.Failures.{stood_has_not_risen}
 use Rattle.ghosts.specs.Failures.{HasStood}
 use Rattle.avr_desk.specs.Fault.{Follows}
-use Rattle.stk_host.specs.Talk as link
-use Rattle.avr_desk.specs.Record.{Record, DeskView, after_err, Bytes}
+use Rattle.stk_host.specs.Transcript as link
+use Rattle.avr_desk.specs.Record.{Record, DeskState, after_err, Bytes}
 use Rattle.avr_plan.specs.Plan.{Plan}
 use Rattle.stk_host.specs.Play.{Position}
-use Rattle.stk_host.specs.Talk.{LinkView}
+use Rattle.stk_host.specs.Transcript.{LinkState}
 use Rattle.stk_host.specs.Dialog.{Dialog, sayings}
 use Rattle.avr_desk.specs.Said.{Saying, after_all}
 use Rattle.avr_session.specs.Actions.{takes_memory}
@@ -34,7 +34,7 @@ only_memory {old = old} {new = new} cause sound stops =
     stops.has_come.0.0)
 
 -- and its line was reported whole
-told_of_memory : (flag : Bool) (told : Bytes) (a between b : DeskView) → Follows a between
+told_of_memory : (flag : Bool) (told : Bytes) (a between b : DeskState) → Follows a between
     → HasStood a.failures b.failures → TellsCause flag OfMemory told between b → told ≡ cause_line OfMemory
 told_of_memory false told a between b since sound (inl whole) = whole.0
 told_of_memory false told a between b since sound (inr part) =
@@ -57,7 +57,7 @@ told_last before after said told line whole kept =
     (r.messages, ap (λ (x : Record). x.messages) same ∙ ap (λ (xs : Bytes). r.messages ++ xs) whole)
 
 -- so what broke off says so
-pub broke_lacks : {R : Type 0} {L : Lacking} (dialog : Dialog Saying R) (m : Position) (o p : LinkView)
+pub broke_lacks : {R : Type 0} {L : Lacking} (dialog : Dialog Saying R) (m : Position) (o p : LinkState)
     (before after : Record) (a b : ℕ × ℕ) (takes : Bool)
     → IsSound (devices o (keeping before a)) (devices p (keeping after b))
     → BrokeOff dialog m (devices o (keeping before a)) (devices p (keeping after b)) (untold takes) L
@@ -66,7 +66,7 @@ broke_lacks dialog m o p before after a b takes sound f =
     told_last before after (sayings f.shown) f.told (cause_line OfMemory) (lacks f.cause sound f.stops) f.kept
 
 -- and a run is played whole where no device failed and memory was not refused, by its messages.
-pub sound_run : (plan : Plan) (o p : LinkView) (before after : Record) (a b : ℕ × ℕ) (status : ℕ)
+pub sound_run : (plan : Plan) (o p : LinkState) (before after : Record) (a b : ℕ × ℕ) (status : ℕ)
     → IsSound (devices o (keeping before a)) (devices p (keeping after b)) → (LacksMemory after.messages → ⊥)
     → RunsSession plan (devices o (keeping before a)) (devices p (keeping after b)) status
     → IsPlayed (session plan) (devices o (keeping before a)) (devices p (keeping after b)) status

@@ -1,7 +1,7 @@
 -- Where a run stops: what stands before it and what follows it changes nothing.
 use Rattle.std.proofs.Common.{ℕ, ◌≡◌, ◌∙◌, List, [], ◌∷◌, ◌++◌, map, refl, sym, ap, subst, append_assoc, take, drop, Option, inl, inr, codes}
 use Rattle.std.proofs.lemmas.List.{take-append-drop}
-use Rattle.avr_desk.specs.Record.{DeskView, Passes, Bytes}
+use Rattle.avr_desk.specs.Record.{DeskState, Passes, Bytes}
 use Rattle.avr_desk.specs.Stream.{SendsPart}
 use Rattle.avr_desk.specs.declared.stream.Stream.TheVariants.{File, Output, Messages}
 use Rattle.stk_host.specs.Dialog.{Event, Said, sayings}
@@ -95,7 +95,7 @@ pub sayings_by : (xs : List Saying) (events : List (Event Saying)) → map Said 
 sayings_by xs events is = sym (sayings_said xs) ∙ ap sayings is
 
 -- sayings that were done, and a prefix of others after them
-pub prefix_behind : {cause : Cause} {d e f : DeskView} (done more : List Saying) → Passes (after_all done) d e
+pub prefix_behind : {cause : Cause} {d e f : DeskState} (done more : List Saying) → Passes (after_all done) d e
     → SaysPrefix cause e f more → SaysPrefix cause d f (done ++ more)
 prefix_behind {cause = cause} {d = d} {e = e} {f = f} done more kept x = record {
   whole = done ++ x.whole;
@@ -111,7 +111,7 @@ prefix_behind {cause = cause} {d = d} {e = e} {f = f} done more kept x = record 
 }
 
 -- a prefix of some sayings is a prefix of more
-pub prefix_of : {cause : Cause} {d e : DeskView} (some more : List Saying) → SaysPrefix cause d e some
+pub prefix_of : {cause : Cause} {d e : DeskState} (some more : List Saying) → SaysPrefix cause d e some
     → SaysPrefix cause d e (some ++ more)
 prefix_of {cause = cause} some more x = record {
   whole = x.whole;
@@ -138,7 +138,7 @@ part_due event n bytes = record {
 }
 
 -- a line of which a prefix was printed
-pub line_part : (old new : DeskView) (bytes : Bytes) → SendsPart Messages old new bytes
+pub line_part : (old new : DeskState) (bytes : Bytes) → SendsPart Messages old new bytes
     → SaysPrefix OfPrinting old new (Line bytes ∷ [])
 line_part old new bytes part = record {
   whole = [];
@@ -151,7 +151,7 @@ line_part old new bytes part = record {
 }
 
 -- a file that was created, and of whose bytes a prefix was written
-pub file_part : (old mid new : DeskView) (file bytes : Bytes) → Passes (after_all (Creates file ∷ [])) old mid
+pub file_part : (old mid new : DeskState) (file bytes : Bytes) → Passes (after_all (Creates file ∷ [])) old mid
     → SendsPart File mid new bytes
     → SaysPrefix (OfFile file NotWritten) old new (Creates file ∷ Writes bytes ∷ [])
 file_part old mid new file bytes created part = record {
@@ -165,7 +165,7 @@ file_part old mid new file bytes created part = record {
 }
 
 -- bytes of the output of which a prefix was written
-pub output_part : (old new : DeskView) (file bytes : Bytes) → file ≡ codes "-" → SendsPart Output old new bytes
+pub output_part : (old new : DeskState) (file bytes : Bytes) → file ≡ codes "-" → SendsPart Output old new bytes
     → SaysPrefix (OfFile file NotWritten) old new (Outs bytes ∷ [])
 output_part old new file bytes named part = record {
   whole = [];

@@ -1,6 +1,6 @@
 -- A run over a line on which few frames go wrong, and the same one once more, over the chip that a first one left.
 use Rattle.std.proofs.Common.{◌≡◌, ◌⊎◌, ℕ, List, All, ◌∙◌, inl, inr, true, false}
-use Rattle.avr_desk.specs.Record.{DeskView, Record, Passes}
+use Rattle.avr_desk.specs.Record.{DeskState, Record, Passes}
 use Rattle.avr_desk.specs.Said.{Saying, after_all}
 use Rattle.avr_part.specs.Part.{IsPart}
 use Rattle.avr_plan.specs.Plan.{Plan, IsFitted}
@@ -29,10 +29,10 @@ use Rattle.avr_tool.specs.Headline.{wire_and_desk}
 module _ (plan : Plan) (w v : WiredState) (d e : Record) (a b : ℕ × ℕ) (status : ℕ)
     (few : AreFew (turns_of w.wire.fates)) (sound : IsSound (wire_and_desk w (keeping d a))
     (wire_and_desk v (keeping e b))) (has_memory : LacksMemory e.messages → ⊥) where
-  abbrev old : DeskView
+  abbrev old : DeskState
   old = keeping d a
 
-  abbrev now : DeskView
+  abbrev now : DeskState
   now = keeping e b
 
   goes_on : Stopped plan w v old now → ⊥
@@ -65,7 +65,7 @@ done_further plan before begun after sound fitted fits erases both kept touched 
   agrees = agrees_anyway plan before fits erases both;
 }
 
-pub further_heals : (plan : Plan) (w v x y : WiredState) (d e f g : DeskView) (status further : ℕ)
+pub further_heals : (plan : Plan) (w v x y : WiredState) (d e f g : DeskState) (status further : ℕ)
     → IsPart plan.part → All (IsFitted plan.part) plan.tasks → FitsPart plan.part (memories w)
     → has_erase (items plan) ≡ true → AgreesAnyway plan
     → (erase_keeps_eeprom plan.part (memories w) ≡ true → AreKeeping plan.part (items plan))

@@ -9,7 +9,7 @@ use Rattle.avr_desk.proofs.FileUses.Uses.{files_append, files_used}
 use Rattle.avr_desk.specs.Lines.{too_long_line}
 use Rattle.avr_desk.specs.Memory.{MemDeskState, Stock, memory_view, stood_for}
 use Rattle.avr_desk.specs.Playing.{Went}
-use Rattle.avr_desk.specs.Record.{Bytes, DeskView, all_files, all_uses, files_among}
+use Rattle.avr_desk.specs.Record.{Bytes, DeskState, all_files, all_uses, files_among}
 use Rattle.avr_desk.specs.Said.{Saying, Opens, after_all, after_opening}
 use Rattle.avr_desk.specs.Stage.{Made, StageResult, next_opening, unread_stage, verdict_stage}
 use Rattle.avr_desk.specs.Truth.{AreTrue, HoldsTrue, IsTrueOpening}
@@ -94,7 +94,7 @@ given_says part file (Found x) left =
     content_says false judged left = refl
 
 -- the next opening is the chip's
-module _ (part : Part) (file : Bytes) (old new : DeskView) (chip : Chip)
+module _ (part : Part) (file : Bytes) (old new : DeskState) (chip : Chip)
     (went : Went (chip_stage part file) old new (Made chip)) where
   abbrev pub found : Opening
   found = next_opening file (went.passed ++ [])

@@ -7,7 +7,7 @@ use Rattle.avr_desk.proofs.FileUses.Names.{newest_append}
 use Rattle.avr_desk.proofs.FileUses.Uses.{files_replaced}
 use Rattle.avr_desk.specs.Memory.{MemDeskState, Stock, file_named, memory_view, stood_for}
 use Rattle.avr_desk.specs.Named.{is_dash, newest}
-use Rattle.avr_desk.specs.Record.{Bytes, DeskView, Record, all_files, with_replaced}
+use Rattle.avr_desk.specs.Record.{Bytes, DeskState, Record, all_files, with_replaced}
 use Rattle.avr_desk.specs.Truth.{HoldsTrue}
 use Rattle.avr_desk.specs.declared.record.Writing.{Writing}
 use Rattle.avr_course.proofs.SecondRun.EveryChip.{agrees_anyway}
@@ -32,7 +32,7 @@ use Rattle.stk_emu.specs.Wired.{WiredState, wired_view}
 use Rattle.stk_host.specs.Dialog.{bytes_sent, played}
 use Rattle.stk_host.specs.Operations.{handshake, opening}
 use Rattle.stk_host.specs.Steps.{attempt, exchange, tries}
-use Rattle.stk_host.specs.Talk.{heard, sent}
+use Rattle.stk_host.specs.Transcript.{heard, sent}
 use Rattle.stk_host.specs.Tape.{Tape}
 use Rattle.avr_tool.proofs.ChipFile.Found.{chip_found}
 use Rattle.avr_tool.specs.ChipFound.{IsChipOf, file_held}
@@ -71,17 +71,17 @@ module _ (file : Bytes) (stock : Stock) (no_dash : is_dash file ≡ false) where
       ((bytes_eq-Decides file file).1 refl)
 
   -- the chip's, or what it was
-  saved_held : (out : List ℕ) (old new : DeskView) (bytes : Bytes) (ran status : ℕ)
+  saved_held : (out : List ℕ) (old new : DeskState) (bytes : Bytes) (ran status : ℕ)
       → IsSaved out old new file bytes ran status
       → (file_held stock new.kept file ≡ Some bytes) ⊎ (file_held stock new.kept file ≡ file_held stock old.kept file)
-  saved_held [] old new bytes ran status saved = inr (ap (λ (v : DeskView). file_held stock v.kept file) saved.0)
+  saved_held [] old new bytes ran status saved = inr (ap (λ (v : DeskState). file_held stock v.kept file) saved.0)
   saved_held (b ∷ out) old new bytes ran status (inl (saves, is)) =
       inl (ap (λ r. file_held stock r file) saves.0 ∙ replaced bytes old.kept)
   saved_held (b ∷ out) old new bytes ran status (inr (fault, saves, is)) =
       inr (ap (λ r. file_held stock r file) saves.1.kept)
 
   -- with status 0 the chip's, as a session of status 0 has sent something
-  zero_held : (out : List ℕ) (old new : DeskView) (bytes : Bytes) (ran : ℕ) → (out ≡ [] → ran ≡ 0 → ⊥)
+  zero_held : (out : List ℕ) (old new : DeskState) (bytes : Bytes) (ran : ℕ) → (out ≡ [] → ran ≡ 0 → ⊥)
       → IsSaved out old new file bytes ran 0
       → file_held stock new.kept file ≡ Some bytes
   zero_held [] old new bytes ran some saved = absurd (some refl (sym saved.1))
@@ -95,9 +95,9 @@ first_frame : (plan : Plan) (tape : Tape)
 unfolding session opening handshake tries attempt exchange
 first_frame plan tape = (_, refl)
 
-no_silence : (plan : Plan) (chip : Chip) (after : WiredState) (d e : DeskView) (ran : ℕ)
+no_silence : (plan : Plan) (chip : Chip) (after : WiredState) (d e : DeskState) (ran : ℕ)
     → RunsSession plan (devices (wired_view (new_wire chip [])) d) (devices (wired_view after) e) ran
-    → sent after.talk ≡ [] → ran ≡ 0 → ⊥
+    → sent after.transcript ≡ [] → ran ≡ 0 → ⊥
 no_silence plan chip after d e ran (inl (place, whole)) none zero =
     let first = first_frame plan (heard whole.during ++ []) in
     let begun : bytes_sent whole.events ≡ 27 ∷ first.0 =
@@ -113,10 +113,11 @@ pub chip_left : (settings : Settings) (file : Bytes) (stock : Stock) (old new : 
     → (r : RunsOverEmulator settings file (memory_view old) (memory_view new) status)
     → file_held stock new.kept file ≡ Some (chip_file r.after.wire.programmer.chip)
 chip_left settings file stock old new status no_dash zero r =
-    zero_held file stock no_dash (sent r.after.talk) r.played_desk (memory_view new)
+    zero_held file stock no_dash (sent r.after.transcript) r.played_desk (memory_view new)
     (chip_file r.after.wire.programmer.chip) r.ran
     (no_silence r.plan r.chip r.after r.loaded_desk r.played_desk r.ran r.runs)
-    (subst (IsSaved (sent r.after.talk) r.played_desk (memory_view new) file (chip_file r.after.wire.programmer.chip)
+    (subst (IsSaved (sent r.after.transcript) r.played_desk (memory_view new) file
+    (chip_file r.after.wire.programmer.chip)
     r.ran) zero r.saved)
 
 -- ---- two runs
@@ -166,7 +167,7 @@ module _ (settings : Settings) (file : Bytes) (stock : Stock) (old mid new : Mem
 
   -- the second run begins with what some first strokes of the first one left
   touched : IsTouched plan before (memories_of two.chip)
-  touched = elim (saved_held file stock no_dash (sent one.after.talk) one.played_desk (memory_view mid)
+  touched = elim (saved_held file stock no_dash (sent one.after.transcript) one.played_desk (memory_view mid)
       (chip_file one.after.wire.programmer.chip) one.ran status one.saved) [
         | inl is ↦
             (let held : IsChipOf plan.part (Some (chip_file one.after.wire.programmer.chip)) two.chip =

@@ -1,7 +1,7 @@
 -- Uses of files that are past stay, whatever is done at the desk from then on.
 use Rattle.std.proofs.Common.{◌≡◌, ◌∙◌, ◌⊎◌, ap, subst, sym, refl, inl, inr, ℕ, Bool, List, [], ◌∷◌, ◌++◌, append_assoc, append-nil, map, Ok, Err, Result}
 use Rattle.std.specs.Prelude.{⊤}
-use Rattle.avr_desk.specs.Record.{Bytes, DeskView, Record, all_uses, files_among, released, use_of, with_absent, with_replaced, written_on}
+use Rattle.avr_desk.specs.Record.{Bytes, DeskState, Record, all_uses, files_among, released, use_of, with_absent, with_replaced, written_on}
 use Rattle.avr_desk.specs.Said.{Saying, Opens, Line, Creates, Writes, Outs, after, after_all, after_opening}
 use Rattle.avr_desk.specs.declared.record.FileUse.{FileUse}
 use Rattle.avr_desk.specs.declared.record.FileUse.TheVariants.{Opened, Created}
@@ -97,7 +97,7 @@ run_past uses dialog old new takes Lacks status (inr (broke, one)) past =
     (after_all (sayings broke.shown) old.desk.kept)
     (past_all uses (sayings broke.shown) old.desk.kept past))
 
-saves_past : (uses : List FileUse) (old new : DeskView) (file bytes : Bytes) (result : Result ⊤ ℕ)
+saves_past : (uses : List FileUse) (old new : DeskState) (file bytes : Bytes) (result : Result ⊤ ℕ)
     → Saves old new file bytes result
     → ArePast uses old.kept → ArePast uses new.kept
 saves_past uses old new file bytes (Ok done) saves past =
@@ -106,11 +106,11 @@ saves_past uses old new file bytes (Ok done) saves past =
 saves_past uses old new file bytes (Err status) saves past =
     subst (ArePast uses) (sym saves.1.kept) (past_on uses (Line saves.1.told) (released old).kept past)
 
-pub saved_past : (uses : List FileUse) (sent : List ℕ) (old new : DeskView) (file bytes : Bytes) (ran status : ℕ)
+pub saved_past : (uses : List FileUse) (sent : List ℕ) (old new : DeskState) (file bytes : Bytes) (ran status : ℕ)
     → IsSaved sent old new file bytes ran status
     → ArePast uses old.kept → ArePast uses new.kept
 saved_past uses [] old new file bytes ran status saved past =
-    subst (λ (v : DeskView). ArePast uses v.kept) (sym saved.0) past
+    subst (λ (v : DeskState). ArePast uses v.kept) (sym saved.0) past
 saved_past uses (b ∷ sent) old new file bytes ran status (inl (saves, is)) past =
     saves_past uses old new file bytes (Ok tt) saves past
 saved_past uses (b ∷ sent) old new file bytes ran status (inr (fault, saves, is)) past =

@@ -33,7 +33,7 @@ use Rattle.avr_session.specs.Session.{session}
 use Rattle.avr_session.specs.Stopping.{IsPlayed}
 use Rattle.stk_host.specs.Dialog.{Event, Said, behind, bytes_sent, sayings}
 use Rattle.stk_host.specs.Links.{IsOfTape, IsTrueSince, StreamState, TapeState, stream_view, tape_view}
-use Rattle.stk_host.specs.Talk.{LinkView, Talk, heard, sent}
+use Rattle.stk_host.specs.Transcript.{LinkState, Transcript, heard, sent}
 use Rattle.stk_host.specs.Tape.{Tape, bytes_of}
 use Rattle.stk_host.specs.declared.link.Item.TheVariants.{End}
 use Rattle.avr_tool.proofs.Runs.Joined.{said_sayings, said_bytes}
@@ -194,11 +194,12 @@ outcome_of status sent v =
     record { status = status; sent = sent; messages = v.messages; output = v.output; files = all_left v }
 
 -- planning's sayings, and then these events, leave what the desk shows
-left_is : (status : ℕ) (says : List Saying) (events : List (Event Saying)) (between kept : Record) (talk : Talk)
+left_is : (status : ℕ) (says : List Saying) (events : List (Event Saying)) (between kept : Record)
+    (transcript : Transcript)
     → left_in (after_all says nothing_kept) ≡ left_in between → kept ≡ after_all (sayings events) between
-    → bytes_sent events ≡ sent talk
-    → left_by (map Said says ++ events) status ≡ shown_by status kept talk
-left_is status says events between kept talk alike then frames =
+    → bytes_sent events ≡ sent transcript
+    → left_by (map Said says ++ events) status ≡ shown_by status kept transcript
+left_is status says events between kept transcript alike then frames =
     let same : left_in (after_all (sayings (map Said says ++ events)) nothing_kept) ≡ left_in kept =
     ap (λ (ss : List Saying). left_in (after_all ss nothing_kept)) (said_sayings says events)
     ∙ ap left_in (after_append says (sayings events) nothing_kept)
@@ -206,19 +207,19 @@ left_is status says events between kept talk alike then frames =
     ∙ sym (left_all (sayings events) between) ∙ ap left_in (sym then) in
     ap₂ (outcome_of status) (said_bytes says events ∙ frames) same
 
-module _ (settings : Settings) (old new : MemDeskState) (before after : LinkView) (status : ℕ)
+module _ (settings : Settings) (old new : MemDeskState) (before after : LinkState) (status : ℕ)
     (unused : AreUnused old before) where
   abbrev stock : Stock
   stock = stock_of old
 
-  silent_before : before.talk ≡ []
-  silent_before = ap (λ (l : LinkView). l.talk) unused.link_is
+  silent_before : before.transcript ≡ []
+  silent_before = ap (λ (l : LinkState). l.transcript) unused.link_is
 
   -- the plan was made, and its session played
   whole : (between : MemDeskState) (plan : Plan) → HoldsTrue stock between
       → Went (planned settings) (memory_view old) (memory_view between) (Made plan)
       → IsPlayed (session plan) (devices before (memory_view between)) (devices after (memory_view new)) status
-      → IsLeft settings stock (heard after.talk) (shown_by status new.kept after.talk)
+      → IsLeft settings stock (heard after.transcript) (shown_by status new.kept after.transcript)
   whole between plan holds went played_whole more =
       let ran = played_whole.1 in
       let p = planned_of settings stock in
@@ -226,18 +227,19 @@ module _ (settings : Settings) (old new : MemDeskState) (before after : LinkView
       let answer : p.answer ≡ Made plan = same_answer settings stock old between (Made plan) unused.desk_is holds judged
       went in
       let alike = same_left settings stock old between (Made plan) unused.desk_is holds judged went in
-      let during : after.talk ≡ ran.during = ran.grows ∙ ap (λ talk. talk ++ ran.during) silent_before in
-      let left : left_by (map Said p.says ++ ran.events) status ≡ shown_by status new.kept after.talk =
-      left_is status p.says ran.events between.kept new.kept after.talk alike ran.kept
+      let during : after.transcript ≡ ran.during =
+      ran.grows ∙ ap (λ transcript. transcript ++ ran.during) silent_before in
+      let left : left_by (map Said p.says ++ ran.events) status ≡ shown_by status new.kept after.transcript =
+      left_is status p.says ran.events between.kept new.kept after.transcript alike ran.kept
       (ran.plays.all_sent ∙ ap sent (sym during)) in
-      ap (λ talk. run_outcome (run_of settings stock (heard talk ++ more))) during
+      ap (λ transcript. run_outcome (run_of settings stock (heard transcript ++ more))) during
       ∙ ap (λ a. run_outcome (behind (map Said p.says) (after_answer a (heard ran.during ++ more)))) answer
       ∙ ap (λ q. run_outcome (behind (map Said p.says) q)) (ran.plays.plays more) ∙ ap (λ (o : RunOutcome). Some o) left
 
   -- it was refused
-  refused : HoldsTrue stock new → after.talk ≡ before.talk
+  refused : HoldsTrue stock new → after.transcript ≡ before.transcript
       → WentRefused (planned settings) (memory_view old) (memory_view new)
-      → IsLeft settings stock (heard after.talk) (shown_by 1 new.kept after.talk)
+      → IsLeft settings stock (heard after.transcript) (shown_by 1 new.kept after.transcript)
   refused holds silent (line, went) more =
       let p = planned_of settings stock in
       let judged : ◌≡◌ {A = StageAnswer Plan} (Refused line) Unread → ⊥ = λ e. cc in
@@ -246,16 +248,16 @@ module _ (settings : Settings) (old new : MemDeskState) (before after : LinkView
       let alike = same_left settings stock old new (Refused line) unused.desk_is holds judged went in
       let events : map Said (p.says ++ Line line ∷ []) ++ [] ≡ map Said p.says ++ Said (Line line) ∷ [] =
       append-nil (map Said (p.says ++ Line line ∷ [])) ∙ map-append Said p.says (Line line ∷ []) in
-      let left : left_by (map Said p.says ++ Said (Line line) ∷ []) 1 ≡ shown_by 1 new.kept after.talk =
+      let left : left_by (map Said p.says ++ Said (Line line) ∷ []) 1 ≡ shown_by 1 new.kept after.transcript =
       ap (λ (es : List (Event Saying)). left_by es 1) (sym events)
-      ∙ left_is 1 (p.says ++ Line line ∷ []) [] new.kept new.kept after.talk alike refl
+      ∙ left_is 1 (p.says ++ Line line ∷ []) [] new.kept new.kept after.transcript alike refl
       (ap sent (sym (silent ∙ silent_before))) in
-      ap (λ a. run_outcome (behind (map Said p.says) (after_answer a (heard after.talk ++ more)))) answer
+      ap (λ a. run_outcome (behind (map Said p.says) (after_answer a (heard after.transcript ++ more)))) answer
       ∙ ap (λ (o : RunOutcome). Some o) left
 
   -- over what was heard it leaves what is shown, and the link has not failed
   pub record LeavesShown : Type 0 where
-    pub is : IsLeft settings stock (heard after.talk) (shown_by status new.kept after.talk)
+    pub is : IsLeft settings stock (heard after.transcript) (shown_by status new.kept after.transcript)
     pub sound : after.failures ≡ 0
 
   -- that, or it stopped
@@ -266,7 +268,7 @@ module _ (settings : Settings) (old new : MemDeskState) (before after : LinkView
   run_is between first all (inl runs) = elim runs.runs [
     | inl played_whole ↦ inl (record {
       is = whole between runs.plan (first stock (begins_true old unused.desk_is)) runs.made played_whole;
-      sound = played_whole.1.sound.0 ∙ ap (λ (l : LinkView). l.failures) unused.link_is;
+      sound = played_whole.1.sound.0 ∙ ap (λ (l : LinkState). l.failures) unused.link_is;
     })
     | inr broke ↦ inr (inl (record {
       plan = runs.plan;
@@ -278,9 +280,10 @@ module _ (settings : Settings) (old new : MemDeskState) (before after : LinkView
   ]
   run_is between first all (inr none) = elim none.refused [
     | inl went ↦ inl (record {
-      is = subst (λ s. IsLeft settings stock (heard after.talk) (shown_by s new.kept after.talk)) (sym none.status_is)
-          (refused (all stock (begins_true old unused.desk_is)) (ap (λ (l : LinkView). l.talk) none.same) went);
-      sound = ap (λ (l : LinkView). l.failures) (none.same ∙ unused.link_is);
+      is = subst (λ s. IsLeft settings stock (heard after.transcript) (shown_by s new.kept after.transcript))
+          (sym none.status_is)
+          (refused (all stock (begins_true old unused.desk_is)) (ap (λ (l : LinkState). l.transcript) none.same) went);
+      sound = ap (λ (l : LinkState). l.failures) (none.same ∙ unused.link_is);
     })
     | inr broke ↦ inr (inr (record { broke = broke; bare = none.bare; same = none.same; status_is = none.status_is }))
   ]
@@ -288,17 +291,19 @@ module _ (settings : Settings) (old new : MemDeskState) (before after : LinkView
 -- ---- over a tape, and over streams
 
 module _ (settings : Settings) (old new : MemDeskState) (status : ℕ) where
-  over_tape : (before after : TapeState) → before.talk ≡ [] → IsOfTape before after
-      → IsLeft settings (stock_of old) (heard after.talk) (shown_by status new.kept after.talk)
-      → Leaves settings (stock_of old) before.left (shown_by status new.kept after.talk)
+  over_tape : (before after : TapeState) → before.transcript ≡ [] → IsOfTape before after
+      → IsLeft settings (stock_of old) (heard after.transcript) (shown_by status new.kept after.transcript)
+      → Leaves settings (stock_of old) before.left (shown_by status new.kept after.transcript)
   over_tape before after silent of_tape left =
-      let talk_is : after.talk ≡ of_tape.during = of_tape.grows ∙ ap (λ talk. talk ++ of_tape.during) silent in
+      let transcript_is : after.transcript ≡ of_tape.during =
+      of_tape.grows ∙ ap (λ transcript. transcript ++ of_tape.during) silent in
       record {
         ends = of_tape.ends;
         is = λ more.
-            let tape : (before.left ++ replicate of_tape.ends End) ++ more ≡ heard after.talk ++ (after.left ++ more) =
+            let tape : (before.left ++ replicate of_tape.ends End) ++ more
+            ≡ heard after.transcript ++ (after.left ++ more) =
             ap (λ (t : Tape). t ++ more) (sym of_tape.gave) ∙ append_assoc (heard of_tape.during) after.left more
-            ∙ ap (λ talk. heard talk ++ (after.left ++ more)) (sym talk_is) in
+            ∙ ap (λ transcript. heard transcript ++ (after.left ++ more)) (sym transcript_is) in
             ap (λ t. run_outcome (run_of settings (stock_of old) t)) tape ∙ left (after.left ++ more);
       }
 
@@ -307,12 +312,12 @@ module _ (settings : Settings) (old new : MemDeskState) (status : ℕ) where
       → Stays HoldsTrue old between → Stays HoldsTrue old new
       → RunsSettings settings (devices (tape_view before) (memory_view old)) (memory_view between)
       (devices (tape_view after) (memory_view new)) status
-      → Leaves settings (stock_of old) before.left (shown_by status new.kept after.talk)
+      → Leaves settings (stock_of old) before.left (shown_by status new.kept after.transcript)
       ⊎ IsStopped settings (devices (tape_view before) (memory_view old)) (devices (tape_view after) (memory_view new))
       status
   run_is_over_tape before after between unused of_tape first all runs =
       elim (run_is settings old new (tape_view before) (tape_view after) status unused between first all runs) [
-        | inl left ↦ inl (over_tape before after (ap (λ (l : LinkView). l.talk) unused.link_is) of_tape left.is)
+        | inl left ↦ inl (over_tape before after (ap (λ (l : LinkState). l.transcript) unused.link_is) of_tape left.is)
         | inr stopped ↦ inr stopped
       ]
 
@@ -322,18 +327,22 @@ module _ (settings : Settings) (old new : MemDeskState) (status : ℕ) where
       → Stays HoldsTrue old between → Stays HoldsTrue old new
       → RunsSettings settings (devices (stream_view before) (memory_view old)) (memory_view between)
       (devices (stream_view after) (memory_view new)) status
-      → LeavesStreams remaining contents settings (stock_of old) before after (shown_by status new.kept after.talk)
+      → LeavesStreams remaining contents settings (stock_of old) before after
+      (shown_by status new.kept after.transcript)
       ⊎ IsStopped settings (devices (stream_view before) (memory_view old))
       (devices (stream_view after) (memory_view new)) status
   run_is_over_streams remaining contents before after between unused true_since first all runs =
-      let talk_is : after.talk ≡ true_since.during =
-      true_since.grows ∙ ap (λ talk. talk ++ true_since.during) (ap (λ (l : LinkView). l.talk) unused.link_is) in
+      let transcript_is : after.transcript ≡ true_since.during =
+      true_since.grows ∙ ap (λ transcript. transcript ++ true_since.during)
+      (ap (λ (l : LinkState). l.transcript) unused.link_is) in
       elim (run_is settings old new (stream_view before) (stream_view after) status unused between first all runs) [
         | inl left ↦ inl (record {
-          tape = heard after.talk;
-          gave = subst (λ talk. Consumes (remaining before.reader) (remaining after.reader) (bytes_of (heard talk)))
-              (sym talk_is) true_since.gave;
-          took = subst (λ talk. Appends (contents before.writer) (contents after.writer) (sent talk)) (sym talk_is)
+          tape = heard after.transcript;
+          gave = subst (λ transcript. Consumes (remaining before.reader) (remaining after.reader)
+              (bytes_of (heard transcript)))
+              (sym transcript_is) true_since.gave;
+          took = subst (λ transcript. Appends (contents before.writer) (contents after.writer) (sent transcript))
+              (sym transcript_is)
               (true_since.took left.sound);
           is = left.is;
         })

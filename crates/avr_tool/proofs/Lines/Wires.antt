@@ -2,7 +2,7 @@
 use Rattle.std.proofs.Common.{◌≡◌, ◌⊎◌, ℕ, [], ◌++◌, refl, sym, ap, ◌∙◌, subst, inl, inr, None, Err}
 use Rattle.avr_cli.specs.declared.settings.Settings.{Settings}
 use Rattle.avr_desk.specs.Fault.{Follows}
-use Rattle.avr_desk.specs.Record.{DeskView}
+use Rattle.avr_desk.specs.Record.{DeskState}
 use Rattle.avr_plan.specs.Plan.{Plan}
 use Rattle.avr_plan.specs.Planning.{LacksPart, planned}
 use Rattle.avr_plan.specs.Taking.{AtUpdate}
@@ -11,8 +11,8 @@ use Rattle.avr_desk.specs.Playing.{Went, WentRefused, Goes}
 use Rattle.avr_desk.specs.Stage.{Made}
 use Rattle.avr_session.specs.Run.{RunsSession}
 use Rattle.stk_frame.specs.Cut.{frames}
-use Rattle.stk_frame.specs.Reader.{Stands}
-use Rattle.stk_host.specs.Talk.{sent, heard}
+use Rattle.stk_frame.specs.Reader.{MayHold}
+use Rattle.stk_host.specs.Transcript.{sent, heard}
 use Rattle.stk_emu.specs.Device.{device}
 use Rattle.stk_emu.specs.Lawful.{none_late}
 use Rattle.stk_emu.specs.Programmer.{Programmer, fresh_programmer}
@@ -28,14 +28,14 @@ pub is_fresh : (w : WiredState) → IsNew w → IsFresh w
 is_fresh w new = record {
   silent = new.none_passed;
   begins = record {
-    held = subst (λ held. Stands held (sent w.talk)) (sym new.none_held)
-        (subst (λ talk. Stands [] (sent talk)) (sym new.none_passed) refl);
+    held = subst (λ held. MayHold held (sent w.transcript)) (sym new.none_held)
+        (subst (λ transcript. MayHold [] (sent transcript)) (sym new.none_passed) refl);
     stands = as_begun w.wire new.programmer new.none_late
-        ∙ ap (λ talk. wire_after device (frames (sent talk))
+        ∙ ap (λ transcript. wire_after device (frames (sent transcript))
         (wire.fresh_wire (fresh_programmer w.wire.programmer.chip) w.wire.fates)) (sym new.none_passed);
-    brings = λ never. ap (λ talk. wire.tape_of device (frames (sent talk))
+    brings = λ never. ap (λ transcript. wire.tape_of device (frames (sent transcript))
         (wire.fresh_wire (fresh_programmer w.wire.programmer.chip) w.wire.fates)) new.none_passed
-        ∙ sym (ap (λ talk. heard talk ++ w.waits) new.none_passed ∙ new.none_waits);
+        ∙ sym (ap (λ transcript. heard transcript ++ w.waits) new.none_passed ∙ new.none_waits);
   };
   lawful = new.lawful;
 }
@@ -45,9 +45,9 @@ is_fresh w new = record {
     as_begun x p l = ap (λ q. record x { programmer = q }) p
         ∙ ap (λ late. record { programmer = fresh_programmer x.programmer.chip; fates = x.fates; late = late }) l
 
-module _ (settings : Settings) (old now : DeskView) (status : ℕ) where
+module _ (settings : Settings) (old now : DeskState) (status : ℕ) where
   -- a plan that was made, and its session
-  module _ (plan : Plan) (w v : WiredState) (between : DeskView)
+  module _ (plan : Plan) (w v : WiredState) (between : DeskState)
       (made : Went (planned settings) old between (Made plan)) (follows : Follows between now) where
     run_or_stop : RunsSession plan (wire_and_desk w between) (wire_and_desk v now) status
         → ((r : IsRun settings (wire_and_desk w old) (wire_and_desk v now) status) × (r.openings ≡ made.passed))

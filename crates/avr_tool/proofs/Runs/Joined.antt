@@ -1,7 +1,7 @@
 -- Planning and playing as one run.
 use Rattle.std.proofs.Common.{◌≡◌, ℕ, ◌⊎◌, inl, inr, List, [], ◌∷◌, ◌++◌, map, Some, refl, sym, ap, ◌∙◌, subst, arith, append_assoc}
 use Rattle.avr_cli.specs.declared.settings.Settings.{Settings}
-use Rattle.avr_desk.specs.Record.{DeskView}
+use Rattle.avr_desk.specs.Record.{DeskState}
 use Rattle.avr_desk.specs.Said.{Saying, Line, SaidPart, after_all}
 use Rattle.avr_desk.proofs.Stages.Sayings.{kept_append}
 use Rattle.avr_desk.proofs.Lines.Told.{same_on}
@@ -10,10 +10,10 @@ use Rattle.avr_plan.specs.Planning.{planned}
 use Rattle.avr_desk.specs.Playing.{Went, WentRefused}
 use Rattle.avr_desk.specs.Stage.{Made, StageResult}
 use Rattle.stk_host.specs.Dialog.{Event, Said, behind, bytes_sent, sayings}
-use Rattle.stk_host.specs.Talk.{LinkView, heard, Grows}
+use Rattle.stk_host.specs.Transcript.{LinkState, heard, Grows}
 use Rattle.stk_host.specs.Tape.{on_tape}
 use Rattle.stk_host.specs.Play.{IsPrefixOfEvents}
-use Rattle.stk_host.proofs.Talks.Laws.{grows_none}
+use Rattle.stk_host.proofs.Transcripts.Laws.{grows_none}
 use Rattle.avr_session.specs.Run.{RunsSettings}
 use Rattle.avr_session.specs.Runs.{Devices, devices}
 use Rattle.avr_session.specs.Session.{session}
@@ -34,7 +34,7 @@ answered : {p q : StageResult Plan} → p ≡ q → p.answer ≡ q.answer
 answered e = ap (λ (p : StageResult Plan). p.answer) e
 
 -- what a plan made, and its session whole
-pub ran_whole : (settings : Settings) (plan : Plan) (x y : Devices) (between : DeskView) (status : ℕ)
+pub ran_whole : (settings : Settings) (plan : Plan) (x y : Devices) (between : DeskState) (status : ℕ)
     → Went (planned settings) x.desk between (Made plan) → IsPlayed (session plan) (devices x.link between) y status
     → IsRun settings x y status
 ran_whole settings plan x y between status went whole =
@@ -57,7 +57,7 @@ ran_whole settings plan x y between status went whole =
       sound = (ran.sound.0, same_on x.desk between y.desk went.sound ran.sound.1);
     }
 
-pub ran_openings : (settings : Settings) (plan : Plan) (x y : Devices) (between : DeskView) (status : ℕ)
+pub ran_openings : (settings : Settings) (plan : Plan) (x y : Devices) (between : DeskState) (status : ℕ)
     (went : Went (planned settings) x.desk between (Made plan))
     (whole : IsPlayed (session plan) (devices x.link between) y status)
     → (ran_whole settings plan x y between status went whole).openings ≡ went.passed
@@ -75,13 +75,13 @@ refused_whole settings x y same (line, went) = record {
   is = λ later more. ap (λ q. after_planning q more) (went.comes later);
   in_turn = λ later. subst (λ answer. IsInTurn answer []) (sym (answered (went.comes later))) refl;
   all_sent = said_bytes went.says (Said (Line line) ∷ []);
-  grows = subst (λ (l : LinkView). Grows x.link.talk [] l.talk) (sym same) (grows_none x.link.talk);
+  grows = subst (λ (l : LinkState). Grows x.link.transcript [] l.transcript) (sym same) (grows_none x.link.transcript);
   kept = went.kept ∙ ap (λ says. after_all says x.desk.kept) (sym (said_sayings went.says (Said (Line line) ∷ [])));
   few = omega arith;
-  sound = (ap (λ (l : LinkView). l.failures) same, went.sound);
+  sound = (ap (λ (l : LinkState). l.failures) same, went.sound);
 }
 
-pub is_run : (settings : Settings) (x : Devices) (between : DeskView) (y : Devices) (status : ℕ)
+pub is_run : (settings : Settings) (x : Devices) (between : DeskState) (y : Devices) (status : ℕ)
     → RunsSettings settings x between y status
     → IsRun settings x y status ⊎ IsStopped settings x y status
 is_run settings x between y status (inl runs) = elim runs.runs [

@@ -1,17 +1,17 @@
 -- Outcomes that the page refuses.
 use Rattle.std.proofs.Common.{◌≡◌, ◌<◌, ◌*◌, ℕ, List, [], ◌++◌, map, ap, sym, ◌∙◌, subst, refl, arith, Option, Some}
-use Rattle.avr_desk.specs.Record.{DeskView, Passes}
+use Rattle.avr_desk.specs.Record.{DeskState, Passes}
 use Rattle.avr_desk.specs.declared.record.Opening.{Opening}
 use Rattle.avr_desk.specs.Said.{after_all}
 use Rattle.avr_plan.specs.Plan.{Plan}
 use Rattle.avr_session.specs.Runs.{devices}
 use Rattle.avr_session.specs.Session.{session}
-use Rattle.avr_session.specs.Stopping.{talking}
+use Rattle.avr_session.specs.Stopping.{link_state}
 use Rattle.stk_frame.specs.Cut.{body_of}
 use Rattle.stk_host.specs.Dialog.{bytes_sent, sayings}
 use Rattle.stk_host.specs.Operations.{handshake, opening, closing, operation}
 use Rattle.stk_host.specs.Steps.{exchange, attempt, tries, play}
-use Rattle.stk_host.specs.Talk.{Talk, sent, heard}
+use Rattle.stk_host.specs.Transcript.{Transcript, sent, heard}
 use Rattle.stk_host.specs.Tape.{answer, on_tape}
 use Rattle.stk_emu.specs.Effect.{effects}
 use Rattle.stk_emu.specs.Wired.{WiredState}
@@ -26,22 +26,22 @@ use Rattle.avr_tool.specs.Worked.{worked_settings, worked_answers, frames_due, l
 some_is : {A : Type 0} (a b : A) → ◌≡◌ {A = Option A} (Some a) (Some b) → a ≡ b
 some_is a b e = cc
 
-pub too_much : (plan : Plan) (w v : WiredState) (d e : DeskView) (status : ℕ) (weight : Weight)
+pub too_much : (plan : Plan) (w v : WiredState) (d e : DeskState) (status : ℕ) (weight : Weight)
     → 4 * weighed weight (bodies_in (run_steps plan)) < weighed weight (map body_of (frames_over v))
     → OverAnyLine plan w v d e status → ⊥
 too_much plan w v d e status weight more over = let most = over.line.four weight in absurd (omega (arith, more, most))
 
-pub not_all_written : (plan : Plan) (w v : WiredState) (d e : DeskView)
+pub not_all_written : (plan : Plan) (w v : WiredState) (d e : DeskState)
     → (memories v ≡ effects plan.part (items plan) (memories w) → ⊥) → OverAnyLine plan w v d e 0 → ⊥
 not_all_written plan w v d e other over = other ((came_to plan w v d e 0 over refl).0.done refl).memories
 
-pub said_otherwise : (plan : Plan) (w v : WiredState) (d e : DeskView)
+pub said_otherwise : (plan : Plan) (w v : WiredState) (d e : DeskState)
     → (Passes (after_all (course plan (memories w)).says) d e → ⊥) → OverAnyLine plan w v d e 0 → ⊥
 said_otherwise plan w v d e other over =
     let came = came_to plan w v d e 0 over refl in
     other (came.1 ∙ ap (λ said. after_all said d.kept) (came.0.success refl).said)
 
-pub touched_in_silence : (plan : Plan) (w v : WiredState) (d e : DeskView) (status : ℕ) → frames_over v ≡ []
+pub touched_in_silence : (plan : Plan) (w v : WiredState) (d e : DeskState) (status : ℕ) → frames_over v ≡ []
     → (memories v ≡ memories w → ⊥) → OverAnyLine plan w v d e status → ⊥
 touched_in_silence plan w v d e status none other over = other (untouched plan w v d e status over none)
 
@@ -59,9 +59,9 @@ pub said_due : (openings : List Opening) → sayings (run worked_settings openin
 unfolding session opening handshake operation closing play tries attempt exchange answer
 said_due openings = refl
 
-module _ (talk : Talk) (a b : ℕ) (d e : DeskView) (status : ℕ) (all : heard talk ≡ worked_answers)
-    (x : IsRun worked_settings (devices (talking [] a) d) (devices (talking talk b) e) status) where
-  passed : x.during ≡ talk
+module _ (transcript : Transcript) (a b : ℕ) (d e : DeskState) (status : ℕ) (all : heard transcript ≡ worked_answers)
+    (x : IsRun worked_settings (devices (link_state [] a) d) (devices (link_state transcript b) e) status) where
+  passed : x.during ≡ transcript
   passed = sym x.grows
 
   played_over : run worked_settings (x.openings ++ []) (worked_answers ++ [])
@@ -74,27 +74,30 @@ module _ (talk : Talk) (a b : ℕ) (d e : DeskView) (status : ℕ) (all : heard 
   worked_status = ap (λ z. z.0) (some_is (status, x.next, on_tape x.left ++ []) (0, 7, [])
       (sym (ap (λ p. p.outcome) played_over) ∙ answered_due (x.openings ++ [])))
 
-  pub worked_sent : sent talk ≡ frames_due
+  pub worked_sent : sent transcript ≡ frames_due
   worked_sent = ap sent (sym passed) ∙ (sym x.all_sent
       ∙ (sym (ap (λ p. bytes_sent p.events) played_over) ∙ sent_due (x.openings ++ [])))
 
   worked_said : sayings x.events ≡ lines_due
   worked_said = sym (ap (λ p. sayings p.events) played_over) ∙ said_due (x.openings ++ [])
 
-pub another_status : (talk : Talk) (a b : ℕ) (d e : DeskView) → heard talk ≡ worked_answers
-    → IsRun worked_settings (devices (talking [] a) d) (devices (talking talk b) e) 1 → ⊥
-another_status talk a b d e all x = absurd (one_no (worked_status talk a b d e 1 all x))
+pub another_status : (transcript : Transcript) (a b : ℕ) (d e : DeskState) → heard transcript ≡ worked_answers
+    → IsRun worked_settings (devices (link_state [] a) d) (devices (link_state transcript b) e) 1 → ⊥
+another_status transcript a b d e all x = absurd (one_no (worked_status transcript a b d e 1 all x))
   where
     one_no : ◌≡◌ {A = ℕ} 1 0 → ⊥
     one_no e = cc
 
-pub another_frame : (talk : Talk) (a b : ℕ) (d e : DeskView) (status : ℕ) → heard talk ≡ worked_answers
-    → (sent talk ≡ frames_due → ⊥) → IsRun worked_settings (devices (talking [] a) d) (devices (talking talk b) e)
+pub another_frame : (transcript : Transcript) (a b : ℕ) (d e : DeskState) (status : ℕ)
+    → heard transcript ≡ worked_answers
+    → (sent transcript ≡ frames_due → ⊥) → IsRun worked_settings (devices (link_state [] a) d)
+    (devices (link_state transcript b) e)
     status → ⊥
-another_frame talk a b d e status all other x = other (worked_sent talk a b d e status all x)
+another_frame transcript a b d e status all other x = other (worked_sent transcript a b d e status all x)
 
-pub another_line : (talk : Talk) (a b : ℕ) (d e : DeskView) (status : ℕ) → heard talk ≡ worked_answers
+pub another_line : (transcript : Transcript) (a b : ℕ) (d e : DeskState) (status : ℕ)
+    → heard transcript ≡ worked_answers
     → (Passes (after_all lines_due) d e → ⊥)
-    → IsRun worked_settings (devices (talking [] a) d) (devices (talking talk b) e) status → ⊥
-another_line talk a b d e status all other x =
-    other (x.kept ∙ ap (λ said. after_all said d.kept) (worked_said talk a b d e status all x))
+    → IsRun worked_settings (devices (link_state [] a) d) (devices (link_state transcript b) e) status → ⊥
+another_line transcript a b d e status all other x =
+    other (x.kept ∙ ap (λ said. after_all said d.kept) (worked_said transcript a b d e status all x))

@@ -5,21 +5,21 @@ use Rattle.clap.specs.declared.error.Error.{Error}
 use Rattle.clap.specs.declared.error.kind.ErrorKind.TheVariants.{OutOfMemory}
 use Rattle.avr_cli.specs.Command.{avrstk}
 use Rattle.avr_cli.specs.declared.settings.SettingsFault.TheVariants.{Memory}
-use Rattle.avr_desk.specs.Record.{DeskView, Bytes}
+use Rattle.avr_desk.specs.Record.{DeskState, Bytes}
 use Rattle.avr_desk.specs.Said.{Tells}
 use Rattle.avr_tool.specs.Sockets.{Peers}
 use Rattle.avr_session.specs.Refusal.{refusal_line}
 use Rattle.avr_tool.specs.Asked.{Asks}
 use Rattle.avr_tool.specs.Program.{LeavesWords, ActsOnWords}
 use Rattle.avr_tool.specs.declared.asking.NotAsked.TheVariants.{Words}
-use Rattle.stk_host.specs.Talk.{LinkView}
+use Rattle.stk_host.specs.Transcript.{LinkState}
 
 pub untaken : (peers : Peers) (words : List Bytes)
-    (link : LinkView) (old mid new : DeskView) (error : Error) (result : Result ℕ Error)
+    (link : LinkState) (old mid new : DeskState) (error : Error) (result : Result ℕ Error)
     → Asks words old mid (Err (Words error)) → LeavesWords error mid new result
     → ActsOnWords peers words link link old new result
 untaken peers words link old mid new error (Ok status) asks leaves = inr (record {
-  why = inr (subst (λ (d : DeskView). Tells d new (refusal_line Memory)) asks.2 leaves.1);
+  why = inr (subst (λ (d : DeskState). Tells d new (refusal_line Memory)) asks.2 leaves.1);
   untouched = refl;
   status_is = leaves.2;
 })

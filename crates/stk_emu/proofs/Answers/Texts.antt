@@ -8,7 +8,7 @@ use Rattle.std.proofs.lemmas.Bool.{cond-true}
 use Rattle.stk_frame.specs.declared.reader.Event.{Event}
 use Rattle.stk_frame.specs.declared.reader.Event.TheVariants.{More}
 use Rattle.stk_frame.specs.Cut.{cut, frames, is_frame}
-use Rattle.stk_frame.specs.Reader.{HoldsFrame, Stands, Fed, TellsEvent, frames_of_event}
+use Rattle.stk_frame.specs.Reader.{HoldsFrame, MayHold, Fed, TellsEvent, frames_of_event}
 use Rattle.stk_emu.specs.Programmer.{Programmer}
 use Rattle.stk_emu.specs.Device.{Device, device, answers, after_frames, answer_frame, after_frame}
 use Rattle.stk_emu.specs.Emulator.{Machine, IsFed, Answers, AppendsAnswers, AnswersPrefix, emulate}
@@ -42,7 +42,7 @@ answer_ends _ held out p tells e some = tells.0
 
 -- the frames of a text with these bytes after it
 pub frames_fed : (old used new : List ℕ) (fs : List (List ℕ)) (text : List ℕ) → Fed old used new fs
-    → filter is_frame fs ≡ fs → Stands old text → frames (text ++ used) ≡ frames text ++ fs
+    → filter is_frame fs ≡ fs → MayHold old text → frames (text ++ used) ≡ frames text ++ fs
 frames_fed old used new fs text fed are stands =
     rw (fed.pieces text stands, filter-append is_frame (cut text) (fed.skipped ++ fs))
     (rw (filter-append is_frame fed.skipped fs, fed.no_frames, are) refl)
@@ -58,7 +58,7 @@ pub appends_none : (machine : Machine) (before : List ℕ) → AppendsAnswers ma
 appends_none machine before = record {
   found = [];
   ends = λ text stands. ap frames (append-nil text) ∙ sym (append-nil (frames text));
-  stands = λ text stands. subst (λ t. Stands machine.held t) (sym (append-nil text)) stands;
+  stands = λ text stands. subst (λ t. MayHold machine.held t) (sym (append-nil text)) stands;
   appended = sym (append-nil before);
   obeyed = refl;
 }
@@ -81,7 +81,7 @@ appends_both old mid new x y a b c first then = record {
   ends = λ text stands.
       rw (← append_assoc text x y, then.ends (text ++ x) (first.stands text stands), first.ends text stands)
       (append_assoc (frames text) first.found then.found);
-  stands = λ text stands. subst (λ t. Stands new.held t) (append_assoc text x y)
+  stands = λ text stands. subst (λ t. MayHold new.held t) (append_assoc text x y)
       (then.stands (text ++ x) (first.stands text stands));
   appended =
       rw (then.appended, first.appended, first.obeyed, answers_more device first.found then.found old.programmer)

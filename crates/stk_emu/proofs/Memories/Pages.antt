@@ -117,7 +117,8 @@ word_place : (n half j : ℕ) → 256 % (half * 2) ≡ 0 → j < half * 2 → n 
 word_place n half j whole within few =
     let small : j / 2 < half = omega arith in
     rw (mod-eq_of_lt few)
-    (rw (mod-mod_of_dvd half (n * half + j / 2) (dvd_trans half (dvd-mul_right half 2) (dvd_of_mod-eq-zero (half * 2) whole)))
+    (rw (mod-mod_of_dvd half (n * half + j / 2) (dvd_trans half (dvd-mul_right half 2)
+    (dvd_of_mod-eq-zero (half * 2) whole)))
     (rw (mod-mul-add n half (j / 2) small) (omega arith)))
 
 -- a word's address, from the extended address and the two bytes of an instruction

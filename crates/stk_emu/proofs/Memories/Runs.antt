@@ -104,7 +104,8 @@ module _ (part : Part) (sound : IsPart part) where
       let over : map_indexed (overlaid (a / s.part.eeprom_page * s.part.eeprom_page) loaded) s.eeprom
       ≡ with_image (image_at a run) s.eeprom =
       rw (page_is, empty)
-      (rw (run_laid (a / part.eeprom_page * part.eeprom_page) off run part.eeprom_page s.eeprom r_within, start) refl) in
+      (rw (run_laid (a / part.eeprom_page * part.eeprom_page) off run part.eeprom_page s.eeprom r_within, start) refl)
+      in
       let same_length : length loaded ≡ part.eeprom_page =
       length_put Some off run s.eeprom_buffer ∙
       (ap length empty ∙ length-replicate {A = Option ℕ} part.eeprom_page None) in

@@ -6,7 +6,7 @@ use Rattle.std.proofs.lemmas.List.{take-append-drop, take_all}
 use Rattle.std.proofs.Math.Seq.{take-add}
 use Rattle.std.proofs.lemmas.List.Elements.{filter-append}
 use Rattle.stk_frame.specs.Cut.{cut, rest, is_frame, is_good}
-use Rattle.stk_frame.specs.Reader.{Stands, Fed}
+use Rattle.stk_frame.specs.Reader.{MayHold, Fed}
 use Rattle.stk_frame.proofs.Cuts.{cut_append}
 
 -- no frames, so no good ones
@@ -17,7 +17,7 @@ no_good (piece ∷ pieces) e = elim (cases_Bool (is_frame piece)) [
   | inr f ↦ rw f (no_good pieces (rw f at e))
 ]
 
-good_fed : (old used new : List ℕ) (fs : List (List ℕ)) (text : List ℕ) → Fed old used new fs → Stands old text
+good_fed : (old used new : List ℕ) (fs : List (List ℕ)) (text : List ℕ) → Fed old used new fs → MayHold old text
     → filter is_good (cut text) ≡ [] → filter is_good (cut (text ++ used)) ≡ filter is_good fs
 good_fed old used new fs text fed stands none =
     rw (fed.pieces text stands, filter-append is_good (cut text) (fed.skipped ++ fs), none)
@@ -33,8 +33,8 @@ fed_rest old new noise at used fs fed =
 -- no good frame was found
 pub noise_next : (old new noise : List ℕ) (at used : ℕ) (fs : List (List ℕ))
     → Fed old (take used (take (length noise - at) (drop at noise))) new fs → filter is_good fs ≡ []
-    → Stands old (take at noise) → filter is_good (cut (take at noise)) ≡ []
-    → Stands new (take (at + used) noise) × (filter is_good (cut (take (at + used) noise)) ≡ [])
+    → MayHold old (take at noise) → filter is_good (cut (take at noise)) ≡ []
+    → MayHold new (take (at + used) noise) × (filter is_good (cut (take (at + used) noise)) ≡ [])
 noise_next old new noise at used fs part bad stands none =
     let fed = fed_rest old new noise at used fs part in
     rw (take-add at used noise) (
@@ -45,7 +45,7 @@ noise_next old new noise at used fs part bad stands none =
 -- a good one was found
 pub good_next : (old new noise : List ℕ) (at used : ℕ) (fs : List (List ℕ))
     → Fed old (take used (take (length noise - at) (drop at noise))) new fs → (fs ≡ new ∷ []) × (is_good new ≡ true)
-    → Stands old (take at noise) → filter is_good (cut (take at noise)) ≡ []
+    → MayHold old (take at noise) → filter is_good (cut (take at noise)) ≡ []
     → filter is_good (cut noise) ≢ []
 good_next old new noise at used fs part good stands none e =
     let prefix = take at noise ++ take used (drop at noise) in

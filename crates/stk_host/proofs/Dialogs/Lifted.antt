@@ -4,10 +4,10 @@ use Rattle.stk_frame.specs.Frame.{frame}
 use Rattle.stk_host.specs.declared.fault.Broken.{Broken}
 use Rattle.stk_host.specs.declared.fault.Broken.TheVariants as broken
 use Rattle.stk_host.specs.Tape.{Tape, on_tape, answer}
-use Rattle.stk_host.specs.Talk.{Talk, heard}
+use Rattle.stk_host.specs.Transcript.{Transcript, heard}
 use Rattle.stk_host.specs.Dialog.{Dialog, Done, Say, Ask, lifted, Event, Frame, Said, Played, played, behind, by_answer, next, bytes_sent, sayings}
 use Rattle.stk_host.specs.Play.{Position, IsDue, InTurn, Plays, BreaksBy}
-use Rattle.stk_host.proofs.Talks.InDialogs.{turns_behind}
+use Rattle.stk_host.proofs.Transcripts.InDialogs.{turns_behind}
 
 -- events among which nothing is said
 abbrev pub raised : {E : Type 0} → List (Event ⊥) → List (Event E)
@@ -52,41 +52,44 @@ due_lifted {E = E} dialog seq tape bytes due = record {
   all_sent = rw (played_lifted {E = E} dialog seq tape, bytes_raised E (played dialog seq tape).events) due.all_sent;
 }
 
-turns_lifted : {R : Type 0} (E : Type 0) (dialog : Dialog ⊥ R) (m : Position) (talk : Talk) → InTurn dialog m talk
-    → InTurn {E = E} (lifted dialog) m talk
-turns_lifted E dialog m talk f =
+turns_lifted : {R : Type 0} (E : Type 0) (dialog : Dialog ⊥ R) (m : Position) (transcript : Transcript)
+    → InTurn dialog m transcript
+    → InTurn {E = E} (lifted dialog) m transcript
+turns_lifted E dialog m transcript f =
     turns_behind {E = E} (lifted dialog) dialog m.next m.next (on_tape m.unread) (on_tape m.unread) []
-    (λ x bytes. due_lifted {E = E} dialog m.next (on_tape m.unread ++ x) bytes) talk f
+    (λ x bytes. due_lifted {E = E} dialog m.next (on_tape m.unread ++ x) bytes) transcript f
 
-pub plays_lifted : {E R : Type 0} {dialog : Dialog ⊥ R} {m n : Position} {talk : Talk} {events : List (Event ⊥)}
+pub plays_lifted : {E R : Type 0} {dialog : Dialog ⊥ R} {m n : Position} {transcript : Transcript}
+    {events : List (Event ⊥)}
     {result : R}
-    → Plays dialog m talk events result n → Plays {E = E} (lifted dialog) m talk (raised events) result n
-plays_lifted {E = E} {dialog = dialog} {m = m} {talk = talk} {events = events} f = record {
-  plays = λ more. rw (played_lifted {E = E} dialog m.next (on_tape m.unread ++ (heard talk ++ more)), f.plays more)
+    → Plays dialog m transcript events result n → Plays {E = E} (lifted dialog) m transcript (raised events) result n
+plays_lifted {E = E} {dialog = dialog} {m = m} {transcript = transcript} {events = events} f = record {
+  plays =
+      λ more. rw (played_lifted {E = E} dialog m.next (on_tape m.unread ++ (heard transcript ++ more)), f.plays more)
       refl;
   all_sent = bytes_raised E events ∙ f.all_sent;
-  in_turn = turns_lifted E dialog m talk f.in_turn;
+  in_turn = turns_lifted E dialog m transcript f.in_turn;
 }
 
-pub by_lifted : {R : Type 0} (E : Type 0) (by : Broken) (dialog : Dialog ⊥ R) (m : Position) (talk : Talk)
+pub by_lifted : {R : Type 0} (E : Type 0) (by : Broken) (dialog : Dialog ⊥ R) (m : Position) (transcript : Transcript)
     (shown : List (Event ⊥))
-    → BreaksBy by dialog m talk shown → BreaksBy {E = E} by (lifted dialog) m talk (raised shown)
-by_lifted E broken.Send dialog m talk shown f = record {
+    → BreaksBy by dialog m transcript shown → BreaksBy {E = E} by (lifted dialog) m transcript (raised shown)
+by_lifted E broken.Send dialog m transcript shown f = record {
   whole = raised f.whole;
   part = f.part;
   unsent = f.unsent;
   later = raised f.later;
   shown_is = ap raised f.shown_is ∙ raised_append f.whole (Frame f.part ∷ []);
-  events_are = rw (played_lifted {E = E} dialog m.next (on_tape m.unread ++ heard talk), f.events_are)
+  events_are = rw (played_lifted {E = E} dialog m.next (on_tape m.unread ++ heard transcript), f.events_are)
       (raised_append f.whole (Frame (f.part ++ f.unsent) ∷ f.later));
   not_whole = f.not_whole;
   all_sent = bytes_raised E shown ∙ f.all_sent;
-  in_turn = turns_lifted E dialog m talk f.in_turn;
+  in_turn = turns_lifted E dialog m transcript f.in_turn;
 }
-by_lifted E broken.Recv dialog m talk shown f = record {
-  waits = ap (λ p. p.outcome) (played_lifted {E = E} dialog m.next (on_tape m.unread ++ heard talk)) ∙ f.waits;
+by_lifted E broken.Recv dialog m transcript shown f = record {
+  waits = ap (λ p. p.outcome) (played_lifted {E = E} dialog m.next (on_tape m.unread ++ heard transcript)) ∙ f.waits;
   shown_is = ap raised f.shown_is ∙ sym (ap (λ p. p.events)
-      (played_lifted {E = E} dialog m.next (on_tape m.unread ++ heard talk)));
+      (played_lifted {E = E} dialog m.next (on_tape m.unread ++ heard transcript)));
   all_sent = bytes_raised E shown ∙ f.all_sent;
-  in_turn = turns_lifted E dialog m talk f.in_turn;
+  in_turn = turns_lifted E dialog m transcript f.in_turn;
 }

@@ -13,7 +13,7 @@ use Rattle.stk_host.specs.declared.fault.HostFault.TheVariants.{ReadOnly}
 use Rattle.stk_host.specs.declared.fault.StepFault.{StepFault}
 use Rattle.stk_host.specs.declared.fault.StepFault.TheVariants.{NoAnswer}
 use Rattle.stk_host.specs.Tape.{Tape, Reading, answer, on_tape}
-use Rattle.stk_host.specs.Talk.{heard}
+use Rattle.stk_host.specs.Transcript.{heard}
 use Rattle.stk_host.specs.Dialog.{Dialog, Done, Say, Ask, ◌>>=◌, Event, Frame, Said, Played, played, by_answer, next, frames_in}
 use Rattle.stk_host.specs.Play.{IsBegun, IsPrefixOfEvents, NoPart}
 use Rattle.stk_host.specs.Steps.{exchange, Reply, Data, Again, Stop, reading_reply, with_data, attempt, StepOutcome, end_or_again, tries, step, if_done, play}
@@ -86,12 +86,13 @@ pub sends_asked : {E R : Type 0} (SaidPart : E → E → Type 0) (n : ℕ) (d : 
     → SendsAtMost SaidPart n d
 sends_asked SaidPart n d f = record {
   over_tape = λ seq tape. sends_most n d seq tape f;
-  whole = λ before talk events result after p.
-      rw (← ap (λ x. x.events) (p.plays [])) (sends_most n d before.next (on_tape before.unread ++ (heard talk ++ []))
+  whole = λ before transcript events result after p.
+      rw (← ap (λ x. x.events) (p.plays [])) (sends_most n d before.next
+      (on_tape before.unread ++ (heard transcript ++ []))
       f);
-  broken_off = λ before talk shown b.
+  broken_off = λ before transcript shown b.
       let prefix = prefix_most b.prefix in
-      let most = sends_most n d before.next (on_tape before.unread ++ heard talk) f in
+      let most = sends_most n d before.next (on_tape before.unread ++ heard transcript) f in
       omega arith;
 }
 

@@ -5,7 +5,7 @@ use Rattle.stk_frame.specs.Frame.{frame}
 use Rattle.stk_frame.specs.Commands.{body}
 use Rattle.stk_host.specs.declared.fault.StepFault.{StepFault}
 use Rattle.stk_host.specs.Tape.{Reading}
-use Rattle.stk_host.specs.Talk.{LinkView}
+use Rattle.stk_host.specs.Transcript.{LinkState}
 use Rattle.stk_host.specs.Dialog.{Dialog, Done, Frame, next}
 use Rattle.stk_host.specs.declared.fault.Broken.{Broken}
 use Rattle.stk_host.specs.declared.fault.Broken.TheVariants as broken
@@ -16,27 +16,27 @@ use Rattle.stk_host.specs.declared.conversation.Reply.TheVariants as replies
 use Rattle.stk_host.specs.State.{ConversationState}
 use Rattle.stk_host.specs.Calls.{GetsReply, reply_of}
 use Rattle.stk_host.specs.Steps.{exchange, attempt, tries, Reply, Data, Again, Stop, reading_reply, with_data, end_or_again, StepOutcome}
-use Rattle.stk_host.proofs.Talks.Laws.{grows_on}
-use Rattle.stk_host.proofs.Talks.InDialogs.{leads_ask, plays_from, breaks_asking, breaks_listening}
-use Rattle.stk_host.proofs.Talks.Reached.{reaches_on, reaches_from, played_from, broken_on, broken_bind, then_reaches}
+use Rattle.stk_host.proofs.Transcripts.Laws.{grows_on}
+use Rattle.stk_host.proofs.Transcripts.InDialogs.{leads_ask, plays_from, breaks_asking, breaks_listening}
+use Rattle.stk_host.proofs.Transcripts.Reached.{reaches_on, reaches_from, played_from, broken_on, broken_bind, then_reaches}
 
 -- one command
 
-pub exchange_done : (seq then : ℕ) (command : Command) {u v : List ℕ} {o p q : LinkView} {reading : Reading}
-    → Says (frame seq (body command)) o.talk p.talk → Hears seq u p q reading v → then ≡ next seq
+pub exchange_done : (seq then : ℕ) (command : Command) {u v : List ℕ} {o p q : LinkState} {reading : Reading}
+    → Says (frame seq (body command)) o.transcript p.transcript → Hears seq u p q reading v → then ≡ next seq
     → PlaysOver (exchange command) (record { next = seq; unread = u }) o q (reading_reply command reading)
     (record { next = then; unread = v })
 unfolding exchange
 exchange_done seq then command {u = u} {v = v} {o = o} {p = p} {q = q} {reading = reading} says hears is = record {
   during = says.during ++ hears.during;
   events = Frame (frame seq (body command)) ∷ [];
-  grows = grows_on o.talk p.talk q.talk says.during hears.during says.grows hears.grows;
+  grows = grows_on o.transcript p.transcript q.transcript says.during hears.during says.grows hears.grows;
   plays = rw is (plays_from (leads_ask (body command) (λ r. Done (reading_reply command r)) seq u v says.during
       hears.during reading says.quiet says.bytes_sent hears.waits hears.answers));
 }
 
-pub exchange_unsent : (seq : ℕ) (command : Command) (u : List ℕ) {o p : LinkView}
-    → SaysPart (frame seq (body command)) o.talk p.talk
+pub exchange_unsent : (seq : ℕ) (command : Command) (u : List ℕ) {o p : LinkState}
+    → SaysPart (frame seq (body command)) o.transcript p.transcript
     → FailsOver broken.Send (exchange command) (record { next = seq; unread = u }) o p
 unfolding exchange
 exchange_unsent seq command u says = record {
@@ -47,21 +47,21 @@ exchange_unsent seq command u says = record {
       says.says.during says.says.quiet says.says.bytes_sent says.bytes_are says.not_whole;
 }
 
-pub exchange_unheard : (seq : ℕ) (command : Command) {u : List ℕ} {o p q : LinkView}
-    → Says (frame seq (body command)) o.talk p.talk → HearsNone seq u p q
+pub exchange_unheard : (seq : ℕ) (command : Command) {u : List ℕ} {o p q : LinkState}
+    → Says (frame seq (body command)) o.transcript p.transcript → HearsNone seq u p q
     → FailsOver broken.Recv (exchange command) (record { next = seq; unread = u }) o q
 unfolding exchange
 exchange_unheard seq command {u = u} {o = o} {p = p} {q = q} says hears = record {
   during = says.during ++ hears.during;
   shown = Frame (frame seq (body command)) ∷ [];
-  grows = grows_on o.talk p.talk q.talk says.during hears.during says.grows hears.grows;
+  grows = grows_on o.transcript p.transcript q.transcript says.during hears.during says.grows hears.grows;
   breaks = breaks_listening (body command) (λ r. Done (reading_reply command r)) seq u says.during hears.during
       says.quiet says.bytes_sent hears.waits hears.no_answer;
 }
 
 -- an attempt, whose next command was sent and answered
 
-attempt_on : (command : Command) (commands : List Command) (before : List ℕ) {seq n : Position} {o q : LinkView}
+attempt_on : (command : Command) (commands : List Command) (before : List ℕ) {seq n : Position} {o q : LinkState}
     (reply : Reply) → PlaysOver (exchange command) seq o q reply n
     → Reaches (attempt (command ∷ commands) before) seq o
     (with_data (λ bytes. attempt commands (before ++ bytes)) reply) n q
@@ -69,13 +69,13 @@ unfolding attempt
 attempt_on command commands before reply f = then_reaches (with_data (λ bytes. attempt commands (before ++ bytes))) f
 
 -- or it broke off there
-pub attempt_off : {by : Broken} (command : Command) (commands : List Command) {seq : Position} {o q : LinkView}
+pub attempt_off : {by : Broken} (command : Command) (commands : List Command) {seq : Position} {o q : LinkState}
     → FailsOver by (exchange command) seq o q → FailsOver by (attempt (command ∷ commands) []) seq o q
 unfolding attempt
 attempt_off command commands f = broken_bind (with_data (λ bytes. attempt commands ([] ++ bytes))) f
 
 -- an attempt of one command
-pub gets_one : (last : Command) (m : Position) (o q : LinkView) (result : Result said.Reply Broken)
+pub gets_one : (last : Command) (m : Position) (o q : LinkState) (result : Result said.Reply Broken)
     (after : ConversationState)
     → GetsReply (exchange last) last m o q result after → GetsReply (attempt (last ∷ []) []) last m o q result after
 unfolding attempt
@@ -91,7 +91,7 @@ gets_one last m o q (Err broken) after f =
     record { ok = tt; err = attempt_off last [] f.err; sized = f.sized; counts = f.counts; bound = f.bound }
 
 -- one of two, whose first command was answered and brought nothing
-pub gets_last : (first last : Command) (m n : Position) (o p q : LinkView) (was : said.Reply) (none : List ℕ)
+pub gets_last : (first last : Command) (m n : Position) (o p q : LinkState) (was : said.Reply) (none : List ℕ)
     (result : Result said.Reply Broken) (after : ConversationState)
     → PlaysOver (exchange first) m o p (reply_of was none) n → was ≡ replies.Data → none ≡ []
     → p.failures ≡ o.failures → GetsReply (exchange last) last n p q result after
@@ -122,7 +122,7 @@ gets_last first last m n o p q was none result after f is nothing same g =
     }
 
 -- and one whose first command brought no data
-pub gets_short : (first last : Command) (was : said.Reply) (none bytes : List ℕ) {m n : Position} {o p : LinkView}
+pub gets_short : (first last : Command) (was : said.Reply) (none bytes : List ℕ) {m n : Position} {o p : LinkState}
     → PlaysOver (exchange first) m o p (reply_of was none) n → (was ≡ replies.Data → ⊥)
     → PlaysOver (attempt (first ∷ last ∷ []) []) m o p (reply_of was bytes) n
 gets_short first last replies.Data none bytes f short = absurd (short refl)
@@ -131,7 +131,7 @@ gets_short first last was none bytes f short =
 
 -- a turn of the loop over the attempts
 
-tries_on : (more : ℕ) (commands : List Command) (last : StepFault) {seq n : Position} {o q : LinkView} (reply : Reply)
+tries_on : (more : ℕ) (commands : List Command) (last : StepFault) {seq n : Position} {o q : LinkState} (reply : Reply)
     → PlaysOver (attempt commands []) seq o q reply n
     → Reaches (tries (suc more) commands last) seq o (end_or_again (tries more commands) reply) n q
 unfolding tries
@@ -141,40 +141,40 @@ tries_none : (commands : List Command) (last : StepFault) → tries zero command
 unfolding tries
 tries_none commands last = refl
 
-tries_off : {by : Broken} (more : ℕ) (commands : List Command) (last : StepFault) {seq : Position} {o q : LinkView}
+tries_off : {by : Broken} (more : ℕ) (commands : List Command) (last : StepFault) {seq : Position} {o q : LinkState}
     → FailsOver by (attempt commands []) seq o q → FailsOver by (tries (suc more) commands last) seq o q
 unfolding tries
 tries_off more commands last f = broken_bind (end_or_again (tries more commands)) f
 
 -- as the code takes it: it has come so far, and an attempt is left
-module _ {a : Dialog ⊥ StepOutcome} {l seq : Position} {j o : LinkView} {k : ℕ} (more : ℕ) (commands : List Command)
+module _ {a : Dialog ⊥ StepOutcome} {l seq : Position} {j o : LinkState} {k : ℕ} (more : ℕ) (commands : List Command)
     (last : StepFault) (count : k ≡ suc more) (come : Reaches a l j (tries k commands last) seq o) where
   next_try : Reaches a l j (tries (suc more) commands last) seq o
   next_try = rw count at come
 
-  try : {n : Position} {q : LinkView} (reply : Reply) → PlaysOver (attempt commands []) seq o q reply n
+  try : {n : Position} {q : LinkState} (reply : Reply) → PlaysOver (attempt commands []) seq o q reply n
       → Reaches a l j (end_or_again (tries more commands) reply) n q
   try reply f = reaches_on next_try (tries_on more commands last reply f)
 
-  pub try_again : {n : Position} {q : LinkView} {fault : StepFault} {reply : said.Reply} (bytes : List ℕ)
+  pub try_again : {n : Position} {q : LinkState} {fault : StepFault} {reply : said.Reply} (bytes : List ℕ)
       → PlaysOver (attempt commands []) seq o q (reply_of reply bytes) n → reply ≡ replies.Again fault
       → Reaches a l j (tries more commands fault) n q
   try_again {fault = fault} bytes f again = try (Again fault) (rw again at f)
 
-  pub try_data : {n : Position} {q : LinkView} {bytes : List ℕ} {reply : said.Reply}
+  pub try_data : {n : Position} {q : LinkState} {bytes : List ℕ} {reply : said.Reply}
       → PlaysOver (attempt commands []) seq o q (reply_of reply bytes) n → reply ≡ replies.Data
       → PlaysOver a l j q (Ok bytes) n
   try_data {bytes = bytes} f is_data = played_from (try (Data bytes) (rw is_data at f))
 
-  pub try_stop : {n : Position} {q : LinkView} {fault : StepFault} {reply : said.Reply} (bytes : List ℕ)
+  pub try_stop : {n : Position} {q : LinkState} {fault : StepFault} {reply : said.Reply} (bytes : List ℕ)
       → PlaysOver (attempt commands []) seq o q (reply_of reply bytes) n → reply ≡ replies.Stop fault
       → PlaysOver a l j q (Err fault) n
   try_stop {fault = fault} bytes f stop = played_from (try (Stop fault) (rw stop at f))
 
-  pub try_breaks : {by : Broken} {q : LinkView} → FailsOver by (attempt commands []) seq o q → FailsOver by a l j q
+  pub try_breaks : {by : Broken} {q : LinkState} → FailsOver by (attempt commands []) seq o q → FailsOver by a l j q
   try_breaks f = broken_on next_try (tries_off more commands last f)
 
-pub try_end : {a : Dialog ⊥ StepOutcome} {l seq : Position} {j o : LinkView} (k : ℕ) (commands : List Command)
+pub try_end : {a : Dialog ⊥ StepOutcome} {l seq : Position} {j o : LinkState} (k : ℕ) (commands : List Command)
     (last : StepFault)
     → Reaches a l j (tries k commands last) seq o → k ≡ 0 → PlaysOver a l j o (Err last) seq
 try_end k commands last f is = played_from (rw (is, tries_none commands last) at f)

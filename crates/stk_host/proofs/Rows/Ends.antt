@@ -4,19 +4,20 @@ use Rattle.stk_host.specs.declared.fault.Broken.TheVariants as broken
 use Rattle.stk_host.specs.declared.fault.HostFault.TheVariants.{SendFailed, RecvFailed}
 use Rattle.stk_host.specs.declared.link.Item.TheVariants.{Silence}
 use Rattle.stk_host.specs.Tape.{answer}
-use Rattle.stk_host.specs.Talk.{Talk, LinkView, Sent, Got, sent}
+use Rattle.stk_host.specs.Transcript.{Transcript, LinkState, Sent, Got, sent}
 use Rattle.stk_host.specs.Dialog.{Dialog, Event, Frame, bytes_sent}
 use Rattle.stk_host.specs.Play.{Position, position, InTurn, played_over, BreaksSending, BreaksListening, FailsOver}
 use Rattle.stk_host.specs.Steps.{exchange, attempt, tries}
 use Rattle.stk_host.specs.Operations.{closing}
 use Rattle.stk_host.specs.Calls.{EndsCall}
-use Rattle.stk_host.proofs.Talks.InDialogs.{bytes_append}
+use Rattle.stk_host.proofs.Transcripts.InDialogs.{bytes_append}
 
 -- what broke off in a frame has sent less than its play sends
-pub sent_less : {E R : Type 0} {dialog : Dialog E R} {before : Position} {talk : Talk} {shown : List (Event E)}
-    → BreaksSending dialog before talk shown
-    → length (sent talk) < length (bytes_sent (played_over dialog before talk).events)
-sent_less {dialog = dialog} {before = before} {talk = talk} f =
+pub sent_less : {E R : Type 0} {dialog : Dialog E R} {before : Position} {transcript : Transcript}
+    {shown : List (Event E)}
+    → BreaksSending dialog before transcript shown
+    → length (sent transcript) < length (bytes_sent (played_over dialog before transcript).events)
+sent_less {dialog = dialog} {before = before} {transcript = transcript} f =
     rw (f.events_are, bytes_append f.whole (Frame (f.part ++ f.unsent) ∷ f.later), ← f.all_sent, f.shown_is)
     (rw (bytes_append f.whole (Frame f.part ∷ []))
     (omega (
@@ -30,22 +31,23 @@ sent_less {dialog = dialog} {before = before} {talk = talk} f =
     )))
 
 -- so it doesn't listen
-pub never_both : {E R : Type 0} {dialog : Dialog E R} {before : Position} {talk : Talk} {some others : List (Event E)}
-    → BreaksSending dialog before talk some → BreaksListening dialog before talk others → ⊥
+pub never_both : {E R : Type 0} {dialog : Dialog E R} {before : Position} {transcript : Transcript}
+    {some others : List (Event E)}
+    → BreaksSending dialog before transcript some → BreaksListening dialog before transcript others → ⊥
 never_both f g =
     let less = sent_less f in
     let all = ap length (sym g.all_sent ∙ ap bytes_sent g.shown_is) in
     omega (arith, less, all)
 
 -- a link by what passed over it
-abbrev showing : Talk → LinkView
-showing talk = record { talk = talk; failures = 0 }
+abbrev showing : Transcript → LinkState
+showing transcript = record { transcript = transcript; failures = 0 }
 
 -- nor does a call over it
-pub never_either : {R : Type 0} (dialog : Dialog ⊥ R) (before : Position) (talk : Talk)
-    → FailsOver broken.Send dialog before (showing []) (showing talk)
-    → FailsOver broken.Recv dialog before (showing []) (showing talk) → ⊥
-never_either dialog before talk f g =
+pub never_either : {R : Type 0} (dialog : Dialog ⊥ R) (before : Position) (transcript : Transcript)
+    → FailsOver broken.Send dialog before (showing []) (showing transcript)
+    → FailsOver broken.Recv dialog before (showing []) (showing transcript) → ⊥
+never_either dialog before transcript f g =
     never_both
     (subst (λ t. BreaksSending dialog before t f.shown) (sym f.grows) f.breaks)
     (subst (λ t. BreaksListening dialog before t g.shown) (sym g.grows) g.breaks)

@@ -5,7 +5,7 @@ use Rattle.stk_host.specs.declared.link.Heard.{Heard}
 use Rattle.stk_host.specs.declared.link.Heard.TheVariants as heard
 use Rattle.stk_host.specs.declared.link.Item.TheVariants.{Byte}
 use Rattle.stk_host.specs.Tape.{Tape, bytes_in, on_tape}
-use Rattle.stk_host.specs.Talk.{items_of, FitsBuffer}
+use Rattle.stk_host.specs.Transcript.{items_of, FitsBuffer}
 use Rattle.stk_host.specs.Links.{byte_of, next_piece}
 
 -- a byte after bytes alone is one of them

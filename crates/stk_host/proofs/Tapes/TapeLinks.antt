@@ -6,8 +6,8 @@ use Rattle.stk_host.specs.declared.link.Item.TheVariants.{Byte, Silence, End}
 use Rattle.stk_host.specs.declared.link.LinkFault.{LinkFault}
 use Rattle.stk_host.specs.Links.{TapeState, IsOfTape, tape_view, next_piece}
 use Rattle.stk_host.specs.Tape.{Tape, bytes_in, on_tape}
-use Rattle.stk_host.specs.Talk.{Talk, Sent, Got, Receives, heard, items_of}
-use Rattle.stk_host.proofs.Talks.Laws.{heard_append}
+use Rattle.stk_host.specs.Transcript.{Transcript, Sent, Got, Receives, heard, items_of}
+use Rattle.stk_host.proofs.Transcripts.Laws.{heard_append}
 
 -- ---- ends, one after the other
 
@@ -53,7 +53,7 @@ none_left n (item ∷ tape) some = absurd (omega (arith, some))
 pub of_tape_now : (a : TapeState) → IsOfTape a a
 of_tape_now a = record {
   during = [];
-  grows = sym (append-nil a.talk);
+  grows = sym (append-nil a.transcript);
   ends = 0;
   gave = sym (append-nil a.left);
   over = λ some. absurd (omega (arith, some));
@@ -62,7 +62,7 @@ of_tape_now a = record {
 of_tape_on : (a b c : TapeState) → IsOfTape a b → IsOfTape b c → IsOfTape a c
 of_tape_on a b c f g = record {
   during = f.during ++ g.during;
-  grows = g.grows ∙ ap (λ (t : Talk). t ++ g.during) f.grows ∙ append_assoc a.talk f.during g.during;
+  grows = g.grows ∙ ap (λ (t : Transcript). t ++ g.during) f.grows ∙ append_assoc a.transcript f.during g.during;
   ends = f.ends + g.ends;
   gave = rw (heard_append f.during g.during, append_assoc (heard f.during) (heard g.during) c.left, g.gave)
       (rw (← append_assoc (heard f.during) b.left (replicate g.ends End), f.gave)
@@ -81,22 +81,23 @@ since : (b c : TapeState) → IsOfTape b c → Stays IsOfTape b c
 since b c g = λ start f. of_tape_on start b c f g
 
 -- nothing was heard
-quiet_of_tape : (during : Talk) (b c : TapeState) → heard during ≡ [] → c.left ≡ b.left → c.talk ≡ b.talk ++ during
+quiet_of_tape : (during : Transcript) (b c : TapeState) → heard during ≡ [] → c.left ≡ b.left
+    → c.transcript ≡ b.transcript ++ during
     → Stays IsOfTape b c
-quiet_of_tape during b c quiet left talk = since b c (record {
+quiet_of_tape during b c quiet left transcript = since b c (record {
   during = during;
-  grows = talk;
+  grows = transcript;
   ends = 0;
   gave = rw quiet (left ∙ sym (append-nil b.left));
   over = λ some. absurd (omega (arith, some));
 })
 
-pub same_of_tape : (b c : TapeState) → c.left ≡ b.left → c.talk ≡ b.talk → Stays IsOfTape b c
-same_of_tape b c left talk = quiet_of_tape [] b c refl left (talk ∙ sym (append-nil b.talk))
+pub same_of_tape : (b c : TapeState) → c.left ≡ b.left → c.transcript ≡ b.transcript → Stays IsOfTape b c
+same_of_tape b c left transcript = quiet_of_tape [] b c refl left (transcript ∙ sym (append-nil b.transcript))
 
-pub sent_of_tape : (bytes : List ℕ) (b c : TapeState) → c.left ≡ b.left → c.talk ≡ b.talk ++ Sent bytes ∷ []
+pub sent_of_tape : (bytes : List ℕ) (b c : TapeState) → c.left ≡ b.left → c.transcript ≡ b.transcript ++ Sent bytes ∷ []
     → Stays IsOfTape b c
-sent_of_tape bytes b c left talk = quiet_of_tape (Sent bytes ∷ []) b c refl left talk
+sent_of_tape bytes b c left transcript = quiet_of_tape (Sent bytes ∷ []) b c refl left transcript
 
 pub heard_of_tape : (result : Result Heard LinkFault) (buffer : List ℕ) (b c : TapeState)
     → Receives buffer (tape_view b) (tape_view c) result
@@ -115,4 +116,5 @@ heard_of_tape (Ok given) buffer b c receives piece left kept =
           ∙ ap (λ (t : Tape). next_piece most b.left ++ t) rest ∙ piece_given most b.left;
       over = λ some. rest ∙ none_left (length (next_piece most b.left)) b.left some;
     })
-heard_of_tape (Err fault) buffer b c receives piece left kept = same_of_tape b c kept (receives.err ∙ append-nil b.talk)
+heard_of_tape (Err fault) buffer b c receives piece left kept =
+    same_of_tape b c kept (receives.err ∙ append-nil b.transcript)

@@ -8,5 +8,6 @@ returns c = record {
       c.add.ensures _ _
       (c.add-command-3.ensures _ _
       (c.add-command-2.ensures _ _
-      (c.add-command.ensures _ _ built c.part.ensures.rule) c.programmer.ensures.rule) c.port.ensures.rule) c.update.ensures.rule;
+      (c.add-command.ensures _ _ built c.part.ensures.rule) c.programmer.ensures.rule) c.port.ensures.rule)
+      c.update.ensures.rule;
 }

@@ -1,6 +1,6 @@
 use Rattle.std.proofs.Common.{◌∙◌, refl, arith}
 use Rattle.std.proofs.lemmas.Result.{err_from_is_err_and}
-use Rattle.stk_host.proofs.Talks.Sending.{behind, part_fits}
+use Rattle.stk_host.proofs.Transcripts.Sending.{behind, part_fits}
 use Rattle.avr_emulator.proofs.Replies.{replies_none, replies_more, replies_part}
 use Rattle.avr_emulator.proofs.serving.answer_piece.Goals as goal
 

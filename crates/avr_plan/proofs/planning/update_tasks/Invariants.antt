@@ -1,6 +1,6 @@
 use Rattle.std.proofs.Common.{◌≡◌, ℕ, List, [], drop, length, Result, All}
 use Rattle.avr_desk.specs.Fault.{HasSameCounts}
-use Rattle.avr_desk.specs.Record.{DeskView}
+use Rattle.avr_desk.specs.Record.{DeskState}
 use Rattle.avr_plan.specs.Plan.{IsFitted}
 use Rattle.avr_plan.specs.Planning.{tasks_stage}
 use Rattle.avr_plan.specs.Taking.{AtTask}
@@ -12,7 +12,7 @@ use Rattle.avr_plan.proofs.planning.update_tasks.Given as goal
 -- however the updates that are left go, so go all of them
 abbrev pub invariant-loop-update : goal.invariant-loop-update
 invariant-loop-update g l = record {
-  goes : (new : DeskView) (result : Result (List Task) ℕ)
+  goes : (new : DeskState) (result : Result (List Task) ℕ)
       → Goes (AtTask l.switches l.part l.tasks.items (drop l.update-index l.updates))
       (tasks_stage l.switches l.part l.tasks.items (drop l.update-index l.updates)) (g.D.Desk.view l.desk) new result
       → Goes (AtTask l.switches l.part [] l.updates) (tasks_stage l.switches l.part [] l.updates)

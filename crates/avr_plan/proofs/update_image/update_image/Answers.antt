@@ -5,13 +5,15 @@ use Rattle.avr_plan.proofs.update_image.update_image.Goals as goal
 
 pub returns-in-Immediate-clause-goes : goal.returns-in-Immediate-clause-goes
 returns-in-Immediate-clause-goes g c =
-    goes_of_values c.args.switches c.args.update.now.memory _ _ _ _ c.args.update.now.format _ _ (with_status c.values_image.result)
+    goes_of_values c.args.switches c.args.update.now.memory _ _ _ _ c.args.update.now.format _ _
+    (with_status c.values_image.result)
     c.size_of-size.ensures.value
     c.as_str-text.ensures c.in-Immediate.is (c.values_image.ensures.goes c.args.switches)
 
 pub returns-in_default-clause-goes : goal.returns-in_default-clause-goes
 returns-in_default-clause-goes g c =
-    goes_of_file c.args.switches c.args.update.now.memory _ _ _ _ c.args.update.now.format _ _ (with_status c.file_image.result)
+    goes_of_file c.args.switches c.args.update.now.memory _ _ _ _ c.args.update.now.format _ _
+    (with_status c.file_image.result)
     c.size_of-size.ensures.value
     c.as_str-text.ensures c.in_default.not-Immediate c.file_image.ensures.goes
 

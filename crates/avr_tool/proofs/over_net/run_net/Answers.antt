@@ -1,5 +1,5 @@
 use Rattle.std.proofs.Common.{inl, inr, refl}
-use Rattle.stk_host.proofs.Talks.Streams.{true_now}
+use Rattle.stk_host.proofs.Transcripts.Streams.{true_now}
 use Rattle.avr_tool.proofs.over_net.run_net.Goals as goal
 
 pub returns-in-Err-clause-runs : goal.returns-in-Err-clause-runs
@@ -11,7 +11,7 @@ returns-clause-runs g c = inl (
   record {
     plan = c.in-Ok.plan;
     planned_desk = g.D.Desk.view c.plan.new.desk;
-    talk = c.drive.new.link.talk;
+    transcript = c.drive.new.link.transcript;
     link_failures = c.drive.new.link.failures;
     made = rw c.in-Ok.is at c.plan.ensures.goes;
     runs = rw c.in-Ok-connect.ensures.new.fresh at (rw c.in-Ok-connect.ensures.new.quiet at c.drive.ensures.runs);

@@ -1,5 +1,5 @@
 use Rattle.std.proofs.Common.{refl}
-use Rattle.stk_host.proofs.Talks.Streams.{true_now}
+use Rattle.stk_host.proofs.Transcripts.Streams.{true_now}
 use Rattle.avr_tool.proofs.program.run_port.Goals as goal
 
 pub returns-in-Emulated-clause-runs : goal.returns-in-Emulated-clause-runs

@@ -1,4 +1,4 @@
-use Rattle.stk_host.proofs.Talks.Streams.{true_now}
+use Rattle.stk_host.proofs.Transcripts.Streams.{true_now}
 use Rattle.avr_tool.proofs.Runs.Untaken.{untaken}
 use Rattle.avr_tool.proofs.program.run_words.Goals as goal
 

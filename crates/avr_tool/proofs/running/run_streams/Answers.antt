@@ -1,4 +1,4 @@
-use Rattle.stk_host.proofs.Talks.Streams.{true_now}
+use Rattle.stk_host.proofs.Transcripts.Streams.{true_now}
 use Rattle.avr_tool.proofs.running.run_streams.Goals as goal
 
 pub returns-clause-tells : goal.returns-clause-tells

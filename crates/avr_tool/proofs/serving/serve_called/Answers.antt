@@ -1,5 +1,5 @@
 use Rattle.std.proofs.Common.{inl, inr, refl}
-use Rattle.stk_host.proofs.Talks.Streams.{true_now}
+use Rattle.stk_host.proofs.Transcripts.Streams.{true_now}
 use Rattle.avr_tool.proofs.serving.serve_called.Goals as goal
 
 pub returns-in-Err-clause-serves : goal.returns-in-Err-clause-serves
@@ -13,7 +13,7 @@ returns-clause-serves g c = λ listener accepted lacks.
     let new = rw c.in-Ok.is at accepted in
     inl (
       record {
-        talk = c.serve_part.new.link.talk;
+        transcript = c.serve_part.new.link.transcript;
         link_failures = c.serve_part.new.link.failures;
         serves = rw new.fresh at (rw new.quiet at c.serve_part.ensures.runs);
       },

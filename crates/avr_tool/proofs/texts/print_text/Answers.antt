@@ -5,7 +5,8 @@ use Rattle.avr_tool.proofs.Printed.{printed_more, printed_part}
 use Rattle.avr_tool.proofs.texts.print_text.Goals as goal
 
 pub returns-in-Err-clause-prints : goal.returns-in-Err-clause-prints
-returns-in-Err-clause-prints g c = printed_part _ _ _ _ _ _ c.loop.invariant.printed c.in-Err.ensures.part (search rules)
+returns-in-Err-clause-prints g c =
+    printed_part _ _ _ _ _ _ c.loop.invariant.printed c.in-Err.ensures.part (search rules)
     (search rules)
 
 pub loop-preserved : goal.loop-preserved

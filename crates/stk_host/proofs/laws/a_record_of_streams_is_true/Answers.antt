@@ -1,4 +1,4 @@
-use Rattle.stk_host.proofs.Talks.Streams.{true_now}
+use Rattle.stk_host.proofs.Transcripts.Streams.{true_now}
 use Rattle.stk_host.proofs.laws.a_record_of_streams_is_true.Goals as goal
 
 pub returns : goal.returns

@@ -1,6 +1,6 @@
 use Rattle.std.proofs.Common.{◌+◌, arith}
 use Rattle.std.proofs.lemmas.Result.{err_from_is_err_and}
-use Rattle.stk_host.proofs.Talks.Sending.{says_part, says_still, part_of, behind, part_fits, fails_since}
+use Rattle.stk_host.proofs.Transcripts.Sending.{says_part, says_still, part_of, behind, part_fits, fails_since}
 use Rattle.stk_host.proofs.link.send_all.Goals as goal
 
 pub returns-in_err-count-clause-sends : goal.returns-in_err-count-clause-sends

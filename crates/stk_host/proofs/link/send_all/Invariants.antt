@@ -6,7 +6,7 @@ use Rattle.stk_host.proofs.link.send_all.Given as goal
 abbrev pub invariant-loop-done : goal.invariant-loop-done
 invariant-loop-done g l = record {
   in_range : l.done ≤ length l.bytes;
-  says : Says (take l.done l.bytes) (g.L.Link.view l.fn.link).talk (g.L.Link.view l.link).talk;
+  says : Says (take l.done l.bytes) (g.L.Link.view l.fn.link).transcript (g.L.Link.view l.link).transcript;
   counted : (g.L.Link.view l.link).failures ≡ (g.L.Link.view l.fn.link).failures;
   comes : Stays g.L.Link.comes_of l.fn.link l.link;
 }

@@ -1,6 +1,6 @@
 use Rattle.std.proofs.Common.{refl, arith, rules}
 use Rattle.std.proofs.lemmas.Result.{err_from_is_err_and}
-use Rattle.stk_host.proofs.Talks.Listening.{Listening, begins, heard_bytes, heard_silence, heard_end, reads_on, finds, babbles, hears_none}
+use Rattle.stk_host.proofs.Transcripts.Listening.{Listening, begins, heard_bytes, heard_silence, heard_end, reads_on, finds, babbles, hears_none}
 use Rattle.stk_host.proofs.listen.listen.Goals as goal
 use Rattle.stk_host.proofs.listen.listen.Goals.{then-is_empty+in_ok-hear+in-Bytes, else-is_empty}
 

@@ -3,14 +3,14 @@ use Rattle.std.proofs.lemmas.Result.{err_from_is_err_and}
 use Rattle.stk_frame.specs.declared.command.Command.{Command}
 use Rattle.stk_frame.specs.declared.command.Command.TheVariants.{SignOn}
 use Rattle.stk_frame.specs.HostCommands.{enter, read_signature}
-use Rattle.stk_host.specs.Talk.{LinkView}
+use Rattle.stk_host.specs.Transcript.{LinkState}
 use Rattle.stk_host.specs.Dialog.{Dialog, ◌>>=◌}
 use Rattle.stk_host.specs.Play.{Position, PlaysOver}
 use Rattle.stk_host.specs.Reach.{Reaches}
 use Rattle.stk_host.specs.Steps.{StepOutcome, if_done, step, play}
 use Rattle.stk_host.specs.ReadSteps.{signature_steps}
 use Rattle.stk_host.specs.Operations.{handshake}
-use Rattle.stk_host.proofs.Talks.Reached.{reaches_on}
+use Rattle.stk_host.proofs.Transcripts.Reached.{reaches_on}
 use Rattle.stk_host.proofs.Operations.StepEnds.{stops_on, stops_there, goes_on, play_on, play_stops, play_done}
 use Rattle.stk_host.proofs.opening.begin.Goals as goal
 
@@ -18,13 +18,13 @@ entering : Dialog ⊥ StepOutcome
 entering = step (enter ∷ []) >>= if_done (λ nothing. play signature_steps [])
 
 -- after SIGN_ON
-signed_on : {m n : Position} {o p : LinkView} {name : List ℕ} → PlaysOver (step (SignOn ∷ [])) m o p (Ok name) n
+signed_on : {m n : Position} {o p : LinkState} {name : List ℕ} → PlaysOver (step (SignOn ∷ [])) m o p (Ok name) n
     → Reaches handshake m o entering n p
 unfolding handshake entering
 signed_on {name = name} f = goes_on (λ name. step (enter ∷ []) >>= if_done (λ nothing. play signature_steps [])) name f
 
 -- after ENTER
-entered : {k m n : Position} {r o p : LinkView} {nothing : List ℕ} {command : Command} → command ≡ enter
+entered : {k m n : Position} {r o p : LinkState} {nothing : List ℕ} {command : Command} → command ≡ enter
     → Reaches handshake k r entering m o → PlaysOver (step (command ∷ [])) m o p (Ok nothing) n
     → Reaches handshake k r (play signature_steps []) n p
 unfolding entering

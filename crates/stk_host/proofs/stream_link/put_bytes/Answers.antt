@@ -1,6 +1,6 @@
 use Rattle.std.proofs.Common.{take, drop, take-append-drop}
 use Rattle.std.proofs.lemmas.Result.{err_from_is_err_and}
-use Rattle.stk_host.proofs.Talks.Streams.{wrote_prefix}
+use Rattle.stk_host.proofs.Transcripts.Streams.{wrote_prefix}
 use Rattle.stk_host.proofs.stream_link.put_bytes.Goals as goal
 
 pub returns-in_err-flush-clause-err : goal.returns-in_err-flush-clause-err

@@ -7,4 +7,5 @@ returns-in-Ok-clause-stays g c = from_inside _ _ _ _ _ _ c.self.view_is
     (read_true _ _ _ _ _ _ _ _ c.then-self-inside.ensures (search rules) c.in-Ok.ensures.ok)
 
 pub returns-in-Err-clause-stays : goal.returns-in-Err-clause-stays
-returns-in-Err-clause-stays g c = from_inside _ _ _ _ _ _ c.self.view_is (unread_true _ _ _ _ _ _ (search rules) c.in-Err.ensures.err)
+returns-in-Err-clause-stays g c =
+    from_inside _ _ _ _ _ _ c.self.view_is (unread_true _ _ _ _ _ _ (search rules) c.in-Err.ensures.err)

@@ -12,4 +12,5 @@ returns-in-Ok-clause-stays g c =
     c.in-Ok.ensures.put)
 
 pub returns-in-Err-clause-stays : goal.returns-in-Err-clause-stays
-returns-in-Err-clause-stays g c = from_inside _ _ _ _ _ _ c.self.view_is (unreplaced_true _ _ _ _ _ _ c.replace_named.ensures.stays)
+returns-in-Err-clause-stays g c =
+    from_inside _ _ _ _ _ _ c.self.view_is (unreplaced_true _ _ _ _ _ _ c.replace_named.ensures.stays)

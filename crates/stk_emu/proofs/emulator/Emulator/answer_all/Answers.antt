@@ -1,6 +1,6 @@
 use Rattle.std.proofs.Common.{[], arith, take_all}
 use Rattle.std.proofs.lemmas.Result.{err_from_is_err_and}
-use Rattle.stk_host.proofs.Talks.Sending.{behind, part_fits}
+use Rattle.stk_host.proofs.Transcripts.Sending.{behind, part_fits}
 use Rattle.stk_emu.proofs.Answers.Texts.{appends_none, appends_on, appends_prefix, appends_fed, appends_all}
 use Rattle.stk_emu.proofs.emulator.Emulator.answer_all.Goals as goal
 

@@ -9,7 +9,7 @@ use Rattle.stk_emu.proofs.wired.Wired.hear_silence.Goals as goal
 pub returns-clause-ok : goal.returns-clause-ok
 returns-clause-ok c =
     rw (← c.self.view_is) (
-    heard_state (wired_state c.self.inside) c.hear.new.self.talk
+    heard_state (wired_state c.self.inside) c.hear.new.self.transcript
     (tape_in (drop c.consume-self-inside.result c.consume-self-inside.new.waits.items)) (item.Silence ∷ [])
     c.in_ok-hear.ensures.ok
     (left_on c.consume-self-inside.new.waits.items c.self.inside.waits.items c.self.inside.at

@@ -1,6 +1,6 @@
 use Rattle.std.proofs.Common.{ap, ◌∙◌, arith, [], ◌∷◌, ◌++◌, take, length-append, rules}
 use Rattle.stk_frame.specs.Reader.{frames_of_event}
-use Rattle.stk_host.specs.Talk as talk
+use Rattle.stk_host.specs.Transcript as transcript
 use Rattle.stk_emu.proofs.Answers.Texts.{found_frames}
 use Rattle.stk_emu.proofs.Wires.Waiting.{grown}
 use Rattle.stk_emu.proofs.Wires.Kept.{keeps_passing}
@@ -25,8 +25,9 @@ returns-clause-passes c = record {
             (c.keep.ensures.waits ∙ ap (λ w. w ++ c.pass_event.new.out.items) c.in_ok-make_room.ensures.waits)
             c.pass_event.ensures.items;
         wire = c.pass_event.ensures.wire;
-        talk = c.keep.ensures.talk ∙ ap (λ t. t ++ talk.Sent (take c.feed-used.result.0 c.args.bytes.now) ∷ [])
-            c.in_ok-make_room.ensures.talk;
+        transcript =
+            c.keep.ensures.transcript ∙ ap (λ t. t ++ transcript.Sent (take c.feed-used.result.0 c.args.bytes.now) ∷ [])
+            c.in_ok-make_room.ensures.transcript;
       });
 }
 

@@ -1,5 +1,5 @@
 use Rattle.std.proofs.Common.{refl, arith, ◌-◌, ◌+◌, rules}
-use Rattle.stk_host.proofs.Talks.Reached.{reaches_here}
+use Rattle.stk_host.proofs.Transcripts.Reached.{reaches_here}
 use Rattle.stk_host.proofs.Operations.Attempts.{try_again, try_data, try_stop, try_breaks, try_end}
 use Rattle.stk_host.proofs.conversation.Conversation.step.Goals as goal
 

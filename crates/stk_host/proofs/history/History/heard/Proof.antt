@@ -16,7 +16,7 @@ use denote.Steps.{nothing}
 use denote.Triple.Entry.{alive}
 use denote.Triple.Walked.{says, Stays, stay_dropped, walk_of, ends_at, Goes-dropped}
 use Rattle.ghosts.proofs.Walks.{no_fields, made_of_nothing}
-use Rattle.stk_host.specs.Talk.{Got, items_of}
+use Rattle.stk_host.specs.Transcript.{Got, items_of}
 use Rattle.stk_host.specs.contracts.history.History.{the_row as R}
 use Rattle.stk_host.specs.contracts.link.Heard as Heard
 use Rattle.stk_host.specs.contracts.history.History.heard as f

@@ -17,7 +17,7 @@ use denote.Steps.{nothing}
 use denote.Triple.Entry.{alive}
 use denote.Triple.Walked.{says, Stays, stay_dropped, walk_of, ends_at, Goes-dropped}
 use Rattle.ghosts.proofs.Walks.{no_fields, made_of_nothing}
-use Rattle.stk_host.specs.Talk.{Sent}
+use Rattle.stk_host.specs.Transcript.{Sent}
 use Rattle.stk_host.specs.contracts.history.History.{the_row as R}
 use Rattle.stk_host.specs.contracts.history.History.sent as f
 use Rattle.stk_host.proofs.history.History.sent.Statement.{statement}

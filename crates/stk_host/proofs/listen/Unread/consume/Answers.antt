@@ -1,4 +1,4 @@
-use Rattle.stk_host.proofs.Talks.Sending.{range_consumed}
+use Rattle.stk_host.proofs.Transcripts.Sending.{range_consumed}
 use Rattle.stk_host.proofs.listen.Unread.consume.Goals as goal
 
 pub returns-clause-left : goal.returns-clause-left

@@ -2,9 +2,9 @@ use Rattle.std.proofs.Common.{◌∙◌, ap, sym, arith, length, ◌∷◌, ◌+
 use Rattle.std.proofs.Math.Seq.{take-length}
 use Rattle.std.proofs.lemmas.List.{append-nil}
 use Rattle.stk_host.specs.Tape.{on_tape}
-use Rattle.stk_host.specs.Talk as talk
+use Rattle.stk_host.specs.Transcript as transcript
 use Rattle.stk_host.specs.declared.log.Mark.TheVariants as mark
-use Rattle.stk_host.proofs.Talks.Logs.{log_adds, counts_more}
+use Rattle.stk_host.proofs.Transcripts.Logs.{log_adds, counts_more}
 use Rattle.stk_host.proofs.log.Log.hear_bytes.Goals as goal
 
 pub invariant_of-self-2 : goal.invariant_of-self-2
@@ -23,6 +23,6 @@ returns-clause-ok c =
     (mark.Got (length c.args.bytes.now)) c.self.invariant.out_is c.self.invariant.back_is
     (c.push_reserved.ensures.items
     ∙ ap (λ ms. ms ++ (mark.Got (length c.args.bytes.now)) ∷ []) c.reserve.ensures.items)
-    (sym (append-nil c.self.inside.out.items)) (c.in_ok-extend_from_slice.ensures.items) c.args.self.now.talk
-    (ap (λ s. s.talk) c.self.view_is)
-    ∙ ap (λ bs. c.args.self.now.talk ++ talk.Got (on_tape bs) ∷ []) (take-length c.args.bytes.now)
+    (sym (append-nil c.self.inside.out.items)) (c.in_ok-extend_from_slice.ensures.items) c.args.self.now.transcript
+    (ap (λ s. s.transcript) c.self.view_is)
+    ∙ ap (λ bs. c.args.self.now.transcript ++ transcript.Got (on_tape bs) ∷ []) (take-length c.args.bytes.now)

@@ -1,6 +1,6 @@
 use Rattle.std.proofs.Common.{take, refl, subst}
 use Rattle.stk_host.specs.Links.{StreamState, IsTrueSince}
-use Rattle.stk_host.proofs.Talks.Streams.{true_on, true_of_sent}
+use Rattle.stk_host.proofs.Transcripts.Streams.{true_on, true_of_sent}
 use Rattle.stk_host.proofs.stream_link.StreamLinkLink.send.Goals as goal
 
 pub returns-in-Ok-clause-comes : goal.returns-in-Ok-clause-comes
@@ -10,7 +10,7 @@ returns-in-Ok-clause-comes g c = λ start since.
       writer = c.put_bytes.new.writer;
       failures = c.self.inside.failures;
       last_error = c.self.inside.last_error;
-      talk = c.sent-self-inside.result.items;
+      transcript = c.sent-self-inside.result.items;
     } in
     let bytes = take c.in-Ok.count c.args.bytes.now in
     true_on g.R.Read.remaining g.W.Write.contents start c.args.self.now after since

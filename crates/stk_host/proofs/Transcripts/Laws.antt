@@ -2,49 +2,50 @@
 use Rattle.std.proofs.Common.{◌≡◌, ℕ, [], ◌∷◌, ◌++◌, refl, sym, ap, ◌∙◌, append_assoc}
 use Rattle.std.proofs.lemmas.List.{append-nil}
 use Rattle.stk_host.specs.Tape.{Tape}
-use Rattle.stk_host.specs.Talk.{Talk, Sent, Got, sent, heard, Grows}
+use Rattle.stk_host.specs.Transcript.{Transcript, Sent, Got, sent, heard, Grows}
 use Rattle.stk_host.specs.Reach.{IsQuiet, WaitsFrom}
 
-pub sent_append : (x y : Talk) → sent (x ++ y) ≡ sent x ++ sent y
+pub sent_append : (x y : Transcript) → sent (x ++ y) ≡ sent x ++ sent y
 sent_append [] y = refl
 sent_append (Sent bytes ∷ x) y = ap (λ bs. bytes ++ bs) (sent_append x y) ∙ sym (append_assoc bytes (sent x) (sent y))
 sent_append (Got tape ∷ x) y = sent_append x y
 
-pub heard_append : (x y : Talk) → heard (x ++ y) ≡ heard x ++ heard y
+pub heard_append : (x y : Transcript) → heard (x ++ y) ≡ heard x ++ heard y
 heard_append [] y = refl
 heard_append (Sent bytes ∷ x) y = heard_append x y
 heard_append (Got tape ∷ x) y = ap (λ t. tape ++ t) (heard_append x y) ∙ sym (append_assoc tape (heard x) (heard y))
 
 -- what the whole heard is, before what follows
-pub heard_both : (u : Tape) (x y : Talk) (more : Tape)
+pub heard_both : (u : Tape) (x y : Transcript) (more : Tape)
     → u ++ (heard (x ++ y) ++ more) ≡ u ++ (heard x ++ (heard y ++ more))
 heard_both u x y more = ap (λ t. u ++ t)
     (ap (λ t. t ++ more) (heard_append x y) ∙ append_assoc (heard x) (heard y) more)
 
-pub grows_none : (old : Talk) → Grows old [] old
+pub grows_none : (old : Transcript) → Grows old [] old
 grows_none old = sym (append-nil old)
 
-pub grows_on : (a b c : Talk) (x y : Talk) → Grows a x b → Grows b y c → Grows a (x ++ y) c
-grows_on a b c x y f g = g ∙ ap (λ (t : Talk). t ++ y) f ∙ append_assoc a x y
+pub grows_on : (a b c : Transcript) (x y : Transcript) → Grows a x b → Grows b y c → Grows a (x ++ y) c
+grows_on a b c x y f g = g ∙ ap (λ (t : Transcript). t ++ y) f ∙ append_assoc a x y
 
 -- in a quiet talk nothing is heard
-pub heard_quiet : (talk : Talk) → IsQuiet talk → heard talk ≡ []
+pub heard_quiet : (transcript : Transcript) → IsQuiet transcript → heard transcript ≡ []
 heard_quiet [] quiet = refl
-heard_quiet (Sent bytes ∷ talk) quiet = heard_quiet talk quiet
-heard_quiet (Got tape ∷ talk) quiet = absurd quiet
+heard_quiet (Sent bytes ∷ transcript) quiet = heard_quiet transcript quiet
+heard_quiet (Got tape ∷ transcript) quiet = absurd quiet
 
-pub quiet_append : (x y : Talk) → IsQuiet x → IsQuiet y → IsQuiet (x ++ y)
+pub quiet_append : (x y : Transcript) → IsQuiet x → IsQuiet y → IsQuiet (x ++ y)
 quiet_append [] y f g = g
 quiet_append (Sent bytes ∷ x) y f g = quiet_append x y f g
 quiet_append (Got tape ∷ x) y f g = absurd f
 
 -- while an answer is waited for nothing is sent
-pub sent_waiting : (seq : ℕ) (tape : Tape) (talk : Talk) → WaitsFrom seq tape talk → sent talk ≡ []
+pub sent_waiting : (seq : ℕ) (tape : Tape) (transcript : Transcript) → WaitsFrom seq tape transcript
+    → sent transcript ≡ []
 sent_waiting seq tape [] waits = refl
-sent_waiting seq tape (Sent bytes ∷ talk) waits = absurd waits
-sent_waiting seq tape (Got items ∷ talk) waits = sent_waiting seq (tape ++ items) talk waits.1
+sent_waiting seq tape (Sent bytes ∷ transcript) waits = absurd waits
+sent_waiting seq tape (Got items ∷ transcript) waits = sent_waiting seq (tape ++ items) transcript waits.1
 
-pub waits_append : (seq : ℕ) (tape : Tape) (x y : Talk) → WaitsFrom seq tape x → WaitsFrom seq (tape ++ heard x) y
+pub waits_append : (seq : ℕ) (tape : Tape) (x y : Transcript) → WaitsFrom seq tape x → WaitsFrom seq (tape ++ heard x) y
     → WaitsFrom seq tape (x ++ y)
 waits_append seq tape [] y f g = rw (append-nil tape) at g
 waits_append seq tape (Sent bytes ∷ x) y f g = absurd f

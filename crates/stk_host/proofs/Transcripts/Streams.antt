@@ -6,8 +6,8 @@ use Rattle.stk_host.specs.declared.link.Heard.{Heard}
 use Rattle.stk_host.specs.declared.link.Heard.TheVariants as hears
 use Rattle.stk_host.specs.Links.{StreamState, IsTrueSince, HearsKnown, AppendsPrefix}
 use Rattle.stk_host.specs.Tape.{bytes_of}
-use Rattle.stk_host.specs.Talk.{Talk, Sent, Got, heard, items_of}
-use Rattle.stk_host.proofs.Talks.Laws.{sent_append, heard_append}
+use Rattle.stk_host.specs.Transcript.{Transcript, Sent, Got, heard, items_of}
+use Rattle.stk_host.proofs.Transcripts.Laws.{sent_append, heard_append}
 use Rattle.stk_host.proofs.Tapes.Answers.{bytes_of_append, bytes_of_on_tape}
 
 -- a prefix of the bytes was written, and then nothing more
@@ -33,7 +33,7 @@ module _ {R W : Type 0} (remaining : R → Option (List ℕ)) (contents : W → 
   pub true_now : (a : StreamState R W) → IsTrueSince remaining contents a a
   true_now a = record {
     during = [];
-    grows = sym (append-nil a.talk);
+    grows = sym (append-nil a.transcript);
     gave = Consumes-nil (remaining a.reader);
     took = λ sound. Appends-nil (contents a.writer);
     counted = omega arith;
@@ -43,7 +43,7 @@ module _ {R W : Type 0} (remaining : R → Option (List ℕ)) (contents : W → 
       → IsTrueSince remaining contents a c
   true_on a b c f g = record {
     during = f.during ++ g.during;
-    grows = g.grows ∙ ap (λ (t : Talk). t ++ g.during) f.grows ∙ append_assoc a.talk f.during g.during;
+    grows = g.grows ∙ ap (λ (t : Transcript). t ++ g.during) f.grows ∙ append_assoc a.transcript f.during g.during;
     gave = rw (heard_append f.during g.during, bytes_of_append (heard f.during) (heard g.during))
         (Consumes-trans (remaining a.reader) (remaining b.reader) (remaining c.reader) _ _ f.gave g.gave);
     took = λ sound. rw (sent_append f.during g.during)
@@ -53,11 +53,11 @@ module _ {R W : Type 0} (remaining : R → Option (List ℕ)) (contents : W → 
   }
 
   pub true_of_sent : (a b : StreamState R W) (bytes : List ℕ) → b.reader ≡ a.reader → b.failures ≡ a.failures
-      → b.talk ≡ a.talk ++ Sent bytes ∷ [] → Appends (contents a.writer) (contents b.writer) bytes
+      → b.transcript ≡ a.transcript ++ Sent bytes ∷ [] → Appends (contents a.writer) (contents b.writer) bytes
       → IsTrueSince remaining contents a b
-  true_of_sent a b bytes reader failures talk took = record {
+  true_of_sent a b bytes reader failures transcript took = record {
     during = Sent bytes ∷ [];
-    grows = talk;
+    grows = transcript;
     gave = rw reader (Consumes-nil (remaining a.reader));
     took = λ sound. rw (append-nil bytes) took;
     counted = omega (arith, failures);
@@ -65,11 +65,12 @@ module _ {R W : Type 0} (remaining : R → Option (List ℕ)) (contents : W → 
 
   pub true_of_heard : (a b : StreamState R W) (h : Heard) (buffer : List ℕ) → b.writer ≡ a.writer
       → b.failures ≡ a.failures
-      → b.talk ≡ a.talk ++ Got (items_of h buffer) ∷ [] → HearsKnown h buffer (remaining a.reader) (remaining b.reader)
+      → b.transcript ≡ a.transcript ++ Got (items_of h buffer) ∷ []
+      → HearsKnown h buffer (remaining a.reader) (remaining b.reader)
       → IsTrueSince remaining contents a b
-  true_of_heard a b h buffer writer failures talk given = record {
+  true_of_heard a b h buffer writer failures transcript given = record {
     during = Got (items_of h buffer) ∷ [];
-    grows = talk;
+    grows = transcript;
     gave = rw (append-nil (items_of h buffer))
         (items_given h buffer (remaining a.reader) (remaining b.reader) given);
     took = λ sound. rw writer (Appends-nil (contents a.writer));

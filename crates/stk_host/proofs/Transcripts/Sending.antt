@@ -4,11 +4,11 @@ use Rattle.std.proofs.lemmas.List.{append-nil, drop-take, drop-drop, take-append
 use Rattle.std.proofs.Math.Seq.{take-add}
 use Rattle.std.specs.Prelude.{slice_range}
 use Rattle.ghosts.specs.Failures.{HasRisen}
-use Rattle.stk_host.specs.Talk.{Talk, LinkView, Sent, Grows, LinkCounts}
+use Rattle.stk_host.specs.Transcript.{Transcript, LinkState, Sent, Grows, LinkCounts}
 use Rattle.stk_host.specs.Reach.{Says, SaysPart}
-use Rattle.stk_host.proofs.Talks.Laws.{sent_append, grows_on, quiet_append}
+use Rattle.stk_host.proofs.Transcripts.Laws.{sent_append, grows_on, quiet_append}
 
-pub says_more : (x y : List ℕ) (o p q : Talk) → Says x o p → Grows p (Sent y ∷ []) q → Says (x ++ y) o q
+pub says_more : (x y : List ℕ) (o p q : Transcript) → Says x o p → Grows p (Sent y ∷ []) q → Says (x ++ y) o q
 says_more x y o p q says g = record {
   during = says.during ++ Sent y ∷ [];
   grows = grows_on o p q says.during (Sent y ∷ []) says.grows g;
@@ -16,17 +16,18 @@ says_more x y o p q says g = record {
   bytes_sent = rw (sent_append says.during (Sent y ∷ []), append-nil y, says.bytes_sent) refl;
 }
 
-pub says_still : (x : List ℕ) (o p q : Talk) → Says x o p → Grows p [] q → Says x o q
+pub says_still : (x : List ℕ) (o p q : Transcript) → Says x o p → Grows p [] q → Says x o q
 says_still x o p q says g = rw (g ∙ append-nil p) says
 
 -- one more part
-pub says_part : (bytes : List ℕ) (n m : ℕ) (part : List ℕ) (o p q : Talk) → Says (take n bytes) o p
+pub says_part : (bytes : List ℕ) (n m : ℕ) (part : List ℕ) (o p q : Transcript) → Says (take n bytes) o p
     → part ≡ drop n bytes → Grows p (Sent (take m part) ∷ []) q → Says (take (n + m) bytes) o q
 says_part bytes n m part o p q says is g =
     rw (take-add n m bytes, ← is) (says_more (take n bytes) (take m part) o p q says g)
 
 -- so many bytes were sent, and not all
-pub part_of : (bytes : List ℕ) (n : ℕ) (o q : Talk) → n < length bytes → Says (take n bytes) o q → SaysPart bytes o q
+pub part_of : (bytes : List ℕ) (n : ℕ) (o q : Transcript) → n < length bytes → Says (take n bytes) o q
+    → SaysPart bytes o q
 part_of bytes n o q few says = record {
   part = take n bytes;
   unsent = drop n bytes;
@@ -36,7 +37,7 @@ part_of bytes n o q few says = record {
 }
 
 -- a link that has failed since some earlier time, when its count was the same
-pub fails_since : {A E : Type 0} (a c : LinkView) (count : ℕ) (error : E) → count ≡ a.failures → count ≤ c.failures
+pub fails_since : {A E : Type 0} (a c : LinkState) (count : ℕ) (error : E) → count ≡ a.failures → count ≤ c.failures
     → HasRisen count c.failures → LinkCounts {A = A} a c (Err error)
 fails_since a c count error same counted failed = record {
   counted = omega (arith, same, counted);

@@ -3,7 +3,7 @@ use Rattle.std.proofs.Common.{◌≡◌, ℕ, ◌+◌, List, [], ◌∷◌, ◌+
 use Rattle.std.proofs.lemmas.List.{append-nil}
 use Rattle.stk_host.specs.declared.link.Item.TheVariants.{Byte, Silence, End}
 use Rattle.stk_host.specs.Tape.{Tape, on_tape, bytes_of}
-use Rattle.stk_host.specs.Talk.{Talk, Sent, Got, sent, heard}
+use Rattle.stk_host.specs.Transcript.{Transcript, Sent, Got, sent, heard}
 use Rattle.stk_host.specs.Reach.{IsQuiet}
 use Rattle.stk_host.proofs.Tapes.Answers.{bytes_of_append}
 use Rattle.stk_emu.specs.Programmer.{Programmer}
@@ -19,24 +19,25 @@ pub no_end_on_tape : (bytes : List ℕ) → HasNoEnd (on_tape bytes)
 no_end_on_tape [] = tt
 no_end_on_tape (b ∷ bytes) = no_end_on_tape bytes
 
-pub reads_append : (x y : Talk) → reads (x ++ y) ≡ reads x + reads y
+pub reads_append : (x y : Transcript) → reads (x ++ y) ≡ reads x + reads y
 reads_append [] y = omega arith
 reads_append (Sent bytes ∷ x) y = reads_append x y
 reads_append (Got tape ∷ x) y = omega (arith, reads_append x y)
 
 -- in a quiet talk nothing is read, so its answers are in turn
-pub reads_quiet : (talk : Talk) → IsQuiet talk → reads talk ≡ 0
+pub reads_quiet : (transcript : Transcript) → IsQuiet transcript → reads transcript ≡ 0
 reads_quiet [] quiet = refl
-reads_quiet (Sent bytes ∷ talk) quiet = reads_quiet talk quiet
-reads_quiet (Got tape ∷ talk) quiet = absurd quiet
+reads_quiet (Sent bytes ∷ transcript) quiet = reads_quiet transcript quiet
+reads_quiet (Got tape ∷ transcript) quiet = absurd quiet
 
-pub in_turn_quiet : (p : Programmer) (text out : List ℕ) (talk : Talk) → IsQuiet talk → AnswersInTurn p text out talk
+pub in_turn_quiet : (p : Programmer) (text out : List ℕ) (transcript : Transcript) → IsQuiet transcript
+    → AnswersInTurn p text out transcript
 in_turn_quiet p text out [] quiet = tt
-in_turn_quiet p text out (Sent bytes ∷ talk) quiet = in_turn_quiet p text (out ++ bytes) talk quiet
-in_turn_quiet p text out (Got tape ∷ talk) quiet = absurd quiet
+in_turn_quiet p text out (Sent bytes ∷ transcript) quiet = in_turn_quiet p text (out ++ bytes) transcript quiet
+in_turn_quiet p text out (Got tape ∷ transcript) quiet = absurd quiet
 
 -- one talk after another
-pub in_turn_append : (p : Programmer) (text out : List ℕ) (x y : Talk) → AnswersInTurn p text out x
+pub in_turn_append : (p : Programmer) (text out : List ℕ) (x y : Transcript) → AnswersInTurn p text out x
     → AnswersInTurn p (text ++ bytes_of (heard x)) (out ++ sent x) y
     → AnswersInTurn p text out (x ++ y)
 in_turn_append p text out [] y f g =

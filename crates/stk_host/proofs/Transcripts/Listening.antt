@@ -4,34 +4,34 @@ use Rattle.std.proofs.lemmas.List.{append-nil, length-map, nil_from_length}
 use Rattle.stk_frame.specs.declared.reader.Event.{Event}
 use Rattle.stk_frame.specs.declared.reader.Event.TheVariants as event
 use Rattle.stk_frame.specs.Cut.{cut, rest, body_of}
-use Rattle.stk_frame.specs.Reader.{Fed, HoldsFrame, Stands, frames_of_event}
+use Rattle.stk_frame.specs.Reader.{Fed, HoldsFrame, MayHold, frames_of_event}
 use Rattle.stk_frame.proofs.FedReaders.{rest_whole}
 use Rattle.stk_host.specs.declared.link.Heard.{Heard}
 use Rattle.stk_host.specs.declared.link.Heard.TheVariants as heard
 use Rattle.stk_host.specs.declared.link.Item.{Item}
 use Rattle.stk_host.specs.declared.link.Item.TheVariants.{Byte, Silence, End}
 use Rattle.stk_host.specs.Tape.{Tape, Reading, on_tape, answer, first_answer, is_answer, limit, Answered, Silent, Ended, Babbled}
-use Rattle.stk_host.specs.Talk.{Talk, LinkView, Got, heard as heard_in, Grows}
+use Rattle.stk_host.specs.Transcript.{Transcript, LinkState, Got, heard as heard_in, Grows}
 use Rattle.stk_host.specs.Reach.{WaitsFrom, Hears, HearsNone}
 use Rattle.stk_host.specs.Calls.{HearsPiece}
 use Rattle.stk_host.proofs.Tapes.Answers.{on_tape_append, answer_silent, answer_ended, answer_waits, answer_babbled, answer_found, still_none, now_found}
-use Rattle.stk_host.proofs.Talks.Laws.{heard_append, heard_both, grows_none, grows_on, waits_append}
+use Rattle.stk_host.proofs.Transcripts.Laws.{heard_append, heard_both, grows_none, grows_on, waits_append}
 
 -- An answer is listened for: so many bytes of a text were read, no answer is in them, a reader holds what is left of
 -- them, and after them come the bytes that are still unread.
-pub record Listening (seq : ℕ) (unread : List ℕ) (old : LinkView) (held : List ℕ) (count : ℕ) (left : List ℕ)
-    (new : LinkView) : Type 0 where
+pub record Listening (seq : ℕ) (unread : List ℕ) (old : LinkState) (held : List ℕ) (count : ℕ) (left : List ℕ)
+    (new : LinkState) : Type 0 where
   pub text : List ℕ
-  pub stands : Stands held text
+  pub stands : MayHold held text
   pub counted : length text ≡ count
   pub few : count + length left ≤ limit
   pub no_answer : first_answer seq (cut text) ≡ None
-  pub during : Talk
-  pub grows : Grows old.talk during new.talk
+  pub during : Transcript
+  pub grows : Grows old.transcript during new.transcript
   pub waits : WaitsFrom seq (on_tape unread) during
   pub all_heard : on_tape unread ++ heard_in during ≡ on_tape (text ++ left)
 
-pub begins : (seq : ℕ) (u : List ℕ) (o : LinkView) → length u ≤ limit → Listening seq u o [] 0 u o
+pub begins : (seq : ℕ) (u : List ℕ) (o : LinkState) → length u ≤ limit → Listening seq u o [] 0 u o
 begins seq u o few = record {
   text = [];
   stands = refl;
@@ -39,7 +39,7 @@ begins seq u o few = record {
   few = omega (arith, few);
   no_answer = refl;
   during = [];
-  grows = grows_none o.talk;
+  grows = grows_none o.transcript;
   waits = tt;
   all_heard = append-nil (on_tape u);
 }
@@ -50,9 +50,9 @@ ReadOn left new_left n held new what = (used : List ℕ) × (length used ≡ n) 
     × Fed held used new (frames_of_event what new)
 
 -- laws of a listening
-module _ {seq : ℕ} {u : List ℕ} {o : LinkView} where
+module _ {seq : ℕ} {u : List ℕ} {o : LinkState} where
   -- how much was heard
-  heard_count : {held : List ℕ} {count : ℕ} {left : List ℕ} {p : LinkView} (l : Listening seq u o held count left p)
+  heard_count : {held : List ℕ} {count : ℕ} {left : List ℕ} {p : LinkState} (l : Listening seq u o held count left p)
       → length u + length (heard_in l.during) ≡ count + length left
   heard_count {left = left} l =
       let all : length (on_tape u ++ heard_in l.during) ≡ length (on_tape (l.text ++ left)) = ap length l.all_heard in
@@ -67,7 +67,7 @@ module _ {seq : ℕ} {u : List ℕ} {o : LinkView} where
       )
 
   -- where nothing is left unread, and a piece is heard
-  module _ {held : List ℕ} {count : ℕ} {left : List ℕ} {p : LinkView} (of_left : Listening seq u o held count left p)
+  module _ {held : List ℕ} {count : ℕ} {left : List ℕ} {p : LinkState} (of_left : Listening seq u o held count left p)
       (none : length left ≡ 0) (few : count < limit) where
     l : Listening seq u o held count [] p
     l = subst (λ bs. Listening seq u o held count bs p) (nil_from_length left none) of_left
@@ -82,7 +82,7 @@ module _ {seq : ℕ} {u : List ℕ} {o : LinkView} where
     waits_more : (items : Tape) → WaitsFrom seq (on_tape u) (l.during ++ Got items ∷ [])
     waits_more items = waits_append seq (on_tape u) l.during (Got items ∷ []) l.waits (not_yet, tt)
 
-    pub heard_bytes : {q : LinkView} {what : Heard} {n : ℕ} {new : List ℕ} → count + length new ≤ limit
+    pub heard_bytes : {q : LinkState} {what : Heard} {n : ℕ} {new : List ℕ} → count + length new ≤ limit
         → what ≡ heard.Bytes n → HearsPiece what new p q → Listening seq u o held count new q
     heard_bytes {q = q} {new = new} most is piece = record {
       text = l.text;
@@ -91,7 +91,8 @@ module _ {seq : ℕ} {u : List ℕ} {o : LinkView} where
       few = most;
       no_answer = l.no_answer;
       during = l.during ++ Got (on_tape new) ∷ [];
-      grows = grows_on o.talk p.talk q.talk l.during (Got (on_tape new) ∷ []) l.grows (let h = rw is at piece in h.1);
+      grows = grows_on o.transcript p.transcript q.transcript l.during (Got (on_tape new) ∷ []) l.grows
+          (let h = rw is at piece in h.1);
       waits = waits_more (on_tape new);
       all_heard = rw (heard_append l.during (Got (on_tape new) ∷ []), append-nil (on_tape new))
           (rw (← append_assoc (on_tape u) (heard_in l.during) (on_tape new), text_heard)
@@ -99,13 +100,13 @@ module _ {seq : ℕ} {u : List ℕ} {o : LinkView} where
     }
 
     -- a silence or an end
-    stops : {q : LinkView} {new : List ℕ} (item : Item) (reading : Reading)
-        → (new ≡ []) × Grows p.talk (Got (item ∷ []) ∷ []) q.talk
+    stops : {q : LinkState} {new : List ℕ} (item : Item) (reading : Reading)
+        → (new ≡ []) × Grows p.transcript (Got (item ∷ []) ∷ []) q.transcript
         → ((more : Tape) → answer seq (on_tape l.text ++ item ∷ more) ≡ Some (reading, more))
         → Hears seq u o q reading new
     stops {q = q} item reading piece answers = rw piece.0 (record {
       during = l.during ++ Got (item ∷ []) ∷ [];
-      grows = grows_on o.talk p.talk q.talk l.during (Got (item ∷ []) ∷ []) l.grows piece.1;
+      grows = grows_on o.transcript p.transcript q.transcript l.during (Got (item ∷ []) ∷ []) l.grows piece.1;
       waits = waits_more (item ∷ []);
       few = omega (
         arith,
@@ -117,30 +118,30 @@ module _ {seq : ℕ} {u : List ℕ} {o : LinkView} where
           (rw (← append_assoc (on_tape u) (heard_in l.during) (item ∷ more), text_heard) (answers more));
     })
 
-    pub heard_silence : {q : LinkView} {what : Heard} {new : List ℕ} → what ≡ heard.Silence → HearsPiece what new p q
+    pub heard_silence : {q : LinkState} {what : Heard} {new : List ℕ} → what ≡ heard.Silence → HearsPiece what new p q
         → Hears seq u o q Silent new
     heard_silence is piece =
         stops Silence Silent (rw is at piece)
         (λ more. answer_silent seq l.text more l.no_answer (omega (arith, l.counted)))
 
-    pub heard_end : {q : LinkView} {what : Heard} {new : List ℕ} → what ≡ heard.End → HearsPiece what new p q
+    pub heard_end : {q : LinkState} {what : Heard} {new : List ℕ} → what ≡ heard.End → HearsPiece what new p q
         → Hears seq u o q Ended new
     heard_end is piece =
         stops End Ended (rw is at piece)
         (λ more. answer_ended seq l.text more l.no_answer (omega (arith, l.counted)))
 
     -- nothing is heard: the link failed
-    pub hears_none : {q : LinkView} → Grows p.talk [] q.talk → HearsNone seq u o q
+    pub hears_none : {q : LinkState} → Grows p.transcript [] q.transcript → HearsNone seq u o q
     hears_none {q = q} g = record {
       during = l.during;
-      grows = g ∙ append-nil p.talk ∙ l.grows;
+      grows = g ∙ append-nil p.transcript ∙ l.grows;
       waits = l.waits;
       few = omega (arith, heard_count l, l.few);
       no_answer = not_yet;
     }
 
   -- bytes that bring no answer
-  reads : {held : List ℕ} {count : ℕ} {p : LinkView} (used left new : List ℕ) (found : List (List ℕ))
+  reads : {held : List ℕ} {count : ℕ} {p : LinkState} (used left new : List ℕ) (found : List (List ℕ))
       → Listening seq u o held count (used ++ left) p → Fed held used new found → first_answer seq found ≡ None
       → Listening seq u o new (count + length used) left p
   reads used left new found l fed other = record {
@@ -156,7 +157,7 @@ module _ {seq : ℕ} {u : List ℕ} {o : LinkView} where
     all_heard = l.all_heard ∙ ap on_tape (sym (append_assoc l.text used left));
   }
 
-  pub reads_on : {held : List ℕ} {count : ℕ} {left : List ℕ} {p : LinkView} (n : ℕ)
+  pub reads_on : {held : List ℕ} {count : ℕ} {left : List ℕ} {p : LinkState} (n : ℕ)
       (new_left new : List ℕ) (what : Event)
       → Listening seq u o held count left p → ReadOn left new_left n held new what
       → first_answer seq (frames_of_event what new) ≡ None → Listening seq u o new (count + n) new_left p
@@ -164,7 +165,7 @@ module _ {seq : ℕ} {u : List ℕ} {o : LinkView} where
       rw (← read.1) (reads read.0 new_left new (frames_of_event what new) (rw read.2 at l) read.3 other)
 
   -- a listening whose reading is known
-  gives : {held : List ℕ} {count : ℕ} {left : List ℕ} {p : LinkView} (x rest_left : List ℕ) (reading : Reading)
+  gives : {held : List ℕ} {count : ℕ} {left : List ℕ} {p : LinkState} (x rest_left : List ℕ) (reading : Reading)
       → (l : Listening seq u o held count left p) → on_tape u ++ heard_in l.during ≡ on_tape (x ++ rest_left)
       → ((more : Tape) → answer seq (on_tape x ++ more) ≡ Some (reading, more)) → Hears seq u o p reading rest_left
   gives x rest_left reading l all answers = record {
@@ -176,7 +177,7 @@ module _ {seq : ℕ} {u : List ℕ} {o : LinkView} where
         (rw (append_assoc (on_tape x) (on_tape rest_left) more) (answers (on_tape rest_left ++ more)));
   }
 
-  finds_in : {held : List ℕ} {count : ℕ} {p : LinkView} (used left new : List ℕ)
+  finds_in : {held : List ℕ} {count : ℕ} {p : LinkState} (used left new : List ℕ)
       → Listening seq u o held count (used ++ left) p → Fed held used new (new ∷ []) → HoldsFrame new
       → is_answer seq new ≡ true → count + length used ≤ limit
       → Hears seq u o p (Answered (body_of new)) left
@@ -189,7 +190,7 @@ module _ {seq : ℕ} {u : List ℕ} {o : LinkView} where
       (now_found seq l.text used fed.skipped new l.no_answer fed.no_frames (fed.pieces l.text l.stands) good whole)
       size)
 
-  pub finds : {held : List ℕ} {count : ℕ} {left : List ℕ} {p : LinkView} (n : ℕ)
+  pub finds : {held : List ℕ} {count : ℕ} {left : List ℕ} {p : LinkState} (n : ℕ)
       (new_left new : List ℕ) (what : Event)
       → Listening seq u o held count left p → ReadOn left new_left n held new what
       → (what ≡ event.Frame) × HoldsFrame new × (is_answer seq new ≡ true) → count + n ≤ limit
@@ -197,7 +198,7 @@ module _ {seq : ℕ} {u : List ℕ} {o : LinkView} where
   finds n new_left new what l read is few =
       finds_in read.0 new_left new (rw read.2 at l) (rw is.0 at read.3) is.1 is.2 (omega (arith, read.1))
 
-  pub babbles : {held : List ℕ} {count : ℕ} {left : List ℕ} {p : LinkView}
+  pub babbles : {held : List ℕ} {count : ℕ} {left : List ℕ} {p : LinkState}
       → Listening seq u o held count left p → count ≡ limit → Hears seq u o p Babbled left
   babbles {left = left} l full =
       gives l.text left Babbled l l.all_heard (λ more. answer_babbled seq l.text more l.no_answer (l.counted ∙ full))

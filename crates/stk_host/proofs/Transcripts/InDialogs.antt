@@ -5,11 +5,11 @@ use Rattle.stk_frame.specs.Frame.{frame}
 use Rattle.stk_host.specs.declared.fault.Broken.{Broken}
 use Rattle.stk_host.specs.declared.fault.Broken.TheVariants as broken
 use Rattle.stk_host.specs.Tape.{Tape, Reading, on_tape, answer}
-use Rattle.stk_host.specs.Talk.{Talk, Sent, Got, sent, heard}
+use Rattle.stk_host.specs.Transcript.{Transcript, Sent, Got, sent, heard}
 use Rattle.stk_host.specs.Dialog.{Dialog, Done, Say, Ask, ◌>>=◌, Event, Frame, Said, Played, played, behind, by_answer, next, bytes_sent}
 use Rattle.stk_host.specs.Play.{Position, position, IsDue, TurnsFrom, InTurn, played_over, Plays, Breaks, BreaksSending, BreaksListening, BreaksBy, IsPrefixOfEvents, IsBegun}
-use Rattle.stk_host.specs.Reach.{TalkLeads, IsQuiet, WaitsFrom}
-use Rattle.stk_host.proofs.Talks.Laws.{sent_append, heard_append, heard_both, heard_quiet, sent_waiting}
+use Rattle.stk_host.specs.Reach.{TranscriptLeads, IsQuiet, WaitsFrom}
+use Rattle.stk_host.proofs.Transcripts.Laws.{sent_append, heard_append, heard_both, heard_quiet, sent_waiting}
 
 -- plays
 
@@ -48,14 +48,16 @@ followed_behind events p go_on = sym (behind_behind events p.events (continued p
 
 -- turns
 
-turns_quiet : {E R : Type 0} (dialog : Dialog E R) (seq : ℕ) (tape : Tape) (bytes : List ℕ) (talk : Talk) → IsQuiet talk
-    → TurnsFrom dialog seq tape bytes talk
+turns_quiet : {E R : Type 0} (dialog : Dialog E R) (seq : ℕ) (tape : Tape) (bytes : List ℕ) (transcript : Transcript)
+    → IsQuiet transcript
+    → TurnsFrom dialog seq tape bytes transcript
 turns_quiet dialog seq tape bytes [] quiet = tt
-turns_quiet dialog seq tape bytes (Sent more ∷ talk) quiet = turns_quiet dialog seq tape (bytes ++ more) talk quiet
-turns_quiet dialog seq tape bytes (Got items ∷ talk) quiet = absurd quiet
+turns_quiet dialog seq tape bytes (Sent more ∷ transcript) quiet =
+    turns_quiet dialog seq tape (bytes ++ more) transcript quiet
+turns_quiet dialog seq tape bytes (Got items ∷ transcript) quiet = absurd quiet
 
 -- one talk after another
-pub turns_append : {E R : Type 0} (dialog : Dialog E R) (seq : ℕ) (tape : Tape) (bytes : List ℕ) (x y : Talk)
+pub turns_append : {E R : Type 0} (dialog : Dialog E R) (seq : ℕ) (tape : Tape) (bytes : List ℕ) (x y : Transcript)
     → TurnsFrom dialog seq tape bytes x → TurnsFrom dialog seq (tape ++ heard x) (bytes ++ sent x) y
     → TurnsFrom dialog seq tape bytes (x ++ y)
 turns_append dialog seq tape bytes [] y f g =
@@ -72,22 +74,25 @@ module _ {E F A B : Type 0} (dialog : Dialog E A) (inner : Dialog F B) (m n : �
     (before : List ℕ)
     (due : (x : Tape) (bytes : List ℕ) → IsDue inner n (inner_tape ++ x) bytes
     → IsDue dialog m (tape ++ x) (before ++ bytes)) where
-  turns_lift : (x : Tape) (bytes : List ℕ) (talk : Talk) → TurnsFrom inner n (inner_tape ++ x) bytes talk
-      → TurnsFrom dialog m (tape ++ x) (before ++ bytes) talk
+  turns_lift : (x : Tape) (bytes : List ℕ) (transcript : Transcript)
+      → TurnsFrom inner n (inner_tape ++ x) bytes transcript
+      → TurnsFrom dialog m (tape ++ x) (before ++ bytes) transcript
   turns_lift x bytes [] f = tt
-  turns_lift x bytes (Sent more ∷ talk) f =
-      rw (append_assoc before bytes more) (turns_lift x (bytes ++ more) talk f)
-  turns_lift x bytes (Got items ∷ talk) f = (
+  turns_lift x bytes (Sent more ∷ transcript) f =
+      rw (append_assoc before bytes more) (turns_lift x (bytes ++ more) transcript f)
+  turns_lift x bytes (Got items ∷ transcript) f = (
     due x bytes f.0,
-    rw (append_assoc tape x items) (turns_lift (x ++ items) bytes talk (rw (append_assoc inner_tape x items) at f.1)),
+    rw (append_assoc tape x items) (turns_lift (x ++ items) bytes transcript
+        (rw (append_assoc inner_tape x items) at f.1)),
   )
 
   -- the same from the start
-  pub turns_behind : (talk : Talk) → TurnsFrom inner n inner_tape [] talk → TurnsFrom dialog m tape before talk
-  turns_behind talk f =
-      subst (λ t. TurnsFrom dialog m t before talk) (append-nil tape)
-      (subst (λ s. TurnsFrom dialog m (tape ++ []) s talk) (append-nil before)
-      (turns_lift [] [] talk (subst (λ t. TurnsFrom inner n t [] talk) (sym (append-nil inner_tape)) f)))
+  pub turns_behind : (transcript : Transcript) → TurnsFrom inner n inner_tape [] transcript
+      → TurnsFrom dialog m tape before transcript
+  turns_behind transcript f =
+      subst (λ t. TurnsFrom dialog m t before transcript) (append-nil tape)
+      (subst (λ s. TurnsFrom dialog m (tape ++ []) s transcript) (append-nil before)
+      (turns_lift [] [] transcript (subst (λ t. TurnsFrom inner n t [] transcript) (sym (append-nil inner_tape)) f)))
 
 -- a play that waits, whatever follows its dialog
 waits_bind : {E A B : Type 0} (dialog : Dialog E A) (go_on : A → Dialog E B) (seq : ℕ) (x : Tape)
@@ -102,11 +107,11 @@ due_bind dialog go_on seq x bytes due =
     let e = waits_bind dialog go_on seq x due.waits in
     record { waits = ap (λ p. p.outcome) e; all_sent = ap (λ p. bytes_sent p.events) e ∙ due.all_sent }
 
-turns_bind : {E A B : Type 0} (dialog : Dialog E A) (go_on : A → Dialog E B) (m : Position) (talk : Talk)
-    → InTurn dialog m talk → InTurn (dialog >>= go_on) m talk
-turns_bind dialog go_on m talk f =
+turns_bind : {E A B : Type 0} (dialog : Dialog E A) (go_on : A → Dialog E B) (m : Position) (transcript : Transcript)
+    → InTurn dialog m transcript → InTurn (dialog >>= go_on) m transcript
+turns_bind dialog go_on m transcript f =
     turns_behind (dialog >>= go_on) dialog m.next m.next (on_tape m.unread) (on_tape m.unread) []
-    (λ x bytes. due_bind dialog go_on m.next (on_tape m.unread ++ x) bytes) talk f
+    (λ x bytes. due_bind dialog go_on m.next (on_tape m.unread ++ x) bytes) transcript f
 
 -- while the answer is awaited it is in turn to listen
 due_asking : {E R : Type 0} (body : List ℕ) (answered : Reading → Dialog E R) (seq : ℕ) (tape : Tape)
@@ -116,15 +121,17 @@ due_asking body answered seq tape none = record {
   all_sent = rw none (append-nil (frame seq body));
 }
 
-turns_waiting : {E R : Type 0} (body : List ℕ) (answered : Reading → Dialog E R) (seq : ℕ) (tape : Tape) (talk : Talk)
-    → WaitsFrom seq tape talk → TurnsFrom (Ask body answered) seq tape (frame seq body) talk
+turns_waiting : {E R : Type 0} (body : List ℕ) (answered : Reading → Dialog E R) (seq : ℕ) (tape : Tape)
+    (transcript : Transcript)
+    → WaitsFrom seq tape transcript → TurnsFrom (Ask body answered) seq tape (frame seq body) transcript
 turns_waiting body answered seq tape [] waits = tt
-turns_waiting body answered seq tape (Sent bytes ∷ talk) waits = absurd waits
-turns_waiting body answered seq tape (Got items ∷ talk) waits =
-    (due_asking body answered seq tape waits.0, turns_waiting body answered seq (tape ++ items) talk waits.1)
+turns_waiting body answered seq tape (Sent bytes ∷ transcript) waits = absurd waits
+turns_waiting body answered seq tape (Got items ∷ transcript) waits =
+    (due_asking body answered seq tape waits.0, turns_waiting body answered seq (tape ++ items) transcript waits.1)
 
 -- a frame was sent whole, and its answer awaited
-turns_asking : {E R : Type 0} (body : List ℕ) (answered : Reading → Dialog E R) (seq : ℕ) (u : List ℕ) (x y : Talk)
+turns_asking : {E R : Type 0} (body : List ℕ) (answered : Reading → Dialog E R) (seq : ℕ) (u : List ℕ)
+    (x y : Transcript)
     → IsQuiet x → sent x ≡ frame seq body → WaitsFrom seq (on_tape u) y
     → InTurn (Ask body answered) (position seq u) (x ++ y)
 turns_asking body answered seq u x y quiet is waits =
@@ -168,12 +175,12 @@ prefix_behind SaidPart before f = record {
 
 -- leading
 
-pub leads_here : {E R : Type 0} (dialog : Dialog E R) (m : Position) → TalkLeads dialog m [] [] dialog m
+pub leads_here : {E R : Type 0} (dialog : Dialog E R) (m : Position) → TranscriptLeads dialog m [] [] dialog m
 leads_here dialog m = record { goes_on = λ more. refl; all_sent = refl; in_turn = tt }
 
 -- after a talk that leads on
-module _ {E R : Type 0} {a b : Dialog E R} {m n : Position} {x : Talk} {events : List (Event E)}
-    (f : TalkLeads a m x events b n) where
+module _ {E R : Type 0} {a b : Dialog E R} {m n : Position} {x : Transcript} {events : List (Event E)}
+    (f : TranscriptLeads a m x events b n) where
   -- what is due there
   due_behind : (tape : Tape) (bytes : List ℕ) → IsDue b n.next (on_tape n.unread ++ tape) bytes
       → IsDue a m.next ((on_tape m.unread ++ heard x) ++ tape) (sent x ++ bytes)
@@ -186,20 +193,20 @@ module _ {E R : Type 0} {a b : Dialog E R} {m n : Position} {x : Talk} {events :
       }
 
   -- what is played over both talks, what they send, and that both listen in turn
-  led : (y : Talk) → played_over a m (x ++ y) ≡ behind events (played_over b n y)
+  led : (y : Transcript) → played_over a m (x ++ y) ≡ behind events (played_over b n y)
   led y = ap (λ t. played a m.next (on_tape m.unread ++ t)) (heard_append x y) ∙ f.goes_on (heard y)
 
-  led_bytes : (y : Talk) (later : List (Event E)) → bytes_sent later ≡ sent y
+  led_bytes : (y : Transcript) (later : List (Event E)) → bytes_sent later ≡ sent y
       → bytes_sent (events ++ later) ≡ sent (x ++ y)
   led_bytes y later is = rw (bytes_append events later, f.all_sent, is, sent_append x y) refl
 
-  led_turns : (y : Talk) → InTurn b n y → InTurn a m (x ++ y)
+  led_turns : (y : Transcript) → InTurn b n y → InTurn a m (x ++ y)
   led_turns y in_turn =
       turns_append a m.next (on_tape m.unread) [] x y f.in_turn
       (turns_behind a b m.next n.next (on_tape m.unread ++ heard x) (on_tape n.unread) (sent x) due_behind y in_turn)
 
-  pub leads_on : {c : Dialog E R} {l : Position} {y : Talk} {ys : List (Event E)}
-      → TalkLeads b n y ys c l → TalkLeads a m (x ++ y) (events ++ ys) c l
+  pub leads_on : {c : Dialog E R} {l : Position} {y : Transcript} {ys : List (Event E)}
+      → TranscriptLeads b n y ys c l → TranscriptLeads a m (x ++ y) (events ++ ys) c l
   leads_on {c = c} {l = l} {y = y} {ys = ys} g = record {
     goes_on = λ more. rw (heard_both (on_tape m.unread) x y more, f.goes_on (heard y ++ more), g.goes_on more)
         (behind_behind events ys (played c l.next (on_tape l.unread ++ more)));
@@ -207,7 +214,7 @@ module _ {E R : Type 0} {a b : Dialog E R} {m n : Position} {x : Talk} {events :
     in_turn = led_turns y g.in_turn;
   }
 
-  pub by_on : (by : Broken) (y : Talk) (shown : List (Event E)) → BreaksBy by b n y shown
+  pub by_on : (by : Broken) (y : Transcript) (shown : List (Event E)) → BreaksBy by b n y shown
       → BreaksBy by a m (x ++ y) (events ++ shown)
   by_on broken.Send y shown g = record {
     whole = events ++ g.whole;
@@ -228,9 +235,9 @@ module _ {E R : Type 0} {a b : Dialog E R} {m n : Position} {x : Talk} {events :
   }
 
 -- the same before what follows, and before a talk that breaks off
-module _ {E R : Type 0} {a b : Dialog E R} {m n : Position} {x : Talk} {events : List (Event E)} where
-  pub leads_bind : {B : Type 0} (go_on : R → Dialog E B) → TalkLeads a m x events b n
-      → TalkLeads (a >>= go_on) m x events (b >>= go_on) n
+module _ {E R : Type 0} {a b : Dialog E R} {m n : Position} {x : Transcript} {events : List (Event E)} where
+  pub leads_bind : {B : Type 0} (go_on : R → Dialog E B) → TranscriptLeads a m x events b n
+      → TranscriptLeads (a >>= go_on) m x events (b >>= go_on) n
   leads_bind go_on f = record {
     goes_on = λ more. rw (played_bind a go_on m.next (on_tape m.unread ++ (heard x ++ more)), f.goes_on more)
         (followed_behind events (played b n.next (on_tape n.unread ++ more)) (λ r. played (go_on r))
@@ -239,7 +246,8 @@ module _ {E R : Type 0} {a b : Dialog E R} {m n : Position} {x : Talk} {events :
     in_turn = turns_bind a go_on m x f.in_turn;
   }
 
-  pub breaks_on : (SaidPart : E → E → Type 0) {y : Talk} {shown : List (Event E)} → TalkLeads a m x events b n
+  pub breaks_on : (SaidPart : E → E → Type 0) {y : Transcript} {shown : List (Event E)}
+      → TranscriptLeads a m x events b n
       → Breaks SaidPart b n y shown → Breaks SaidPart a m (x ++ y) (events ++ shown)
   breaks_on SaidPart {y = y} {shown = shown} f g = record {
     prefix = rw (led f y) (prefix_behind SaidPart events g.prefix);
@@ -249,20 +257,22 @@ module _ {E R : Type 0} {a b : Dialog E R} {m n : Position} {x : Talk} {events :
 
 -- something is said beside the line
 pub leads_say : {E R : Type 0} (e : E) (dialog : Dialog E R) (m : Position)
-    → TalkLeads (Say e dialog) m [] (Said e ∷ []) dialog m
+    → TranscriptLeads (Say e dialog) m [] (Said e ∷ []) dialog m
 leads_say e dialog m = record { goes_on = λ more. refl; all_sent = refl; in_turn = tt }
 
 -- a result was reached
-pub plays_from : {E R : Type 0} {a : Dialog E R} {m n : Position} {talk : Talk} {events : List (Event E)} {result : R}
-    → TalkLeads a m talk events (Done result) n → Plays a m talk events result n
+pub plays_from : {E R : Type 0} {a : Dialog E R} {m n : Position} {transcript : Transcript} {events : List (Event E)}
+    {result : R}
+    → TranscriptLeads a m transcript events (Done result) n → Plays a m transcript events result n
 plays_from {events = events} f = record {
   plays = λ more. rw (f.goes_on more, append-nil events) refl;
   all_sent = f.all_sent;
   in_turn = f.in_turn;
 }
 
-pub leads_from : {E R : Type 0} {a : Dialog E R} {m n : Position} {talk : Talk} {events : List (Event E)} {result : R}
-    → Plays a m talk events result n → TalkLeads a m talk events (Done result) n
+pub leads_from : {E R : Type 0} {a : Dialog E R} {m n : Position} {transcript : Transcript} {events : List (Event E)}
+    {result : R}
+    → Plays a m transcript events result n → TranscriptLeads a m transcript events (Done result) n
 leads_from {events = events} f = record {
   goes_on = λ more. rw (f.plays more, append-nil events) refl;
   all_sent = f.all_sent;
@@ -271,13 +281,13 @@ leads_from {events = events} f = record {
 
 -- breaking off
 
-pub breaks_bind : {E A B : Type 0} (SaidPart : E → E → Type 0) {a : Dialog E A} {m : Position} {talk : Talk}
+pub breaks_bind : {E A B : Type 0} (SaidPart : E → E → Type 0) {a : Dialog E A} {m : Position} {transcript : Transcript}
     {shown : List (Event E)} (go_on : A → Dialog E B)
-    → Breaks SaidPart a m talk shown → Breaks SaidPart (a >>= go_on) m talk shown
-breaks_bind SaidPart {a = a} {m = m} {talk = talk} go_on f = record {
-  prefix = rw (played_bind a go_on m.next (on_tape m.unread ++ heard talk)) (prefix_more SaidPart _ f.prefix);
+    → Breaks SaidPart a m transcript shown → Breaks SaidPart (a >>= go_on) m transcript shown
+breaks_bind SaidPart {a = a} {m = m} {transcript = transcript} go_on f = record {
+  prefix = rw (played_bind a go_on m.next (on_tape m.unread ++ heard transcript)) (prefix_more SaidPart _ f.prefix);
   all_sent = f.all_sent;
-  in_turn = turns_bind a go_on m talk f.in_turn;
+  in_turn = turns_bind a go_on m transcript f.in_turn;
 }
 
 -- nothing of the dialog has happened
@@ -296,11 +306,12 @@ breaks_here SaidPart dialog m = record {
   in_turn = tt;
 }
 
-pub by_bind : {E A B : Type 0} (by : Broken) (a : Dialog E A) (m : Position) (talk : Talk) (shown : List (Event E))
+pub by_bind : {E A B : Type 0} (by : Broken) (a : Dialog E A) (m : Position) (transcript : Transcript)
+    (shown : List (Event E))
     (go_on : A → Dialog E B)
-    → BreaksBy by a m talk shown → BreaksBy by (a >>= go_on) m talk shown
-by_bind broken.Send a m talk shown go_on f =
-    let p = played_over a m talk in
+    → BreaksBy by a m transcript shown → BreaksBy by (a >>= go_on) m transcript shown
+by_bind broken.Send a m transcript shown go_on f =
+    let p = played_over a m transcript in
     let more = (continued p.outcome (λ r. played (go_on r))).events in
     record {
       whole = f.whole;
@@ -308,29 +319,29 @@ by_bind broken.Send a m talk shown go_on f =
       unsent = f.unsent;
       later = f.later ++ more;
       shown_is = f.shown_is;
-      events_are = rw (played_bind a go_on m.next (on_tape m.unread ++ heard talk), f.events_are)
+      events_are = rw (played_bind a go_on m.next (on_tape m.unread ++ heard transcript), f.events_are)
           (append_assoc f.whole (Frame (f.part ++ f.unsent) ∷ f.later) more);
       not_whole = f.not_whole;
       all_sent = f.all_sent;
-      in_turn = turns_bind a go_on m talk f.in_turn;
+      in_turn = turns_bind a go_on m transcript f.in_turn;
     }
-by_bind broken.Recv a m talk shown go_on f =
-    let e = waits_bind a go_on m.next (on_tape m.unread ++ heard talk) f.waits in
+by_bind broken.Recv a m transcript shown go_on f =
+    let e = waits_bind a go_on m.next (on_tape m.unread ++ heard transcript) f.waits in
     record {
       waits = ap (λ p. p.outcome) e;
       shown_is = f.shown_is ∙ sym (ap (λ p. p.events) e);
       all_sent = f.all_sent;
-      in_turn = turns_bind a go_on m talk f.in_turn;
+      in_turn = turns_bind a go_on m transcript f.in_turn;
     }
 
 -- a question
 
 module _ {E R : Type 0} (body : List ℕ) (answered : Reading → Dialog E R) (seq : ℕ) (u : List ℕ) where
   -- its frame was sent and its answer read
-  pub leads_ask : (v : List ℕ) (x y : Talk) (reading : Reading) → IsQuiet x → sent x ≡ frame seq body
+  pub leads_ask : (v : List ℕ) (x y : Transcript) (reading : Reading) → IsQuiet x → sent x ≡ frame seq body
       → WaitsFrom seq (on_tape u) y
       → ((more : Tape) → answer seq (on_tape u ++ (heard y ++ more)) ≡ Some (reading, on_tape v ++ more))
-      → TalkLeads (Ask body answered) (position seq u) (x ++ y) (Frame (frame seq body) ∷ []) (answered reading)
+      → TranscriptLeads (Ask body answered) (position seq u) (x ++ y) (Frame (frame seq body) ∷ []) (answered reading)
       (position (next seq) v)
   leads_ask v x y reading quiet is waits answers = record {
     goes_on = λ more. rw (heard_both (on_tape u) x y more, heard_quiet x quiet, answers more) refl;
@@ -339,7 +350,8 @@ module _ {E R : Type 0} (body : List ℕ) (answered : Reading → Dialog E R) (s
   }
 
   -- a part of its frame was sent
-  pub breaks_asking : (part unsent : List ℕ) (x : Talk) → IsQuiet x → sent x ≡ part → frame seq body ≡ part ++ unsent
+  pub breaks_asking : (part unsent : List ℕ) (x : Transcript) → IsQuiet x → sent x ≡ part
+      → frame seq body ≡ part ++ unsent
       → 0 < length unsent → BreaksSending (Ask body answered) (position seq u) x (Frame part ∷ [])
   breaks_asking part unsent x quiet is frame_is not_whole =
       let later = (by_answer (λ r. played (answered r) (next seq)) (answer seq (on_tape u ++ heard x))).events in
@@ -356,7 +368,7 @@ module _ {E R : Type 0} (body : List ℕ) (answered : Reading → Dialog E R) (s
       }
 
   -- its frame was sent, and listening broke off
-  pub breaks_listening : (x y : Talk) → IsQuiet x → sent x ≡ frame seq body → WaitsFrom seq (on_tape u) y
+  pub breaks_listening : (x y : Transcript) → IsQuiet x → sent x ≡ frame seq body → WaitsFrom seq (on_tape u) y
       → answer seq (on_tape u ++ heard y) ≡ None
       → BreaksListening (Ask body answered) (position seq u) (x ++ y) (Frame (frame seq body) ∷ [])
   breaks_listening x y quiet is waits none =

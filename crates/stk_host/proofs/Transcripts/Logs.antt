@@ -5,8 +5,8 @@ use Rattle.stk_host.specs.declared.log.Mark.{Mark}
 use Rattle.stk_host.specs.declared.log.Mark.TheVariants as mark
 use Rattle.stk_host.specs.declared.link.Item.TheVariants as item
 use Rattle.stk_host.specs.Tape.{on_tape, bytes_of}
-use Rattle.stk_host.specs.Talk.{Talk, Sent, Got, sent, heard}
-use Rattle.stk_host.specs.Log.{talk_of, out_count, back_count}
+use Rattle.stk_host.specs.Transcript.{Transcript, Sent, Got, sent, heard}
+use Rattle.stk_host.specs.Log.{transcript_of, out_count, back_count}
 use Rattle.stk_host.proofs.Tapes.Answers.{bytes_of_append, bytes_of_on_tape}
 
 drop_prefix : (n : ℕ) (xs ys : List ℕ) → n ≤ length xs → drop n (xs ++ ys) ≡ drop n xs ++ ys
@@ -17,8 +17,8 @@ drop_prefix (suc n) (x ∷ xs) ys le = drop_prefix n xs ys (omega arith)
 -- what the new mark and its bytes add
 pub log_more : (marks : List Mark) (out back more_out more_back : List ℕ) (m : Mark) → out_count marks ≡ length out
     → back_count marks ≡ length back
-    → talk_of (marks ++ m ∷ []) (out ++ more_out) (back ++ more_back)
-    ≡ talk_of marks out back ++ talk_of (m ∷ []) more_out more_back
+    → transcript_of (marks ++ m ∷ []) (out ++ more_out) (back ++ more_back)
+    ≡ transcript_of marks out back ++ transcript_of (m ∷ []) more_out more_back
 log_more [] [] [] more_out more_back m o b = refl
 log_more [] (x ∷ out) back more_out more_back m o b = absurd (omega arith)
 log_more [] [] (x ∷ back) more_out more_back m o b = absurd (omega arith)
@@ -46,7 +46,7 @@ back_more (mark.Got n ∷ marks) m = omega (arith, back_more marks m)
 back_more (other ∷ marks) m = back_more marks m
 
 pub sent_in : (marks : List Mark) (out back : List ℕ) → out_count marks ≡ length out
-    → sent (talk_of marks out back) ≡ out
+    → sent (transcript_of marks out back) ≡ out
 sent_in [] [] back o = refl
 sent_in [] (x ∷ out) back o = absurd (omega arith)
 sent_in (mark.Sent n ∷ marks) out back o =
@@ -55,12 +55,12 @@ sent_in (mark.Got n ∷ marks) out back o = sent_in marks out (drop n back) o
 sent_in (other ∷ marks) out back o = sent_in marks out back o
 
 pub heard_in : (marks : List Mark) (out back : List ℕ) → back_count marks ≡ length back
-    → bytes_of (heard (talk_of marks out back)) ≡ back
+    → bytes_of (heard (transcript_of marks out back)) ≡ back
 heard_in [] out [] b = refl
 heard_in [] out (x ∷ back) b = absurd (omega arith)
 heard_in (mark.Sent n ∷ marks) out back b = heard_in marks (drop n out) back b
 heard_in (mark.Got n ∷ marks) out back b =
-    rw (bytes_of_append (on_tape (take n back)) (heard (talk_of marks out (drop n back))))
+    rw (bytes_of_append (on_tape (take n back)) (heard (transcript_of marks out (drop n back))))
     (rw (bytes_of_on_tape (take n back), heard_in marks out (drop n back) (rw length-drop (omega arith)))
     (take-append-drop n back))
 heard_in (other ∷ marks) out back b = heard_in marks out back b
@@ -69,10 +69,11 @@ heard_in (other ∷ marks) out back b = heard_in marks out back b
 module _ (marks new_marks : List Mark) (out new_out back new_back x y : List ℕ) (m : Mark)
     (o : out_count marks ≡ length out) (b : back_count marks ≡ length back) (marks_are : new_marks ≡ marks ++ m ∷ [])
     (out_is : new_out ≡ out ++ x) (back_is : new_back ≡ back ++ y) where
-  pub log_adds : (old : Talk) → talk_of marks out back ≡ old
-      → talk_of new_marks new_out new_back ≡ old ++ talk_of (m ∷ []) x y
+  pub log_adds : (old : Transcript) → transcript_of marks out back ≡ old
+      → transcript_of new_marks new_out new_back ≡ old ++ transcript_of (m ∷ []) x y
   log_adds old view =
-      rw (marks_are, out_is, back_is) (log_more marks out back x y m o b ∙ ap (λ t. t ++ talk_of (m ∷ []) x y) view)
+      rw (marks_are, out_is, back_is) (log_more marks out back x y m o b
+      ∙ ap (λ t. t ++ transcript_of (m ∷ []) x y) view)
 
   pub counts_more : out_count (m ∷ []) ≡ length x → back_count (m ∷ []) ≡ length y
       → (out_count new_marks ≡ length new_out) × (back_count new_marks ≡ length new_back)
