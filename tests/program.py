@@ -6,6 +6,7 @@ import socket
 import subprocess
 import sys
 import tempfile
+import threading
 import time
 from pathlib import Path
 
@@ -13,6 +14,8 @@ from cases import PATIENCE
 
 TOP = Path(__file__).resolve().parent.parent
 NAMED = os.environ.get("AVRSTK")
+# a child that is forked while a terminal is made holds it open until it has become its program
+forks = threading.Lock()
 
 
 def program():
@@ -89,7 +92,8 @@ class Room:
         """Starts a run with these options. `front` is a command that runs the program."""
         how = {"stdin": given, "stdout": subprocess.PIPE, "stderr": subprocess.PIPE, "cwd": self.folder} | more
         shell = ["sh", "-c", f'exec "$0" "$@" {closed}'] if closed else []
-        return subprocess.Popen([*shell, *front, str(PROGRAM), *words], **how)
+        with forks:
+            return subprocess.Popen([*shell, *front, str(PROGRAM), *words], **how)
 
     def run(self, words, given=b"", environment=None, closed=""):
         """Returns the status, the output and the messages of a run. `closed` has shell redirections that close streams."""

@@ -29,7 +29,7 @@ from functools import lru_cache
 from pathlib import Path
 
 from cases import PATIENCE, leave_out, named, run_cases, same, see
-from program import PROGRAM, TOP, Room, Server, free_port, has_avrdude, lines
+from program import PROGRAM, TOP, Room, Server, forks, free_port, has_avrdude, lines
 
 SCRIPT = TOP / "avrstk-serial"
 PYTHON = shutil.which("python3", path="/usr/bin:/bin") or sys.executable
@@ -117,7 +117,8 @@ def start(words, **more):
     """Starts avrstk-serial with these options, in the room."""
     how = {"cwd": room.folder, "stdin": subprocess.DEVNULL, "stdout": subprocess.PIPE, "stderr": subprocess.PIPE} | more
     how["env"] = os.environ | {"AVRSTK": str(PROGRAM)} | how.get("env", {})
-    return subprocess.Popen([sys.executable, str(SCRIPT), *words], **how)
+    with forks:
+        return subprocess.Popen([sys.executable, str(SCRIPT), *words], **how)
 
 
 def run(words, **more):
@@ -153,10 +154,11 @@ def run_as_anyone(words, program):
 
 def terminal():
     """Returns a pseudo terminal that passes each byte: its file descriptor, and the name of its device."""
-    line, slave = pty.openpty()
-    tty.setraw(slave)
-    device = os.ttyname(slave)
-    os.close(slave)
+    with forks:
+        line, slave = pty.openpty()
+        tty.setraw(slave)
+        device = os.ttyname(slave)
+        os.close(slave)
     return line, device
 
 
