@@ -36,7 +36,7 @@ class Plan:
         self.flash = lots.randbytes(lots.randint(1, 260)) + b"\x00"
         self.eeprom = lots.randbytes(lots.randint(1, 14))
         self.chip = lots.randbytes(FLASH + EEPROM) + b"\x62\xd9\xff\xff"
-        self.strokes = list(self.states())
+        self.page_writes = list(self.states())
 
     def states(self):
         """Returns the chip at first, and after each page write."""
@@ -163,13 +163,13 @@ def many(numbers, line, at_once=AT_ONCE):
     """Makes the runs of these numbers, each over a link that this makes. Returns the numbers of those with another status
     than 0."""
     plans = [Plan(seed) for seed in range(10)]
-    courses = [plan.run(Room(), lambda: "emu:chip.bin", "chip.bin") for plan in plans]
-    same("over emu:", [status for status, _ in courses], [0] * len(plans))
+    runs = [plan.run(Room(), lambda: "emu:chip.bin", "chip.bin") for plan in plans]
+    same("over emu:", [status for status, _ in runs], [0] * len(plans))
     with ThreadPoolExecutor(at_once) as pool:
         begun = [pool.submit(over, plans[it % 10], it, line) for it in numbers]
         found = [it.result() for it in begun]
     for it, (status, messages, served, chip) in zip(numbers, found):
-        told = courses[it % 10][1].splitlines()
+        told = runs[it % 10][1].splitlines()
         holds(f"run {it}", plans[it % 10], told, status, messages.splitlines(), served, chip)
     return [it for it, (status, *_) in zip(numbers, found) if status != 0]
 
@@ -179,10 +179,10 @@ def holds(name, plan, told, status, messages, served, chip):
     see(f"{name}: the server", served == (0, b"", b""), served)
     see(f"{name}: the chip is whole", chip is not None and len(chip) == CHIP_FILE)
     if status == 0:
-        see(f"{name}: the chip has what was written", chip == plan.strokes[-1])
+        see(f"{name}: the chip has what was written", chip == plan.page_writes[-1])
         same(f"{name}: the messages", messages, told)
     else:
-        see(f"{name}: the chip is as some first strokes leave it", chip in plan.strokes)
+        see(f"{name}: the chip is as some first page writes leave it", chip in plan.page_writes)
         front = messages[:-1]
         see(f"{name}: the messages begin so", status == 1 and front == told[: len(front)], messages)
         see(f"{name}: and end with an error", messages[-1:] == [b"avrstk: error: no answer"], messages)

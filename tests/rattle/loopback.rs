@@ -1,5 +1,5 @@
 //! Whole runs over one connection, with the tool at one end of it and the emulator at the other, in one thread.
-ghost use Rattle.stk_host.specs.Links.{stream_view};
+ghost use Rattle.stk_host.specs.Links.{stream_state};
 
 use avr_cli::{Settings, read_settings, read_words};
 use avr_desk::MemDesk;
@@ -23,7 +23,7 @@ struct Loopback {
 }
 
 impl Link for Loopback {
-    ghost view = { λ link. stream_view link.near };
+    ghost view = { λ link. stream_state link.near };
 
     ghost Start = { Unit {0} };
 

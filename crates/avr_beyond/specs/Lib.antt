@@ -1,9 +1,9 @@
 -- of the crates below, the definitions that public contracts cite
 pub use Rattle.avr_emulator.specs.Saving
-pub use Rattle.avr_course.specs.AnyLine
-pub use Rattle.avr_course.specs.AnyTape
-pub use Rattle.avr_course.specs.Course
-pub use Rattle.avr_course.specs.NoFrame
+pub use Rattle.avr_laws.specs.AnyLine
+pub use Rattle.avr_laws.specs.AnyTape
+pub use Rattle.avr_laws.specs.ExpectedRun
+pub use Rattle.avr_laws.specs.NoFrame
 pub use Rattle.avr_desk.specs.Record
 pub use Rattle.avr_desk.specs.Said
 pub use Rattle.avr_part.specs.ChipFile

@@ -8,7 +8,7 @@ use Rattle.avr_session.specs.Runs.{Ran, devices, start}
 use Rattle.avr_session.specs.Session.{session}
 use Rattle.stk_frame.specs.Cut.{frames, rest}
 use Rattle.stk_host.specs.declared.link.Item.TheVariants.{Byte, Silence, End}
-use Rattle.stk_host.specs.Play.{IsPrefixOf, Position}
+use Rattle.stk_host.specs.Play.{IsPrefixOf, Progress}
 use Rattle.stk_host.specs.Transcript.{LinkState, Transcript, Sent, Got, sent, heard}
 use Rattle.stk_host.specs.Tape.{Tape, bytes_of}
 use Rattle.stk_emu.specs.Device.{device, answers, after_frames}
@@ -97,7 +97,7 @@ pub record HasRun (plan : Plan) (chip : Chip) (file : Bytes) : Type 0 where
   pub prompt : IsPrompt (heard (of_host calls))
   pub most : ℕ
   pub status : ℕ
-  pub after : Position
+  pub after : Progress
   pub host_desk : DeskState
   pub host_desk_then : DeskState
   pub server_desk : DeskState

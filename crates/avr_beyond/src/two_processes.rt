@@ -2,9 +2,9 @@
 
 ghost use Rattle.std.specs.Prelude.{◌≡◌, ◌++◌, ℕ, length, List, [], All, ◌∷◌, Ok};
 ghost use Rattle.avr_desk.specs.Record.{Bytes};
-ghost use Rattle.avr_course.specs.AnyLine.{OverTurns, WholeOverTurns};
-ghost use Rattle.avr_course.specs.Course.{course};
-ghost use Rattle.avr_desk.specs.Said.{Saying};
+ghost use Rattle.avr_laws.specs.AnyLine.{OverTurns, WholeOverTurns};
+ghost use Rattle.avr_laws.specs.ExpectedRun.{expected_run};
+ghost use Rattle.avr_desk.specs.Said.{OutputEvent};
 ghost use Rattle.avr_part.specs.Sound.{IsSoundChip};
 ghost use Rattle.avr_part.specs.State.{ChipState as Chip};
 ghost use Rattle.avr_plan.specs.Plan.{Plan, IsFitted};
@@ -22,11 +22,11 @@ ghost use Rattle.stk_emu.specs.Emulator.{Machine};
 ghost use Rattle.stk_emu.specs.Effect.{memories_of};
 ghost use Rattle.stk_emu.specs.Programmer.{Programmer, fresh_programmer};
 ghost use Rattle.stk_frame.specs.Cut.{frames};
-ghost use Rattle.avr_course.specs.AnyTape.{AreHonest, after_pieces, turns_heard};
-ghost use Rattle.avr_course.specs.NoFrame.{MakesNoFrame};
-ghost use Rattle.stk_host.specs.Dialog.{Event, played, frames_in, bytes_sent, sayings};
+ghost use Rattle.avr_laws.specs.AnyTape.{AreHonest, after_pieces, turns_heard};
+ghost use Rattle.avr_laws.specs.NoFrame.{MakesNoFrame};
+ghost use Rattle.stk_host.specs.Dialog.{Event, played, frames_in, bytes_sent, outputs};
 ghost use Rattle.stk_host.specs.Transcript.{Transcript, heard, sent, Got};
-ghost use Rattle.stk_host.specs.Play.{Position, Plays, IsPrefixOf, InTurn};
+ghost use Rattle.stk_host.specs.Play.{Progress, Plays, IsPrefixOf, InTurn};
 ghost use Rattle.stk_host.specs.declared.link.Item.TheVariants.{Byte, Silence};
 ghost use Rattle.stk_host.specs.Tape.{Tape, bytes_of};
 
@@ -77,7 +77,7 @@ pub fn two_processes_never_both_wait()
 /// timeouts occur within answers too, this holds as long as they forge no frame.
 pub fn a_session_and_a_server_are_one_run()
     ensures between { (plan : Plan) (s : Chip) (calls : List Call) (old new : Devices) (server_old server_new : Devices)
-        (file : Bytes) (most status served_status : ℕ) (after : Position)
+        (file : Bytes) (most status served_status : ℕ) (after : Progress)
         → IsSoundChip s → s.part ≡ plan.part → All (IsFitted plan.part) plan.tasks
         → IsOrdered calls → StallsBetweenAnswers (heard (of_host calls))
         → old.link.transcript ≡ [] → new.link.transcript ≡ of_host calls
@@ -89,8 +89,8 @@ pub fn a_session_and_a_server_are_one_run()
         (turns_heard (session plan) 1 (heard (of_host calls)) (obeyed (length (frames served.used))))
         (sent (of_host calls)) ran.events status }
     ensures anywhere { (plan : Plan) (s : Chip) (left : Programmer) (host server : Transcript)
-        (events : List (Event Saying))
-        (status : ℕ) (after : Position)
+        (events : List (Event OutputEvent))
+        (status : ℕ) (after : Progress)
         → IsSoundChip s → s.part ≡ plan.part → All (IsFitted plan.part) plan.tasks
         → (serves : HasServed (fresh_programmer s) server left) → IsJoined host server
         → Plays (session plan) start host events status after
@@ -111,22 +111,23 @@ pub fn two_processes_have_a_run()
 
 /// States that a session and a server make the expected run of the plan if the host never has a timeout, however the
 /// link cuts. The status, the output and the memories in the saved chip are those of the expected run.
-pub fn a_prompt_line_brings_the_course()
+pub fn a_prompt_line_brings_the_expected_run()
     ensures { (plan : Plan) (s : Chip) (calls : List Call) (old new : Devices) (server_old server_new : Devices)
-        (file : Bytes) (most status served_status : ℕ) (after : Position)
+        (file : Bytes) (most status served_status : ℕ) (after : Progress)
         → IsSoundChip s → s.part ≡ plan.part → All (IsFitted plan.part) plan.tasks
         → IsOrdered calls → IsPrompt (heard (of_host calls))
         → old.link.transcript ≡ [] → new.link.transcript ≡ of_host calls
         → server_old.link.transcript ≡ [] → server_new.link.transcript ≡ of_server calls
         → (ran : Ran (session plan) start old new status after)
         → (serves : ServesChip s file most server_old server_new served_status)
-        → (status ≡ (course plan (memories_of s)).status) × (sayings ran.events ≡ (course plan (memories_of s)).says)
-        × (memories_of serves.left.programmer.chip ≡ (course plan (memories_of s)).memories) }
+        → (status ≡ (expected_run plan (memories_of s)).status)
+        × (outputs ran.events ≡ (expected_run plan (memories_of s)).says)
+        × (memories_of serves.left.programmer.chip ≡ (expected_run plan (memories_of s)).memories) }
 {}
 
 /// States what the saved chip holds, whether the session ran whole or broke off, and however serving ended. It has
 /// the first writes of the plan: as many as were completed by what was received, and at most one more.
-pub fn whatever_becomes_of_both_some_strokes_were_made()
+pub fn whatever_becomes_of_both_some_page_writes_were_made()
     ensures { (plan : Plan) (s : Chip) (calls : List Call) (old new : Devices) (server_old server_new : Devices)
         (file : Bytes) (most status served_status : ℕ)
         → IsSoundChip s → s.part ≡ plan.part → All (IsFitted plan.part) plan.tasks

@@ -1,5 +1,5 @@
 -- Stages that open and judge files, one after the other, and where one broke off.
-pub mod Sayings
+pub mod Outputs
 pub mod Played
 pub mod Openings
 pub mod Files

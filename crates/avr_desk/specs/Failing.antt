@@ -16,8 +16,8 @@ pub record Failing (D : Type 0) : Type 0 where
   pub unsaid : ℕ
 
 -- what it shows: the inner desk's record, and its counts with the planned ones, each up to its end
-abbrev pub failing_view : {D : Type 0} → DeskState → Failing D → DeskState
-failing_view inner d = record {
+abbrev pub failing_state : {D : Type 0} → DeskState → Failing D → DeskState
+failing_state inner d = record {
   kept = inner.kept;
   failures = counted (inner.failures + d.planned);
   unsaid = counted (inner.unsaid + d.unsaid);

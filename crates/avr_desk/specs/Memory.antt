@@ -15,8 +15,8 @@ pub record MemDeskState : Type 0 where
   pub opened : Bytes
 
 -- what it shows, as any desk does
-abbrev pub memory_view : MemDeskState → DeskState
-memory_view m = showing m.kept m.failures m.unsaid
+abbrev pub memory_state : MemDeskState → DeskState
+memory_state m = showing m.kept m.failures m.unsaid
 
 -- what was there to begin with: the standard input, and files
 pub record Stock : Type 0 where

@@ -6,14 +6,14 @@ use Rattle.avr_desk.specs.declared.record.Opening.{Opening}
 use Rattle.avr_desk.specs.declared.record.Opening.TheVariants.{Found}
 use Rattle.avr_desk.specs.declared.record.Reading.{Reading}
 use Rattle.avr_desk.specs.Lines.{memory_line, not_opened_line, not_read_line}
-use Rattle.avr_desk.specs.Said.{Saying, Opens, Line, IsPrefixOf, TellsLine, TellsFailure, after_all}
+use Rattle.avr_desk.specs.Said.{OutputEvent, Opens, Line, IsPrefixOf, TellsLine, TellsFailure, after_all}
 use Rattle.avr_desk.specs.Stage.{Stage, StageAnswer, Made, Refused, StageResult, all_told, next_opening}
 
 -- These openings passed, and the desk got what the stage says of them, whatever later ones would give. If the stage
 -- refuses, the line of the refusal came last. No call of the desk failed.
 pub record Went {A : Type 0} (stage : Stage A) (old new : DeskState) (answer : StageAnswer A) : Type 0 where
   pub passed : List Opening
-  pub says : List Saying
+  pub says : List OutputEvent
   pub comes : (more : List Opening) → stage (passed ++ more) ≡ record { says = says; answer = answer; left = more }
   pub kept : Passes (after_all (all_told says answer)) old new
   pub sound : HasSameCounts old new
@@ -27,36 +27,36 @@ pub data Break : Type 0 where
   NoMemory : Break
   NoMemoryFor : Reading → Break
 
-abbrev pub part_read : Bytes → Bytes → Saying
+abbrev pub part_read : Bytes → Bytes → OutputEvent
 part_read name bytes = Opens (Found (record { name = name; bytes = bytes; ended = false }))
 
 -- what was done last, of which this was reported
-abbrev pub last_done : Break → Bytes → List Saying
+abbrev pub last_done : Break → Bytes → List OutputEvent
 last_done (NotRead name bytes) told = part_read name bytes ∷ Line told ∷ []
 last_done (NoMemoryFor reading) told = Opens (Found reading) ∷ Line told ∷ []
 last_done break told = Line told ∷ []
 
 -- this is the next event
-abbrev pub IsNextSaying : Saying → List Saying → Type 0
-IsNextSaying saying later = (behind : List Saying) × (later ≡ saying ∷ behind)
+abbrev pub IsNextOutput : OutputEvent → List OutputEvent → Type 0
+IsNextOutput output later = (behind : List OutputEvent) × (later ≡ output ∷ behind)
 
 -- it fits the next event, and the openings that would have passed
-abbrev pub IsBreak : Break → List Opening → List Saying → Type 0
-IsBreak (InLine line) more later = IsNextSaying (Line line) later
-IsBreak (NotOpened name) more later = IsNextSaying (Opens (next_opening name more)) later
-IsBreak (NotRead name bytes) more later = IsNextSaying (Opens (next_opening name more)) later
+abbrev pub IsBreak : Break → List Opening → List OutputEvent → Type 0
+IsBreak (InLine line) more later = IsNextOutput (Line line) later
+IsBreak (NotOpened name) more later = IsNextOutput (Opens (next_opening name more)) later
+IsBreak (NotRead name bytes) more later = IsNextOutput (Opens (next_opening name more)) later
 IsBreak NoMemory more later = Unit {0}
-IsBreak (NoMemoryFor reading) more later = IsNextSaying (Opens (next_opening reading.name more)) later
+IsBreak (NoMemoryFor reading) more later = IsNextOutput (Opens (next_opening reading.name more)) later
 
 -- when a stage may fail to allocate while no file is open: after these openings and these events
 abbrev pub Taking : Type 1
-Taking = List Opening → List Saying → Type 0
+Taking = List Opening → List OutputEvent → Type 0
 
 -- before any event, if at all
 abbrev pub AtStart : Bool → Taking
 AtStart takes passed said = (takes ≡ true) × (passed ≡ []) × (said ≡ [])
 
-abbrev pub TakesThere : Taking → Break → List Opening → List Saying → Type 0
+abbrev pub TakesThere : Taking → Break → List Opening → List OutputEvent → Type 0
 TakesThere taking NoMemory passed said = taking passed said
 TakesThere taking break passed said = Unit {0}
 
@@ -70,9 +70,9 @@ TellsBreak NoMemory told old new = TellsLine memory_line told old new
 TellsBreak (NoMemoryFor reading) told old new = TellsLine memory_line told old new
 
 -- The rest of a stage's events for some openings. The line of a refusal comes after them all, so no break follows it.
-pub record Rest {A : Type 0} (played : StageResult A) (whole : List Saying) (break : Break)
+pub record Rest {A : Type 0} (played : StageResult A) (whole : List OutputEvent) (break : Break)
     (more : List Opening) : Type 0 where
-  pub later : List Saying
+  pub later : List OutputEvent
   pub says_are : played.says ≡ whole ++ later
   pub broken : IsBreak break more (all_told later played.answer)
 
@@ -80,7 +80,7 @@ pub record Rest {A : Type 0} (played : StageResult A) (whole : List Saying) (bre
 -- it broke off, and the reason was reported. It breaks off by a failed allocation only if it allocates there.
 pub record StageBrokeOff {A : Type 0} (taking : Taking) (stage : Stage A) (old new : DeskState) : Type 0 where
   pub passed : List Opening
-  pub whole : List Saying
+  pub whole : List OutputEvent
   pub break : Break
   pub told : Bytes
   pub rest : (more : List Opening) → Rest (stage (passed ++ more)) whole break more

@@ -10,33 +10,33 @@ use Rattle.avr_desk.specs.declared.stream.Stream.TheVariants.{File, Messages}
 
 -- An output event: a file is opened, with what it gives; a line is printed to the messages; a file of this name is
 -- created; bytes are written to it; or bytes are written to standard output.
-pub data Saying : Type 0 where
-  Opens : Opening → Saying
-  Line : Bytes → Saying
-  Creates : Bytes → Saying
-  Writes : Bytes → Saying
-  Outs : Bytes → Saying
+pub data OutputEvent : Type 0 where
+  Opens : Opening → OutputEvent
+  Line : Bytes → OutputEvent
+  Creates : Bytes → OutputEvent
+  Writes : Bytes → OutputEvent
+  Outs : Bytes → OutputEvent
 
 abbrev pub after_opening : Opening → Record → Record
 after_opening (Absent name) r = with_absent name r
 after_opening (Found reading) r = with_open (ToRead reading) r
 
-abbrev pub after : Saying → Record → Record
+abbrev pub after : OutputEvent → Record → Record
 after (Opens opening) r = after_opening opening r
 after (Line bytes) r = after_err bytes r
 after (Creates name) r = with_open (ToWrite (record { name = name; bytes = [] })) r
 after (Writes bytes) r = after_write bytes r
 after (Outs bytes) r = after_out bytes r
 
-abbrev pub after_all : List Saying → Record → Record
+abbrev pub after_all : List OutputEvent → Record → Record
 after_all [] r = r
-after_all (saying ∷ sayings) r = after_all sayings (after saying r)
+after_all (output ∷ outputs) r = after_all outputs (after output r)
 
 abbrev pub IsPrefixOf : Bytes → Bytes → Type 0
 IsPrefixOf prefix bytes = (back : Bytes) × (prefix ++ back ≡ bytes)
 
 -- a part of an event was done: of what is printed or written, a prefix
-abbrev pub SaidPart : Saying → Saying → Type 0
+abbrev pub SaidPart : OutputEvent → OutputEvent → Type 0
 SaidPart (Line part) (Line whole) = IsPrefixOf part whole
 SaidPart (Writes part) (Writes whole) = IsPrefixOf part whole
 SaidPart (Outs part) (Outs whole) = IsPrefixOf part whole

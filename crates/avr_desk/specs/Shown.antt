@@ -29,8 +29,8 @@ pub record Shown (F H I O E : Type 0) : Type 0 where
   pub hold : Option H
   pub kept : Record
 
-abbrev pub shown_view : {F H I O E : Type 0} → Shown F H I O E → DeskState
-shown_view d = showing d.kept d.failures d.unsaid
+abbrev pub shown_state : {F H I O E : Type 0} → Shown F H I O E → DeskState
+shown_state d = showing d.kept d.failures d.unsaid
 
 -- whether writes to the file go to the output
 abbrev pub to_output : {F H I O E : Type 0} → Shown F H I O E → Bool

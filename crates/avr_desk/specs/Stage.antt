@@ -5,7 +5,7 @@ use Rattle.avr_desk.specs.declared.record.Opening.{Opening}
 use Rattle.avr_desk.specs.declared.record.Opening.TheVariants.{Absent, Found}
 use Rattle.avr_desk.specs.declared.record.Reading.{Reading}
 use Rattle.avr_desk.specs.Lines.{not_opened_line}
-use Rattle.avr_desk.specs.Said.{Saying, Opens, Line}
+use Rattle.avr_desk.specs.Said.{OutputEvent, Opens, Line}
 
 -- It made something; it is refused, by this line; or a file was not read to its end or past its limit, so it has no
 -- result.
@@ -16,27 +16,27 @@ pub data StageAnswer (A : Type 0) : Type 0 where
 
 -- the events before the result, the result, and what the later openings give
 pub record StageResult (A : Type 0) : Type 0 where
-  pub says : List Saying
+  pub says : List OutputEvent
   pub answer : StageAnswer A
   pub left : List Opening
 
 -- the events, and last the line of a refusal
-abbrev pub all_told : {A : Type 0} → List Saying → StageAnswer A → List Saying
+abbrev pub all_told : {A : Type 0} → List OutputEvent → StageAnswer A → List OutputEvent
 all_told says (Made a) = says
 all_told says (Refused line) = says ++ Line line ∷ []
 all_told says Unread = says
 
-abbrev pub told_in : {A : Type 0} → StageResult A → List Saying
+abbrev pub told_in : {A : Type 0} → StageResult A → List OutputEvent
 told_in p = all_told p.says p.answer
 
 abbrev pub Stage : Type 0 → Type 0
 Stage A = List Opening → StageResult A
 
-abbrev pub behind_sayings : {A : Type 0} → List Saying → StageResult A → StageResult A
-behind_sayings says p = record { says = says ++ p.says; answer = p.answer; left = p.left }
+abbrev pub behind_outputs : {A : Type 0} → List OutputEvent → StageResult A → StageResult A
+behind_outputs says p = record { says = says ++ p.says; answer = p.answer; left = p.left }
 
-abbrev pub going_on : {A B : Type 0} → List Saying → List Opening → (A → Stage B) → StageAnswer A → StageResult B
-going_on says left go_on (Made a) = behind_sayings says (go_on a left)
+abbrev pub going_on : {A B : Type 0} → List OutputEvent → List Opening → (A → Stage B) → StageAnswer A → StageResult B
+going_on says left go_on (Made a) = behind_outputs says (go_on a left)
 going_on says left go_on (Refused line) = record { says = says; answer = Refused line; left = left }
 going_on says left go_on Unread = record { says = says; answer = Unread; left = left }
 
@@ -47,8 +47,8 @@ abbrev pub ◌>>=◌ : {A B : Type 0} → Stage A → (A → Stage B) → Stage 
     let p = stage openings in
     going_on p.says p.left go_on p.answer
 
-abbrev pub saying_stage : List Saying → Stage ⊤
-saying_stage says openings = record { says = says; answer = Made tt; left = openings }
+abbrev pub output_stage : List OutputEvent → Stage ⊤
+output_stage says openings = record { says = says; answer = Made tt; left = openings }
 
 -- a result, or the line of its refusal
 abbrev pub verdict_stage : {A : Type 0} → Result A Bytes → Stage A

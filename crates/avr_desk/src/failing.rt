@@ -68,9 +68,9 @@ impl<D: Desk> Desk for FailingDesk<D> {
     ghost use Rattle.avr_desk.specs.Fault.{Counts, WriteCounts};
     ghost use Rattle.avr_desk.specs.Stream.{SendsTaken};
     ghost use Rattle.avr_desk.specs.declared.stream.Stream.TheVariants.{File, Output, Messages};
-    ghost use Rattle.avr_desk.specs.Failing.{FailsWhenDue, failing_view};
+    ghost use Rattle.avr_desk.specs.Failing.{FailsWhenDue, failing_state};
 
-    ghost view = { λ d. failing_view (D.view d.inner) d };
+    ghost view = { λ d. failing_state (D.view d.inner) d };
 
     ghost Start = { D.Start };
 
@@ -78,8 +78,8 @@ impl<D: Desk> Desk for FailingDesk<D> {
 
     fn open(&mut self, name: &str) -> Result<(), DeskFault>
         ensures kept { Passes (after_open name.now result) (D.view self.old.inner) (D.view self.new.inner) }
-        ensures counts { Counts File (failing_view (D.view self.old.inner) self.old)
-            (failing_view (D.view self.new.inner) self.new) result }
+        ensures counts { Counts File (failing_state (D.view self.old.inner) self.old)
+            (failing_state (D.view self.new.inner) self.new) result }
         ensures when_due { FailsWhenDue File (Counts File (D.view self.old.inner) (D.view self.new.inner) result)
             self.old self.new result }
         ensures stays { Stays D.comes_of self.old.inner self.new.inner }
@@ -92,8 +92,8 @@ impl<D: Desk> Desk for FailingDesk<D> {
 
     fn create(&mut self, name: &str) -> Result<(), DeskFault>
         ensures kept { Passes (after_create name.now result) (D.view self.old.inner) (D.view self.new.inner) }
-        ensures counts { Counts File (failing_view (D.view self.old.inner) self.old)
-            (failing_view (D.view self.new.inner) self.new) result }
+        ensures counts { Counts File (failing_state (D.view self.old.inner) self.old)
+            (failing_state (D.view self.new.inner) self.new) result }
         ensures fault { IfErr result (λ e. e ≡ DeskFault.Failed) }
         ensures when_due { FailsWhenDue File (Counts File (D.view self.old.inner) (D.view self.new.inner) result)
             self.old self.new result }
@@ -107,8 +107,8 @@ impl<D: Desk> Desk for FailingDesk<D> {
 
     fn hold(&mut self, name: &str) -> Result<bool, DeskFault>
         ensures kept { Passes (after_hold name.now result) (D.view self.old.inner) (D.view self.new.inner) }
-        ensures counts { Counts File (failing_view (D.view self.old.inner) self.old)
-            (failing_view (D.view self.new.inner) self.new) result }
+        ensures counts { Counts File (failing_state (D.view self.old.inner) self.old)
+            (failing_state (D.view self.new.inner) self.new) result }
         ensures fault { IfErr result (λ e. e ≡ DeskFault.Failed) }
         ensures when_due { FailsWhenDue File (Counts File (D.view self.old.inner) (D.view self.new.inner) result)
             self.old self.new result }
@@ -131,8 +131,8 @@ impl<D: Desk> Desk for FailingDesk<D> {
     fn replace(&mut self, name: &str, bytes: &[u8]) -> Result<(), DeskFault>
         ensures kept { Passes (after_replace name.now bytes.now result)
             (D.view self.old.inner) (D.view self.new.inner) }
-        ensures counts { Counts File (failing_view (D.view self.old.inner) self.old)
-            (failing_view (D.view self.new.inner) self.new) result }
+        ensures counts { Counts File (failing_state (D.view self.old.inner) self.old)
+            (failing_state (D.view self.new.inner) self.new) result }
         ensures fault { IfErr result (λ e. e ≡ DeskFault.Failed) }
         ensures when_due { FailsWhenDue File (Counts File (D.view self.old.inner) (D.view self.new.inner) result)
             self.old self.new result }
@@ -148,8 +148,8 @@ impl<D: Desk> Desk for FailingDesk<D> {
         ensures bound { IfOk result (λ n. n ≤ length buf.new) }
         ensures kept { Passes (after_read buf.new result) (D.view self.old.inner) (D.view self.new.inner) }
         ensures has_file { HasOpen is_to_read (D.view self.old.inner) result }
-        ensures counts { Counts File (failing_view (D.view self.old.inner) self.old)
-            (failing_view (D.view self.new.inner) self.new) result }
+        ensures counts { Counts File (failing_state (D.view self.old.inner) self.old)
+            (failing_state (D.view self.new.inner) self.new) result }
         ensures fault { IfErr result (λ e. e ≡ DeskFault.Failed) }
         ensures when_due { FailsWhenDue File (Counts File (D.view self.old.inner) (D.view self.new.inner) result)
             self.old self.new result }
@@ -165,8 +165,8 @@ impl<D: Desk> Desk for FailingDesk<D> {
         ensures bound { IfOk result (λ n. n ≤ length bytes.now) }
         ensures kept { SendsTaken File bytes.now (D.view self.old.inner) (D.view self.new.inner) result }
         ensures has_file { HasOpen is_to_write (D.view self.old.inner) result }
-        ensures counts { WriteCounts File bytes.now (failing_view (D.view self.old.inner) self.old)
-            (failing_view (D.view self.new.inner) self.new) result }
+        ensures counts { WriteCounts File bytes.now (failing_state (D.view self.old.inner) self.old)
+            (failing_state (D.view self.new.inner) self.new) result }
         ensures fault { IfErr result (λ e. e ≡ DeskFault.Failed) }
         ensures when_due { FailsWhenDue File (WriteCounts File bytes.now (D.view self.old.inner)
             (D.view self.new.inner) result) self.old self.new result }
@@ -181,8 +181,8 @@ impl<D: Desk> Desk for FailingDesk<D> {
     fn out(&mut self, bytes: &[u8]) -> Result<usize, DeskFault>
         ensures bound { IfOk result (λ n. n ≤ length bytes.now) }
         ensures kept { SendsTaken Output bytes.now (D.view self.old.inner) (D.view self.new.inner) result }
-        ensures counts { WriteCounts Output bytes.now (failing_view (D.view self.old.inner) self.old)
-            (failing_view (D.view self.new.inner) self.new) result }
+        ensures counts { WriteCounts Output bytes.now (failing_state (D.view self.old.inner) self.old)
+            (failing_state (D.view self.new.inner) self.new) result }
         ensures fault { IfErr result (λ e. e ≡ DeskFault.Failed) }
         ensures when_due { FailsWhenDue Output (WriteCounts Output bytes.now (D.view self.old.inner)
             (D.view self.new.inner) result) self.old self.new result }
@@ -197,8 +197,8 @@ impl<D: Desk> Desk for FailingDesk<D> {
     fn err(&mut self, bytes: &[u8]) -> Result<usize, DeskFault>
         ensures bound { IfOk result (λ n. n ≤ length bytes.now) }
         ensures kept { SendsTaken Messages bytes.now (D.view self.old.inner) (D.view self.new.inner) result }
-        ensures counts { WriteCounts Messages bytes.now (failing_view (D.view self.old.inner) self.old)
-            (failing_view (D.view self.new.inner) self.new) result }
+        ensures counts { WriteCounts Messages bytes.now (failing_state (D.view self.old.inner) self.old)
+            (failing_state (D.view self.new.inner) self.new) result }
         ensures fault { IfErr result (λ e. e ≡ DeskFault.Failed) }
         ensures when_due { FailsWhenDue Messages (WriteCounts Messages bytes.now (D.view self.old.inner)
             (D.view self.new.inner) result) self.old self.new result }

@@ -71,7 +71,7 @@ impl MemDesk {
     ghost use Rattle.avr_desk.specs.Record.{nothing_kept};
     ghost use Rattle.ghosts.specs.Failures.{HasRisen};
     ghost use Rattle.avr_desk.specs.Fault.{Follows, HasFailedToSay};
-    ghost use Rattle.avr_desk.specs.Memory.{contents, file_named, memory_view, stock_of};
+    ghost use Rattle.avr_desk.specs.Memory.{contents, file_named, memory_state, stock_of};
     ghost use Rattle.avr_desk.specs.Record.{all_files};
 
     /// Creates a desk without files, with an empty standard input.
@@ -187,8 +187,8 @@ impl MemDesk {
     fn fail_to_say(&mut self) -> DeskFault
         ensures fault { result ≡ DeskFault.Failed }
         ensures same { self.new ≡ record self.old { failures = self.new.failures; unsaid = self.new.unsaid } }
-        ensures rises { Follows (memory_view self.old) (memory_view self.new) }
-        ensures counts { HasFailedToSay (memory_view self.old) (memory_view self.new) }
+        ensures rises { Follows (memory_state self.old) (memory_state self.new) }
+        ensures counts { HasFailedToSay (memory_state self.old) (memory_state self.new) }
     {
         self.unsaid = self.unsaid.saturating_add(1);
         self.fail()
@@ -198,13 +198,13 @@ impl MemDesk {
 impl Desk for MemDesk {
     ghost use Rattle.avr_desk.specs.Record.{after_open, after_create, after_hold, after_read, after_replace, released, with_none_held, after_write, after_out, after_err, bytes_taken, is_to_read, is_to_write};
     ghost use Rattle.avr_desk.specs.Fault.{Counts, WriteCounts};
-    ghost use Rattle.avr_desk.specs.Memory.{contents, memory_view, Stock, unread_bytes};
+    ghost use Rattle.avr_desk.specs.Memory.{contents, memory_state, Stock, unread_bytes};
     ghost use Rattle.avr_desk.specs.Named.{holds};
     ghost use Rattle.avr_desk.specs.Truth.{HoldsTrue};
     ghost use Rattle.ghosts.specs.Stays.{Stays};
     ghost use Rattle.avr_desk.specs.declared.stream.Stream.TheVariants.{File, Output, Messages};
 
-    ghost view = { memory_view };
+    ghost view = { memory_state };
 
     ghost Start = { Stock };
 
@@ -220,7 +220,7 @@ impl Desk for MemDesk {
         ensures found { OnOk result (contents name.now self.old ≡ Some self.new.opened) }
         ensures absent { result ≡ Err DeskFault.NotFound → contents name.now self.old ≡ None }
         ensures leaves { OnErr result (self.new.opened ≡ self.old.opened) }
-        ensures counts { Counts File (memory_view self.old) (memory_view self.new) result }
+        ensures counts { Counts File (memory_state self.old) (memory_state self.new) result }
         ensures stays { Stays HoldsTrue self.old self.new }
     {
         let Ok(kept_name) = Bytes::copied(self.alloc, name.as_bytes()) else {
@@ -253,7 +253,7 @@ impl Desk for MemDesk {
           kept = after_create name.now result self.old.kept;
           failures = self.new.failures;
         } }
-        ensures counts { Counts File (memory_view self.old) (memory_view self.new) result }
+        ensures counts { Counts File (memory_state self.old) (memory_state self.new) result }
         ensures fault { IfErr result (λ e. e ≡ DeskFault.Failed) }
         ensures stays { Stays HoldsTrue self.old self.new }
     {
@@ -278,7 +278,7 @@ impl Desk for MemDesk {
           kept = after_hold name.now result self.old.kept;
           failures = self.new.failures;
         } }
-        ensures counts { Counts File (memory_view self.old) (memory_view self.new) result }
+        ensures counts { Counts File (memory_state self.old) (memory_state self.new) result }
         ensures fault { IfErr result (λ e. e ≡ DeskFault.Failed) }
         ensures stays { Stays HoldsTrue self.old self.new }
     {
@@ -309,7 +309,7 @@ impl Desk for MemDesk {
           kept = after_replace name.now bytes.now result self.old.kept;
           failures = self.new.failures;
         } }
-        ensures counts { Counts File (memory_view self.old) (memory_view self.new) result }
+        ensures counts { Counts File (memory_state self.old) (memory_state self.new) result }
         ensures fault { IfErr result (λ e. e ≡ DeskFault.Failed) }
         ensures stays { Stays HoldsTrue self.old self.new }
     {
@@ -334,7 +334,7 @@ impl Desk for MemDesk {
           failures = self.new.failures;
         } }
         ensures has_file { OnOk result (is_to_read self.old.kept.current ≡ true) }
-        ensures counts { Counts File (memory_view self.old) (memory_view self.new) result }
+        ensures counts { Counts File (memory_state self.old) (memory_state self.new) result }
         ensures fault { IfErr result (λ e. e ≡ DeskFault.Failed) }
         ensures stays { Stays HoldsTrue self.old self.new }
     {
@@ -359,7 +359,7 @@ impl Desk for MemDesk {
           failures = self.new.failures;
         } }
         ensures has_file { OnOk result (is_to_write self.old.kept.current ≡ true) }
-        ensures counts { WriteCounts File bytes.now (memory_view self.old) (memory_view self.new) result }
+        ensures counts { WriteCounts File bytes.now (memory_state self.old) (memory_state self.new) result }
         ensures fault { IfErr result (λ e. e ≡ DeskFault.Failed) }
         ensures stays { Stays HoldsTrue self.old self.new }
     {
@@ -379,7 +379,7 @@ impl Desk for MemDesk {
           kept = after_out (bytes_taken bytes.now result) self.old.kept;
           failures = self.new.failures;
         } }
-        ensures counts { WriteCounts Output bytes.now (memory_view self.old) (memory_view self.new) result }
+        ensures counts { WriteCounts Output bytes.now (memory_state self.old) (memory_state self.new) result }
         ensures fault { IfErr result (λ e. e ≡ DeskFault.Failed) }
         ensures stays { Stays HoldsTrue self.old self.new }
     {
@@ -397,7 +397,7 @@ impl Desk for MemDesk {
           failures = self.new.failures;
           unsaid = self.new.unsaid;
         } }
-        ensures counts { WriteCounts Messages bytes.now (memory_view self.old) (memory_view self.new) result }
+        ensures counts { WriteCounts Messages bytes.now (memory_state self.old) (memory_state self.new) result }
         ensures fault { IfErr result (λ e. e ≡ DeskFault.Failed) }
         ensures stays { Stays HoldsTrue self.old self.new }
     {

@@ -6,7 +6,7 @@ ghost use Rattle.ghosts.specs.Failures.{HasRisen};
 ghost use Rattle.ghosts.specs.Stays.{Stays};
 ghost use Rattle.avr_desk.specs.Fault.{Counts, WriteCounts};
 ghost use Rattle.avr_desk.specs.Record.{HasOpen, Passes, after_open, after_create, after_hold, after_read, after_replace, released, is_to_read, is_to_write, nothing_kept};
-ghost use Rattle.avr_desk.specs.Shown.{AppendsTaken, IsTrueSince, KeepsError, Shown, TakesTruly, shown_view, to_output, to_output_opened, to_output_created, to_output_replaced};
+ghost use Rattle.avr_desk.specs.Shown.{AppendsTaken, IsTrueSince, KeepsError, Shown, TakesTruly, shown_state, to_output, to_output_opened, to_output_created, to_output_replaced};
 ghost use Rattle.avr_desk.specs.Standing.{HeldGives, HeldGivesNone};
 ghost use Rattle.avr_desk.specs.Stream.{SendsTaken};
 ghost use Rattle.avr_desk.specs.declared.desk.DeskFault.TheVariants.{Failed};
@@ -174,15 +174,15 @@ impl<'a, R: FileSystem + Input, O: Write + Drop, E: Write + Drop> SystemDesk<'a,
 
 impl<'a, R: FileSystem + Input, O: Outlet + Drop, E: Outlet + Drop> Desk
     for SystemDesk<'a, R, O, E> {
-    ghost view = { shown_view };
+    ghost view = { shown_state };
 
     ghost Start = { Shown R.File R.Hold R.Reader O E };
 
     ghost comes_of = { IsTrueSince R.FileSystem R.File.Read R.File.Write R.Reader.Read O.Write E.Write };
 
     fn open(&mut self, name: &str) -> Result<(), DeskFault>
-        ensures kept { Passes (after_open name.now result) (shown_view self.old) (shown_view self.new) }
-        ensures counts { Counts File (shown_view self.old) (shown_view self.new) result }
+        ensures kept { Passes (after_open name.now result) (shown_state self.old) (shown_state self.new) }
+        ensures counts { Counts File (shown_state self.old) (shown_state self.new) result }
         ensures quiet { self.new ≡ record self.old {
           failures = self.new.failures;
           error = self.new.error;
@@ -215,8 +215,8 @@ impl<'a, R: FileSystem + Input, O: Outlet + Drop, E: Outlet + Drop> Desk
     }
 
     fn create(&mut self, name: &str) -> Result<(), DeskFault>
-        ensures kept { Passes (after_create name.now result) (shown_view self.old) (shown_view self.new) }
-        ensures counts { Counts File (shown_view self.old) (shown_view self.new) result }
+        ensures kept { Passes (after_create name.now result) (shown_state self.old) (shown_state self.new) }
+        ensures counts { Counts File (shown_state self.old) (shown_state self.new) result }
         ensures fault { IfErr result (λ e. e ≡ Failed) }
         ensures quiet { self.new ≡ record self.old {
           failures = self.new.failures;
@@ -245,8 +245,8 @@ impl<'a, R: FileSystem + Input, O: Outlet + Drop, E: Outlet + Drop> Desk
     }
 
     fn hold(&mut self, name: &str) -> Result<bool, DeskFault>
-        ensures kept { Passes (after_hold name.now result) (shown_view self.old) (shown_view self.new) }
-        ensures counts { Counts File (shown_view self.old) (shown_view self.new) result }
+        ensures kept { Passes (after_hold name.now result) (shown_state self.old) (shown_state self.new) }
+        ensures counts { Counts File (shown_state self.old) (shown_state self.new) result }
         ensures fault { IfErr result (λ e. e ≡ Failed) }
         ensures quiet { self.new ≡ record self.old {
           failures = self.new.failures;
@@ -274,7 +274,7 @@ impl<'a, R: FileSystem + Input, O: Outlet + Drop, E: Outlet + Drop> Desk
     }
 
     fn release(&mut self)
-        ensures released { shown_view self.new ≡ released (shown_view self.old) }
+        ensures released { shown_state self.new ≡ released (shown_state self.old) }
         ensures quiet { self.new ≡ record self.old { hold = None; kept = self.new.kept } }
         ensures stays { Stays (IsTrueSince R.FileSystem R.File.Read R.File.Write R.Reader.Read O.Write E.Write)
             self.old self.new }
@@ -284,8 +284,8 @@ impl<'a, R: FileSystem + Input, O: Outlet + Drop, E: Outlet + Drop> Desk
     }
 
     fn replace(&mut self, name: &str, bytes: &[u8]) -> Result<(), DeskFault>
-        ensures kept { Passes (after_replace name.now bytes.now result) (shown_view self.old) (shown_view self.new) }
-        ensures counts { Counts File (shown_view self.old) (shown_view self.new) result }
+        ensures kept { Passes (after_replace name.now bytes.now result) (shown_state self.old) (shown_state self.new) }
+        ensures counts { Counts File (shown_state self.old) (shown_state self.new) result }
         ensures fault { IfErr result (λ e. e ≡ Failed) }
         ensures quiet { self.new ≡ record self.old {
           failures = self.new.failures;
@@ -312,9 +312,9 @@ impl<'a, R: FileSystem + Input, O: Outlet + Drop, E: Outlet + Drop> Desk
 
     fn read(&mut self, buf: &mut [u8]) -> Result<usize, DeskFault>
         ensures bound { IfOk result (λ n. n ≤ length buf.new) }
-        ensures kept { Passes (after_read buf.new result) (shown_view self.old) (shown_view self.new) }
-        ensures has_file { HasOpen is_to_read (shown_view self.old) result }
-        ensures counts { Counts File (shown_view self.old) (shown_view self.new) result }
+        ensures kept { Passes (after_read buf.new result) (shown_state self.old) (shown_state self.new) }
+        ensures has_file { HasOpen is_to_read (shown_state self.old) result }
+        ensures counts { Counts File (shown_state self.old) (shown_state self.new) result }
         ensures fault { IfErr result (λ e. e ≡ Failed) }
         ensures quiet { self.new ≡ record self.old {
           failures = self.new.failures;
@@ -338,9 +338,9 @@ impl<'a, R: FileSystem + Input, O: Outlet + Drop, E: Outlet + Drop> Desk
 
     fn write(&mut self, bytes: &[u8]) -> Result<usize, DeskFault>
         ensures bound { IfOk result (λ n. n ≤ length bytes.now) }
-        ensures shown { SendsTaken File bytes.now (shown_view self.old) (shown_view self.new) result }
-        ensures has_file { HasOpen is_to_write (shown_view self.old) result }
-        ensures counts { WriteCounts File bytes.now (shown_view self.old) (shown_view self.new) result }
+        ensures shown { SendsTaken File bytes.now (shown_state self.old) (shown_state self.new) result }
+        ensures has_file { HasOpen is_to_write (shown_state self.old) result }
+        ensures counts { WriteCounts File bytes.now (shown_state self.old) (shown_state self.new) result }
         ensures fault { IfErr result (λ e. e ≡ Failed) }
         ensures output { to_output self.old ≡ true → AppendsTaken (O.contents self.old.output)
             (O.contents self.new.output) bytes.now result }
@@ -386,8 +386,8 @@ impl<'a, R: FileSystem + Input, O: Outlet + Drop, E: Outlet + Drop> Desk
 
     fn out(&mut self, bytes: &[u8]) -> Result<usize, DeskFault>
         ensures bound { IfOk result (λ n. n ≤ length bytes.now) }
-        ensures shown { SendsTaken Output bytes.now (shown_view self.old) (shown_view self.new) result }
-        ensures counts { WriteCounts Output bytes.now (shown_view self.old) (shown_view self.new) result }
+        ensures shown { SendsTaken Output bytes.now (shown_state self.old) (shown_state self.new) result }
+        ensures counts { WriteCounts Output bytes.now (shown_state self.old) (shown_state self.new) result }
         ensures fault { IfErr result (λ e. e ≡ Failed) }
         ensures output { AppendsTaken (O.contents self.old.output) (O.contents self.new.output) bytes.now result }
         ensures truly { TakesTruly Output bytes.now (O.contents self.old.output) (O.contents self.new.output)
@@ -411,8 +411,8 @@ impl<'a, R: FileSystem + Input, O: Outlet + Drop, E: Outlet + Drop> Desk
 
     fn err(&mut self, bytes: &[u8]) -> Result<usize, DeskFault>
         ensures bound { IfOk result (λ n. n ≤ length bytes.now) }
-        ensures shown { SendsTaken Messages bytes.now (shown_view self.old) (shown_view self.new) result }
-        ensures counts { WriteCounts Messages bytes.now (shown_view self.old) (shown_view self.new) result }
+        ensures shown { SendsTaken Messages bytes.now (shown_state self.old) (shown_state self.new) result }
+        ensures counts { WriteCounts Messages bytes.now (shown_state self.old) (shown_state self.new) result }
         ensures fault { IfErr result (λ e. e ≡ Failed) }
         ensures messages { AppendsTaken (E.contents self.old.messages) (E.contents self.new.messages) bytes.now result }
         ensures truly { TakesTruly Messages bytes.now (E.contents self.old.messages) (E.contents self.new.messages)

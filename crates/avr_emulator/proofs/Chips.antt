@@ -8,7 +8,7 @@ use Rattle.avr_desk.specs.declared.record.Opening.{Opening}
 use Rattle.avr_desk.specs.declared.record.Opening.TheVariants.{Found}
 use Rattle.avr_desk.specs.declared.record.Reading.{Reading}
 use Rattle.avr_desk.specs.Lines.{too_long_line}
-use Rattle.avr_desk.specs.Said.{Saying, Opens, Tells}
+use Rattle.avr_desk.specs.Said.{OutputEvent, Opens, Tells}
 use Rattle.avr_part.specs.ChipFile.{chip_file_size, chip_in, state_in}
 use Rattle.avr_part.specs.Part.{Part}
 use Rattle.avr_part.specs.PartFile.{GivesOrMemory}
@@ -77,12 +77,12 @@ goes_wrong_length part file bytes n old new status (inr memory) one told = cc
 
 -- ---- the chip of a file that was read
 
-pub opened_at : (opening : Opening) (passed : List Opening) (said : List Saying) → AtStart true passed said
+pub opened_at : (opening : Opening) (passed : List Opening) (said : List OutputEvent) → AtStart true passed said
     → AtOpened (opening ∷ passed) (Opens opening ∷ said)
 opened_at opening passed said takes = (
   opening,
   ap (λ (os : List Opening). opening ∷ os) takes.1,
-  ap (λ (ss : List Saying). Opens opening ∷ ss) takes.2,
+  ap (λ (ss : List OutputEvent). Opens opening ∷ ss) takes.2,
 )
 
 -- the judgment of what the file gave

@@ -15,10 +15,10 @@ use Rattle.ghosts.specs.Stays.{Stays}
 use Rattle.stk_host.specs.Transcript.{sent}
 use Rattle.stk_emu.specs.Programmer.{fresh_programmer}
 use Rattle.stk_emu.specs.Wire.{fresh_wire}
-use Rattle.stk_emu.specs.Wired.{WiredState, ComesOf, wired_view}
+use Rattle.stk_emu.specs.Wired.{WiredState, ComesOf, wired_link}
 use Rattle.avr_session.specs.Run.{RunsSession}
 use Rattle.avr_session.specs.Runs.{devices}
-use Rattle.avr_course.specs.AnyLine.{OverAnyLine}
+use Rattle.avr_laws.specs.AnyLine.{OverAnyLine}
 use Rattle.avr_emulator.specs.Emulated.{IsSaved, new_wire, RunsOverEmulator}
 
 -- a wire that holds, brings and has passed nothing is a new one
@@ -50,7 +50,7 @@ module _ (settings : Settings) (file : Bytes) (plan : Plan) (chip : Chip) (w v :
   pub runs_over_emulator : (old planned_desk loaded_desk played_desk now : DeskState) (ran status : ℕ)
       → Went (planned settings) old planned_desk (Made plan) → Loaded plan.part file planned_desk loaded_desk chip
       → Follows loaded_desk played_desk → Follows played_desk now
-      → RunsSession plan (devices (wired_view w) loaded_desk) (devices (wired_view v) played_desk) ran
+      → RunsSession plan (devices (wired_link w) loaded_desk) (devices (wired_link v) played_desk) ran
       → Stays ComesOf w v → (w.wire.programmer.chip.part ≡ plan.part → OverAnyLine plan w v loaded_desk played_desk ran)
       → IsSaved (sent v.transcript) played_desk now file (chip_file v.wire.programmer.chip) ran status
       → RunsOverEmulator settings file old now status
@@ -68,8 +68,8 @@ module _ (settings : Settings) (file : Bytes) (plan : Plan) (chip : Chip) (w v :
         loaded = is_loaded;
         part = part_is;
         sound = is_sound;
-        runs = subst (λ (x : WiredState). RunsSession plan (devices (wired_view x) loaded_desk)
-            (devices (wired_view v) played_desk) ran) is_new runs;
+        runs = subst (λ (x : WiredState). RunsSession plan (devices (wired_link x) loaded_desk)
+            (devices (wired_link v) played_desk) ran) is_new runs;
         comes = subst (λ (x : WiredState). Stays ComesOf x v) is_new comes;
         line = subst (λ (x : WiredState). OverAnyLine plan x v loaded_desk played_desk ran) is_new
             (line (ap (λ x. x.programmer.chip.part) begun ∙ part_is));

@@ -17,11 +17,11 @@ use Rattle.ghosts.specs.Stays.{Stays}
 use Rattle.stk_host.specs.Transcript.{sent}
 use Rattle.stk_emu.specs.Programmer.{fresh_programmer}
 use Rattle.stk_emu.specs.Wire.{fresh_wire}
-use Rattle.stk_emu.specs.Wired.{WiredState, ComesOf, wired_view}
+use Rattle.stk_emu.specs.Wired.{WiredState, ComesOf, wired_link}
 use Rattle.stk_emu.specs.declared.fate.Fate.{Fate}
 use Rattle.avr_session.specs.Run.{RunsSession}
 use Rattle.avr_session.specs.Runs.{devices}
-use Rattle.avr_course.specs.AnyLine.{OverAnyLine}
+use Rattle.avr_laws.specs.AnyLine.{OverAnyLine}
 
 -- The chip's file is replaced if anything was sent, otherwise only unlocked. If it can't be replaced, the status is
 -- 1.
@@ -53,8 +53,8 @@ pub record RunsOverEmulator (settings : Settings) (file : Bytes) (old now : Desk
   pub loaded : Loaded plan.part file planned_desk loaded_desk chip
   pub part : chip.part ≡ plan.part
   pub sound : IsSoundChip chip
-  pub runs : RunsSession plan (devices (wired_view (new_wire chip [])) loaded_desk)
-      (devices (wired_view after) played_desk) ran
+  pub runs : RunsSession plan (devices (wired_link (new_wire chip [])) loaded_desk)
+      (devices (wired_link after) played_desk) ran
   pub comes : Stays ComesOf (new_wire chip []) after
   pub line : OverAnyLine plan (new_wire chip []) after loaded_desk played_desk ran
   pub saved : IsSaved (sent after.transcript) played_desk now file (chip_file after.wire.programmer.chip) ran status

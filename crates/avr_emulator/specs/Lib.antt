@@ -10,7 +10,7 @@ pub mod Replying
 -- a run over the emulator
 pub mod Emulated
 -- of the crates below, the definitions that public contracts cite
-pub use Rattle.avr_course.specs.AnyLine
+pub use Rattle.avr_laws.specs.AnyLine
 pub use Rattle.avr_desk.specs.Fault
 pub use Rattle.avr_desk.specs.Playing
 pub use Rattle.avr_desk.specs.Record

@@ -6,7 +6,7 @@
 //!   it was. The file is locked from loading to saving, so no other run loads a chip that this one is about to
 //!   replace.
 //! - What a run leaves in the chip, whatever the wire loses, delays and spoils, depends on its session alone. The
-//!   laws of [`avr_course`] state this; this crate runs the session.
+//!   laws of [`avr_laws`] state this; this crate runs the session.
 //! - A served emulator sends exactly its answers to what was received, however the bytes are cut. All answers are
 //!   sent before the link is read again.
 #![tactic(auto)]

@@ -1,10 +1,10 @@
 //! Runs over the emulated programmer: of a plan over a wire, and from settings to status.
 ghost use Rattle.std.specs.Prelude.{◌≡◌};
 ghost use Rattle.avr_desk.specs.Fault.{Follows};
-ghost use Rattle.avr_course.specs.AnyLine.{OverAnyLine};
+ghost use Rattle.avr_laws.specs.AnyLine.{OverAnyLine};
 ghost use Rattle.avr_session.specs.Run.{RunsSession};
 ghost use Rattle.avr_session.specs.Runs.{devices};
-ghost use Rattle.stk_emu.specs.Wired.{ComesOf, IsFresh, wired_view};
+ghost use Rattle.stk_emu.specs.Wired.{ComesOf, IsFresh, wired_link};
 ghost use Rattle.ghosts.specs.Stays.{Stays};
 ghost use Rattle.stk_host.specs.Transcript.{sent};
 ghost use Rattle.avr_part.specs.ChipFile.{chip_file};
@@ -26,8 +26,8 @@ use stk_emu::{Fates, Wired};
 pub fn drive_wired<D: Desk>(alloc: Global, plan: &Plan, desk: &mut D, wire: &mut Wired) -> u8
     requires fresh { IsFresh wire.old }
     // It is a run of the session: what is sent, output and returned.
-    ensures runs { RunsSession plan.now (devices (wired_view wire.old) (D.view desk.old))
-        (devices (wired_view wire.new) (D.view desk.new)) result }
+    ensures runs { RunsSession plan.now (devices (wired_link wire.old) (D.view desk.old))
+        (devices (wired_link wire.new) (D.view desk.new)) result }
     // The counts of the desk's failures never fall.
     ensures follows { Follows (D.view desk.old) (D.view desk.new) }
     // The wire stays what it came from.

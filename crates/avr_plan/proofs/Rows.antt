@@ -14,7 +14,7 @@ use Rattle.avr_desk.specs.Record.{DeskState, Record, after_err, showing, Bytes}
 use Rattle.avr_desk.specs.declared.record.Opening.{Opening}
 use Rattle.avr_desk.specs.declared.record.Opening.TheVariants.{Found}
 use Rattle.avr_desk.specs.Lines.{memory_line, not_opened_line}
-use Rattle.avr_desk.specs.Said.{Saying, Opens, Line, TellsLine, TellsFailure, after_all}
+use Rattle.avr_desk.specs.Said.{OutputEvent, Opens, Line, TellsLine, TellsFailure, after_all}
 use Rattle.ghosts.proofs.Failures.{stood_has_not_risen}
 use Rattle.avr_part.specs.BuiltIn.{m328p}
 use Rattle.avr_part.specs.declared.part.Mem.TheVariants.{Eeprom, Flash}
@@ -26,7 +26,7 @@ use Rattle.avr_plan.specs.Plan.{Plan}
 use Rattle.avr_plan.specs.Planning.{planned, parts_stage, judged_parts, file_image_stage, judged_image, warning_says}
 use Rattle.avr_plan.specs.Taking.{AtUpdate, op_takes_memory}
 use Rattle.avr_desk.specs.Playing.{AtStart, Goes}
-use Rattle.avr_desk.specs.Stage.{Stage, StageResult, Made, Refused, next_opening, verdict_stage, saying_stage, file_stage, ◌>>=◌}
+use Rattle.avr_desk.specs.Stage.{Stage, StageResult, Made, Refused, next_opening, verdict_stage, output_stage, file_stage, ◌>>=◌}
 use Rattle.avr_plan.specs.declared.planned.Task.{Task}
 use Rattle.avr_plan.specs.declared.planned.Task.TheVariants.{Write}
 use Rattle.avr_plan.proofs.Stages.Plans.{behind_parts}
@@ -64,7 +64,7 @@ wanted = record {
 begins_image : Begins file (file_image_stage no_switches file Ihex 32768)
 begins_image =
     begins_then file (file_stage file 4194304 (judged_image file Ihex 32768))
-    (λ given. saying_stage (warning_says no_switches file given.1) >>= λ ok. verdict_stage (Ok given.0))
+    (λ given. output_stage (warning_says no_switches file given.1) >>= λ ok. verdict_stage (Ok given.0))
     (begins_file file 4194304 (judged_image file Ihex 32768))
 
 abbrev task : Stage Task
@@ -98,7 +98,7 @@ only_due u due (x ∷ []) more is = let none : [] ≡ due ∷ more = cc in absur
 only_due u due (x ∷ y ∷ done) more is = let none : [] ≡ y ∷ (done ++ due ∷ more) = cc in absurd (cc)
 
 -- nowhere
-takes_none : (passed : List Opening) (said : List Saying) → AtUpdate wanted passed said → ⊥
+takes_none : (passed : List Opening) (said : List OutputEvent) → AtUpdate wanted passed said → ⊥
 takes_none passed said at =
     let takes : op_takes_memory of_file op.Write ≡ true = subst (λ u. op_takes_memory u u.op ≡ true)
     (only_due of_file at.due at.done at.more at.updates_are) at.takes in
@@ -112,7 +112,8 @@ planned_none : (passed : List Opening) → planned (record mixed { updates = [] 
     ≡ record { says = []; answer = Made (record { part = m328p; tasks = []; switches = no_switches }); left = passed }
 planned_none passed = refl
 
-begins_mixed : (passed : List Opening) (said : List Saying) (done : List Update) (due : Update) (more : List Update)
+begins_mixed : (passed : List Opening) (said : List OutputEvent) (done : List Update) (due : Update)
+    (more : List Update)
     (made : Plan)
     → of_values ∷ of_file ∷ [] ≡ done ++ due ∷ more → op_takes_memory due due.op ≡ true
     → planned (record mixed { updates = done }) passed ≡ record { says = said; answer = Made made; left = [] }
@@ -127,7 +128,8 @@ begins_mixed passed said (x ∷ done) due more made is takes planned_so =
     (only_due of_file due done more rest) takes in
     absurd (cc)
 
-takes_first : (passed : List Opening) (said : List Saying) → AtUpdate mixed passed said → (passed ≡ []) × (said ≡ [])
+takes_first : (passed : List Opening) (said : List OutputEvent) → AtUpdate mixed passed said → (passed ≡ [])
+    × (said ≡ [])
 takes_first passed said at =
     begins_mixed passed said at.done at.due at.more at.plan at.updates_are at.takes at.is_planned
 
@@ -257,7 +259,7 @@ lacks : (openings : List Opening) → planned lacking openings
 lacks openings = refl
 
 -- without a part no memory is taken
-lacks_memory : (passed : List Opening) (said : List Saying) → AtUpdate lacking passed said → ⊥
+lacks_memory : (passed : List Opening) (said : List OutputEvent) → AtUpdate lacking passed said → ⊥
 lacks_memory passed said at =
     let clash : Refused refusal ≡ Made at.plan = ap (λ (p : StageResult Plan). p.answer) at.is_planned in cc
 

@@ -8,7 +8,7 @@ use Rattle.avr_cli.specs.declared.update.Op.TheVariants as op
 use Rattle.avr_cli.specs.declared.update.Update.{Update}
 use Rattle.avr_desk.specs.Memory.{Stock, stood_for}
 use Rattle.avr_desk.specs.Record.{Bytes}
-use Rattle.avr_desk.specs.Said.{Saying, Opens, Line}
+use Rattle.avr_desk.specs.Said.{OutputEvent, Opens, Line}
 use Rattle.avr_desk.specs.Stage.{StageResult}
 use Rattle.avr_desk.specs.Truth.{IsTrueOpening}
 use Rattle.avr_desk.specs.declared.record.Opening.{Opening}
@@ -51,13 +51,13 @@ files_give stock names = map (λ name. read_whole name (stood_for stock [] name)
 abbrev pub planned_of : Settings → Stock → StageResult Plan
 planned_of s stock = planned s (files_give stock (files_read s))
 
-abbrev pub lines_in : List Saying → List Bytes
+abbrev pub lines_in : List OutputEvent → List Bytes
 lines_in [] = []
-lines_in (Line bytes ∷ sayings) = bytes ∷ lines_in sayings
-lines_in (saying ∷ sayings) = lines_in sayings
+lines_in (Line bytes ∷ outputs) = bytes ∷ lines_in outputs
+lines_in (output ∷ outputs) = lines_in outputs
 
 -- Each opening among these output events was true of these files.
-abbrev pub AreSeen : Stock → List Saying → Type 0
+abbrev pub AreSeen : Stock → List OutputEvent → Type 0
 AreSeen stock [] = Unit {0}
-AreSeen stock (Opens opening ∷ sayings) = IsTrueOpening stock [] opening × AreSeen stock sayings
-AreSeen stock (saying ∷ sayings) = AreSeen stock sayings
+AreSeen stock (Opens opening ∷ outputs) = IsTrueOpening stock [] opening × AreSeen stock outputs
+AreSeen stock (output ∷ outputs) = AreSeen stock outputs

@@ -1,9 +1,9 @@
 -- Output events that only open files for reading and print lines. Nothing is created, written or output.
 use Rattle.std.specs.Prelude.{List, [], ◌∷◌}
-use Rattle.avr_desk.specs.Said.{Saying, Opens, Line}
+use Rattle.avr_desk.specs.Said.{OutputEvent, Opens, Line}
 
-abbrev pub OnlyReads : List Saying → Type 0
+abbrev pub OnlyReads : List OutputEvent → Type 0
 OnlyReads [] = Unit {0}
-OnlyReads (Opens opening ∷ sayings) = OnlyReads sayings
-OnlyReads (Line bytes ∷ sayings) = OnlyReads sayings
-OnlyReads (saying ∷ sayings) = ⊥
+OnlyReads (Opens opening ∷ outputs) = OnlyReads outputs
+OnlyReads (Line bytes ∷ outputs) = OnlyReads outputs
+OnlyReads (output ∷ outputs) = ⊥

@@ -11,7 +11,7 @@ use Rattle.avr_cli.specs.declared.update.Update.{Update}
 use Rattle.avr_image.specs.Values.{values}
 use Rattle.avr_image.specs.declared.fault.ImageFault.{ImageFault}
 use Rattle.avr_desk.specs.Lines.{too_long_line}
-use Rattle.avr_desk.specs.Said.{Saying, Line, Tells}
+use Rattle.avr_desk.specs.Said.{OutputEvent, Line, Tells}
 use Rattle.avr_part.specs.BuiltIn.{part_of_id}
 use Rattle.avr_part.specs.Mem.{is_writable}
 use Rattle.avr_part.specs.Part.{Part, size_of}
@@ -25,7 +25,7 @@ use Rattle.avr_plan.specs.declared.part_choice.TheConstants.{LARGEST_PART_FILE}
 use Rattle.avr_plan.specs.ImageFile.{Given, image_within}
 use Rattle.avr_plan.specs.Lines.{bad_file_line, no_end_line, no_part_line, part_file_line, read_only_line, values_line}
 use Rattle.avr_plan.specs.Plan.{Plan}
-use Rattle.avr_desk.specs.Stage.{Stage, ◌>>=◌, verdict_stage, saying_stage, file_stage}
+use Rattle.avr_desk.specs.Stage.{Stage, ◌>>=◌, verdict_stage, output_stage, file_stage}
 use Rattle.avr_plan.specs.declared.planned.Task.{Task}
 use Rattle.avr_plan.specs.declared.planned.Task.TheVariants.{Write, Verify, Read}
 
@@ -62,7 +62,7 @@ abbrev pub is_warned : Switches → Ending → Bool
 is_warned switches Ended = false
 is_warned switches NoEnd = nat_lt switches.quiet 2
 
-abbrev pub warning_says : Switches → Bytes → Ending → List Saying
+abbrev pub warning_says : Switches → Bytes → Ending → List OutputEvent
 warning_says switches file ending = if is_warned switches ending then Line (no_end_line file) ∷ [] else []
 
 abbrev pub image_or_line : Bytes → Given → Result (List (Option ℕ) × Ending) Bytes
@@ -75,7 +75,7 @@ judged_image file format size bytes = image_or_line file (image_within LARGEST_I
 abbrev pub file_image_stage : Switches → Bytes → Format → ℕ → Stage (List (Option ℕ))
 file_image_stage switches file format size = do
   given ← file_stage file LARGEST_IMAGE_FILE (judged_image file format size)
-  ok ← saying_stage (warning_says switches file given.1)
+  ok ← output_stage (warning_says switches file given.1)
   verdict_stage (Ok given.0)
 
 abbrev pub values_or_line : Mem → Result (List (Option ℕ)) ImageFault → Result (List (Option ℕ)) Bytes

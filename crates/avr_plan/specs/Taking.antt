@@ -8,7 +8,7 @@ use Rattle.avr_cli.specs.declared.update.Format.TheVariants.{Immediate}
 use Rattle.avr_cli.specs.declared.update.Op.{Op}
 use Rattle.avr_cli.specs.declared.update.Op.TheVariants as op
 use Rattle.avr_cli.specs.declared.update.Update.{Update}
-use Rattle.avr_desk.specs.Said.{Saying}
+use Rattle.avr_desk.specs.Said.{OutputEvent}
 use Rattle.avr_desk.specs.Stage.{Made}
 use Rattle.avr_desk.specs.declared.record.Opening.{Opening}
 use Rattle.avr_part.specs.Mem.{is_writable}
@@ -30,7 +30,7 @@ op_takes_memory u op.Read = true
 
 -- An update that allocates without a file is next. The updates before it were planned from all openings so far, and
 -- the output so far is all that their plan has.
-pub record AtUpdate (s : Settings) (passed : List Opening) (said : List Saying) : Type 0 where
+pub record AtUpdate (s : Settings) (passed : List Opening) (said : List OutputEvent) : Type 0 where
   pub done : List Update
   pub due : Update
   pub more : List Update
@@ -42,7 +42,7 @@ pub record AtUpdate (s : Settings) (passed : List Opening) (said : List Saying) 
 
 -- inside: the same for the tasks of these updates, which follow other tasks
 pub record AtTask (switches : Switches) (part : Part) (tasks : List Task) (updates : List Update)
-    (passed : List Opening) (said : List Saying) : Type 0 where
+    (passed : List Opening) (said : List OutputEvent) : Type 0 where
   pub done : List Update
   pub due : Update
   pub more : List Update

@@ -7,7 +7,7 @@ ghost use Rattle.avr_plan.specs.PlanFaults.{TellsTaskFault, with_status};
 ghost use Rattle.avr_plan.specs.Planning.{is_warned, warning_says, file_image_stage, image_stage, update_image as update_image_stage};
 ghost use Rattle.avr_plan.specs.Taking.{has_values};
 ghost use Rattle.avr_desk.specs.Playing.{AtStart, Goes};
-ghost use Rattle.avr_desk.specs.Stage.{saying_stage};
+ghost use Rattle.avr_desk.specs.Stage.{output_stage};
 ghost use Rattle.ghosts.specs.Stays.{Stays};
 
 use crate::image_file::read_image;
@@ -38,7 +38,7 @@ fn warn_of_ending<D: Desk>(
     file: &str,
     ending: Ending,
 ) -> Result<(), TaskFault>
-    ensures goes { Goes (AtStart false) (saying_stage (warning_says switches file.now ending))
+    ensures goes { Goes (AtStart false) (output_stage (warning_says switches file.now ending))
         (D.view desk.old) (D.view desk.new) (with_status result) }
     ensures told { (update : AnyUpdate) → IfErr result (TellsTaskFault update (D.view desk.old) (D.view desk.new)) }
     ensures stays { Stays D.comes_of desk.old desk.new }

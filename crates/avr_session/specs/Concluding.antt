@@ -31,7 +31,7 @@ stands (Err (ends.Faulty fault)) = Ok Faulty
 stands (Err (ends.Over fault)) = Ok Over
 stands (Err ends.Stopped) = Err tt
 
--- After a phase that leaves the link usable, the host is usable.
+-- After an action that leaves the link usable, the host is usable.
 abbrev pub HostServes : Result Standing ⊤ → Option HostFault → Type 0
 HostServes (Ok Fine) broken = broken ≡ None
 HostServes (Ok Faulty) broken = broken ≡ None

@@ -1,12 +1,12 @@
 -- What a session holds before and after a call: for contracts inside this crate.
 use Rattle.std.specs.Prelude.{◌≡◌, List, Result, ⊤}
 use Rattle.avr_desk.specs.Record.{DeskState}
-use Rattle.avr_session.specs.declared.phases.Session.{Session}
+use Rattle.avr_session.specs.declared.performing.Session.{Session}
 use Rattle.avr_session.specs.declared.ending.End.{End}
 use Rattle.avr_session.specs.Actions.{Action}
 use Rattle.avr_session.specs.Concluding.{stands}
 use Rattle.avr_session.specs.Outcomes.{EndsTold}
-use Rattle.avr_session.specs.Phases.{Does}
+use Rattle.avr_session.specs.Performing.{Does}
 use Rattle.avr_session.specs.Runs.{Devices, devices}
 use Rattle.ghosts.specs.Stays.{Stays}
 use Rattle.stk_host.specs.Transcript.{LinkState}

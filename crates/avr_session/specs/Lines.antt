@@ -3,7 +3,7 @@ use Rattle.std.specs.Prelude.{ℕ, List, [], ◌∷◌, codes, nat_lt, if◌then
 use Rattle.byteorder.specs.Endian.{big_bytes}
 use Rattle.avr_desk.specs.Record.{Bytes}
 use Rattle.avr_desk.specs.Lines.{digits, spaced_digits, information, warning, error, memory_pieces}
-use Rattle.avr_desk.specs.Said.{Saying, Line}
+use Rattle.avr_desk.specs.Said.{OutputEvent, Line}
 use Rattle.avr_part.specs.Mem.{name_of}
 use Rattle.avr_part.specs.Part.{Part}
 use Rattle.avr_part.specs.declared.part.Mem.{Mem}
@@ -12,10 +12,10 @@ use Rattle.stk_host.specs.declared.fault.HostFault.{HostFault}
 use Rattle.stk_host.specs.declared.fault.HostFault.TheVariants.{NoAnswer, LinkEnded, SendFailed, Babble, Refused, BadAnswer, WrongSignature, Differs, ReadOnly, Memory, RecvFailed}
 
 -- Information is printed if `quiet` is 0; a warning also if it is 1.
-abbrev pub informs : ℕ → List Bytes → List Saying
+abbrev pub informs : ℕ → List Bytes → List OutputEvent
 informs quiet pieces = if nat_lt 0 quiet then [] else Line (information pieces) ∷ []
 
-abbrev pub warns : ℕ → List Bytes → List Saying
+abbrev pub warns : ℕ → List Bytes → List OutputEvent
 warns quiet pieces = if nat_lt 1 quiet then [] else Line (warning pieces) ∷ []
 
 abbrev pub other_signature : Part → Bytes → List Bytes

@@ -3,7 +3,7 @@ use Rattle.std.specs.Prelude.{List, map, ◌≡◌, ◌++◌, [], Result, Ok, Er
 use Rattle.avr_desk.specs.Fault as desk
 use Rattle.avr_desk.specs.Fault.{Follows, HasSameCounts}
 use Rattle.avr_desk.specs.Record.{DeskState, Passes, after_err, Bytes}
-use Rattle.avr_desk.specs.Said.{Saying, TellsFailure, after_all}
+use Rattle.avr_desk.specs.Said.{OutputEvent, TellsFailure, after_all}
 use Rattle.stk_host.specs.Dialog.{Said}
 use Rattle.avr_desk.specs.declared.desk.DeskFault.{DeskFault}
 use Rattle.avr_session.specs.Runs.{Cause, OfFile, OfPrinting, FileTrouble, cause_line, StopsAt}
@@ -15,34 +15,35 @@ IsOfDesk OfPrinting = Unit {0}
 IsOfDesk cause = ⊥
 
 -- A prefix of the output events was done, and perhaps a part of the next one, at which this cause stops them.
-pub record SaysPrefix (cause : Cause) (old new : DeskState) (sayings : List Saying) : Type 0 where
-  pub whole : List Saying
-  pub begun : List Saying
-  pub later : List Saying
-  pub sayings_are : sayings ≡ whole ++ later
+pub record SaysPrefix (cause : Cause) (old new : DeskState) (outputs : List OutputEvent) : Type 0 where
+  pub whole : List OutputEvent
+  pub begun : List OutputEvent
+  pub later : List OutputEvent
+  pub outputs_are : outputs ≡ whole ++ later
   pub place : StopsAt cause (map Said whole) (map Said begun) (map Said later)
   pub by_desk : IsOfDesk cause
   pub kept : Passes (after_all (whole ++ begun)) old new
 
 -- A prefix of the output events was done, and then the report of the cause. Such a cause may stop them.
 pub record SaidSome (By : DeskState → DeskState → Cause → Bytes → Type 0) (old new : DeskState)
-    (sayings : List Saying) : Type 0 where
+    (outputs : List OutputEvent) : Type 0 where
   pub between : DeskState
   pub cause : Cause
-  pub prefix : SaysPrefix cause old between sayings
+  pub prefix : SaysPrefix cause old between outputs
   pub told : Bytes
   pub stops : By old new cause told
   pub kept : Passes (after_err told) between new
 
 -- All output events were done and no call failed, or a prefix of them was done.
-abbrev pub SaysOrStops : (DeskState → DeskState → Cause → Bytes → Type 0) → DeskState → DeskState → List Saying
+abbrev pub SaysOrStops : (DeskState → DeskState → Cause → Bytes → Type 0) → DeskState → DeskState → List OutputEvent
     → Result ⊤ DeskFault → Type 0
-SaysOrStops By old new sayings (Ok done) = Passes (after_all sayings) old new × HasSameCounts old new
-SaysOrStops By old new sayings (Err _) = SaidSome By old new sayings
+SaysOrStops By old new outputs (Ok done) = Passes (after_all outputs) old new × HasSameCounts old new
+SaysOrStops By old new outputs (Err _) = SaidSome By old new outputs
 
-pub record Reports (By : DeskState → DeskState → Cause → Bytes → Type 0) (old new : DeskState) (sayings : List Saying)
+pub record Reports (By : DeskState → DeskState → Cause → Bytes
+    → Type 0) (old new : DeskState) (outputs : List OutputEvent)
     (result : Result ⊤ DeskFault) : Type 0 where
-  pub says : SaysOrStops By old new sayings result
+  pub says : SaysOrStops By old new outputs result
   pub follows : Follows old new
 
 -- A write to the messages failed; nothing reports this.

@@ -8,11 +8,11 @@ use Rattle.avr_desk.specs.declared.stream.Stream.TheVariants.{File}
 use Rattle.stk_host.specs.Transcript as link
 use Rattle.stk_host.specs.Tape.{on_tape}
 use Rattle.stk_host.specs.Transcript.{Transcript, LinkState, heard, Grows}
-use Rattle.stk_host.specs.Dialog.{Dialog, Event, Frame, Said, played, sayings}
-use Rattle.stk_host.specs.Play.{Position, Plays, Breaks}
+use Rattle.stk_host.specs.Dialog.{Dialog, Event, Frame, Said, played, outputs}
+use Rattle.stk_host.specs.Play.{Progress, Plays, Breaks}
 use Rattle.avr_desk.specs.Lines.{error, memory_line, not_created_pieces, not_written_pieces}
 use Rattle.avr_session.specs.Lines.{unsent_pieces, unheard_pieces}
-use Rattle.avr_desk.specs.Said.{Saying, Line, Creates, Writes, Outs, SaidPart, IsPrefixOf, TellsLine, after_all}
+use Rattle.avr_desk.specs.Said.{OutputEvent, Line, Creates, Writes, Outs, SaidPart, IsPrefixOf, TellsLine, after_all}
 
 -- The state of a link and a desk.
 pub record Devices : Type 0 where
@@ -25,7 +25,7 @@ devices link desk = record { link = link; desk = desk }
 abbrev pub NoneFailed : Devices → Devices → Type 0
 NoneFailed old new = (new.link.failures ≡ old.link.failures) × HasSameCounts old.desk new.desk
 
-abbrev pub start : Position
+abbrev pub start : Progress
 start = record { next = 1; unread = [] }
 
 pub data FileTrouble : Type 0 where
@@ -50,43 +50,43 @@ cause_line (OfFile file NotWritten) = error (not_written_pieces file)
 cause_line OfPrinting = []
 cause_line OfMemory = memory_line
 
-abbrev pub is_error : Saying → Bool
+abbrev pub is_error : OutputEvent → Bool
 is_error (Line bytes) = starts_with nat_eq bytes (codes "avrstk: error: ")
-is_error saying = false
+is_error output = false
 
-abbrev pub tells_fault : List Saying → Bool
-tells_fault sayings = list_any is_error sayings
+abbrev pub tells_fault : List OutputEvent → Bool
+tells_fault outputs = list_any is_error outputs
 
 -- Only a prefix of the next frame was sent, perhaps nothing.
-pub record AtFrame (begun later : List (Event Saying)) : Type 0 where
+pub record AtFrame (begun later : List (Event OutputEvent)) : Type 0 where
   pub done : Bytes
   pub unsent : Bytes
-  pub more : List (Event Saying)
+  pub more : List (Event OutputEvent)
   pub due : later ≡ Frame (done ++ unsent) ∷ more
   pub part : begun ≡ Frame done ∷ []
   pub not_whole : 0 < length unsent
 
 -- A prefix of the next bytes was printed or written.
-pub record AtPart (event : Bytes → Saying) (begun later : List (Event Saying)) : Type 0 where
+pub record AtPart (event : Bytes → OutputEvent) (begun later : List (Event OutputEvent)) : Type 0 where
   pub bytes : Bytes
   pub done : Bytes
-  pub more : List (Event Saying)
+  pub more : List (Event OutputEvent)
   pub due : later ≡ Said (event bytes) ∷ more
   pub part : begun ≡ Said (event done) ∷ []
   pub prefix : IsPrefixOf done bytes
 
 -- Nothing was done of the next event, the creation of this file.
-pub record AtCreation (file : Bytes) (begun later : List (Event Saying)) : Type 0 where
-  pub more : List (Event Saying)
+pub record AtCreation (file : Bytes) (begun later : List (Event OutputEvent)) : Type 0 where
+  pub more : List (Event OutputEvent)
   pub due : later ≡ Said (Creates file) ∷ more
   pub none : begun ≡ []
 
-abbrev pub CreatesLast : Bytes → List (Event Saying) → Type 0
-CreatesLast file whole = (before : List (Event Saying)) × (whole ≡ before ++ Said (Creates file) ∷ [])
+abbrev pub CreatesLast : Bytes → List (Event OutputEvent) → Type 0
+CreatesLast file whole = (before : List (Event OutputEvent)) × (whole ≡ before ++ Said (Creates file) ∷ [])
 
 -- A cause stops a run after the whole events, in the next one, of which a part may have happened. Bytes are written
 -- to a file that was created just before, or to standard output, whose name is `-`.
-abbrev pub StopsAt : Cause → List (Event Saying) → List (Event Saying) → List (Event Saying) → Type 0
+abbrev pub StopsAt : Cause → List (Event OutputEvent) → List (Event OutputEvent) → List (Event OutputEvent) → Type 0
 StopsAt OfSending whole begun later = AtFrame begun later
 StopsAt OfListening whole begun later = (begun ≡ []) × (later ≡ [])
 StopsAt (OfFile file NotCreated) whole begun later = AtCreation file begun later
@@ -129,11 +129,11 @@ untold takes = record { takes = takes; was_told = false }
 
 -- When allocation can fail: a predicate of the start, the transcript and the events so far.
 abbrev pub Lacking : Type 1
-Lacking = Position → Transcript → List (Event Saying) → Type 0
+Lacking = Progress → Transcript → List (Event OutputEvent) → Type 0
 
 -- Why a run stops after this output, and what is reported: the cause occurred by `between`, and was reported from
 -- there on.
-pub record StopsBehind (terms : Terms) (old new : Devices) (said : List Saying) (cause : Cause)
+pub record StopsBehind (terms : Terms) (old new : Devices) (said : List OutputEvent) (cause : Cause)
     (told : Bytes) : Type 0 where
   pub between : DeskState
   pub has_come : HasCome terms.takes old (devices new.link between) cause
@@ -144,34 +144,34 @@ pub record StopsBehind (terms : Terms) (old new : Devices) (said : List Saying) 
 -- The dialog ran whole over the unread bytes and the items received. What was sent, output and returned is its run's,
 -- whatever follows on the tape. At most one piece is left unread. No call of a device failed, because a failure stops
 -- a run.
-pub record Ran {R : Type 0} (dialog : Dialog Saying R) (before : Position) (old new : Devices) (result : R)
-    (after : Position) : Type 0 where
+pub record Ran {R : Type 0} (dialog : Dialog OutputEvent R) (before : Progress) (old new : Devices) (result : R)
+    (after : Progress) : Type 0 where
   pub during : Transcript
-  pub events : List (Event Saying)
+  pub events : List (Event OutputEvent)
   pub grows : Grows old.link.transcript during new.link.transcript
   pub plays : Plays dialog before during events result after
   pub few : length before.unread ≤ 281 → length after.unread ≤ 281
-  pub kept : Passes (after_all (sayings events)) old.desk new.desk
+  pub kept : Passes (after_all (outputs events)) old.desk new.desk
   pub sound : NoneFailed old new
 
 -- The dialog broke off. What was sent and output is a prefix of its events, the last one perhaps in part, and then
 -- the report of the cause. If allocation failed, it did so at a moment that `Lacks` allows.
-pub record BrokeOff {R : Type 0} (dialog : Dialog Saying R) (before : Position) (old new : Devices)
+pub record BrokeOff {R : Type 0} (dialog : Dialog OutputEvent R) (before : Progress) (old new : Devices)
     (terms : Terms) (Lacks : Lacking) : Type 0 where
   pub during : Transcript
-  pub shown : List (Event Saying)
+  pub shown : List (Event OutputEvent)
   pub cause : Cause
   pub told : Bytes
   pub grows : Grows old.link.transcript during new.link.transcript
   pub breaks : Breaks SaidPart dialog before during shown
   pub place : StopsAt cause breaks.prefix.whole breaks.prefix.begun breaks.prefix.later
   pub listens : Listens cause (played dialog before.next (on_tape before.unread ++ heard during)).outcome
-  pub stops : StopsBehind terms old new (sayings shown) cause told
+  pub stops : StopsBehind terms old new (outputs shown) cause told
   pub lacks : cause ≡ OfMemory → Lacks before during shown
-  pub kept : Passes (λ r. after_err told (after_all (sayings shown) r)) old.desk new.desk
+  pub kept : Passes (λ r. after_err told (after_all (outputs shown) r)) old.desk new.desk
 
 -- A whole run: it ran to its status, or it broke off with status 1.
-abbrev pub RunsTo : Dialog Saying ℕ → Devices → Devices → Bool → Lacking → ℕ → Type 0
+abbrev pub RunsTo : Dialog OutputEvent ℕ → Devices → Devices → Bool → Lacking → ℕ → Type 0
 RunsTo dialog old new takes Lacks status =
-    ((after : Position) × Ran dialog start old new status after)
+    ((after : Progress) × Ran dialog start old new status after)
     ⊎ (BrokeOff dialog start old new (untold takes) Lacks × (status ≡ 1))

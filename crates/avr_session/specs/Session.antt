@@ -6,7 +6,7 @@ use Rattle.avr_cli.specs.declared.settings.Switches.{Switches}
 use Rattle.avr_cli.specs.declared.update.Format.{Format}
 use Rattle.avr_image.specs.Image.{byte_count}
 use Rattle.avr_desk.specs.Lines.{spaced_digits}
-use Rattle.avr_desk.specs.Said.{Saying, Line, Creates, Writes, Outs}
+use Rattle.avr_desk.specs.Said.{OutputEvent, Line, Creates, Writes, Outs}
 use Rattle.avr_part.specs.Mem.{name_of}
 use Rattle.avr_part.specs.Part.{Part}
 use Rattle.avr_part.specs.declared.part.Mem.{Mem}
@@ -26,9 +26,9 @@ use Rattle.avr_session.specs.Lines.{informs, warns, other_signature, fault_line}
 -- ---- dialogs
 
 -- The output events in order, and then the dialog.
-abbrev pub says : {R : Type 0} → List Saying → Dialog Saying R → Dialog Saying R
+abbrev pub says : {R : Type 0} → List OutputEvent → Dialog OutputEvent R → Dialog OutputEvent R
 says [] dialog = dialog
-says (saying ∷ sayings) dialog = Say saying (says sayings dialog)
+says (output ∷ outputs) dialog = Say output (says outputs dialog)
 
 -- The state of a session after an operation of the host.
 abbrev pub standing : {A : Type 0} → Result A HostFault → Standing
@@ -37,30 +37,30 @@ standing (Err LinkEnded) = Over
 standing (Err fault) = Faulty
 
 -- An operation of the host, and the output for its outcome.
-abbrev pub reported : {A : Type 0} → Dialog ⊥ (Result A HostFault) → (Result A HostFault → List Saying)
-    → Dialog Saying Standing
+abbrev pub reported : {A : Type 0} → Dialog ⊥ (Result A HostFault) → (Result A HostFault → List OutputEvent)
+    → Dialog OutputEvent Standing
 reported operation outcome_says = lifted operation >>= λ outcome. says (outcome_says outcome) (Done (standing outcome))
 
--- The next phase of a session, which a fault skips.
-abbrev pub unless_fault : Dialog Saying Standing → Standing → Dialog Saying Standing
+-- The next action of a session, which a fault skips.
+abbrev pub unless_fault : Dialog OutputEvent Standing → Standing → Dialog OutputEvent Standing
 unless_fault next Fine = next
 unless_fault next fault = Done fault
 
 -- ---- the output for outcomes
 
-abbrev pub fault_or : {A : Type 0} → Part → (A → List Saying) → Result A HostFault → List Saying
+abbrev pub fault_or : {A : Type 0} → Part → (A → List OutputEvent) → Result A HostFault → List OutputEvent
 fault_or part good (Ok a) = good a
 fault_or part good (Err fault) = Line (fault_line part fault) ∷ []
 
-abbrev pub signature_says : ℕ → Bytes → List Saying
+abbrev pub signature_says : ℕ → Bytes → List OutputEvent
 signature_says quiet found = informs quiet (codes "device signature = " ∷ spaced_digits found ∷ [])
 
 -- A signature that isn't the part's is reported even if it is accepted.
-abbrev pub warns_of_signature : ℕ → Part → Bytes → List Saying
+abbrev pub warns_of_signature : ℕ → Part → Bytes → List OutputEvent
 warns_of_signature quiet part found =
     if bytes_eq found part.signature then [] else warns quiet (other_signature part found)
 
-abbrev pub opening_says : ℕ → Part → Result Bytes HostFault → List Saying
+abbrev pub opening_says : ℕ → Part → Result Bytes HostFault → List OutputEvent
 opening_says quiet part (Ok found) = signature_says quiet found ++ warns_of_signature quiet part found
 opening_says quiet part (Err (WrongSignature found)) =
     signature_says quiet found ++ Line (fault_line part (WrongSignature found)) ∷ []
@@ -72,11 +72,11 @@ done_text NotWritten = codes " bytes not written"
 done_text Verified = codes " bytes verified"
 done_text Read = codes " bytes read"
 
-abbrev pub bytes_say : ℕ → Mem → ℕ → Bytes → List Saying
+abbrev pub bytes_say : ℕ → Mem → ℕ → Bytes → List OutputEvent
 bytes_say quiet mem count done = informs quiet (name_of mem ∷ codes ": " ∷ decimal count ∷ done ∷ [])
 
 -- The name `-` is standard output.
-abbrev pub saving_says : Bytes → Bytes → List Saying
+abbrev pub saving_says : Bytes → Bytes → List OutputEvent
 saving_says file text = if bytes_eq file (codes "-") then Outs text ∷ [] else Creates file ∷ Writes text ∷ []
 
 -- Trailing FF of flash are dropped, unless `all` is set.
@@ -84,58 +84,60 @@ abbrev pub kept_of : Mem → Bool → Bytes → Bytes
 kept_of Flash false bytes = trimmed bytes
 kept_of mem all bytes = bytes
 
-abbrev pub erased_says : ℕ → Part → Result ⊤ HostFault → List Saying
+abbrev pub erased_says : ℕ → Part → Result ⊤ HostFault → List OutputEvent
 erased_says quiet part = fault_or part (λ _. informs quiet (codes "chip erased" ∷ []))
 
-abbrev pub written_says : ℕ → Part → Mem → List (Option ℕ) → Result ⊤ HostFault → List Saying
+abbrev pub written_says : ℕ → Part → Mem → List (Option ℕ) → Result ⊤ HostFault → List OutputEvent
 written_says quiet part mem image = fault_or part (λ _. bytes_say quiet mem (byte_count image) (done_text Written))
 
-abbrev pub verified_says : ℕ → Part → Mem → List (Option ℕ) → Result ⊤ HostFault → List Saying
+abbrev pub verified_says : ℕ → Part → Mem → List (Option ℕ) → Result ⊤ HostFault → List OutputEvent
 verified_says quiet part mem image = fault_or part
     (λ _. bytes_say quiet mem (byte_count image) (done_text Verified))
 
-abbrev pub closed_says : ℕ → Part → Result ⊤ HostFault → List Saying
+abbrev pub closed_says : ℕ → Part → Result ⊤ HostFault → List OutputEvent
 closed_says quiet part = fault_or part (λ _. informs quiet (codes "done" ∷ []))
 
-abbrev pub read_says : Switches → Mem → Format → Bytes → Bytes → List Saying
+abbrev pub read_says : Switches → Mem → Format → Bytes → Bytes → List OutputEvent
 read_says s mem format file bytes =
     let kept = kept_of mem s.all bytes in
     saving_says file (file_text format kept) ++ bytes_say s.quiet mem (length kept) (done_text Read)
 
 -- The output in place of an erase, and of a write.
-abbrev pub left_out_says : ℕ → LeftOut → List Saying
+abbrev pub left_out_says : ℕ → LeftOut → List OutputEvent
 left_out_says quiet TheErase = warns quiet (codes "chip not erased because of -n" ∷ [])
 left_out_says quiet (TheWrite mem image) = bytes_say quiet mem (byte_count image) (done_text NotWritten)
 
--- ---- the phases of a session
+-- ---- the actions of a session
 
 -- What a session does at one action, and its output.
-abbrev pub phase : Part → Switches → Action → Dialog Saying Standing
-phase part s OpenSession = reported (opening part.signature s.force) (opening_says s.quiet part)
-phase part s EraseChip = reported erasing (erased_says s.quiet part)
-phase part s (WriteImage mem image) = reported (writing part mem image) (written_says s.quiet part mem image)
-phase part s (CompareImage mem image) = reported (verifying part mem image) (verified_says s.quiet part mem image)
-phase part s (SaveMemory mem format file) = reported (reading part mem) (fault_or part (read_says s mem format file))
-phase part s (LeaveOut what) = says (left_out_says s.quiet what) (Done Fine)
+abbrev pub action_dialog : Part → Switches → Action → Dialog OutputEvent Standing
+action_dialog part s OpenSession = reported (opening part.signature s.force) (opening_says s.quiet part)
+action_dialog part s EraseChip = reported erasing (erased_says s.quiet part)
+action_dialog part s (WriteImage mem image) = reported (writing part mem image) (written_says s.quiet part mem image)
+action_dialog part s (CompareImage mem image) = reported (verifying part mem image)
+    (verified_says s.quiet part mem image)
+action_dialog part s (SaveMemory mem format file) = reported (reading part mem)
+    (fault_or part (read_says s mem format file))
+action_dialog part s (LeaveOut what) = says (left_out_says s.quiet what) (Done Fine)
 
-abbrev pub phases : Part → Switches → List Action → Dialog Saying Standing
-phases part s [] = Done Fine
-phases part s (action ∷ actions) = phase part s action >>= unless_fault (phases part s actions)
+abbrev pub actions_dialog : Part → Switches → List Action → Dialog OutputEvent Standing
+actions_dialog part s [] = Done Fine
+actions_dialog part s (action ∷ actions) = action_dialog part s action >>= unless_fault (actions_dialog part s actions)
 
 -- The end of a session: programming mode is left, also after a fault, unless the link has ended. A second fault is
 -- not reported.
-abbrev pub ending : Part → Switches → Standing → Dialog Saying Standing
+abbrev pub ending : Part → Switches → Standing → Dialog OutputEvent Standing
 ending part s Fine = reported closing (closed_says s.quiet part)
 ending part s Faulty = reported closing (λ _. []) >>= λ closed. Done Over
 ending part s Over = Done Over
 
-abbrev pub playing : Plan → Dialog Saying Standing
-playing plan = phases plan.part plan.switches (actions plan) >>= ending plan.part plan.switches
+abbrev pub playing : Plan → Dialog OutputEvent Standing
+playing plan = actions_dialog plan.part plan.switches (actions plan) >>= ending plan.part plan.switches
 
 -- The status of a run: 0 if there was no fault, otherwise 1.
 abbrev pub status_of : Standing → ℕ
 status_of Fine = 0
 status_of _ = 1
 
-unfoldable pub session : Plan → Dialog Saying ℕ
+unfoldable pub session : Plan → Dialog OutputEvent ℕ
 session plan = playing plan >>= λ standing. Done (status_of standing)

@@ -4,8 +4,8 @@ use Rattle.ghosts.specs.Failures.{HasStood}
 use Rattle.avr_desk.specs.Record.{Record, DeskState, showing, Bytes}
 use Rattle.stk_host.specs.Transcript.{Transcript, LinkState}
 use Rattle.stk_host.specs.Dialog.{Dialog}
-use Rattle.stk_host.specs.Play.{Position}
-use Rattle.avr_desk.specs.Said.{Saying}
+use Rattle.stk_host.specs.Play.{Progress}
+use Rattle.avr_desk.specs.Said.{OutputEvent}
 use Rattle.avr_session.specs.Runs.{Devices, OfMemory, cause_line, start, Ran}
 
 abbrev pub keeping : Record → ℕ × ℕ → DeskState
@@ -24,5 +24,5 @@ abbrev pub LacksMemory : Bytes → Type 0
 LacksMemory messages = (before : Bytes) × (messages ≡ before ++ cause_line OfMemory)
 
 -- A run that ran whole to this status.
-abbrev pub IsPlayed : Dialog Saying ℕ → Devices → Devices → ℕ → Type 0
-IsPlayed dialog old new status = (after : Position) × Ran dialog start old new status after
+abbrev pub IsPlayed : Dialog OutputEvent ℕ → Devices → Devices → ℕ → Type 0
+IsPlayed dialog old new status = (after : Progress) × Ran dialog start old new status after

@@ -1,24 +1,24 @@
 -- When allocation can fail in a session: at an action that allocates, before anything of it has happened.
 use Rattle.std.specs.Prelude.{ℕ, Bool, true, List, [], ◌∷◌, ◌++◌, ◌≡◌, Some}
 use Rattle.avr_cli.specs.declared.settings.Switches.{Switches}
-use Rattle.avr_desk.specs.Said.{Saying}
+use Rattle.avr_desk.specs.Said.{OutputEvent}
 use Rattle.avr_part.specs.Part.{Part}
 use Rattle.stk_host.specs.Dialog.{Event}
-use Rattle.stk_host.specs.Play.{Position, played_over}
+use Rattle.stk_host.specs.Play.{Progress, played_over}
 use Rattle.stk_host.specs.Transcript.{Transcript}
 use Rattle.stk_host.specs.Tape.{Tape}
 use Rattle.avr_session.specs.Standing.{Fine}
 use Rattle.avr_session.specs.Actions.{Action, action_takes_memory}
-use Rattle.avr_session.specs.Session.{phases}
+use Rattle.avr_session.specs.Session.{actions_dialog}
 
 -- At the start, if the dialog allocates.
-abbrev pub AtOnce : Bool → Position → Transcript → List (Event Saying) → Type 0
+abbrev pub AtOnce : Bool → Progress → Transcript → List (Event OutputEvent) → Type 0
 AtOnce takes before during shown = (takes ≡ true) × (shown ≡ [])
 
 -- An action that allocates is next, and what happened so far is the whole run of the actions before it.
-pub record AtTaking (part : Part) (switches : Switches) (actions : List Action) (before : Position)
+pub record AtTaking (part : Part) (switches : Switches) (actions : List Action) (before : Progress)
     (during : Transcript)
-    (shown : List (Event Saying)) : Type 0 where
+    (shown : List (Event OutputEvent)) : Type 0 where
   pub done : List Action
   pub due : Action
   pub more : List Action
@@ -26,5 +26,5 @@ pub record AtTaking (part : Part) (switches : Switches) (actions : List Action) 
   pub takes : action_takes_memory due ≡ true
   pub next : ℕ
   pub left : Tape
-  pub is_played : played_over (phases part switches done) before during
+  pub is_played : played_over (actions_dialog part switches done) before during
       ≡ record { events = shown; outcome = Some (Fine, next, left) }

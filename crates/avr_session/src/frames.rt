@@ -7,7 +7,7 @@ ghost use Rattle.stk_host.specs.Bound.{commands_in};
 ghost use Rattle.stk_host.specs.ReadSteps.{read_steps};
 ghost use Rattle.stk_host.specs.WriteSteps.{page_steps, run_steps_at, write_steps};
 
-use crate::phases::is_erase_due;
+use crate::performing::is_erase_due;
 use avr_cli::Switches;
 use avr_image::Image;
 use avr_part::{Mem, Part};

@@ -6,7 +6,7 @@ ghost use Rattle.avr_session.specs.Actions.{actions, takes_memory};
 ghost use Rattle.avr_session.specs.Concluding.{stands};
 ghost use Rattle.avr_session.specs.Held.{Keeps, SessionDoes, TellsLast, shown};
 ghost use Rattle.avr_session.specs.Outcomes.{ComesTo};
-ghost use Rattle.avr_session.specs.Phases.{Performs, PerformsBehind};
+ghost use Rattle.avr_session.specs.Performing.{Performs, PerformsBehind};
 ghost use Rattle.avr_session.specs.Runs.{devices, start, untold};
 ghost use Rattle.avr_session.specs.Session.{ending, playing};
 ghost use Rattle.ghosts.specs.Stays.{Stays};
@@ -15,7 +15,7 @@ ghost use Rattle.avr_session.specs.Taking.{AtOnce, AtTaking};
 
 use crate::ending::{End, conclude};
 use crate::outcome::{Outcome, outcome_of};
-use crate::phases::Session;
+use crate::performing::Session;
 use crate::reports::report_closing;
 use avr_cli::Settings;
 use avr_desk::Desk;

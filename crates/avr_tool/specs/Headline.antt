@@ -2,7 +2,7 @@
 -- this page, which says what a run does, from settings to status. It also says what a run leaves in a chip behind a
 -- link that loses, delays and spoils bytes but forges no frame. Read it from top to bottom: each term is defined
 -- here, or one step below in the file that its `use` names. Sections 1 to 3 say what a run is, that a call does it,
--- and how it stops; `ActsAtPort` states this of `stdio:`. What the session of a plan leaves (4) is avr_course's
+-- and how it stops; `ActsAtPort` states this of `stdio:`. What the session of a plan leaves (4) is avr_expected's
 -- specs/AnyLine, and 5 is the same from settings on. A run over a chip file (6), which `ActsAtPort` states of `emu:`,
 -- is avr_emulator's specs/Emulated. For `net:` and for a server it uses specs/OverNet and specs/ServedNet. From bytes
 -- to bytes (7) is specs/InMemory.
@@ -21,7 +21,7 @@ use Rattle.avr_cli.specs.declared.settings.Settings.{Settings}
 use Rattle.avr_desk.specs.Fault.{Follows}
 use Rattle.avr_desk.specs.Record.{DeskState, Passes}
 use Rattle.avr_desk.specs.declared.record.Opening.{Opening}
-use Rattle.avr_desk.specs.Said.{Saying, Line, SaidPart, after_all}
+use Rattle.avr_desk.specs.Said.{OutputEvent, Line, SaidPart, after_all}
 use Rattle.avr_plan.specs.Plan.{Plan}
 use Rattle.avr_plan.specs.Planning.{LacksPart, planned}
 use Rattle.avr_plan.specs.Taking.{AtUpdate}
@@ -32,12 +32,12 @@ use Rattle.avr_desk.specs.Stage.{StageAnswer, Made, Refused, Unread}
 use Rattle.avr_session.specs.Run.{StopsSession}
 use Rattle.avr_session.specs.Runs.{Devices, devices, start, NoneFailed}
 use Rattle.avr_session.specs.Session.{session}
-use Rattle.avr_course.specs.AnyLine.{Stopped, OverAnyLine}
+use Rattle.avr_laws.specs.AnyLine.{Stopped, OverAnyLine}
 use Rattle.stk_emu.specs.Lawful.{none_late}
 use Rattle.stk_emu.specs.Programmer.{fresh_programmer}
 use Rattle.stk_emu.specs.Wire.{AreLawful}
-use Rattle.stk_emu.specs.Wired.{WiredState, wired_view}
-use Rattle.stk_host.specs.Dialog.{Event, Said, Played, played, behind, bytes_sent, sayings}
+use Rattle.stk_emu.specs.Wired.{WiredState, wired_link}
+use Rattle.stk_host.specs.Dialog.{Event, Said, Played, played, behind, bytes_sent, outputs}
 use Rattle.stk_host.specs.Play.{InTurn, IsPrefixOfEvents}
 use Rattle.stk_host.specs.Transcript.{Transcript, sent, heard, Grows}
 use Rattle.stk_host.specs.Tape.{Tape, on_tape}
@@ -45,16 +45,16 @@ use Rattle.stk_host.specs.Tape.{Tape, on_tape}
 -- ---- 1. The run, as one function of the settings, of what opening files gives, and of what the link gives
 
 -- A plan is run. A refusal is reported, with status 1. A file that was not read to its end can't be judged.
-abbrev pub after_answer : StageAnswer Plan → Tape → Played Saying ℕ
+abbrev pub after_answer : StageAnswer Plan → Tape → Played OutputEvent ℕ
 after_answer (Made plan) tape = played (session plan) 1 tape
 after_answer (Refused line) tape = record { events = Said (Line line) ∷ []; outcome = Some (1, 1, tape) }
 after_answer Unread tape = record { events = []; outcome = None }
 
-abbrev pub after_planning : stage.StageResult Plan → Tape → Played Saying ℕ
+abbrev pub after_planning : stage.StageResult Plan → Tape → Played OutputEvent ℕ
 after_planning p tape = behind (map Said p.says) (after_answer p.answer tape)
 
 -- THE RUN: all that is sent and output, and the status
-abbrev pub run : Settings → List Opening → Tape → Played Saying ℕ
+abbrev pub run : Settings → List Opening → Tape → Played OutputEvent ℕ
 run settings openings tape = after_planning (planned settings openings) tape
 
 -- ---- 2. What a call does is the run
@@ -72,7 +72,7 @@ IsInTurn Unread transcript = heard transcript ≡ []
 pub record IsRun (settings : Settings) (before now : Devices) (status : ℕ) : Type 0 where
   pub openings : List Opening
   pub during : Transcript
-  pub events : List (Event Saying)
+  pub events : List (Event OutputEvent)
   pub next : ℕ
   pub left : List ℕ
   pub is : (later : List Opening) (more : Tape) → run settings (openings ++ later) (heard during ++ more)
@@ -80,7 +80,7 @@ pub record IsRun (settings : Settings) (before now : Devices) (status : ℕ) : T
   pub in_turn : (later : List Opening) → IsInTurn (planned settings (openings ++ later)).answer during
   pub all_sent : bytes_sent events ≡ sent during
   pub grows : Grows before.link.transcript during now.link.transcript
-  pub kept : Passes (after_all (sayings events)) before.desk now.desk
+  pub kept : Passes (after_all (outputs events)) before.desk now.desk
   pub few : length left ≤ 281
   pub sound : NoneFailed before now
 
@@ -113,14 +113,14 @@ IsStopped settings before now status =
 pub record IsPrefixOfRun (settings : Settings) (before now : Devices) : Type 0 where
   pub openings : List Opening
   pub during : Transcript
-  pub shown : List (Event Saying)
+  pub shown : List (Event OutputEvent)
   pub prefix : (later : List Opening) → IsPrefixOfEvents SaidPart shown
       (run settings (openings ++ later) (heard during)).events
   pub in_turn : (later : List Opening) → IsInTurn (planned settings (openings ++ later)).answer during
   pub all_sent : bytes_sent shown ≡ sent during
   pub grows : Grows before.link.transcript during now.link.transcript
 
--- ---- 4. Over any link to the emulated programmer, as long as it forges no frame: avr_course's specs/AnyLine
+-- ---- 4. Over any link to the emulated programmer, as long as it forges no frame: avr_expected's specs/AnyLine
 --
 -- `OverTurns`: however the session of a plan ends, the plan's first writes were made, few frames were sent, and what
 -- was reported was true then. It is what the expected run reports, up to a step that failed. `ComesOverTurns`: if the
@@ -141,7 +141,7 @@ pub record IsNew (w : WiredState) : Type 0 where
   pub lawful : AreLawful w.wire.fates
 
 abbrev pub wire_and_desk : WiredState → DeskState → Devices
-wire_and_desk w desk = devices (wired_view w) desk
+wire_and_desk w desk = devices (wired_link w) desk
 
 -- A plan was made from these openings, and its session was run, or stopped. If the chip is of the plan's part, `line`
 -- states what happened to it. A failure of the desk that stopped it is one since before the run.

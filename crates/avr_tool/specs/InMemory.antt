@@ -5,10 +5,10 @@ use Rattle.std.specs.Prelude.{◌≡◌, ℕ, List, [], ◌++◌, replicate, Opt
 use Rattle.avr_cli.specs.declared.settings.Settings.{Settings}
 use Rattle.avr_desk.specs.Memory.{MemDeskState, Stock}
 use Rattle.avr_desk.specs.Record.{Bytes, Record, all_files, nothing_kept}
-use Rattle.avr_desk.specs.Said.{Saying, after_all}
+use Rattle.avr_desk.specs.Said.{OutputEvent, after_all}
 use Rattle.avr_desk.specs.declared.record.Writing.{Writing}
 use Rattle.avr_plan.specs.FilesRead.{files_give, files_read}
-use Rattle.stk_host.specs.Dialog.{Event, Played, bytes_sent, sayings}
+use Rattle.stk_host.specs.Dialog.{Event, Played, bytes_sent, outputs}
 use Rattle.stk_host.specs.Links.{StreamState}
 use Rattle.stk_host.specs.Transcript.{LinkState, Transcript, sent}
 use Rattle.stk_host.specs.Tape.{Tape, bytes_of}
@@ -25,12 +25,12 @@ pub record RunOutcome : Type 0 where
   pub files : List Writing
 
 -- THE RUN over some files and a tape: each file that the settings name is read whole, as it was before.
-abbrev pub run_of : Settings → Stock → Tape → Played Saying ℕ
+abbrev pub run_of : Settings → Stock → Tape → Played OutputEvent ℕ
 run_of settings stock tape = run settings (files_give stock (files_read settings)) tape
 
-abbrev pub left_by : List (Event Saying) → ℕ → RunOutcome
+abbrev pub left_by : List (Event OutputEvent) → ℕ → RunOutcome
 left_by events status =
-    let made = after_all (sayings events) nothing_kept in
+    let made = after_all (outputs events) nothing_kept in
     record {
       status = status;
       sent = bytes_sent events;
@@ -39,12 +39,12 @@ left_by events status =
       files = all_files made;
     }
 
-abbrev pub left_at : List (Event Saying) → Option (ℕ × ℕ × Tape) → Option RunOutcome
+abbrev pub left_at : List (Event OutputEvent) → Option (ℕ × ℕ × Tape) → Option RunOutcome
 left_at events None = None
 left_at events (Some end) = Some (left_by events end.0)
 
 -- What a run leaves, if it ends.
-abbrev pub run_outcome : Played Saying ℕ → Option RunOutcome
+abbrev pub run_outcome : Played OutputEvent ℕ → Option RunOutcome
 run_outcome p = left_at p.events p.outcome
 
 -- The run of these files over this tape leaves this outcome, whatever follows on the tape.

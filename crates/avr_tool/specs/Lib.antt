@@ -1,12 +1,12 @@
 -- what callers of the front door cite
 pub use Rattle.avr_emulator.specs.Saving
-pub use Rattle.avr_course.specs.Again
-pub use Rattle.avr_course.specs.AnyLine
+pub use Rattle.avr_laws.specs.Again
+pub use Rattle.avr_laws.specs.AnyLine
 pub use Rattle.avr_session.specs.PlanSteps
-pub use Rattle.avr_course.specs.Course
-pub use Rattle.avr_course.specs.Items
-pub use Rattle.avr_course.specs.Outcome
-pub use Rattle.avr_course.specs.Written
+pub use Rattle.avr_laws.specs.ExpectedRun
+pub use Rattle.avr_laws.specs.Items
+pub use Rattle.avr_laws.specs.Outcome
+pub use Rattle.avr_laws.specs.Written
 pub use Rattle.avr_desk.specs.Fault
 pub use Rattle.avr_desk.specs.Memory
 pub use Rattle.avr_desk.specs.Named
@@ -42,9 +42,9 @@ pub use Rattle.stk_host.specs.Links
 pub use Rattle.stk_host.specs.Play
 pub use Rattle.stk_host.specs.Transcript
 pub use Rattle.stk_host.specs.Tape
-pub use Rattle.avr_course.specs.AnyTape
-pub use Rattle.avr_course.specs.Few
-pub use Rattle.avr_course.specs.NoFrame
+pub use Rattle.avr_laws.specs.AnyTape
+pub use Rattle.avr_laws.specs.Few
+pub use Rattle.avr_laws.specs.NoFrame
 -- its own
 pub mod Lines
 pub mod Sockets

@@ -5,7 +5,7 @@ use Rattle.std.specs.declared.io.Write.{Ghosts as Writes}
 use Rattle.avr_desk.specs.Record.{Bytes}
 use Rattle.avr_tool.specs.declared.network.Callers.{Ghosts as Called}
 use Rattle.avr_tool.specs.declared.network.Network.{Ghosts as Networks}
-use Rattle.stk_host.specs.Links.{IsTrueSince, StreamState, stream_view}
+use Rattle.stk_host.specs.Links.{IsTrueSince, StreamState, stream_state}
 use Rattle.stk_host.specs.Transcript.{LinkState}
 
 -- A link over two sides of this socket, over which nothing has passed.
@@ -22,7 +22,7 @@ pub record IsOver {S : Type 0} (reads : Reads S) (writes : Writes S) (IsSide : S
   pub before : StreamState S S
   pub after : StreamState S S
   pub new : IsNewLink IsSide before
-  pub shows : stream_view after ≡ now
+  pub shows : stream_state after ≡ now
   pub truly : IsTrueSince reads.remaining writes.contents before after
 
 -- What happened to a socket: a link over it has this state, or there was none.

@@ -5,7 +5,7 @@ use Rattle.avr_cli.specs.declared.settings.Settings.{Settings}
 use Rattle.avr_cli.specs.declared.settings.Port.TheVariants.{Stdio}
 use Rattle.avr_desk.specs.Lines.{information, not_opened_line, spaced_digits}
 use Rattle.avr_desk.specs.Memory.{Stock}
-use Rattle.avr_desk.specs.Said.{Saying}
+use Rattle.avr_desk.specs.Said.{OutputEvent}
 use Rattle.avr_part.specs.BuiltIn.{m328p}
 use Rattle.avr_part.specs.declared.part.Mem.TheVariants.{Lfuse}
 use Rattle.avr_plan.specs.Plan.{Plan}
@@ -55,7 +55,7 @@ frames_due =
     ∷ 0x1B ∷ 0x06 ∷ 0x00 ∷ 0x03 ∷ 0x0E ∷ 0x11 ∷ 0x01 ∷ 0x01 ∷ 0x01 ∷ []
 
 -- The lines: the signature, and the end.
-abbrev pub lines_due : List Saying
+abbrev pub lines_due : List OutputEvent
 lines_due =
     informs 0 (codes "device signature = " ∷ spaced_digits (0x1E ∷ 0x95 ∷ 0x0F ∷ []) ∷ [])
     ++ informs 0 (codes "done" ∷ [])

@@ -2,19 +2,19 @@
 
 ghost use Rattle.std.specs.Prelude.{◌≡◌, ◌<◌, ◌*◌, ◌⊎◌, ℕ, Bool, true, false, List, [], All, Some, map};
 ghost use Rattle.avr_cli.specs.declared.settings.Settings.{Settings as AnySettings};
-ghost use Rattle.avr_desk.specs.Memory.{MemDeskState, Stock, memory_view};
+ghost use Rattle.avr_desk.specs.Memory.{MemDeskState, Stock, memory_state};
 ghost use Rattle.avr_desk.specs.Named.{is_dash};
 ghost use Rattle.avr_desk.specs.Truth.{HoldsTrue};
 ghost use Rattle.avr_desk.specs.Record.{DeskState, Passes, Record, Bytes};
-ghost use Rattle.avr_course.specs.Again.{AgreesAnyway, AreKeeping};
-ghost use Rattle.avr_course.specs.AnyLine.{Stopped, OverAnyLine, OverTurns, WholeOverTurns, Weight, weighed, bodies_in, memories, events_over, frames_over};
+ghost use Rattle.avr_laws.specs.Again.{AgreesAnyway, AreKeeping};
+ghost use Rattle.avr_laws.specs.AnyLine.{Stopped, OverAnyLine, OverTurns, WholeOverTurns, Weight, weighed, bodies_in, memories, events_over, frames_over};
 ghost use Rattle.avr_session.specs.PlanSteps.{run_steps};
-ghost use Rattle.avr_course.specs.Course.{course};
+ghost use Rattle.avr_laws.specs.ExpectedRun.{expected_run};
 ghost use Rattle.avr_emulator.specs.Emulated.{RunsOverEmulator, new_wire};
-ghost use Rattle.avr_course.specs.Items.{items, asked_items, has_erase};
-ghost use Rattle.avr_course.specs.Outcome.{IsCourse, IsDone};
-ghost use Rattle.avr_course.specs.Written.{IsWritten};
-ghost use Rattle.avr_desk.specs.Said.{Saying, after_all};
+ghost use Rattle.avr_laws.specs.Items.{items, asked_items, has_erase};
+ghost use Rattle.avr_laws.specs.Outcome.{IsExpectedRun, IsDone};
+ghost use Rattle.avr_laws.specs.Written.{IsWritten};
+ghost use Rattle.avr_desk.specs.Said.{OutputEvent, after_all};
 ghost use Rattle.avr_part.specs.Part.{IsPart};
 ghost use Rattle.avr_part.specs.Sound.{IsSoundChip};
 ghost use Rattle.avr_part.specs.State.{ChipState as Chip};
@@ -31,16 +31,16 @@ ghost use Rattle.avr_tool.specs.Worked.{absent_outcome, absent_settings, frames_
 ghost use Rattle.stk_emu.specs.Device.{device};
 ghost use Rattle.avr_part.specs.ChipFile.{chip_file};
 ghost use Rattle.stk_emu.specs.Effect.{memories_of, erase_keeps_eeprom, effects};
-ghost use Rattle.avr_course.specs.Few.{AreFew};
+ghost use Rattle.avr_laws.specs.Few.{AreFew};
 ghost use Rattle.stk_emu.specs.Programmer.{Programmer, fresh_programmer};
 ghost use Rattle.stk_emu.specs.Settled.{FitsPart};
 ghost use Rattle.stk_emu.specs.Wire.{turns_of};
 ghost use Rattle.stk_emu.specs.Wired.{WiredState};
 ghost use Rattle.stk_frame.specs.Cut.{body_of, frames};
 ghost use Rattle.stk_emu.specs.Turn.{Turn};
-ghost use Rattle.avr_course.specs.AnyTape.{CameThrough, became_by};
-ghost use Rattle.avr_course.specs.NoFrame.{MakesNoFrame};
-ghost use Rattle.stk_host.specs.Dialog.{Event, played, bytes_sent, sayings};
+ghost use Rattle.avr_laws.specs.AnyTape.{CameThrough, became_by};
+ghost use Rattle.avr_laws.specs.NoFrame.{MakesNoFrame};
+ghost use Rattle.stk_host.specs.Dialog.{Event, played, bytes_sent, outputs};
 ghost use Rattle.stk_host.specs.Transcript.{Transcript, heard, sent};
 ghost use Rattle.stk_host.specs.Tape.{Tape};
 
@@ -65,8 +65,8 @@ pub fn a_stop_is_a_prefix()
 pub fn a_wrong_outcome_is_refused()
     ensures memories { (plan : Plan) (w v : WiredState) (d e : DeskState)
         → (memories v ≡ effects plan.part (items plan) (memories w) → ⊥) → OverAnyLine plan w v d e 0 → ⊥ }
-    ensures sayings { (plan : Plan) (w v : WiredState) (d e : DeskState)
-        → (Passes (after_all (course plan (memories w)).says) d e → ⊥)
+    ensures outputs { (plan : Plan) (w v : WiredState) (d e : DeskState)
+        → (Passes (after_all (expected_run plan (memories w)).says) d e → ⊥)
         → OverAnyLine plan w v d e 0 → ⊥ }
     ensures silence { (plan : Plan) (w v : WiredState) (d e : DeskState) (status : ℕ)
         → frames_over v ≡ [] → (memories v ≡ memories w → ⊥) → OverAnyLine plan w v d e status → ⊥ }
@@ -80,13 +80,13 @@ pub fn a_wrong_outcome_is_refused()
 ///
 /// If such a plan erases and verifies, and its comparisons agree on a chip of 00 and on one of FF, its status is 0.
 /// The chip then holds its images, whatever it held before.
-pub fn a_sound_run_is_its_course()
-    ensures course { (plan : Plan) (w v : WiredState) (d e : Record) (a b : ℕ × ℕ) (status : ℕ)
+pub fn a_sound_run_is_its_expected_run()
+    ensures expected_run { (plan : Plan) (w v : WiredState) (d e : Record) (a b : ℕ × ℕ) (status : ℕ)
         → AreFew (turns_of w.wire.fates) → IsSound (wire_and_desk w (keeping d a)) (wire_and_desk v (keeping e b))
         → (LacksMemory e.messages → ⊥)
         → OverAnyLine plan w v (keeping d a) (keeping e b) status
-        → IsCourse plan (memories w) (memories v) (sayings (events_over plan v)) status
-        × Passes (after_all (sayings (events_over plan v))) (keeping d a) (keeping e b) }
+        → IsExpectedRun plan (memories w) (memories v) (outputs (events_over plan v)) status
+        × Passes (after_all (outputs (events_over plan v))) (keeping d a) (keeping e b) }
     ensures images { (plan : Plan) (w v : WiredState) (d e : Record) (a b : ℕ × ℕ) (status : ℕ)
         → AreFew (turns_of w.wire.fates) → IsSound (wire_and_desk w (keeping d a)) (wire_and_desk v (keeping e b))
         → (LacksMemory e.messages → ⊥)
@@ -111,7 +111,7 @@ pub fn a_further_run_heals()
         → memories x ≡ memories v → AreFew (turns_of x.wire.fates) → OverAnyLine plan x y f g further
         → ((further ≡ 0) × IsDone plan (memories w) (memories y)) ⊎ Stopped plan x y f g }
     ensures link { (plan : Plan) (p q x y : Programmer) (turns more : List Turn) (bytes others : List ℕ)
-        (first events : List (Event Saying)) (further : ℕ)
+        (first events : List (Event OutputEvent)) (further : ℕ)
         → IsPart plan.part → All (IsFitted plan.part) plan.tasks → FitsPart plan.part (memories_of p.chip)
         → has_erase (items plan) ≡ true → AgreesAnyway plan
         → (erase_keeps_eeprom plan.part (memories_of p.chip) ≡ true → AreKeeping plan.part (items plan))
@@ -125,11 +125,11 @@ pub fn a_further_run_heals()
 /// leaves its chip there. A file named `-` is read from standard input, so no chip is left in it.
 pub fn a_run_finds_and_leaves_the_chip_of_its_file()
     ensures finds { (settings : AnySettings) (file : Bytes) (stock : Stock) (old new : MemDeskState) (status : ℕ)
-        → HoldsTrue stock new → (r : RunsOverEmulator settings file (memory_view old) (memory_view new) status)
+        → HoldsTrue stock new → (r : RunsOverEmulator settings file (memory_state old) (memory_state new) status)
         → IsChipOf r.plan.part (file_held stock old.kept file) r.chip }
     ensures leaves { (settings : AnySettings) (file : Bytes) (stock : Stock) (old new : MemDeskState) (status : ℕ)
         → is_dash file ≡ false → status ≡ 0
-        → (r : RunsOverEmulator settings file (memory_view old) (memory_view new) status)
+        → (r : RunsOverEmulator settings file (memory_state old) (memory_state new) status)
         → file_held stock new.kept file ≡ Some (chip_file r.after.wire.programmer.chip) }
 {}
 
@@ -142,8 +142,8 @@ pub fn a_run_finds_and_leaves_the_chip_of_its_file()
 pub fn a_further_run_over_its_chip_file_heals()
     ensures { (settings : AnySettings) (file : Bytes) (stock : Stock) (old mid new : MemDeskState) (status further : ℕ)
         → is_dash file ≡ false → HoldsTrue stock old → Stays HoldsTrue old mid → Stays HoldsTrue mid new
-        → (one : RunsOverEmulator settings file (memory_view old) (memory_view mid) status)
-        → (two : RunsOverEmulator settings file (memory_view mid) (memory_view new) further)
+        → (one : RunsOverEmulator settings file (memory_state old) (memory_state mid) status)
+        → (two : RunsOverEmulator settings file (memory_state mid) (memory_state new) further)
         → two.plan ≡ one.plan
         → file_held stock one.played_desk.kept file ≡ file_held stock old.kept file
         → has_erase (items one.plan) ≡ true → AgreesAnyway one.plan
@@ -181,7 +181,7 @@ pub fn a_run_in_memory_has_one_outcome()
 /// frames gives this tape.
 pub fn a_made_frame_voids_the_promise()
     ensures ends { (played (session fuse_plan) 1 made_answers).outcome ≡ Some (0, 8, []) }
-    ensures void { (p q : Programmer) (turns : List Turn) (bytes : List ℕ) (events : List (Event Saying))
+    ensures void { (p q : Programmer) (turns : List Turn) (bytes : List ℕ) (events : List (Event OutputEvent))
         → (p.chip.lfuse ≡ 0xE2 → ⊥) → WholeOverTurns fuse_plan p q turns bytes events 0 → ⊥ }
     ensures made { (s : Chip) (got : List ℕ) (through : List Bool)
         → IsSoundChip s → s.part ≡ fuse_plan.part → (s.lfuse ≡ 0xE2 → ⊥)

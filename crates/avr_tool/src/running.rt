@@ -2,12 +2,12 @@
 //! a faulty wire.
 ghost use Rattle.std.specs.Prelude.{◌⊎◌};
 ghost use Rattle.avr_desk.specs.Fault.{Follows};
-ghost use Rattle.avr_desk.specs.Memory.{memory_view, stock_of};
+ghost use Rattle.avr_desk.specs.Memory.{memory_state, stock_of};
 ghost use Rattle.avr_desk.specs.Truth.{HoldsTrue};
 ghost use Rattle.avr_session.specs.Runs.{devices};
 ghost use Rattle.avr_tool.specs.Headline.{IsNew, IsRun, IsStopped, RunsWired};
 ghost use Rattle.avr_tool.specs.InMemory.{AreUnused, Leaves, LeavesStreams, shown_by};
-ghost use Rattle.stk_host.specs.Links.{IsOfTape, IsTrueSince, stream_view, tape_view};
+ghost use Rattle.stk_host.specs.Links.{IsOfTape, IsTrueSince, stream_state, tape_state};
 ghost use Rattle.ghosts.specs.Stays.{Stays};
 
 use avr_cli::Settings;
@@ -61,10 +61,10 @@ pub fn run_streams<D: Desk, R: Read + Drop, W: Write + Drop>(
     desk: &mut D,
     link: &mut StreamLink<R, W>,
 ) -> u8
-    ensures runs { IsRun settings.now (devices (stream_view link.old) (D.view desk.old))
-        (devices (stream_view link.new) (D.view desk.new)) result
-        ⊎ IsStopped settings.now (devices (stream_view link.old) (D.view desk.old))
-        (devices (stream_view link.new) (D.view desk.new)) result }
+    ensures runs { IsRun settings.now (devices (stream_state link.old) (D.view desk.old))
+        (devices (stream_state link.new) (D.view desk.new)) result
+        ⊎ IsStopped settings.now (devices (stream_state link.old) (D.view desk.old))
+        (devices (stream_state link.new) (D.view desk.new)) result }
     ensures follows { Follows (D.view desk.old) (D.view desk.new) }
     ensures tells { IsTrueSince R.remaining W.contents link.old link.new }
     ensures stays { Stays D.comes_of desk.old desk.new }
@@ -93,11 +93,11 @@ pub fn run_in_memory(
     desk: &mut MemDesk,
     tape: &mut TapeLink,
 ) -> u8
-    requires unused { AreUnused desk.old (tape_view tape.old) }
+    requires unused { AreUnused desk.old (tape_state tape.old) }
     ensures leaves { Leaves settings.now (stock_of desk.old) tape.old.left
         (shown_by result desk.new.kept tape.new.transcript)
-        ⊎ IsStopped settings.now (devices (tape_view tape.old) (memory_view desk.old))
-        (devices (tape_view tape.new) (memory_view desk.new)) result }
+        ⊎ IsStopped settings.now (devices (tape_state tape.old) (memory_state desk.old))
+        (devices (tape_state tape.new) (memory_state desk.new)) result }
     ensures comes { Stays IsOfTape tape.old tape.new }
     ensures stays { Stays HoldsTrue desk.old desk.new }
 {
@@ -121,11 +121,11 @@ pub fn run_streams_in_memory<R: Read + Drop, W: Write + Drop>(
     desk: &mut MemDesk,
     streams: &mut StreamLink<R, W>,
 ) -> u8
-    requires unused { AreUnused desk.old (stream_view streams.old) }
+    requires unused { AreUnused desk.old (stream_state streams.old) }
     ensures leaves { LeavesStreams R.remaining W.contents settings.now (stock_of desk.old) streams.old streams.new
         (shown_by result desk.new.kept streams.new.transcript)
-        ⊎ IsStopped settings.now (devices (stream_view streams.old) (memory_view desk.old))
-        (devices (stream_view streams.new) (memory_view desk.new)) result }
+        ⊎ IsStopped settings.now (devices (stream_state streams.old) (memory_state desk.old))
+        (devices (stream_state streams.new) (memory_state desk.new)) result }
     ensures tells { IsTrueSince R.remaining W.contents streams.old streams.new }
     ensures stays { Stays HoldsTrue desk.old desk.new }
 {

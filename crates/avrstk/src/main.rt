@@ -2,7 +2,7 @@
 #![tactic(auto)]
 
 ghost use Rattle.std.specs.Prelude.{◌≡◌};
-ghost use Rattle.avr_tool.specs.Links.{stream_view};
+ghost use Rattle.avr_tool.specs.Links.{stream_state};
 ghost use Rattle.avr_tool.specs.Program.{StartsProgram};
 ghost use Rattle.avr_tool.specs.Sockets.{peers_of};
 
@@ -49,8 +49,8 @@ fn run<E: Env + Alloc<A = Global>, N: Network + Drop, D: Desk, R: Read + Drop, W
     desk: &mut D,
     link: &mut StreamLink<R, W>,
 ) -> u8
-    ensures { StartsProgram (peers_of N.Network N.Listener.Callers N.Stream.Read N.Stream.Write) (stream_view link.old)
-        (stream_view link.new) (D.view desk.old) (D.view desk.new) result }
+    ensures { StartsProgram (peers_of N.Network N.Listener.Callers N.Stream.Read N.Stream.Write) (stream_state link.old)
+        (stream_state link.new) (D.view desk.old) (D.view desk.new) result }
 {
     match read_arguments(rt) {
         Ok(words) => run_program(network, rt.alloc(), words.as_slice(), desk, link),

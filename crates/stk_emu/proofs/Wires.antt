@@ -3,4 +3,4 @@ pub mod Ports
 pub mod NoiseCuts
 pub mod Waiting
 pub mod Kept
-pub mod Segments
+pub mod Arrivals

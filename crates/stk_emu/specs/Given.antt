@@ -13,7 +13,7 @@ use Rattle.stk_host.specs.Steps.{Reply, Data, Again, Stop, reading_reply}
 use Rattle.stk_emu.specs.Device.{Device}
 use Rattle.avr_image.specs.Image.{byte_at}
 use Rattle.stk_emu.specs.Effect.{Memories, Image}
-use Rattle.stk_emu.specs.Strokes.{struck}
+use Rattle.stk_emu.specs.PageWrites.{changed}
 
 -- The byte that an instruction reads without an address.
 abbrev pub read_by : Part → Instruction → Memories → List ℕ
@@ -42,7 +42,7 @@ given_by part commands m = []
 
 abbrev pub all_given : Part → List (List Command) → Memories → List ℕ
 all_given part [] m = []
-all_given part (commands ∷ steps) m = given_by part commands m ++ all_given part steps (struck part commands m)
+all_given part (commands ∷ steps) m = given_by part commands m ++ all_given part steps (changed part commands m)
 
 abbrev pub on_data : Reply → (List ℕ → Reply) → Reply
 on_data (Data bytes) go_on = go_on bytes

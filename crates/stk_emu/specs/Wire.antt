@@ -69,8 +69,8 @@ pub record Wire (P : Type 0) : Type 0 where
   pub fates : List Fate
   pub late : Late
 
-abbrev pub segment : {P : Type 0} → Device P → List ℕ → Wire P → Tape
-segment m piece w =
+abbrev pub arrival : {P : Type 0} → Device P → List ℕ → Wire P → Tape
+arrival m piece w =
     on_tape (let_go (first_fate w.fates) w.late)
     ++ back (first_fate w.fates) (answer_frame m piece w.programmer) (frame (seq_of piece) refusal)
 
@@ -81,10 +81,10 @@ wire_behind m piece w = record {
   late = late_of (first_fate w.fates) (answer_frame m piece w.programmer) w.late;
 }
 
--- The segments of whole frames, joined; below, the wire after them.
+-- The arrivals of whole frames, joined; below, the wire after them.
 abbrev pub tape_of : {P : Type 0} → Device P → List (List ℕ) → Wire P → Tape
 tape_of m [] w = []
-tape_of m (piece ∷ pieces) w = segment m piece w ++ tape_of m pieces (wire_behind m piece w)
+tape_of m (piece ∷ pieces) w = arrival m piece w ++ tape_of m pieces (wire_behind m piece w)
 
 abbrev pub wire_after : {P : Type 0} → Device P → List (List ℕ) → Wire P → Wire P
 wire_after m [] w = w

@@ -18,8 +18,8 @@ pub record WiredState : Type 0 where
   pub transcript : Transcript
   pub failures : ℕ
 
-abbrev pub wired_view : WiredState → LinkState
-wired_view wired = record { transcript = wired.transcript; failures = wired.failures }
+abbrev pub wired_link : WiredState → LinkState
+wired_link wired = record { transcript = wired.transcript; failures = wired.failures }
 
 -- What the frames of these bytes bring over a fresh wire.
 abbrev pub brought : Programmer → List Fate → List ℕ → Tape

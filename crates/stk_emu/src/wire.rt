@@ -9,13 +9,13 @@ ghost use Rattle.stk_emu.specs.Programmer.{fresh_programmer, restarted_programme
 ghost use Rattle.stk_emu.specs.Device.{device, refusal, answer_frame, after_frame};
 ghost use Rattle.stk_emu.specs.Lawful.{none_late};
 ghost use Rattle.stk_emu.specs.Waiting.{tape_in};
-ghost use Rattle.stk_emu.specs.Wire.{AreLawful, IsLawfulFate, fresh_wire, segment, wire_behind, tape_of, wire_after, is_held, let_go, late_of, turn_of, back};
+ghost use Rattle.stk_emu.specs.Wire.{AreLawful, IsLawfulFate, fresh_wire, arrival, wire_behind, tape_of, wire_after, is_held, let_go, late_of, turn_of, back};
 ghost use Rattle.stk_emu.specs.Turn.{after_turn};
 
+use crate::arrival::{Arrival, Late, put_bytes, put_silence};
 use crate::emulator::{Frame, answer, refuse};
 use crate::fate::Fate;
 use crate::programmer::Programmer;
-use crate::segment::{Late, Segment, put_bytes, put_silence};
 use avr_part::Chip;
 use std::marker::Model;
 use stk_frame::{Event, FrameReader};
@@ -53,7 +53,7 @@ fn is_held(fate: &Fate) -> bool
 }
 
 /// Puts the answers that wait into the empty `out`, unless they go on waiting.
-fn bring_late(fate: &Fate, late: &mut Late, out: &mut Segment)
+fn bring_late(fate: &Fate, late: &mut Late, out: &mut Arrival)
     requires { out.old.items ≡ [] }
     ensures items { tape_in out.new.items ≡ on_tape (let_go fate.now late.old) }
     ensures len { length out.new.items ≤ 3 * LARGEST_FRAME }
@@ -72,7 +72,7 @@ fn pass_with(
     late: &mut Late,
     reader: &FrameReader,
     good: bool,
-    out: &mut Segment,
+    out: &mut Arrival,
 )
     requires empty { out.old.items ≡ [] }
     requires lawful { IsLawfulFate fate.now }
@@ -145,11 +145,11 @@ impl Wire {
     }
 
     /// Passes the frame that the reader holds: `out` becomes what it brings.
-    fn pass(&mut self, reader: &FrameReader, good: bool, out: &mut Segment)
+    fn pass(&mut self, reader: &FrameReader, good: bool, out: &mut Arrival)
         requires empty { out.old.items ≡ [] }
         requires holds { HoldsFrame reader.now }
         requires tells { is_good reader.now ≡ good }
-        ensures items { tape_in out.new.items ≡ segment device reader.now self.old }
+        ensures items { tape_in out.new.items ≡ arrival device reader.now self.old }
         ensures wire { self.new ≡ wire_behind device reader.now self.old }
     {
         match self.fates.get(self.next) {
@@ -179,7 +179,7 @@ impl Wire {
     }
 
     /// Passes the frame that the event reports, if it reports one.
-    pub fn pass_event(&mut self, reader: &FrameReader, event: Event, out: &mut Segment)
+    pub fn pass_event(&mut self, reader: &FrameReader, event: Event, out: &mut Arrival)
         requires empty { out.old.items ≡ [] }
         requires tells { TellsEvent event reader.now }
         ensures items { tape_in out.new.items ≡ tape_of device (frames_of_event event reader.now) self.old }

@@ -1,7 +1,7 @@
 //! A wire as a link.
 
 ghost use Rattle.std.specs.Prelude.{◌≡◌, ◌+◌, ◌<◌, ◌≤◌, ◌++◌, ◌∷◌, [], ℕ, List, length, take, drop, vec_len, vec_capacity, Some, None, IfOk, OnOk, OnErr};
-ghost use Rattle.stk_emu.specs.declared.segment.TheConstants.{ROOM};
+ghost use Rattle.stk_emu.specs.declared.arrival.TheConstants.{ROOM};
 ghost use Rattle.stk_host.specs.declared.link.Item.TheVariants as item;
 ghost use Rattle.stk_host.specs.Tape.{Tape, on_tape, bytes_of};
 ghost use Rattle.stk_host.specs.Transcript as transcript;
@@ -10,10 +10,10 @@ ghost use Rattle.ghosts.specs.Stays.{Stays};
 ghost use Rattle.stk_host.specs.Transcript.{Sends, Receives, FitsBuffer, items_of};
 ghost use Rattle.stk_emu.specs.Programmer.{fresh_programmer};
 ghost use Rattle.stk_emu.specs.Wire.{fresh_wire};
-ghost use Rattle.stk_emu.specs.Wired.{Start, wired_view, ComesOf, IsFresh, PassesBytes, PassesSome, IsNext, after_hearing};
+ghost use Rattle.stk_emu.specs.Wired.{Start, wired_link, ComesOf, IsFresh, PassesBytes, PassesSome, IsNext, after_hearing};
 
+use crate::arrival::{Arrival, ROOM, take_bytes};
 use crate::fates::Fates;
-use crate::segment::{ROOM, Segment, take_bytes};
 use crate::wire::Wire;
 use avr_part::Chip;
 use std::alloc::{AllocError, Global};
@@ -44,7 +44,7 @@ pub struct Wired {
     waits: Vec<Option<u8>>,
     at: usize,
     /// What the current frame brings: a field, so that its room is made once.
-    brought: Segment,
+    brought: Arrival,
     log: Log,
     failures: u64,
 }
@@ -75,7 +75,7 @@ fn make_room(waits: &mut Vec<Option<u8>>, log: &mut Log, count: usize) -> Result
 }
 
 /// Keeps what a frame brought and what was sent, for which there is room.
-fn keep(waits: &mut Vec<Option<u8>>, log: &mut Log, brought: &Segment, sent: &[u8])
+fn keep(waits: &mut Vec<Option<u8>>, log: &mut Log, brought: &Arrival, sent: &[u8])
     requires wait_room { vec_len waits.old + ROOM ≤ vec_capacity waits.old }
     requires piece_room { 0 < log.old.piece_room }
     requires byte_room { length sent.now ≤ log.old.byte_room }
@@ -123,7 +123,7 @@ impl Wired {
             wire: Wire::new(chip, fates.into_all()),
             waits: Vec::new(alloc),
             at: 0,
-            brought: Segment::new(),
+            brought: Arrival::new(),
             log: Log::new(alloc),
             failures: 0,
         }
@@ -267,14 +267,14 @@ impl Wired {
 }
 
 impl Link for Wired {
-    ghost view = { wired_view };
+    ghost view = { wired_link };
 
     ghost Start = { Start };
 
     ghost comes_of = { ComesOf };
 
     fn send(&mut self, bytes: &[u8]) -> Result<usize, LinkFault>
-        ensures sends { Sends bytes.now (wired_view self.old) (wired_view self.new) result }
+        ensures sends { Sends bytes.now (wired_link self.old) (wired_link self.new) result }
         ensures sound { OnOk result (self.new.failures ≡ self.old.failures) }
         // In every state, what the frames bring waits behind what waited.
         ensures passes { IfOk result (λ n. PassesBytes self.old self.new (take n bytes.now)) }
@@ -293,7 +293,7 @@ impl Link for Wired {
 
     fn recv(&mut self, buffer: &mut [u8]) -> Result<Heard, LinkFault>
         requires { 0 < length buffer.old }
-        ensures receives { Receives buffer.new (wired_view self.old) (wired_view self.new) result }
+        ensures receives { Receives buffer.new (wired_link self.old) (wired_link self.new) result }
         // It receives what waited first; if nothing waited, a timeout.
         ensures heard { IfOk result (λ heard. self.new ≡ after_hearing (items_of heard buffer.new) self.old) }
         ensures next { IfOk result (λ heard. IsNext (items_of heard buffer.new) self.old.waits) }

@@ -6,7 +6,7 @@ use Rattle.stk_frame.specs.HostCommands.{enter, leave, erase}
 use Rattle.stk_host.specs.Tape.{Tape, Reading}
 use Rattle.stk_host.specs.Transcript.{Transcript}
 use Rattle.stk_host.specs.Dialog.{Dialog, Done, Say, Ask, Event, played, frames_in}
-use Rattle.stk_host.specs.Play.{Position, Plays, Breaks, NoPart}
+use Rattle.stk_host.specs.Play.{Progress, Plays, Breaks, NoPart}
 use Rattle.stk_host.specs.ReadSteps.{signature_steps}
 
 -- For every reading the dialog asks at most `n` times.
@@ -20,9 +20,9 @@ AsksAtMost (suc n) (Ask body answered) = (reading : Reading) → AsksAtMost n (a
 -- off.
 pub record SendsAtMost {E R : Type 0} (SaidPart : E → E → Type 0) (n : ℕ) (dialog : Dialog E R) : Type 0 where
   pub over_tape : (seq : ℕ) (tape : Tape) → length (frames_in (played dialog seq tape).events) ≤ n
-  pub whole : (before : Position) (transcript : Transcript) (events : List (Event E)) (result : R) (after : Position)
+  pub whole : (before : Progress) (transcript : Transcript) (events : List (Event E)) (result : R) (after : Progress)
       → Plays dialog before transcript events result after → length (frames_in events) ≤ n
-  pub broken_off : (before : Position) (transcript : Transcript) (shown : List (Event E))
+  pub broken_off : (before : Progress) (transcript : Transcript) (shown : List (Event E))
       → Breaks SaidPart dialog before transcript shown → length (frames_in shown) ≤ n
 
 abbrev pub commands_in : List (List Command) → ℕ

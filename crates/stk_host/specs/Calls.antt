@@ -30,12 +30,12 @@ use Rattle.stk_host.specs.Steps.{play}
 use Rattle.stk_host.specs.Operations.{host_fault, signature_judged, comparison}
 use Rattle.stk_host.specs.Transcript.{LinkState, Got, Grows, HasFailed, LinkCounts}
 use Rattle.stk_host.specs.Dialog.{Dialog}
-use Rattle.stk_host.specs.Play.{Position, PlaysOver, FailsOver}
+use Rattle.stk_host.specs.Play.{Progress, PlaysOver, FailsOver}
 use Rattle.stk_host.specs.Reach.{Reaches, Hears, HearsNone}
 use Rattle.stk_host.specs.State.{ConversationState, HostState, data_held, lasting_fault}
 
 -- At most one piece is unread.
-abbrev pub HasFewUnread : Position → Type 0
+abbrev pub HasFewUnread : Progress → Type 0
 HasFewUnread progress = length progress.unread ≤ LARGEST_FRAME
 
 -- What was received; bytes become unread.
@@ -81,13 +81,13 @@ reply_of (said.Again fault) bytes = steps.Again fault
 reply_of (said.Stop fault) bytes = steps.Stop fault
 
 -- Steps that stop: their run ended with a fault, or it broke off because the link failed.
-abbrev pub StopsSteps : Dialog ⊥ steps.StepOutcome → Position → LinkState → LinkState → Stop → Position → Type 0
+abbrev pub StopsSteps : Dialog ⊥ steps.StepOutcome → Progress → LinkState → LinkState → Stop → Progress → Type 0
 StopsSteps dialog before old new (Fault fault) after = PlaysOver dialog before old new (Err fault) after
 StopsSteps dialog before old new (Link broken) after = FailsOver broken dialog before old new
 
 -- Steps that ended: they returned these data, or they stopped.
-abbrev pub EndsSteps : {A : Type 0} → Dialog ⊥ steps.StepOutcome → (A → List ℕ) → Position → LinkState → LinkState
-    → Result A Stop → Position → Type 0
+abbrev pub EndsSteps : {A : Type 0} → Dialog ⊥ steps.StepOutcome → (A → List ℕ) → Progress → LinkState → LinkState
+    → Result A Stop → Progress → Type 0
 EndsSteps dialog bytes before old new (Ok a) after = PlaysOver dialog before old new (Ok (bytes a)) after
 EndsSteps dialog bytes before old new (Err stop) after = StopsSteps dialog before old new stop after
 
@@ -106,7 +106,7 @@ abbrev pub without_step : List ℕ → Playing
 without_step before steps = play steps before
 
 -- A step that others follow: they remain, after all data so far, or all stop with it.
-abbrev pub EndsInnerStep : Playing → Playing → Position → LinkState → LinkState → Result (Unit {0}) Stop → Position
+abbrev pub EndsInnerStep : Playing → Playing → Progress → LinkState → LinkState → Result (Unit {0}) Stop → Progress
     → Type 0
 EndsInnerStep whole rest before old new (Ok done) after =
     (steps : List (List Command)) → Reaches (whole steps) before old (rest steps) after new
@@ -134,22 +134,22 @@ CountsLink old new result = (old.failures ≤ new.failures) × FailsByLink old n
 
 -- A call of a conversation that asks. It ends like this, counts the failures of its link, and leaves at most one
 -- piece unread.
-pub record AsksLink {A : Type 0} (Ends : Position → LinkState → LinkState → Result A Stop → Position → Type 0)
-    (before : Position) (old new : LinkState) (result : Result A Stop) (after : Position) : Type 0 where
+pub record AsksLink {A : Type 0} (Ends : Progress → LinkState → LinkState → Result A Stop → Progress → Type 0)
+    (before : Progress) (old new : LinkState) (result : Result A Stop) (after : Progress) : Type 0 where
   pub played : Ends before old new result after
   pub counted : CountsLink old new result
   pub bound : HasFewUnread after
 
 -- A call that may have nothing to ask.
-pub record MayAsk {A : Type 0} (Ends : Position → LinkState → LinkState → Result A Stop → Position → Type 0)
-    (before : Position) (old new : LinkState) (result : Result A Stop) (after : Position) : Type 0 where
+pub record MayAsk {A : Type 0} (Ends : Progress → LinkState → LinkState → Result A Stop → Progress → Type 0)
+    (before : Progress) (old new : LinkState) (result : Result A Stop) (after : Progress) : Type 0 where
   pub played : Ends before old new result after
   pub counted : CountsLink old new result
   pub bound : HasFewUnread before → HasFewUnread after
 
 -- How some commands are answered: their run returned this reply, or it broke off because the link failed. Data have
 -- the size that the last command asks for.
-pub record GetsReply (dialog : Dialog ⊥ steps.Reply) (last : Command) (before : Position) (old new : LinkState)
+pub record GetsReply (dialog : Dialog ⊥ steps.Reply) (last : Command) (before : Progress) (old new : LinkState)
     (result : Result Reply Broken) (after : ConversationState) : Type 0 where
   pub ok : IfOk result (λ reply. PlaysOver dialog before old new (reply_of reply (data_held last after.held))
       after.progress)
@@ -160,16 +160,16 @@ pub record GetsReply (dialog : Dialog ⊥ steps.Reply) (last : Command) (before 
 
 -- How a call of a host ends. If the link failed, its dialog broke off at sending or at listening; otherwise it was
 -- run whole.
-abbrev pub EndsCall : {A : Type 0} → Dialog ⊥ (Result A HostFault) → Position → LinkState → LinkState
-    → Result A HostFault → Position → Type 0
+abbrev pub EndsCall : {A : Type 0} → Dialog ⊥ (Result A HostFault) → Progress → LinkState → LinkState
+    → Result A HostFault → Progress → Type 0
 EndsCall dialog before old new (Ok a) after = PlaysOver dialog before old new (Ok a) after
 EndsCall dialog before old new (Err SendFailed) after = FailsOver broken.Send dialog before old new
 EndsCall dialog before old new (Err RecvFailed) after = FailsOver broken.Recv dialog before old new
 EndsCall dialog before old new (Err fault) after = PlaysOver dialog before old new (Err fault) after
 
 -- A call that allocates first: if that fails, nothing is sent or received.
-abbrev pub EndsOrLacks : {A : Type 0} → Dialog ⊥ (Result A HostFault) → Position → LinkState → LinkState
-    → Result A HostFault → Position → Type 0
+abbrev pub EndsOrLacks : {A : Type 0} → Dialog ⊥ (Result A HostFault) → Progress → LinkState → LinkState
+    → Result A HostFault → Progress → Type 0
 EndsOrLacks dialog before old new (Err Memory) after = (new ≡ old) × (after ≡ before)
 EndsOrLacks dialog before old new result after = EndsCall dialog before old new result after
 
@@ -205,7 +205,7 @@ pub record IsSizedStep (first : Option Command) (last : Command) : Type 0 where
   pub counted : IsSizedShape (shape last)
 
 -- A call of a host that ends like this.
-pub record CallsBy {A : Type 0} (Ends : Position → LinkState → LinkState → Result A HostFault → Position → Type 0)
+pub record CallsBy {A : Type 0} (Ends : Progress → LinkState → LinkState → Result A HostFault → Progress → Type 0)
     (old new : HostState) (before after : LinkState) (result : Result A HostFault) : Type 0 where
   -- After a lasting fault each call returns that fault and changes nothing.
   pub stays : (fault : HostFault) → old.broken ≡ Some fault → (result ≡ Err fault) × (new ≡ old) × (after ≡ before)

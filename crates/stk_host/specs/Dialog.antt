@@ -61,7 +61,7 @@ bytes_sent [] = []
 bytes_sent (Frame bytes ∷ events) = bytes ++ bytes_sent events
 bytes_sent (Said e ∷ events) = bytes_sent events
 
-abbrev pub sayings : {E : Type 0} → List (Event E) → List E
-sayings [] = []
-sayings (Frame bytes ∷ events) = sayings events
-sayings (Said e ∷ events) = e ∷ sayings events
+abbrev pub outputs : {E : Type 0} → List (Event E) → List E
+outputs [] = []
+outputs (Frame bytes ∷ events) = outputs events
+outputs (Said e ∷ events) = e ∷ outputs events

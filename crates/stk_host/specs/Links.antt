@@ -35,8 +35,8 @@ pub record IsOfTape (old new : TapeState) : Type 0 where
   pub gave : heard during ++ new.left ≡ old.left ++ replicate ends End
   pub over : 0 < ends → new.left ≡ []
 
-abbrev pub tape_view : TapeState → LinkState
-tape_view link = record { transcript = link.transcript; failures = link.failures }
+abbrev pub tape_state : TapeState → LinkState
+tape_state link = record { transcript = link.transcript; failures = link.failures }
 
 -- The next piece of a tape, of at most `most` bytes; an end if no item is left.
 abbrev pub next_piece : ℕ → Tape → Tape
@@ -57,8 +57,8 @@ pub record StreamState (R W : Type 0) : Type 0 where
   pub last_error : Option ErrorKind
   pub transcript : Transcript
 
-abbrev pub stream_view : {R W : Type 0} → StreamState R W → LinkState
-stream_view link = record { transcript = link.transcript; failures = link.failures }
+abbrev pub stream_state : {R W : Type 0} → StreamState R W → LinkState
+stream_state link = record { transcript = link.transcript; failures = link.failures }
 
 -- The record since `old` is true. The bytes received are those that the reader gave, in order and none lost. While
 -- nothing has failed, the bytes sent are those that the writer took.
@@ -113,8 +113,8 @@ pub record FailsAsPlanned {A L : Type 0} (view : L → LinkState) (old new : Fai
 abbrev pub total_failures : ℕ → ℕ → ℕ
 total_failures inner own = min (inner + own) (2 ^ 64 - 1)
 
-abbrev pub failing_link_view : {L : Type 0} → (L → LinkState) → FailingState L → LinkState
-failing_link_view view link = record {
+abbrev pub failing_link_state : {L : Type 0} → (L → LinkState) → FailingState L → LinkState
+failing_link_state view link = record {
   transcript = (view link.inner).transcript;
   failures = total_failures (view link.inner).failures link.failed;
 }

@@ -7,12 +7,12 @@ use Rattle.stk_host.specs.Transcript.{Transcript, LinkState, Sent, Got, sent, he
 use Rattle.stk_host.specs.Dialog.{Dialog, Event, Frame, Said, Played, played, bytes_sent}
 
 -- A conversation's state: the next sequence number, and the bytes received and not yet read.
-pub record Position : Type 0 where
+pub record Progress : Type 0 where
   pub next : ℕ
   pub unread : List ℕ
 
-abbrev pub position : ℕ → List ℕ → Position
-position next unread = record { next = next; unread = unread }
+abbrev pub progress_at : ℕ → List ℕ → Progress
+progress_at next unread = record { next = next; unread = unread }
 
 -- The dialog waits, and its frames are exactly these bytes: it is time to listen.
 pub record IsDue {E R : Type 0} (dialog : Dialog E R) (seq : ℕ) (tape : Tape) (bytes : List ℕ) : Type 0 where
@@ -27,18 +27,18 @@ TurnsFrom dialog seq tape bytes (Got items ∷ transcript) =
     IsDue dialog seq tape bytes × TurnsFrom dialog seq (tape ++ items) bytes transcript
 
 -- The dialog sends and listens in turn, from a state on.
-abbrev pub InTurn : {E R : Type 0} → Dialog E R → Position → Transcript → Type 0
+abbrev pub InTurn : {E R : Type 0} → Dialog E R → Progress → Transcript → Type 0
 InTurn dialog before transcript = TurnsFrom dialog before.next (on_tape before.unread) [] transcript
 
 -- The run over the unread bytes and the items received.
-abbrev pub played_over : {E R : Type 0} → Dialog E R → Position → Transcript → Played E R
+abbrev pub played_over : {E R : Type 0} → Dialog E R → Progress → Transcript → Played E R
 played_over dialog before transcript = played dialog before.next (on_tape before.unread ++ heard transcript)
 
 -- The transcript is the dialog's whole run over the unread bytes and the items received. Exactly these events
 -- happened, with this result and this state after them, whatever follows on the tape.
-pub record Plays {E R : Type 0} (dialog : Dialog E R) (before : Position) (transcript : Transcript)
+pub record Plays {E R : Type 0} (dialog : Dialog E R) (before : Progress) (transcript : Transcript)
     (events : List (Event E))
-    (result : R) (after : Position) : Type 0 where
+    (result : R) (after : Progress) : Type 0 where
   pub plays : (more : Tape) → played dialog before.next (on_tape before.unread ++ (heard transcript ++ more))
       ≡ record { events = events; outcome = Some (result, after.next, on_tape after.unread ++ more) }
   pub all_sent : bytes_sent events ≡ sent transcript
@@ -69,7 +69,7 @@ pub record IsPrefixOfEvents {E : Type 0} (SaidPart : E → E → Type 0) (shown 
   pub part : IsBegun SaidPart begun later
 
 -- The run broke off: what happened is a prefix of its events over the items received.
-pub record Breaks {E R : Type 0} (SaidPart : E → E → Type 0) (dialog : Dialog E R) (before : Position)
+pub record Breaks {E R : Type 0} (SaidPart : E → E → Type 0) (dialog : Dialog E R) (before : Progress)
     (transcript : Transcript)
     (shown : List (Event E)) : Type 0 where
   pub prefix : IsPrefixOfEvents SaidPart shown (played_over dialog before transcript).events
@@ -78,7 +78,7 @@ pub record Breaks {E R : Type 0} (SaidPart : E → E → Type 0) (dialog : Dialo
 
 -- The run broke off at sending. What happened is a prefix of its events, up to a frame that was sent in part, or not
 -- at all.
-pub record BreaksSending {E R : Type 0} (dialog : Dialog E R) (before : Position) (transcript : Transcript)
+pub record BreaksSending {E R : Type 0} (dialog : Dialog E R) (before : Progress) (transcript : Transcript)
     (shown : List (Event E)) : Type 0 where
   pub whole : List (Event E)
   pub part : List ℕ
@@ -91,14 +91,14 @@ pub record BreaksSending {E R : Type 0} (dialog : Dialog E R) (before : Position
   pub in_turn : InTurn dialog before transcript
 
 -- The run broke off at listening: it waits, and all its events happened.
-pub record BreaksListening {E R : Type 0} (dialog : Dialog E R) (before : Position) (transcript : Transcript)
+pub record BreaksListening {E R : Type 0} (dialog : Dialog E R) (before : Progress) (transcript : Transcript)
     (shown : List (Event E)) : Type 0 where
   pub waits : (played_over dialog before transcript).outcome ≡ None
   pub shown_is : shown ≡ (played_over dialog before transcript).events
   pub all_sent : bytes_sent shown ≡ sent transcript
   pub in_turn : InTurn dialog before transcript
 
-abbrev pub BreaksBy : {E R : Type 0} → Broken → Dialog E R → Position → Transcript → List (Event E) → Type 0
+abbrev pub BreaksBy : {E R : Type 0} → Broken → Dialog E R → Progress → Transcript → List (Event E) → Type 0
 BreaksBy Send dialog before transcript shown = BreaksSending dialog before transcript shown
 BreaksBy Recv dialog before transcript shown = BreaksListening dialog before transcript shown
 
@@ -107,15 +107,15 @@ abbrev pub NoPart : ⊥ → ⊥ → Type 0
 NoPart part whole = ⊥
 
 -- A call that ran a dialog whole, between these states of the link.
-pub record PlaysOver {R : Type 0} (dialog : Dialog ⊥ R) (before : Position) (old new : LinkState) (result : R)
-    (after : Position) : Type 0 where
+pub record PlaysOver {R : Type 0} (dialog : Dialog ⊥ R) (before : Progress) (old new : LinkState) (result : R)
+    (after : Progress) : Type 0 where
   pub during : Transcript
   pub events : List (Event ⊥)
   pub grows : Grows old.transcript during new.transcript
   pub plays : Plays dialog before during events result after
 
 -- A call that broke off because the link failed at this.
-pub record FailsOver {R : Type 0} (broken : Broken) (dialog : Dialog ⊥ R) (before : Position)
+pub record FailsOver {R : Type 0} (broken : Broken) (dialog : Dialog ⊥ R) (before : Progress)
     (old new : LinkState) : Type 0 where
   pub during : Transcript
   pub shown : List (Event ⊥)

@@ -4,20 +4,20 @@ use Rattle.std.specs.Prelude.{ℕ, List, [], ◌∷◌, ◌++◌, ◌+◌, ◌�
 use Rattle.stk_host.specs.Tape.{Tape, Reading, on_tape, answer, limit}
 use Rattle.stk_host.specs.Transcript.{Transcript, LinkState, Sent, Got, sent, heard, Grows, LinkCounts}
 use Rattle.stk_host.specs.Dialog.{Dialog, Event, played, behind, bytes_sent}
-use Rattle.stk_host.specs.Play.{InTurn, Position}
+use Rattle.stk_host.specs.Play.{InTurn, Progress}
 
 -- A transcript leads from a dialog to its rest: the dialog's run is these events and then the run of the rest,
 -- whatever follows on the tape.
-pub record TranscriptLeads {E R : Type 0} (dialog : Dialog E R) (before : Position) (transcript : Transcript)
-    (events : List (Event E)) (rest : Dialog E R) (after : Position) : Type 0 where
+pub record TranscriptLeads {E R : Type 0} (dialog : Dialog E R) (before : Progress) (transcript : Transcript)
+    (events : List (Event E)) (rest : Dialog E R) (after : Progress) : Type 0 where
   pub goes_on : (more : Tape) → played dialog before.next (on_tape before.unread ++ (heard transcript ++ more))
       ≡ behind events (played rest after.next (on_tape after.unread ++ more))
   pub all_sent : bytes_sent events ≡ sent transcript
   pub in_turn : InTurn dialog before transcript
 
 -- A call has come this far, between these states of the link.
-pub record Reaches {R : Type 0} (dialog : Dialog ⊥ R) (before : Position) (old : LinkState)
-    (rest : Dialog ⊥ R) (after : Position) (new : LinkState) : Type 0 where
+pub record Reaches {R : Type 0} (dialog : Dialog ⊥ R) (before : Progress) (old : LinkState)
+    (rest : Dialog ⊥ R) (after : Progress) (new : LinkState) : Type 0 where
   pub during : Transcript
   pub events : List (Event ⊥)
   pub grows : Grows old.transcript during new.transcript

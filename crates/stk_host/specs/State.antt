@@ -7,17 +7,17 @@ use Rattle.stk_frame.specs.Cut.{body_of}
 use Rattle.stk_frame.specs.Commands.{judge}
 use Rattle.stk_host.specs.declared.fault.HostFault.{HostFault}
 use Rattle.stk_host.specs.declared.fault.HostFault.TheVariants.{LinkEnded, SendFailed, RecvFailed}
-use Rattle.stk_host.specs.Play.{Position}
+use Rattle.stk_host.specs.Play.{Progress}
 
 -- A conversation's state, and the last frame or the part of one that is held.
 pub record ConversationState : Type 0 where
-  pub progress : Position
+  pub progress : Progress
   pub held : List ℕ
 
 -- A host's part, its conversation's state, and its lasting fault.
 pub record HostState : Type 0 where
   pub part : Part
-  pub progress : Position
+  pub progress : Progress
   pub broken : Option HostFault
 
 abbrev pub data_in : Result (List ℕ) FrameFault → List ℕ

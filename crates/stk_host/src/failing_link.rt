@@ -1,6 +1,6 @@
 //! A link that fails once, at a chosen call: for tests of code that uses links.
 ghost use Rattle.std.specs.Prelude.{◌≡◌, ◌==◌, ◌<◌, ◌≤◌, ◌+◌, ◌-◌, ◌^◌, ◌∷◌, [], ℕ, length, take, min, Err, IfOk, OnOk};
-ghost use Rattle.stk_host.specs.Links.{failing_link_view, CountsCall, FailsAsPlanned};
+ghost use Rattle.stk_host.specs.Links.{failing_link_state, CountsCall, FailsAsPlanned};
 ghost use Rattle.ghosts.specs.Stays.{Stays};
 ghost use Rattle.stk_host.specs.Transcript.{Sends, Receives, FitsBuffer};
 
@@ -89,14 +89,15 @@ impl<L> FailingLink<L> {
 }
 
 impl<L: Link + Drop> Link for FailingLink<L> {
-    ghost view = { failing_link_view L.view };
+    ghost view = { failing_link_state L.view };
 
     ghost Start = { L.Start };
 
     ghost comes_of = { λ start link. L.comes_of start link.inner };
 
     fn send(&mut self, bytes: &[u8]) -> Result<usize, LinkFault>
-        ensures sends { Sends bytes.now (failing_link_view L.view self.old) (failing_link_view L.view self.new) result }
+        ensures sends { Sends bytes.now (failing_link_state L.view self.old)
+            (failing_link_state L.view self.new) result }
         ensures comes { Stays L.comes_of self.old.inner self.new.inner }
         ensures fails { FailsAsPlanned L.view self.old self.new result }
         ensures short { IfOk result (λ n. n ≤ self.old.cut) }
@@ -110,7 +111,7 @@ impl<L: Link + Drop> Link for FailingLink<L> {
 
     fn recv(&mut self, buffer: &mut [u8]) -> Result<Heard, LinkFault>
         requires { 0 < length buffer.old }
-        ensures receives { Receives buffer.new (failing_link_view L.view self.old) (failing_link_view L.view self.new)
+        ensures receives { Receives buffer.new (failing_link_state L.view self.old) (failing_link_state L.view self.new)
             result }
         ensures comes { Stays L.comes_of self.old.inner self.new.inner }
         ensures fails { FailsAsPlanned L.view self.old self.new result }

@@ -6,7 +6,7 @@ ghost use Rattle.std.specs.Io.KnownBytes.{Keeps, Appends, Consumes, IsAtEnd};
 ghost use Rattle.ghosts.specs.Stays.{Stays};
 ghost use Rattle.stk_host.specs.Transcript.{Sends, Receives, FitsBuffer};
 ghost use Rattle.stk_host.specs.declared.link.Heard.TheVariants.{Silence};
-ghost use Rattle.stk_host.specs.Links.{StreamState, IsTrueSince, stream_view, HearsKnown, AppendsPrefix, IsOfListening};
+ghost use Rattle.stk_host.specs.Links.{StreamState, IsTrueSince, stream_state, HearsKnown, AppendsPrefix, IsOfListening};
 
 use crate::history::History;
 use crate::link::{Heard, Link, LinkFault};
@@ -94,7 +94,8 @@ impl<R, W> StreamLink<R, W> {
     /// assert!(rt; link.recv(&mut buffer)? == Heard::End);
     /// ```
     pub fn new(reader: R, writer: W) -> Self
-        ensures { result ≡ record { reader = reader; writer = writer; failures = 0; last_error = None; transcript = [] } }
+        ensures { result ≡ record
+            { reader = reader; writer = writer; failures = 0; last_error = None; transcript = [] } }
     {
         StreamLink {
             reader,
@@ -155,14 +156,14 @@ impl<R, W> StreamLink<R, W> {
 }
 
 impl<R: Inlet + Drop, W: Outlet + Drop> Link for StreamLink<R, W> {
-    ghost view = { stream_view };
+    ghost view = { stream_state };
 
     ghost Start = { StreamState R W };
 
     ghost comes_of = { IsTrueSince R.remaining W.contents };
 
     fn send(&mut self, bytes: &[u8]) -> Result<usize, LinkFault>
-        ensures sends { Sends bytes.now (stream_view self.old) (stream_view self.new) result }
+        ensures sends { Sends bytes.now (stream_state self.old) (stream_state self.new) result }
         ensures comes { Stays (IsTrueSince R.remaining W.contents) self.old self.new }
         // The writer took the bytes reported as sent, or on failure a prefix of them.
         ensures written { IfOk result (λ n. Appends (W.contents self.old.writer) (W.contents self.new.writer)
@@ -192,7 +193,7 @@ impl<R: Inlet + Drop, W: Outlet + Drop> Link for StreamLink<R, W> {
 
     fn recv(&mut self, buffer: &mut [u8]) -> Result<Heard, LinkFault>
         requires { 0 < length buffer.old }
-        ensures receives { Receives buffer.new (stream_view self.old) (stream_view self.new) result }
+        ensures receives { Receives buffer.new (stream_state self.old) (stream_state self.new) result }
         ensures comes { Stays (IsTrueSince R.remaining W.contents) self.old self.new }
         // The bytes received are the reader's next ones, none is lost, and an end comes only after the last.
         ensures read { IfOk result (λ heard. HearsKnown heard buffer.new (R.remaining self.old.reader)

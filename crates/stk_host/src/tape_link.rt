@@ -3,7 +3,7 @@ ghost use Rattle.std.specs.Prelude.{◌≡◌, ◌<◌, ◌≤◌, ◌++◌, ◌
 ghost use Rattle.stk_host.specs.Tape.{bytes_in};
 ghost use Rattle.stk_host.specs.Transcript.{Sends, Receives, FitsBuffer, items_of};
 ghost use Rattle.stk_host.specs.Transcript as transcript;
-ghost use Rattle.stk_host.specs.Links.{IsOfTape, TapeState, tape_view, next_piece, byte_of};
+ghost use Rattle.stk_host.specs.Links.{IsOfTape, TapeState, tape_state, next_piece, byte_of};
 ghost use Rattle.ghosts.specs.Stays.{Stays};
 
 use crate::link::{Heard, Item, Link, LinkFault};
@@ -136,7 +136,7 @@ impl TapeLink {
 
     fn give(&mut self, buffer: &mut [u8]) -> Result<Heard, LinkFault>
         requires { 0 < length buffer.old }
-        ensures receives { Receives buffer.new (tape_view self.old) (tape_view self.new) result }
+        ensures receives { Receives buffer.new (tape_state self.old) (tape_state self.new) result }
         ensures piece { IfOk result (λ heard. items_of heard buffer.new
             ≡ next_piece (min self.old.cut (length buffer.new)) self.old.left) }
         ensures left { IfOk result (λ heard. self.new.left ≡ drop (length (items_of heard buffer.new)) self.old.left) }
@@ -157,7 +157,7 @@ impl TapeLink {
 }
 
 impl Link for TapeLink {
-    ghost view = { tape_view };
+    ghost view = { tape_state };
 
     ghost Start = { TapeState };
 
@@ -165,7 +165,7 @@ impl Link for TapeLink {
 
     #[tactic(auto, using(crate::proofs::Tapes::TapeLinks::sent_of_tape, crate::proofs::Tapes::TapeLinks::same_of_tape))]
     fn send(&mut self, bytes: &[u8]) -> Result<usize, LinkFault>
-        ensures sends { Sends bytes.now (tape_view self.old) (tape_view self.new) result }
+        ensures sends { Sends bytes.now (tape_state self.old) (tape_state self.new) result }
         ensures sound { OnOk result (self.new.failures ≡ self.old.failures) }
         // It takes as many bytes as a piece may have.
         ensures count { IfOk result (λ n. n ≡ min self.old.cut (length bytes.now)) }
@@ -184,7 +184,7 @@ impl Link for TapeLink {
 
     fn recv(&mut self, buffer: &mut [u8]) -> Result<Heard, LinkFault>
         requires { 0 < length buffer.old }
-        ensures receives { Receives buffer.new (tape_view self.old) (tape_view self.new) result }
+        ensures receives { Receives buffer.new (tape_state self.old) (tape_state self.new) result }
         // It takes the next piece off the tape.
         ensures piece { IfOk result (λ heard. items_of heard buffer.new
             ≡ next_piece (min self.old.cut (length buffer.new)) self.old.left) }

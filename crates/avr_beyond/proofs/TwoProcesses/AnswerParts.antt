@@ -11,7 +11,7 @@ use Rattle.stk_host.specs.Tape.{Tape, on_tape, bytes_of}
 use Rattle.stk_host.proofs.Tapes.Answers.{on_tape_append}
 use Rattle.avr_emulator.specs.Serving.{HasNoEnd}
 use Rattle.avr_beyond.proofs.TwoProcesses.Slots.{Slot, Came, Quiet, slots_tape, came, IsStub}
-use Rattle.avr_course.proofs.Lines.Plays.{cons_none}
+use Rattle.avr_laws.proofs.Lines.Plays.{cons_none}
 
 -- pieces that are whole, of at most 281 bytes
 pub record IsShort (piece : List ℕ) : Type 0 where

@@ -9,13 +9,13 @@ use Rattle.stk_frame.proofs.Laws.{frame_is_good, body_of_frame}
 use Rattle.stk_host.specs.Tape.{Tape, Reading, Answered, Silent, answer}
 use Rattle.stk_host.specs.Dialog.{Dialog, Done, Say, Ask, played, by_answer, next, frames_in}
 use Rattle.stk_emu.specs.Along.{AsksBodies}
-use Rattle.avr_course.specs.AnyTape.{first_became, other_becames, on_answer, AreHonest, after_pieces}
-use Rattle.avr_course.proofs.Lines.Plays.{cons_none, head_is, tail_is}
+use Rattle.avr_laws.specs.AnyTape.{first_became, other_becames, on_answer, AreHonest, after_pieces}
+use Rattle.avr_laws.proofs.Lines.Plays.{cons_none, head_is, tail_is}
 use Rattle.stk_emu.specs.Device.{Device, answer_frame, after_frame, after_frames, answers}
 use Rattle.stk_emu.specs.Lawful.{IsBody}
 use Rattle.stk_emu.specs.Turn.{Obeyed, after_became, IsHonest}
 use Rattle.stk_emu.proofs.Answers.BodySizes.{AnswersBodies}
-use Rattle.stk_emu.proofs.Wires.Segments.{none_skipped}
+use Rattle.stk_emu.proofs.Wires.Arrivals.{none_skipped}
 use Rattle.avr_beyond.specs.TwoProcesses.{obeyed}
 use Rattle.avr_beyond.proofs.TwoProcesses.Slots.{Slot, slots_tape, came, IsStub, AreOld, IsOwn, all_older, old_and_own, Finds, FindsNone, Waits, Reads, reads}
 

@@ -13,14 +13,14 @@ use Rattle.stk_host.specs.Play.{IsPrefixOf}
 use Rattle.stk_host.specs.Transcript.{Transcript, sent, heard}
 use Rattle.stk_host.specs.Tape.{Tape, bytes_of}
 use Rattle.stk_emu.specs.Along.{AsksBodies}
-use Rattle.avr_course.specs.AnyTape.{AreHonest, after_pieces}
+use Rattle.avr_laws.specs.AnyTape.{AreHonest, after_pieces}
 use Rattle.stk_emu.specs.Device.{device, refusal, answer_body, answer_frame, after_frame, after_frames, answers}
 use Rattle.stk_emu.specs.Emulator.{Machine}
 use Rattle.stk_emu.specs.Lawful.{IsBody}
 use Rattle.stk_emu.specs.Programmer.{Programmer}
 use Rattle.stk_emu.proofs.Answers.Texts.{answers_more}
 use Rattle.stk_emu.proofs.Answers.BodySizes.{answers_bodies, obey_body}
-use Rattle.avr_course.proofs.Lines.InTurn.{sends_whole, frames_prefix}
+use Rattle.avr_laws.proofs.Lines.InTurn.{sends_whole, frames_prefix}
 use Rattle.avr_emulator.specs.Serving.{HasNoEnd, AnswersAll, BreaksOff, ServingLeaves}
 use Rattle.avr_emulator.specs.declared.serving.Served.{Served}
 use Rattle.avr_emulator.specs.declared.serving.Served.TheVariants.{Ended, RecvFailed, SendFailed, TooManyReads}

@@ -2,7 +2,7 @@
 use Rattle.std.proofs.Common.{◌≡◌, ℕ, zero, suc, ◌+◌, ◌≤◌, List, [], ◌∷◌, ◌++◌, refl, sym, subst, arith, Bool, true, false, Ok, Err, Result, Option}
 use Rattle.std.specs.Prelude.{if◌then◌else◌}
 use Rattle.avr_cli.specs.declared.settings.Switches.{Switches}
-use Rattle.avr_desk.specs.Said.{Saying}
+use Rattle.avr_desk.specs.Said.{OutputEvent}
 use Rattle.avr_part.specs.declared.part.Mem.{Mem}
 use Rattle.avr_part.specs.Mem.{is_writable}
 use Rattle.avr_part.specs.Part.{Part}
@@ -23,7 +23,7 @@ use Rattle.stk_host.specs.ReadSteps.{signature_steps, read_steps}
 use Rattle.stk_host.specs.Operations.{handshake, signature_judged, opening, without_bytes, closing, judged_by, operation, no_result, erasing, writing, reading, comparison, verifying}
 use Rattle.avr_session.specs.Standing.{Standing, Fine, Faulty, Over}
 use Rattle.avr_session.specs.Actions.{Action, OpenSession, EraseChip, WriteImage, CompareImage, SaveMemory, LeaveOut, actions}
-use Rattle.avr_session.specs.Session.{says, standing, reported, unless_fault, fault_or, opening_says, erased_says, written_says, verified_says, closed_says, read_says, left_out_says, phase, phases, ending, playing, status_of, session}
+use Rattle.avr_session.specs.Session.{says, standing, reported, unless_fault, fault_or, opening_says, erased_says, written_says, verified_says, closed_says, read_says, left_out_says, action_dialog, actions_dialog, ending, playing, status_of, session}
 use Rattle.avr_beyond.proofs.TwoProcesses.InOrder.{MissesFew}
 
 -- so many more may go unanswered, and at its end so many
@@ -204,63 +204,67 @@ writing_few part mem image = by_kind (is_writable mem)
     by_kind true = operation_few (write_steps part mem image) no_result
     by_kind false = (omega arith, omega arith)
 
--- ---- the phases of a session
+-- ---- the actions of a session
 
-abbrev AfterPhase : ℕ → Standing → Type 0
-AfterPhase k Fine = k ≡ 8
-AfterPhase k Faulty = Between 4 k
-AfterPhase k Over = Between 4 k
+abbrev AfterAction : ℕ → Standing → Type 0
+AfterAction k Fine = k ≡ 8
+AfterAction k Faulty = Between 4 k
+AfterAction k Over = Between 4 k
 
-says_few : {R : Type 0} (Post : ℕ → R → Type 0) (k : ℕ) (sayings : List Saying) (d : Dialog Saying R) → Misses Post k d
-    → Misses Post k (says sayings d)
+says_few : {R : Type 0} (Post : ℕ → R → Type 0) (k : ℕ) (outputs : List OutputEvent) (d : Dialog OutputEvent R)
+    → Misses Post k d
+    → Misses Post k (says outputs d)
 says_few Post k [] d f = f
-says_few Post k (saying ∷ sayings) d f = says_few Post k sayings d f
+says_few Post k (output ∷ outputs) d f = says_few Post k outputs d f
 
-stands : {A : Type 0} (k : ℕ) (result : Result A HostFault) → AfterCall k result → AfterPhase k (standing result)
+stands : {A : Type 0} (k : ℕ) (result : Result A HostFault) → AfterCall k result → AfterAction k (standing result)
 stands k (Ok a) f = f
 stands k (Err LinkEnded) f = f
 stands k (Err fault) f = f
 
-reported_few : {A : Type 0} (call : Dialog ⊥ (Result A HostFault)) (tells : Result A HostFault → List Saying)
-    → Misses AfterCall 8 call → Misses AfterPhase 8 (reported call tells)
+reported_few : {A : Type 0} (call : Dialog ⊥ (Result A HostFault)) (tells : Result A HostFault → List OutputEvent)
+    → Misses AfterCall 8 call → Misses AfterAction 8 (reported call tells)
 reported_few call tells f =
-    bind AfterCall AfterPhase 8 (lifted call) (λ outcome. says (tells outcome) (Done (standing outcome)))
-    (lifts Saying AfterCall 8 call f)
-    (λ j outcome post. says_few AfterPhase j (tells outcome) (Done (standing outcome)) (stands j outcome post))
+    bind AfterCall AfterAction 8 (lifted call) (λ outcome. says (tells outcome) (Done (standing outcome)))
+    (lifts OutputEvent AfterCall 8 call f)
+    (λ j outcome post. says_few AfterAction j (tells outcome) (Done (standing outcome)) (stands j outcome post))
 
-any_reported : {A : Type 0} (k : ℕ) (call : Dialog ⊥ (Result A HostFault)) (tells : Result A HostFault → List Saying)
+any_reported : {A : Type 0} (k : ℕ) (call : Dialog ⊥ (Result A HostFault)) (tells : Result A HostFault
+    → List OutputEvent)
     → Misses Any k call → Misses Any k (reported call tells)
 any_reported k call tells f =
-    bind Any Any k (lifted call) (λ outcome. says (tells outcome) (Done (standing outcome))) (lifts Saying Any k call f)
+    bind Any Any k (lifted call) (λ outcome. says (tells outcome) (Done (standing outcome)))
+    (lifts OutputEvent Any k call f)
     (λ j outcome post. says_few Any j (tells outcome) (Done (standing outcome)) tt)
 
 module _ (part : Part) (s : Switches) where
-  phase_few : (action : Action) → Misses AfterPhase 8 (phase part s action)
-  phase_few OpenSession = reported_few (opening part.signature s.force) (opening_says s.quiet part)
+  action_few : (action : Action) → Misses AfterAction 8 (action_dialog part s action)
+  action_few OpenSession = reported_few (opening part.signature s.force) (opening_says s.quiet part)
       (opening_few part.signature s.force)
-  phase_few EraseChip = reported_few erasing (erased_says s.quiet part) (operation_few ((erase ∷ []) ∷ []) no_result)
-  phase_few (WriteImage mem image) = reported_few (writing part mem image) (written_says s.quiet part mem image)
+  action_few EraseChip = reported_few erasing (erased_says s.quiet part) (operation_few ((erase ∷ []) ∷ []) no_result)
+  action_few (WriteImage mem image) = reported_few (writing part mem image) (written_says s.quiet part mem image)
       (writing_few part mem image)
-  phase_few (CompareImage mem image) = reported_few (verifying part mem image) (verified_says s.quiet part mem image)
+  action_few (CompareImage mem image) = reported_few (verifying part mem image) (verified_says s.quiet part mem image)
       (operation_few (read_steps part mem) (comparison mem image))
-  phase_few (SaveMemory mem format file) =
+  action_few (SaveMemory mem format file) =
       reported_few (reading part mem) (fault_or part (read_says s mem format file))
       (operation_few (read_steps part mem) Ok)
-  phase_few (LeaveOut what) = says_few AfterPhase 8 (left_out_says s.quiet what) (Done Fine) refl
+  action_few (LeaveOut what) = says_few AfterAction 8 (left_out_says s.quiet what) (Done Fine) refl
 
-  unless_few : (next : Dialog Saying Standing) → Misses AfterPhase 8 next → (j : ℕ) (at : Standing) → AfterPhase j at
-      → Misses AfterPhase j (unless_fault next at)
-  unless_few next f j Fine e = subst (λ k. Misses AfterPhase k next) (sym e) f
+  unless_few : (next : Dialog OutputEvent Standing) → Misses AfterAction 8 next → (j : ℕ) (at : Standing)
+      → AfterAction j at
+      → Misses AfterAction j (unless_fault next at)
+  unless_few next f j Fine e = subst (λ k. Misses AfterAction k next) (sym e) f
   unless_few next f j Faulty e = e
   unless_few next f j Over e = e
 
-  phases_few : (actions : List Action) → Misses AfterPhase 8 (phases part s actions)
-  phases_few [] = refl
-  phases_few (action ∷ actions) = bind AfterPhase AfterPhase 8 (phase part s action)
-      (unless_fault (phases part s actions)) (phase_few action)
-      (unless_few (phases part s actions) (phases_few actions))
+  actions_few : (actions : List Action) → Misses AfterAction 8 (actions_dialog part s actions)
+  actions_few [] = refl
+  actions_few (action ∷ actions) = bind AfterAction AfterAction 8 (action_dialog part s action)
+      (unless_fault (actions_dialog part s actions)) (action_few action)
+      (unless_few (actions_dialog part s actions) (actions_few actions))
 
-  ending_few : (j : ℕ) (at : Standing) → AfterPhase j at → Misses Any j (ending part s at)
+  ending_few : (j : ℕ) (at : Standing) → AfterAction j at → Misses Any j (ending part s at)
   ending_few j Fine e = any_reported j closing (closed_says s.quiet part)
       (closing_few j (omega (arith, e), omega (arith, e)))
   ending_few j Faulty b = bind Any Any j (reported closing (λ _. [])) (λ closed. Done Over)
@@ -272,5 +276,5 @@ unfolding session
 session_few plan =
     few_of Any 8 (playing plan >>= λ at. Done (status_of at))
     (bind Any Any 8 (playing plan) (λ at. Done (status_of at))
-    (bind AfterPhase Any 8 (phases plan.part plan.switches (actions plan)) (ending plan.part plan.switches)
-    (phases_few plan.part plan.switches (actions plan)) (ending_few plan.part plan.switches)) (λ j at post. tt))
+    (bind AfterAction Any 8 (actions_dialog plan.part plan.switches (actions plan)) (ending plan.part plan.switches)
+    (actions_few plan.part plan.switches (actions plan)) (ending_few plan.part plan.switches)) (λ j at post. tt))

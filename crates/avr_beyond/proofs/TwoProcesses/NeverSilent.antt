@@ -7,9 +7,9 @@ use Rattle.stk_frame.specs.Frame.{frame}
 use Rattle.stk_frame.specs.Cut.{cut}
 use Rattle.stk_host.specs.declared.link.Item.TheVariants.{Byte, Silence, End}
 use Rattle.stk_host.specs.Tape.{Tape, Reading, Answered, Silent, Babbled, answer, read_to, silence_or_end, first_answer, bytes_in, limit}
-use Rattle.stk_host.specs.Dialog.{Dialog, Done, Say, Ask, Frame, played, behind, by_answer, next, frames_in, sayings}
+use Rattle.stk_host.specs.Dialog.{Dialog, Done, Say, Ask, Frame, played, behind, by_answer, next, frames_in, outputs}
 use Rattle.stk_emu.specs.Along.{along, said_along, AsksBodies}
-use Rattle.avr_course.specs.AnyTape.{first_became, other_becames, after_pieces}
+use Rattle.avr_laws.specs.AnyTape.{first_became, other_becames, after_pieces}
 use Rattle.stk_emu.specs.Device.{Device, after_frame}
 use Rattle.stk_emu.specs.Turn.{after_became}
 use Rattle.stk_emu.proofs.Answers.BodySizes.{AnswersBodies}
@@ -75,7 +75,7 @@ pub record Straight {E R P : Type 0} (m : Device P) (d : Dialog E R) (n : ℕ) (
   pub dialog : (along m (length (frames_in (played d n tape).events)) d p []).dialog ≡ Done r
   pub programmer : (along m (length (frames_in (played d n tape).events)) d p []).programmer
       ≡ after_pieces m (frames_in (played d n tape).events) (obeyed h) p
-  pub says : sayings (played d n tape).events ≡ said_along m (length (frames_in (played d n tape).events)) d p []
+  pub says : outputs (played d n tape).events ≡ said_along m (length (frames_in (played d n tape).events)) d p []
 
 abbrev result_of : {R : Type 0} → R → Option (R × ℕ × Tape) → R
 result_of other None = other
@@ -119,7 +119,7 @@ module _ {P : Type 0} (m : Device P) (sound : AnswersBodies m) where
             there.dialog;
         programmer = subst (λ x. (along m (length (frames_in x.events)) (Ask bytes go_on) p []).programmer
             ≡ after_pieces m (frames_in x.events) (obeyed h) p) (sym first) (there.programmer ∙ stands);
-        says = subst (λ x. sayings x.events ≡ said_along m (length (frames_in x.events)) (Ask bytes go_on) p [])
+        says = subst (λ x. outputs x.events ≡ said_along m (length (frames_in x.events)) (Ask bytes go_on) p [])
             (sym first) there.says;
       }
   straight_by bytes go_on n tape p h count more each (inr (inl c)) few asks prompt r seq unread e =

@@ -15,7 +15,7 @@ use Rattle.stk_frame.specs.Cut.{cut, frames, is_frame, rest}
 use Rattle.stk_frame.proofs.Cuts.{cut_append, rest_append}
 use Rattle.stk_frame.proofs.FedReaders.{cut_whole, rest_whole}
 use Rattle.stk_frame.proofs.Laws.{body_of_frame, frame_is_good, frame_is_piece, length_frame}
-use Rattle.stk_host.specs.Dialog.{Dialog, Done, Say, Ask, Event, Frame, Said, behind, by_answer, bytes_sent, next, played, sayings}
+use Rattle.stk_host.specs.Dialog.{Dialog, Done, Say, Ask, Event, Frame, Said, behind, by_answer, bytes_sent, next, played, outputs}
 use Rattle.stk_host.specs.Play.{IsPrefixOf, TurnsFrom}
 use Rattle.stk_host.specs.Transcript.{LinkState, Transcript, Sent, Got, heard, sent}
 use Rattle.stk_host.specs.Tape.{Tape, Answered, Reading, answer, bytes_of, first_answer, is_answer, limit, on_tape}
@@ -396,7 +396,7 @@ module _ (plan : Plan) (s : chips.ChipState) (file : Bytes) (asks : AsksBodies (
   whole = host_plays (session plan) 1 (fresh_programmer s) asks
 
   abbrev said_desk : DeskState
-  said_desk = showing (after_all (sayings whole.events) nothing_kept) 0 0
+  said_desk = showing (after_all (outputs whole.events) nothing_kept) 0 0
 
   abbrev saved_desk : DeskState
   saved_desk = showing (with_replaced file (chip_file left.programmer.chip) nothing_kept) 0 0

@@ -2,7 +2,7 @@
 use Rattle.std.proofs.Common.{◌≡◌, [], ◌∷◌, refl, sym, arith}
 use Rattle.stk_host.specs.declared.link.Item.TheVariants.{Byte, Silence}
 use Rattle.avr_beyond.specs.TwoProcesses.{HostSays, ServerHears, IsOrdered, StallsBetweenAnswers}
-use Rattle.avr_course.proofs.Lines.Plays.{cons_none, head_is}
+use Rattle.avr_laws.proofs.Lines.Plays.{cons_none, head_is}
 
 -- a silence within an answer
 pub within_refused : StallsBetweenAnswers (Byte 27 ∷ Silence ∷ []) → ⊥

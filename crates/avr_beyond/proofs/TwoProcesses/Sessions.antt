@@ -2,7 +2,7 @@
 use Rattle.std.proofs.Common.{◌≡◌, ℕ, List, [], ◌∷◌, ◌++◌, length, refl, sym, ap, ◌∙◌, subst, append_assoc, arith, All, inl, inr, Some, Ok}
 use Rattle.std.proofs.lemmas.List.{append-nil}
 use Rattle.avr_desk.specs.Record.{Bytes}
-use Rattle.avr_desk.specs.Said.{Saying}
+use Rattle.avr_desk.specs.Said.{OutputEvent}
 use Rattle.avr_part.specs.Part.{IsPart}
 use Rattle.avr_part.specs.Sound.{IsSoundChip}
 use Rattle.avr_part.specs.State as chips
@@ -11,35 +11,35 @@ use Rattle.avr_session.specs.Run.{RunsSession}
 use Rattle.avr_session.specs.Runs.{Devices, start, Ran}
 use Rattle.avr_session.specs.Session.{session}
 use Rattle.stk_frame.specs.Cut.{frames}
-use Rattle.stk_host.specs.Dialog.{Event, played, frames_in, bytes_sent, sayings}
-use Rattle.stk_host.specs.Play.{Position, Plays, IsPrefixOf, IsDue, InTurn}
+use Rattle.stk_host.specs.Dialog.{Event, played, frames_in, bytes_sent, outputs}
+use Rattle.stk_host.specs.Play.{Progress, Plays, IsPrefixOf, IsDue, InTurn}
 use Rattle.stk_host.specs.Tape.{Tape, on_tape, bytes_of}
 use Rattle.stk_host.specs.Transcript.{Transcript, Sent, Got, sent, heard}
 use Rattle.stk_host.proofs.Tapes.Answers.{bytes_of_append}
 use Rattle.stk_emu.specs.Along.{along, AsksBodies}
 use Rattle.stk_emu.specs.Effect.{memories_of}
 use Rattle.stk_emu.specs.Settled.{Idle, FitsPart}
-use Rattle.avr_course.proofs.Given.FirstSteps.{fresh_idle, fresh_fits}
-use Rattle.avr_course.specs.Course.{course}
-use Rattle.avr_course.proofs.FewBad.Sessions.{session_ends}
-use Rattle.avr_course.specs.AnyTape.{AreHonest, after_pieces, turns_heard}
+use Rattle.avr_laws.proofs.Given.FirstSteps.{fresh_idle, fresh_fits}
+use Rattle.avr_laws.specs.ExpectedRun.{expected_run}
+use Rattle.avr_laws.proofs.FewBad.Sessions.{session_ends}
+use Rattle.avr_laws.specs.AnyTape.{AreHonest, after_pieces, turns_heard}
 use Rattle.stk_emu.specs.Device.{device, after_frames}
 use Rattle.stk_emu.specs.Emulator.{emulate}
 use Rattle.stk_emu.specs.Programmer.{Programmer, fresh_programmer}
-use Rattle.avr_course.specs.NoFrame.{MakesNoFrame}
-use Rattle.avr_course.proofs.Lines.NoFrame.{no_frame_honest}
-use Rattle.avr_course.proofs.Lines.InTurn.{due_at, sends_whole, frames_sent}
-use Rattle.avr_course.proofs.AnyLine.FrameSizes.{session_asks}
+use Rattle.avr_laws.specs.NoFrame.{MakesNoFrame}
+use Rattle.avr_laws.proofs.Lines.NoFrame.{no_frame_honest}
+use Rattle.avr_laws.proofs.Lines.InTurn.{due_at, sends_whole, frames_sent}
+use Rattle.avr_laws.proofs.AnyLine.FrameSizes.{session_asks}
 use Rattle.avr_emulator.specs.Serving.{HasNoEnd, AnswersInTurn}
 use Rattle.avr_emulator.specs.ServedRun.{ServesChip, SavesAfterServing}
 use Rattle.avr_emulator.specs.Saving.{Saves}
 use Rattle.avr_part.specs.ChipFile.{chip_file}
-use Rattle.avr_course.specs.AnyLine.{OverTurns, WholeOverTurns}
+use Rattle.avr_laws.specs.AnyLine.{OverTurns, WholeOverTurns}
 use Rattle.avr_beyond.specs.TwoProcesses.{Call, of_host, of_server, IsJoined, IsOrdered, IsPrompt, StallsBetweenAnswers, HasServed, obeyed}
 use Rattle.avr_beyond.proofs.TwoProcesses.Meeting.{meet_honest, meet_leaves, meet_sent, meet_ends, meet_straight, has_served}
 use Rattle.avr_beyond.proofs.TwoProcesses.NeverSilent.{prompt_stalls}
 use Rattle.avr_beyond.proofs.TwoProcesses.Misses.{session_few}
-use Rattle.avr_course.proofs.AnyLink.{since_none, over_any_line, over_any_end, IsFirst, sent_first}
+use Rattle.avr_laws.proofs.AnyLink.{since_none, over_any_line, over_any_end, IsFirst, sent_first}
 
 -- where something is heard, all answers had been sent
 answered_at : (p : Programmer) (text answered : List ℕ) (before after : Transcript) (items : Tape)
@@ -135,7 +135,7 @@ module _ (plan : Plan) (s : chips.ChipState) (is_sound : IsSoundChip s) (part_is
         plays)
 
     -- a whole session
-    module _ (events : List (Event Saying)) (status : ℕ) (after : Position)
+    module _ (events : List (Event OutputEvent)) (status : ℕ) (after : Progress)
         (plays : Plays (session plan) start host events status after) where
       over : played (session plan) 1 (heard host)
           ≡ record { events = events; outcome = Some (status, after.next, on_tape after.unread ++ []) }
@@ -158,11 +158,12 @@ module _ (plan : Plan) (s : chips.ChipState) (is_sound : IsSoundChip s) (part_is
           (sent host) (on_tape after.unread ++ []) events status after.next over plays.all_sent)
 
       -- and one over a line that is never silent
-      pub course_of : (left : Programmer) → HasServed (fresh_programmer s) server left → IsJoined host server
+      pub expected_of : (left : Programmer) → HasServed (fresh_programmer s) server left → IsJoined host server
           → IsPrompt (heard host)
-          → (status ≡ (course plan (memories_of s)).status) × (sayings events ≡ (course plan (memories_of s)).says)
-          × (memories_of left.chip ≡ (course plan (memories_of s)).memories)
-      course_of left serves joined prompt =
+          → (status ≡ (expected_run plan (memories_of s)).status)
+          × (outputs events ≡ (expected_run plan (memories_of s)).says)
+          × (memories_of left.chip ≡ (expected_run plan (memories_of s)).memories)
+      expected_of left serves joined prompt =
           let p : Programmer = fresh_programmer s in
           let prefix : IsPrefixOf (sent host) (bytes_sent (played (session plan) 1 (heard host)).events) =
           ([], append-nil (sent host) ∙ sym all_sent) in
@@ -177,13 +178,13 @@ module _ (plan : Plan) (s : chips.ChipState) (is_sound : IsSoundChip s) (part_is
           let stands : (along device (length fs) (session plan) p []).programmer ≡ left =
           goes.programmer ∙ leaves left serves joined prefix in (
             came.result,
-            ap (λ x. sayings x.events) (sym over) ∙ (goes.says ∙ came.sayings),
+            ap (λ x. outputs x.events) (sym over) ∙ (goes.says ∙ came.outputs),
             ap (λ (q : Programmer). memories_of q.chip) (sym stands) ∙ came.after,
           )
 
   -- over an ordered line that stalls anywhere, and makes no frame
-  pub stalling : (left : Programmer) (host server : Transcript) (events : List (Event Saying)) (status : ℕ)
-      (after : Position)
+  pub stalling : (left : Programmer) (host server : Transcript) (events : List (Event OutputEvent)) (status : ℕ)
+      (after : Progress)
       (serves : HasServed (fresh_programmer s) server left) → IsJoined host server
       → Plays (session plan) start host events status after
       → MakesNoFrame device (session plan) 1 (heard host) (fresh_programmer s) (obeyed (length (frames serves.used))) []
@@ -231,14 +232,14 @@ module _ (plan : Plan) (s : chips.ChipState) (is_sound : IsSoundChip s) (part_is
         serves.serves.grows)
         (has_served serves.served (fresh_programmer s) serves.serves.during serves.left serves.leaves)
 
-    played_all : (after : Position) → old.link.transcript ≡ [] → new.link.transcript ≡ of_host calls
+    played_all : (after : Progress) → old.link.transcript ≡ [] → new.link.transcript ≡ of_host calls
         → (ran : Ran (session plan) start old new status after)
         → Plays (session plan) start (of_host calls) ran.events status after
     played_all after none some ran =
         subst (λ t. Plays (session plan) start t ran.events status after)
         (since_none old.link.transcript new.link.transcript ran.during (of_host calls) none some ran.grows) ran.plays
 
-    pub one_run : (after : Position) → IsOrdered calls → StallsBetweenAnswers (heard (of_host calls))
+    pub one_run : (after : Progress) → IsOrdered calls → StallsBetweenAnswers (heard (of_host calls))
         → old.link.transcript ≡ [] → new.link.transcript ≡ of_host calls → server_old.link.transcript ≡ []
         → server_new.link.transcript ≡ of_server calls
         → (ran : Ran (session plan) start old new status after)
@@ -256,15 +257,16 @@ module _ (plan : Plan) (s : chips.ChipState) (is_sound : IsSoundChip s) (part_is
         )
 
     -- and over a line that is never silent
-    pub one_course : (after : Position) → IsOrdered calls → IsPrompt (heard (of_host calls))
+    pub one_expected : (after : Progress) → IsOrdered calls → IsPrompt (heard (of_host calls))
         → old.link.transcript ≡ [] → new.link.transcript ≡ of_host calls → server_old.link.transcript ≡ []
         → server_new.link.transcript ≡ of_server calls
         → (ran : Ran (session plan) start old new status after)
         → (serves : ServesChip s file most server_old server_new served_status)
-        → (status ≡ (course plan (memories_of s)).status) × (sayings ran.events ≡ (course plan (memories_of s)).says)
-        × (memories_of serves.left.programmer.chip ≡ (course plan (memories_of s)).memories)
-    one_course after ordered prompt host_old host_new server_none server_some ran serves =
-        course_of (of_host calls) (of_server calls) ordered.endless (prompt_stalls (heard (of_host calls)) prompt)
+        → (status ≡ (expected_run plan (memories_of s)).status)
+        × (outputs ran.events ≡ (expected_run plan (memories_of s)).says)
+        × (memories_of serves.left.programmer.chip ≡ (expected_run plan (memories_of s)).memories)
+    one_expected after ordered prompt host_old host_new server_none server_some ran serves =
+        expected_of (of_host calls) (of_server calls) ordered.endless (prompt_stalls (heard (of_host calls)) prompt)
         ran.events status after (played_all after host_old host_new ran) serves.left.programmer
         (served_all server_none server_some serves) (ordered.joined calls [] (sym (append-nil calls))) prompt
 

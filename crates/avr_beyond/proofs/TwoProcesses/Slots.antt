@@ -9,8 +9,8 @@ use Rattle.stk_host.specs.Tape.{Tape, Answered, Silent, answer, on_tape, first_a
 use Rattle.stk_host.specs.Dialog.{next}
 use Rattle.stk_host.proofs.Tapes.Answers.{answer_found, answer_silent, answer_waits, on_tape_append}
 use Rattle.stk_emu.specs.Lawful.{IsBody}
-use Rattle.stk_emu.proofs.Wires.Segments.{found_frame, Skipped, frame_skipped, both_skipped}
-use Rattle.avr_course.proofs.Lines.Plays.{head_is, tail_is, cons_none}
+use Rattle.stk_emu.proofs.Wires.Arrivals.{found_frame, Skipped, frame_skipped, both_skipped}
+use Rattle.avr_laws.proofs.Lines.Plays.{head_is, tail_is, cons_none}
 
 -- a whole answer came, or nothing did
 pub data Slot : Type 0 where

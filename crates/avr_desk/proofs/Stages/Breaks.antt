@@ -10,8 +10,8 @@ use Rattle.avr_desk.specs.declared.record.Opening.{Opening}
 use Rattle.avr_desk.specs.declared.record.Opening.TheVariants.{Absent, Found}
 use Rattle.avr_desk.specs.declared.record.Reading.{Reading}
 use Rattle.avr_desk.specs.Lines.{memory_line, not_opened_line}
-use Rattle.avr_desk.specs.Said.{Saying, Opens, Line, Creates, Writes, Outs, TellsLine, TellsFailure, IsPrefixOf, after, after_all}
-use Rattle.avr_desk.proofs.Stages.Sayings.{after_append}
+use Rattle.avr_desk.specs.Said.{OutputEvent, Opens, Line, Creates, Writes, Outs, TellsLine, TellsFailure, IsPrefixOf, after, after_all}
+use Rattle.avr_desk.proofs.Stages.Outputs.{after_append}
 use Rattle.avr_desk.proofs.Lines.Told.{follows_here, not_failed}
 use Rattle.avr_desk.proofs.FileUses.Uses.{openings_absent, openings_opened}
 use Rattle.avr_desk.specs.Playing.{Break, InLine, NotOpened, NotRead, NoMemory, NoMemoryFor, last_done, IsBreak, Taking, TakesThere, TellsBreak, StageBrokeOff, WentRefused, Goes, part_read}
@@ -25,7 +25,7 @@ abbrev EndsWith : Bytes → Record → Type 0
 EndsWith line r = (prefix : Bytes) × (r.messages ≡ prefix ++ line)
 
 -- a line reported does
-told_last : (before after : Record) (said last : List Saying) (told line : Bytes) → told ≡ line
+told_last : (before after : Record) (said last : List OutputEvent) (told line : Bytes) → told ≡ line
     → ((r : Record) → (after_all last r).messages ≡ r.messages ++ told)
     → after ≡ after_all (said ++ last) before → EndsWith line after
 told_last before after said last told line whole ends kept = grind (arith, nat_tests, after_append)
@@ -76,13 +76,13 @@ sound_refusal taking stage before after k l m n status sound has_memory (one, in
 
 -- ---- where the desk shows no file that was opened
 
-abbrev pub openings_in : List Saying → List Opening
+abbrev pub openings_in : List OutputEvent → List Opening
 openings_in [] = []
-openings_in (Opens opening ∷ sayings) = opening ∷ openings_in sayings
-openings_in (Line bytes ∷ sayings) = openings_in sayings
-openings_in (Creates name ∷ sayings) = openings_in sayings
-openings_in (Writes bytes ∷ sayings) = openings_in sayings
-openings_in (Outs bytes ∷ sayings) = openings_in sayings
+openings_in (Opens opening ∷ outputs) = opening ∷ openings_in outputs
+openings_in (Line bytes ∷ outputs) = openings_in outputs
+openings_in (Creates name ∷ outputs) = openings_in outputs
+openings_in (Writes bytes ∷ outputs) = openings_in outputs
+openings_in (Outs bytes ∷ outputs) = openings_in outputs
 
 written_openings : (bytes : Bytes) (o : Open) → opening_of (written_on bytes o) ≡ opening_of o
 written_openings bytes y = grind (arith, nat_tests)
@@ -96,34 +96,34 @@ none_more : (shown now more all : List Opening) → now ≡ shown → all ≡ no
 none_more shown now more all same is = is ∙ ap (λ (os : List Opening). os ++ more) same
 
 -- each opening is shown
-pub openings_shown : (sayings : List Saying) (r : Record)
-    → all_openings (after_all sayings r) ≡ all_openings r ++ openings_in sayings
+pub openings_shown : (outputs : List OutputEvent) (r : Record)
+    → all_openings (after_all outputs r) ≡ all_openings r ++ openings_in outputs
 openings_shown [] r = sym (append-nil (all_openings r))
-openings_shown (Opens (Absent name) ∷ sayings) r =
+openings_shown (Opens (Absent name) ∷ outputs) r =
     let now = after (Opens (Absent name)) r in
-    one_more (all_openings r) (all_openings now) (openings_in sayings) (Absent name)
-    (all_openings (after_all sayings now)) (openings_absent name r) (openings_shown sayings now)
-openings_shown (Opens (Found reading) ∷ sayings) r =
+    one_more (all_openings r) (all_openings now) (openings_in outputs) (Absent name)
+    (all_openings (after_all outputs now)) (openings_absent name r) (openings_shown outputs now)
+openings_shown (Opens (Found reading) ∷ outputs) r =
     let now = after (Opens (Found reading)) r in
-    one_more (all_openings r) (all_openings now) (openings_in sayings) (Found reading)
-    (all_openings (after_all sayings now)) (openings_opened (ToRead reading) r)
-    (openings_shown sayings now)
-openings_shown (Line bytes ∷ sayings) r = openings_shown sayings (after (Line bytes) r)
-openings_shown (Creates name ∷ sayings) r =
+    one_more (all_openings r) (all_openings now) (openings_in outputs) (Found reading)
+    (all_openings (after_all outputs now)) (openings_opened (ToRead reading) r)
+    (openings_shown outputs now)
+openings_shown (Line bytes ∷ outputs) r = openings_shown outputs (after (Line bytes) r)
+openings_shown (Creates name ∷ outputs) r =
     let now = after (Creates name) r in
     let file : Open = ToWrite (record { name = name; bytes = [] }) in
-    none_more (all_openings r) (all_openings now) (openings_in sayings) (all_openings (after_all sayings now))
+    none_more (all_openings r) (all_openings now) (openings_in outputs) (all_openings (after_all outputs now))
     (openings_opened file r ∙ append-nil (all_openings r))
-    (openings_shown sayings now)
-openings_shown (Writes bytes ∷ sayings) r =
+    (openings_shown outputs now)
+openings_shown (Writes bytes ∷ outputs) r =
     let now = after (Writes bytes) r in
-    none_more (all_openings r) (all_openings now) (openings_in sayings) (all_openings (after_all sayings now))
+    none_more (all_openings r) (all_openings now) (openings_in outputs) (all_openings (after_all outputs now))
     (ap (λ (os : List Opening). openings_among r.uses ++ os) (written_openings bytes r.current))
-    (openings_shown sayings now)
-openings_shown (Outs bytes ∷ sayings) r = openings_shown sayings (after (Outs bytes) r)
+    (openings_shown outputs now)
+openings_shown (Outs bytes ∷ outputs) r = openings_shown outputs (after (Outs bytes) r)
 
 -- so the same record shows the same openings
-same_openings : (first second : List Saying) (r : Record) → after_all first r ≡ after_all second r
+same_openings : (first second : List OutputEvent) (r : Record) → after_all first r ≡ after_all second r
     → openings_in first ≡ openings_in second
 same_openings first second r kept =
     let same : after_all first r ≡ after_all second r = cc in
@@ -135,14 +135,14 @@ same_openings first second r kept =
 -- whatever files give, the first that it says is the opening of the file of this name
 abbrev pub Begins : {A : Type 0} → Bytes → Stage A → Type 0
 Begins name stage = (openings : List Opening)
-    → (extra : List Saying) × ((stage openings).says ≡ Opens (next_opening name openings) ∷ extra)
+    → (extra : List OutputEvent) × ((stage openings).says ≡ Opens (next_opening name openings) ∷ extra)
 
 pub begins_then : {A B : Type 0} (name : Bytes) (stage : Stage A) (go_on : A → Stage B) → Begins name stage
     → Begins name (stage >>= go_on)
 begins_then name stage go_on begins openings =
     let p = stage openings in
     let more = says_more p.says p.left go_on p.answer in
-    ((begins openings).0 ++ more.0, more.1 ∙ ap (λ (ss : List Saying). ss ++ more.0) (begins openings).1)
+    ((begins openings).0 ++ more.0, more.1 ∙ ap (λ (ss : List OutputEvent). ss ++ more.0) (begins openings).1)
 
 pub begins_file : {A : Type 0} (name : Bytes) (limit : ℕ) (judge : Bytes → Result A Bytes)
     → Begins name (file_stage name limit judge)
@@ -154,7 +154,7 @@ same_name : (name other : Bytes) (passed : List Opening) → next_opening name (
 same_name name other y is = grind (arith, nat_tests)
 
 -- the line of a refusal stands after what was said first
-told_first : {A : Type 0} (first : Saying) (says : List Saying) (answer : StageAnswer A)
+told_first : {A : Type 0} (first : OutputEvent) (says : List OutputEvent) (answer : StageAnswer A)
     → all_told (first ∷ says) answer ≡ first ∷ all_told says answer
 told_first first says x = grind (arith, nat_tests)
 
@@ -176,17 +176,17 @@ module _ {A : Type 0} (taking : Taking) (name told : Bytes) (stage : Stage A) (b
   Told = TellsFailure (not_opened_line name) told Old New
       ⊎ (TellsLine memory_line told Old New × ((passed : List Opening) × taking passed []))
 
-  abbrev Leaves : List Saying → Type 0
-  Leaves sayings = after_err told r ≡ after_all sayings r
+  abbrev Leaves : List OutputEvent → Type 0
+  Leaves outputs = after_err told r ≡ after_all outputs r
 
-  abbrev Next : List Opening → List Saying
+  abbrev Next : List Opening → List OutputEvent
   Next passed = Opens (next_opening name (passed ++ [])) ∷ (begins (passed ++ [])).0
 
-  first_is : (passed : List Opening) (other : Bytes) (behind extra : List Saying)
+  first_is : (passed : List Opening) (other : Bytes) (behind extra : List OutputEvent)
       → Opens (next_opening name (passed ++ [])) ∷ behind ≡ Opens (Absent other) ∷ extra → name ≡ other
   first_is passed other behind extra is = grind (arith, nat_tests)
 
-  by_break : (passed : List Opening) (behind : List Saying) (break : Break) (line : Bytes)
+  by_break : (passed : List Opening) (behind : List OutputEvent) (break : Break) (line : Bytes)
       → IsBreak break [] (Opens (next_opening name (passed ++ [])) ∷ behind) → TakesThere taking break passed []
       → TellsBreak break line Old New
       → Leaves (last_done break line) → Told
@@ -207,12 +207,13 @@ module _ {A : Type 0} (taking : Taking) (name told : Bytes) (stage : Stage A) (b
       let none : ◌≡◌ {A = List Opening} [] (Found reading ∷ []) =
       same_openings (Line told ∷ []) (Opens (Found reading) ∷ Line line ∷ []) r kept in absurd (cc)
 
-  by_whole : (passed : List Opening) (answer : StageAnswer A) (whole later : List Saying) (break : Break) (line : Bytes)
+  by_whole : (passed : List Opening) (answer : StageAnswer A) (whole later : List OutputEvent) (break : Break)
+      (line : Bytes)
       → Next passed ≡ whole ++ later → IsBreak break [] (all_told later answer) → TakesThere taking break passed whole
       → TellsBreak break line Old New → Leaves (whole ++ last_done break line) → Told
   by_whole passed answer [] later break line says is taken tells kept =
       let next : IsBreak break [] (all_told (Next passed) answer) =
-      subst (λ (ls : List Saying). IsBreak break [] (all_told ls answer)) (sym says) is in
+      subst (λ (ls : List OutputEvent). IsBreak break [] (all_told ls answer)) (sym says) is in
       let behind = (begins (passed ++ [])).0 in
       by_break passed (all_told behind answer) break line
       (subst (IsBreak break []) (told_first (Opens (next_opening name (passed ++ []))) behind answer) next) taken
@@ -222,7 +223,7 @@ module _ {A : Type 0} (taking : Taking) (name told : Bytes) (stage : Stage A) (b
       let none = same_openings (Line told ∷ []) (first ∷ (whole ++ last_done break line)) r kept in
       let some : openings_in (first ∷ (whole ++ last_done break line))
       ≡ next_opening name (passed ++ []) ∷ openings_in (whole ++ last_done break line) =
-      ap (λ (s : Saying). openings_in (s ∷ (whole ++ last_done break line))) opens in
+      ap (λ (s : OutputEvent). openings_in (s ∷ (whole ++ last_done break line))) opens in
       let clash : [] ≡ next_opening name (passed ++ []) ∷ openings_in (whole ++ last_done break line) = none ∙ some in
       absurd (cc)
 
@@ -233,7 +234,7 @@ module _ {A : Type 0} (taking : Taking) (name told : Bytes) (stage : Stage A) (b
       let none = same_openings (Line told ∷ []) (went.says ++ Line line ∷ []) r went.kept in
       let clash : [] ≡ next_opening name (went.passed ++ [])
       ∷ openings_in ((begins (went.passed ++ [])).0 ++ Line line ∷ []) =
-      none ∙ ap (λ (ss : List Saying). openings_in (ss ++ Line line ∷ [])) says in
+      none ∙ ap (λ (ss : List OutputEvent). openings_in (ss ++ Line line ∷ [])) says in
       absurd (cc)
   unopened status (one, inr b) =
       let rest = b.rest [] in
@@ -255,11 +256,11 @@ module _ {A : Type 0} (name : Bytes) (limit : ℕ) (judge : Bytes → Result A B
   abbrev reading : Reading
   reading = record { name = name; bytes = bytes; ended = true }
 
-  abbrev done : List Saying
+  abbrev done : List OutputEvent
   done = Opens (Found reading) ∷ Line told ∷ []
 
-  abbrev Leaves_it : List Saying → Type 0
-  Leaves_it sayings = after_all done r ≡ after_all sayings r
+  abbrev Leaves_it : List OutputEvent → Type 0
+  Leaves_it outputs = after_all done r ≡ after_all outputs r
 
   abbrev made : List Opening → StageResult A
   made left = record { says = Opens (Found reading) ∷ []; answer = Made good; left = left }
@@ -305,7 +306,7 @@ module _ {A : Type 0} (name : Bytes) (limit : ℕ) (judge : Bytes → Result A B
   behind_it NoMemory line opening is tells kept = grind (arith, nat_tests, subst, told_is)
   behind_it (NoMemoryFor x) line opening is tells kept = grind (arith, nat_tests)
 
-  by_end : (first : Saying) (opening : Opening) (whole later : List Saying) (break : Break) (line : Bytes)
+  by_end : (first : OutputEvent) (opening : Opening) (whole later : List OutputEvent) (break : Break) (line : Bytes)
       → first ≡ Opens opening → whole ++ later ≡ []
       → IsBreak break [] later → TellsBreak break line Before After
       → Leaves_it (first ∷ (whole ++ last_done break line)) → TellsLine memory_line told Before After
@@ -313,7 +314,7 @@ module _ {A : Type 0} (name : Bytes) (limit : ℕ) (judge : Bytes → Result A B
       behind_it break line opening is tells (subst (λ s. Leaves_it (s ∷ last_done break line)) one kept)
   by_end first opening y z break line one none is tells kept = absurd (cc)
 
-  by_prefix : (openings : List Opening) (whole later : List Saying) (break : Break) (line : Bytes)
+  by_prefix : (openings : List Opening) (whole later : List OutputEvent) (break : Break) (line : Bytes)
       → (file_stage name limit judge openings).says ≡ whole ++ later
       → IsBreak break [] (all_told later (file_stage name limit judge openings).answer)
       → TellsBreak break line Before After → Leaves_it (whole ++ last_done break line)
@@ -326,7 +327,7 @@ module _ {A : Type 0} (name : Bytes) (limit : ℕ) (judge : Bytes → Result A B
       let first_is : first ≡ Opens (next_opening name openings) = cc in
       let shown : Found reading ∷ [] ≡ next_opening name openings ∷ openings_in (whole ++ last_done break line) =
       same_openings done (first ∷ (whole ++ last_done break line)) r kept
-      ∙ ap (λ (s : Saying). openings_in (s ∷ (whole ++ last_done break line))) first_is in
+      ∙ ap (λ (s : OutputEvent). openings_in (s ∷ (whole ++ last_done break line))) first_is in
       let opening : next_opening name openings ≡ Found reading = cc in
       let all : first ∷ (whole ++ later) ≡ Opens (Found reading) ∷ [] =
       sym says ∙ ap (λ (p : StageResult A). p.says) (comes_to openings opening) in
@@ -346,7 +347,7 @@ module _ {A : Type 0} (name : Bytes) (limit : ℕ) (judge : Bytes → Result A B
       sym (ap (λ (p : StageResult A). p.says) (went.comes [])) ∙ begun.1 in
       let shown : Found reading ∷ [] ≡ next_opening name openings ∷ openings_in (begun.0 ++ Line line ∷ []) =
       same_openings done (went.says ++ Line line ∷ []) r went.kept
-      ∙ ap (λ (ss : List Saying). openings_in (ss ++ Line line ∷ [])) says in
+      ∙ ap (λ (ss : List OutputEvent). openings_in (ss ++ Line line ∷ [])) says in
       let opening : next_opening name openings ≡ Found reading = cc in
       let answers : Made good ≡ Refused line =
       sym (ap (λ (p : StageResult A). p.answer) (comes_to openings opening))
@@ -377,8 +378,8 @@ module _ {A : Type 0} (line told : Bytes) (stage : Stage A)
   TellsOne = TellsLine line told Here There
       ⊎ (TellsLine memory_line told Here There × ((passed : List Opening) × taking passed []))
 
-  abbrev Only : List Saying → Type 0
-  Only sayings = after_err told r ≡ after_all sayings r
+  abbrev Only : List OutputEvent → Type 0
+  Only outputs = after_err told r ≡ after_all outputs r
 
   -- what is reported of a break there
   at_once : (passed : List Opening) (break : Break) (some : Bytes) → IsBreak break [] (Line line ∷ [])
@@ -403,7 +404,8 @@ module _ {A : Type 0} (line told : Bytes) (stage : Stage A)
   at_once passed (NoMemoryFor reading) some is taken tells kept =
       let clash : Line line ≡ Opens (next_opening reading.name []) = let e = is.1 in cc in absurd (cc)
 
-  in_front : (passed : List Opening) (whole later : List Saying) (break : Break) (some : Bytes) → [] ≡ whole ++ later
+  in_front : (passed : List Opening) (whole later : List OutputEvent) (break : Break) (some : Bytes) → [] ≡ whole
+      ++ later
       → IsBreak break [] (all_told {A = A} later (Refused line)) → TakesThere taking break passed whole
       → TellsBreak break some Here There
       → Only (whole ++ last_done break some) → TellsOne
@@ -419,7 +421,7 @@ module _ {A : Type 0} (line told : Bytes) (stage : Stage A)
       let lines : line ≡ other = same_refusal {A = A} line other
       (sym (ap (λ (p : StageResult A). p.answer) (refuses openings))
       ∙ ap (λ (p : StageResult A). p.answer) (went.comes [])) in
-      let kept : Only (Line other ∷ []) = subst (λ (ss : List Saying). Only (ss ++ Line other ∷ [])) (sym says)
+      let kept : Only (Line other ∷ []) = subst (λ (ss : List OutputEvent). Only (ss ++ Line other ∷ [])) (sym says)
       went.kept in
       inl (inl (only_told r told other kept ∙ sym lines, went.sound))
   refused_once status (one, inr b) =

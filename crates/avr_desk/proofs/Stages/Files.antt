@@ -9,14 +9,14 @@ use Rattle.avr_desk.specs.declared.record.Opening.{Opening}
 use Rattle.avr_desk.specs.declared.record.Opening.TheVariants.{Absent, Found}
 use Rattle.avr_desk.specs.declared.record.Reading.{Reading}
 use Rattle.avr_desk.specs.Lines.{file_fault_line, not_opened_line}
-use Rattle.avr_desk.specs.Said.{Saying, Tells}
+use Rattle.avr_desk.specs.Said.{OutputEvent, Tells}
 use Rattle.avr_desk.proofs.Stages.Openings.{goes_opened, goes_judged, goes_broken}
 use Rattle.avr_desk.proofs.Stages.Played.{goes_refused}
 use Rattle.avr_desk.specs.Playing.{Taking, AtStart, Goes, Went}
 use Rattle.avr_desk.specs.Stage.{Made, verdict_stage, content_stage, file_stage}
 
 -- no memory is taken
-pub taken_never : (passed : List Opening) (said : List Saying) → AtStart false passed said → ⊥
+pub taken_never : (passed : List Opening) (said : List OutputEvent) → AtStart false passed said → ⊥
 taken_never passed said never = let clash : false ≡ true = never.0 in cc
 
 module _ {A : Type 0} (taking : Taking) (name : Bytes) (limit : ℕ) (judge : Bytes → Result A Bytes) where

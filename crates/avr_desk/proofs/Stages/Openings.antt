@@ -10,10 +10,10 @@ use Rattle.avr_desk.specs.declared.record.Opening.{Opening}
 use Rattle.avr_desk.specs.declared.record.Opening.TheVariants.{Found}
 use Rattle.avr_desk.specs.declared.record.Reading.{Reading}
 use Rattle.avr_desk.specs.declared.stream.Stream.TheVariants.{File}
-use Rattle.avr_desk.proofs.Stages.Sayings.{kept_append}
+use Rattle.avr_desk.proofs.Stages.Outputs.{kept_append}
 use Rattle.avr_desk.proofs.Lines.Told.{failure_told, follows_on, follows_same, tells_since}
 use Rattle.avr_desk.specs.Lines.{file_fault_line, memory_line, not_opened_line, not_read_line}
-use Rattle.avr_desk.specs.Said.{Saying, Opens, Line, Tells, after_all}
+use Rattle.avr_desk.specs.Said.{OutputEvent, Opens, Line, Tells, after_all}
 use Rattle.avr_desk.proofs.Stages.Played.{goes_on}
 use Rattle.avr_desk.specs.Playing.{Break, NotOpened, NotRead, NoMemoryFor, last_done, IsBreak, TakesThere, Taking, TellsBreak, Goes, part_read}
 use Rattle.avr_desk.specs.Stage.{Stage, Made, StageResult, ◌>>=◌, verdict_stage, open_stage, under_name, content_stage, next_opening}
@@ -27,7 +27,7 @@ after_opening more opening = record { says = Opens opening ∷ []; answer = Made
 pub goes_opened : {A : Type 0} (inner taking : Taking) (name : Bytes) (next : Opening → Stage A) (opening : Opening)
     (old mid new : DeskState) (result : Result A ℕ)
     → under_name name opening ≡ opening → Passes (after_all (Opens opening ∷ [])) old mid → HasSameCounts old mid
-    → ((passed : List Opening) (said : List Saying) → inner passed said
+    → ((passed : List Opening) (said : List OutputEvent) → inner passed said
     → taking (opening ∷ passed) (Opens opening ∷ said))
     → Goes inner (next opening) mid new result → Goes taking (open_stage name >>= next) old new result
 goes_opened inner taking name next opening old mid new result is kept same behind goes =

@@ -9,12 +9,12 @@ use Rattle.avr_desk.specs.declared.desk.DeskFault.TheVariants.{NotFound, Failed}
 use Rattle.avr_desk.specs.Stream.{SendsPart}
 use Rattle.avr_desk.specs.declared.stream.Stream.TheVariants.{Messages}
 use Rattle.avr_desk.specs.declared.record.Opening.{Opening}
-use Rattle.avr_desk.specs.Said.{Saying, Line, Opens, TellsLine, Tells, after_all}
-use Rattle.avr_desk.proofs.Stages.Sayings.{kept_none, kept_append}
+use Rattle.avr_desk.specs.Said.{OutputEvent, Line, Opens, TellsLine, Tells, after_all}
+use Rattle.avr_desk.proofs.Stages.Outputs.{kept_none, kept_append}
 use Rattle.avr_desk.proofs.Lines.Told.{follows_on, follows_same, same_here, same_on, unsaid_since, tells_since}
 use Rattle.avr_desk.specs.Lines.{memory_line}
-use Rattle.avr_desk.specs.Playing.{Went, Break, InLine, NotOpened, NotRead, NoMemory, NoMemoryFor, last_done, IsNextSaying, IsBreak, TellsBreak, Rest, Taking, TakesThere, StageBrokeOff, Goes}
-use Rattle.avr_desk.specs.Stage.{Stage, StageAnswer, Made, Refused, StageResult, all_told, behind_sayings, going_on, ◌>>=◌, verdict_stage, saying_stage, next_opening}
+use Rattle.avr_desk.specs.Playing.{Went, Break, InLine, NotOpened, NotRead, NoMemory, NoMemoryFor, last_done, IsNextOutput, IsBreak, TellsBreak, Rest, Taking, TakesThere, StageBrokeOff, Goes}
+use Rattle.avr_desk.specs.Stage.{Stage, StageAnswer, Made, Refused, StageResult, all_told, behind_outputs, going_on, ◌>>=◌, verdict_stage, output_stage, next_opening}
 
 -- ---- counts
 
@@ -27,10 +27,11 @@ break_since x told first old new same tells = grind (arith, nat_tests)
 
 -- ---- a stage after another one
 
-next_more : (next : Saying) (later extra : List Saying) → IsNextSaying next later → IsNextSaying next (later ++ extra)
-next_more next later extra is = (is.0 ++ extra, ap (λ (ss : List Saying). ss ++ extra) is.1)
+next_more : (next : OutputEvent) (later extra : List OutputEvent) → IsNextOutput next later
+    → IsNextOutput next (later ++ extra)
+next_more next later extra is = (is.0 ++ extra, ap (λ (ss : List OutputEvent). ss ++ extra) is.1)
 
-break_more : (break : Break) (more : List Opening) (later extra : List Saying) → IsBreak break more later
+break_more : (break : Break) (more : List Opening) (later extra : List OutputEvent) → IsBreak break more later
     → IsBreak break more (later ++ extra)
 break_more (InLine line) more later extra is = next_more (Line line) later extra is
 break_more (NotOpened name) more later extra is = next_more (Opens (next_opening name more)) later extra is
@@ -39,42 +40,43 @@ break_more NoMemory more later extra is = is
 break_more (NoMemoryFor reading) more later extra is = next_more (Opens (next_opening reading.name more)) later extra is
 
 -- what a stage says, the stage after it says after that
-pub says_more : {A B : Type 0} (says : List Saying) (left : List Opening) (go_on : A → Stage B) (answer : StageAnswer A)
-    → (extra : List Saying) × ((going_on says left go_on answer).says ≡ says ++ extra)
+pub says_more : {A B : Type 0} (says : List OutputEvent) (left : List Opening) (go_on : A
+    → Stage B) (answer : StageAnswer A)
+    → (extra : List OutputEvent) × ((going_on says left go_on answer).says ≡ says ++ extra)
 says_more says left go_on (Made a) = ((go_on a left).says, refl)
 says_more says left go_on x = ([], sym (append-nil says))
 
 -- the line of a refusal stands after both
-pub told_append : {A : Type 0} (first second : List Saying) (answer : StageAnswer A)
+pub told_append : {A : Type 0} (first second : List OutputEvent) (answer : StageAnswer A)
     → all_told (first ++ second) answer ≡ first ++ all_told second answer
 told_append first second (Refused line) = append_assoc first second (Line line ∷ [])
 told_append first second x = refl
 
--- the sayings of the next stage stand behind a rest
-rest_on : {A B : Type 0} (says : List Saying) (left : List Opening) (go_on : A → Stage B) (answer : StageAnswer A)
-    (whole : List Saying) (break : Break) (more : List Opening)
+-- the output events of the next stage stand behind a rest
+rest_on : {A B : Type 0} (says : List OutputEvent) (left : List Opening) (go_on : A → Stage B) (answer : StageAnswer A)
+    (whole : List OutputEvent) (break : Break) (more : List Opening)
     → Rest (record { says = says; answer = answer; left = left }) whole break more
     → Rest (going_on says left go_on answer) whole break more
 rest_on says left go_on (Made a) whole break more rest =
     grind (arith, nat_tests, append_assoc, subst, told_append, break_more)
 rest_on says left go_on x whole break more rest = grind (arith, nat_tests)
 
-rest_more : {A B : Type 0} (p : StageResult A) (go_on : A → Stage B) (whole : List Saying) (break : Break)
+rest_more : {A B : Type 0} (p : StageResult A) (go_on : A → Stage B) (whole : List OutputEvent) (break : Break)
     (more : List Opening)
     → Rest p whole break more
     → Rest (going_on p.says p.left go_on p.answer) whole break more
 rest_more p go_on whole break more rest = rest_on p.says p.left go_on p.answer whole break more rest
 
-rest_behind : {A : Type 0} (says whole : List Saying) (p : StageResult A) (break : Break) (more : List Opening)
+rest_behind : {A : Type 0} (says whole : List OutputEvent) (p : StageResult A) (break : Break) (more : List Opening)
     → Rest p whole break more
-    → Rest (behind_sayings says p) (says ++ whole) break more
+    → Rest (behind_outputs says p) (says ++ whole) break more
 rest_behind says whole p break more rest = grind (arith, nat_tests, append_assoc)
 
 -- a stage that made something, and openings after its own
 pub made_then : {A B : Type 0} (stage : Stage A) (go_on : A → Stage B) (old new : DeskState) (a : A)
     (w : Went stage old new (Made a))
     (later : List Opening)
-    → (stage >>= go_on) (w.passed ++ later) ≡ behind_sayings w.says (go_on a later)
+    → (stage >>= go_on) (w.passed ++ later) ≡ behind_outputs w.says (go_on a later)
 made_then stage go_on old new a w later = ap (λ p. going_on p.says p.left go_on p.answer) (w.comes later)
 
 pub went_went : {A B : Type 0} (stage : Stage A) (go_on : A → Stage B) (old mid new : DeskState) (a : A)
@@ -90,7 +92,7 @@ went_went stage go_on old mid new a answer first then = record {
 }
 
 -- memory that is taken here is taken there
-taken_there : (inner taking : Taking) (break : Break) (passed all : List Opening) (said told : List Saying)
+taken_there : (inner taking : Taking) (break : Break) (passed all : List Opening) (said told : List OutputEvent)
     → (inner passed said → taking all told) → TakesThere inner break passed said → TakesThere taking break all told
 taken_there inner taking NoMemory passed all said told there is = there is
 taken_there inner taking x passed all said told there is = tt
@@ -98,7 +100,7 @@ taken_there inner taking x passed all said told there is = tt
 -- what takes memory after a stage that made something
 abbrev pub TakesBehind : {A : Type 0} (inner taking : Taking) (stage : Stage A) (old mid : DeskState) (a : A)
     → Went stage old mid (Made a) → Type 0
-TakesBehind inner taking stage old mid a first = (passed : List Opening) (said : List Saying) → inner passed said
+TakesBehind inner taking stage old mid a first = (passed : List Opening) (said : List OutputEvent) → inner passed said
     → taking (first.passed ++ passed) (first.says ++ said)
 
 went_broke : {A B : Type 0} (inner taking : Taking) (stage : Stage A) (go_on : A → Stage B) (old mid new : DeskState)
@@ -146,7 +148,7 @@ goes_no_further taking stage go_on old new status (one, inr broke) = grind (arit
 
 -- where memory may be refused in more places
 pub goes_within : {A : Type 0} (inner taking : Taking) (stage : Stage A) (old new : DeskState) (result : Result A ℕ)
-    → ((passed : List Opening) (said : List Saying) → inner passed said → taking passed said)
+    → ((passed : List Opening) (said : List OutputEvent) → inner passed said → taking passed said)
     → Goes inner stage old new result → Goes taking stage old new result
 goes_within inner taking stage old new (Ok a) within went = went
 goes_within inner taking stage old new (Err status) within (one, inl went) = (one, inl went)
@@ -214,12 +216,12 @@ goes_unsettled taking r line old new status is one told =
     subst (λ x. Goes taking (verdict_stage x) old new (Err status)) (sym is)
     (goes_refused taking old new line status one told)
 
-pub went_silent : (d : DeskState) → Went (saying_stage []) d d (Made tt)
+pub went_silent : (d : DeskState) → Went (output_stage []) d d (Made tt)
 went_silent d = record { passed = []; says = []; comes = λ more. refl; kept = kept_none d.kept; sound = same_here d }
 
-pub went_saying : (old new : DeskState) (line : List ℕ) → Passes (after_all (Line line ∷ [])) old new
-    → HasSameCounts old new → Went (saying_stage (Line line ∷ [])) old new (Made tt)
-went_saying old new line kept same =
+pub went_output : (old new : DeskState) (line : List ℕ) → Passes (after_all (Line line ∷ [])) old new
+    → HasSameCounts old new → Went (output_stage (Line line ∷ [])) old new (Made tt)
+went_output old new line kept same =
     record { passed = []; says = Line line ∷ []; comes = λ more. refl; kept = kept; sound = same }
 
 -- a failed call is counted
@@ -228,12 +230,12 @@ failed_counts : (old new : DeskState) (fault : DeskFault) → fault ≡ Failed
 failed_counts old new NotFound is counts = cc
 failed_counts old new Failed is counts = counts.1
 
-pub goes_saying_part : (taking : Taking) (old new : DeskState) (line : List ℕ) (fault : DeskFault)
+pub goes_output_part : (taking : Taking) (old new : DeskState) (line : List ℕ) (fault : DeskFault)
     → SendsPart Messages old new line → fault ≡ Failed → Counts {T = Unit {0}} Messages old new (Err fault)
-    → Goes taking (saying_stage (Line line ∷ [])) old new (Err 1)
-goes_saying_part taking old new line fault part is counts = (
+    → Goes taking (output_stage (Line line ∷ [])) old new (Err 1)
+goes_output_part taking old new line fault part is counts = (
   refl,
-  inr (broke_here taking (saying_stage (Line line ∷ [])) old new (InLine line) (take part.0 line) tt
+  inr (broke_here taking (output_stage (Line line ∷ [])) old new (InLine line) (take part.0 line) tt
       (λ more. ([], refl))
       ((drop part.0 line, take-append-drop part.0 line), failed_counts old new fault is counts) part.2 counts.0),
 )

@@ -8,7 +8,7 @@ use Rattle.avr_cli.specs.declared.update.Op.{Op}
 use Rattle.avr_cli.specs.declared.update.Op.TheVariants as op
 use Rattle.avr_cli.specs.declared.update.Update.{Update}
 use Rattle.avr_desk.specs.Record.{Bytes}
-use Rattle.avr_desk.specs.Stage.{Stage, ◌>>=◌, saying_stage, verdict_stage, file_stage}
+use Rattle.avr_desk.specs.Stage.{Stage, ◌>>=◌, output_stage, verdict_stage, file_stage}
 use Rattle.avr_image.specs.Values.{values}
 use Rattle.avr_part.specs.BuiltIn.{part_of_id}
 use Rattle.avr_part.specs.Mem.{is_writable}
@@ -27,7 +27,7 @@ use Rattle.avr_records.specs.declared.kind.Ending.{Ending}
 module _ (Holds : (A : Type 0) → Stage A → List Bytes → Type 0)
     (settled : (A : Type 0) (result : Result A Bytes) → Holds A (verdict_stage result) [])
     (warned : (s : Switches) (name : Bytes) (ending : Ending)
-    → Holds (Unit {0}) (saying_stage (warning_says s name ending)) [])
+    → Holds (Unit {0}) (output_stage (warning_says s name ending)) [])
     (of_parts : (name : Bytes) → Holds (List Part) (file_stage name LARGEST_PART_FILE (judged_parts name)) (name ∷ []))
     (of_image : (name : Bytes) (kind : Format) (size : ℕ)
     → Holds (List (Option ℕ) × Ending) (file_stage name LARGEST_IMAGE_FILE (judged_image name kind size)) (name ∷ []))
@@ -48,9 +48,9 @@ module _ (Holds : (A : Type 0) → Stage A → List Bytes → Type 0)
         → Holds (List (Option ℕ)) (file_image_stage s name kind size) (name ∷ [])
     file_image name kind size =
         last (file_stage name LARGEST_IMAGE_FILE (judged_image name kind size))
-        (λ given. saying_stage (warning_says s name given.1) >>= λ ok. verdict_stage (Ok given.0)) (name ∷ [])
+        (λ given. output_stage (warning_says s name given.1) >>= λ ok. verdict_stage (Ok given.0)) (name ∷ [])
         (of_image name kind size)
-        (λ given. last (saying_stage (warning_says s name given.1)) (λ ok. verdict_stage (Ok given.0)) []
+        (λ given. last (output_stage (warning_says s name given.1)) (λ ok. verdict_stage (Ok given.0)) []
         (warned s name given.1) (λ ok. settled (List (Option ℕ)) (Ok given.0)))
 
     image : (memory : Mem) (size : ℕ) (name : Bytes) (kind : Format)

@@ -6,8 +6,8 @@ use Rattle.avr_cli.specs.declared.settings.Settings.{Settings}
 use Rattle.avr_cli.specs.declared.update.Format.{Format}
 use Rattle.avr_desk.specs.Memory.{Stock, stood_for}
 use Rattle.avr_desk.specs.Record.{Bytes}
-use Rattle.avr_desk.specs.Said.{Saying, Opens, Line}
-use Rattle.avr_desk.specs.Stage.{Stage, StageResult, StageAnswer, Made, Refused, Unread, all_told, told_in, behind_sayings, going_on, ◌>>=◌, saying_stage, verdict_stage, unread_stage, under_name, content_stage, file_stage}
+use Rattle.avr_desk.specs.Said.{OutputEvent, Opens, Line}
+use Rattle.avr_desk.specs.Stage.{Stage, StageResult, StageAnswer, Made, Refused, Unread, all_told, told_in, behind_outputs, going_on, ◌>>=◌, output_stage, verdict_stage, unread_stage, under_name, content_stage, file_stage}
 use Rattle.avr_desk.specs.Truth.{IsTrueOpening}
 use Rattle.avr_desk.specs.declared.record.Opening.{Opening}
 use Rattle.avr_desk.specs.declared.record.Opening.TheVariants.{Absent, Found}
@@ -23,23 +23,24 @@ use Rattle.avr_plan.specs.Planning.{judged_parts, warning_says, image_or_line, j
 
 -- ---- what was opened
 
-pub seen_first : (stock : Stock) (first second : List Saying) → AreSeen stock (first ++ second) → AreSeen stock first
+pub seen_first : (stock : Stock) (first second : List OutputEvent) → AreSeen stock (first ++ second)
+    → AreSeen stock first
 seen_first stock [] second seen = tt
 seen_first stock (Opens opening ∷ first) second seen = (seen.0, seen_first stock first second seen.1)
-seen_first stock (saying ∷ first) second seen = seen_first stock first second seen
+seen_first stock (output ∷ first) second seen = seen_first stock first second seen
 
-seen_second : (stock : Stock) (first second : List Saying) → AreSeen stock (first ++ second) → AreSeen stock second
+seen_second : (stock : Stock) (first second : List OutputEvent) → AreSeen stock (first ++ second) → AreSeen stock second
 seen_second stock [] second seen = seen
 seen_second stock (Opens opening ∷ first) second seen = seen_second stock first second seen.1
-seen_second stock (saying ∷ first) second seen = seen_second stock first second seen
+seen_second stock (output ∷ first) second seen = seen_second stock first second seen
 
-lines_append : (first second : List Saying) → lines_in (first ++ second) ≡ lines_in first ++ lines_in second
+lines_append : (first second : List OutputEvent) → lines_in (first ++ second) ≡ lines_in first ++ lines_in second
 lines_append [] second = refl
 lines_append (Line bytes ∷ first) second = ap (λ (ls : List Bytes). bytes ∷ ls) (lines_append first second)
-lines_append (saying ∷ first) second = lines_append first second
+lines_append (output ∷ first) second = lines_append first second
 
 -- the same lines, and the line of the same refusal
-lines_told : {A : Type 0} (first second : List Saying) (answer : StageAnswer A) → lines_in first ≡ lines_in second
+lines_told : {A : Type 0} (first second : List OutputEvent) (answer : StageAnswer A) → lines_in first ≡ lines_in second
     → lines_in (all_told first answer) ≡ lines_in (all_told second answer)
 lines_told first second (Made a) same = same
 lines_told first second (Refused line) same =
@@ -70,7 +71,7 @@ module _ (stock : Stock) where
   settled_fixed : {A : Type 0} (result : Result A Bytes) → Sees (verdict_stage result) []
   settled_fixed result openings rest seen read = same_verdict result result openings rest refl
 
-  says_fixed : (says : List Saying) → Sees (saying_stage says) []
+  says_fixed : (says : List OutputEvent) → Sees (output_stage says) []
   says_fixed says openings rest seen read = record { answer = refl; lines = refl; left = λ made is. refl }
 
   -- one and then another
@@ -170,7 +171,7 @@ module _ (stock : Stock) where
     behind_opening : (opening : Opening) (openings rest : List Opening)
         → IsTrueOpening stock [] (under_name name opening)
         → ((content_stage name limit judge (under_name name opening) openings).answer ≡ Unread → ⊥)
-        → IsSame (behind_sayings (Opens (under_name name opening) ∷ [])
+        → IsSame (behind_outputs (Opens (under_name name opening) ∷ [])
         (content_stage name limit judge (under_name name opening) openings))
         (file_stage name limit judge (read_whole name (stood_for stock [] name) ∷ rest)) rest
     behind_opening opening openings rest is read =

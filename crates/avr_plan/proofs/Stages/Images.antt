@@ -16,7 +16,7 @@ use Rattle.avr_plan.specs.ImageReading.{ReadsImage, ImageIsRead, IsCountedRead}
 use Rattle.avr_plan.specs.Lines.{bad_file_line, image_line}
 use Rattle.avr_plan.specs.Planning.{file_image_stage, judged_image, image_or_line, warning_says}
 use Rattle.avr_desk.specs.Playing.{AtStart, Goes, Went}
-use Rattle.avr_desk.specs.Stage.{Stage, Made, ◌>>=◌, verdict_stage, saying_stage, file_stage}
+use Rattle.avr_desk.specs.Stage.{Stage, Made, ◌>>=◌, verdict_stage, output_stage, file_stage}
 use Rattle.avr_plan.specs.declared.intake.BadFile.{BadFile}
 use Rattle.avr_plan.specs.declared.image_file.ReadFault.{ReadFault}
 use Rattle.avr_plan.specs.declared.image_file.ReadFault.TheVariants as fault_of
@@ -26,7 +26,7 @@ Image = List (Option ℕ)
 
 -- what follows the file
 abbrev behind_file : Switches → Bytes → Image × Ending → Stage Image
-behind_file switches file given = saying_stage (warning_says switches file given.1) >>= λ ok. verdict_stage (Ok given.0)
+behind_file switches file given = output_stage (warning_says switches file given.1) >>= λ ok. verdict_stage (Ok given.0)
 
 went_file : (file : Bytes) (format : Format) (size : ℕ) (old mid : DeskState) (image : Image) (ending : Ending)
     → ReadsImage LARGEST_IMAGE_FILE format size file old mid (Ok (image, ending)) → HasSameCounts old mid
@@ -41,26 +41,26 @@ module _ (switches : Switches) (file : Bytes) (format : Format) (size : ℕ) whe
   -- a file that is an image, and its warning
   pub went_image : (old mid new : DeskState) (image : Image) (ending : Ending)
       → ReadsImage LARGEST_IMAGE_FILE format size file old mid (Ok (image, ending)) → HasSameCounts old mid
-      → Went (saying_stage (warning_says switches file ending)) mid new (Made tt)
+      → Went (output_stage (warning_says switches file ending)) mid new (Made tt)
       → Went (file_image_stage switches file format size) old new (Made image)
   went_image old mid new image ending reads same warns =
       went_went (file_stage file LARGEST_IMAGE_FILE (judged_image file format size)) (behind_file switches file) old mid
       new (image, ending) (Made image)
       (went_file file format size old mid image ending reads same)
-      (went_went (saying_stage (warning_says switches file ending)) (λ ok. verdict_stage (Ok image)) mid new new tt
+      (went_went (output_stage (warning_says switches file ending)) (λ ok. verdict_stage (Ok image)) mid new new tt
       (Made image) warns (went_nowhere new image))
 
   -- its warning broke off
   pub goes_unwarned : (old mid new : DeskState) (image : Image) (ending : Ending) (status : ℕ)
       → ReadsImage LARGEST_IMAGE_FILE format size file old mid (Ok (image, ending)) → HasSameCounts old mid
-      → Goes (AtStart false) (saying_stage (warning_says switches file ending)) mid new (Err status)
+      → Goes (AtStart false) (output_stage (warning_says switches file ending)) mid new (Err status)
       → Goes (AtStart false) (file_image_stage switches file format size) old new (Err status)
   goes_unwarned old mid new image ending status reads same warns =
       goes_on (AtStart false) (AtStart false) (file_stage file LARGEST_IMAGE_FILE (judged_image file format size))
       (behind_file switches file) old mid new
       (image, ending) (Err status) (went_file file format size old mid image ending reads same)
       (λ passed said never. absurd (taken_never passed said never))
-      (goes_no_further (AtStart false) (saying_stage (warning_says switches file ending))
+      (goes_no_further (AtStart false) (output_stage (warning_says switches file ending))
       (λ ok. verdict_stage (Ok image)) mid new status warns)
 
   -- a file that is none

@@ -5,7 +5,7 @@ use Rattle.avr_cli.specs.declared.settings.Settings.{Settings}
 use Rattle.avr_desk.specs.declared.record.Opening.{Opening}
 use Rattle.avr_desk.specs.declared.record.Opening.TheVariants.{Absent, Found}
 use Rattle.avr_desk.specs.Record.{Bytes}
-use Rattle.avr_desk.specs.Said.{Saying, Opens, Line}
+use Rattle.avr_desk.specs.Said.{OutputEvent, Opens, Line}
 use Rattle.avr_plan.specs.declared.image_file.TheConstants.{LARGEST_IMAGE_FILE}
 use Rattle.avr_plan.specs.declared.part_choice.TheConstants.{LARGEST_PART_FILE}
 use Rattle.avr_plan.specs.Lines.{no_end_line}
@@ -18,13 +18,13 @@ use Rattle.avr_desk.specs.Stage.{Stage, StageAnswer, Made, Refused, all_told, to
 abbrev Reads : {A : Type 0} → Stage A → Type 0
 Reads stage = (openings : List Opening) → OnlyReads (stage openings).says
 
-both : (xs ys : List Saying) → OnlyReads xs → OnlyReads ys → OnlyReads (xs ++ ys)
+both : (xs ys : List OutputEvent) → OnlyReads xs → OnlyReads ys → OnlyReads (xs ++ ys)
 both [] ys f g = g
 both (Opens opening ∷ xs) ys f g = both xs ys f g
 both (Line bytes ∷ xs) ys f g = both xs ys f g
-both (saying ∷ xs) ys f g = absurd f
+both (output ∷ xs) ys f g = absurd f
 
-going : {A B : Type 0} (says : List Saying) (left : List Opening) (go_on : A → Stage B) (answer : StageAnswer A)
+going : {A B : Type 0} (says : List OutputEvent) (left : List Opening) (go_on : A → Stage B) (answer : StageAnswer A)
     → OnlyReads says → ((a : A) → Reads (go_on a)) → OnlyReads (going_on says left go_on answer).says
 going says left go_on (Made a) f g = both says (go_on a left).says f (g a left)
 going says left go_on answer f g = f
@@ -64,7 +64,7 @@ reads_plan = whole_plan (λ A stage names. Reads {A = A} stage) (λ A result. is
     (λ A B stage go_on first back f g. onward stage go_on f g)
 
 -- the line of a refusal too
-refused_so : {A : Type 0} (says : List Saying) (answer : StageAnswer A) → OnlyReads says
+refused_so : {A : Type 0} (says : List OutputEvent) (answer : StageAnswer A) → OnlyReads says
     → OnlyReads (all_told says answer)
 refused_so says (Refused line) f = both says (Line line ∷ []) f tt
 refused_so says answer f = f

@@ -3,7 +3,7 @@ use Rattle.std.proofs.Common.{◌≡◌, ◌∙◌, ap, append-nil, subst, ℕ, 
 use Rattle.avr_cli.specs.declared.settings.Settings.{Settings}
 use Rattle.avr_desk.specs.Record.{DeskState, Bytes}
 use Rattle.avr_part.specs.Part.{Part}
-use Rattle.avr_desk.specs.Said.{Saying}
+use Rattle.avr_desk.specs.Said.{OutputEvent}
 use Rattle.avr_desk.specs.declared.record.Opening.{Opening}
 use Rattle.avr_desk.proofs.Stages.Files.{taken_never}
 use Rattle.avr_desk.proofs.Stages.Played.{goes_on, goes_no_further, goes_within, made_then, went_went, went_into}
@@ -11,7 +11,7 @@ use Rattle.avr_plan.specs.Plan.{Plan}
 use Rattle.avr_plan.specs.Planning.{LacksPart, parts_stage, part_stage, tasks_stage, planned}
 use Rattle.avr_desk.specs.Playing.{AtStart, Goes, Taking, Went}
 use Rattle.avr_plan.specs.Taking.{AtUpdate, AtTask}
-use Rattle.avr_desk.specs.Stage.{Stage, Made, behind_sayings, going_on, ◌>>=◌, verdict_stage}
+use Rattle.avr_desk.specs.Stage.{Stage, Made, behind_outputs, going_on, ◌>>=◌, verdict_stage}
 use Rattle.avr_plan.specs.declared.planned.Task.{Task}
 
 abbrev plan_of : Settings → Part → List Task → Plan
@@ -43,7 +43,7 @@ goes_without_part s old mid new status parts went goes =
 -- where an update is due behind the part, there it is due in the plan
 at_due : (s : Settings) (old first mid : DeskState) (parts : List Part) (part : Part)
     (went : Went (parts_stage s.parts) old first (Made parts))
-    (found : Went (part_stage s.part parts) first mid (Made part)) (passed : List Opening) (said : List Saying)
+    (found : Went (part_stage s.part parts) first mid (Made part)) (passed : List Opening) (said : List OutputEvent)
     → AtTask s.switches part [] s.updates passed said
     → AtUpdate s (went.passed ++ (found.passed ++ passed)) (went.says ++ (found.says ++ said))
 at_due s old first mid parts part went found passed said due = record {
@@ -69,14 +69,15 @@ at_due s old first mid parts part went found passed said due = record {
         ≡ record { says = went.says ++ (found.says ++ said); answer = Made (plan_of s part due.made); left = [] }
     planned_so =
         made_then (parts_stage s.parts) (behind_parts before) old first parts went (found.passed ++ passed)
-        ∙ ap (behind_sayings went.says)
+        ∙ ap (behind_outputs went.says)
         (made_then (part_stage s.part parts) (behind_part before) first mid part found passed
-        ∙ ap (behind_sayings found.says)
-        (made_so ∙ ap (λ (ss : List Saying). record { says = ss; answer = Made (plan_of s part due.made); left = [] })
+        ∙ ap (behind_outputs found.says)
+        (made_so ∙ ap (λ (ss : List OutputEvent). record
+        { says = ss; answer = Made (plan_of s part due.made); left = [] })
         (append-nil said)))
 
 -- where memory is taken behind the part file
-abbrev Behind : Settings → List Opening → List Saying → Taking
+abbrev Behind : Settings → List Opening → List OutputEvent → Taking
 Behind s before says passed said = AtUpdate s (before ++ passed) (says ++ said)
 
 pub goes_without_tasks : (s : Settings) (old first mid new : DeskState) (status : ℕ) (parts : List Part) (part : Part)

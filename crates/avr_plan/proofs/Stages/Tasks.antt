@@ -6,7 +6,7 @@ use Rattle.avr_cli.specs.declared.update.Format.TheVariants.{Immediate}
 use Rattle.avr_cli.specs.declared.update.Op.TheVariants as op
 use Rattle.avr_cli.specs.declared.update.Update.{Update}
 use Rattle.avr_desk.specs.Record.{DeskState, Bytes}
-use Rattle.avr_desk.specs.Said.{Saying, Tells}
+use Rattle.avr_desk.specs.Said.{OutputEvent, Tells}
 use Rattle.avr_desk.specs.declared.record.Opening.{Opening}
 use Rattle.avr_part.specs.Mem.{is_writable}
 use Rattle.avr_part.specs.Part.{Part}
@@ -16,7 +16,7 @@ use Rattle.avr_plan.specs.Lines.{read_only_line}
 use Rattle.avr_plan.specs.Planning.{file_image_stage, image_stage, update_image, write_stage, task_stage, tasks_stage}
 use Rattle.avr_desk.specs.Playing.{AtStart, Goes, Went}
 use Rattle.avr_plan.specs.Taking.{AtTask, has_values, op_takes_memory}
-use Rattle.avr_desk.specs.Stage.{Stage, Made, behind_sayings, ◌>>=◌, verdict_stage}
+use Rattle.avr_desk.specs.Stage.{Stage, Made, behind_outputs, ◌>>=◌, verdict_stage}
 use Rattle.avr_plan.specs.declared.planned.Task.{Task}
 use Rattle.avr_plan.specs.declared.planned.Task.TheVariants.{Write}
 
@@ -82,7 +82,7 @@ goes_read_only switches part u old new status is one told =
 
 module _ (switches : Switches) (part : Part) (tasks : List Task) (u : Update) (updates : List Update) where
   -- the update is due
-  at_first : (passed : List Opening) (said : List Saying) → AtStart (op_takes_memory u u.op) passed said
+  at_first : (passed : List Opening) (said : List OutputEvent) → AtStart (op_takes_memory u u.op) passed said
       → AtTask switches part tasks (u ∷ updates) passed said
   at_first passed said takes = record {
     done = [];
@@ -96,7 +96,7 @@ module _ (switches : Switches) (part : Part) (tasks : List Task) (u : Update) (u
 
   -- or one after it, of which it is made
   at_later : (old mid : DeskState) (task : Task) (went : Went (task_stage switches part u) old mid (Made task))
-      (passed : List Opening) (said : List Saying)
+      (passed : List Opening) (said : List OutputEvent)
       → AtTask switches part (tasks ++ task ∷ []) updates passed said
       → AtTask switches part tasks (u ∷ updates) (went.passed ++ passed) (went.says ++ said)
   at_later old mid task went passed said later = record {
@@ -109,7 +109,7 @@ module _ (switches : Switches) (part : Part) (tasks : List Task) (u : Update) (u
     are_made =
         made_then (task_stage switches part u) (λ t. tasks_stage switches part (tasks ++ t ∷ []) later.done) old mid
         task went passed
-        ∙ ap (behind_sayings went.says) later.are_made;
+        ∙ ap (behind_outputs went.says) later.are_made;
   }
 
 module _ (switches : Switches) (part : Part) (tasks : List Task) (updates : List Update) (i : ℕ) (u : Update) where

@@ -9,38 +9,38 @@ use Rattle.stk_host.specs.declared.fault.Broken.{Broken}
 use Rattle.stk_host.specs.declared.fault.Broken.TheVariants.{Send, Recv}
 use Rattle.stk_host.specs.Tape.{Tape, on_tape}
 use Rattle.stk_host.specs.Transcript.{Transcript, LinkState, Grows, heard, sent}
-use Rattle.stk_host.specs.Dialog.{Dialog, Done, ◌>>=◌, lifted, Event, Frame, Said, Played, played, bytes_sent, sayings}
-use Rattle.stk_host.specs.Play.{Position, InTurn, played_over, PlaysOver, FailsOver}
+use Rattle.stk_host.specs.Dialog.{Dialog, Done, ◌>>=◌, lifted, Event, Frame, Said, Played, played, bytes_sent, outputs}
+use Rattle.stk_host.specs.Play.{Progress, InTurn, played_over, PlaysOver, FailsOver}
 use Rattle.stk_host.specs.Reach.{TranscriptLeads}
 use Rattle.stk_host.proofs.Transcripts.Laws.{grows_none, grows_on}
 use Rattle.stk_host.proofs.Transcripts.InDialogs.{continued, played_bind, leads_here, leads_on, leads_bind, leads_say, leads_from, plays_from, breaks_on, breaks_bind}
-use Rattle.stk_host.proofs.Dialogs.Lifted.{raised, plays_lifted, by_lifted, sayings_raised}
+use Rattle.stk_host.proofs.Dialogs.Lifted.{raised, plays_lifted, by_lifted, outputs_raised}
 use Rattle.stk_host.proofs.Transcripts.Laws.{heard_append}
-use Rattle.avr_desk.specs.Said.{Saying, SaidPart, after_all}
-use Rattle.avr_desk.proofs.Stages.Sayings.{kept_on, kept_none, after_append}
+use Rattle.avr_desk.specs.Said.{OutputEvent, SaidPart, after_all}
+use Rattle.avr_desk.proofs.Stages.Outputs.{kept_on, kept_none, after_append}
 use Rattle.avr_desk.proofs.Lines.Told.{failed_since, follows_on, follows_same, same_here, same_on, unsaid_since}
 use Rattle.avr_session.specs.Session.{says}
 use Rattle.avr_session.specs.Runs.{Devices, devices, NoneFailed, Cause, OfSending, OfListening, OfFile, OfPrinting, OfMemory, is_error, tells_fault, HasCome, TellsCause, StopsAt, Listens, Lacking, Terms, StopsBehind, Ran, BrokeOff}
 use Rattle.avr_session.specs.Reporting.{IsOfDesk, SaysPrefix, SaidSome}
-use Rattle.avr_session.proofs.Runs.Stops.{place_more, place_behind, place_part, desk_says, desk_listens, sayings_said, map_append}
+use Rattle.avr_session.proofs.Runs.Stops.{place_more, place_behind, place_part, desk_says, desk_listens, outputs_said, map_append}
 
 -- where a call stands: what is left of its dialog, how far its conversation is, and what the devices show
 pub record Point (R : Type 0) : Type 0 where
-  pub left : Dialog Saying R
-  pub position : Position
+  pub left : Dialog OutputEvent R
+  pub progress_at : Progress
   pub devices : Devices
 
-abbrev pub point : {R : Type 0} → Dialog Saying R → Position → Devices → Point R
-point left position devices = record { left = left; position = position; devices = devices }
+abbrev pub point : {R : Type 0} → Dialog OutputEvent R → Progress → Devices → Point R
+point left progress_at devices = record { left = left; progress_at = progress_at; devices = devices }
 
 -- a call has come from one point to another: what was sent and said between them
 pub record Came {R : Type 0} (x y : Point R) : Type 0 where
   pub during : Transcript
-  pub events : List (Event Saying)
+  pub events : List (Event OutputEvent)
   pub grows : Grows x.devices.link.transcript during y.devices.link.transcript
-  pub leads : TranscriptLeads x.left x.position during events y.left y.position
-  pub few : length x.position.unread ≤ 281 → length y.position.unread ≤ 281
-  pub kept : Passes (after_all (sayings events)) x.devices.desk y.devices.desk
+  pub leads : TranscriptLeads x.left x.progress_at during events y.left y.progress_at
+  pub few : length x.progress_at.unread ≤ 281 → length y.progress_at.unread ≤ 281
+  pub kept : Passes (after_all (outputs events)) x.devices.desk y.devices.desk
   pub sound : NoneFailed x.devices y.devices
 
 -- no call failed, and none after that
@@ -50,20 +50,20 @@ none_failed_here o = (refl, same_here o.desk)
 pub none_failed_on : (o p q : Devices) → NoneFailed o p → NoneFailed p q → NoneFailed o q
 none_failed_on o p q first then = (then.0 ∙ first.0, same_on o.desk p.desk q.desk first.1 then.1)
 
--- sayings among events
+-- output events among events
 
-pub sayings_append : (x y : List (Event Saying)) → sayings (x ++ y) ≡ sayings x ++ sayings y
-sayings_append [] y = refl
-sayings_append (Said saying ∷ x) y = ap (λ ss. saying ∷ ss) (sayings_append x y)
-sayings_append (_ ∷ x) y = sayings_append x y
+pub outputs_append : (x y : List (Event OutputEvent)) → outputs (x ++ y) ≡ outputs x ++ outputs y
+outputs_append [] y = refl
+outputs_append (Said output ∷ x) y = ap (λ ss. output ∷ ss) (outputs_append x y)
+outputs_append (_ ∷ x) y = outputs_append x y
 
-after_both : (x y : List (Event Saying)) (r : Record)
-    → after_all (sayings (x ++ y)) r ≡ after_all (sayings y) (after_all (sayings x) r)
-after_both x y r = ap (λ ss. after_all ss r) (sayings_append x y) ∙ after_append (sayings x) (sayings y) r
+after_both : (x y : List (Event OutputEvent)) (r : Record)
+    → after_all (outputs (x ++ y)) r ≡ after_all (outputs y) (after_all (outputs x) r)
+after_both x y r = ap (λ ss. after_all ss r) (outputs_append x y) ∙ after_append (outputs x) (outputs y) r
 
 -- how far a call has come
 
-unfoldable pub came_here : {R : Type 0} (dialog : Dialog Saying R) (m : Position) (o : Devices)
+unfoldable pub came_here : {R : Type 0} (dialog : Dialog OutputEvent R) (m : Progress) (o : Devices)
     → Came (point dialog m o) (point dialog m o)
 came_here dialog m o = record {
   during = [];
@@ -86,15 +86,15 @@ came_on {x = x} {y = y} {z = z} f g =
       grows = grows_on o.link.transcript p.link.transcript q.link.transcript f.during g.during f.grows g.grows;
       leads = leads_on f.leads g.leads;
       few = λ few. g.few (f.few few);
-      kept = kept_on (after_all (sayings f.events)) (after_all (sayings g.events))
-          (after_all (sayings (f.events ++ g.events))) o.desk.kept p.desk.kept q.desk.kept
+      kept = kept_on (after_all (outputs f.events)) (after_all (outputs g.events))
+          (after_all (outputs (f.events ++ g.events))) o.desk.kept p.desk.kept q.desk.kept
           (after_both f.events g.events) f.kept g.kept;
       sound = none_failed_on o p q f.sound g.sound;
     }
 
 -- a dialog was played whole: the call has come to its result
 
-pub ran_from : {R : Type 0} {a : Dialog Saying R} {m n : Position} {o p : Devices} {result : R}
+pub ran_from : {R : Type 0} {a : Dialog OutputEvent R} {m n : Progress} {o p : Devices} {result : R}
     → Came (point a m o) (point (Done result) n p) → Ran a m o p result n
 ran_from f = record {
   during = f.during;
@@ -107,8 +107,8 @@ ran_from f = record {
 }
 
 -- so a part of a dialog was, by what its talk leads to
-abbrev came_of : {A R : Type 0} {a : Dialog Saying A} {m n : Position} {o p : Devices} {result : A}
-    {b c : Dialog Saying R} (f : Ran a m o p result n) → TranscriptLeads b m f.during f.events c n
+abbrev came_of : {A R : Type 0} {a : Dialog OutputEvent A} {m n : Progress} {o p : Devices} {result : A}
+    {b c : Dialog OutputEvent R} (f : Ran a m o p result n) → TranscriptLeads b m f.during f.events c n
     → Came (point b m o) (point c n p)
 came_of f leads = record {
   during = f.during;
@@ -120,20 +120,20 @@ came_of f leads = record {
   sound = f.sound;
 }
 
-pub ran_on : {R : Type 0} {x y : Point R} {q : Devices} {result : R} {n : Position} → Came x y
-    → Ran y.left y.position y.devices q result n → Ran x.left x.position x.devices q result n
+pub ran_on : {R : Type 0} {x y : Point R} {q : Devices} {result : R} {n : Progress} → Came x y
+    → Ran y.left y.progress_at y.devices q result n → Ran x.left x.progress_at x.devices q result n
 ran_on f ran = ran_from (came_on f (came_of ran (leads_from ran.plays)))
 
 -- breaking off
 
--- what stops such a part stops the whole, after these sayings
-abbrev pub StopsWhole : Terms → Terms → List Saying → Devices → Devices → Devices → Type 0
-StopsWhole some all before o p q = (said : List Saying) (cause : Cause) (told : List ℕ)
+-- what stops such a part stops the whole, after these output events
+abbrev pub StopsWhole : Terms → Terms → List OutputEvent → Devices → Devices → Devices → Type 0
+StopsWhole some all before o p q = (said : List OutputEvent) (cause : Cause) (told : List ℕ)
     → StopsBehind some p q said cause told → StopsBehind all o q (before ++ said) cause told
 
 -- where want of memory may stop what is left of a dialog it may stop the whole, after this talk and these events
-abbrev pub LacksLater : Lacking → Position → Transcript → List (Event Saying) → Lacking → Position → Type 0
-LacksLater L m transcript events M n = (during : Transcript) (shown : List (Event Saying)) → M n during shown
+abbrev pub LacksLater : Lacking → Progress → Transcript → List (Event OutputEvent) → Lacking → Progress → Type 0
+LacksLater L m transcript events M n = (during : Transcript) (shown : List (Event OutputEvent)) → M n during shown
     → L m (transcript ++ during) (events ++ shown)
 
 -- a cause that comes in a part comes in the whole
@@ -147,8 +147,8 @@ has_come_in some all o p then takes same OfMemory come = (takes come.0, none_fai
 has_come_in some all o p then takes same cause come =
     (subst (λ n. HasRisen n then.link.failures) same.0 come.0, same_on o.desk p.desk then.desk same.1 come.1)
 
--- after other sayings, where they tell what is taken to be reported
-pub stops_in : (some all : Terms) (before : List Saying) (o p q : Devices) → (some.takes ≡ true → all.takes ≡ true)
+-- after other output events, where they tell what is taken to be reported
+pub stops_in : (some all : Terms) (before : List OutputEvent) (o p q : Devices) → (some.takes ≡ true → all.takes ≡ true)
     → NoneFailed o p → (all.was_told || tells_fault before) ≡ some.was_told
     → StopsWhole some all before o p q
 stops_in some all before o p q takes sound same said cause told stops =
@@ -171,15 +171,15 @@ stops_since takes more told o p q also sound = stops_in (record { takes = takes;
     (record { takes = more; was_told = told }) [] o p q also sound (or-false told)
 
 -- what happened of these events, up to where its cause stopped it
-record Placed (cause : Cause) (shown events : List (Event Saying)) : Type 0 where
-  whole : List (Event Saying)
-  begun : List (Event Saying)
-  later : List (Event Saying)
+record Placed (cause : Cause) (shown events : List (Event OutputEvent)) : Type 0 where
+  whole : List (Event OutputEvent)
+  begun : List (Event OutputEvent)
+  later : List (Event OutputEvent)
   shown_is : shown ≡ whole ++ begun
   events_are : events ≡ whole ++ later
   place : StopsAt cause whole begun later
 
-placed_behind : {cause : Cause} {shown events : List (Event Saying)} (before : List (Event Saying))
+placed_behind : {cause : Cause} {shown events : List (Event OutputEvent)} (before : List (Event OutputEvent))
     → Placed cause shown events → Placed cause (before ++ shown) (before ++ events)
 placed_behind {cause = cause} before f = record {
   whole = before ++ f.whole;
@@ -190,7 +190,7 @@ placed_behind {cause = cause} before f = record {
   place = place_behind cause before f.whole f.begun f.later f.place;
 }
 
-placed_more : {cause : Cause} {shown events : List (Event Saying)} (more : List (Event Saying))
+placed_more : {cause : Cause} {shown events : List (Event OutputEvent)} (more : List (Event OutputEvent))
     → (cause ≡ OfListening → more ≡ []) → Placed cause shown events → Placed cause shown (events ++ more)
 placed_more {cause = cause} more none f = record {
   whole = f.whole;
@@ -205,7 +205,7 @@ placed_more {cause = cause} more none f = record {
 abbrev pub ToldBy : Terms → Cause → Devices → Devices → Type 0
 ToldBy terms cause o p = (told : List ℕ) × StopsBehind terms o p [] cause told × Passes (after_err told) o.desk p.desk
 
-module _ {R : Type 0} {dialog : Dialog Saying R} {m : Position} {o p : Devices} {terms : Terms} {L : Lacking} where
+module _ {R : Type 0} {dialog : Dialog OutputEvent R} {m : Progress} {o p : Devices} {terms : Terms} {L : Lacking} where
   placed_of : (f : BrokeOff dialog m o p terms L) → Placed f.cause f.shown (played_over dialog m f.during).events
   placed_of f =
       let prefix = f.breaks.prefix in
@@ -218,11 +218,11 @@ module _ {R : Type 0} {dialog : Dialog Saying R} {m : Position} {o p : Devices} 
         place = f.place;
       }
 
-  broke_off : (during : Transcript) (shown : List (Event Saying)) (cause : Cause) (told : List ℕ)
+  broke_off : (during : Transcript) (shown : List (Event OutputEvent)) (cause : Cause) (told : List ℕ)
       → Grows o.link.transcript during p.link.transcript → Placed cause shown (played_over dialog m during).events
       → bytes_sent shown ≡ sent during → InTurn dialog m during
-      → Listens cause (played_over dialog m during).outcome → StopsBehind terms o p (sayings shown) cause told
-      → Passes (λ r. after_err told (after_all (sayings shown) r)) o.desk p.desk
+      → Listens cause (played_over dialog m during).outcome → StopsBehind terms o p (outputs shown) cause told
+      → Passes (λ r. after_err told (after_all (outputs shown) r)) o.desk p.desk
       → (cause ≡ OfMemory → L m during shown) → BrokeOff dialog m o p terms L
   broke_off during shown cause told grows placed all_sent in_turn listens stops kept lacks = record {
     during = during;
@@ -250,7 +250,7 @@ module _ {R : Type 0} {dialog : Dialog Saying R} {m : Position} {o p : Devices} 
   }
 
   -- before anything was said
-  broke_silent : (during : Transcript) (shown : List (Event Saying)) (cause : Cause) → sayings shown ≡ []
+  broke_silent : (during : Transcript) (shown : List (Event OutputEvent)) (cause : Cause) → outputs shown ≡ []
       → ToldBy terms cause o p → Grows o.link.transcript during p.link.transcript
       → Placed cause shown (played_over dialog m during).events → bytes_sent shown ≡ sent during
       → InTurn dialog m during → Listens cause (played_over dialog m during).outcome
@@ -261,11 +261,11 @@ module _ {R : Type 0} {dialog : Dialog Saying R} {m : Position} {o p : Devices} 
       (subst (λ said. Passes (λ r. after_err some.0 (after_all said r)) o.desk p.desk) (sym quiet) some.2) lacks
 
 pub broke_on : {R : Type 0} {x y : Point R} {q : Devices} {some all : Terms} {L M : Lacking} (came : Came x y)
-    → StopsWhole some all (sayings came.events) x.devices y.devices q
-    → LacksLater L x.position came.during came.events M y.position
-    → BrokeOff y.left y.position y.devices q some M → BrokeOff x.left x.position x.devices q all L
+    → StopsWhole some all (outputs came.events) x.devices y.devices q
+    → LacksLater L x.progress_at came.during came.events M y.progress_at
+    → BrokeOff y.left y.progress_at y.devices q some M → BrokeOff x.left x.progress_at x.devices q all L
 broke_on {R = R} {x = x} {y = y} {q = q} {all = all} came why lack broke =
-    let m = x.position in
+    let m = x.progress_at in
     let o = x.devices in
     let p = y.devices in
     let whole = breaks_on SaidPart came.leads broke.breaks in
@@ -273,13 +273,13 @@ broke_on {R = R} {x = x} {y = y} {q = q} {all = all} came why lack broke =
     ∙ came.leads.goes_on (heard broke.during) in
     broke_off (came.during ++ broke.during) (came.events ++ broke.shown) broke.cause broke.told
     (grows_on o.link.transcript p.link.transcript q.link.transcript came.during broke.during came.grows broke.grows)
-    (subst (λ (play : Played Saying R). Placed broke.cause (came.events ++ broke.shown) play.events) (sym play)
+    (subst (λ (play : Played OutputEvent R). Placed broke.cause (came.events ++ broke.shown) play.events) (sym play)
     (placed_behind came.events (placed_of broke))) whole.all_sent whole.in_turn
-    (subst (λ (play : Played Saying R). Listens broke.cause play.outcome) (sym play) broke.listens)
-    (subst (λ said. StopsBehind all o q said broke.cause broke.told) (sym (sayings_append came.events broke.shown))
-    (why (sayings broke.shown) broke.cause broke.told broke.stops))
-    (kept_on (after_all (sayings came.events)) (λ r. after_err broke.told (after_all (sayings broke.shown) r))
-    (λ r. after_err broke.told (after_all (sayings (came.events ++ broke.shown)) r)) o.desk.kept p.desk.kept
+    (subst (λ (play : Played OutputEvent R). Listens broke.cause play.outcome) (sym play) broke.listens)
+    (subst (λ said. StopsBehind all o q said broke.cause broke.told) (sym (outputs_append came.events broke.shown))
+    (why (outputs broke.shown) broke.cause broke.told broke.stops))
+    (kept_on (after_all (outputs came.events)) (λ r. after_err broke.told (after_all (outputs broke.shown) r))
+    (λ r. after_err broke.told (after_all (outputs (came.events ++ broke.shown)) r)) o.desk.kept p.desk.kept
     q.desk.kept (λ r. ap (after_err broke.told) (after_both came.events broke.shown r)) came.kept broke.kept)
     (λ is. lack broke.during broke.shown (broke.lacks is))
 
@@ -289,22 +289,24 @@ Never before during shown = ⊥
 
 -- after a part in which nothing was said, where no memory is taken since
 pub broke_quietly : {R : Type 0} {x y : Point R} {q : Devices} {terms : Terms} {L : Lacking} (came : Came x y)
-    → sayings came.events ≡ [] → BrokeOff y.left y.position y.devices q terms Never
-    → BrokeOff x.left x.position x.devices q terms L
+    → outputs came.events ≡ [] → BrokeOff y.left y.progress_at y.devices q terms Never
+    → BrokeOff x.left x.progress_at x.devices q terms L
 broke_quietly {x = x} {y = y} {q = q} {terms = terms} came quiet broke =
-    broke_on came (subst (λ (said : List Saying). StopsWhole terms terms said x.devices y.devices q) (sym quiet)
+    broke_on came (subst (λ (said : List OutputEvent). StopsWhole terms terms said x.devices y.devices q) (sym quiet)
     (stops_since terms.takes terms.takes terms.was_told x.devices y.devices q (λ t. t) came.sound))
     (λ during shown never. absurd never) broke
 
 -- a dialog that listens has nothing after it yet
-none_behind : {A R : Type 0} (cause : Cause) (outcome : Option (A × ℕ × Tape)) (go_on : A → ℕ → Tape → Played Saying R)
+none_behind : {A R : Type 0} (cause : Cause) (outcome : Option (A × ℕ × Tape)) (go_on : A → ℕ → Tape
+    → Played OutputEvent R)
     → Listens cause outcome → cause ≡ OfListening → (continued outcome go_on).events ≡ []
 none_behind cause outcome go_on listens is =
     let waits : outcome ≡ None = subst (λ (c : Cause). Listens c outcome) is listens in
     ap (λ o. (continued o go_on).events) waits
 
 listens_behind : {A R : Type 0} (cause : Cause) (outcome : Option (A × ℕ × Tape))
-    (go_on : A → ℕ → Tape → Played Saying R) → Listens cause outcome → Listens cause (continued outcome go_on).outcome
+    (go_on : A → ℕ → Tape → Played OutputEvent R) → Listens cause outcome
+    → Listens cause (continued outcome go_on).outcome
 listens_behind OfListening outcome go_on listens = ap (λ o. (continued o go_on).outcome) listens
 listens_behind cause outcome go_on listens = tt
 
@@ -314,12 +316,12 @@ abbrev pub broken_cause : Broken → Cause
 broken_cause Send = OfSending
 broken_cause Recv = OfListening
 
-broke_raised : {A : Type 0} (by : Broken) {dialog : Dialog ⊥ A} {m : Position} {o p : Devices} {terms : Terms}
+broke_raised : {A : Type 0} (by : Broken) {dialog : Dialog ⊥ A} {m : Progress} {o p : Devices} {terms : Terms}
     {L : Lacking} → FailsOver by dialog m o.link p.link → ToldBy terms (broken_cause by) o p
     → BrokeOff (lifted dialog) m o p terms L
 broke_raised Send {dialog = dialog} {m = m} f some =
-    let g = by_lifted Saying Send dialog m f.during f.shown f.breaks in
-    broke_silent f.during (raised f.shown) OfSending (sayings_raised f.shown) some f.grows (record {
+    let g = by_lifted OutputEvent Send dialog m f.during f.shown f.breaks in
+    broke_silent f.during (raised f.shown) OfSending (outputs_raised f.shown) some f.grows (record {
       whole = g.whole;
       begun = Frame g.part ∷ [];
       later = Frame (g.part ++ g.unsent) ∷ g.later;
@@ -335,9 +337,9 @@ broke_raised Send {dialog = dialog} {m = m} f some =
       };
     }) g.all_sent g.in_turn tt (λ is. absurd (cc))
 broke_raised Recv {dialog = dialog} {m = m} f some =
-    let g = by_lifted Saying Recv dialog m f.during f.shown f.breaks in
+    let g = by_lifted OutputEvent Recv dialog m f.during f.shown f.breaks in
     let none = sym (append-nil (raised f.shown)) in
-    broke_silent f.during (raised f.shown) OfListening (sayings_raised f.shown) some f.grows (record {
+    broke_silent f.during (raised f.shown) OfListening (outputs_raised f.shown) some f.grows (record {
       whole = raised f.shown;
       begun = [];
       later = [];
@@ -347,9 +349,9 @@ broke_raised Recv {dialog = dialog} {m = m} f some =
     }) g.all_sent g.in_turn g.waits (λ is. absurd (cc))
 
 -- what follows a part of a dialog
-module _ {A R : Type 0} (go_on : A → Dialog Saying R) where
+module _ {A R : Type 0} (go_on : A → Dialog OutputEvent R) where
   -- an operation of the host, played whole
-  unfoldable pub came_lifted : {dialog : Dialog ⊥ A} {m n : Position} {o p : LinkState} {result : A} (d : DeskState)
+  unfoldable pub came_lifted : {dialog : Dialog ⊥ A} {m n : Progress} {o p : LinkState} {result : A} (d : DeskState)
       → PlaysOver dialog m o p result n → length n.unread ≤ 281 → p.failures ≡ o.failures
       → Came (point (lifted dialog >>= go_on) m (devices o d)) (point (go_on result) n (devices p d))
   came_lifted d f few same = record {
@@ -358,33 +360,34 @@ module _ {A R : Type 0} (go_on : A → Dialog Saying R) where
     grows = f.grows;
     leads = leads_bind go_on (leads_from (plays_lifted f.plays));
     few = λ _. few;
-    kept = subst (λ ss. Passes (after_all ss) d d) (sym (sayings_raised f.events)) (kept_none d.kept);
+    kept = subst (λ ss. Passes (after_all ss) d d) (sym (outputs_raised f.events)) (kept_none d.kept);
     sound = (same, same_here d);
   }
 
   -- a part that was played whole
-  unfoldable pub came_part : {a : Dialog Saying A} {m n : Position} {o p : Devices} {result : A} → Ran a m o p result n
+  unfoldable pub came_part : {a : Dialog OutputEvent A} {m n : Progress} {o p : Devices} {result : A}
+      → Ran a m o p result n
       → Came (point (a >>= go_on) m o) (point (go_on result) n p)
   came_part f = came_of f (leads_bind go_on (leads_from f.plays))
 
   -- a part that broke off
-  pub broke_part : {a : Dialog Saying A} {m : Position} {o p : Devices} {some all : Terms} {L M : Lacking}
+  pub broke_part : {a : Dialog OutputEvent A} {m : Progress} {o p : Devices} {some all : Terms} {L M : Lacking}
       → StopsWhole some all [] o o p → LacksLater L m [] [] M m → BrokeOff a m o p some M
       → BrokeOff (a >>= go_on) m o p all L
   broke_part {a = a} {m = m} why lack f =
       let play = played a m.next (on_tape m.unread ++ heard f.during) in
-      let next : A → ℕ → Tape → Played Saying R = λ r. played (go_on r) in
+      let next : A → ℕ → Tape → Played OutputEvent R = λ r. played (go_on r) in
       let bound = sym (played_bind a go_on m.next (on_tape m.unread ++ heard f.during)) in
       broke_off f.during f.shown f.cause f.told f.grows
-      (subst (λ (play : Played Saying R). Placed f.cause f.shown play.events) bound (placed_more
+      (subst (λ (play : Played OutputEvent R). Placed f.cause f.shown play.events) bound (placed_more
       (continued play.outcome next).events (none_behind f.cause play.outcome next f.listens) (placed_of f)))
       f.breaks.all_sent (breaks_bind SaidPart go_on f.breaks).in_turn
-      (subst (λ (play : Played Saying R). Listens f.cause play.outcome) bound
-      (listens_behind f.cause play.outcome next f.listens)) (why (sayings f.shown) f.cause f.told f.stops) f.kept
+      (subst (λ (play : Played OutputEvent R). Listens f.cause play.outcome) bound
+      (listens_behind f.cause play.outcome next f.listens)) (why (outputs f.shown) f.cause f.told f.stops) f.kept
       (λ is. lack f.during f.shown (f.lacks is))
 
   -- an operation that broke off
-  pub broke_operation : (by : Broken) {dialog : Dialog ⊥ A} {m : Position} {o p : Devices} {terms : Terms} {L : Lacking}
+  pub broke_operation : (by : Broken) {dialog : Dialog ⊥ A} {m : Progress} {o p : Devices} {terms : Terms} {L : Lacking}
       → FailsOver by dialog m o.link p.link → ToldBy terms (broken_cause by) o p
       → BrokeOff (lifted dialog >>= go_on) m o p terms L
   broke_operation by {L = L} f some =
@@ -392,30 +395,30 @@ module _ {A R : Type 0} (go_on : A → Dialog Saying R) where
 
 -- what is said
 
-leads_says : {R : Type 0} (xs : List Saying) (dialog : Dialog Saying R) (m : Position)
+leads_says : {R : Type 0} (xs : List OutputEvent) (dialog : Dialog OutputEvent R) (m : Progress)
     → TranscriptLeads (says xs dialog) m [] (map Said xs) dialog m
 leads_says [] dialog m = leads_here dialog m
 leads_says (x ∷ xs) dialog m = leads_on (leads_say x (says xs dialog) m) (leads_says xs dialog m)
 
-says_events : {R : Type 0} (xs : List Saying) (dialog : Dialog Saying R) (seq : ℕ) (u : List ℕ)
+says_events : {R : Type 0} (xs : List OutputEvent) (dialog : Dialog OutputEvent R) (seq : ℕ) (u : List ℕ)
     → (played (says xs dialog) seq (on_tape u ++ [])).events
     ≡ map Said xs ++ (played dialog seq (on_tape u ++ [])).events
 says_events [] dialog seq u = refl
 says_events (x ∷ xs) dialog seq u = ap (λ es. Said x ∷ es) (says_events xs dialog seq u)
 
-no_bytes : (xs : List Saying) → bytes_sent (map {B = Event Saying} Said xs) ≡ []
+no_bytes : (xs : List OutputEvent) → bytes_sent (map {B = Event OutputEvent} Said xs) ≡ []
 no_bytes [] = refl
 no_bytes (x ∷ xs) = no_bytes xs
 
 -- what stops a report stops it after a prefix of what it says
-abbrev pub StopsReport : Terms → LinkState → DeskState → DeskState → List Saying
+abbrev pub StopsReport : Terms → LinkState → DeskState → DeskState → List OutputEvent
     → (DeskState → DeskState → Cause → List ℕ → Type 0) → Type 0
-StopsReport terms o d e sayings By = (mid : DeskState) (cause : Cause) (prefix : SaysPrefix cause d mid sayings)
+StopsReport terms o d e outputs By = (mid : DeskState) (cause : Cause) (prefix : SaysPrefix cause d mid outputs)
     (told : List ℕ) → By d e cause told → StopsBehind terms (devices o d) (devices o e) (prefix.whole ++ prefix.begun)
     cause told
 
 -- and then the rest of a dialog
-module _ {R : Type 0} (xs : List Saying) (dialog : Dialog Saying R) (m : Position) (o : LinkState) where
+module _ {R : Type 0} (xs : List OutputEvent) (dialog : Dialog OutputEvent R) (m : Progress) (o : LinkState) where
   pub came_said : {d e : DeskState} → Passes (after_all xs) d e × HasSameCounts d e
       → Came (point (says xs dialog) m (devices o d)) (point dialog m (devices o e))
   came_said {d = d} {e = e} said = record {
@@ -424,17 +427,17 @@ module _ {R : Type 0} (xs : List Saying) (dialog : Dialog Saying R) (m : Positio
     grows = grows_none o.transcript;
     leads = leads_says xs dialog m;
     few = λ f. f;
-    kept = subst (λ ss. Passes (after_all ss) d e) (sym (sayings_said xs)) said.0;
+    kept = subst (λ ss. Passes (after_all ss) d e) (sym (outputs_said xs)) said.0;
     sound = (refl, said.1);
   }
 
-  pub broke_saying : {By : DeskState → DeskState → Cause → List ℕ → Type 0} {terms : Terms} {L : Lacking}
+  pub broke_output : {By : DeskState → DeskState → Cause → List ℕ → Type 0} {terms : Terms} {L : Lacking}
       {d e : DeskState}
       → StopsReport terms o d e xs By → SaidSome By d e xs
       → BrokeOff (says xs dialog) m (devices o d) (devices o e) terms L
-  broke_saying {terms = terms} {d = d} {e = e} why f =
+  broke_output {terms = terms} {d = d} {e = e} why f =
       let prefix = f.prefix in
-      let shown : List Saying = prefix.whole ++ prefix.begun in
+      let shown : List OutputEvent = prefix.whole ++ prefix.begun in
       broke_off [] (map Said shown) f.cause f.told (grows_none o.transcript)
       (subst (Placed f.cause (map Said shown)) (sym (says_events xs dialog m.next m.unread))
       (placed_more (played_over dialog m []).events (λ listens. absurd (desk_says f.cause prefix.by_desk listens))
@@ -443,17 +446,18 @@ module _ {R : Type 0} (xs : List Saying) (dialog : Dialog Saying R) (m : Positio
         begun = map Said prefix.begun;
         later = map Said prefix.later;
         shown_is = map_append prefix.whole prefix.begun;
-        events_are = ap (map {B = Event Saying} Said) prefix.sayings_are ∙ map_append prefix.whole prefix.later;
+        events_are = ap (map {B = Event OutputEvent} Said) prefix.outputs_are ∙ map_append prefix.whole prefix.later;
         place = prefix.place;
       }))) (no_bytes shown) tt (desk_listens f.cause (played_over (says xs dialog) m []).outcome prefix.by_desk)
       (subst (λ said. StopsBehind terms (devices o d) (devices o e) said f.cause f.told)
-      (sym (sayings_said shown)) (why f.between f.cause f.prefix f.told f.stops))
-      (kept_on (after_all shown) (after_err f.told) (λ r. after_err f.told (after_all (sayings (map Said shown)) r))
-      d.kept f.between.kept e.kept (λ r. ap (after_err f.told) (ap (λ ss. after_all ss r) (sayings_said shown)))
+      (sym (outputs_said shown)) (why f.between f.cause f.prefix f.told f.stops))
+      (kept_on (after_all shown) (after_err f.told) (λ r. after_err f.told (after_all (outputs (map Said shown)) r))
+      d.kept f.between.kept e.kept (λ r. ap (after_err f.told) (ap (λ ss. after_all ss r) (outputs_said shown)))
       f.prefix.kept f.kept) (λ is. absurd (subst IsOfDesk is prefix.by_desk))
 
 -- at once, for want of memory
-pub broke_lacking : {R : Type 0} {terms : Terms} {L : Lacking} {o p : Devices} (dialog : Dialog Saying R) (m : Position)
+pub broke_lacking : {R : Type 0} {terms : Terms} {L : Lacking} {o p : Devices} (dialog : Dialog OutputEvent R)
+    (m : Progress)
     → p.link ≡ o.link → ToldBy terms OfMemory o p → L m [] [] → BrokeOff dialog m o p terms L
 broke_lacking {o = o} dialog m same some lack =
     broke_silent [] [] OfMemory refl some

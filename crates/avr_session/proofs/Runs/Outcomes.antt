@@ -1,7 +1,7 @@
 -- What came of a session: the line of its fault is the last one that was reported.
 use Rattle.std.proofs.Common.{◌≡◌, ◌++◌, ℕ, List, [], ◌∷◌, Result, Ok, Err, inl, inr, refl}
 use Rattle.avr_desk.specs.Record.{Bytes, DeskState, Record}
-use Rattle.avr_desk.specs.Said.{Saying, Line, after, after_all}
+use Rattle.avr_desk.specs.Said.{OutputEvent, Line, after, after_all}
 use Rattle.avr_part.specs.Part.{Part}
 use Rattle.avr_plan.specs.Plan.{Plan}
 use Rattle.stk_host.specs.declared.fault.HostFault.{HostFault}
@@ -17,19 +17,19 @@ use Rattle.avr_session.specs.Actions.{actions, takes_memory}
 use Rattle.avr_session.specs.Concluding.{after_outcome, conclusion, stands}
 use Rattle.avr_session.specs.Lines.{fault_line}
 use Rattle.avr_session.specs.Outcomes.{outcome_status, EndWith, ComesTo, EndsTold, outcome_of}
-use Rattle.avr_session.specs.Phases.{PerformsBehind, LeavesOut}
+use Rattle.avr_session.specs.Performing.{PerformsBehind, LeavesOut}
 use Rattle.avr_session.specs.Run.{RunsSession}
 use Rattle.avr_session.specs.Runs.{Cause, Devices, start, untold}
 use Rattle.avr_session.specs.Reporting.{Reports}
 use Rattle.avr_session.specs.Session.{playing, opening_says, signature_says}
 use Rattle.avr_session.specs.Taking.{AtTaking}
-use Rattle.avr_session.proofs.PhaseByPhase.Sequences.{session_played, session_stopped}
+use Rattle.avr_session.proofs.ActionByAction.Sequences.{session_played, session_stopped}
 
 -- a line after what was said ends the messages
-pub last_line : (sayings : List Saying) (line : Bytes) (r : Record)
-    → EndWith line (after_all (sayings ++ Line line ∷ []) r).messages
+pub last_line : (outputs : List OutputEvent) (line : Bytes) (r : Record)
+    → EndWith line (after_all (outputs ++ Line line ∷ []) r).messages
 last_line [] line r = (r.messages, refl)
-last_line (saying ∷ sayings) line r = last_line sayings line (after saying r)
+last_line (output ∷ outputs) line r = last_line outputs line (after output r)
 
 -- so does the line of a fault, whatever else was said of the opening
 pub opening_last : (quiet : ℕ) (part : Part) (fault : HostFault) (r : Record)
@@ -47,7 +47,7 @@ after_fault A part RecvFailed view last = tt
 after_fault A part fault view last = last
 
 -- what is said of the outcome of an operation
-module _ {A : Type 0} (part : Part) (tells : Result A HostFault → List Saying) where
+module _ {A : Type 0} (part : Part) (tells : Result A HostFault → List OutputEvent) where
   -- the line of a fault is the last one of it
   abbrev TellsLast : Type 0
   TellsLast = (fault : HostFault) (r : Record)
@@ -77,8 +77,8 @@ said_told : (part : Part) (view : DeskState) (said : Result (Unit {0}) DeskFault
 said_told part view (Ok done) = tt
 said_told part view (Err _) = tt
 
-pub left_out_told : (part : Part) (view : DeskState) {sayings : List Saying} {old new : DeskState}
-    (result : Result (Unit {0}) End) → LeavesOut sayings old new result → EndsTold part view result
+pub left_out_told : (part : Part) (view : DeskState) {outputs : List OutputEvent} {old new : DeskState}
+    (result : Result (Unit {0}) End) → LeavesOut outputs old new result → EndsTold part view result
 left_out_told part view result leaves = rw leaves.result_is (said_told part view leaves.told)
 
 -- ---- a whole session

@@ -6,10 +6,10 @@ use Rattle.avr_desk.specs.Fault.{Follows}
 use Rattle.stk_host.specs.Transcript as link
 use Rattle.avr_desk.specs.Record.{Record, DeskState, after_err, Bytes}
 use Rattle.avr_plan.specs.Plan.{Plan}
-use Rattle.stk_host.specs.Play.{Position}
+use Rattle.stk_host.specs.Play.{Progress}
 use Rattle.stk_host.specs.Transcript.{LinkState}
-use Rattle.stk_host.specs.Dialog.{Dialog, sayings}
-use Rattle.avr_desk.specs.Said.{Saying, after_all}
+use Rattle.stk_host.specs.Dialog.{Dialog, outputs}
+use Rattle.avr_desk.specs.Said.{OutputEvent, after_all}
 use Rattle.avr_session.specs.Actions.{takes_memory}
 use Rattle.avr_session.specs.Runs.{Cause, OfSending, OfListening, OfMemory, Devices, devices, start, cause_line, tells_fault, HasCome, TellsCause, untold, StopsBehind, Lacking, BrokeOff}
 use Rattle.avr_session.specs.Run.{RunsSession}
@@ -24,7 +24,8 @@ link_stood {old = old} {new = new} sound =
     stood_has_not_risen old.link.failures old.link.failures new.link.failures new.link.failures (omega arith)
     (omega arith) sound.link
 
-only_memory : {takes : Bool} {old new : Devices} {said : List Saying} {told : Bytes} (cause : Cause) → IsSound old new
+only_memory : {takes : Bool} {old new : Devices} {said : List OutputEvent} {told : Bytes} (cause : Cause)
+    → IsSound old new
     → StopsBehind (untold takes) old new said cause told → cause ≡ OfMemory
 only_memory OfSending sound stops = absurd (link_stood sound stops.has_come.0)
 only_memory OfListening sound stops = absurd (link_stood sound stops.has_come.0)
@@ -41,7 +42,7 @@ told_of_memory false told a between b since sound (inr part) =
     absurd (not_failed a between b b since (follows_here b) sound part.1.0)
 told_of_memory true told a between b since sound tells = absurd tells
 
-lacks : {takes : Bool} {old new : Devices} {said : List Saying} {told : Bytes} (cause : Cause) → IsSound old new
+lacks : {takes : Bool} {old new : Devices} {said : List OutputEvent} {told : Bytes} (cause : Cause) → IsSound old new
     → StopsBehind (untold takes) old new said cause told → told ≡ cause_line OfMemory
 lacks {old = old} {new = new} {said = said} {told = told} cause sound stops =
     told_of_memory (tells_fault said) told old.desk stops.between new.desk stops.since sound.desk
@@ -49,7 +50,7 @@ lacks {old = old} {new = new} {said = said} {told = told} cause sound stops =
     stops.tells)
 
 -- a line reported stands at the end of the messages
-told_last : (before after : Record) (said : List Saying) (told line : Bytes) → told ≡ line
+told_last : (before after : Record) (said : List OutputEvent) (told line : Bytes) → told ≡ line
     → after ≡ after_err told (after_all said before) → (prefix : Bytes) × (after.messages ≡ prefix ++ line)
 told_last before after said told line whole kept =
     let r : Record = after_all said before in
@@ -57,13 +58,13 @@ told_last before after said told line whole kept =
     (r.messages, ap (λ (x : Record). x.messages) same ∙ ap (λ (xs : Bytes). r.messages ++ xs) whole)
 
 -- so what broke off says so
-pub broke_lacks : {R : Type 0} {L : Lacking} (dialog : Dialog Saying R) (m : Position) (o p : LinkState)
+pub broke_lacks : {R : Type 0} {L : Lacking} (dialog : Dialog OutputEvent R) (m : Progress) (o p : LinkState)
     (before after : Record) (a b : ℕ × ℕ) (takes : Bool)
     → IsSound (devices o (keeping before a)) (devices p (keeping after b))
     → BrokeOff dialog m (devices o (keeping before a)) (devices p (keeping after b)) (untold takes) L
     → LacksMemory after.messages
 broke_lacks dialog m o p before after a b takes sound f =
-    told_last before after (sayings f.shown) f.told (cause_line OfMemory) (lacks f.cause sound f.stops) f.kept
+    told_last before after (outputs f.shown) f.told (cause_line OfMemory) (lacks f.cause sound f.stops) f.kept
 
 -- and a run is played whole where no device failed and memory was not refused, by its messages.
 pub sound_run : (plan : Plan) (o p : LinkState) (before after : Record) (a b : ℕ × ℕ) (status : ℕ)

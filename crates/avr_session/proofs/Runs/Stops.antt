@@ -4,16 +4,16 @@ use Rattle.std.proofs.lemmas.List.{take-append-drop}
 use Rattle.avr_desk.specs.Record.{DeskState, Passes, Bytes}
 use Rattle.avr_desk.specs.Stream.{SendsPart}
 use Rattle.avr_desk.specs.declared.stream.Stream.TheVariants.{File, Output, Messages}
-use Rattle.stk_host.specs.Dialog.{Event, Said, sayings}
+use Rattle.stk_host.specs.Dialog.{Event, Said, outputs}
 use Rattle.stk_host.specs.Play as play
-use Rattle.avr_desk.specs.Said.{Saying, Line, Creates, Writes, Outs, SaidPart, after_all}
-use Rattle.avr_desk.proofs.Stages.Sayings.{kept_append}
+use Rattle.avr_desk.specs.Said.{OutputEvent, Line, Creates, Writes, Outs, SaidPart, after_all}
+use Rattle.avr_desk.proofs.Stages.Outputs.{kept_append}
 use Rattle.avr_session.specs.Runs.{Cause, OfSending, OfListening, OfFile, OfPrinting, OfMemory, NotCreated, NotWritten, AtFrame, AtPart, StopsAt, Listens}
 use Rattle.avr_session.specs.Reporting.{IsOfDesk, SaysPrefix}
 
 -- ---- events
 
-frame_more : {begun later : List (Event Saying)} (more : List (Event Saying)) → AtFrame begun later
+frame_more : {begun later : List (Event OutputEvent)} (more : List (Event OutputEvent)) → AtFrame begun later
     → AtFrame begun (later ++ more)
 frame_more more x = record {
   done = x.done;
@@ -24,7 +24,7 @@ frame_more more x = record {
   not_whole = x.not_whole;
 }
 
-part_more : {event : Bytes → Saying} {begun later : List (Event Saying)} (more : List (Event Saying))
+part_more : {event : Bytes → OutputEvent} {begun later : List (Event OutputEvent)} (more : List (Event OutputEvent))
     → AtPart event begun later → AtPart event begun (later ++ more)
 part_more more x = record {
   bytes = x.bytes;
@@ -36,7 +36,7 @@ part_more more x = record {
 }
 
 -- more that is due after it, unless it listens
-pub place_more : (cause : Cause) (whole begun later more : List (Event Saying)) → (cause ≡ OfListening → more ≡ [])
+pub place_more : (cause : Cause) (whole begun later more : List (Event OutputEvent)) → (cause ≡ OfListening → more ≡ [])
     → StopsAt cause whole begun later → StopsAt cause whole begun (later ++ more)
 place_more OfSending whole begun later more none x = frame_more more x
 place_more OfListening whole begun later more none x = (x.0, ap (λ es. es ++ more) x.1 ∙ none refl)
@@ -48,7 +48,8 @@ place_more OfPrinting whole begun later more none x = part_more more x
 place_more OfMemory whole begun later more none x = x
 
 -- more that happened before it
-pub place_behind : (cause : Cause) (before whole begun later : List (Event Saying)) → StopsAt cause whole begun later
+pub place_behind : (cause : Cause) (before whole begun later : List (Event OutputEvent))
+    → StopsAt cause whole begun later
     → StopsAt cause (before ++ whole) begun later
 place_behind (OfFile file NotWritten) before whole begun later (inl x) =
     let again = ap (λ es. before ++ es) x.0.1 ∙ sym (append_assoc before x.0.0 (Said (Creates file) ∷ [])) in
@@ -57,10 +58,10 @@ place_behind (OfFile file NotWritten) before whole begun later (inr x) = inr x
 place_behind cause before whole begun later x = x
 
 -- what was done in part is a part of what was due
-frame_part : (begun later : List (Event Saying)) → AtFrame begun later → play.IsBegun SaidPart begun later
+frame_part : (begun later : List (Event OutputEvent)) → AtFrame begun later → play.IsBegun SaidPart begun later
 frame_part begun later x = rw (x.part, x.due) (x.unsent, refl)
 
-pub place_part : (cause : Cause) (whole begun later : List (Event Saying)) → StopsAt cause whole begun later
+pub place_part : (cause : Cause) (whole begun later : List (Event OutputEvent)) → StopsAt cause whole begun later
     → play.IsBegun SaidPart begun later
 place_part OfSending whole begun later x = frame_part begun later x
 place_part OfListening whole begun later x = rw (x.0) tt
@@ -80,29 +81,30 @@ pub desk_listens : {A : Type 0} (cause : Cause) (outcome : Option A) → IsOfDes
 desk_listens OfListening outcome desk = absurd desk
 desk_listens cause outcome desk = tt
 
--- ---- sayings
+-- ---- output events
 
-pub sayings_said : (xs : List Saying) → sayings (map Said xs) ≡ xs
-sayings_said [] = refl
-sayings_said (x ∷ xs) = ap (λ ss. x ∷ ss) (sayings_said xs)
+pub outputs_said : (xs : List OutputEvent) → outputs (map Said xs) ≡ xs
+outputs_said [] = refl
+outputs_said (x ∷ xs) = ap (λ ss. x ∷ ss) (outputs_said xs)
 
-pub map_append : (x y : List Saying) → map {B = Event Saying} Said (x ++ y) ≡ map Said x ++ map Said y
+pub map_append : (x y : List OutputEvent) → map {B = Event OutputEvent} Said (x ++ y) ≡ map Said x ++ map Said y
 map_append [] y = refl
 map_append (s ∷ x) y = ap (λ es. Said s ∷ es) (map_append x y)
 
--- sayings, by their events
-pub sayings_by : (xs : List Saying) (events : List (Event Saying)) → map Said xs ≡ events → xs ≡ sayings events
-sayings_by xs events is = sym (sayings_said xs) ∙ ap sayings is
+-- output events, by their events
+pub outputs_by : (xs : List OutputEvent) (events : List (Event OutputEvent)) → map Said xs ≡ events → xs
+    ≡ outputs events
+outputs_by xs events is = sym (outputs_said xs) ∙ ap outputs is
 
--- sayings that were done, and a prefix of others after them
-pub prefix_behind : {cause : Cause} {d e f : DeskState} (done more : List Saying) → Passes (after_all done) d e
+-- output events that were done, and a prefix of others after them
+pub prefix_behind : {cause : Cause} {d e f : DeskState} (done more : List OutputEvent) → Passes (after_all done) d e
     → SaysPrefix cause e f more → SaysPrefix cause d f (done ++ more)
 prefix_behind {cause = cause} {d = d} {e = e} {f = f} done more kept x = record {
   whole = done ++ x.whole;
   begun = x.begun;
   later = x.later;
-  sayings_are = ap (λ (ss : List Saying). done ++ ss) x.sayings_are ∙ sym (append_assoc done x.whole x.later);
-  place = subst (λ (whole : List (Event Saying)). StopsAt cause whole (map Said x.begun) (map Said x.later))
+  outputs_are = ap (λ (ss : List OutputEvent). done ++ ss) x.outputs_are ∙ sym (append_assoc done x.whole x.later);
+  place = subst (λ (whole : List (Event OutputEvent)). StopsAt cause whole (map Said x.begun) (map Said x.later))
       (sym (map_append done x.whole))
       (place_behind cause (map Said done) (map Said x.whole) (map Said x.begun) (map Said x.later) x.place);
   by_desk = x.by_desk;
@@ -110,15 +112,15 @@ prefix_behind {cause = cause} {d = d} {e = e} {f = f} done more kept x = record 
       (kept_append done (x.whole ++ x.begun) d.kept e.kept f.kept kept x.kept);
 }
 
--- a prefix of some sayings is a prefix of more
-pub prefix_of : {cause : Cause} {d e : DeskState} (some more : List Saying) → SaysPrefix cause d e some
+-- a prefix of some output events is a prefix of more
+pub prefix_of : {cause : Cause} {d e : DeskState} (some more : List OutputEvent) → SaysPrefix cause d e some
     → SaysPrefix cause d e (some ++ more)
 prefix_of {cause = cause} some more x = record {
   whole = x.whole;
   begun = x.begun;
   later = x.later ++ more;
-  sayings_are = ap (λ (ss : List Saying). ss ++ more) x.sayings_are ∙ append_assoc x.whole x.later more;
-  place = subst (λ (later : List (Event Saying)). StopsAt cause (map Said x.whole) (map Said x.begun) later)
+  outputs_are = ap (λ (ss : List OutputEvent). ss ++ more) x.outputs_are ∙ append_assoc x.whole x.later more;
+  place = subst (λ (later : List (Event OutputEvent)). StopsAt cause (map Said x.whole) (map Said x.begun) later)
       (sym (map_append x.later more))
       (place_more cause (map Said x.whole) (map Said x.begun) (map Said x.later) (map Said more)
       (λ listens. absurd (desk_says cause x.by_desk listens)) x.place);
@@ -126,7 +128,7 @@ prefix_of {cause = cause} some more x = record {
   kept = x.kept;
 }
 
-part_due : (event : Bytes → Saying) (n : ℕ) (bytes : Bytes)
+part_due : (event : Bytes → OutputEvent) (n : ℕ) (bytes : Bytes)
     → AtPart event (Said (event (take n bytes)) ∷ []) (Said (event bytes) ∷ [])
 part_due event n bytes = record {
   bytes = bytes;
@@ -144,7 +146,7 @@ line_part old new bytes part = record {
   whole = [];
   begun = Line (take part.0 bytes) ∷ [];
   later = Line bytes ∷ [];
-  sayings_are = refl;
+  outputs_are = refl;
   place = part_due Line part.0 bytes;
   by_desk = tt;
   kept = part.2;
@@ -158,7 +160,7 @@ file_part old mid new file bytes created part = record {
   whole = Creates file ∷ [];
   begun = Writes (take part.0 bytes) ∷ [];
   later = Writes bytes ∷ [];
-  sayings_are = refl;
+  outputs_are = refl;
   place = inl (([], refl), part_due Writes part.0 bytes);
   by_desk = tt;
   kept = kept_append (Creates file ∷ []) (Writes (take part.0 bytes) ∷ []) old.kept mid.kept new.kept created part.2;
@@ -171,7 +173,7 @@ output_part old new file bytes named part = record {
   whole = [];
   begun = Outs (take part.0 bytes) ∷ [];
   later = Outs bytes ∷ [];
-  sayings_are = refl;
+  outputs_are = refl;
   place = inr (named, part_due Outs part.0 bytes);
   by_desk = tt;
   kept = part.2;

@@ -1,7 +1,7 @@
 -- A run over a line on which few frames go wrong, and the same one once more, over the chip that a first one left.
 use Rattle.std.proofs.Common.{◌≡◌, ◌⊎◌, ℕ, List, All, ◌∙◌, inl, inr, true, false}
 use Rattle.avr_desk.specs.Record.{DeskState, Record, Passes}
-use Rattle.avr_desk.specs.Said.{Saying, after_all}
+use Rattle.avr_desk.specs.Said.{OutputEvent, after_all}
 use Rattle.avr_part.specs.Part.{IsPart}
 use Rattle.avr_plan.specs.Plan.{Plan, IsFitted}
 use Rattle.avr_session.specs.Runs.{start}
@@ -9,21 +9,21 @@ use Rattle.avr_session.specs.Actions.{takes_memory}
 use Rattle.avr_session.specs.Session.{session}
 use Rattle.avr_session.specs.Stopping.{IsSound, LacksMemory, keeping}
 use Rattle.avr_session.proofs.Runs.SoundDevices.{broke_lacks}
-use Rattle.stk_host.specs.Dialog.{Event, sayings}
+use Rattle.stk_host.specs.Dialog.{Event, outputs}
 use Rattle.stk_emu.specs.Wire.{turns_of}
 use Rattle.stk_emu.specs.Effect.{Memories, erase_keeps_eeprom, memories_of}
-use Rattle.avr_course.specs.Few.{AreFew}
+use Rattle.avr_laws.specs.Few.{AreFew}
 use Rattle.stk_emu.specs.Programmer.{Programmer}
 use Rattle.stk_emu.specs.Settled.{FitsPart}
 use Rattle.stk_emu.specs.Turn.{Turn}
-use Rattle.stk_emu.specs.Wired.{WiredState, wired_view}
-use Rattle.avr_course.specs.Again.{AreKeeping, AgreesAnyway}
-use Rattle.avr_course.specs.AnyLine.{Stopped, OverAnyLine, OverTurns, WholeOverTurns, memories, events_over}
-use Rattle.avr_course.specs.Items.{items, asked_items, has_erase}
-use Rattle.avr_course.specs.Outcome.{IsTouched, IsDone, IsCourse}
-use Rattle.avr_course.specs.Written.{IsWritten}
-use Rattle.avr_course.proofs.SecondRun.EveryChip.{agrees_anyway}
-use Rattle.avr_course.proofs.SecondRun.Status.{done_again}
+use Rattle.stk_emu.specs.Wired.{WiredState, wired_link}
+use Rattle.avr_laws.specs.Again.{AreKeeping, AgreesAnyway}
+use Rattle.avr_laws.specs.AnyLine.{Stopped, OverAnyLine, OverTurns, WholeOverTurns, memories, events_over}
+use Rattle.avr_laws.specs.Items.{items, asked_items, has_erase}
+use Rattle.avr_laws.specs.Outcome.{IsTouched, IsDone, IsExpectedRun}
+use Rattle.avr_laws.specs.Written.{IsWritten}
+use Rattle.avr_laws.proofs.SecondRun.EveryChip.{agrees_anyway}
+use Rattle.avr_laws.proofs.SecondRun.Status.{done_again}
 use Rattle.avr_tool.specs.Headline.{wire_and_desk}
 
 module _ (plan : Plan) (w v : WiredState) (d e : Record) (a b : ℕ × ℕ) (status : ℕ)
@@ -36,13 +36,13 @@ module _ (plan : Plan) (w v : WiredState) (d e : Record) (a b : ℕ × ℕ) (sta
   now = keeping e b
 
   goes_on : Stopped plan w v old now → ⊥
-  goes_on broke = has_memory (broke_lacks (session plan) start (wired_view w) (wired_view v) d e a b (takes_memory plan)
+  goes_on broke = has_memory (broke_lacks (session plan) start (wired_link w) (wired_link v) d e a b (takes_memory plan)
       sound broke)
 
-  pub sound_course : OverAnyLine plan w v old now status
-      → IsCourse plan (memories w) (memories v) (sayings (events_over plan v)) status
-      × Passes (after_all (sayings (events_over plan v))) old now
-  sound_course is_over = elim is_over.end [
+  pub sound_expected : OverAnyLine plan w v old now status
+      → IsExpectedRun plan (memories w) (memories v) (outputs (events_over plan v)) status
+      × Passes (after_all (outputs (events_over plan v))) old now
+  sound_expected is_over = elim is_over.end [
     | inl came ↦ (came.0.few_bad few, came.1)
     | inr broke ↦ absurd (goes_on broke.0)
   ]
@@ -55,7 +55,7 @@ module _ (plan : Plan) (w v : WiredState) (d e : Record) (a b : ℕ × ℕ) (sta
     | inr broke ↦ absurd (goes_on broke.0)
   ]
 
--- the same plan over what any first strokes of it left
+-- the same plan over what any first page writes of it left
 done_further : (plan : Plan) (before begun after : Memories) → IsPart plan.part → All (IsFitted plan.part) plan.tasks
     → FitsPart plan.part before → has_erase (items plan) ≡ true → AgreesAnyway plan
     → (erase_keeps_eeprom plan.part before ≡ true → AreKeeping plan.part (items plan))
@@ -79,7 +79,7 @@ further_heals plan w v x y d e f g status further sound fitted fits erases both 
           inl (
             zero,
             done_further plan (memories w) (memories x) (memories y) sound fitted fits erases both kept
-                (record { count = first.line.strokes.count; memories = same ∙ first.line.strokes.memories })
+                (record { count = first.line.page_writes.count; memories = same ∙ first.line.page_writes.memories })
                 (came.0.done zero),
           )
       | inr broke ↦ inr broke.0
@@ -87,7 +87,7 @@ further_heals plan w v x y d e f g status further sound fitted fits erases both 
 
 -- the same over any link, also where nobody knows how the first run ended
 pub further_heals_link : (plan : Plan) (p q x y : Programmer) (turns more : List Turn) (bytes others : List ℕ)
-    (begun events : List (Event Saying)) (further : ℕ)
+    (begun events : List (Event OutputEvent)) (further : ℕ)
     → IsPart plan.part → All (IsFitted plan.part) plan.tasks → FitsPart plan.part (memories_of p.chip)
     → has_erase (items plan) ≡ true → AgreesAnyway plan
     → (erase_keeps_eeprom plan.part (memories_of p.chip) ≡ true → AreKeeping plan.part (items plan))
@@ -99,5 +99,9 @@ further_heals_link plan p q x y turns more bytes others begun events further sou
     let zero = second.1.again few erases both in (
       zero,
       done_further plan (memories_of p.chip) (memories_of x.chip) (memories_of y.chip) sound fitted fits erases both
-          kept (record { count = first.strokes.count; memories = same ∙ first.strokes.memories }) (second.1.done zero),
+          kept (record {
+            count = first.page_writes.count;
+            memories = same
+                ∙ first.page_writes.memories;
+          }) (second.1.done zero),
     )

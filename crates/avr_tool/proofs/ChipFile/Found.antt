@@ -7,10 +7,10 @@ use Rattle.avr_cli.specs.declared.settings.Settings.{Settings}
 use Rattle.avr_desk.proofs.Desks.InMemory.{all_true, true_behind}
 use Rattle.avr_desk.proofs.FileUses.Uses.{files_append, files_used}
 use Rattle.avr_desk.specs.Lines.{too_long_line}
-use Rattle.avr_desk.specs.Memory.{MemDeskState, Stock, memory_view, stood_for}
+use Rattle.avr_desk.specs.Memory.{MemDeskState, Stock, memory_state, stood_for}
 use Rattle.avr_desk.specs.Playing.{Went}
 use Rattle.avr_desk.specs.Record.{Bytes, DeskState, all_files, all_uses, files_among}
-use Rattle.avr_desk.specs.Said.{Saying, Opens, after_all, after_opening}
+use Rattle.avr_desk.specs.Said.{OutputEvent, Opens, after_all, after_opening}
 use Rattle.avr_desk.specs.Stage.{Made, StageResult, next_opening, unread_stage, verdict_stage}
 use Rattle.avr_desk.specs.Truth.{AreTrue, HoldsTrue, IsTrueOpening}
 use Rattle.avr_desk.specs.declared.record.FileUse.{FileUse}
@@ -109,14 +109,14 @@ module _ (part : Part) (file : Bytes) (old new : DeskState) (chip : Chip)
   found_kept =
       let said : went.says ≡ Opens found ∷ [] =
       sym (ap (λ (p : StageResult Chip). p.says) (went.comes []))
-      ∙ ap (λ (ss : List Saying). Opens found ∷ ss) (given_says part file found _) in
-      went.kept ∙ ap (λ (ss : List Saying). after_all ss old.kept) said
+      ∙ ap (λ (ss : List OutputEvent). Opens found ∷ ss) (given_says part file found _) in
+      went.kept ∙ ap (λ (ss : List OutputEvent). after_all ss old.kept) said
 
 -- ---- a run
 
 module _ (settings : Settings) (file : Bytes) (stock : Stock) (old new : MemDeskState) (status : ℕ)
     (holds : HoldsTrue stock new)
-    (r : RunsOverEmulator settings file (memory_view old) (memory_view new) status) where
+    (r : RunsOverEmulator settings file (memory_state old) (memory_state new) status) where
   only_read : OnlyReads r.made.says
   only_read = subst OnlyReads (ap (λ (p : StageResult Plan). told_in p) (r.made.comes []))
       (only_reads settings (r.made.passed ++ []))
@@ -147,7 +147,7 @@ module _ (settings : Settings) (file : Bytes) (stock : Stock) (old new : MemDesk
   ended : (more : List FileUse) × (all_uses new.kept ≡ (first_uses ++ Opened opening ∷ []) ++ more)
   ended =
       past_shown (first_uses ++ Opened opening ∷ []) new.kept
-      (saved_past (first_uses ++ Opened opening ∷ []) _ r.played_desk (memory_view new) file _ r.ran status r.saved
+      (saved_past (first_uses ++ Opened opening ∷ []) _ r.played_desk (memory_state new) file _ r.ran status r.saved
       played_past)
 
   first_files : files_among first_uses ≡ all_files old.kept

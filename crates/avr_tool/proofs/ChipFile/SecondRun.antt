@@ -5,19 +5,19 @@ use Rattle.ghosts.specs.Stays.{Stays}
 use Rattle.avr_cli.specs.declared.settings.Settings.{Settings}
 use Rattle.avr_desk.proofs.FileUses.Names.{newest_append}
 use Rattle.avr_desk.proofs.FileUses.Uses.{files_replaced}
-use Rattle.avr_desk.specs.Memory.{MemDeskState, Stock, file_named, memory_view, stood_for}
+use Rattle.avr_desk.specs.Memory.{MemDeskState, Stock, file_named, memory_state, stood_for}
 use Rattle.avr_desk.specs.Named.{is_dash, newest}
 use Rattle.avr_desk.specs.Record.{Bytes, DeskState, Record, all_files, with_replaced}
 use Rattle.avr_desk.specs.Truth.{HoldsTrue}
 use Rattle.avr_desk.specs.declared.record.Writing.{Writing}
-use Rattle.avr_course.proofs.SecondRun.EveryChip.{agrees_anyway}
-use Rattle.avr_course.proofs.SecondRun.Status.{done_again}
-use Rattle.avr_course.specs.Again.{AgreesAnyway, AreKeeping}
-use Rattle.avr_course.specs.AnyLine.{OverAnyLine, Stopped, memories}
+use Rattle.avr_laws.proofs.SecondRun.EveryChip.{agrees_anyway}
+use Rattle.avr_laws.proofs.SecondRun.Status.{done_again}
+use Rattle.avr_laws.specs.Again.{AgreesAnyway, AreKeeping}
+use Rattle.avr_laws.specs.AnyLine.{OverAnyLine, Stopped, memories}
 use Rattle.avr_emulator.specs.Emulated.{IsSaved, RunsOverEmulator, new_wire}
-use Rattle.avr_course.specs.Items.{items, has_erase}
-use Rattle.avr_course.specs.Outcome.{IsDone, IsTouched, strokes}
-use Rattle.avr_course.proofs.AnyLine.FirstSteps.{effects_sizes}
+use Rattle.avr_laws.specs.Items.{items, has_erase}
+use Rattle.avr_laws.specs.Outcome.{IsDone, IsTouched, page_writes}
+use Rattle.avr_laws.proofs.AnyLine.FirstSteps.{effects_sizes}
 use Rattle.avr_part.specs.ChipFile.{chip_file, state_in}
 use Rattle.avr_part.specs.Part.{Part, IsPart}
 use Rattle.avr_part.specs.State.{ChipState as Chip}
@@ -28,7 +28,7 @@ use Rattle.avr_session.specs.Runs.{devices}
 use Rattle.avr_session.specs.Session.{session}
 use Rattle.stk_emu.specs.Effect.{Memories, memories_of, erase_keeps_eeprom}
 use Rattle.stk_emu.specs.Settled.{FitsPart}
-use Rattle.stk_emu.specs.Wired.{WiredState, wired_view}
+use Rattle.stk_emu.specs.Wired.{WiredState, wired_link}
 use Rattle.stk_host.specs.Dialog.{bytes_sent, played}
 use Rattle.stk_host.specs.Operations.{handshake, opening}
 use Rattle.stk_host.specs.Steps.{attempt, exchange, tries}
@@ -96,7 +96,7 @@ unfolding session opening handshake tries attempt exchange
 first_frame plan tape = (_, refl)
 
 no_silence : (plan : Plan) (chip : Chip) (after : WiredState) (d e : DeskState) (ran : ℕ)
-    → RunsSession plan (devices (wired_view (new_wire chip [])) d) (devices (wired_view after) e) ran
+    → RunsSession plan (devices (wired_link (new_wire chip [])) d) (devices (wired_link after) e) ran
     → sent after.transcript ≡ [] → ran ≡ 0 → ⊥
 no_silence plan chip after d e ran (inl (place, whole)) none zero =
     let first = first_frame plan (heard whole.during ++ []) in
@@ -110,13 +110,13 @@ no_silence plan chip after d e ran (inr (broke, one)) none zero = let e : 1 ≡ 
 -- so the chip is in its file after a run of status 0
 pub chip_left : (settings : Settings) (file : Bytes) (stock : Stock) (old new : MemDeskState) (status : ℕ)
     → is_dash file ≡ false → status ≡ 0
-    → (r : RunsOverEmulator settings file (memory_view old) (memory_view new) status)
+    → (r : RunsOverEmulator settings file (memory_state old) (memory_state new) status)
     → file_held stock new.kept file ≡ Some (chip_file r.after.wire.programmer.chip)
 chip_left settings file stock old new status no_dash zero r =
-    zero_held file stock no_dash (sent r.after.transcript) r.played_desk (memory_view new)
+    zero_held file stock no_dash (sent r.after.transcript) r.played_desk (memory_state new)
     (chip_file r.after.wire.programmer.chip) r.ran
     (no_silence r.plan r.chip r.after r.loaded_desk r.played_desk r.ran r.runs)
-    (subst (IsSaved (sent r.after.transcript) r.played_desk (memory_view new) file
+    (subst (IsSaved (sent r.after.transcript) r.played_desk (memory_state new) file
     (chip_file r.after.wire.programmer.chip)
     r.ran) zero r.saved)
 
@@ -130,8 +130,8 @@ same_chip part (Some bytes) a b is other = is.1 ∙ sym other.1
 module _ (settings : Settings) (file : Bytes) (stock : Stock) (old mid new : MemDeskState) (status further : ℕ)
     (no_dash : is_dash file ≡ false)
     (began : HoldsTrue stock old) (first_stays : Stays HoldsTrue old mid) (then_stays : Stays HoldsTrue mid new)
-    (one : RunsOverEmulator settings file (memory_view old) (memory_view mid) status)
-    (two : RunsOverEmulator settings file (memory_view mid) (memory_view new) further)
+    (one : RunsOverEmulator settings file (memory_state old) (memory_state mid) status)
+    (two : RunsOverEmulator settings file (memory_state mid) (memory_state new) further)
     (same_plan : two.plan ≡ one.plan) (own : file_held stock one.played_desk.kept file
     ≡ file_held stock old.kept file) where
   abbrev plan : Plan
@@ -162,20 +162,20 @@ module _ (settings : Settings) (file : Bytes) (stock : Stock) (old mid new : Mem
   }
 
   left : FitsPart plan.part (memories one.after)
-  left = subst (FitsPart plan.part) (sym one.line.line.strokes.memories)
-      (effects_sizes plan.part is_part (take one.line.line.strokes.count (strokes plan)) before fits)
+  left = subst (FitsPart plan.part) (sym one.line.line.page_writes.memories)
+      (effects_sizes plan.part is_part (take one.line.line.page_writes.count (page_writes plan)) before fits)
 
-  -- the second run begins with what some first strokes of the first one left
+  -- the second run begins with what some first page writes of the first one left
   touched : IsTouched plan before (memories_of two.chip)
-  touched = elim (saved_held file stock no_dash (sent one.after.transcript) one.played_desk (memory_view mid)
+  touched = elim (saved_held file stock no_dash (sent one.after.transcript) one.played_desk (memory_state mid)
       (chip_file one.after.wire.programmer.chip) one.ran status one.saved) [
         | inl is ↦
             (let held : IsChipOf plan.part (Some (chip_file one.after.wire.programmer.chip)) two.chip =
             subst (λ h. IsChipOf plan.part h two.chip) is second_chip in
             record {
-              count = one.line.line.strokes.count;
+              count = one.line.line.page_writes.count;
               memories = ap memories_of held.1 ∙ same_memories plan.part one.after.wire.programmer.chip left
-                  ∙ one.line.line.strokes.memories;
+                  ∙ one.line.line.page_writes.memories;
             })
         | inr same ↦
             record {

@@ -4,15 +4,15 @@ use Rattle.std.proofs.lemmas.List.{replicate-append-replicate}
 use Rattle.avr_cli.specs.declared.settings.Settings.{Settings}
 use Rattle.avr_desk.specs.Memory.{Stock}
 use Rattle.avr_desk.specs.Record.{nothing_kept}
-use Rattle.avr_desk.specs.Said.{Saying, after_all}
+use Rattle.avr_desk.specs.Said.{OutputEvent, after_all}
 use Rattle.avr_desk.specs.Stage.{StageAnswer, Made, Refused, Unread}
 use Rattle.avr_desk.specs.declared.record.Opening.{Opening}
 use Rattle.avr_plan.specs.Plan.{Plan}
 use Rattle.avr_plan.specs.Planning.{planned}
 use Rattle.avr_session.specs.Session.{session}
-use Rattle.avr_course.proofs.Given.LaterAnswers.{answer_extends}
+use Rattle.avr_laws.proofs.Given.LaterAnswers.{answer_extends}
 use Rattle.stk_frame.specs.Frame.{frame}
-use Rattle.stk_host.specs.Dialog.{Dialog, Done, Say, Ask, Event, Frame, Said, played, behind, by_answer, next, bytes_sent, sayings}
+use Rattle.stk_host.specs.Dialog.{Dialog, Done, Say, Ask, Event, Frame, Said, played, behind, by_answer, next, bytes_sent, outputs}
 use Rattle.stk_host.specs.Tape.{Tape, Reading, answer}
 use Rattle.stk_host.specs.declared.link.Item.TheVariants.{End}
 use Rattle.avr_tool.proofs.Runs.Refused.{answered_due, sent_due, said_due}
@@ -98,7 +98,7 @@ run_more s openings t u status n left is =
 texts : (after_all lines_due nothing_kept).messages ≡ worked_outcome.messages
 texts = refl
 
-worked_left : (events : List (Event Saying)) → bytes_sent events ≡ frames_due → sayings events ≡ lines_due
+worked_left : (events : List (Event OutputEvent)) → bytes_sent events ≡ frames_due → outputs events ≡ lines_due
     → left_by events 0 ≡ worked_outcome
 worked_left events frames lines = rw (frames, lines, texts) refl
 

@@ -2,7 +2,7 @@
 use Rattle.std.proofs.Common.{◌≡◌, ◌∙◌, ◌⊎◌, ap, subst, sym, refl, inl, inr, ℕ, Bool, List, [], ◌∷◌, ◌++◌, append_assoc, append-nil, map, Ok, Err, Result}
 use Rattle.std.specs.Prelude.{⊤}
 use Rattle.avr_desk.specs.Record.{Bytes, DeskState, Record, all_uses, files_among, released, use_of, with_absent, with_replaced, written_on}
-use Rattle.avr_desk.specs.Said.{Saying, Opens, Line, Creates, Writes, Outs, after, after_all, after_opening}
+use Rattle.avr_desk.specs.Said.{OutputEvent, Opens, Line, Creates, Writes, Outs, after, after_all, after_opening}
 use Rattle.avr_desk.specs.declared.record.FileUse.{FileUse}
 use Rattle.avr_desk.specs.declared.record.FileUse.TheVariants.{Opened, Created}
 use Rattle.avr_desk.specs.declared.record.Opening.{Opening}
@@ -13,7 +13,7 @@ use Rattle.avr_emulator.specs.Saving.{Saves}
 use Rattle.avr_emulator.specs.Emulated.{IsSaved}
 use Rattle.avr_plan.specs.OnlyReading.{OnlyReads}
 use Rattle.avr_session.specs.Runs.{RunsTo, Devices, Lacking}
-use Rattle.stk_host.specs.Dialog.{Dialog, sayings}
+use Rattle.stk_host.specs.Dialog.{Dialog, outputs}
 
 -- These are the first uses at a desk; the file that it reads may be the last of them, what it writes is none.
 abbrev pub ArePast : List FileUse → Record → Type 0
@@ -35,7 +35,7 @@ put_by uses later r s past is =
     let shown = past_shown uses r past in
     inl (shown.0 ++ later, is ∙ ap (λ (us : List FileUse). us ++ later) shown.1 ∙ append_assoc uses shown.0 later)
 
-past_on : (uses : List FileUse) (saying : Saying) (r : Record) → ArePast uses r → ArePast uses (after saying r)
+past_on : (uses : List FileUse) (output : OutputEvent) (r : Record) → ArePast uses r → ArePast uses (after output r)
 past_on uses (Opens (Absent name)) r past = put_by uses (Opened (Absent name) ∷ []) r (with_absent name r) past refl
 past_on uses (Opens (Found x)) r past = put_by uses [] r (after (Opens (Found x)) r) past
     (sym (append-nil (all_uses r)))
@@ -45,10 +45,10 @@ past_on uses (Writes bytes) r (inl past) = inl past
 past_on uses (Writes bytes) r (inr (x, reads, is)) = inr (x, ap (written_on bytes) reads, is)
 past_on uses (Outs bytes) r past = past
 
-pub past_all : (uses : List FileUse) (says : List Saying) (r : Record) → ArePast uses r
+pub past_all : (uses : List FileUse) (says : List OutputEvent) (r : Record) → ArePast uses r
     → ArePast uses (after_all says r)
 past_all uses [] r past = past
-past_all uses (saying ∷ says) r past = past_all uses says (after saying r) (past_on uses saying r past)
+past_all uses (output ∷ says) r past = past_all uses says (after output r) (past_on uses output r past)
 
 -- ---- what was read and reported only
 
@@ -65,7 +65,7 @@ one_more : (uses shown all : List FileUse) (o : Opening) (more : List Opening) �
 one_more uses shown all o more one is = is ∙ ap (λ (us : List FileUse). us ++ opened more) one
     ∙ append_assoc uses (Opened o ∷ []) (opened more)
 
-pub only_opened : (says : List Saying) (r : Record) → OnlyReads says
+pub only_opened : (says : List OutputEvent) (r : Record) → OnlyReads says
     → (openings : List Opening) × (all_uses (after_all says r) ≡ all_uses r ++ opened openings)
 only_opened [] r reads = ([], sym (append-nil (all_uses r)))
 only_opened (Opens (Absent name) ∷ says) r reads =
@@ -78,7 +78,7 @@ only_opened (Opens (Found x) ∷ says) r reads =
     let later = only_opened says (after (Opens (Found x)) r) reads in
     (Found x ∷ later.0, one_more (all_uses r) (all_uses (after (Opens (Found x)) r)) _ (Found x) later.0 refl later.1)
 only_opened (Line bytes ∷ says) r reads = only_opened says (after (Line bytes) r) reads
-only_opened (saying ∷ says) r reads = absurd reads
+only_opened (output ∷ says) r reads = absurd reads
 
 -- ---- what a session and a saving do
 
@@ -87,15 +87,16 @@ pub opened_past : (opening : Opening) (r : Record)
 opened_past (Absent name) r = inl ([], sym (append-nil (all_uses r ++ Opened (Absent name) ∷ [])))
 opened_past (Found x) r = inr (x, refl, refl)
 
-pub run_past : (uses : List FileUse) (dialog : Dialog Saying ℕ) (old new : Devices) (takes : Bool) (Lacks : Lacking)
+pub run_past : (uses : List FileUse) (dialog : Dialog OutputEvent ℕ) (old new : Devices) (takes : Bool)
+    (Lacks : Lacking)
     (status : ℕ)
     → RunsTo dialog old new takes Lacks status → ArePast uses old.desk.kept → ArePast uses new.desk.kept
 run_past uses dialog old new takes Lacks status (inl (place, ran)) past =
-    subst (ArePast uses) (sym ran.kept) (past_all uses (sayings ran.events) old.desk.kept past)
+    subst (ArePast uses) (sym ran.kept) (past_all uses (outputs ran.events) old.desk.kept past)
 run_past uses dialog old new takes Lacks status (inr (broke, one)) past =
     subst (ArePast uses) (sym broke.kept) (past_on uses (Line broke.told)
-    (after_all (sayings broke.shown) old.desk.kept)
-    (past_all uses (sayings broke.shown) old.desk.kept past))
+    (after_all (outputs broke.shown) old.desk.kept)
+    (past_all uses (outputs broke.shown) old.desk.kept past))
 
 saves_past : (uses : List FileUse) (old new : DeskState) (file bytes : Bytes) (result : Result ⊤ ℕ)
     → Saves old new file bytes result

@@ -5,13 +5,13 @@ use Rattle.std.specs.Io.KnownBytes.{Appends, Consumes}
 use Rattle.ghosts.specs.Stays.{Stays}
 use Rattle.avr_cli.specs.declared.settings.Settings.{Settings}
 use Rattle.avr_desk.proofs.Stages.Breaks.{openings_in, openings_shown}
-use Rattle.avr_desk.proofs.Stages.Sayings.{after_append}
+use Rattle.avr_desk.proofs.Stages.Outputs.{after_append}
 use Rattle.avr_desk.proofs.Desks.InMemory.{all_true, begins_true}
 use Rattle.avr_desk.proofs.FileUses.Uses.{absent_used, files_used, openings_used}
-use Rattle.avr_desk.specs.Memory.{MemDeskState, Stock, memory_view, stock_of}
+use Rattle.avr_desk.specs.Memory.{MemDeskState, Stock, memory_state, stock_of}
 use Rattle.avr_desk.specs.Playing.{Went, WentRefused}
 use Rattle.avr_desk.specs.Record.{Bytes, Record, all_files, all_openings, all_uses, file_of, files_among, nothing_kept, openings_among, written_on}
-use Rattle.avr_desk.specs.Said.{Saying, Opens, Line, Creates, Writes, Outs, after, after_all}
+use Rattle.avr_desk.specs.Said.{OutputEvent, Opens, Line, Creates, Writes, Outs, after, after_all}
 use Rattle.avr_desk.specs.Stage.{StageAnswer, Made, Refused, Unread, StageResult, all_told, told_in}
 use Rattle.avr_desk.specs.Truth.{AreTrue, HoldsTrue, IsTrueOpening}
 use Rattle.avr_desk.specs.declared.record.FileUse.{FileUse}
@@ -31,12 +31,12 @@ use Rattle.avr_session.specs.Run.{RunsSettings}
 use Rattle.avr_session.specs.Runs.{devices}
 use Rattle.avr_session.specs.Session.{session}
 use Rattle.avr_session.specs.Stopping.{IsPlayed}
-use Rattle.stk_host.specs.Dialog.{Event, Said, behind, bytes_sent, sayings}
-use Rattle.stk_host.specs.Links.{IsOfTape, IsTrueSince, StreamState, TapeState, stream_view, tape_view}
+use Rattle.stk_host.specs.Dialog.{Event, Said, behind, bytes_sent, outputs}
+use Rattle.stk_host.specs.Links.{IsOfTape, IsTrueSince, StreamState, TapeState, stream_state, tape_state}
 use Rattle.stk_host.specs.Transcript.{LinkState, Transcript, heard, sent}
 use Rattle.stk_host.specs.Tape.{Tape, bytes_of}
 use Rattle.stk_host.specs.declared.link.Item.TheVariants.{End}
-use Rattle.avr_tool.proofs.Runs.Joined.{said_sayings, said_bytes}
+use Rattle.avr_tool.proofs.Runs.Joined.{said_outputs, said_bytes}
 use Rattle.avr_tool.specs.Headline.{after_answer, IsStopped}
 use Rattle.avr_tool.specs.InMemory.{RunOutcome, left_by, run_outcome, run_of, shown_by, AreUnused, IsLeft, Leaves, LeavesStreams}
 
@@ -54,11 +54,11 @@ opened_uses stock [] none are = tt
 opened_uses stock (Opened opening ∷ uses) none are = (are.0, opened_uses stock uses none are.1)
 opened_uses stock (Created file ∷ uses) none are = absurd (cc)
 
--- what was opened among these sayings
-seen_sayings : (stock : Stock) (says : List Saying) → AreOpened stock (openings_in says) → AreSeen stock says
-seen_sayings stock [] are = tt
-seen_sayings stock (Opens opening ∷ says) are = (are.0, seen_sayings stock says are.1)
-seen_sayings stock (saying ∷ says) are = seen_sayings stock says are
+-- what was opened among these output events
+seen_outputs : (stock : Stock) (says : List OutputEvent) → AreOpened stock (openings_in says) → AreSeen stock says
+seen_outputs stock [] are = tt
+seen_outputs stock (Opens opening ∷ says) are = (are.0, seen_outputs stock says are.1)
+seen_outputs stock (output ∷ says) are = seen_outputs stock says are
 
 -- ---- what is left, but for what was opened
 
@@ -78,23 +78,23 @@ all_left v = v.files ++ v.file
 abbrev with_bytes : Bytes → Writing → Writing
 with_bytes bytes file = record file { bytes = file.bytes ++ bytes }
 
-abbrev left_after : Saying → Left → Left
+abbrev left_after : OutputEvent → Left → Left
 left_after (Opens opening) v = record v { files = all_left v; file = [] }
 left_after (Line bytes) v = record v { messages = v.messages ++ bytes }
 left_after (Creates name) v = record v { files = all_left v; file = record { name = name; bytes = [] } ∷ [] }
 left_after (Writes bytes) v = record v { file = map (with_bytes bytes) v.file }
 left_after (Outs bytes) v = record v { output = v.output ++ bytes }
 
-abbrev left_after_all : List Saying → Left → Left
+abbrev left_after_all : List OutputEvent → Left → Left
 left_after_all [] v = v
-left_after_all (saying ∷ says) v = left_after_all says (left_after saying v)
+left_after_all (output ∷ says) v = left_after_all says (left_after output v)
 
 written_file : (bytes : Bytes) (o : Open) → file_of (written_on bytes o) ≡ map (with_bytes bytes) (file_of o)
 written_file bytes Closed = refl
 written_file bytes (ToRead x) = refl
 written_file bytes (ToWrite x) = refl
 
-left_on : (saying : Saying) (r : Record) → left_in (after saying r) ≡ left_after saying (left_in r)
+left_on : (output : OutputEvent) (r : Record) → left_in (after output r) ≡ left_after output (left_in r)
 left_on (Opens (Absent name)) r =
     ap (λ (fs : List Writing). record (left_in r) { files = fs; file = [] }) (absent_used name r)
 left_on (Opens (Found x)) r =
@@ -106,9 +106,9 @@ left_on (Writes bytes) r =
     ap (λ (fs : List Writing). record (left_in r) { file = fs }) (written_file bytes r.current)
 left_on (Outs bytes) r = refl
 
-left_all : (says : List Saying) (r : Record) → left_in (after_all says r) ≡ left_after_all says (left_in r)
+left_all : (says : List OutputEvent) (r : Record) → left_in (after_all says r) ≡ left_after_all says (left_in r)
 left_all [] r = refl
-left_all (saying ∷ says) r = left_all says (after saying r) ∙ ap (left_after_all says) (left_on saying r)
+left_all (output ∷ says) r = left_all says (after output r) ∙ ap (left_after_all says) (left_on output r)
 
 -- what reads and tells makes no file
 abbrev joined : List Bytes → Bytes
@@ -118,23 +118,24 @@ joined (line ∷ lines) = line ++ joined lines
 abbrev told_left : Bytes → Bytes → Left
 told_left messages output = record { messages = messages; output = output; files = []; file = [] }
 
-only_told : (says : List Saying) (messages output : Bytes) → OnlyReads says
+only_told : (says : List OutputEvent) (messages output : Bytes) → OnlyReads says
     → left_after_all says (told_left messages output) ≡ told_left (messages ++ joined (lines_in says)) output
 only_told [] messages output reads = ap (λ (m : Bytes). told_left m output) (sym (append-nil messages))
 only_told (Opens opening ∷ says) messages output reads = only_told says messages output reads
 only_told (Line bytes ∷ says) messages output reads = only_told says (messages ++ bytes) output reads
     ∙ ap (λ (m : Bytes). told_left m output) (append_assoc messages bytes (joined (lines_in says)))
-only_told (saying ∷ says) messages output reads = absurd reads
+only_told (output ∷ says) messages output reads = absurd reads
 
 -- so what planning leaves is the lines that it tells
-planning_left : (says : List Saying) → OnlyReads says
+planning_left : (says : List OutputEvent) → OnlyReads says
     → left_in (after_all says nothing_kept) ≡ told_left (joined (lines_in says)) []
 planning_left says reads = left_all says nothing_kept ∙ only_told says [] [] reads
 
 -- ---- planning
 
 -- what was said before a refusal was seen so too
-seen_before : (stock : Stock) (says : List Saying) (answer : StageAnswer Plan) → AreSeen stock (all_told says answer)
+seen_before : (stock : Stock) (says : List OutputEvent) (answer : StageAnswer Plan)
+    → AreSeen stock (all_told says answer)
     → AreSeen stock says
 seen_before stock says (Made plan) seen = seen
 seen_before stock says (Refused line) seen = seen_first stock says (Line line ∷ []) seen
@@ -142,11 +143,11 @@ seen_before stock says Unread seen = seen
 
 module _ (settings : Settings) (stock : Stock) (old m : MemDeskState) (answer : StageAnswer Plan)
     (unused : old.kept ≡ nothing_kept) (holds : HoldsTrue stock m)
-    (judged : answer ≡ Unread → ⊥) (went : Went (planned settings) (memory_view old) (memory_view m) answer) where
+    (judged : answer ≡ Unread → ⊥) (went : Went (planned settings) (memory_state old) (memory_state m) answer) where
   planned_is : planned settings (went.passed ++ []) ≡ record { says = went.says; answer = answer; left = [] }
   planned_is = went.comes []
 
-  abbrev told : List Saying
+  abbrev told : List OutputEvent
   told = all_told went.says answer
 
   only_read : OnlyReads told
@@ -163,7 +164,7 @@ module _ (settings : Settings) (stock : Stock) (old m : MemDeskState) (answer : 
   opened = ap all_openings kept_is ∙ openings_shown told nothing_kept
 
   seen : AreSeen stock told
-  seen = seen_sayings stock told (subst (AreOpened stock) (openings_used m.kept ∙ opened)
+  seen = seen_outputs stock told (subst (AreOpened stock) (openings_used m.kept ∙ opened)
       (opened_uses stock (all_uses m.kept) (files_used m.kept ∙ no_files) (all_true stock m holds)))
 
   both : ((planned_of settings stock).answer ≡ (planned settings (went.passed ++ [])).answer)
@@ -193,18 +194,18 @@ abbrev outcome_of : ℕ → Bytes → Left → RunOutcome
 outcome_of status sent v =
     record { status = status; sent = sent; messages = v.messages; output = v.output; files = all_left v }
 
--- planning's sayings, and then these events, leave what the desk shows
-left_is : (status : ℕ) (says : List Saying) (events : List (Event Saying)) (between kept : Record)
+-- planning's output events, and then these events, leave what the desk shows
+left_is : (status : ℕ) (says : List OutputEvent) (events : List (Event OutputEvent)) (between kept : Record)
     (transcript : Transcript)
-    → left_in (after_all says nothing_kept) ≡ left_in between → kept ≡ after_all (sayings events) between
+    → left_in (after_all says nothing_kept) ≡ left_in between → kept ≡ after_all (outputs events) between
     → bytes_sent events ≡ sent transcript
     → left_by (map Said says ++ events) status ≡ shown_by status kept transcript
 left_is status says events between kept transcript alike then frames =
-    let same : left_in (after_all (sayings (map Said says ++ events)) nothing_kept) ≡ left_in kept =
-    ap (λ (ss : List Saying). left_in (after_all ss nothing_kept)) (said_sayings says events)
-    ∙ ap left_in (after_append says (sayings events) nothing_kept)
-    ∙ left_all (sayings events) (after_all says nothing_kept) ∙ ap (left_after_all (sayings events)) alike
-    ∙ sym (left_all (sayings events) between) ∙ ap left_in (sym then) in
+    let same : left_in (after_all (outputs (map Said says ++ events)) nothing_kept) ≡ left_in kept =
+    ap (λ (ss : List OutputEvent). left_in (after_all ss nothing_kept)) (said_outputs says events)
+    ∙ ap left_in (after_append says (outputs events) nothing_kept)
+    ∙ left_all (outputs events) (after_all says nothing_kept) ∙ ap (left_after_all (outputs events)) alike
+    ∙ sym (left_all (outputs events) between) ∙ ap left_in (sym then) in
     ap₂ (outcome_of status) (said_bytes says events ∙ frames) same
 
 module _ (settings : Settings) (old new : MemDeskState) (before after : LinkState) (status : ℕ)
@@ -217,8 +218,8 @@ module _ (settings : Settings) (old new : MemDeskState) (before after : LinkStat
 
   -- the plan was made, and its session played
   whole : (between : MemDeskState) (plan : Plan) → HoldsTrue stock between
-      → Went (planned settings) (memory_view old) (memory_view between) (Made plan)
-      → IsPlayed (session plan) (devices before (memory_view between)) (devices after (memory_view new)) status
+      → Went (planned settings) (memory_state old) (memory_state between) (Made plan)
+      → IsPlayed (session plan) (devices before (memory_state between)) (devices after (memory_state new)) status
       → IsLeft settings stock (heard after.transcript) (shown_by status new.kept after.transcript)
   whole between plan holds went played_whole more =
       let ran = played_whole.1 in
@@ -238,7 +239,7 @@ module _ (settings : Settings) (old new : MemDeskState) (before after : LinkStat
 
   -- it was refused
   refused : HoldsTrue stock new → after.transcript ≡ before.transcript
-      → WentRefused (planned settings) (memory_view old) (memory_view new)
+      → WentRefused (planned settings) (memory_state old) (memory_state new)
       → IsLeft settings stock (heard after.transcript) (shown_by 1 new.kept after.transcript)
   refused holds silent (line, went) more =
       let p = planned_of settings stock in
@@ -249,7 +250,7 @@ module _ (settings : Settings) (old new : MemDeskState) (before after : LinkStat
       let events : map Said (p.says ++ Line line ∷ []) ++ [] ≡ map Said p.says ++ Said (Line line) ∷ [] =
       append-nil (map Said (p.says ++ Line line ∷ [])) ∙ map-append Said p.says (Line line ∷ []) in
       let left : left_by (map Said p.says ++ Said (Line line) ∷ []) 1 ≡ shown_by 1 new.kept after.transcript =
-      ap (λ (es : List (Event Saying)). left_by es 1) (sym events)
+      ap (λ (es : List (Event OutputEvent)). left_by es 1) (sym events)
       ∙ left_is 1 (p.says ++ Line line ∷ []) [] new.kept new.kept after.transcript alike refl
       (ap sent (sym (silent ∙ silent_before))) in
       ap (λ a. run_outcome (behind (map Said p.says) (after_answer a (heard after.transcript ++ more)))) answer
@@ -262,9 +263,10 @@ module _ (settings : Settings) (old new : MemDeskState) (before after : LinkStat
 
   -- that, or it stopped
   pub run_is : (between : MemDeskState) → Stays HoldsTrue old between → Stays HoldsTrue old new
-      → RunsSettings settings (devices before (memory_view old)) (memory_view between) (devices after (memory_view new))
+      → RunsSettings settings (devices before (memory_state old)) (memory_state between)
+      (devices after (memory_state new))
       status
-      → LeavesShown ⊎ IsStopped settings (devices before (memory_view old)) (devices after (memory_view new)) status
+      → LeavesShown ⊎ IsStopped settings (devices before (memory_state old)) (devices after (memory_state new)) status
   run_is between first all (inl runs) = elim runs.runs [
     | inl played_whole ↦ inl (record {
       is = whole between runs.plan (first stock (begins_true old unused.desk_is)) runs.made played_whole;
@@ -272,7 +274,7 @@ module _ (settings : Settings) (old new : MemDeskState) (before after : LinkStat
     })
     | inr broke ↦ inr (inl (record {
       plan = runs.plan;
-      between = memory_view between;
+      between = memory_state between;
       made = runs.made;
       broke = broke.0;
       status_is = broke.1;
@@ -307,35 +309,37 @@ module _ (settings : Settings) (old new : MemDeskState) (status : ℕ) where
             ap (λ t. run_outcome (run_of settings (stock_of old) t)) tape ∙ left (after.left ++ more);
       }
 
-  pub run_is_over_tape : (before after : TapeState) (between : MemDeskState) (unused : AreUnused old (tape_view before))
+  pub run_is_over_tape : (before after : TapeState) (between : MemDeskState)
+      (unused : AreUnused old (tape_state before))
       → IsOfTape before after
       → Stays HoldsTrue old between → Stays HoldsTrue old new
-      → RunsSettings settings (devices (tape_view before) (memory_view old)) (memory_view between)
-      (devices (tape_view after) (memory_view new)) status
+      → RunsSettings settings (devices (tape_state before) (memory_state old)) (memory_state between)
+      (devices (tape_state after) (memory_state new)) status
       → Leaves settings (stock_of old) before.left (shown_by status new.kept after.transcript)
-      ⊎ IsStopped settings (devices (tape_view before) (memory_view old)) (devices (tape_view after) (memory_view new))
+      ⊎ IsStopped settings (devices (tape_state before) (memory_state old))
+      (devices (tape_state after) (memory_state new))
       status
   run_is_over_tape before after between unused of_tape first all runs =
-      elim (run_is settings old new (tape_view before) (tape_view after) status unused between first all runs) [
+      elim (run_is settings old new (tape_state before) (tape_state after) status unused between first all runs) [
         | inl left ↦ inl (over_tape before after (ap (λ (l : LinkState). l.transcript) unused.link_is) of_tape left.is)
         | inr stopped ↦ inr stopped
       ]
 
   pub run_is_over_streams : {R W : Type 0} (remaining : R → Option Bytes) (contents : W → Option Bytes)
       (before after : StreamState R W) (between : MemDeskState)
-      (unused : AreUnused old (stream_view before)) → IsTrueSince remaining contents before after
+      (unused : AreUnused old (stream_state before)) → IsTrueSince remaining contents before after
       → Stays HoldsTrue old between → Stays HoldsTrue old new
-      → RunsSettings settings (devices (stream_view before) (memory_view old)) (memory_view between)
-      (devices (stream_view after) (memory_view new)) status
+      → RunsSettings settings (devices (stream_state before) (memory_state old)) (memory_state between)
+      (devices (stream_state after) (memory_state new)) status
       → LeavesStreams remaining contents settings (stock_of old) before after
       (shown_by status new.kept after.transcript)
-      ⊎ IsStopped settings (devices (stream_view before) (memory_view old))
-      (devices (stream_view after) (memory_view new)) status
+      ⊎ IsStopped settings (devices (stream_state before) (memory_state old))
+      (devices (stream_state after) (memory_state new)) status
   run_is_over_streams remaining contents before after between unused true_since first all runs =
       let transcript_is : after.transcript ≡ true_since.during =
       true_since.grows ∙ ap (λ transcript. transcript ++ true_since.during)
       (ap (λ (l : LinkState). l.transcript) unused.link_is) in
-      elim (run_is settings old new (stream_view before) (stream_view after) status unused between first all runs) [
+      elim (run_is settings old new (stream_state before) (stream_state after) status unused between first all runs) [
         | inl left ↦ inl (record {
           tape = heard after.transcript;
           gave = subst (λ transcript. Consumes (remaining before.reader) (remaining after.reader)

@@ -19,7 +19,7 @@ use Rattle.stk_emu.specs.Programmer.{Programmer, fresh_programmer}
 use Rattle.stk_emu.specs.Wire as wire
 use Rattle.stk_emu.specs.Wire.{Wire, wire_after}
 use Rattle.stk_emu.specs.Wired.{WiredState, IsFresh}
-use Rattle.avr_course.specs.AnyLine.{Stopped, OverAnyLine}
+use Rattle.avr_laws.specs.AnyLine.{Stopped, OverAnyLine}
 use Rattle.avr_tool.specs.Headline.{IsRun, StoppedPlanning, IsNew, wire_and_desk, PlaysOverWire, HasNoPlan}
 use Rattle.avr_tool.proofs.Runs.Joined.{ran_whole, ran_openings, refused_whole}
 

@@ -2,14 +2,14 @@
 use Rattle.std.proofs.Common.{◌≡◌, ℕ, ◌⊎◌, inl, inr, List, [], ◌∷◌, ◌++◌, map, Some, refl, sym, ap, ◌∙◌, subst, arith, append_assoc}
 use Rattle.avr_cli.specs.declared.settings.Settings.{Settings}
 use Rattle.avr_desk.specs.Record.{DeskState}
-use Rattle.avr_desk.specs.Said.{Saying, Line, SaidPart, after_all}
-use Rattle.avr_desk.proofs.Stages.Sayings.{kept_append}
+use Rattle.avr_desk.specs.Said.{OutputEvent, Line, SaidPart, after_all}
+use Rattle.avr_desk.proofs.Stages.Outputs.{kept_append}
 use Rattle.avr_desk.proofs.Lines.Told.{same_on}
 use Rattle.avr_plan.specs.Plan.{Plan}
 use Rattle.avr_plan.specs.Planning.{planned}
 use Rattle.avr_desk.specs.Playing.{Went, WentRefused}
 use Rattle.avr_desk.specs.Stage.{Made, StageResult}
-use Rattle.stk_host.specs.Dialog.{Event, Said, behind, bytes_sent, sayings}
+use Rattle.stk_host.specs.Dialog.{Event, Said, behind, bytes_sent, outputs}
 use Rattle.stk_host.specs.Transcript.{LinkState, heard, Grows}
 use Rattle.stk_host.specs.Tape.{on_tape}
 use Rattle.stk_host.specs.Play.{IsPrefixOfEvents}
@@ -20,15 +20,15 @@ use Rattle.avr_session.specs.Session.{session}
 use Rattle.avr_session.specs.Stopping.{IsPlayed}
 use Rattle.avr_tool.specs.Headline.{run, after_planning, IsInTurn, IsRun, IsPrefixOfRun, StoppedPlaying, IsStopped}
 
-pub said_sayings : (says : List Saying) (events : List (Event Saying))
-    → sayings (map Said says ++ events) ≡ says ++ sayings events
-said_sayings [] events = refl
-said_sayings (saying ∷ says) events = ap (λ rest. saying ∷ rest) (said_sayings says events)
+pub said_outputs : (says : List OutputEvent) (events : List (Event OutputEvent))
+    → outputs (map Said says ++ events) ≡ says ++ outputs events
+said_outputs [] events = refl
+said_outputs (output ∷ says) events = ap (λ rest. output ∷ rest) (said_outputs says events)
 
-pub said_bytes : (says : List Saying) (events : List (Event Saying))
+pub said_bytes : (says : List OutputEvent) (events : List (Event OutputEvent))
     → bytes_sent (map Said says ++ events) ≡ bytes_sent events
 said_bytes [] events = refl
-said_bytes (saying ∷ says) events = said_bytes says events
+said_bytes (output ∷ says) events = said_bytes says events
 
 answered : {p q : StageResult Plan} → p ≡ q → p.answer ≡ q.answer
 answered e = ap (λ (p : StageResult Plan). p.answer) e
@@ -51,8 +51,8 @@ ran_whole settings plan x y between status went whole =
           ran.plays.in_turn;
       all_sent = said_bytes went.says ran.events ∙ ran.plays.all_sent;
       grows = ran.grows;
-      kept = kept_append went.says (sayings ran.events) x.desk.kept between.kept y.desk.kept went.kept ran.kept
-          ∙ ap (λ says. after_all says x.desk.kept) (sym (said_sayings went.says ran.events));
+      kept = kept_append went.says (outputs ran.events) x.desk.kept between.kept y.desk.kept went.kept ran.kept
+          ∙ ap (λ says. after_all says x.desk.kept) (sym (said_outputs went.says ran.events));
       few = ran.few (omega arith);
       sound = (ran.sound.0, same_on x.desk between y.desk went.sound ran.sound.1);
     }
@@ -76,7 +76,7 @@ refused_whole settings x y same (line, went) = record {
   in_turn = λ later. subst (λ answer. IsInTurn answer []) (sym (answered (went.comes later))) refl;
   all_sent = said_bytes went.says (Said (Line line) ∷ []);
   grows = subst (λ (l : LinkState). Grows x.link.transcript [] l.transcript) (sym same) (grows_none x.link.transcript);
-  kept = went.kept ∙ ap (λ says. after_all says x.desk.kept) (sym (said_sayings went.says (Said (Line line) ∷ [])));
+  kept = went.kept ∙ ap (λ says. after_all says x.desk.kept) (sym (said_outputs went.says (Said (Line line) ∷ [])));
   few = omega arith;
   sound = (ap (λ (l : LinkState). l.failures) same, went.sound);
 }
@@ -100,7 +100,8 @@ is_run settings x between y status (inr none) = elim none.refused [
   | inr broke ↦ inr (inr (record { broke = broke; bare = none.bare; same = none.same; status_is = none.status_is }))
 ]
 
-behind_prefix : (says : List Saying) {shown events : List (Event Saying)} → IsPrefixOfEvents SaidPart shown events
+behind_prefix : (says : List OutputEvent) {shown events : List (Event OutputEvent)}
+    → IsPrefixOfEvents SaidPart shown events
     → IsPrefixOfEvents SaidPart (map Said says ++ shown) (map Said says ++ events)
 behind_prefix says f = record {
   whole = map Said says ++ f.whole;

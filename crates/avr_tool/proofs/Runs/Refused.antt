@@ -8,18 +8,18 @@ use Rattle.avr_session.specs.Runs.{devices}
 use Rattle.avr_session.specs.Session.{session}
 use Rattle.avr_session.specs.Stopping.{link_state}
 use Rattle.stk_frame.specs.Cut.{body_of}
-use Rattle.stk_host.specs.Dialog.{bytes_sent, sayings}
+use Rattle.stk_host.specs.Dialog.{bytes_sent, outputs}
 use Rattle.stk_host.specs.Operations.{handshake, opening, closing, operation}
 use Rattle.stk_host.specs.Steps.{exchange, attempt, tries, play}
 use Rattle.stk_host.specs.Transcript.{Transcript, sent, heard}
 use Rattle.stk_host.specs.Tape.{answer, on_tape}
 use Rattle.stk_emu.specs.Effect.{effects}
 use Rattle.stk_emu.specs.Wired.{WiredState}
-use Rattle.avr_course.specs.AnyLine.{OverAnyLine, Weight, weighed, bodies_in, memories, frames_over}
+use Rattle.avr_laws.specs.AnyLine.{OverAnyLine, Weight, weighed, bodies_in, memories, frames_over}
 use Rattle.avr_session.specs.PlanSteps.{run_steps}
-use Rattle.avr_course.specs.Course.{course}
-use Rattle.avr_course.specs.Items.{items}
-use Rattle.avr_course.proofs.WirePlays.{came_to, untouched}
+use Rattle.avr_laws.specs.ExpectedRun.{expected_run}
+use Rattle.avr_laws.specs.Items.{items}
+use Rattle.avr_laws.proofs.WirePlays.{came_to, untouched}
 use Rattle.avr_tool.specs.Headline.{run, IsRun}
 use Rattle.avr_tool.specs.Worked.{worked_settings, worked_answers, frames_due, lines_due}
 
@@ -36,7 +36,7 @@ pub not_all_written : (plan : Plan) (w v : WiredState) (d e : DeskState)
 not_all_written plan w v d e other over = other ((came_to plan w v d e 0 over refl).0.done refl).memories
 
 pub said_otherwise : (plan : Plan) (w v : WiredState) (d e : DeskState)
-    → (Passes (after_all (course plan (memories w)).says) d e → ⊥) → OverAnyLine plan w v d e 0 → ⊥
+    → (Passes (after_all (expected_run plan (memories w)).says) d e → ⊥) → OverAnyLine plan w v d e 0 → ⊥
 said_otherwise plan w v d e other over =
     let came = came_to plan w v d e 0 over refl in
     other (came.1 ∙ ap (λ said. after_all said d.kept) (came.0.success refl).said)
@@ -55,7 +55,7 @@ pub sent_due : (openings : List Opening) → bytes_sent (run worked_settings ope
 unfolding session opening handshake operation closing play tries attempt exchange answer
 sent_due openings = refl
 
-pub said_due : (openings : List Opening) → sayings (run worked_settings openings worked_answers).events ≡ lines_due
+pub said_due : (openings : List Opening) → outputs (run worked_settings openings worked_answers).events ≡ lines_due
 unfolding session opening handshake operation closing play tries attempt exchange answer
 said_due openings = refl
 
@@ -78,8 +78,8 @@ module _ (transcript : Transcript) (a b : ℕ) (d e : DeskState) (status : ℕ) 
   worked_sent = ap sent (sym passed) ∙ (sym x.all_sent
       ∙ (sym (ap (λ p. bytes_sent p.events) played_over) ∙ sent_due (x.openings ++ [])))
 
-  worked_said : sayings x.events ≡ lines_due
-  worked_said = sym (ap (λ p. sayings p.events) played_over) ∙ said_due (x.openings ++ [])
+  worked_said : outputs x.events ≡ lines_due
+  worked_said = sym (ap (λ p. outputs p.events) played_over) ∙ said_due (x.openings ++ [])
 
 pub another_status : (transcript : Transcript) (a b : ℕ) (d e : DeskState) → heard transcript ≡ worked_answers
     → IsRun worked_settings (devices (link_state [] a) d) (devices (link_state transcript b) e) 1 → ⊥

@@ -15,7 +15,7 @@ use Rattle.stk_emu.specs.Programmer.{Programmer, Response, obey, obey_command, r
 use Rattle.stk_emu.specs.Device.{Device, device}
 use Rattle.stk_emu.specs.Fits.{after_commands, Fits}
 use Rattle.stk_emu.specs.Effect.{Memories, memories_of}
-use Rattle.stk_emu.specs.Strokes.{struck}
+use Rattle.stk_emu.specs.PageWrites.{changed}
 use Rattle.stk_emu.specs.Settled.{Idle, Settled, Ready}
 
 -- a body is obeyed as its command
@@ -194,23 +194,23 @@ module _ (part : Part) where
 
   -- the fuses
   pub fuse_does : (f : Fuse) (v : ℕ) (m : Memories) (p : Programmer) → Ready part m p
-      → Ready part (struck part (program_fuse f v ∷ []) m) (device.after (body (program_fuse f v)) p)
-  fuse_does Low v m p s = subst (Ready part (struck part (program_fuse Low v ∷ []) m)) (sym (in_mode_is p _ _ s.mode))
-      (ready_with m _ p _ s (ap (struck part (program_fuse Low v ∷ [])) s.memories) refl refl refl refl refl)
-  fuse_does f v m p s = subst (Ready part (struck part (program_fuse f v ∷ []) m)) (sym (in_mode_is p _ _ s.mode))
-      (ready_with m _ p _ s (ap (struck part (program_fuse f v ∷ [])) s.memories) refl refl refl refl refl)
+      → Ready part (changed part (program_fuse f v ∷ []) m) (device.after (body (program_fuse f v)) p)
+  fuse_does Low v m p s = subst (Ready part (changed part (program_fuse Low v ∷ []) m)) (sym (in_mode_is p _ _ s.mode))
+      (ready_with m _ p _ s (ap (changed part (program_fuse Low v ∷ [])) s.memories) refl refl refl refl refl)
+  fuse_does f v m p s = subst (Ready part (changed part (program_fuse f v ∷ []) m)) (sym (in_mode_is p _ _ s.mode))
+      (ready_with m _ p _ s (ap (changed part (program_fuse f v ∷ [])) s.memories) refl refl refl refl refl)
 
   pub lock_does : (v : ℕ) (m : Memories) (p : Programmer) → Ready part m p
-      → Ready part (struck part (program_lock v ∷ []) m) (device.after (body (program_lock v)) p)
-  lock_does v m p s = subst (Ready part (struck part (program_lock v ∷ []) m)) (sym (in_mode_is p _ _ s.mode))
-      (ready_with m _ p _ s (ap (struck part (program_lock v ∷ [])) s.memories) refl refl refl refl refl)
+      → Ready part (changed part (program_lock v ∷ []) m) (device.after (body (program_lock v)) p)
+  lock_does v m p s = subst (Ready part (changed part (program_lock v ∷ []) m)) (sym (in_mode_is p _ _ s.mode))
+      (ready_with m _ p _ s (ap (changed part (program_lock v ∷ [])) s.memories) refl refl refl refl refl)
 
   -- the EESAVE bit is the part's
   pub erase_does : (m : Memories) (p : Programmer) → Ready part m p
-      → Ready part (struck part (erase ∷ []) m) (device.after (body erase) p)
-  erase_does m p s = subst (Ready part (struck part (erase ∷ []) m)) (sym (in_mode_is p _ _ s.mode))
-      (ready_with m _ p _ s (ap (λ (q : Part). struck q (erase ∷ []) (memories_of p.chip)) s.part_is
-      ∙ ap (struck part (erase ∷ [])) s.memories) refl refl refl refl refl)
+      → Ready part (changed part (erase ∷ []) m) (device.after (body erase) p)
+  erase_does m p s = subst (Ready part (changed part (erase ∷ []) m)) (sym (in_mode_is p _ _ s.mode))
+      (ready_with m _ p _ s (ap (λ (q : Part). changed q (erase ∷ []) (memories_of p.chip)) s.part_is
+      ∙ ap (changed part (erase ∷ [])) s.memories) refl refl refl refl refl)
 
 -- a byte that is read changes nothing
 pub fuse_read_after : (f : Fuse) (p : Programmer) → p.mode ≡ true → device.after (body (read_fuse f)) p ≡ p

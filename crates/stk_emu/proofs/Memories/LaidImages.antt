@@ -6,7 +6,7 @@ use Rattle.std.specs.Int.Bits.{and_self}
 use Rattle.avr_part.specs.Memory.{map_indexed, overlaid, byte_and_page}
 use Rattle.avr_part.proofs.Changes.{changed_is, overlaid_is, anded_is}
 use Rattle.stk_emu.specs.Effect.{Image, with_image, and_in, and_with}
-use Rattle.stk_emu.specs.Strokes.{image_at}
+use Rattle.stk_emu.specs.PageWrites.{image_at}
 
 pub length-laid : (image : Image) (xs : List ℕ) → length (with_image image xs) ≡ length xs
 length-laid image [] = refl

@@ -19,7 +19,7 @@ use Rattle.stk_emu.specs.Device.{device}
 use Rattle.avr_part.specs.declared.part.Mem.TheVariants.{Flash}
 use Rattle.stk_emu.specs.Effect.{Memories, Write, and_in, effects}
 use Rattle.stk_emu.specs.Settled.{Ready, IsNarrow}
-use Rattle.stk_emu.specs.Strokes.{image_at, struck, IsPage}
+use Rattle.stk_emu.specs.PageWrites.{image_at, changed, IsPage}
 use Rattle.stk_emu.proofs.Memories.Blocks.{sent-append}
 use Rattle.stk_emu.proofs.Memories.LaidImages.{put, put_is, anded_in}
 use Rattle.stk_emu.proofs.Answers.Commands.{in_mode_is, obeys}
@@ -226,10 +226,10 @@ module _ (part : Part) (sound : IsPart part) where
           omega arith
 
   -- what the step of a page writes
-  page_struck : (n : ℕ) (page : List ℕ) (m : Memories) → IsPage part n page
-      → struck part (load_flash part (n * part.flash_page) ∷ program_page page ∷ []) m
+  page_changed : (n : ℕ) (page : List ℕ) (m : Memories) → IsPage part n page
+      → changed part (load_flash part (n * part.flash_page) ∷ program_page page ∷ []) m
       ≡ effects part (Write Flash (image_at (n * part.flash_page) page) ∷ []) m
-  page_struck n page m is_page =
+  page_changed n page m is_page =
       let inside = is_page.inside in
       let most = sound.flash_most in
       let some = sound.flash_page in
@@ -237,7 +237,7 @@ module _ (part : Part) (sound : IsPart part) where
       (flash_address_back part (n * part.flash_page) (omega arith) (page_even part sound n))
 
   pub page_does : (n : ℕ) (page : List ℕ) (m : Memories) (p : Programmer) → IsPage part n page → Ready part m p
-      → Ready part (struck part (load_flash part (n * part.flash_page) ∷ program_page page ∷ []) m)
+      → Ready part (changed part (load_flash part (n * part.flash_page) ∷ program_page page ∷ []) m)
       (device.after (body (program_page page)) (device.after (body (load_flash part (n * part.flash_page))) p))
   page_does n page m p is_page s =
       let a = n * (part.flash_page / 2) in
@@ -259,7 +259,7 @@ module _ (part : Part) (sound : IsPart part) where
       ∙ (flash_after page q s.mode (omega arith) (omega arith) (ap (λ x. x % 2) count ∙ p_halves)
       ∙ ap (λ c. with_address_moved (length page / 2) (record q { chip = c })) paged.is) in
       subst (λ x. Ready part x (device.after (body (program_page page))
-      (device.after (body (load_flash part (n * part.flash_page))) p))) (sym (page_struck n page m is_page))
+      (device.after (body (load_flash part (n * part.flash_page))) p))) (sym (page_changed n page m is_page))
       (subst (Ready part (effects part (Write Flash (image_at (n * part.flash_page) page) ∷ []) m)) (sym after_is)
       (record {
         memories = ap (effects part (Write Flash (image_at (n * part.flash_page) page) ∷ [])) s.memories;

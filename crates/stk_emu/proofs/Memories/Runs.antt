@@ -15,7 +15,7 @@ use Rattle.stk_emu.specs.Programmer.{Programmer, sent_to, eeprom_loads, eeprom_w
 use Rattle.stk_emu.specs.Device.{device}
 use Rattle.stk_emu.specs.Effect.{Memories, with_image}
 use Rattle.stk_emu.specs.Settled.{Ready}
-use Rattle.stk_emu.specs.Strokes.{image_at, struck, FitsEepromPage}
+use Rattle.stk_emu.specs.PageWrites.{image_at, changed, FitsEepromPage}
 use Rattle.stk_emu.proofs.Memories.Blocks.{sent-append}
 use Rattle.stk_emu.proofs.Memories.LaidImages.{put, run_laid, length_put}
 use Rattle.stk_emu.proofs.Answers.Commands.{in_mode_is, obeys}
@@ -114,7 +114,7 @@ module _ (part : Part) (sound : IsPart part) where
       ∙ (writes ∙ rw (over, same_length) refl))
 
   pub run_does : (a : ℕ) (run : List ℕ) (m : Memories) (p : Programmer) → FitsEepromPage part a run → Ready part m p
-      → Ready part (struck part (LoadAddress a ∷ program_eeprom_block run ∷ []) m)
+      → Ready part (changed part (LoadAddress a ∷ program_eeprom_block run ∷ []) m)
       (device.after (body (program_eeprom_block run)) (device.after (body (LoadAddress a)) p))
   run_does a run m p is_run s =
       let r_inside = is_run.inside in
@@ -125,8 +125,8 @@ module _ (part : Part) (sound : IsPart part) where
       ∙ (eeprom_after run q s.mode is_run.some (omega arith)
       ∙ ap (λ c. with_address_moved (length run) (record q { chip = c }))
       (run_chip p.chip a run s.part_is s.eeprom_buffer is_run)) in
-      subst (Ready part (struck part (LoadAddress a ∷ program_eeprom_block run ∷ []) m)) (sym after_is) (record {
-        memories = ap (struck part (LoadAddress a ∷ program_eeprom_block run ∷ [])) s.memories;
+      subst (Ready part (changed part (LoadAddress a ∷ program_eeprom_block run ∷ []) m)) (sym after_is) (record {
+        memories = ap (changed part (LoadAddress a ∷ program_eeprom_block run ∷ [])) s.memories;
         part_is = s.part_is;
         mode = s.mode;
         flash_buffer = s.flash_buffer;

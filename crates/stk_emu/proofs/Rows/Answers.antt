@@ -8,7 +8,7 @@ use Rattle.stk_frame.specs.HostCommands.{enter}
 use Rattle.stk_emu.specs.Programmer.{Programmer, fresh_programmer, restarted_programmer, obey}
 use Rattle.stk_emu.specs.declared.fate.TheConstants.{LARGEST_NOISE}
 use Rattle.stk_emu.specs.declared.programmer.TheConstants.{LARGEST_READ}
-use Rattle.stk_emu.specs.declared.segment.TheConstants.{ROOM}
+use Rattle.stk_emu.specs.declared.arrival.TheConstants.{ROOM}
 
 -- the most bytes that a request reads, the most noise that a line has at a time, and the room for all that one frame
 -- can bring: three late answers, noise, and a silence

@@ -9,7 +9,7 @@ use Rattle.stk_host.proofs.Transcripts.Laws.{sent_append, heard_append}
 use Rattle.stk_emu.specs.declared.fate.Fate.{Fate}
 use Rattle.stk_emu.specs.Programmer.{Programmer}
 use Rattle.stk_emu.specs.Device.{Device, device}
-use Rattle.stk_emu.specs.Wire.{Wire, fresh_wire, segment, wire_behind, tape_of, wire_after}
+use Rattle.stk_emu.specs.Wire.{Wire, fresh_wire, arrival, wire_behind, tape_of, wire_after}
 use Rattle.stk_emu.specs.Wired.{WiredState, FollowsFates, NeverIdle, PassesBytes, IsNext, after_hearing}
 use Rattle.stk_emu.proofs.Answers.Texts.{frames_fed}
 
@@ -17,7 +17,7 @@ pub tape_more : {P : Type 0} (m : Device P) (xs ys : List (List ℕ)) (w : Wire 
     → tape_of m (xs ++ ys) w ≡ tape_of m xs w ++ tape_of m ys (wire_after m xs w)
 tape_more m [] ys w = refl
 tape_more m (x ∷ xs) ys w =
-    rw (tape_more m xs ys (wire_behind m x w)) (sym (append_assoc (segment m x w) _ _))
+    rw (tape_more m xs ys (wire_behind m x w)) (sym (append_assoc (arrival m x w) _ _))
 
 pub wire_more : {P : Type 0} (m : Device P) (xs ys : List (List ℕ)) (w : Wire P)
     → wire_after m (xs ++ ys) w ≡ wire_after m ys (wire_after m xs w)

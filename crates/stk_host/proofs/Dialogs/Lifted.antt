@@ -5,8 +5,8 @@ use Rattle.stk_host.specs.declared.fault.Broken.{Broken}
 use Rattle.stk_host.specs.declared.fault.Broken.TheVariants as broken
 use Rattle.stk_host.specs.Tape.{Tape, on_tape, answer}
 use Rattle.stk_host.specs.Transcript.{Transcript, heard}
-use Rattle.stk_host.specs.Dialog.{Dialog, Done, Say, Ask, lifted, Event, Frame, Said, Played, played, behind, by_answer, next, bytes_sent, sayings}
-use Rattle.stk_host.specs.Play.{Position, IsDue, InTurn, Plays, BreaksBy}
+use Rattle.stk_host.specs.Dialog.{Dialog, Done, Say, Ask, lifted, Event, Frame, Said, Played, played, behind, by_answer, next, bytes_sent, outputs}
+use Rattle.stk_host.specs.Play.{Progress, IsDue, InTurn, Plays, BreaksBy}
 use Rattle.stk_host.proofs.Transcripts.InDialogs.{turns_behind}
 
 -- events among which nothing is said
@@ -35,10 +35,10 @@ bytes_raised E [] = refl
 bytes_raised E (Frame bytes ∷ events) = ap (λ bs. bytes ++ bs) (bytes_raised E events)
 bytes_raised E (Said e ∷ events) = absurd e
 
-pub sayings_raised : {E : Type 0} (events : List (Event ⊥)) → sayings (raised {E = E} events) ≡ []
-sayings_raised [] = refl
-sayings_raised (Frame bytes ∷ events) = sayings_raised events
-sayings_raised (Said e ∷ events) = absurd e
+pub outputs_raised : {E : Type 0} (events : List (Event ⊥)) → outputs (raised {E = E} events) ≡ []
+outputs_raised [] = refl
+outputs_raised (Frame bytes ∷ events) = outputs_raised events
+outputs_raised (Said e ∷ events) = absurd e
 
 raised_append : {E : Type 0} (x y : List (Event ⊥)) → raised {E = E} (x ++ y) ≡ raised x ++ raised y
 raised_append [] y = refl
@@ -52,14 +52,14 @@ due_lifted {E = E} dialog seq tape bytes due = record {
   all_sent = rw (played_lifted {E = E} dialog seq tape, bytes_raised E (played dialog seq tape).events) due.all_sent;
 }
 
-turns_lifted : {R : Type 0} (E : Type 0) (dialog : Dialog ⊥ R) (m : Position) (transcript : Transcript)
+turns_lifted : {R : Type 0} (E : Type 0) (dialog : Dialog ⊥ R) (m : Progress) (transcript : Transcript)
     → InTurn dialog m transcript
     → InTurn {E = E} (lifted dialog) m transcript
 turns_lifted E dialog m transcript f =
     turns_behind {E = E} (lifted dialog) dialog m.next m.next (on_tape m.unread) (on_tape m.unread) []
     (λ x bytes. due_lifted {E = E} dialog m.next (on_tape m.unread ++ x) bytes) transcript f
 
-pub plays_lifted : {E R : Type 0} {dialog : Dialog ⊥ R} {m n : Position} {transcript : Transcript}
+pub plays_lifted : {E R : Type 0} {dialog : Dialog ⊥ R} {m n : Progress} {transcript : Transcript}
     {events : List (Event ⊥)}
     {result : R}
     → Plays dialog m transcript events result n → Plays {E = E} (lifted dialog) m transcript (raised events) result n
@@ -71,7 +71,7 @@ plays_lifted {E = E} {dialog = dialog} {m = m} {transcript = transcript} {events
   in_turn = turns_lifted E dialog m transcript f.in_turn;
 }
 
-pub by_lifted : {R : Type 0} (E : Type 0) (by : Broken) (dialog : Dialog ⊥ R) (m : Position) (transcript : Transcript)
+pub by_lifted : {R : Type 0} (E : Type 0) (by : Broken) (dialog : Dialog ⊥ R) (m : Progress) (transcript : Transcript)
     (shown : List (Event ⊥))
     → BreaksBy by dialog m transcript shown → BreaksBy {E = E} by (lifted dialog) m transcript (raised shown)
 by_lifted E broken.Send dialog m transcript shown f = record {

@@ -14,8 +14,8 @@ pub record World (S M : Type 0) : Type 0 where
   pub after : List ℕ → S → M → S
 
 module _ {E S M : Type 0} (w : World S M) (Asks : List ℕ → S → Type 0) (Says : E → S → Type 0) where
-  -- From this state on each question and each saying is made where its condition holds, and each result is come to
-  -- where its own does, whatever moves are made.
+  -- From this state on, each question and each output event is made only if its condition holds, and each result is
+  -- reached only if its own does, whatever moves are made.
   abbrev pub HoldsFrom : {R : Type 0} → (R → S → Type 0) → Dialog E R → S → Type 0
   HoldsFrom After (Done r) s = After r s
   HoldsFrom After (Say e dialog) s = Says e s × HoldsFrom After dialog s

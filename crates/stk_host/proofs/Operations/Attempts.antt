@@ -9,7 +9,7 @@ use Rattle.stk_host.specs.Transcript.{LinkState}
 use Rattle.stk_host.specs.Dialog.{Dialog, Done, Frame, next}
 use Rattle.stk_host.specs.declared.fault.Broken.{Broken}
 use Rattle.stk_host.specs.declared.fault.Broken.TheVariants as broken
-use Rattle.stk_host.specs.Play.{Position, PlaysOver, FailsOver}
+use Rattle.stk_host.specs.Play.{Progress, PlaysOver, FailsOver}
 use Rattle.stk_host.specs.Reach.{Reaches, Says, SaysPart, Hears, HearsNone}
 use Rattle.stk_host.specs.declared.conversation.Reply as said
 use Rattle.stk_host.specs.declared.conversation.Reply.TheVariants as replies
@@ -61,7 +61,7 @@ exchange_unheard seq command {u = u} {o = o} {p = p} {q = q} says hears = record
 
 -- an attempt, whose next command was sent and answered
 
-attempt_on : (command : Command) (commands : List Command) (before : List ℕ) {seq n : Position} {o q : LinkState}
+attempt_on : (command : Command) (commands : List Command) (before : List ℕ) {seq n : Progress} {o q : LinkState}
     (reply : Reply) → PlaysOver (exchange command) seq o q reply n
     → Reaches (attempt (command ∷ commands) before) seq o
     (with_data (λ bytes. attempt commands (before ++ bytes)) reply) n q
@@ -69,20 +69,20 @@ unfolding attempt
 attempt_on command commands before reply f = then_reaches (with_data (λ bytes. attempt commands (before ++ bytes))) f
 
 -- or it broke off there
-pub attempt_off : {by : Broken} (command : Command) (commands : List Command) {seq : Position} {o q : LinkState}
+pub attempt_off : {by : Broken} (command : Command) (commands : List Command) {seq : Progress} {o q : LinkState}
     → FailsOver by (exchange command) seq o q → FailsOver by (attempt (command ∷ commands) []) seq o q
 unfolding attempt
 attempt_off command commands f = broken_bind (with_data (λ bytes. attempt commands ([] ++ bytes))) f
 
 -- an attempt of one command
-pub gets_one : (last : Command) (m : Position) (o q : LinkState) (result : Result said.Reply Broken)
+pub gets_one : (last : Command) (m : Progress) (o q : LinkState) (result : Result said.Reply Broken)
     (after : ConversationState)
     → GetsReply (exchange last) last m o q result after → GetsReply (attempt (last ∷ []) []) last m o q result after
 unfolding attempt
 gets_one last m o q (Ok reply) after f =
     record { ok = by_reply reply _ f.ok; err = tt; sized = f.sized; counts = f.counts; bound = f.bound }
   where
-    by_reply : (reply : said.Reply) (bytes : List ℕ) {n : Position}
+    by_reply : (reply : said.Reply) (bytes : List ℕ) {n : Progress}
         → PlaysOver (exchange last) m o q (reply_of reply bytes) n
         → PlaysOver (attempt (last ∷ []) []) m o q (reply_of reply bytes) n
     by_reply replies.Data bytes e = played_from (attempt_on last [] [] (Data bytes) e)
@@ -91,7 +91,7 @@ gets_one last m o q (Err broken) after f =
     record { ok = tt; err = attempt_off last [] f.err; sized = f.sized; counts = f.counts; bound = f.bound }
 
 -- one of two, whose first command was answered and brought nothing
-pub gets_last : (first last : Command) (m n : Position) (o p q : LinkState) (was : said.Reply) (none : List ℕ)
+pub gets_last : (first last : Command) (m n : Progress) (o p q : LinkState) (was : said.Reply) (none : List ℕ)
     (result : Result said.Reply Broken) (after : ConversationState)
     → PlaysOver (exchange first) m o p (reply_of was none) n → was ≡ replies.Data → none ≡ []
     → p.failures ≡ o.failures → GetsReply (exchange last) last n p q result after
@@ -122,7 +122,7 @@ gets_last first last m n o p q was none result after f is nothing same g =
     }
 
 -- and one whose first command brought no data
-pub gets_short : (first last : Command) (was : said.Reply) (none bytes : List ℕ) {m n : Position} {o p : LinkState}
+pub gets_short : (first last : Command) (was : said.Reply) (none bytes : List ℕ) {m n : Progress} {o p : LinkState}
     → PlaysOver (exchange first) m o p (reply_of was none) n → (was ≡ replies.Data → ⊥)
     → PlaysOver (attempt (first ∷ last ∷ []) []) m o p (reply_of was bytes) n
 gets_short first last replies.Data none bytes f short = absurd (short refl)
@@ -131,7 +131,7 @@ gets_short first last was none bytes f short =
 
 -- a turn of the loop over the attempts
 
-tries_on : (more : ℕ) (commands : List Command) (last : StepFault) {seq n : Position} {o q : LinkState} (reply : Reply)
+tries_on : (more : ℕ) (commands : List Command) (last : StepFault) {seq n : Progress} {o q : LinkState} (reply : Reply)
     → PlaysOver (attempt commands []) seq o q reply n
     → Reaches (tries (suc more) commands last) seq o (end_or_again (tries more commands) reply) n q
 unfolding tries
@@ -141,32 +141,32 @@ tries_none : (commands : List Command) (last : StepFault) → tries zero command
 unfolding tries
 tries_none commands last = refl
 
-tries_off : {by : Broken} (more : ℕ) (commands : List Command) (last : StepFault) {seq : Position} {o q : LinkState}
+tries_off : {by : Broken} (more : ℕ) (commands : List Command) (last : StepFault) {seq : Progress} {o q : LinkState}
     → FailsOver by (attempt commands []) seq o q → FailsOver by (tries (suc more) commands last) seq o q
 unfolding tries
 tries_off more commands last f = broken_bind (end_or_again (tries more commands)) f
 
 -- as the code takes it: it has come so far, and an attempt is left
-module _ {a : Dialog ⊥ StepOutcome} {l seq : Position} {j o : LinkState} {k : ℕ} (more : ℕ) (commands : List Command)
+module _ {a : Dialog ⊥ StepOutcome} {l seq : Progress} {j o : LinkState} {k : ℕ} (more : ℕ) (commands : List Command)
     (last : StepFault) (count : k ≡ suc more) (come : Reaches a l j (tries k commands last) seq o) where
   next_try : Reaches a l j (tries (suc more) commands last) seq o
   next_try = rw count at come
 
-  try : {n : Position} {q : LinkState} (reply : Reply) → PlaysOver (attempt commands []) seq o q reply n
+  try : {n : Progress} {q : LinkState} (reply : Reply) → PlaysOver (attempt commands []) seq o q reply n
       → Reaches a l j (end_or_again (tries more commands) reply) n q
   try reply f = reaches_on next_try (tries_on more commands last reply f)
 
-  pub try_again : {n : Position} {q : LinkState} {fault : StepFault} {reply : said.Reply} (bytes : List ℕ)
+  pub try_again : {n : Progress} {q : LinkState} {fault : StepFault} {reply : said.Reply} (bytes : List ℕ)
       → PlaysOver (attempt commands []) seq o q (reply_of reply bytes) n → reply ≡ replies.Again fault
       → Reaches a l j (tries more commands fault) n q
   try_again {fault = fault} bytes f again = try (Again fault) (rw again at f)
 
-  pub try_data : {n : Position} {q : LinkState} {bytes : List ℕ} {reply : said.Reply}
+  pub try_data : {n : Progress} {q : LinkState} {bytes : List ℕ} {reply : said.Reply}
       → PlaysOver (attempt commands []) seq o q (reply_of reply bytes) n → reply ≡ replies.Data
       → PlaysOver a l j q (Ok bytes) n
   try_data {bytes = bytes} f is_data = played_from (try (Data bytes) (rw is_data at f))
 
-  pub try_stop : {n : Position} {q : LinkState} {fault : StepFault} {reply : said.Reply} (bytes : List ℕ)
+  pub try_stop : {n : Progress} {q : LinkState} {fault : StepFault} {reply : said.Reply} (bytes : List ℕ)
       → PlaysOver (attempt commands []) seq o q (reply_of reply bytes) n → reply ≡ replies.Stop fault
       → PlaysOver a l j q (Err fault) n
   try_stop {fault = fault} bytes f stop = played_from (try (Stop fault) (rw stop at f))
@@ -174,7 +174,7 @@ module _ {a : Dialog ⊥ StepOutcome} {l seq : Position} {j o : LinkState} {k : 
   pub try_breaks : {by : Broken} {q : LinkState} → FailsOver by (attempt commands []) seq o q → FailsOver by a l j q
   try_breaks f = broken_on next_try (tries_off more commands last f)
 
-pub try_end : {a : Dialog ⊥ StepOutcome} {l seq : Position} {j o : LinkState} (k : ℕ) (commands : List Command)
+pub try_end : {a : Dialog ⊥ StepOutcome} {l seq : Progress} {j o : LinkState} (k : ℕ) (commands : List Command)
     (last : StepFault)
     → Reaches a l j (tries k commands last) seq o → k ≡ 0 → PlaysOver a l j o (Err last) seq
 try_end k commands last f is = played_from (rw (is, tries_none commands last) at f)

@@ -12,7 +12,7 @@ use Rattle.stk_host.specs.declared.fault.HostFault.{HostFault}
 use Rattle.stk_host.specs.declared.fault.HostFault.TheVariants.{WrongSignature}
 use Rattle.stk_host.specs.Transcript.{LinkState}
 use Rattle.stk_host.specs.Dialog.{Dialog, Done, ◌>>=◌}
-use Rattle.stk_host.specs.Play.{Position, PlaysOver}
+use Rattle.stk_host.specs.Play.{Progress, PlaysOver}
 use Rattle.stk_host.specs.Reach.{Reaches}
 use Rattle.stk_host.specs.Steps.{StepOutcome, if_done, step, play}
 use Rattle.stk_host.specs.Operations.{host_fault, signature_judged, handshake, opening, without_bytes, closing}
@@ -20,41 +20,41 @@ use Rattle.stk_host.specs.Calls.{StopsSteps, EndsSteps, EndsCall, fault_of_stop,
 use Rattle.stk_host.proofs.Transcripts.Reached.{reaches_on, reaches_from, played_from, broken_on, broken_bind, then_reaches}
 
 -- a stop in a dialog that was reached
-pub stops_on : {a b : Dialog ⊥ StepOutcome} {m n : Position} {o p : LinkState} (k : Position) (q : LinkState)
+pub stops_on : {a b : Dialog ⊥ StepOutcome} {m n : Progress} {o p : LinkState} (k : Progress) (q : LinkState)
     (stop : Stop)
     → Reaches a m o b n p → StopsSteps b n p q stop k → StopsSteps a m o q stop k
 stops_on k q (Fault fault) f e = played_from (reaches_on f (reaches_from e))
 stops_on k q (Link broken) f e = broken_on f e
 
 -- a stop, after which nothing follows
-pub stops_there : (a : Dialog ⊥ StepOutcome) (go_on : List ℕ → Dialog ⊥ StepOutcome) (m n : Position) (o p : LinkState)
+pub stops_there : (a : Dialog ⊥ StepOutcome) (go_on : List ℕ → Dialog ⊥ StepOutcome) (m n : Progress) (o p : LinkState)
     (stop : Stop)
     → StopsSteps a m o p stop n → StopsSteps (a >>= if_done go_on) m o p stop n
 stops_there a go_on m n o p (Fault fault) e = played_from (then_reaches (if_done go_on) e)
 stops_there a go_on m n o p (Link broken) e = broken_bind (if_done go_on) e
 
 -- steps that came to their data
-pub goes_on : {a : Dialog ⊥ StepOutcome} {m n : Position} {o p : LinkState} (go_on : List ℕ → Dialog ⊥ StepOutcome)
+pub goes_on : {a : Dialog ⊥ StepOutcome} {m n : Progress} {o p : LinkState} (go_on : List ℕ → Dialog ⊥ StepOutcome)
     (bytes : List ℕ)
     → PlaysOver a m o p (Ok bytes) n → Reaches (a >>= if_done go_on) m o (go_on bytes) n p
 goes_on go_on bytes f = then_reaches (if_done go_on) f
 
 -- a step of a list of steps
-pub play_on : (commands : List Command) (steps : List (List Command)) (before bytes : List ℕ) {m n : Position}
+pub play_on : (commands : List Command) (steps : List (List Command)) (before bytes : List ℕ) {m n : Progress}
     {o p : LinkState}
     → PlaysOver (step commands) m o p (Ok bytes) n
     → Reaches (play (commands ∷ steps) before) m o (play steps (before ++ bytes)) n p
 unfolding play
 play_on commands steps before bytes f = goes_on (λ bs. play steps (before ++ bs)) bytes f
 
-pub play_stops : (commands : List Command) (steps : List (List Command)) (before : List ℕ) (m n : Position)
+pub play_stops : (commands : List Command) (steps : List (List Command)) (before : List ℕ) (m n : Progress)
     (o p : LinkState) (stop : Stop)
     → StopsSteps (step commands) m o p stop n → StopsSteps (play (commands ∷ steps) before) m o p stop n
 unfolding play
 play_stops commands steps before m n o p stop e =
     stops_there (step commands) (λ bs. play steps (before ++ bs)) m n o p stop e
 
-pub play_done : (bytes : List ℕ) {a : Dialog ⊥ StepOutcome} {m n : Position} {o p : LinkState}
+pub play_done : (bytes : List ℕ) {a : Dialog ⊥ StepOutcome} {m n : Progress} {o p : LinkState}
     → Reaches a m o (play [] bytes) n p → PlaysOver a m o p (Ok bytes) n
 unfolding play
 play_done bytes f = played_from f
@@ -62,13 +62,13 @@ play_done bytes f = played_from f
 -- what the outcome of steps is judged to be
 
 -- a fault of a step, as the host tells it, is no fault of the link
-told_ends : {A : Type 0} (dialog : Dialog ⊥ (Result A HostFault)) (fault : StepFault) (m n : Position) (o p : LinkState)
+told_ends : {A : Type 0} (dialog : Dialog ⊥ (Result A HostFault)) (fault : StepFault) (m n : Progress) (o p : LinkState)
     → PlaysOver dialog m o p (Err (host_fault fault)) n → EndsCall dialog m o p (Err (host_fault fault)) n
 told_ends dialog of_step.NoAnswer m n o p e = e
 told_ends dialog _ m n o p e = e
 
 pub stop_ends : {A : Type 0} (first : Dialog ⊥ StepOutcome) (judge : StepOutcome → Result A HostFault)
-    → ((fault : StepFault) → judge (Err fault) ≡ Err (host_fault fault)) → (stop : Stop) (m n : Position)
+    → ((fault : StepFault) → judge (Err fault) ≡ Err (host_fault fault)) → (stop : Stop) (m n : Progress)
     (o p : LinkState)
     → StopsSteps first m o p stop n
     → EndsCall (first >>= λ outcome. Done (judge outcome)) m o p (Err (fault_of_stop stop)) n
@@ -79,14 +79,14 @@ stop_ends first judge told (Link broken.Send) m n o p e = broken_bind (λ outcom
 stop_ends first judge told (Link broken.Recv) m n o p e = broken_bind (λ outcome. Done (judge outcome)) e
 
 -- a signature is judged good or wrong, and this is no fault of the link
-judged_ends : {dialog : Dialog ⊥ (Result (List ℕ) HostFault)} {m n : Position} {o p : LinkState} (wanted found : List ℕ)
+judged_ends : {dialog : Dialog ⊥ (Result (List ℕ) HostFault)} {m n : Progress} {o p : LinkState} (wanted found : List ℕ)
     (force same : Bool)
     → PlaysOver dialog m o p (if force then Ok found else if same then Ok found else Err (WrongSignature found)) n
     → EndsCall dialog m o p (if force then Ok found else if same then Ok found else Err (WrongSignature found)) n
 judged_ends wanted found false false e = e
 judged_ends wanted found _ _ e = e
 
-pub opening_ends : (wanted : List ℕ) (force : Bool) (begun : Result (List ℕ) Stop) (m n : Position) (o p : LinkState)
+pub opening_ends : (wanted : List ℕ) (force : Bool) (begun : Result (List ℕ) Stop) (m n : Progress) (o p : LinkState)
     → EndsSteps handshake (λ found. found) m o p begun n
     → EndsCall (opening wanted force) m o p (opening_result wanted force begun) n
 unfolding opening
@@ -96,7 +96,7 @@ opening_ends wanted force (Ok found) m n o p e =
 opening_ends wanted force (Err stop) m n o p e =
     stop_ends handshake (signature_judged wanted force) (λ fault. refl) stop m n o p e
 
-pub closing_ends : (result : Result (Unit {0}) Stop) (m n : Position) (o p : LinkState)
+pub closing_ends : (result : Result (Unit {0}) Stop) (m n : Progress) (o p : LinkState)
     → EndsSteps (step (leave ∷ [])) (λ done. []) m o p result n → EndsCall closing m o p (closing_result result) n
 unfolding closing
 closing_ends (Ok done) m n o p e = played_from (then_reaches (λ outcome. Done (without_bytes outcome)) e)

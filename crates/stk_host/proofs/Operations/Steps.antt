@@ -18,7 +18,7 @@ use Rattle.stk_host.specs.declared.fault.HostFault.{HostFault}
 use Rattle.stk_host.specs.declared.fault.HostFault.TheVariants.{ReadOnly}
 use Rattle.stk_host.specs.Transcript.{LinkState}
 use Rattle.stk_host.specs.Dialog.{Dialog, Done}
-use Rattle.stk_host.specs.Play.{Position, PlaysOver}
+use Rattle.stk_host.specs.Play.{Progress, PlaysOver}
 use Rattle.stk_host.specs.Reach.{Reaches}
 use Rattle.stk_host.specs.Steps.{StepOutcome, step, play}
 use Rattle.stk_host.specs.Places.{each_from}
@@ -35,19 +35,19 @@ counted_data Name bytes counted sized = absurd counted
 counted_data _ bytes counted sized = sized
 
 -- a step that was played goes on with those that follow
-pub goes_with : (commands : List Command) (before bytes : List ℕ) {m n : Position} {o p : LinkState}
+pub goes_with : (commands : List Command) (before bytes : List ℕ) {m n : Progress} {o p : LinkState}
     → PlaysOver (step commands) m o p (Ok bytes) n
     → EndsInnerStep (with_step commands before) (without_step (before ++ bytes)) m o p (Ok tt) n
 goes_with commands before bytes f = λ steps. play_on commands steps before bytes f
 
-pub stops_with : (commands : List Command) (before after : List ℕ) (m n : Position) (o p : LinkState) (stop : Stop)
+pub stops_with : (commands : List Command) (before after : List ℕ) (m n : Progress) (o p : LinkState) (stop : Stop)
     → StopsSteps (step commands) m o p stop n
     → EndsInnerStep (with_step commands before) (without_step after) m o p (Err stop) n
 stops_with commands before after m n o p stop e = λ steps. play_stops commands steps before m n o p stop e
 
 -- a step that brings no data
 pub goes_quietly : (commands : List Command) (of : Shape) (bytes : List ℕ) (result : Result (Unit {0}) Stop)
-    (m n : Position) (o p : LinkState)
+    (m n : Progress) (o p : LinkState)
     → IsSizedShape of → data_count of ≡ 0 → OnOk result (SizedBy of bytes)
     → EndsSteps (step commands) (λ done. bytes) m o p result n
     → EndsInnerStep (with_step commands []) (without_step []) m o p result n
@@ -56,7 +56,7 @@ goes_quietly commands of bytes (Ok done) m n o p counted zero sized e =
 goes_quietly commands of bytes (Err stop) m n o p counted zero sized e = stops_with commands [] [] m n o p stop e
 
 -- a step that nothing follows
-pub alone : (commands : List Command) (before after : List ℕ) (result : Result (Unit {0}) Stop) (m n : Position)
+pub alone : (commands : List Command) (before after : List ℕ) (result : Result (Unit {0}) Stop) (m n : Progress)
     (o p : LinkState)
     → EndsInnerStep (with_step commands before) (without_step after) m o p result n
     → EndsSteps (play (commands ∷ []) before) (λ done. after) m o p result n
@@ -64,11 +64,11 @@ alone commands before after (Ok done) m n o p e = play_done after (e [])
 alone commands before after (Err stop) m n o p e = e []
 
 -- no step at all
-pub none_played : (m : Position) (o : LinkState) → PlaysOver (play [] []) m o o (Ok []) m
+pub none_played : (m : Progress) (o : LinkState) → PlaysOver (play [] []) m o o (Ok []) m
 none_played m o = play_done [] (reaches_here (play [] []) m o)
 
 -- the steps of a place among those that are left of a dialog
-module _ {a : Dialog ⊥ StepOutcome} {k m : Position} {r o : LinkState} (steps_at : ℕ → List (List Command))
+module _ {a : Dialog ⊥ StepOutcome} {k m : Progress} {r o : LinkState} (steps_at : ℕ → List (List Command))
     (place end : ℕ) (before : List ℕ)
     (come : Reaches a k r (play (each_from steps_at place (end - place)) before) m o) (lt : place < end) where
   abbrev rest : List (List Command)
@@ -77,23 +77,23 @@ module _ {a : Dialog ⊥ StepOutcome} {k m : Position} {r o : LinkState} (steps_
   next_is : Reaches a k r (play (steps_at place ++ rest) before) m o
   next_is = subst (λ ss. Reaches a k r (play ss before) m o) (next_place steps_at place end lt) come
 
-  pub reaches_next : {n : Position} {p : LinkState} (after : List ℕ)
+  pub reaches_next : {n : Progress} {p : LinkState} (after : List ℕ)
       → EndsInnerStep (with_steps (steps_at place) before) (without_step after) m o p (Ok tt) n
       → Reaches a k r (play rest after) n p
   reaches_next after e = reaches_on next_is (e rest)
 
-  pub stops_next : (n : Position) (p : LinkState) (stop : Stop)
+  pub stops_next : (n : Progress) (p : LinkState) (stop : Stop)
       → ((more : List (List Command)) → StopsSteps (with_steps (steps_at place) before more) m o p stop n)
       → StopsSteps a k r p stop n
   stops_next n p stop e = stops_on n p stop next_is (e rest)
 
 -- a place without steps
-pub passes : {these : List (List Command)} (m : Position) (o : LinkState) → these ≡ []
+pub passes : {these : List (List Command)} (m : Progress) (o : LinkState) → these ≡ []
     → EndsInnerStep (with_steps these []) (without_step []) m o o (Ok tt) m
 passes m o none = λ steps. rw none (reaches_here (play steps []) m o)
 
 -- the places are at their end
-pub plays_all : {a : Dialog ⊥ StepOutcome} {k m : Position} {r o : LinkState} (steps_at : ℕ → List (List Command))
+pub plays_all : {a : Dialog ⊥ StepOutcome} {k m : Progress} {r o : LinkState} (steps_at : ℕ → List (List Command))
     (place end : ℕ) {before : List ℕ}
     → Reaches a k r (play (each_from steps_at place (end - place)) before) m o → end ≤ place
     → PlaysOver a k r o (Ok before) m
@@ -105,19 +105,19 @@ plays_all steps_at place end {before = before} come past =
 
 -- a stop, as the host tells it
 told_ends : {A : Type 0} (steps : List (List Command)) (judge : List ℕ → Result A HostFault) (stop : Stop)
-    (m n : Position) (o p : LinkState)
+    (m n : Progress) (o p : LinkState)
     → StopsSteps (play steps []) m o p stop n → EndsCall (operation steps judge) m o p (Err (fault_of_stop stop)) n
 unfolding operation
 told_ends steps judge stop m n o p e = stop_ends (play steps []) (judged_by judge) (λ fault. refl) stop m n o p e
 
 judged_from : {A : Type 0} (steps : List (List Command)) (judge : List ℕ → Result A HostFault) (bytes : List ℕ)
-    {m n : Position} {o p : LinkState}
+    {m n : Progress} {o p : LinkState}
     → PlaysOver (play steps []) m o p (Ok bytes) n → PlaysOver (operation steps judge) m o p (judge bytes) n
 unfolding operation
 judged_from steps judge bytes e = played_from (then_reaches (λ outcome. Done (judged_by judge outcome)) e)
 
 -- an operation that reads nothing
-pub done_ends : (steps : List (List Command)) (result : Result (Unit {0}) Stop) (m n : Position) (o p : LinkState)
+pub done_ends : (steps : List (List Command)) (result : Result (Unit {0}) Stop) (m n : Progress) (o p : LinkState)
     → EndsSteps (play steps []) (λ done. []) m o p result n
     → EndsCall (operation steps (λ bytes. Ok tt)) m o p (closing_result result) n
 done_ends steps (Ok done) m n o p e = judged_from steps (λ bytes. Ok tt) [] e
@@ -125,26 +125,26 @@ done_ends steps (Err stop) m n o p e = told_ends steps (λ bytes. Ok tt) stop m 
 
 -- a write
 pub writing_ends : (part : Part) (mem : Mem) (image : List (Option ℕ)) (result : Result (Unit {0}) Stop)
-    (m n : Position) (o p : LinkState) → is_writable mem ≡ true
+    (m n : Progress) (o p : LinkState) → is_writable mem ≡ true
     → EndsSteps (play (write_steps part mem image) []) (λ done. []) m o p result n
     → EndsCall (writing part mem image) m o p (closing_result result) n
 writing_ends part mem image result m n o p can e =
     rw can (done_ends (write_steps part mem image) result m n o p e)
 
-pub writes_nothing : (part : Part) (mem : Mem) (image : List (Option ℕ)) (m : Position) (o : LinkState)
+pub writes_nothing : (part : Part) (mem : Mem) (image : List (Option ℕ)) (m : Progress) (o : LinkState)
     → is_writable mem ≡ false → EndsCall (writing part mem image) m o o (Err (ReadOnly mem)) m
 writes_nothing part mem image m o cannot =
     rw cannot (played_from (reaches_here (Done (Err (ReadOnly mem))) m o))
 
 -- a stop is no want of memory
-not_lacking : {A : Type 0} (dialog : Dialog ⊥ (Result A HostFault)) (stop : Stop) (m n : Position) (o p : LinkState)
+not_lacking : {A : Type 0} (dialog : Dialog ⊥ (Result A HostFault)) (stop : Stop) (m n : Progress) (o p : LinkState)
     → EndsCall dialog m o p (Err (fault_of_stop stop)) n → EndsOrLacks dialog m o p (Err (fault_of_stop stop)) n
 not_lacking dialog (Fault of_step.NoAnswer) m n o p e = e
 not_lacking dialog (Link broken.Send) m n o p e = e
 not_lacking dialog _ m n o p e = e
 
 -- a read
-pub reading_ends : (steps : List (List Command)) (bytes : List ℕ) (result : Result (Unit {0}) Stop) (m n : Position)
+pub reading_ends : (steps : List (List Command)) (bytes : List ℕ) (result : Result (Unit {0}) Stop) (m n : Progress)
     (o p : LinkState)
     → EndsSteps (play steps []) (λ done. bytes) m o p result n
     → EndsOrLacks (operation steps Ok) m o p
@@ -155,13 +155,13 @@ reading_ends steps bytes (Err stop) m n o p e =
 
 -- a comparison
 differs_ends : (dialog : Dialog ⊥ (Result (Unit {0}) HostFault)) (mem : Mem) (found : Option Difference)
-    {m n : Position} {o p : LinkState}
+    {m n : Progress} {o p : LinkState}
     → PlaysOver dialog m o p (differs mem found) n → EndsOrLacks dialog m o p (differs mem found) n
 differs_ends dialog mem None e = e
 differs_ends dialog mem (Some d) e = e
 
 pub verifying_ends : (steps : List (List Command)) (mem : Mem) (image : List (Option ℕ)) (bytes : List ℕ)
-    (result : Result (Unit {0}) Stop) (m n : Position) (o p : LinkState)
+    (result : Result (Unit {0}) Stop) (m n : Progress) (o p : LinkState)
     → EndsSteps (play steps []) (λ done. bytes) m o p result n
     → EndsOrLacks (operation steps (comparison mem image)) m o p (verifying_result mem image bytes result) n
 verifying_ends steps mem image bytes (Ok done) m n o p e =
@@ -172,7 +172,7 @@ verifying_ends steps mem image bytes (Err stop) m n o p e =
     (told_ends steps (comparison mem image) stop m n o p e)
 
 -- a loop over places begins
-pub begins_at : (steps_at : ℕ → List (List Command)) (count : ℕ) (before : List ℕ) (m : Position) (o : LinkState)
+pub begins_at : (steps_at : ℕ → List (List Command)) (count : ℕ) (before : List ℕ) (m : Progress) (o : LinkState)
     → Reaches (play (each_from steps_at 0 count) before) m o (play (each_from steps_at 0 (count - 0)) before) m o
 begins_at steps_at count before m o =
     let all : count - 0 ≡ count = omega arith in

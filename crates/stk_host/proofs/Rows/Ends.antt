@@ -6,14 +6,14 @@ use Rattle.stk_host.specs.declared.link.Item.TheVariants.{Silence}
 use Rattle.stk_host.specs.Tape.{answer}
 use Rattle.stk_host.specs.Transcript.{Transcript, LinkState, Sent, Got, sent}
 use Rattle.stk_host.specs.Dialog.{Dialog, Event, Frame, bytes_sent}
-use Rattle.stk_host.specs.Play.{Position, position, InTurn, played_over, BreaksSending, BreaksListening, FailsOver}
+use Rattle.stk_host.specs.Play.{Progress, progress_at, InTurn, played_over, BreaksSending, BreaksListening, FailsOver}
 use Rattle.stk_host.specs.Steps.{exchange, attempt, tries}
 use Rattle.stk_host.specs.Operations.{closing}
 use Rattle.stk_host.specs.Calls.{EndsCall}
 use Rattle.stk_host.proofs.Transcripts.InDialogs.{bytes_append}
 
 -- what broke off in a frame has sent less than its play sends
-pub sent_less : {E R : Type 0} {dialog : Dialog E R} {before : Position} {transcript : Transcript}
+pub sent_less : {E R : Type 0} {dialog : Dialog E R} {before : Progress} {transcript : Transcript}
     {shown : List (Event E)}
     → BreaksSending dialog before transcript shown
     → length (sent transcript) < length (bytes_sent (played_over dialog before transcript).events)
@@ -31,7 +31,7 @@ sent_less {dialog = dialog} {before = before} {transcript = transcript} f =
     )))
 
 -- so it doesn't listen
-pub never_both : {E R : Type 0} {dialog : Dialog E R} {before : Position} {transcript : Transcript}
+pub never_both : {E R : Type 0} {dialog : Dialog E R} {before : Progress} {transcript : Transcript}
     {some others : List (Event E)}
     → BreaksSending dialog before transcript some → BreaksListening dialog before transcript others → ⊥
 never_both f g =
@@ -44,7 +44,7 @@ abbrev showing : Transcript → LinkState
 showing transcript = record { transcript = transcript; failures = 0 }
 
 -- nor does a call over it
-pub never_either : {R : Type 0} (dialog : Dialog ⊥ R) (before : Position) (transcript : Transcript)
+pub never_either : {R : Type 0} (dialog : Dialog ⊥ R) (before : Progress) (transcript : Transcript)
     → FailsOver broken.Send dialog before (showing []) (showing transcript)
     → FailsOver broken.Recv dialog before (showing []) (showing transcript) → ⊥
 never_either dialog before transcript f g =
@@ -52,8 +52,8 @@ never_either dialog before transcript f g =
     (subst (λ t. BreaksSending dialog before t f.shown) (sym f.grows) f.breaks)
     (subst (λ t. BreaksListening dialog before t g.shown) (sym g.grows) g.breaks)
 
-abbrev sixth : Position
-sixth = position 6 []
+abbrev sixth : Progress
+sixth = progress_at 6 []
 
 abbrev leaving : List ℕ
 leaving = 0x1B ∷ 0x06 ∷ 0x00 ∷ 0x03 ∷ 0x0E ∷ 0x11 ∷ 0x01 ∷ 0x01 ∷ 0x01 ∷ []
@@ -69,7 +69,7 @@ unheard = record {
 }
 
 -- which is no failure to send it
-pub not_unsent : (after : Position) → EndsCall closing sixth (showing []) (showing (Sent leaving ∷ [])) (Err SendFailed)
+pub not_unsent : (after : Progress) → EndsCall closing sixth (showing []) (showing (Sent leaving ∷ [])) (Err SendFailed)
     after → ⊥
 not_unsent after f = never_either closing sixth (Sent leaving ∷ []) f unheard
 
@@ -94,7 +94,7 @@ unsent = record {
 }
 
 -- which is no failure to hear its answer
-pub not_unheard : (after : Position) → EndsCall closing sixth (showing []) (showing (Sent (0x1B ∷ 0x06 ∷ []) ∷ []))
+pub not_unheard : (after : Progress) → EndsCall closing sixth (showing []) (showing (Sent (0x1B ∷ 0x06 ∷ []) ∷ []))
     (Err RecvFailed) after → ⊥
 not_unheard after f = never_either closing sixth (Sent (0x1B ∷ 0x06 ∷ []) ∷ []) unsent f
 
@@ -118,7 +118,7 @@ unsent_at_all = record {
   };
 }
 
-pub not_unasked : (after : Position) → EndsCall closing sixth (showing []) (showing []) (Err RecvFailed) after → ⊥
+pub not_unasked : (after : Progress) → EndsCall closing sixth (showing []) (showing []) (Err RecvFailed) after → ⊥
 not_unasked after f = never_either closing sixth [] unsent_at_all f
 
 -- who listens before the frame is sent whole isn't in turn

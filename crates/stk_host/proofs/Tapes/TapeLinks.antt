@@ -4,7 +4,7 @@ use Rattle.ghosts.specs.Stays.{Stays}
 use Rattle.stk_host.specs.declared.link.Heard.{Heard}
 use Rattle.stk_host.specs.declared.link.Item.TheVariants.{Byte, Silence, End}
 use Rattle.stk_host.specs.declared.link.LinkFault.{LinkFault}
-use Rattle.stk_host.specs.Links.{TapeState, IsOfTape, tape_view, next_piece}
+use Rattle.stk_host.specs.Links.{TapeState, IsOfTape, tape_state, next_piece}
 use Rattle.stk_host.specs.Tape.{Tape, bytes_in, on_tape}
 use Rattle.stk_host.specs.Transcript.{Transcript, Sent, Got, Receives, heard, items_of}
 use Rattle.stk_host.proofs.Transcripts.Laws.{heard_append}
@@ -100,7 +100,7 @@ pub sent_of_tape : (bytes : List ℕ) (b c : TapeState) → c.left ≡ b.left �
 sent_of_tape bytes b c left transcript = quiet_of_tape (Sent bytes ∷ []) b c refl left transcript
 
 pub heard_of_tape : (result : Result Heard LinkFault) (buffer : List ℕ) (b c : TapeState)
-    → Receives buffer (tape_view b) (tape_view c) result
+    → Receives buffer (tape_state b) (tape_state c) result
     → IfOk result (λ given. items_of given buffer ≡ next_piece (min b.cut (length buffer)) b.left)
     → IfOk result (λ given. c.left ≡ drop (length (items_of given buffer)) b.left) → OnErr result (c.left ≡ b.left)
     → Stays IsOfTape b c

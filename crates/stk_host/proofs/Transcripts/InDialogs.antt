@@ -7,7 +7,7 @@ use Rattle.stk_host.specs.declared.fault.Broken.TheVariants as broken
 use Rattle.stk_host.specs.Tape.{Tape, Reading, on_tape, answer}
 use Rattle.stk_host.specs.Transcript.{Transcript, Sent, Got, sent, heard}
 use Rattle.stk_host.specs.Dialog.{Dialog, Done, Say, Ask, ◌>>=◌, Event, Frame, Said, Played, played, behind, by_answer, next, bytes_sent}
-use Rattle.stk_host.specs.Play.{Position, position, IsDue, TurnsFrom, InTurn, played_over, Plays, Breaks, BreaksSending, BreaksListening, BreaksBy, IsPrefixOfEvents, IsBegun}
+use Rattle.stk_host.specs.Play.{Progress, progress_at, IsDue, TurnsFrom, InTurn, played_over, Plays, Breaks, BreaksSending, BreaksListening, BreaksBy, IsPrefixOfEvents, IsBegun}
 use Rattle.stk_host.specs.Reach.{TranscriptLeads, IsQuiet, WaitsFrom}
 use Rattle.stk_host.proofs.Transcripts.Laws.{sent_append, heard_append, heard_both, heard_quiet, sent_waiting}
 
@@ -107,7 +107,7 @@ due_bind dialog go_on seq x bytes due =
     let e = waits_bind dialog go_on seq x due.waits in
     record { waits = ap (λ p. p.outcome) e; all_sent = ap (λ p. bytes_sent p.events) e ∙ due.all_sent }
 
-turns_bind : {E A B : Type 0} (dialog : Dialog E A) (go_on : A → Dialog E B) (m : Position) (transcript : Transcript)
+turns_bind : {E A B : Type 0} (dialog : Dialog E A) (go_on : A → Dialog E B) (m : Progress) (transcript : Transcript)
     → InTurn dialog m transcript → InTurn (dialog >>= go_on) m transcript
 turns_bind dialog go_on m transcript f =
     turns_behind (dialog >>= go_on) dialog m.next m.next (on_tape m.unread) (on_tape m.unread) []
@@ -133,7 +133,7 @@ turns_waiting body answered seq tape (Got items ∷ transcript) waits =
 turns_asking : {E R : Type 0} (body : List ℕ) (answered : Reading → Dialog E R) (seq : ℕ) (u : List ℕ)
     (x y : Transcript)
     → IsQuiet x → sent x ≡ frame seq body → WaitsFrom seq (on_tape u) y
-    → InTurn (Ask body answered) (position seq u) (x ++ y)
+    → InTurn (Ask body answered) (progress_at seq u) (x ++ y)
 turns_asking body answered seq u x y quiet is waits =
     turns_append (Ask body answered) seq (on_tape u) [] x y (turns_quiet (Ask body answered) seq (on_tape u) [] x quiet)
     (subst (λ t. TurnsFrom (Ask body answered) seq t (sent x) y)
@@ -175,11 +175,11 @@ prefix_behind SaidPart before f = record {
 
 -- leading
 
-pub leads_here : {E R : Type 0} (dialog : Dialog E R) (m : Position) → TranscriptLeads dialog m [] [] dialog m
+pub leads_here : {E R : Type 0} (dialog : Dialog E R) (m : Progress) → TranscriptLeads dialog m [] [] dialog m
 leads_here dialog m = record { goes_on = λ more. refl; all_sent = refl; in_turn = tt }
 
 -- after a talk that leads on
-module _ {E R : Type 0} {a b : Dialog E R} {m n : Position} {x : Transcript} {events : List (Event E)}
+module _ {E R : Type 0} {a b : Dialog E R} {m n : Progress} {x : Transcript} {events : List (Event E)}
     (f : TranscriptLeads a m x events b n) where
   -- what is due there
   due_behind : (tape : Tape) (bytes : List ℕ) → IsDue b n.next (on_tape n.unread ++ tape) bytes
@@ -205,7 +205,7 @@ module _ {E R : Type 0} {a b : Dialog E R} {m n : Position} {x : Transcript} {ev
       turns_append a m.next (on_tape m.unread) [] x y f.in_turn
       (turns_behind a b m.next n.next (on_tape m.unread ++ heard x) (on_tape n.unread) (sent x) due_behind y in_turn)
 
-  pub leads_on : {c : Dialog E R} {l : Position} {y : Transcript} {ys : List (Event E)}
+  pub leads_on : {c : Dialog E R} {l : Progress} {y : Transcript} {ys : List (Event E)}
       → TranscriptLeads b n y ys c l → TranscriptLeads a m (x ++ y) (events ++ ys) c l
   leads_on {c = c} {l = l} {y = y} {ys = ys} g = record {
     goes_on = λ more. rw (heard_both (on_tape m.unread) x y more, f.goes_on (heard y ++ more), g.goes_on more)
@@ -235,7 +235,7 @@ module _ {E R : Type 0} {a b : Dialog E R} {m n : Position} {x : Transcript} {ev
   }
 
 -- the same before what follows, and before a talk that breaks off
-module _ {E R : Type 0} {a b : Dialog E R} {m n : Position} {x : Transcript} {events : List (Event E)} where
+module _ {E R : Type 0} {a b : Dialog E R} {m n : Progress} {x : Transcript} {events : List (Event E)} where
   pub leads_bind : {B : Type 0} (go_on : R → Dialog E B) → TranscriptLeads a m x events b n
       → TranscriptLeads (a >>= go_on) m x events (b >>= go_on) n
   leads_bind go_on f = record {
@@ -256,12 +256,12 @@ module _ {E R : Type 0} {a b : Dialog E R} {m n : Position} {x : Transcript} {ev
   }
 
 -- something is said beside the line
-pub leads_say : {E R : Type 0} (e : E) (dialog : Dialog E R) (m : Position)
+pub leads_say : {E R : Type 0} (e : E) (dialog : Dialog E R) (m : Progress)
     → TranscriptLeads (Say e dialog) m [] (Said e ∷ []) dialog m
 leads_say e dialog m = record { goes_on = λ more. refl; all_sent = refl; in_turn = tt }
 
 -- a result was reached
-pub plays_from : {E R : Type 0} {a : Dialog E R} {m n : Position} {transcript : Transcript} {events : List (Event E)}
+pub plays_from : {E R : Type 0} {a : Dialog E R} {m n : Progress} {transcript : Transcript} {events : List (Event E)}
     {result : R}
     → TranscriptLeads a m transcript events (Done result) n → Plays a m transcript events result n
 plays_from {events = events} f = record {
@@ -270,7 +270,7 @@ plays_from {events = events} f = record {
   in_turn = f.in_turn;
 }
 
-pub leads_from : {E R : Type 0} {a : Dialog E R} {m n : Position} {transcript : Transcript} {events : List (Event E)}
+pub leads_from : {E R : Type 0} {a : Dialog E R} {m n : Progress} {transcript : Transcript} {events : List (Event E)}
     {result : R}
     → Plays a m transcript events result n → TranscriptLeads a m transcript events (Done result) n
 leads_from {events = events} f = record {
@@ -281,7 +281,7 @@ leads_from {events = events} f = record {
 
 -- breaking off
 
-pub breaks_bind : {E A B : Type 0} (SaidPart : E → E → Type 0) {a : Dialog E A} {m : Position} {transcript : Transcript}
+pub breaks_bind : {E A B : Type 0} (SaidPart : E → E → Type 0) {a : Dialog E A} {m : Progress} {transcript : Transcript}
     {shown : List (Event E)} (go_on : A → Dialog E B)
     → Breaks SaidPart a m transcript shown → Breaks SaidPart (a >>= go_on) m transcript shown
 breaks_bind SaidPart {a = a} {m = m} {transcript = transcript} go_on f = record {
@@ -291,7 +291,7 @@ breaks_bind SaidPart {a = a} {m = m} {transcript = transcript} go_on f = record 
 }
 
 -- nothing of the dialog has happened
-pub breaks_here : {E R : Type 0} (SaidPart : E → E → Type 0) (dialog : Dialog E R) (m : Position)
+pub breaks_here : {E R : Type 0} (SaidPart : E → E → Type 0) (dialog : Dialog E R) (m : Progress)
     → Breaks SaidPart dialog m [] []
 breaks_here SaidPart dialog m = record {
   prefix = record {
@@ -306,7 +306,7 @@ breaks_here SaidPart dialog m = record {
   in_turn = tt;
 }
 
-pub by_bind : {E A B : Type 0} (by : Broken) (a : Dialog E A) (m : Position) (transcript : Transcript)
+pub by_bind : {E A B : Type 0} (by : Broken) (a : Dialog E A) (m : Progress) (transcript : Transcript)
     (shown : List (Event E))
     (go_on : A → Dialog E B)
     → BreaksBy by a m transcript shown → BreaksBy by (a >>= go_on) m transcript shown
@@ -341,8 +341,9 @@ module _ {E R : Type 0} (body : List ℕ) (answered : Reading → Dialog E R) (s
   pub leads_ask : (v : List ℕ) (x y : Transcript) (reading : Reading) → IsQuiet x → sent x ≡ frame seq body
       → WaitsFrom seq (on_tape u) y
       → ((more : Tape) → answer seq (on_tape u ++ (heard y ++ more)) ≡ Some (reading, on_tape v ++ more))
-      → TranscriptLeads (Ask body answered) (position seq u) (x ++ y) (Frame (frame seq body) ∷ []) (answered reading)
-      (position (next seq) v)
+      → TranscriptLeads (Ask body answered) (progress_at seq u) (x ++ y) (Frame (frame seq body)
+      ∷ []) (answered reading)
+      (progress_at (next seq) v)
   leads_ask v x y reading quiet is waits answers = record {
     goes_on = λ more. rw (heard_both (on_tape u) x y more, heard_quiet x quiet, answers more) refl;
     all_sent = rw (sent_append x y, is, sent_waiting seq (on_tape u) y waits) refl;
@@ -352,7 +353,7 @@ module _ {E R : Type 0} (body : List ℕ) (answered : Reading → Dialog E R) (s
   -- a part of its frame was sent
   pub breaks_asking : (part unsent : List ℕ) (x : Transcript) → IsQuiet x → sent x ≡ part
       → frame seq body ≡ part ++ unsent
-      → 0 < length unsent → BreaksSending (Ask body answered) (position seq u) x (Frame part ∷ [])
+      → 0 < length unsent → BreaksSending (Ask body answered) (progress_at seq u) x (Frame part ∷ [])
   breaks_asking part unsent x quiet is frame_is not_whole =
       let later = (by_answer (λ r. played (answered r) (next seq)) (answer seq (on_tape u ++ heard x))).events in
       record {
@@ -370,7 +371,7 @@ module _ {E R : Type 0} (body : List ℕ) (answered : Reading → Dialog E R) (s
   -- its frame was sent, and listening broke off
   pub breaks_listening : (x y : Transcript) → IsQuiet x → sent x ≡ frame seq body → WaitsFrom seq (on_tape u) y
       → answer seq (on_tape u ++ heard y) ≡ None
-      → BreaksListening (Ask body answered) (position seq u) (x ++ y) (Frame (frame seq body) ∷ [])
+      → BreaksListening (Ask body answered) (progress_at seq u) (x ++ y) (Frame (frame seq body) ∷ [])
   breaks_listening x y quiet is waits none =
       let unheard : answer seq (on_tape u ++ heard (x ++ y)) ≡ None =
       rw (heard_append x y, heard_quiet x quiet) none in

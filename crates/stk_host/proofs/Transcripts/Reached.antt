@@ -3,12 +3,12 @@ use Rattle.std.proofs.Common.{[], ◌++◌}
 use Rattle.stk_host.specs.declared.fault.Broken.{Broken}
 use Rattle.stk_host.specs.Transcript.{LinkState}
 use Rattle.stk_host.specs.Dialog.{Dialog, Done, ◌>>=◌}
-use Rattle.stk_host.specs.Play.{Position, PlaysOver, FailsOver}
+use Rattle.stk_host.specs.Play.{Progress, PlaysOver, FailsOver}
 use Rattle.stk_host.specs.Reach.{Reaches}
 use Rattle.stk_host.proofs.Transcripts.Laws.{grows_none, grows_on}
 use Rattle.stk_host.proofs.Transcripts.InDialogs.{leads_here, leads_on, leads_bind, leads_from, plays_from, by_on, by_bind}
 
-pub reaches_here : {R : Type 0} (dialog : Dialog ⊥ R) (before : Position) (o : LinkState)
+pub reaches_here : {R : Type 0} (dialog : Dialog ⊥ R) (before : Progress) (o : LinkState)
     → Reaches dialog before o dialog before o
 reaches_here dialog before o = record {
   during = [];
@@ -18,8 +18,8 @@ reaches_here dialog before o = record {
 }
 
 -- from where a call has come
-module _ {R : Type 0} {a b : Dialog ⊥ R} {m n : Position} {o p : LinkState} (f : Reaches a m o b n p) where
-  pub reaches_on : {c : Dialog ⊥ R} {l : Position} {q : LinkState} → Reaches b n p c l q → Reaches a m o c l q
+module _ {R : Type 0} {a b : Dialog ⊥ R} {m n : Progress} {o p : LinkState} (f : Reaches a m o b n p) where
+  pub reaches_on : {c : Dialog ⊥ R} {l : Progress} {q : LinkState} → Reaches b n p c l q → Reaches a m o c l q
   reaches_on {q = q} g = record {
     during = f.during ++ g.during;
     events = f.events ++ g.events;
@@ -35,7 +35,7 @@ module _ {R : Type 0} {a b : Dialog ⊥ R} {m n : Position} {o p : LinkState} (f
     breaks = by_on f.leads by g.during g.shown g.breaks;
   }
 
-pub reaches_bind : {A B : Type 0} {a b : Dialog ⊥ A} {m n : Position} {o p : LinkState} (go_on : A → Dialog ⊥ B)
+pub reaches_bind : {A B : Type 0} {a b : Dialog ⊥ A} {m n : Progress} {o p : LinkState} (go_on : A → Dialog ⊥ B)
     → Reaches a m o b n p → Reaches (a >>= go_on) m o (b >>= go_on) n p
 reaches_bind go_on f = record {
   during = f.during;
@@ -45,15 +45,15 @@ reaches_bind go_on f = record {
 }
 
 -- what a call that played a dialog ensures is how far its caller has come
-pub reaches_from : {R : Type 0} {a : Dialog ⊥ R} {m n : Position} {o p : LinkState} {result : R}
+pub reaches_from : {R : Type 0} {a : Dialog ⊥ R} {m n : Progress} {o p : LinkState} {result : R}
     → PlaysOver a m o p result n → Reaches a m o (Done result) n p
 reaches_from f = record { during = f.during; events = f.events; grows = f.grows; leads = leads_from f.plays }
 
-pub played_from : {R : Type 0} {a : Dialog ⊥ R} {m n : Position} {o p : LinkState} {result : R}
+pub played_from : {R : Type 0} {a : Dialog ⊥ R} {m n : Progress} {o p : LinkState} {result : R}
     → Reaches a m o (Done result) n p → PlaysOver a m o p result n
 played_from f = record { during = f.during; events = f.events; grows = f.grows; plays = plays_from f.leads }
 
-pub broken_bind : {A B : Type 0} {by : Broken} {a : Dialog ⊥ A} {m : Position} {o p : LinkState}
+pub broken_bind : {A B : Type 0} {by : Broken} {a : Dialog ⊥ A} {m : Progress} {o p : LinkState}
     (go_on : A → Dialog ⊥ B)
     → FailsOver by a m o p → FailsOver by (a >>= go_on) m o p
 broken_bind {by = by} {a = a} {m = m} go_on f =
@@ -65,6 +65,6 @@ broken_bind {by = by} {a = a} {m = m} go_on f =
     }
 
 -- a dialog played, and what follows it
-pub then_reaches : {A B : Type 0} {a : Dialog ⊥ A} {m n : Position} {o p : LinkState} {result : A}
+pub then_reaches : {A B : Type 0} {a : Dialog ⊥ A} {m n : Progress} {o p : LinkState} {result : A}
     (go_on : A → Dialog ⊥ B) → PlaysOver a m o p result n → Reaches (a >>= go_on) m o (go_on result) n p
 then_reaches go_on f = reaches_bind go_on (reaches_from f)

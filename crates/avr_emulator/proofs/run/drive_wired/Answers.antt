@@ -1,4 +1,4 @@
-use Rattle.avr_course.proofs.WirePlays.{over_any_line}
+use Rattle.avr_laws.proofs.WirePlays.{over_any_line}
 use Rattle.avr_emulator.proofs.run.drive_wired.Goals as goal
 
 pub returns-clause-line : goal.returns-clause-line

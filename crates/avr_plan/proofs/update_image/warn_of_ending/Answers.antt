@@ -1,4 +1,4 @@
-use Rattle.avr_desk.proofs.Stages.Played.{went_silent, went_saying, goes_saying_part}
+use Rattle.avr_desk.proofs.Stages.Played.{went_silent, went_output, goes_output_part}
 use Rattle.std.proofs.Common.{false}
 use Rattle.avr_desk.specs.Playing.{AtStart}
 use Rattle.avr_plan.specs.Lines.{no_end_line}
@@ -9,9 +9,9 @@ returns-then-not-warns-clause-goes g c = rw (← c.if-not-warns.ensures) (went_s
 
 pub returns-in-Ok-clause-goes : goal.returns-in-Ok-clause-goes
 returns-in-Ok-clause-goes g c = rw (← c.if-not-warns.ensures)
-    (went_saying _ _ (no_end_line c.args.file.now) c.in-Ok.ensures.printed c.in-Ok.ensures.counts.1)
+    (went_output _ _ (no_end_line c.args.file.now) c.in-Ok.ensures.printed c.in-Ok.ensures.counts.1)
 
 pub returns-in-Err-clause-goes : goal.returns-in-Err-clause-goes
 returns-in-Err-clause-goes g c = rw (← c.if-not-warns.ensures)
-    (goes_saying_part (AtStart false) _ _ (no_end_line c.args.file.now) c.in-Err.field-0 c.in-Err.ensures.printed
+    (goes_output_part (AtStart false) _ _ (no_end_line c.args.file.now) c.in-Err.field-0 c.in-Err.ensures.printed
     c.in-Err.ensures.fault c.in-Err.ensures.counts)

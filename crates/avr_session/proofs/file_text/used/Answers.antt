@@ -1,5 +1,5 @@
 use Rattle.std.proofs.Common.{◌∙◌, sym, arith}
-use Rattle.avr_session.proofs.PhaseByPhase.Trimmed.{blank_dropped, last_used}
+use Rattle.avr_session.proofs.ActionByAction.Trimmed.{blank_dropped, last_used}
 use Rattle.avr_session.proofs.file_text.used.Goals as goal
 
 pub blanks-preserved : goal.blanks-preserved

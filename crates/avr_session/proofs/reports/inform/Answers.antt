@@ -1,4 +1,4 @@
-use Rattle.avr_session.proofs.PhaseByPhase.Reports.{reports_line, not_lt}
+use Rattle.avr_session.proofs.ActionByAction.Reports.{reports_line, not_lt}
 use Rattle.avr_session.proofs.reports.inform.Goals as goal
 
 pub returns-clause-reports : goal.returns-clause-reports

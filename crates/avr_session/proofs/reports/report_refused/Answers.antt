@@ -5,7 +5,7 @@ use Rattle.avr_desk.specs.Said.{Line}
 use Rattle.avr_session.specs.Lines.{fault_line}
 use Rattle.avr_session.specs.Reporting.{PrintStops}
 use Rattle.avr_session.specs.Session.{signature_says}
-use Rattle.avr_session.proofs.PhaseByPhase.Reports.{reports_then, reports_until}
+use Rattle.avr_session.proofs.ActionByAction.Reports.{reports_then, reports_until}
 use Rattle.avr_session.proofs.reports.report_refused.Goals as goal
 
 pub returns-clause-reports : goal.returns-clause-reports

@@ -1,7 +1,7 @@
 use Rattle.std.proofs.lemmas.Result.{err_from_is_err_and}
 use Rattle.avr_session.specs.Reporting.{PrintStops}
 use Rattle.avr_session.specs.Session.{signature_says, warns_of_signature}
-use Rattle.avr_session.proofs.PhaseByPhase.Reports.{reports_then, reports_until}
+use Rattle.avr_session.proofs.ActionByAction.Reports.{reports_then, reports_until}
 use Rattle.avr_session.proofs.reports.report_taken.Goals as goal
 
 pub returns-clause-reports : goal.returns-clause-reports

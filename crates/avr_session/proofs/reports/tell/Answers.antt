@@ -1,4 +1,4 @@
-use Rattle.avr_session.proofs.PhaseByPhase.Reports.{reports_line}
+use Rattle.avr_session.proofs.ActionByAction.Reports.{reports_line}
 use Rattle.avr_session.proofs.reports.tell.Goals as goal
 
 pub returns-clause-reports : goal.returns-clause-reports

@@ -4,9 +4,9 @@ use Rattle.avr_desk.specs.declared.stream.Stream.TheVariants.{File}
 use Rattle.avr_session.specs.FileText.{file_text}
 use Rattle.avr_session.specs.Runs.{NotCreated, cause_line}
 use Rattle.avr_session.specs.Saving.{SaveStops}
-use Rattle.avr_session.proofs.PhaseByPhase.Reports.{file_stops}
+use Rattle.avr_session.proofs.ActionByAction.Reports.{file_stops}
 use Rattle.avr_desk.proofs.Lines.Told.{failed_by, follows_on}
-use Rattle.avr_session.proofs.PhaseByPhase.Saves.{not_created, created_then}
+use Rattle.avr_session.proofs.ActionByAction.Saves.{not_created, created_then}
 use Rattle.avr_session.proofs.saving.create_file.Goals as goal
 
 pub returns-in-Ok-clause-reports : goal.returns-in-Ok-clause-reports

@@ -4,8 +4,8 @@ use Rattle.avr_session.specs.FileText.{file_text}
 use Rattle.avr_session.specs.Reporting.{DeskStops}
 use Rattle.avr_session.specs.Saving.{SaveStops}
 use Rattle.avr_session.specs.Session.{saving_says, bytes_say}
-use Rattle.avr_session.proofs.PhaseByPhase.Reports.{saves_then, reports_until}
-use Rattle.avr_session.proofs.PhaseByPhase.Saves.{save_is_desk}
+use Rattle.avr_session.proofs.ActionByAction.Reports.{saves_then, reports_until}
+use Rattle.avr_session.proofs.ActionByAction.Saves.{save_is_desk}
 use Rattle.avr_session.proofs.saving.report_bytes_read.Goals as goal
 
 pub returns-clause-reports : goal.returns-clause-reports

@@ -1,6 +1,6 @@
 use Rattle.std.proofs.Common.{◌∙◌, sym}
 use Rattle.avr_session.specs.FileText.{file_text}
-use Rattle.avr_session.proofs.PhaseByPhase.Saves.{saved_out}
+use Rattle.avr_session.proofs.ActionByAction.Saves.{saved_out}
 use Rattle.avr_session.proofs.saving.save.Goals as goal
 
 pub returns-then-eq-clause-reports : goal.returns-then-eq-clause-reports

@@ -4,8 +4,8 @@ use Rattle.avr_tool.proofs.laws.a_wrong_outcome_is_refused.Goals as goal
 pub returns-clause-memories : goal.returns-clause-memories
 returns-clause-memories c = not_all_written
 
-pub returns-clause-sayings : goal.returns-clause-sayings
-returns-clause-sayings c = said_otherwise
+pub returns-clause-outputs : goal.returns-clause-outputs
+returns-clause-outputs c = said_otherwise
 
 pub returns-clause-silence : goal.returns-clause-silence
 returns-clause-silence c = touched_in_silence

@@ -5,7 +5,7 @@ use Rattle.stk_frame.specs.declared.command.Command.TheVariants.{SignOn}
 use Rattle.stk_frame.specs.HostCommands.{enter, read_signature}
 use Rattle.stk_host.specs.Transcript.{LinkState}
 use Rattle.stk_host.specs.Dialog.{Dialog, ◌>>=◌}
-use Rattle.stk_host.specs.Play.{Position, PlaysOver}
+use Rattle.stk_host.specs.Play.{Progress, PlaysOver}
 use Rattle.stk_host.specs.Reach.{Reaches}
 use Rattle.stk_host.specs.Steps.{StepOutcome, if_done, step, play}
 use Rattle.stk_host.specs.ReadSteps.{signature_steps}
@@ -18,13 +18,13 @@ entering : Dialog ⊥ StepOutcome
 entering = step (enter ∷ []) >>= if_done (λ nothing. play signature_steps [])
 
 -- after SIGN_ON
-signed_on : {m n : Position} {o p : LinkState} {name : List ℕ} → PlaysOver (step (SignOn ∷ [])) m o p (Ok name) n
+signed_on : {m n : Progress} {o p : LinkState} {name : List ℕ} → PlaysOver (step (SignOn ∷ [])) m o p (Ok name) n
     → Reaches handshake m o entering n p
 unfolding handshake entering
 signed_on {name = name} f = goes_on (λ name. step (enter ∷ []) >>= if_done (λ nothing. play signature_steps [])) name f
 
 -- after ENTER
-entered : {k m n : Position} {r o p : LinkState} {nothing : List ℕ} {command : Command} → command ≡ enter
+entered : {k m n : Progress} {r o p : LinkState} {nothing : List ℕ} {command : Command} → command ≡ enter
     → Reaches handshake k r entering m o → PlaysOver (step (command ∷ [])) m o p (Ok nothing) n
     → Reaches handshake k r (play signature_steps []) n p
 unfolding entering

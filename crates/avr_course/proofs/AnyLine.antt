@@ -1,8 +1,0 @@
--- A session over any line, action by action: what it leaves and in which order, and that what it says is true.
-pub mod FirstSteps
-pub mod FrameSizes
-pub mod Phases
-pub mod Sessions
-pub mod Calls
-pub mod Strokes
-pub mod StrokeOrder

@@ -1,8 +1,0 @@
--- Plays over any tape and over a wire are plays along turns.
-pub mod Plays
-pub mod AnyTape
-pub mod WireTapes
-pub mod InTurn
-pub mod NoFrame
-pub mod Rows
-pub mod Sayings

@@ -1,6 +1,0 @@
--- What a verified run leaves in the memories.
-pub mod CourseAgrees
-pub mod LaidImages
-pub mod VerifiedRuns
-pub mod FlashBytes
-pub mod WrittenThere

@@ -1,5 +1,0 @@
--- What is reported is true, and is what the course reports, up to the first fault.
-pub mod Truth
-pub mod UpToFault
-pub mod OverTape
-pub mod Rows

@@ -1,5 +1,0 @@
-use Rattle.avr_course.proofs.Plans.Items.{items_by_tasks}
-use Rattle.avr_course.proofs.written.a_plan_writes_what_its_tasks_write.Goals as goal
-
-pub returns : goal.returns
-returns c = items_by_tasks

@@ -1,0 +1,136 @@
+-- The memories of some first steps of items, and of items one after another.
+use Rattle.std.proofs.Common.{◌≡◌, ℕ, zero, suc, ◌+◌, ◌≤◌, List, [], ◌∷◌, ◌++◌, length, refl, sym, ap, ◌∙◌, subst, append_assoc, arith}
+use Rattle.std.specs.Prelude.{min}
+use Rattle.avr_part.specs.declared.part.Mem.{Mem}
+use Rattle.avr_part.specs.declared.part.Mem.TheVariants.{Flash, Eeprom, Signature}
+use Rattle.avr_part.specs.Part.{Part, IsPart}
+use Rattle.stk_frame.specs.declared.command.Command.{Command}
+use Rattle.stk_host.specs.ReadSteps.{read_count, read_step, read_steps}
+use Rattle.stk_emu.specs.Programmer.{Programmer}
+use Rattle.stk_emu.specs.Effect.{Memories, Item, effect, effects}
+use Rattle.stk_emu.specs.Settled.{Idle, FitsPart}
+use Rattle.stk_emu.specs.PageWrites.{changed, changed_by, page_write_of, steps_of, all_steps, AllFitItems}
+use Rattle.avr_laws.proofs.Each.{Each, each_of}
+use Rattle.avr_laws.proofs.Leads.{Reached}
+use Rattle.stk_emu.proofs.Answers.Commands.{settled_idle}
+use Rattle.avr_laws.proofs.PageWrites.Items.{items_do, changed_all, effect_sizes}
+
+-- the memories of the first so many of these steps, in any mode
+pub record Rests (part : Part) (steps : List (List Command)) (m : Memories) (q : Programmer) : Type 0 where
+  pub count : ℕ
+  pub stands : Idle part (changed_by part count steps m) q
+
+-- counted past the last step nothing is changed
+pub changed_min : (part : Part) (count : ℕ) (steps : List (List Command)) (m : Memories)
+    → changed_by part (min count (length steps)) steps m ≡ changed_by part count steps m
+changed_min part zero steps m = ap (λ n. changed_by part n steps m) (let e : min 0 (length steps)
+    ≡ 0 = omega arith in e)
+changed_min part (suc count) [] m = ap (λ n. changed_by part n [] m) (let e : min (suc count) 0 ≡ 0 = omega arith in e)
+changed_min part (suc count) (commands ∷ steps) m =
+    ap (λ n. changed_by part n (commands ∷ steps) m)
+    (let e : min (suc count) (suc (length steps)) ≡ suc (min count (length steps)) = omega arith in e)
+    ∙ changed_min part count steps (changed part commands m)
+
+-- so many of the first steps, in front of others
+pub changed_prefix : (part : Part) (count : ℕ) (xs ys : List (List Command)) (m : Memories) → count ≤ length xs
+    → changed_by part count (xs ++ ys) m ≡ changed_by part count xs m
+changed_prefix part zero xs ys m few = refl
+changed_prefix part (suc count) [] ys m few = absurd (omega (arith, few))
+changed_prefix part (suc count) (commands ∷ xs) ys m few =
+    changed_prefix part count xs ys (changed part commands m) (omega (arith, few))
+
+-- all of these, and so many more
+pub changed_behind : (part : Part) (count : ℕ) (xs ys : List (List Command)) (m : Memories)
+    → changed_by part (count + length xs) (xs ++ ys) m ≡ changed_by part count ys (changed_by part (length xs) xs m)
+changed_behind part count [] ys m = ap (λ n. changed_by part n ys m) (let e : count + 0 ≡ count = omega arith in e)
+changed_behind part count (commands ∷ xs) ys m =
+    ap (λ n. changed_by part n (commands ∷ xs ++ ys) m)
+    (let e : count + suc (length xs) ≡ suc (count + length xs) = omega arith in e)
+    ∙ changed_behind part count xs ys (changed part commands m)
+
+pub all_on : (part : Part) (xs ys : List Item) → all_steps part (xs ++ ys) ≡ all_steps part xs ++ all_steps part ys
+all_on part [] ys = refl
+all_on part (item ∷ xs) ys = ap (λ steps. steps_of part item ++ steps) (all_on part xs ys)
+    ∙ sym (append_assoc (steps_of part item) (all_steps part xs) (all_steps part ys))
+
+module _ (part : Part) where
+  pub reached_rests : (steps : List (List Command)) (m : Memories) (q : Programmer) → Reached part steps m q
+      → Rests part steps m q
+  reached_rests steps m q r = record {
+    count = r.count;
+    stands =
+        settled_idle part (changed_by part r.count steps m) q r.stands;
+  }
+
+  pub rests_here : (steps : List (List Command)) (m : Memories) (q : Programmer) → Idle part m q → Rests part steps m q
+  rests_here steps m q idle = record { count = 0; stands = idle }
+
+  -- some first steps are some first of more
+  pub rests_before : (xs ys : List Item) (m : Memories) (q : Programmer) → Rests part (all_steps part xs) m q
+      → Rests part (all_steps part (xs ++ ys)) m q
+  rests_before xs ys m q r =
+      let steps = all_steps part xs in
+      subst (λ all. Rests part all m q) (sym (all_on part xs ys)) (record {
+        count = min r.count (length steps);
+        stands = subst (λ z. Idle part z q)
+            (sym (changed_prefix part (min r.count (length steps)) steps (all_steps part ys) m (omega arith)
+            ∙ changed_min part r.count steps m)) r.stands;
+      })
+
+  pub effects_sizes : (sound : IsPart part) (items : List Item) (m : Memories) → FitsPart part m
+      → FitsPart part (effects part items m)
+  effects_sizes sound [] m f = f
+  effects_sizes sound (item ∷ items) m f =
+      effects_sizes sound items (effect part item m) (effect_sizes part sound item m f)
+
+  -- all steps of items do what they do
+  pub all_changed : (sound : IsPart part) (items : List Item) (m : Memories) → AllFitItems part items → FitsPart part m
+      → changed_by part (length (all_steps part items)) (all_steps part items) m ≡ effects part items m
+  all_changed sound items m fits f = changed_all part (all_steps part items) m ∙ items_do part sound items m fits f
+
+  pub rests_all : (sound : IsPart part) (items : List Item) (m : Memories) (q : Programmer) → AllFitItems part items
+      → FitsPart part m → Idle part (effects part items m) q
+      → Rests part (all_steps part items) m q
+  rests_all sound items m q fits f idle = record {
+    count = length (all_steps part items);
+    stands =
+        subst (λ z. Idle part z q) (sym (all_changed sound items m fits f)) idle;
+  }
+
+  -- all of the first steps and some of more
+  pub rests_behind : (sound : IsPart part) (xs ys : List Item) (m : Memories) (q : Programmer) → AllFitItems part xs
+      → FitsPart part m → Rests part (all_steps part ys) (effects part xs m) q
+      → Rests part (all_steps part (xs ++ ys)) m q
+  rests_behind sound xs ys m q fits f r =
+      let steps = all_steps part xs in
+      subst (λ all. Rests part all m q) (sym (all_on part xs ys)) (record {
+        count = r.count + length steps;
+        stands = subst (λ z. Idle part z q)
+            (sym (changed_behind part r.count steps (all_steps part ys) m
+            ∙ ap (changed_by part r.count (all_steps part ys)) (all_changed sound xs m fits f))) r.stands;
+      })
+
+  pub fits_on : (xs ys : List Item) → AllFitItems part xs → AllFitItems part ys → AllFitItems part (xs ++ ys)
+  fits_on [] ys f g = g
+  fits_on (item ∷ xs) ys f g = (f.0, fits_on xs ys f.1 g)
+
+-- steps that write nothing
+abbrev IsQuiet : List Command → Type 0
+IsQuiet commands = page_write_of commands ≡ []
+
+abbrev pub AreQuiet : List (List Command) → Type 0
+AreQuiet steps = Each IsQuiet steps
+
+pub quiet_stays : (part : Part) (count : ℕ) (steps : List (List Command)) (m : Memories) → AreQuiet steps
+    → changed_by part count steps m ≡ m
+quiet_stays part zero steps m quiet = refl
+quiet_stays part (suc count) [] m quiet = refl
+quiet_stays part (suc count) (commands ∷ steps) m quiet =
+    ap (λ items. changed_by part count steps (effects part items m)) quiet.0 ∙ quiet_stays part count steps m quiet.1
+
+-- to read writes nothing
+pub read_quiet : (part : Part) (mem : Mem) → AreQuiet (read_steps part mem)
+read_quiet part Flash = each_of IsQuiet (read_step part Flash) 0 (read_count part Flash) (λ i. (refl, tt))
+read_quiet part Eeprom = each_of IsQuiet (read_step part Eeprom) 0 (read_count part Eeprom) (λ i. (refl, tt))
+read_quiet part Signature = each_of IsQuiet (read_step part Signature) 0 3 (λ i. (refl, tt))
+read_quiet part mem = (refl, tt)

@@ -1,0 +1,106 @@
+-- All that a session asks fits a frame: it weighs nothing, where a body weighs 1 that no frame can carry.
+use Rattle.std.proofs.Common.{◌≡◌, ℕ, ◌*◌, ◌-◌, ◌≤◌, List, [], ◌∷◌, ◌++◌, map, length, subst, arith}
+use Rattle.std.proofs.lemmas.Bool.Decides.{nat_tests}
+use Rattle.std.specs.Prelude.{All, nat_le, ◌&&◌, if◌then◌else◌}
+use Rattle.avr_part.specs.Part.{Part, IsPart}
+use Rattle.avr_plan.specs.Plan.{Plan, IsFitted}
+use Rattle.stk_frame.specs.Commands.{body}
+use Rattle.stk_frame.specs.HostCommands.{read_signature}
+use Rattle.stk_frame.specs.declared.command.Command.{Command}
+use Rattle.stk_host.specs.Bound.{opening_steps, erasing_steps, closing_steps}
+use Rattle.stk_host.specs.Dialog.{Dialog, Done, Say, Ask}
+use Rattle.stk_host.specs.ReadSteps.{read_steps}
+use Rattle.stk_host.specs.WriteSteps.{write_steps}
+use Rattle.stk_emu.specs.Along.{AsksBodies}
+use Rattle.stk_emu.specs.Effect.{Erase}
+use Rattle.stk_emu.specs.Lawful.{IsBody}
+use Rattle.avr_laws.proofs.Each.{each_on}
+use Rattle.avr_laws.proofs.Hosts.FrameSizes.{AreSendable, EachSendable, all_sendable}
+use Rattle.avr_laws.proofs.PageWrites.Items.{write_are_steps, read_are_steps, item_are_steps}
+use Rattle.avr_session.specs.Actions.{Action, OpenSession, EraseChip, WriteImage, CompareImage, SaveMemory, LeaveOut}
+use Rattle.avr_session.specs.Session.{session}
+use Rattle.avr_laws.specs.AnyLine.{Weight, weighed, bodies_in}
+use Rattle.avr_session.specs.PlanSteps.{action_steps, actions_steps, run_steps}
+use Rattle.avr_laws.proofs.Plans.Fits.{FitsAction, AllFitActions, work, work_fits}
+use Rattle.avr_laws.proofs.Bounds.Weights.{WeighsAtMost, weighed_append, session_weighs}
+
+abbrev unsendable : Weight
+unsendable bytes = if nat_le 1 (length bytes) && nat_le (length bytes) 275 then 0 else 1
+
+light : (bytes : List ℕ) → IsBody bytes → unsendable bytes ≡ 0
+light bytes is = let some = is.some in let few = is.few in grind (arith, nat_tests, some, few)
+
+sendable : (bytes : List ℕ) → unsendable bytes ≤ 0 → IsBody bytes
+sendable bytes le = record { some = grind (arith, nat_tests, le); few = grind (arith, nat_tests, le) }
+
+asks_light : {E R : Type 0} (d : Dialog E R) → WeighsAtMost unsendable 0 d → AsksBodies d
+asks_light (Done r) f = tt
+asks_light (Say e d) f = asks_light d f.1
+asks_light (Ask asked answered) f = (
+  sendable asked f.0,
+  λ reading.
+      let none : 0 - unsendable asked ≡ 0 = omega arith in
+      asks_light (answered reading) (subst (λ n. WeighsAtMost unsendable n (answered reading)) none (f.1 reading)),
+)
+
+commands_light : (commands : List Command) → AreSendable commands → weighed unsendable (map body commands) ≡ 0
+commands_light [] s = omega arith
+commands_light (command ∷ commands) s = let first = light (body command) s.0 in let more =
+    commands_light commands s.1 in omega (arith, first, more)
+
+steps_light : (steps : List (List Command)) → EachSendable steps → weighed unsendable (bodies_in steps) ≡ 0
+steps_light [] s = omega arith
+steps_light (commands ∷ steps) s =
+    let first = commands_light commands s.0 in
+    let more = steps_light steps s.1 in
+    let both = weighed_append unsendable (map body commands) (bodies_in steps) in
+    omega (arith, first, more, both)
+
+reads_sendable : (place : ℕ) → AreSendable (read_signature place ∷ [])
+reads_sendable place = (record { some = omega arith; few = omega arith }, tt)
+
+opening_sendable : EachSendable opening_steps
+opening_sendable = (
+  (record { some = omega arith; few = omega arith }, tt),
+  (
+    (record { some = omega arith; few = omega arith }, tt),
+    (reads_sendable 0, (reads_sendable 1, (reads_sendable 2, tt))),
+  ),
+)
+
+closing_sendable : EachSendable closing_steps
+closing_sendable = ((record { some = omega arith; few = omega arith }, tt), tt)
+
+module _ (part : Part) (sound : IsPart part) where
+  action_sendable : (action : Action) → FitsAction part action → EachSendable (action_steps part action)
+  action_sendable OpenSession fits = absurd fits
+  action_sendable EraseChip fits = all_sendable part sound erasing_steps (item_are_steps part sound Erase tt)
+  action_sendable (WriteImage mem image) fits =
+      all_sendable part sound (write_steps part mem image)
+      (write_are_steps part sound mem image (let size = fits.0 in omega (arith, size)))
+  action_sendable (CompareImage mem image) fits =
+      all_sendable part sound (read_steps part mem) (read_are_steps part sound mem)
+  action_sendable (SaveMemory mem format file) fits =
+      all_sendable part sound (read_steps part mem) (read_are_steps part sound mem)
+  action_sendable (LeaveOut what) fits = tt
+
+  actions_sendable : (actions : List Action) → AllFitActions part actions → EachSendable (actions_steps part actions)
+  actions_sendable [] fits = tt
+  actions_sendable (action ∷ actions) fits =
+      each_on AreSendable (action_steps part action) (actions_steps part actions) (action_sendable action fits.0)
+      (actions_sendable actions fits.1)
+
+run_sendable : (plan : Plan) → IsPart plan.part → All (IsFitted plan.part) plan.tasks → EachSendable (run_steps plan)
+run_sendable plan sound fitted =
+    let later = actions_steps plan.part (work plan) in
+    each_on AreSendable (opening_steps ++ later) closing_steps
+    (each_on AreSendable opening_steps later opening_sendable
+    (actions_sendable plan.part sound (work plan) (work_fits plan fitted))) closing_sendable
+
+-- every question of a session
+pub session_asks : (plan : Plan) → IsPart plan.part → All (IsFitted plan.part) plan.tasks → AsksBodies (session plan)
+session_asks plan sound fitted =
+    let none = steps_light (run_steps plan) (run_sendable plan sound fitted) in
+    let nothing : 4 * weighed unsendable (bodies_in (run_steps plan)) ≡ 0 = omega (arith, none) in
+    asks_light (session plan) (subst (λ n. WeighsAtMost unsendable n (session plan)) nothing
+    (session_weighs unsendable plan))

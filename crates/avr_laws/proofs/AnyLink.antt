@@ -1,0 +1,181 @@
+-- A session over any link that makes no answer.
+use Rattle.std.proofs.Common.{◌≡◌, ◌≤◌, ℕ, Bool, List, [], ◌++◌, All, length, take, refl, sym, ap, ◌∙◌, subst, arith, inl, inr, Some, length-append}
+use Rattle.std.proofs.lemmas.List.{append-nil, take-append-le, take_all}
+use Rattle.avr_desk.specs.Said.{OutputEvent, SaidPart}
+use Rattle.avr_part.specs.Sound.{IsSoundChip}
+use Rattle.avr_part.specs.State as chips
+use Rattle.avr_plan.specs.Plan.{Plan, IsFitted}
+use Rattle.avr_session.specs.Run.{RunsSession}
+use Rattle.avr_session.specs.Runs.{Devices, start}
+use Rattle.avr_session.specs.Session.{session}
+use Rattle.stk_frame.specs.Cut.{frames}
+use Rattle.stk_host.specs.Dialog.{Event, Done, played, frames_in, bytes_sent, outputs}
+use Rattle.stk_host.specs.Play.{InTurn, IsPrefixOf}
+use Rattle.stk_host.specs.Transcript.{Transcript, Grows, sent, heard}
+use Rattle.stk_host.specs.Tape.{Tape}
+use Rattle.stk_emu.specs.Along.{along, said_along, AsksBodies}
+use Rattle.avr_laws.specs.AnyTape.{AreHonest, GoesAs, CameThrough, after_pieces, became_by, turns_heard}
+use Rattle.avr_laws.specs.NoFrame.{MakesNoFrame}
+use Rattle.avr_laws.proofs.Lines.NoFrame.{no_frame_honest}
+use Rattle.stk_emu.specs.Turn.{Turn, Became}
+use Rattle.stk_emu.specs.Device.{device, after_frames}
+use Rattle.stk_emu.specs.Programmer.{Programmer, fresh_programmer}
+use Rattle.avr_laws.proofs.Lines.InTurn.{AreWhole, sends_whole, frames_prefix, frames_sent, shown_prefix}
+use Rattle.avr_laws.proofs.Lines.AnyTape.{goes_as, through_after}
+use Rattle.avr_laws.specs.AnyLine.{OverTurns, WholeOverTurns}
+use Rattle.avr_laws.proofs.OverTurns.{asks, over_turns, comes_over_turns}
+use Rattle.avr_laws.proofs.Reports.OverTape.{by_tape}
+
+-- a talk that began with nothing is what passed since
+pub since_none : (old now during transcript : Transcript) → old ≡ [] → now ≡ transcript → Grows old during now
+    → during ≡ transcript
+since_none old now during transcript none is grows = sym (subst (λ o. Grows o during now) none grows) ∙ is
+
+-- what passed of a session is in turn, and what it sent a prefix of what it sends over what was heard
+abbrev pub IsFirst : Plan → Transcript → Type 0
+IsFirst plan transcript = InTurn (session plan) start transcript
+    × IsPrefixOf (sent transcript) (bytes_sent (played (session plan) 1 (heard transcript)).events)
+
+pub sent_first : (plan : Plan) (old new : Devices) (status : ℕ) → old.link.transcript ≡ []
+    → RunsSession plan old new status
+    → IsFirst plan new.link.transcript
+sent_first plan old new status silent runs = elim runs [
+  | inl whole ↦
+      let ran = whole.1 in
+      now ran.during ran.grows (
+        ran.plays.in_turn,
+        (
+          [],
+          append-nil (sent ran.during) ∙ (sym ran.plays.all_sent
+              ∙ ap (λ x. bytes_sent x.events) (sym (ap (played (session plan) 1) (sym (append-nil (heard ran.during)))
+              ∙ ran.plays.plays []))),
+        ),
+      )
+  | inr broke ↦
+      let b = broke.0 in
+      let prefix = shown_prefix SaidPart b.shown (played (session plan) 1 (heard b.during)).events b.breaks.prefix in
+      now b.during b.grows
+      (b.breaks.in_turn, (prefix.0, ap (λ bs. bs ++ prefix.0) (sym b.breaks.all_sent) ∙ prefix.1))
+]
+  where
+    now : (during : Transcript) → Grows old.link.transcript during new.link.transcript → IsFirst plan during
+        → IsFirst plan new.link.transcript
+    now during grows first =
+        subst (IsFirst plan) (since_none old.link.transcript new.link.transcript during new.link.transcript silent refl
+        grows) first
+
+module _ (plan : Plan) (s : chips.ChipState) (is_sound : IsSoundChip s) (part_is : s.part ≡ plan.part)
+    (fitted : All (IsFitted plan.part) plan.tasks) where
+  abbrev begun : Programmer
+  begun = fresh_programmer s
+
+  asks_bodies : AsksBodies (session plan)
+  asks_bodies = asks plan s is_sound part_is fitted
+
+  module _ (tape : Tape) (becames : List Became) (honest : AreHonest device (session plan) 1 tape begun becames) where
+    abbrev turns : List Turn
+    turns = turns_heard (session plan) 1 tape becames
+
+    abbrev events_played : List (Event OutputEvent)
+    events_played = (played (session plan) 1 tape).events
+
+    goes : GoesAs device (session plan) 1 tape begun becames
+    goes = goes_as device (session plan) 1 tape begun becames asks_bodies honest
+
+    -- however it ends: after the frames of any prefix of the bytes that it sends
+    module _ (bytes : List ℕ) (prefix : IsPrefixOf bytes (bytes_sent events_played)) where
+      abbrev count : ℕ
+      count = length (frames bytes)
+
+      some : (others : List (List ℕ)) × (frames_in events_played ≡ frames bytes ++ others)
+      some = frames_prefix events_played bytes prefix.0 (sends_whole (session plan) 1 tape asks_bodies) prefix.1
+
+      fewer : count ≤ length (frames_in events_played)
+      fewer = let all = ap length some.1 in omega (arith, all, length-append (frames bytes) some.0)
+
+      first_frames : take count (frames_in events_played) ≡ frames bytes
+      first_frames = ap (take count) some.1 ∙ (take-append-le count (frames bytes) some.0 (omega arith)
+          ∙ take_all count (frames bytes) (omega arith))
+
+      stands : after_pieces device (frames bytes) becames begun
+          ≡ (along device count (session plan) begun turns).programmer
+      stands = sym (goes.programmer count fewer ∙ ap (λ fs. after_pieces device fs becames begun) first_frames)
+
+      pub over_any_end : OverTurns plan begun (after_pieces device (frames bytes) becames begun) turns bytes
+          events_played
+      over_any_end = over_turns plan s is_sound part_is fitted turns (after_pieces device (frames bytes) becames begun)
+          bytes stands tape becames prefix honest (by_tape (session plan) 1 tape becames)
+
+    -- a whole session
+    module _ (bytes : List ℕ) (left : Tape) (events : List (Event OutputEvent)) (status next : ℕ)
+        (is : played (session plan) 1 tape ≡ record { events = events; outcome = Some (status, next, left) })
+        (sent_is : bytes_sent events ≡ bytes) where
+      all_sent : IsPrefixOf bytes (bytes_sent events_played)
+      all_sent = ([], append-nil bytes ∙ (sym sent_is ∙ ap (λ p. bytes_sent p.events) (sym is)))
+
+      same : frames_in events_played ≡ frames bytes
+      same =
+          let whole : AreWhole (frames_in events_played) = sends_whole (session plan) 1 tape asks_bodies in
+          sym (frames_sent events_played whole) ∙ ap frames (ap (λ p. bytes_sent p.events) is ∙ sent_is)
+
+      comes : (along device (length (frames bytes)) (session plan) begun turns).dialog ≡ Done status
+      comes = subst (λ fs. (along device (length fs) (session plan) begun turns).dialog ≡ Done status) same
+          (goes.outcome status next left (ap (λ p. p.outcome) is)).0
+
+      said : outputs events ≡ said_along device (length (frames bytes)) (session plan) begun turns
+      said = subst (λ fs. outputs events ≡ said_along device (length fs) (session plan) begun turns) same
+          (ap (λ p. outputs p.events) (sym is) ∙ (goes.outcome status next left (ap (λ p. p.outcome) is)).1)
+
+      pub over_any_line : WholeOverTurns plan begun (after_pieces device (frames bytes) becames begun) turns bytes
+          events
+          status
+      over_any_line = (
+        subst (OverTurns plan begun (after_pieces device (frames bytes) becames begun) turns bytes)
+            (ap (λ p. p.events) is) (over_any_end bytes all_sent),
+        comes_over_turns plan s is_sound part_is fitted turns (after_pieces device (frames bytes) becames begun) bytes
+            (stands bytes all_sent) (outputs events) status comes said,
+      )
+
+  -- over a line that makes no frame, from the bytes that the programmer got
+  module _ (got bytes : List ℕ) (through : List Bool) (tape : Tape) (came : CameThrough got (frames bytes) through)
+      (none : MakesNoFrame device (session plan) 1 tape begun (became_by through) []) where
+    honest_bytes : AreHonest device (session plan) 1 tape begun (became_by through)
+    honest_bytes = no_frame_honest device (session plan) 1 tape begun (became_by through) [] tt none
+
+    left_bytes : after_pieces device (frames bytes) (became_by through) begun ≡ after_frames device (frames got) begun
+    left_bytes = sym (through_after device got (frames bytes) through begun came)
+
+    pub over_bytes : (left : Tape) (events : List (Event OutputEvent)) (status next : ℕ)
+        → played (session plan) 1 tape ≡ record { events = events; outcome = Some (status, next, left) }
+        → bytes_sent events ≡ bytes
+        → WholeOverTurns plan begun (after_frames device (frames got) begun)
+        (turns_heard (session plan) 1 tape (became_by through)) bytes events status
+    over_bytes left events status next is sent_is =
+        subst (λ q. WholeOverTurns plan begun q (turns_heard (session plan) 1 tape (became_by through)) bytes events
+        status) left_bytes
+        (over_any_line tape (became_by through) honest_bytes bytes left events status next is sent_is)
+
+    pub end_bytes : IsPrefixOf bytes (bytes_sent (played (session plan) 1 tape).events)
+        → OverTurns plan begun (after_frames device (frames got) begun)
+        (turns_heard (session plan) 1 tape (became_by through)) bytes
+        (played (session plan) 1 tape).events
+    end_bytes prefix =
+        subst (λ q. OverTurns plan begun q (turns_heard (session plan) 1 tape (became_by through)) bytes
+        (played (session plan) 1 tape).events) left_bytes
+        (over_any_end tape (became_by through) honest_bytes bytes prefix)
+
+  -- whatever a call came to over a link that was new
+  module _ (got : List ℕ) (through : List Bool) (old new : Devices) (status : ℕ)
+      (silent : old.link.transcript ≡ []) where
+    abbrev transcript : Transcript
+    transcript = new.link.transcript
+
+    pub over_any_run : RunsSession plan old new status
+        → CameThrough got (frames (sent transcript)) through
+        → MakesNoFrame device (session plan) 1 (heard transcript) begun (became_by through) []
+        → OverTurns plan begun (after_frames device (frames got) begun)
+        (turns_heard (session plan) 1 (heard transcript) (became_by through)) (sent transcript)
+        (played (session plan) 1 (heard transcript)).events
+    over_any_run runs came none =
+        end_bytes got (sent transcript) through (heard transcript) came none
+        (sent_first plan old new status silent runs).1

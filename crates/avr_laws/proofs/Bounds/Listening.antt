@@ -1,0 +1,287 @@
+-- How long a dialog listens: for each frame at most one silence comes, and 4,096 bytes.
+use Rattle.std.proofs.Common.{◌≡◌, ℕ, zero, suc, ◌+◌, ◌*◌, ◌<◌, ◌≤◌, List, [], ◌∷◌, ◌++◌, length, length-append, take, drop, refl, sym, ap, ◌∙◌, subst, arith, inl, inr, Option, Some, None, All}
+use Rattle.std.proofs.lemmas.Bool.{leb-true, leb-false, cases_Bool, cond-true, cond-false}
+use Rattle.std.specs.List.{concat}
+use Rattle.std.specs.Prelude.{nat_le}
+use Rattle.avr_part.specs.Part.{IsPart}
+use Rattle.avr_plan.specs.Plan.{Plan, IsFitted}
+use Rattle.avr_session.specs.Session.{session}
+use Rattle.stk_frame.specs.Cut.{cut, rest, frames}
+use Rattle.stk_frame.specs.Frame.{frame}
+use Rattle.stk_frame.proofs.Cuts.{cut_joined}
+use Rattle.stk_host.specs.Bound.{AsksAtMost, commands_in}
+use Rattle.stk_host.specs.Dialog.{Dialog, Done, Say, Ask, Event, Frame, Played, behind, by_answer, next, played, frames_in}
+use Rattle.stk_host.specs.Play.{Progress, Plays, InTurn}
+use Rattle.stk_host.specs.Transcript.{Transcript, Got, sent, heard}
+use Rattle.stk_host.specs.Tape.{Tape, Reading, on_tape, bytes_in, answer, read_to, silence_or_end, first_answer, limit, Babbled}
+use Rattle.stk_host.specs.declared.link.Item.TheVariants.{Byte, Silence, End}
+use Rattle.stk_host.proofs.Dialogs.Questions.{sends_most}
+use Rattle.stk_emu.specs.Along.{AsksBodies}
+use Rattle.avr_laws.proofs.Lines.InTurn.{sends_whole, frames_sent, due_at}
+use Rattle.avr_laws.proofs.Given.LaterAnswers.{used_within}
+use Rattle.avr_session.specs.PlanSteps.{run_steps}
+use Rattle.avr_laws.specs.Bound.{silences, bytes_on, ListensAtMost}
+use Rattle.avr_laws.proofs.AnyLine.FrameSizes.{session_asks}
+use Rattle.avr_laws.proofs.Bounds.Questions.{session_most}
+
+-- ---- tapes
+
+silences_on : (x y : Tape) → silences (x ++ y) ≡ silences x + silences y
+silences_on [] y = omega arith
+silences_on (Silence ∷ x) y = let more = silences_on x y in omega (arith, more)
+silences_on (item ∷ x) y = silences_on x y
+
+bytes_append : (x y : Tape) → bytes_on (x ++ y) ≡ bytes_on x + bytes_on y
+bytes_append [] y = omega arith
+bytes_append (Byte b ∷ x) y = let more = bytes_append x y in omega (arith, more)
+bytes_append (item ∷ x) y = bytes_append x y
+
+no_silences : (bytes : List ℕ) → silences (on_tape bytes) ≡ 0
+no_silences [] = refl
+no_silences (b ∷ bytes) = no_silences bytes
+
+all_bytes : (bytes : List ℕ) → bytes_on (on_tape bytes) ≡ length bytes
+all_bytes [] = refl
+all_bytes (b ∷ bytes) = let more = all_bytes bytes in omega (arith, more)
+
+take_few : (n : ℕ) (x : List ℕ) → length (take n x) ≤ n
+take_few zero x = omega arith
+take_few (suc n) [] = omega arith
+take_few (suc n) (b ∷ x) = let more = take_few n x in omega (arith, more)
+
+take_within : (n : ℕ) (x : List ℕ) → length (take n x) ≤ length x
+take_within zero x = omega arith
+take_within (suc n) [] = omega arith
+take_within (suc n) (b ∷ x) = let more = take_within n x in omega (arith, more)
+
+take_short : (n : ℕ) (x : List ℕ) → length (take n x) < n → length (take n x) ≡ length x
+take_short zero x few = absurd (omega (arith, few))
+take_short (suc n) [] few = refl
+take_short (suc n) (b ∷ x) few = let more = take_short n x (omega (arith, few)) in omega (arith, more)
+
+-- ---- what listening for one answer takes of a tape
+
+record Costs (tape left : Tape) : Type 0 where
+  silent : silences tape ≤ suc (silences left)
+  bytes : bytes_on tape ≤ limit + bytes_on left
+
+record Drops (n : ℕ) (tape left : Tape) : Type 0 where
+  silent : silences left ≡ silences tape
+  bytes : bytes_on tape ≡ n + bytes_on left
+
+-- so many of the bytes in front
+drops : (n : ℕ) (tape : Tape) → n ≤ length (bytes_in tape) → Drops n tape (drop n tape)
+drops zero tape le = record { silent = refl; bytes = omega arith }
+drops (suc n) (Byte b ∷ tape) le = let d = drops n tape (omega (arith, le)) in let bytes = d.bytes in
+    record { silent = d.silent; bytes = omega (arith, bytes) }
+drops (suc n) tape le = absurd (omega (arith, le))
+
+abbrev left_of : Option (Reading × Tape) → Tape
+left_of None = []
+left_of (Some (reading, left)) = left
+
+cut_within : (bytes : List ℕ) → length (concat (cut bytes)) ≤ length bytes
+cut_within bytes =
+    let all : length (concat (cut bytes)) + length (rest bytes) ≡ length bytes =
+    sym (length-append (concat (cut bytes)) (rest bytes)) ∙ ap length (cut_joined bytes) in
+    omega (arith, all)
+
+stopped_costs : (tape : Tape) (reading : Reading) (left : Tape) → silence_or_end tape ≡ Some (reading, left)
+    → (silences tape ≤ suc (silences left)) × (bytes_on tape ≡ bytes_on left)
+stopped_costs (Silence ∷ tape) reading left e =
+    subst (λ t. (silences (Silence ∷ tape) ≤ suc (silences t)) × (bytes_on (Silence ∷ tape) ≡ bytes_on t))
+    (ap left_of e) (omega arith, refl)
+stopped_costs (End ∷ tape) reading left e =
+    subst (λ t. (silences (End ∷ tape) ≤ suc (silences t)) × (bytes_on (End ∷ tape) ≡ bytes_on t)) (ap left_of e)
+    (omega arith, refl)
+stopped_costs tape reading left e = absurd (cc)
+
+dropped_costs : (n : ℕ) (tape left : Tape) → n ≤ limit → Drops n tape left → Costs tape left
+dropped_costs n tape left few d = let silent = d.silent in let bytes = d.bytes in
+    record { silent = omega (arith, silent); bytes = omega (arith, bytes, few) }
+
+read_costs : (tape : Tape) (bytes : List ℕ) (found : Option (List ℕ × ℕ)) (reading : Reading) (left : Tape)
+    → length bytes ≤ limit → length bytes ≤ length (bytes_in tape)
+    → ((body : List ℕ) (used : ℕ) → found ≡ Some (body, used) → used ≤ length bytes)
+    → read_to found bytes tape ≡ Some (reading, left) → Costs tape left
+read_costs tape bytes (Some (body, used)) reading left few within each e =
+    let inside = each body used refl in
+    subst (Costs tape) (ap left_of e) (dropped_costs used tape (drop used tape) (omega (arith, inside, few))
+    (drops used tape (omega (arith, inside, within))))
+read_costs tape bytes None reading left few within each e = elim (cases_Bool (nat_le limit (length bytes))) [
+  | inl full ↦
+      let enough : limit ≤ length bytes = leb-true limit (length bytes) full in
+      let is : drop limit tape ≡ left = ap left_of
+      (sym (cond-true (nat_le limit (length bytes)) (Some (Babbled, drop limit tape))
+      (silence_or_end (drop (length bytes) tape)) full) ∙ e) in
+      subst (Costs tape) is (dropped_costs limit tape (drop limit tape) (omega arith)
+      (drops limit tape (omega (arith, enough, within))))
+  | inr part ↦
+      let d = drops (length bytes) tape within in
+      let silent = d.silent in
+      let some = d.bytes in
+      let s = stopped_costs (drop (length bytes) tape) reading left
+      (sym (cond-false (nat_le limit (length bytes)) (Some (Babbled, drop limit tape))
+      (silence_or_end (drop (length bytes) tape)) part) ∙ e) in
+      let s0 = s.0 in
+      let s1 = s.1 in
+      record { silent = omega (arith, silent, s0); bytes = omega (arith, some, s1, few) }
+]
+
+answer_costs : (seq : ℕ) (tape : Tape) (reading : Reading) (left : Tape) → answer seq tape ≡ Some (reading, left)
+    → Costs tape left
+unfolding answer
+answer_costs seq tape reading left e =
+    let bytes = take limit (bytes_in tape) in
+    let cut_few = cut_within bytes in
+    read_costs tape bytes (first_answer seq (cut bytes)) reading left (take_few limit (bytes_in tape))
+    (take_within limit (bytes_in tape))
+    (λ body used f. let inside = used_within seq (cut bytes) body used f in omega (arith, inside, cut_few)) e
+
+-- ---- where it waits for more
+
+all_waiting : (tape : Tape) → silence_or_end (drop (length (bytes_in tape)) tape) ≡ None
+    → (silences tape ≡ 0) × (bytes_on tape ≡ length (bytes_in tape))
+all_waiting [] e = (refl, refl)
+all_waiting (Byte b ∷ tape) e = let more = all_waiting tape e in let bytes = more.1 in (more.0, omega (arith, bytes))
+all_waiting (item ∷ tape) e = absurd (cc)
+
+read_waits : (tape : Tape) (found : Option (List ℕ × ℕ)) → read_to found (take limit (bytes_in tape)) tape ≡ None
+    → (silences tape ≡ 0) × (bytes_on tape < limit)
+read_waits tape (Some (body, used)) e = absurd (cc)
+read_waits tape None e =
+    let bytes = take limit (bytes_in tape) in
+    elim (cases_Bool (nat_le limit (length bytes))) [
+      | inl full ↦ let no_none = sym (cond-true (nat_le limit (length bytes)) (Some (Babbled, drop limit tape))
+          (silence_or_end (drop (length bytes) tape)) full) ∙ e in absurd (cc)
+      | inr part ↦
+          let few : length bytes < limit = leb-false limit (length bytes) part in
+          let whole : length bytes ≡ length (bytes_in tape) = take_short limit (bytes_in tape) few in
+          let none = sym (cond-false (nat_le limit (length bytes)) (Some (Babbled, drop limit tape))
+          (silence_or_end (drop (length bytes) tape)) part) ∙ e in
+          let w = all_waiting tape (subst (λ (n : ℕ). silence_or_end (drop n tape) ≡ None) whole none) in
+          let bytes_are = w.1 in
+          (w.0, omega (arith, bytes_are, whole, few))
+    ]
+
+answer_waits_for : (seq : ℕ) (tape : Tape) → answer seq tape ≡ None → (silences tape ≡ 0) × (bytes_on tape < limit)
+unfolding answer
+answer_waits_for seq tape e = read_waits tape (first_answer seq (cut (take limit (bytes_in tape)))) e
+
+-- listening once for an answer: where more is awaited the tape had little, and where it is done that cost no more
+record ListensOnce (tape : Tape) (got : Option (Reading × Tape)) : Type 0 where
+  waiting : got ≡ None → (silences tape ≡ 0) × (bytes_on tape < limit)
+  done : (reading : Reading) (left : Tape) → got ≡ Some (reading, left) → Costs tape left
+
+answer_listens : (seq : ℕ) (tape : Tape) → ListensOnce tape (answer seq tape)
+answer_listens seq tape = record {
+  waiting = λ e. answer_waits_for seq tape e;
+  done = λ reading left e. answer_costs seq tape reading left e;
+}
+
+-- ---- a play
+
+record Listens {E R : Type 0} (p : Played E R) (tape : Tape) : Type 0 where
+  waiting : p.outcome ≡ None → (silences tape < length (frames_in p.events))
+      × (bytes_on tape < limit * length (frames_in p.events))
+  done : (r : R) (seq : ℕ) (left : Tape) → p.outcome ≡ Some (r, seq, left)
+      → (silences tape ≤ length (frames_in p.events) + silences left)
+      × (bytes_on tape ≤ limit * length (frames_in p.events) + bytes_on left)
+
+abbrev rest_of : {R : Type 0} → Option (R × ℕ × Tape) → Tape
+rest_of None = []
+rest_of (Some (r, seq, left)) = left
+
+listens_asked : {E R : Type 0} (f : List ℕ) (go_on : Reading → Tape → Played E R) (tape : Tape)
+    (got : Option (Reading × Tape)) → ListensOnce tape got
+    → ((reading : Reading) (left : Tape) → Listens (go_on reading left) left)
+    → Listens (behind (Frame f ∷ []) (by_answer go_on got)) tape
+listens_asked f go_on tape None once more = record {
+  waiting = λ e. let w = once.waiting refl in let w0 = w.0 in let w1 = w.1 in (omega (arith, w0), omega (arith, w1));
+  done = λ r seq left e. absurd (cc);
+}
+listens_asked f go_on tape (Some (reading, rest)) once more =
+    let c = once.done reading rest refl in
+    let silent = c.silent in
+    let bytes = c.bytes in
+    record {
+      waiting = λ e. let w = (more reading rest).waiting e in let w0 = w.0 in let w1 = w.1 in
+          (omega (arith, silent, w0), omega (arith, bytes, w1));
+      done = λ r seq left e. let w = (more reading rest).done r seq left e in let w0 = w.0 in let w1 = w.1 in
+          (omega (arith, silent, w0), omega (arith, bytes, w1));
+    }
+
+listens : {E R : Type 0} (d : Dialog E R) (seq : ℕ) (tape : Tape) → Listens (played d seq tape) tape
+listens (Done r) seq tape = record {
+  waiting = λ e. absurd (cc);
+  done = λ s n left e. subst (λ t. (silences tape ≤ 0 + silences t) × (bytes_on tape ≤ limit * 0 + bytes_on t))
+      (ap rest_of e) (omega arith, omega arith);
+}
+listens (Say s d) seq tape = let more = listens d seq tape in
+    record { waiting = λ e. more.waiting e; done = λ r n left e. more.done r n left e }
+listens (Ask body answered) seq tape =
+    listens_asked (frame seq body) (λ reading. played (answered reading) (next seq)) tape (answer seq tape)
+    (answer_listens seq tape) (λ reading left. listens (answered reading) (next seq) left)
+
+-- ---- a talk
+
+pub listens_at_most : {E R : Type 0} (n : ℕ) (d : Dialog E R) → AsksAtMost n d → AsksBodies d → ListensAtMost n d
+listens_at_most {E = E} {R = R} n d most bodies = record {
+  whole = λ first transcript events result last p. whole first transcript events result last p;
+  wherever = λ first before after items turns. wherever first before after items turns;
+}
+  where
+    whole : (first : Progress) (transcript : Transcript) (events : List (Event E)) (result : R) (last : Progress)
+        → Plays d first transcript events result last
+        → (length (frames_in events) ≤ n) × ((silences (heard transcript) ≤ length (frames_in events))
+        × (length first.unread + bytes_on (heard transcript) ≤ limit * length (frames_in events) + length last.unread))
+    whole first transcript events result last p =
+        let tape = on_tape first.unread ++ (heard transcript ++ []) in
+        let same : length (frames_in (played d first.next tape).events) ≡ length (frames_in events) =
+        ap (λ x. length (frames_in x.events)) (p.plays []) in
+        let l = (listens d first.next tape).done result last.next (on_tape last.unread ++ [])
+        (ap (λ x. x.outcome) (p.plays [])) in
+        let l0 = l.0 in
+        let l1 = l.1 in
+        let sends = sends_most n d first.next tape most in
+        let a0 = silences_on (on_tape first.unread) (heard transcript ++ []) in
+        let a1 = silences_on (heard transcript) [] in
+        let a2 = no_silences first.unread in
+        let a3 = silences_on (on_tape last.unread) [] in
+        let a4 = no_silences last.unread in
+        let b0 = bytes_append (on_tape first.unread) (heard transcript ++ []) in
+        let b1 = bytes_append (heard transcript) [] in
+        let b2 = all_bytes first.unread in
+        let b3 = bytes_append (on_tape last.unread) [] in
+        let b4 = all_bytes last.unread in (
+          omega (arith, sends, same),
+          (
+            omega (arith, l0, same, a0, a1, a2, a3, a4),
+            omega (arith, l1, same, b0, b1, b2, b3, b4),
+          ),
+        )
+
+    wherever : (first : Progress) (before after : Transcript) (items : Tape)
+        → InTurn d first (before ++ Got items ∷ after)
+        → (length (frames (sent before)) ≤ n) × ((silences (heard before) < length (frames (sent before)))
+        × (length first.unread + bytes_on (heard before) < limit * length (frames (sent before))))
+    wherever first before after items turns =
+        let tape = on_tape first.unread ++ heard before in
+        let due = due_at d first.next (on_tape first.unread) [] before after items turns in
+        let same : length (frames_in (played d first.next tape).events) ≡ length (frames (sent before)) =
+        sym (ap length (frames_sent (played d first.next tape).events (sends_whole d first.next tape bodies)))
+        ∙ ap (λ b. length (frames b)) due.all_sent in
+        let l = (listens d first.next tape).waiting due.waits in
+        let l0 = l.0 in
+        let l1 = l.1 in
+        let sends = sends_most n d first.next tape most in
+        let a0 = silences_on (on_tape first.unread) (heard before) in
+        let a2 = no_silences first.unread in
+        let b0 = bytes_append (on_tape first.unread) (heard before) in
+        let b2 = all_bytes first.unread in
+        (omega (arith, sends, same), (omega (arith, l0, same, a0, a2), omega (arith, l1, same, b0, b2)))
+
+pub session_listens : (plan : Plan) → IsPart plan.part → All (IsFitted plan.part) plan.tasks
+    → ListensAtMost (4 * commands_in (run_steps plan)) (session plan)
+session_listens plan sound fitted = listens_at_most (4 * commands_in (run_steps plan)) (session plan)
+    (session_most plan) (session_asks plan sound fitted)

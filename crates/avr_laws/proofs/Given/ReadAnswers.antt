@@ -1,0 +1,96 @@
+-- What a programmer answers to the commands that read, and what it is afterwards.
+use Rattle.std.proofs.Common.{◌≡◌, ℕ, ◌/◌, ◌%◌, ◌≤◌, ◌<◌, sym, ap, ◌∙◌, subst, arith, true, false}
+use Rattle.std.proofs.lemmas.Bool.{ne_eqb, eq-eqb, and_from, le-leb, le-ltb, cond-true}
+use Rattle.std.specs.Prelude.{◌==◌, ◌&&◌, not, nat_le}
+use Rattle.avr_part.specs.declared.part.Mem.TheVariants.{Flash, Eeprom}
+use Rattle.avr_part.specs.Part.{Part, IsPart}
+use Rattle.stk_frame.specs.Commands.{body}
+use Rattle.stk_frame.specs.HostCommands.{read_flash_block, read_eeprom_block}
+use Rattle.stk_host.specs.Places.{load_flash, load_eeprom}
+use Rattle.stk_emu.specs.Programmer.{Programmer, Response, with_address_moved, block, flash_looks, eeprom_looks}
+use Rattle.stk_emu.specs.Device.{device}
+use Rattle.stk_emu.specs.Effect.{Memories}
+use Rattle.stk_emu.specs.Settled.{Ready, IsNarrow}
+use Rattle.stk_emu.specs.PageWrites.{IsBlock, AreWords}
+use Rattle.stk_emu.proofs.Answers.Commands.{obeys}
+use Rattle.stk_emu.proofs.Memories.Pages.{is_wide, flash_loaded_at}
+use Rattle.stk_emu.proofs.Memories.Runs.{narrow_loaded}
+use Rattle.stk_emu.proofs.Memories.BlocksRead.{Left, flash_left, eeprom_left}
+
+flash_test : (n : ℕ) → 0 < n → n % 2 ≡ 0 → n ≤ 256 → (not (n == 0) && (n % 2 == 0) && nat_le n 272) ≡ true
+flash_test n some even few = and_from _ _
+    (and_from _ _ (ap not (ne_eqb n 0 (λ e. omega (arith, e)))) (eq-eqb (n % 2) 0 even)) (le-leb n 272 (omega arith))
+
+eeprom_test : (n : ℕ) → 0 < n → n ≤ 256 → (not (n == 0) && nat_le n 272) ≡ true
+eeprom_test n some few = and_from _ _ (ap not (ne_eqb n 0 (λ e. omega (arith, e)))) (le-leb n 272 (omega arith))
+
+-- a block of flash
+pub flash_block : (count : ℕ) (p : Programmer) → p.mode ≡ true → 0 < count → count % 2 ≡ 0 → count ≤ 256
+    → (device.answer (body (read_flash_block count)) p, device.after (body (read_flash_block count)) p)
+    ≡ block 0x14 (flash_looks p.wide 0x20 p.address 0 count p.chip) (with_address_moved (count / 2) p)
+flash_block count p mode some even few =
+    ap {A = Response} {B = Response} (λ z. (z.0, z.1))
+    (obeys (read_flash_block count) p (let l : count < 65536 = omega arith in l))
+    ∙ (ap {A = Response} {B = Response} (λ z. (z.0, z.1)) (cond-true p.mode _ _ mode)
+    ∙ ap {A = Response} {B = Response} (λ z. (z.0, z.1))
+    (cond-true (not (count == 0) && (count % 2 == 0) && nat_le count 272) _ _ (flash_test count some even few)))
+
+-- and of EEPROM
+pub eeprom_block : (count : ℕ) (p : Programmer) → p.mode ≡ true → 0 < count → count ≤ 256
+    → (device.answer (body (read_eeprom_block count)) p, device.after (body (read_eeprom_block count)) p)
+    ≡ block 0x16 (eeprom_looks 0xA0 p.address 0 count p.chip) (with_address_moved count p)
+eeprom_block count p mode some few =
+    ap {A = Response} {B = Response} (λ z. (z.0, z.1))
+    (obeys (read_eeprom_block count) p (let l : count < 65536 = omega arith in l))
+    ∙ (ap {A = Response} {B = Response} (λ z. (z.0, z.1)) (cond-true p.mode _ _ mode)
+    ∙ ap {A = Response} {B = Response} (λ z. (z.0, z.1))
+    (cond-true (not (count == 0) && nat_le count 272) _ _ (eeprom_test count some few)))
+
+module _ (part : Part) (sound : IsPart part) where
+  narrow_test : IsNarrow part → is_wide part ≡ false
+  narrow_test is_narrow = le-ltb 131072 part.flash_size is_narrow
+
+  -- the address is loaded, and the block is read
+  pub flash_read_keeps : (start count : ℕ) (m : Memories) (p : Programmer) → IsBlock part Flash start count
+      → AreWords start count → Ready part m p
+      → Ready part m (device.after (body (read_flash_block count)) (device.after (body (load_flash part start)) p))
+  flash_read_keeps start count m p is_block words s =
+      let inside = is_block.inside in
+      let most = sound.flash_most in
+      let q : Programmer = record p { address = start / 2; wide = is_wide part } in
+      let left : Left (is_wide part) p.chip (flash_looks (is_wide part) 0x20 (start / 2) 0 count p.chip).1 =
+      flash_left (is_wide part) (start / 2) 0 count p.chip in
+      let after_is : device.after (body (read_flash_block count)) (device.after (body (load_flash part start)) p)
+      ≡ record (with_address_moved (count / 2) q) { chip = record p.chip { extended = left.value } } =
+      ap (device.after (body (read_flash_block count))) (flash_loaded_at part start p (omega arith))
+      ∙ (ap {A = Response} (λ z. z.1) (flash_block count q s.mode is_block.some words.count_even is_block.few)
+      ∙ ap (λ c. record (with_address_moved (count / 2) q) { chip = c }) left.is) in
+      subst (Ready part m) (sym after_is) (record {
+        memories = s.memories;
+        part_is = s.part_is;
+        mode = s.mode;
+        flash_buffer = s.flash_buffer;
+        eeprom_buffer = s.eeprom_buffer;
+        extended = λ is_narrow. left.kept (narrow_test is_narrow) ∙ s.extended is_narrow;
+      })
+
+  pub eeprom_read_keeps : (start count : ℕ) (m : Memories) (p : Programmer) → IsBlock part Eeprom start count
+      → Ready part m p
+      → Ready part m (device.after (body (read_eeprom_block count)) (device.after (body (load_eeprom start)) p))
+  eeprom_read_keeps start count m p is_block s =
+      let inside = is_block.inside in
+      let most = sound.eeprom_most in
+      let q : Programmer = record p { address = start; wide = false } in
+      let after_is : device.after (body (read_eeprom_block count)) (device.after (body (load_eeprom start)) p)
+      ≡ with_address_moved count q =
+      ap (device.after (body (read_eeprom_block count))) (narrow_loaded start p (omega arith))
+      ∙ (ap {A = Response} (λ z. z.1) (eeprom_block count q s.mode is_block.some is_block.few)
+      ∙ ap (λ c. record (with_address_moved count q) { chip = c }) (eeprom_left start 0 count p.chip)) in
+      subst (Ready part m) (sym after_is) (record {
+        memories = s.memories;
+        part_is = s.part_is;
+        mode = s.mode;
+        flash_buffer = s.flash_buffer;
+        eeprom_buffer = s.eeprom_buffer;
+        extended = s.extended;
+      })

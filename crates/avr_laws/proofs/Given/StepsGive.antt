@@ -1,0 +1,313 @@
+-- What each step gives from a settled programmer: nothing, or the bytes of the memories.
+use Rattle.std.proofs.Common.{◌≡◌, ℕ, ◌+◌, ◌-◌, ◌*◌, ◌/◌, ◌%◌, ◌^◌, ◌≤◌, ◌<◌, List, [], ◌∷◌, ◌++◌, length, get_or, take, drop, refl, sym, ap, ◌∙◌, subst, arith, inl, inr, ◌⊎◌, true, false, cond, Ok, drop-cons, length-append}
+use Rattle.std.proofs.lemmas.Bool.{ne_eqb, eq-eqb, ltb-false, cond-true, cond-false}
+use Rattle.std.proofs.lemmas.List.{length-take, length-drop, get_or-append_right, take-append-le, take_all}
+use Rattle.std.proofs.Math.Nat.{mod-eq_of_lt}
+use Rattle.std.specs.Prelude.{◌==◌, ◌&&◌, not, slice_index}
+use Rattle.avr_part.specs.declared.part.Mem.TheVariants.{Flash, Eeprom}
+use Rattle.avr_part.specs.Part.{Part, IsPart}
+use Rattle.stk_frame.specs.declared.answer.Shape.TheVariants.{Closed}
+use Rattle.stk_frame.specs.declared.command.Command.{Command}
+use Rattle.stk_frame.specs.declared.host_command.Fuse.{Fuse}
+use Rattle.stk_frame.specs.declared.host_command.Fuse.TheVariants.{Low, High, Extended}
+use Rattle.stk_frame.specs.Commands.{body, data_of}
+use Rattle.stk_frame.specs.Decoding as decoding
+use Rattle.stk_frame.specs.HostCommands.{erase, program_page, program_eeprom_block, program_fuse, program_lock, read_flash_block, read_eeprom_block, read_fuse, read_lock, read_signature, read_calibration}
+use Rattle.stk_host.specs.Tape.{Answered}
+use Rattle.stk_host.specs.Places.{flash_address, load_flash, load_eeprom}
+use Rattle.stk_host.specs.Steps.{Data, answer_reply, reading_reply}
+use Rattle.stk_host.proofs.ImagePlaces.PagesAndRuns.{page_most}
+use Rattle.stk_emu.specs.Programmer.{Programmer, obey_command, flash_looks, eeprom_looks}
+use Rattle.stk_emu.specs.Programmer as programmer
+use Rattle.stk_emu.specs.Device.{Device, device}
+use Rattle.stk_emu.specs.Effect.{Memories, effect, effects, Item}
+use Rattle.stk_emu.specs.Settled.{Settled, Ready, FitsPart}
+use Rattle.stk_emu.specs.PageWrites.{changed, page_write_of, IsStep, Erases, ProgramsPage, ProgramsRun, ProgramsFuse, ProgramsLock, ReadsFlash, ReadsEeprom, ReadsFuse, ReadsLock, ReadsSignature, ReadsCalibration, IsPage, FitsEepromPage, IsBlock, AreWords}
+use Rattle.stk_emu.specs.Given.{given_by, on_data, reply_to, joined_reply, Gives}
+use Rattle.stk_emu.proofs.Answers.Commands.{obeys, load_keeps, settled_ready}
+use Rattle.stk_emu.proofs.Memories.Pages.{is_wide, flash_loaded_at, flash_address_back, flash_test}
+use Rattle.stk_emu.proofs.Memories.Runs.{narrow_loaded, program_test}
+use Rattle.stk_emu.proofs.Memories.BlocksRead.{Looked, flash_looked, eeprom_looked}
+use Rattle.avr_laws.proofs.Given.ReadAnswers.{flash_block, eeprom_block}
+use Rattle.avr_laws.proofs.PageWrites.Steps.{address_fits}
+use Rattle.avr_laws.proofs.PageWrites.OutsideMode.{in_mode_by_data, load_reply}
+use Rattle.avr_laws.proofs.PageWrites.Items.{effect_sizes, flash_even}
+
+module _ {P : Type 0} (m : Device P) where
+  one_gathered : (c : Command) (p : P) (bytes : List ℕ) → reply_to m c p ≡ Data bytes
+      → joined_reply m (c ∷ []) [] p ≡ Data bytes
+  one_gathered c p bytes e = ap (λ r. on_data r (λ b. Data b)) e
+
+  two_gathered : (c d : Command) (p : P) (bytes : List ℕ) → reply_to m c p ≡ Data []
+      → reply_to m d (m.after (body c) p) ≡ Data bytes → joined_reply m (c ∷ d ∷ []) [] p ≡ Data bytes
+  two_gathered c d p bytes e f =
+      ap (λ r. on_data r (λ a. on_data (reply_to m d (m.after (body c) p)) (λ b. Data (a ++ b)))) e
+      ∙ ap (λ r. on_data r (λ b. Data b)) f
+
+-- how a command is answered in programming mode
+reply_is : (c : Command) (p : Programmer) → decoding.FieldsFit c
+    → reply_to device c p ≡ reading_reply c (Answered (obey_command c p).0)
+reply_is c p fits = ap (λ (z : programmer.Response). reading_reply c (Answered z.0)) (obeys c p fits)
+
+in_mode_reply : (c : Command) (p : Programmer) (x y : programmer.Response) → p.mode ≡ true
+    → reading_reply c (Answered (cond p.mode x y).0) ≡ reading_reply c (Answered x.0)
+in_mode_reply c p x y e = ap (λ (z : programmer.Response). reading_reply c (Answered z.0)) (cond-true p.mode x y e)
+
+-- data after which a good status stands
+closed_data : (n : ℕ) (bytes : List ℕ) → length bytes ≡ n → data_of (Closed n) (bytes ++ 0 ∷ []) ≡ Ok bytes
+closed_data n bytes len =
+    let long : length (bytes ++ 0 ∷ []) ≡ n + 1 = length-append bytes (0 ∷ []) ∙ ap (λ k. k + 1) len in
+    let last : slice_index (bytes ++ 0 ∷ []) n ≡ 0 =
+    get_or-append_right bytes (0 ∷ []) n n 0 len (omega arith)
+    ∙ ap (λ j. get_or (0 ∷ []) j 0) (let e : n - n ≡ 0 = omega arith in e) in
+    let prefix : take n (bytes ++ 0 ∷ []) ≡ bytes =
+    take-append-le n bytes (0 ∷ []) (omega (arith, len)) ∙ take_all n bytes (omega (arith, len)) in
+    cond-true (length (bytes ++ 0 ∷ []) == n + 1) _ _ (eq-eqb (length (bytes ++ 0 ∷ [])) (n + 1) long)
+    ∙ (cond-true (slice_index (bytes ++ 0 ∷ []) n == 0) _ _ (eq-eqb (slice_index (bytes ++ 0 ∷ []) n) 0 last)
+    ∙ ap Ok prefix)
+
+page_reply : (page : List ℕ) (p : Programmer) → p.mode ≡ true → 0 < length page → length page < 65536
+    → length page % 2 ≡ 0 → reply_to device (program_page page) p ≡ Data []
+page_reply page p mode some few even =
+    reply_is (program_page page) p few
+    ∙ (in_mode_reply (program_page page) p _ _ mode
+    ∙ ap (λ (z : programmer.Response). reading_reply (program_page page) (Answered z.0))
+    (cond-true (not (length page == 0) && (length page % 2 == 0) && (length page == length page) && true) _ _
+    (flash_test (length page) some even)))
+
+run_reply : (run : List ℕ) (p : Programmer) → p.mode ≡ true → 0 < length run → length run < 65536
+    → reply_to device (program_eeprom_block run) p ≡ Data []
+run_reply run p mode some few =
+    reply_is (program_eeprom_block run) p few
+    ∙ (in_mode_reply (program_eeprom_block run) p _ _ mode
+    ∙ ap (λ (z : programmer.Response). reading_reply (program_eeprom_block run) (Answered z.0))
+    (cond-true (not (length run == 0) && (length run == length run)) _ _ (program_test (length run) some)))
+
+fuse_reply : (f : Fuse) (v : ℕ) (p : Programmer) → p.mode ≡ true → reply_to device (program_fuse f v) p ≡ Data []
+fuse_reply Low v p e = in_mode_reply (program_fuse Low v) p _ _ e
+fuse_reply f v p e = in_mode_reply (program_fuse f v) p _ _ e
+
+flash_read_reply : (count : ℕ) (bytes : List ℕ) (p : Programmer) → p.mode ≡ true → 0 < count → count % 2 ≡ 0
+    → count ≤ 256 → (flash_looks p.wide 0x20 p.address 0 count p.chip).0 ≡ bytes → length bytes ≡ count
+    → reply_to device (read_flash_block count) p ≡ Data bytes
+flash_read_reply count bytes p mode some even few is len =
+    ap (λ (z : programmer.Response). reading_reply (read_flash_block count) (Answered z.0))
+    (flash_block count p mode some even few)
+    ∙ (ap (λ bs. answer_reply (read_flash_block count) (data_of (Closed count) (bs ++ 0 ∷ []))) is
+    ∙ ap (answer_reply (read_flash_block count)) (closed_data count bytes len))
+
+eeprom_read_reply : (count : ℕ) (bytes : List ℕ) (p : Programmer) → p.mode ≡ true → 0 < count → count ≤ 256
+    → (eeprom_looks 0xA0 p.address 0 count p.chip).0 ≡ bytes → length bytes ≡ count
+    → reply_to device (read_eeprom_block count) p ≡ Data bytes
+eeprom_read_reply count bytes p mode some few is len =
+    ap (λ (z : programmer.Response). reading_reply (read_eeprom_block count) (Answered z.0))
+    (eeprom_block count p mode some few)
+    ∙ (ap (λ bs. answer_reply (read_eeprom_block count) (data_of (Closed count) (bs ++ 0 ∷ []))) is
+    ∙ ap (answer_reply (read_eeprom_block count)) (closed_data count bytes len))
+
+module _ (part : Part) (sound : IsPart part) where
+  block_length : (start count size : ℕ) (xs : List ℕ) → length xs ≡ size → start + count ≤ size
+      → length (take count (drop start xs)) ≡ count
+  block_length start count size xs long fits = let t = length-take count (drop start xs) in let d =
+      length-drop start xs in omega (arith, t, d, long, fits)
+
+  flash_given : (start count : ℕ) (m : Memories) (p : Programmer) → IsBlock part Flash start count
+      → AreWords start count → FitsPart part m → Ready part m p
+      → joined_reply device (load_flash part start ∷ read_flash_block count ∷ []) [] p
+      ≡ Data (given_by part (load_flash part start ∷ read_flash_block count ∷ []) m)
+  flash_given start count m p is_block words f s =
+      let inside = is_block.inside in
+      let most = sound.flash_most in
+      let few : start < 4294967296 = omega arith in
+      let halves : start / 2 * 2 + 0 ≡ start = let e = words.start_even in omega arith in
+      let q : Programmer = record p { address = start / 2; wide = is_wide part } in
+      let long : length p.chip.flash ≡ part.flash_size = ap (λ (x : Memories). length x.flash) s.memories ∙ f.flash in
+      let looked : Looked (is_wide part) (start / 2 * 2 + 0) count p.chip
+      (flash_looks (is_wide part) 0x20 (start / 2) 0 count p.chip) =
+      flash_looked (is_wide part) (start / 2) 0 count part.flash_size p.chip (ap (λ (x : Part). x.flash_size) s.part_is)
+      long most (flash_even part sound) (omega arith)
+      (λ narrow. let size = ltb-false 131072 part.flash_size narrow in (s.extended size, size)) in
+      let bytes = take count (drop start m.flash) in
+      let is : (flash_looks (is_wide part) 0x20 (start / 2) 0 count p.chip).0 ≡ bytes =
+      looked.bytes ∙ (ap (λ j. take count (drop j p.chip.flash)) halves
+      ∙ ap (λ (x : Memories). take count (drop start x.flash)) s.memories) in
+      two_gathered device (load_flash part start) (read_flash_block count) p
+      (given_by part (load_flash part start ∷ read_flash_block count ∷ []) m)
+      (load_reply (flash_address part start) p (address_fits part sound start few))
+      (ap (reply_to device (read_flash_block count)) (flash_loaded_at part start p few)
+      ∙ (flash_read_reply count bytes q s.mode is_block.some words.count_even is_block.few is
+      (block_length start count part.flash_size m.flash f.flash inside)
+      ∙ ap (λ a. Data (take count (drop a m.flash))) (sym (flash_address_back part start few words.start_even))))
+
+  eeprom_given : (start count : ℕ) (m : Memories) (p : Programmer) → IsBlock part Eeprom start count → FitsPart part m
+      → Ready part m p
+      → joined_reply device (load_eeprom start ∷ read_eeprom_block count ∷ []) [] p
+      ≡ Data (given_by part (load_eeprom start ∷ read_eeprom_block count ∷ []) m)
+  eeprom_given start count m p is_block f s =
+      let inside = is_block.inside in
+      let most = sound.eeprom_most in
+      let q : Programmer = record p { address = start; wide = false } in
+      let long : length p.chip.eeprom ≡ part.eeprom_size =
+      ap (λ (x : Memories). length x.eeprom) s.memories ∙ f.eeprom in
+      let looked = eeprom_looked start 0 count part.eeprom_size p.chip (ap (λ (x : Part). x.eeprom_size) s.part_is) long
+      most (omega arith) in
+      let bytes = take count (drop start m.eeprom) in
+      let is : (eeprom_looks 0xA0 start 0 count p.chip).0 ≡ bytes =
+      ap (λ z. z.0) looked ∙ (ap (λ j. take count (drop j p.chip.eeprom)) (let e : start + 0 ≡ start = omega arith in e)
+      ∙ ap (λ (x : Memories). take count (drop start x.eeprom)) s.memories) in
+      two_gathered device (load_eeprom start) (read_eeprom_block count) p bytes
+      (load_reply start p (omega arith))
+      (ap (reply_to device (read_eeprom_block count)) (narrow_loaded start p (omega arith))
+      ∙ eeprom_read_reply count bytes q s.mode is_block.some is_block.few is
+      (block_length start count part.eeprom_size m.eeprom f.eeprom inside))
+
+  fuse_given : (f : Fuse) (m : Memories) (p : Programmer) → Ready part m p
+      → reply_to device (read_fuse f) p ≡ Data (given_by part (read_fuse f ∷ []) m)
+  fuse_given Low m p s = in_mode_reply (read_fuse Low) p _ _ s.mode
+      ∙ ap (λ (x : Memories). Data (x.lfuse ∷ [])) s.memories
+  fuse_given High m p s = in_mode_reply (read_fuse High) p _ _ s.mode
+      ∙ ap (λ (x : Memories). Data (x.hfuse ∷ [])) s.memories
+  fuse_given Extended m p s = in_mode_reply (read_fuse Extended) p _ _ s.mode
+      ∙ ap (λ (x : Memories). Data (x.efuse ∷ [])) s.memories
+
+  lock_given : (m : Memories) (p : Programmer) → Ready part m p
+      → reply_to device read_lock p ≡ Data (given_by part (read_lock ∷ []) m)
+  lock_given m p s = in_mode_reply read_lock p _ _ s.mode ∙ ap (λ (x : Memories). Data (x.lock ∷ [])) s.memories
+
+  signature_given : (place : ℕ) (m : Memories) (p : Programmer) → place < 3 → Ready part m p
+      → reply_to device (read_signature place) p ≡ Data (given_by part (read_signature place ∷ []) m)
+  signature_given place m p few s =
+      let small : place % 4 ≡ place = mod-eq_of_lt (omega arith) in
+      in_mode_reply (read_signature place) p _ _ s.mode
+      ∙ (ap (λ n. Data (cond (n == 3) 255 (slice_index p.chip.part.signature n) ∷ [])) small
+      ∙ (ap (λ b. Data (b ∷ [])) (cond-false (place == 3) 255 (slice_index p.chip.part.signature place)
+      (ne_eqb place 3 (λ e. omega (arith, e))))
+      ∙ (ap (λ (x : Part). Data (slice_index x.signature place ∷ [])) s.part_is
+      ∙ ap Data (ap (take 1) (sym (drop-cons part.signature place 0 (omega (arith, sound.signature))))))))
+
+  calibration_given : (m : Memories) (p : Programmer) → Ready part m p
+      → reply_to device read_calibration p ≡ Data (given_by part (read_calibration ∷ []) m)
+  calibration_given m p s = in_mode_reply read_calibration p _ _ s.mode
+
+  -- from the commands as they are written
+  as_written : (written commands : List Command) (m : Memories) (p : Programmer) → commands ≡ written
+      → joined_reply device written [] p ≡ Data (given_by part written m)
+      → joined_reply device commands [] p ≡ Data (given_by part commands m)
+  as_written written commands m p e given =
+      subst (λ cs. joined_reply device cs [] p ≡ Data (given_by part cs m)) (sym e) given
+
+  page_given : (number : ℕ) (bytes : List ℕ) (m : Memories) (p : Programmer) → IsPage part number bytes → Ready part m p
+      → joined_reply device (load_flash part (number * part.flash_page) ∷ program_page bytes ∷ []) [] p ≡ Data []
+  page_given number bytes m p is_page s =
+      let inside = is_page.inside in
+      let count = is_page.whole in
+      let most = sound.flash_most in
+      let some = sound.flash_page in
+      let short = page_most part.flash_page (omega arith) sound.flash_fits in
+      let few : flash_address part (number * part.flash_page) < 2 ^ 32 =
+      address_fits part sound (number * part.flash_page) (omega arith) in
+      let s' = load_keeps part (flash_address part (number * part.flash_page)) m p few s in
+      two_gathered device (load_flash part (number * part.flash_page)) (program_page bytes) p []
+      (load_reply (flash_address part (number * part.flash_page)) p few)
+      (page_reply bytes _ s'.mode (omega arith) (omega arith) (ap (λ x. x % 2) count ∙ sound.flash_halves))
+
+  run_given : (address : ℕ) (bytes : List ℕ) (m : Memories) (p : Programmer) → FitsEepromPage part address bytes
+      → Ready part m p → joined_reply device (load_eeprom address ∷ program_eeprom_block bytes ∷ []) [] p ≡ Data []
+  run_given address bytes m p is_run s =
+      let inside = is_run.inside in
+      let most = sound.eeprom_most in
+      let few : address < 2 ^ 32 = omega arith in
+      let s' = load_keeps part address m p few s in
+      two_gathered device (load_eeprom address) (program_eeprom_block bytes) p [] (load_reply address p few)
+      (run_reply bytes _ s'.mode is_run.some (omega arith))
+
+  -- all commands of a step, each obeyed and answered
+  pub step_data : (commands : List Command) (m : Memories) (p : Programmer) → IsStep part commands → FitsPart part m
+      → Ready part m p → joined_reply device commands [] p ≡ Data (given_by part commands m)
+  step_data commands m p (Erases e) f s = as_written _ commands m p e
+      (one_gathered device erase p [] (in_mode_reply erase p _ _ s.mode))
+  step_data commands m p (ProgramsPage number bytes is_page e) f s =
+      as_written _ commands m p e (page_given number bytes m p is_page s)
+  step_data commands m p (ProgramsRun address bytes is_run e) f s =
+      as_written _ commands m p e (run_given address bytes m p is_run s)
+  step_data commands m p (ProgramsFuse fuse v e) f s =
+      as_written _ commands m p e (one_gathered device (program_fuse fuse v) p [] (fuse_reply fuse v p s.mode))
+  step_data commands m p (ProgramsLock v e) f s =
+      as_written _ commands m p e (one_gathered device (program_lock v) p []
+      (in_mode_reply (program_lock v) p _ _ s.mode))
+  step_data commands m p (ReadsFlash start count is_block words e) f s =
+      as_written _ commands m p e (flash_given start count m p is_block words f s)
+  step_data commands m p (ReadsEeprom start count is_block e) f s =
+      as_written _ commands m p e (eeprom_given start count m p is_block f s)
+  step_data commands m p (ReadsFuse fuse e) f s =
+      as_written _ commands m p e (one_gathered device (read_fuse fuse) p _ (fuse_given fuse m p s))
+  step_data commands m p (ReadsLock e) f s =
+      as_written _ commands m p e (one_gathered device read_lock p _ (lock_given m p s))
+  step_data commands m p (ReadsSignature place few e) f s =
+      as_written _ commands m p e (one_gathered device (read_signature place) p _ (signature_given place m p few s))
+  step_data commands m p (ReadsCalibration e) f s =
+      as_written _ commands m p e (one_gathered device read_calibration p _ (calibration_given m p s))
+
+-- what a step does keeps the sizes
+changed_sizes_by : (part : Part) (items : List Item) (m : Memories) → IsPart part → FitsPart part m
+    → FitsPart part (effects part items m)
+changed_sizes_by part [] m sound f = f
+changed_sizes_by part (item ∷ items) m sound f =
+    changed_sizes_by part items (effect part item m) sound (effect_sizes part sound item m f)
+
+pub changed_sizes : (part : Part) (commands : List Command) (m : Memories) → IsPart part → FitsPart part m
+    → FitsPart part (changed part commands m)
+changed_sizes part commands m sound f = changed_sizes_by part (page_write_of commands) m sound f
+
+module _ (part : Part) (sound : IsPart part) where
+  -- a step that writes gives nothing, and one that reads changes nothing
+  same_as : (written commands : List Command) (m : Memories) → commands ≡ written
+      → given_by part written (changed part written m) ≡ given_by part written m
+      → given_by part commands (changed part commands m) ≡ given_by part commands m
+  same_as written commands m e same = subst (λ cs. given_by part cs (changed part cs m) ≡ given_by part cs m) (sym e)
+      same
+
+  fuse_same : (f : Fuse) (m : Memories) → given_by part (read_fuse f ∷ []) (changed part (read_fuse f ∷ []) m)
+      ≡ given_by part (read_fuse f ∷ []) m
+  fuse_same Low m = refl
+  fuse_same f m = refl
+
+  fuse_none : (f : Fuse) (v : ℕ) (m : Memories)
+      → given_by part (program_fuse f v ∷ []) (changed part (program_fuse f v ∷ []) m)
+      ≡ given_by part (program_fuse f v ∷ []) m
+  fuse_none Low v m = refl
+  fuse_none f v m = refl
+
+  pub given_same : (commands : List Command) (m : Memories) → IsStep part commands
+      → given_by part commands (changed part commands m) ≡ given_by part commands m
+  given_same commands m (Erases e) = same_as _ commands m e refl
+  given_same commands m (ProgramsPage number bytes is_page e) = same_as _ commands m e refl
+  given_same commands m (ProgramsRun address bytes is_run e) = same_as _ commands m e refl
+  given_same commands m (ProgramsFuse fuse v e) = same_as _ commands m e (fuse_none fuse v m)
+  given_same commands m (ProgramsLock v e) = same_as _ commands m e refl
+  given_same commands m (ReadsFlash start count is_block words e) = same_as _ commands m e refl
+  given_same commands m (ReadsEeprom start count is_block e) = same_as _ commands m e refl
+  given_same commands m (ReadsFuse fuse e) = same_as _ commands m e (fuse_same fuse m)
+  given_same commands m (ReadsLock e) = same_as _ commands m e refl
+  given_same commands m (ReadsSignature place few e) = same_as _ commands m e refl
+  given_same commands m (ReadsCalibration e) = same_as _ commands m e refl
+
+  same_data : (a b : List ℕ) → Data a ≡ Data b → a ≡ b
+  same_data a b e = cc
+
+  -- what an attempt from under either condition gives is what the memories hold
+  pub gives_given : (commands : List Command) (m : Memories) (got : List ℕ) → IsStep part commands → FitsPart part m
+      → Gives device commands (Settled part m) (Settled part (changed part commands m)) got
+      → got ≡ given_by part commands m
+  gives_given commands m got is f g = same_data got (given_by part commands m)
+      (sym g.is ∙ from_either g.from g.stood g.is)
+    where
+      from_either : (q : Programmer) → Settled part m q ⊎ Settled part (changed part commands m) q
+          → joined_reply device commands [] q ≡ Data got
+          → joined_reply device commands [] q ≡ Data (given_by part commands m)
+      from_either q (inl t) has = step_data part sound commands m q is f
+          (settled_ready part m q (in_mode_by_data part sound commands q got is has) t)
+      from_either q (inr t) has =
+          step_data part sound commands (changed part commands m) q is (changed_sizes part commands m sound f)
+          (settled_ready part (changed part commands m) q (in_mode_by_data part sound commands q got is has) t)
+          ∙ ap Data (given_same commands m is)

@@ -1,0 +1,168 @@
+-- The operations of a host over any line, in the logic of dialogs: what holds during and after them.
+use Rattle.std.proofs.Common.{◌≡◌, ℕ, zero, suc, List, [], ◌∷◌, ◌++◌, length, append_assoc, refl, sym, ap, ◌∙◌, subst, ◌⊎◌, inl, inr, Ok, Err, Result}
+use Rattle.std.proofs.lemmas.List.{append-nil}
+use Rattle.std.specs.Prelude.{⊤}
+use Rattle.avr_part.specs.Part.{Part, IsPart}
+use Rattle.stk_frame.specs.declared.command.Command.{Command}
+use Rattle.stk_frame.specs.declared.command.Command.TheVariants.{SignOn}
+use Rattle.stk_frame.specs.HostCommands.{enter, leave}
+use Rattle.stk_host.specs.declared.fault.HostFault.{HostFault}
+use Rattle.stk_host.specs.declared.fault.StepFault.{StepFault}
+use Rattle.stk_host.specs.Dialog.{Dialog, Done, Say, Ask, ◌>>=◌, lifted}
+use Rattle.stk_host.specs.Steps.{StepOutcome, step, if_done, play}
+use Rattle.stk_host.specs.ReadSteps.{signature_steps}
+use Rattle.stk_host.specs.Operations.{host_fault, handshake, without_bytes, closing, judged_by, operation}
+use Rattle.stk_host.proofs.Dialogs.Logic.{OnOutcome, done, bind, told, wider, on_data}
+use Rattle.stk_emu.specs.Turn.{Turn, other_turns}
+use Rattle.stk_emu.specs.Programmer.{Programmer}
+use Rattle.stk_emu.specs.Device.{Device, device}
+use Rattle.stk_emu.specs.Along.{LineState, along}
+use Rattle.stk_emu.specs.Effect.{Memories}
+use Rattle.stk_emu.specs.Fits.{Fits}
+use Rattle.stk_emu.specs.Given.{given_by, all_given, Gives}
+use Rattle.stk_emu.specs.Settled.{Idle, Settled, FitsPart}
+use Rattle.avr_part.specs.declared.part.Mem.TheVariants.{Signature}
+use Rattle.stk_emu.specs.PageWrites.{changed, changed_by, AreSteps}
+use Rattle.avr_laws.proofs.PageWrites.Items.{read_are_steps}
+use Rattle.avr_laws.proofs.AnyLine.FirstSteps.{quiet_stays, read_quiet}
+use Rattle.avr_laws.proofs.Leads.{Reached, AfterSteps, AfterBeginning}
+use Rattle.avr_laws.proofs.Hosts.Attempts.{along_bind, onward}
+use Rattle.avr_laws.proofs.PageWrites.Steps.{sign_on_fits, enter_fits}
+use Rattle.stk_emu.proofs.Answers.Commands.{settled_idle}
+use Rattle.avr_laws.proofs.Given.WholeMemories.{one_by_one}
+use Rattle.avr_laws.proofs.PageWrites.OutsideMode.{step_fits}
+use Rattle.avr_laws.proofs.Given.StepsGive.{gives_given, changed_sizes}
+use Rattle.avr_laws.proofs.Hosts.AnyTurn.{any_turn, Keeps, step_leads}
+
+module _ (part : Part) (sound : IsPart part) where
+  one_more : (commands : List Command) (steps : List (List Command)) (m : Memories) (q : Programmer)
+      → Reached part steps (changed part commands m) q → Reached part (commands ∷ steps) m q
+  one_more commands steps m q r = record { count = suc r.count; stands = r.stands }
+
+  -- after a play of steps: as after all of them, with what they give; after a fault as after some first ones
+  stepped : (commands : List Command) (steps : List (List Command)) (m : Memories) (before bytes : List ℕ)
+      (o : StepOutcome)
+      (q : Programmer) → bytes ≡ given_by part commands m
+      → AfterSteps part steps (changed part commands m) (before ++ bytes) o q
+      → AfterSteps part (commands ∷ steps) m before o q
+  stepped commands steps m before bytes (Ok got) q is a = (
+    a.0,
+    a.1 ∙ (append_assoc before bytes (all_given part steps (changed part commands m))
+        ∙ ap (λ x. before ++ (x ++ all_given part steps (changed part commands m))) is),
+  )
+  stepped commands steps m before bytes (Err fault) q is a = one_more commands steps m q a
+
+  play_goes : (steps : List (List Command)) (m : Memories) (before : List ℕ) (p : Programmer) → AreSteps part steps
+      → FitsPart part m → Settled part m p
+      → Keeps device (Reached part steps m) (AfterSteps part steps m before) (play steps before) p
+  unfolding play
+  play_goes [] m before p are f s = done (s, sym (append-nil before))
+  play_goes (commands ∷ steps) m before p are f s =
+      bind
+      (step_leads device commands (Settled part m) (Settled part (changed part commands m))
+      (step_fits part sound commands m are.0) (Reached part (commands ∷ steps) m)
+      (AfterSteps part (commands ∷ steps) m before) p (λ q t. record { count = 0; stands = t })
+      (λ q t. record { count = 1; stands = t }) (λ fault q r. r) s)
+      (on_data (any_turn device) (λ bytes q. Reached part (commands ∷ steps) m q)
+      (λ bytes. play steps (before ++ bytes))
+      (λ bytes q x.
+      wider (λ b r y. one_more commands steps m r y) (λ e r y. y)
+      (λ o r a. stepped commands steps m before bytes o r (gives_given part sound commands m bytes are.0 f x.1) a)
+      (play_goes steps (changed part commands m) (before
+      ++ bytes) q are.1 (changed_sizes part commands m sound f) x.0)))
+
+  -- after an operation: its data, judged; or the fault of a step
+  abbrev pub AfterCall : {A : Type 0} → List (List Command) → Memories → (List ℕ → Result A HostFault)
+      → Result A HostFault → Programmer → Type 0
+  AfterCall steps m judge r q =
+      (Settled part (changed_by part (length steps) steps m) q × (r ≡ judge (all_given part steps m)))
+      ⊎ ((fault : StepFault) × (r ≡ Err (host_fault fault)) × Reached part steps m q)
+
+  pub operation_goes : {A : Type 0} (steps : List (List Command)) (m : Memories) (judge : List ℕ → Result A HostFault)
+      (p : Programmer) → AreSteps part steps → FitsPart part m → Settled part m p
+      → Keeps device (Reached part steps m) (AfterCall steps m judge) (operation steps judge) p
+  unfolding operation
+  operation_goes {A = A} steps m judge p are f s = told (judged_by judge) (play_goes steps m [] p are f s) judged
+    where
+      judged : (o : StepOutcome) (q : Programmer) → AfterSteps part steps m [] o q
+          → AfterCall steps m judge (judged_by judge o) q
+      judged (Ok got) q a = inl (a.0, ap judge a.1)
+      judged (Err fault) q a = inr (fault, refl, a)
+
+  -- the signature
+  idle_reached : (m : Memories) (q : Programmer) → Reached part signature_steps m q → Idle part m q
+  idle_reached m q r = settled_idle part m q (subst (λ z. Settled part z q)
+      (quiet_stays part r.count signature_steps m (read_quiet part Signature)) r.stands)
+
+  pub beginning_goes : (m : Memories) (p : Programmer) → FitsPart part m → Idle part m p
+      → Keeps device (Idle part m) (AfterBeginning part m) handshake p
+  unfolding handshake
+  beginning_goes m p f idle =
+      bind
+      (step_leads device (SignOn ∷ []) (Idle part m) (Idle part m) (sign_on_fits part m) (Idle part m)
+      (AfterBeginning part m) p (λ q i. i) (λ q i. i) (λ fault q i. i) idle)
+      (on_data (any_turn device) (λ bytes q. Idle part m q)
+      (λ name. step (enter ∷ []) >>= if_done (λ nothing. play signature_steps []))
+      (λ name q i.
+      bind
+      (step_leads device (enter ∷ []) (Idle part m) (Settled part m) (enter_fits part m) (Idle part m)
+      (AfterBeginning part m) q (λ r j. j) (λ r j. settled_idle part m r j) (λ fault r j. j) i.0)
+      (on_data (any_turn device) (λ bytes q. Idle part m q) (λ nothing. play signature_steps [])
+      (λ nothing r t. wider (λ bytes z y. idle_reached m z y) (λ e z y. y) begun
+      (play_goes signature_steps m [] r (read_are_steps part sound Signature) f t.0)))))
+    where
+      begun : (o : StepOutcome) (q : Programmer) → AfterSteps part signature_steps m [] o q → AfterBeginning part m o q
+      begun (Ok got) q a = (a.0, a.1 ∙ one_by_one part.signature sound.signature)
+      begun (Err fault) q a = idle_reached m q a
+
+-- to close a session, which keeps what to leave programming mode keeps; its fault is a step's
+abbrev pub IsClosed : Result ⊤ HostFault → Type 0
+IsClosed r = (r ≡ Ok tt) ⊎ ((fault : StepFault) × (r ≡ Err (host_fault fault)))
+
+pub closing_goes : (Stands : Programmer → Type 0) → Fits device (leave ∷ []) Stands Stands → (p : Programmer) → Stands p
+    → Keeps device Stands (λ r q. Stands q × IsClosed r) closing p
+unfolding closing
+closing_goes Stands fits p stands =
+    told without_bytes (step_leads device (leave ∷ []) Stands Stands fits Stands (λ o q. Stands q) p (λ q i. i)
+    (λ q i. i) (λ fault q i. i) stands) left
+  where
+    left : (o : StepOutcome) (q : Programmer)
+        → OnOutcome (λ got q. Stands q × Gives device (leave ∷ []) Stands Stands got)
+        (λ o q. Stands q) o q → Stands q × IsClosed (without_bytes o)
+    left (Ok bytes) q i = (i.0, inl refl)
+    left (Err fault) q i = (i, inr (fault, refl))
+
+-- ---- along a line
+
+-- a dialog that says nothing beside the line, as a part of one that does
+abbrev raised : {E R P : Type 0} → LineState ⊥ R P → LineState E R P
+raised s = record { dialog = lifted s.dialog; programmer = s.programmer; turns = s.turns; left = s.left }
+
+-- a dialog whose result is only reported otherwise
+abbrev reported : {E A B P : Type 0} → (A → B) → LineState E A P → LineState E B P
+reported tell s = record {
+  dialog = s.dialog >>= (λ a. Done (tell a));
+  programmer = s.programmer;
+  turns = s.turns;
+  left = s.left;
+}
+
+-- either goes along as the dialog itself does
+module _ {E P : Type 0} (m : Device P) where
+  pub along_lifted : {R : Type 0} (k : ℕ) (d : Dialog ⊥ R) (p : P) (turns : List Turn)
+      → along {E = E} m k (lifted d) p turns ≡ raised (along m k d p turns)
+  along_lifted k (Done r) p turns = refl
+  along_lifted k (Say e d) p turns = absurd e
+  along_lifted zero (Ask bytes go_on) p turns = refl
+  along_lifted (suc k) (Ask bytes go_on) p turns = along_lifted k (go_on _) _ (other_turns turns)
+
+  pub along_told : {A B : Type 0} (k : ℕ) (d : Dialog E A) (tell : A → B) (p : P) (turns : List Turn)
+      → along m k (d >>= (λ a. Done (tell a))) p turns ≡ reported tell (along m k d p turns)
+  along_told {A = A} {B = B} k d tell p turns = let s = along m k d p turns in
+      along_bind m k d (λ a. Done (tell a)) p turns ∙ told s.dialog s.programmer s.turns s.left
+    where
+      told : (d : Dialog E A) (q : P) (fs : List Turn) (left : ℕ)
+          → onward {E = E} {A = A} {B = B} m (λ a. Done (tell a)) left fs q d
+          ≡ reported tell (record { dialog = d; programmer = q; turns = fs; left = left })
+      told (Done a) q fs left = refl
+      told d q fs left = refl

@@ -1,0 +1,279 @@
+-- A dialog over any tape goes along turns.
+use Rattle.std.proofs.Common.{◌≡◌, ◌≤◌, ℕ, zero, suc, List, [], ◌∷◌, ◌++◌, length, take, refl, sym, ap, ◌∙◌, subst, inl, inr, arith, Bool, true, false, Option, Some, None}
+use Rattle.std.proofs.lemmas.Bool.{cases_Bool, cond-true, cond-false}
+use Rattle.std.proofs.lemmas.Slice.Eq.{bytes_eq-Decides}
+use Rattle.std.proofs.lemmas.Option.{none-some}
+use Rattle.std.specs.Prelude.{filter, if◌then◌else◌}
+use Rattle.std.specs.Str.{bytes_eq}
+use Rattle.stk_frame.specs.Frame.{frame}
+use Rattle.stk_frame.specs.Cut.{frames, is_good}
+use Rattle.stk_frame.proofs.Laws.{frame_is_good, body_of_frame}
+use Rattle.stk_host.specs.Tape.{Tape, Reading, Answered, Silent, answer}
+use Rattle.stk_host.specs.Dialog.{Dialog, Done, Say, Ask, Frame, Said, Played, played, behind, by_answer, next, frames_in, outputs}
+use Rattle.stk_emu.specs.Device.{Device, after_frame, after_frames, refusal}
+use Rattle.stk_emu.specs.Lawful.{IsBody}
+use Rattle.stk_emu.specs.Turn.{Became, Kept, Obeyed, Anew, Refusal, Nothing, Turn, Right, Wrong, after_became, after_turn, became_in, turn_reading, IsHonest}
+use Rattle.stk_emu.specs.Along.{along, said_along, AsksBodies}
+use Rattle.avr_laws.specs.AnyTape.{first_became, other_becames, on_answer, AreHonest, after_pieces, turn_by, turns_from, turns_heard, GoesAs, let_through, CameThrough, became_by}
+use Rattle.avr_laws.proofs.Given.LaterAnswers.{answer_extends}
+use Rattle.avr_laws.proofs.Lines.Plays.{played_along, said_played, done_played, waits_played}
+
+-- every turn is honest
+pub turn_honest : {P : Type 0} (m : Device P) (bytes : List ℕ) (p : P) (turn : Turn)
+    → IsHonest m bytes p (became_in turn) (turn_reading turn (m.answer bytes p))
+turn_honest m bytes p Right = inl (refl, refl)
+turn_honest m bytes p (Wrong became Refusal) = inr refl
+turn_honest m bytes p (Wrong became instead) = tt
+
+-- and whatever is honest is a turn
+abbrev IsTurn : {P : Type 0} → Device P → List ℕ → P → Became → Reading → Turn → Type 0
+IsTurn m bytes p became reading turn =
+    (turn_reading turn (m.answer bytes p) ≡ reading)
+    × (after_turn turn (m.after bytes p) p m.reset ≡ after_became became (m.after bytes p) p m.reset)
+
+by_own : {P : Type 0} (m : Device P) (bytes : List ℕ) (p : P) (body : List ℕ) (told : Bool)
+    → (told ≡ true → body ≡ refusal) → (told ≡ false → body ≡ m.answer bytes p)
+    → IsTurn m bytes p Obeyed (Answered body) (if told then Wrong Obeyed Refusal else Right)
+by_own m bytes p body true cond-false own = (ap (λ x. Answered x) (sym (cond-false refl)), refl)
+by_own m bytes p body false cond-false own = (ap (λ x. Answered x) (sym (own refl)), refl)
+
+own_or_refused : {P : Type 0} (m : Device P) (bytes : List ℕ) (p : P) (body : List ℕ)
+    → IsHonest m bytes p Obeyed (Answered body) → bytes_eq body refusal ≡ false → body ≡ m.answer bytes p
+own_or_refused m bytes p body (inl own) other = own.1
+own_or_refused m bytes p body (inr is) other =
+    absurd (never_both (bytes_eq body refusal) ((bytes_eq-Decides body refusal).1 is) other)
+  where
+    never_both : (b : Bool) → b ≡ true → b ≡ false → ⊥
+    never_both true holds fails = cc
+    never_both false holds fails = cc
+
+never_own : (became : Became) → became ≡ Obeyed → became ≡ Kept → ⊥
+never_own became e is = cc
+
+not_anew : (became : Became) → ◌≡◌ {A = Became} (Anew became) Obeyed → ⊥
+not_anew became e = cc
+
+pub honest_turn : {P : Type 0} (m : Device P) (bytes : List ℕ) (p : P) (became : Became) (reading : Reading)
+    → IsHonest m bytes p became reading → IsTurn m bytes p became reading (turn_by became reading)
+honest_turn m bytes p Obeyed (Answered body) h =
+    by_own m bytes p body (bytes_eq body refusal) (λ same. (bytes_eq-Decides body refusal).0 same)
+    (λ other. own_or_refused m bytes p body h other)
+honest_turn m bytes p Kept (Answered body) (inl own) = absurd (never_own Kept own.0 refl)
+honest_turn m bytes p Kept (Answered body) (inr e) = (ap (λ x. Answered x) (sym e), refl)
+honest_turn m bytes p (Anew became) (Answered body) (inl own) = absurd (not_anew became own.0)
+honest_turn m bytes p (Anew became) (Answered body) (inr e) = (ap (λ x. Answered x) (sym e), refl)
+honest_turn m bytes p became reading h = (refl, refl)
+
+-- where no question is asked any more, nothing becomes of the programmer
+none_asked : {E R P : Type 0} (m : Device P) (d : Dialog E R) (p : P) (turns : List Turn)
+    → (along m 0 d p turns).programmer ≡ p
+none_asked m (Done r) p turns = refl
+none_asked m (Say e d) p turns = none_asked m d p turns
+none_asked m (Ask bytes go_on) p turns = refl
+
+pub obeyed_frame : {P : Type 0} (m : Device P) (n : ℕ) (bytes : List ℕ) (p : P) → IsBody bytes
+    → after_frame m (frame n bytes) p ≡ m.after bytes p
+obeyed_frame m n bytes p b = cond-true (is_good (frame n bytes)) _ _ (frame_is_good n bytes b.some)
+    ∙ ap (λ x. m.after x p) (body_of_frame n bytes)
+
+-- A play over a tape is the play along these turns, of which so many are read; all frames, where it is done. After any
+-- first frames the programmer stands as what became of it says.
+record HeardAs {E R P : Type 0} (m : Device P) (d : Dialog E R) (n : ℕ) (tape : Tape) (p : P) (becames : List Became)
+    (turns : List Turn) : Type 0 where
+  answered : ℕ
+  left : Tape
+  play : played d n tape ≡ played_along m answered d n p turns left
+  all : (r : R) (seq : ℕ) (rest : Tape) → (played_along m answered d n p turns left).outcome ≡ Some (r, seq, rest)
+      → length (frames_in (played_along m answered d n p turns left).events) ≡ answered
+  programmer : (k : ℕ) → k ≤ length (frames_in (played_along m answered d n p turns left).events)
+      → (along m k d p turns).programmer ≡ after_pieces m
+      (take k (frames_in (played_along m answered d n p turns left).events)) becames p
+
+module _ {P : Type 0} (m : Device P) where
+  module _ {E R : Type 0} (bytes : List ℕ) (go_on : Reading → Dialog E R) (n : ℕ) (tape : Tape) (p : P)
+      (becames : List Became) (b : IsBody bytes) where
+    abbrev became : Became
+    became = first_became becames
+
+    abbrev on_time : P
+    on_time = after_became became (m.after bytes p) p m.reset
+
+    arrives : on_time ≡ after_became became (after_frame m (frame n bytes) p) p m.reset
+    arrives = ap (λ q. after_became became q p m.reset) (sym (obeyed_frame m n bytes p b))
+
+    abbrev on_asking : Option (Reading × Tape) → Played E R
+    on_asking o = behind (Frame (frame n bytes) ∷ []) (by_answer (λ reading. played (go_on reading) (next n)) o)
+
+    -- a question that waits for its answer
+    waiting : answer n tape ≡ None → HeardAs m (Ask bytes go_on) n tape p becames (Wrong became Nothing ∷ [])
+    waiting e = record {
+      answered = 0;
+      left = [];
+      play = ap on_asking e;
+      all =
+          λ r seq rest o. absurd (none-some (r, seq, rest) o);
+      programmer = stands;
+    }
+      where
+        stands : (k : ℕ) → k ≤ 1 → (along m k (Ask bytes go_on) p (Wrong became Nothing ∷ [])).programmer
+            ≡ after_pieces m (take k (frame n bytes ∷ [])) becames p
+        stands zero le = refl
+        stands (suc zero) le = none_asked m (go_on Silent) on_time [] ∙ arrives
+        stands (suc (suc k)) le = absurd (omega (arith, le))
+
+    -- one that was answered, by its turn
+    module _ (turn : Turn) (later : List Turn) (left : Tape)
+        (read : answer n tape ≡ Some (turn_reading turn (m.answer bytes p), left))
+        (leaves : after_turn turn (m.after bytes p) p m.reset ≡ on_time)
+        (goes : HeardAs m (go_on (turn_reading turn (m.answer bytes p))) (next n) left
+        (after_turn turn (m.after bytes p) p m.reset) (other_becames becames) later) where
+      abbrev fs : List (List ℕ)
+      fs = frames_in (played_along m goes.answered (go_on (turn_reading turn (m.answer bytes p))) (next n)
+          (after_turn turn (m.after bytes p) p m.reset) later goes.left).events
+
+      stands : (k : ℕ) → k ≤ suc (length fs) → (along m k (Ask bytes go_on) p (turn ∷ later)).programmer
+          ≡ after_pieces m (take k (frame n bytes ∷ fs)) becames p
+      stands zero le = refl
+      stands (suc k) le = goes.programmer k (omega (arith, le))
+          ∙ ap (after_pieces m (take k fs) (other_becames becames)) (leaves ∙ arrives)
+
+      by_turn : HeardAs m (Ask bytes go_on) n tape p becames (turn ∷ later)
+      by_turn = record {
+        answered = suc goes.answered;
+        left = goes.left;
+        play = ap on_asking read ∙ ap (behind (Frame (frame n bytes) ∷ [])) goes.play;
+        all = λ r seq rest o. ap suc (goes.all r seq rest o);
+        programmer = stands;
+      }
+
+    asked : (o : Option (Reading × Tape)) → answer n tape ≡ o
+        → ((reading : Reading) (left : Tape) → AreHonest m (go_on reading) (next n) left on_time (other_becames becames)
+        → HeardAs m (go_on reading) (next n) left on_time (other_becames becames)
+        (turns_heard (go_on reading) (next n) left (other_becames becames)))
+        → on_answer (λ reading left. IsHonest m bytes p became reading
+        × AreHonest m (go_on reading) (next n) left on_time (other_becames becames)) o
+        → HeardAs m (Ask bytes go_on) n tape p becames
+        (turns_from became (λ reading left. turns_heard (go_on reading) (next n) left (other_becames becames)) o)
+    asked None e each h = waiting e
+    asked (Some (reading, left)) e each h =
+        let turn = turn_by became reading in
+        let later = turns_heard (go_on reading) (next n) left (other_becames becames) in
+        let t = honest_turn m bytes p became reading h.0 in
+        by_turn turn later left (e ∙ ap (λ x. Some (x, left)) (sym t.0)) t.1
+        (subst (λ q. HeardAs m (go_on (turn_reading turn (m.answer bytes p))) (next n) left q (other_becames becames)
+        later) (sym t.1)
+        (subst (λ x. HeardAs m (go_on x) (next n) left on_time (other_becames becames) later) (sym t.0)
+        (each reading left h.1)))
+
+  heard_as : {E R : Type 0} (d : Dialog E R) (n : ℕ) (tape : Tape) (p : P) (becames : List Became) → AsksBodies d
+      → AreHonest m d n tape p becames
+      → HeardAs m d n tape p becames (turns_heard d n tape becames)
+  heard_as (Done r) n tape p becames asks h =
+      record { answered = 0; left = tape; play = refl; all = λ q seq rest o. refl; programmer = none_sent }
+    where
+      none_sent : (k : ℕ) → k ≤ 0 → p ≡ after_pieces m (take k []) becames p
+      none_sent zero le = refl
+      none_sent (suc k) le = absurd (omega (arith, le))
+  heard_as (Say e d) n tape p becames asks h =
+      let goes = heard_as d n tape p becames asks h in
+      record {
+        answered = goes.answered;
+        left = goes.left;
+        play = ap (behind (Said e ∷ [])) goes.play;
+        all = goes.all;
+        programmer = goes.programmer;
+      }
+  heard_as (Ask bytes go_on) n tape p becames asks h =
+      asked bytes go_on n tape p becames asks.0 (answer n tape) refl
+      (λ reading left inner. heard_as (go_on reading) (next n) left _ (other_becames becames) (asks.1 reading)
+      inner) h
+
+  -- THE LAW
+  pub goes_as : {E R : Type 0} (d : Dialog E R) (n : ℕ) (tape : Tape) (p : P) (becames : List Became) → AsksBodies d
+      → AreHonest m d n tape p becames → GoesAs m d n tape p becames
+  goes_as {R = R} d n tape p becames asks h =
+      let turns = turns_heard d n tape becames in
+      let goes = heard_as d n tape p becames asks h in
+      let says : outputs (played d n tape).events ≡ said_along m goes.answered d p turns =
+      ap (λ x. outputs x.events) goes.play ∙ said_played m goes.answered d n p turns goes.left in
+      record {
+        programmer = subst (λ x. (k : ℕ) → k ≤ length (frames_in x.events)
+            → (along m k d p turns).programmer ≡ after_pieces m (take k (frames_in x.events)) becames p) (sym goes.play)
+            goes.programmer;
+        outcome = λ r seq rest o.
+            let done : (played_along m goes.answered d n p turns goes.left).outcome ≡ Some (r, seq, rest) =
+            sym (ap (λ x. x.outcome) goes.play) ∙ o in
+            let all : goes.answered ≡ length (frames_in (played d n tape).events) =
+            sym (ap (λ x. length (frames_in x.events)) goes.play ∙ goes.all r seq rest done) in
+            subst (λ k. ((along m k d p turns).dialog ≡ Done r)
+            × (outputs (played d n tape).events ≡ said_along m k d p turns)) all
+            ((done_played m goes.answered d n p turns goes.left r seq rest done).0, says);
+        waits = λ none. record {
+          answered = goes.answered;
+          one_more = ap (λ x. length (frames_in x.events)) goes.play
+              ∙ waits_played m goes.answered d n p turns goes.left (sym (ap (λ x. x.outcome) goes.play) ∙ none);
+          said = says;
+        };
+      }
+
+-- ---- what was heard first of a tape that is honest
+
+-- what was read of this question is honest, and what is read of those after it
+abbrev pub HonestOn : {E R P : Type 0} → Device P → List ℕ → (Reading → Dialog E R) → ℕ → P → List Became
+    → Option (Reading × Tape) → Type 0
+HonestOn m bytes go_on n p becames = on_answer (λ reading left.
+    IsHonest m bytes p (first_became becames) reading
+    × AreHonest m (go_on reading) (next n) left (after_became (first_became becames) (m.after bytes p) p m.reset)
+    (other_becames becames))
+
+module _ {P : Type 0} (m : Device P) where
+  shorter : {E R : Type 0} (bytes : List ℕ) (go_on : Reading → Dialog E R) (n : ℕ) (t u : Tape) (p : P)
+      (becames : List Became) (o : Option (Reading × Tape)) → answer n t ≡ o
+      → ((reading : Reading) (left : Tape) (q : P)
+      → AreHonest m (go_on reading) (next n) (left ++ u) q (other_becames becames)
+      → AreHonest m (go_on reading) (next n) left q (other_becames becames))
+      → AreHonest m (Ask bytes go_on) n (t ++ u) p becames
+      → HonestOn m bytes go_on n p becames o
+  shorter bytes go_on n t u p becames None e each h = tt
+  shorter bytes go_on n t u p becames (Some (reading, left)) e each h =
+      let both = subst (HonestOn m bytes go_on n p becames) (answer_extends n t u reading left e) h in
+      (both.0, each reading left _ both.1)
+
+  pub honest_prefix : {E R : Type 0} (d : Dialog E R) (n : ℕ) (t u : Tape) (p : P) (becames : List Became)
+      → AreHonest m d n (t ++ u) p becames → AreHonest m d n t p becames
+  honest_prefix (Done r) n t u p becames h = tt
+  honest_prefix (Say e d) n t u p becames h = honest_prefix d n t u p becames h
+  honest_prefix (Ask bytes go_on) n t u p becames h =
+      shorter bytes go_on n t u p becames (answer n t) refl
+      (λ reading left q inner. honest_prefix (go_on reading) (next n) left u q (other_becames becames) inner) h
+
+-- ---- what the programmer cuts from the bytes that it got
+
+module _ {P : Type 0} (m : Device P) where
+  -- pieces that are no good frames change nothing
+  good_alone : (pieces : List (List ℕ)) (p : P) → after_frames m pieces p ≡ after_frames m (filter is_good pieces) p
+  good_alone [] p = refl
+  good_alone (piece ∷ pieces) p = elim (cases_Bool (is_good piece)) [
+    | inl good ↦
+        good_alone pieces (after_frame m piece p)
+        ∙ ap (λ ps. after_frames m ps p) (sym (cond-true (is_good piece) (piece ∷ filter is_good pieces)
+        (filter is_good pieces) good))
+    | inr bad ↦
+        ap (after_frames m pieces) (cond-false (is_good piece) _ _ bad)
+        ∙ (good_alone pieces p
+        ∙ ap (λ ps. after_frames m ps p) (sym (cond-false (is_good piece) (piece ∷ filter is_good pieces)
+        (filter is_good pieces) bad)))
+  ]
+
+  let_through_after : (through : List Bool) (sent : List (List ℕ)) (p : P)
+      → after_frames m (let_through through sent) p ≡ after_pieces m sent (became_by through) p
+  let_through_after [] [] p = refl
+  let_through_after [] (piece ∷ sent) p = let_through_after [] sent p
+  let_through_after (through ∷ more) [] p = refl
+  let_through_after (true ∷ more) (piece ∷ sent) p = let_through_after more sent (after_frame m piece p)
+  let_through_after (false ∷ more) (piece ∷ sent) p = let_through_after more sent p
+
+  pub through_after : (got : List ℕ) (sent : List (List ℕ)) (through : List Bool) (p : P) → CameThrough got sent through
+      → after_frames m (frames got) p ≡ after_pieces m sent (became_by through) p
+  through_after got sent through p c = good_alone (frames got) p
+      ∙ (ap (λ ps. after_frames m ps p) c.good ∙ let_through_after through sent p)

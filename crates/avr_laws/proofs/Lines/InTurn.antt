@@ -1,0 +1,251 @@
+-- A talk in turn over a wire: nobody listens where nothing comes, and the programmer goes along with the dialog.
+use Rattle.std.proofs.Common.{◌≡◌, ℕ, ◌<◌, ◌≤◌, List, [], ◌∷◌, ◌++◌, length, take, drop, refl, sym, ap, ◌∙◌, subst, append_assoc, arith, inl, inr, true, Option, Some, None, length-append}
+use Rattle.std.proofs.lemmas.Bool.{cases_lt, lt-leb, and_parts, cond-true}
+use Rattle.std.proofs.lemmas.List.{append-nil, take-append-le, drop-append-le, take_all, drop_all, take-append-drop}
+use Rattle.std.specs.Prelude.{filter}
+use Rattle.stk_frame.specs.Frame.{frame}
+use Rattle.stk_frame.specs.Cut.{cut, frames, is_frame, IsPiece, piece_size}
+use Rattle.stk_frame.proofs.Cuts.{cut_none, size_stays}
+use Rattle.stk_frame.proofs.Laws.{cut_first, frame_is_piece, frame_is_good}
+use Rattle.stk_host.specs.Tape.{Tape, Reading, answer, on_tape}
+use Rattle.stk_host.specs.Transcript.{Transcript, Sent, Got, sent, heard}
+use Rattle.stk_host.specs.Dialog.{Dialog, Done, Say, Ask, Event, Frame, Said, Played, played, by_answer, next, bytes_sent, outputs, frames_in}
+use Rattle.stk_host.specs.Play.{Progress, progress_at, IsDue, TurnsFrom, InTurn, Plays, IsPrefixOfEvents, IsBegun, IsPrefixOf}
+use Rattle.stk_host.proofs.Transcripts.InDialogs.{bytes_append}
+use Rattle.stk_emu.specs.declared.fate.Fate.{Fate}
+use Rattle.stk_emu.specs.Programmer.{Programmer}
+use Rattle.stk_emu.specs.Device.{device}
+use Rattle.stk_emu.specs.Wire.{AreLawful, turns_of, becames_of, fresh_wire}
+use Rattle.stk_emu.specs.Wired.{WiredState, FollowsFates, NeverIdle, brought}
+use Rattle.stk_emu.specs.Lawful.{IsBody}
+use Rattle.stk_emu.specs.Along.{along, said_along, AsksBodies}
+use Rattle.stk_emu.proofs.Wires.Arrivals.{none_clear}
+use Rattle.stk_emu.proofs.Answers.BodySizes.{answers_bodies}
+use Rattle.avr_laws.proofs.Given.LaterAnswers.{answer_extends}
+use Rattle.avr_laws.specs.AnyTape.{AreHonest}
+use Rattle.avr_laws.proofs.Lines.AnyTape.{honest_prefix}
+use Rattle.avr_laws.proofs.Lines.Plays.{played_along, said_played, done_played, waits_played}
+use Rattle.avr_laws.proofs.Lines.WireTapes.{GoesOver, over_wire}
+
+-- whole frames
+pub record IsWhole (f : List ℕ) : Type 0 where
+  pub piece : IsPiece f
+  pub frame : is_frame f ≡ true
+
+abbrev pub AreWhole : List (List ℕ) → Type 0
+AreWhole [] = Unit {0}
+AreWhole (f ∷ fs) = IsWhole f × AreWhole fs
+
+frame_whole : (n : ℕ) (body : List ℕ) → IsBody body → IsWhole (frame n body)
+frame_whole n body b = record {
+  piece = frame_is_piece n body b.some b.few;
+  frame = (and_parts _ _ (frame_is_good n body b.some)).0;
+}
+
+frame_first : (f bytes : List ℕ) → IsWhole f → frames (f ++ bytes) ≡ f ∷ frames bytes
+frame_first f bytes w = ap (filter is_frame) (cut_first f bytes w.piece)
+    ∙ cond-true (is_frame f) (f ∷ filter is_frame (cut bytes)) (filter is_frame (cut bytes)) w.frame
+
+whole_by : {E R : Type 0} (go_on : Reading → Tape → Played E R) (o : Option (Reading × Tape))
+    → ((reading : Reading) (left : Tape) → AreWhole (frames_in (go_on reading left).events))
+    → AreWhole (frames_in (by_answer go_on o).events)
+whole_by go_on None each = tt
+whole_by go_on (Some (reading, left)) each = each reading left
+
+-- a play sends whole frames
+pub sends_whole : {E R : Type 0} (d : Dialog E R) (n : ℕ) (t : Tape) → AsksBodies d
+    → AreWhole (frames_in (played d n t).events)
+sends_whole (Done r) n t asks = tt
+sends_whole (Say e d) n t asks = sends_whole d n t asks
+sends_whole (Ask bytes go_on) n t asks = (
+  frame_whole n bytes asks.0,
+  whole_by (λ reading. played (go_on reading) (next n)) (answer n t)
+      (λ reading left. sends_whole (go_on reading) (next n) left (asks.1 reading)),
+)
+
+-- the frames of all bytes of whole frames are these
+pub frames_sent : {E : Type 0} (events : List (Event E)) → AreWhole (frames_in events)
+    → frames (bytes_sent events) ≡ frames_in events
+frames_sent [] whole = refl
+frames_sent (Frame f ∷ events) whole = frame_first f (bytes_sent events) whole.0
+    ∙ ap (λ fs. f ∷ fs) (frames_sent events whole.1)
+frames_sent (Said e ∷ events) whole = frames_sent events whole
+
+-- where something is heard, it was due
+pub due_at : {E R : Type 0} (d : Dialog E R) (n : ℕ) (tape : Tape) (bytes : List ℕ) (before after : Transcript)
+    (items : Tape)
+    → TurnsFrom d n tape bytes (before ++ Got items ∷ after) → IsDue d n (tape ++ heard before) (bytes ++ sent before)
+due_at d n tape bytes [] after items turns =
+    subst (λ t. IsDue d n t (bytes ++ [])) (sym (append-nil tape))
+    (subst (IsDue d n tape) (sym (append-nil bytes)) turns.0)
+due_at d n tape bytes (Sent more ∷ before) after items turns =
+    subst (IsDue d n (tape ++ heard before)) (append_assoc bytes more (sent before))
+    (due_at d n tape (bytes ++ more) before after items turns)
+due_at d n tape bytes (Got got ∷ before) after items turns =
+    subst (λ t. IsDue d n t (bytes ++ sent before)) (append_assoc tape got (heard before))
+    (due_at d n (tape ++ got) bytes before after items turns.1)
+
+-- a talk in turn never listens where nothing waits: of a play over all that was brought each question was answered
+pub never_idle : {E R : Type 0} (d : Dialog E R) (n : ℕ) (p : Programmer) (fates : List Fate) (transcript : Transcript)
+    → AsksBodies d → AreLawful fates → InTurn d (progress_at n []) transcript → NeverIdle p fates transcript
+never_idle d n p fates transcript asks lawful turns before after items split same =
+    let due : IsDue d n (heard before) (sent before) =
+    due_at d n [] [] before after items (subst (TurnsFrom d n [] []) split turns) in
+    let here : IsDue d n (brought p fates (sent before)) (sent before) =
+    subst (λ t. IsDue d n t (sent before)) (sym same) due in
+    let play = played d n (brought p fates (sent before)) in
+    let gone : frames_in play.events ≡ frames (sent before) =
+    sym (frames_sent play.events (sends_whole d n (brought p fates (sent before)) asks))
+    ∙ ap frames here.all_sent in
+    let goes = over_wire device answers_bodies d n (fresh_wire p fates) (frames (sent before)) [] asks (none_clear n)
+    lawful (gone ∙ sym (append-nil (frames (sent before)))) in
+    let one_more = waits_played device (length (frames (sent before))) d n p (turns_of fates) []
+    (sym (ap (λ x. x.outcome) goes.play) ∙ here.waits) in
+    let as_many = sym (ap length gone) ∙ ap (λ x. length (frames_in x.events)) goes.play in
+    absurd (omega (arith, one_more, as_many))
+
+-- more of the tape, more frames after those sent
+abbrev Goes : {E R : Type 0} → Dialog E R → ℕ → Tape → Tape → Type 0
+Goes d n t u = (more : List (List ℕ)) × (frames_in (played d n (t ++ u)).events
+    ≡ frames_in (played d n t).events ++ more)
+
+pub played_goes : {E R : Type 0} (d : Dialog E R) (n : ℕ) (t u : Tape) → Goes d n t u
+played_goes (Done r) n t u = ([], refl)
+played_goes (Say e d) n t u = played_goes d n t u
+played_goes (Ask bytes go_on) n t u =
+    let sent_by : Option (Reading × Tape) → List (List ℕ) =
+    λ o. frame n bytes ∷ frames_in (by_answer (λ reading. played (go_on reading) (next n)) o).events in
+    (elim (answer n t) as (λ o. answer n t ≡ o
+    → (more : List (List ℕ)) × (sent_by (answer n (t ++ u)) ≡ sent_by o ++ more)) [
+      | None ↦ λ e.
+          (frames_in (by_answer (λ reading. played (go_on reading) (next n)) (answer n (t ++ u))).events, refl)
+      | Some got ↦ λ e.
+          let g = played_goes (go_on got.0) (next n) got.1 u in
+          (g.0, ap sent_by (answer_extends n t u got.0 got.1 e) ∙ ap (λ fs. frame n bytes ∷ fs) g.1)
+    ]) refl
+
+-- a part of a frame has no frame
+part_none : (x y : List ℕ) → 0 < length y → IsPiece (x ++ y) → frames x ≡ []
+part_none x y some whole = elim (cases_lt (length x) (piece_size x)) [
+  | inl lt ↦ ap (filter is_frame) (cut_none x (lt-leb (piece_size x) (length x) lt))
+  | inr ge ↦ let s = size_stays x y ge in absurd (omega (arith, whole, length-append x y))
+]
+
+none_before : {A : Type 0} (x y : List A) → x ++ y ≡ [] → (x ≡ []) × (y ≡ [])
+none_before [] y e = (refl, e)
+none_before (a ∷ x) y e = (cc, cc)
+
+-- bytes that are a prefix of those of events have a prefix of their frames
+pub frames_prefix : {E : Type 0} (events : List (Event E)) (bytes back : List ℕ) → AreWhole (frames_in events)
+    → bytes ++ back ≡ bytes_sent events → (others : List (List ℕ)) × (frames_in events ≡ frames bytes ++ others)
+frames_prefix [] bytes back whole e = (
+  [],
+  ap frames (sym (none_before bytes back e).0) ∙ sym (append-nil (frames bytes)),
+)
+frames_prefix (Said s ∷ events) bytes back whole e = frames_prefix events bytes back whole e
+frames_prefix (Frame f ∷ events) bytes back whole e = elim (cases_lt (length bytes) (length f)) [
+  | inl lt ↦
+      let split : f ≡ bytes ++ drop (length bytes) f =
+      sym (take-append-drop (length bytes) f) ∙ ap (λ x. x ++ drop (length bytes) f)
+      (sym (take-append-le (length bytes) f (bytes_sent events) (omega arith))
+      ∙ (sym (ap (take (length bytes)) e) ∙ (take-append-le (length bytes) bytes back (omega arith)
+      ∙ take_all (length bytes) bytes (omega arith)))) in
+      let rest : 0 < length (drop (length bytes) f) = let g = ap length split in
+      omega (arith, g, length-append bytes (drop (length bytes) f)) in (
+        f ∷ frames_in events,
+        ap (λ x. x ++ f ∷ frames_in events)
+            (sym (part_none bytes (drop (length bytes) f) rest (subst IsPiece split whole.0.piece))),
+      )
+  | inr ge ↦
+      let prefix : take (length f) bytes ≡ f = sym (take-append-le (length f) bytes back ge)
+      ∙ (ap (take (length f)) e ∙ (take-append-le (length f) f (bytes_sent events) (omega arith)
+      ∙ take_all (length f) f (omega arith))) in
+      let split : bytes ≡ f ++ drop (length f) bytes =
+      sym (take-append-drop (length f) bytes) ∙ ap (λ x. x ++ drop (length f) bytes) prefix in
+      let later : drop (length f) bytes ++ back ≡ bytes_sent events =
+      sym (drop-append-le (length f) bytes back ge)
+      ∙ (ap (drop (length f)) e ∙ (drop-append-le (length f) f (bytes_sent events) (omega arith)
+      ∙ ap (λ x. x ++ bytes_sent events) (drop_all (length f) f (omega arith)))) in
+      let inner = frames_prefix events (drop (length f) bytes) back whole.1 later in (
+        inner.0,
+        ap (λ gs. f ∷ gs) inner.1 ∙ ap (λ x. x ++ inner.0)
+            (sym (ap frames split ∙ frame_first f (drop (length f) bytes) whole.0)),
+      )
+]
+
+-- what happened of a talk that broke off is a prefix of the bytes
+begun_prefix : {E : Type 0} (SaidPart : E → E → Type 0) (begun later : List (Event E)) → IsBegun SaidPart begun later
+    → IsPrefixOf (bytes_sent begun) (bytes_sent later)
+begun_prefix SaidPart [] later part = (bytes_sent later, refl)
+begun_prefix SaidPart (Frame x ∷ []) (Frame y ∷ later) part = (
+  part.0 ++ bytes_sent later,
+  ap (λ bs. bs ++ (part.0 ++ bytes_sent later)) (append-nil x)
+      ∙ (sym (append_assoc x part.0 (bytes_sent later)) ∙ ap (λ bs. bs ++ bytes_sent later) part.1),
+)
+begun_prefix SaidPart (Said x ∷ []) (Said y ∷ later) part = (bytes_sent later, refl)
+begun_prefix SaidPart begun later part = absurd part
+
+pub shown_prefix : {E : Type 0} (SaidPart : E → E → Type 0) (shown events : List (Event E))
+    → IsPrefixOfEvents SaidPart shown events → IsPrefixOf (bytes_sent shown) (bytes_sent events)
+shown_prefix SaidPart shown events f =
+    let g = begun_prefix SaidPart f.begun f.later f.part in (
+      g.0,
+      ap (λ bs. bs ++ g.0) (ap bytes_sent f.shown_is ∙ bytes_append f.whole f.begun)
+          ∙ (append_assoc (bytes_sent f.whole) (bytes_sent f.begun) g.0
+          ∙ (ap (λ bs. bytes_sent f.whole ++ bs) g.1
+          ∙ (sym (bytes_append f.whole f.later) ∙ ap bytes_sent (sym f.events_are)))),
+    )
+
+module _ {E R : Type 0} (d : Dialog E R) (n : ℕ) (p : Programmer) (fates : List Fate) (w : WiredState)
+    (asks : AsksBodies d) (lawful : AreLawful fates) (keeps : FollowsFates p fates w)
+    (turns : InTurn d (progress_at n []) w.transcript) where
+  brings : brought p fates (sent w.transcript) ≡ heard w.transcript ++ w.waits
+  brings = keeps.brings (never_idle d n p fates w.transcript asks lawful turns)
+
+  -- what was sent is a prefix of what the play over what was heard sends
+  abbrev SendsFirst : Type 0
+  SendsFirst = IsPrefixOf (sent w.transcript) (bytes_sent (played d n (heard w.transcript)).events)
+
+  abbrev count : ℕ
+  count = length (frames (sent w.transcript))
+
+  goes_along : SendsFirst → GoesOver device d n (fresh_wire p fates) (frames (sent w.transcript)) p (turns_of fates)
+  goes_along prefix =
+      let f = frames_prefix (played d n (heard w.transcript)).events (sent w.transcript) prefix.0
+      (sends_whole d n (heard w.transcript) asks) prefix.1 in
+      let g = played_goes d n (heard w.transcript) w.waits in
+      over_wire device answers_bodies d n (fresh_wire p fates) (frames (sent w.transcript)) (f.0 ++ g.0) asks
+      (none_clear n)
+      lawful
+      (ap (λ t. frames_in (played d n t).events) brings
+      ∙ (g.1 ∙ (ap (λ fs. fs ++ g.0) f.1 ∙ append_assoc (frames (sent w.transcript)) f.0 g.0)))
+
+  -- what was heard is honest, by the fates of all frames that the play over it sends
+  pub honest_heard : SendsFirst → AreHonest device d n (heard w.transcript) p
+      (becames_of (length (frames_in (played d n (heard w.transcript)).events)) fates)
+  honest_heard prefix =
+      let f = frames_prefix (played d n (heard w.transcript)).events (sent w.transcript) prefix.0
+      (sends_whole d n (heard w.transcript) asks) prefix.1 in
+      let all = length (frames_in (played d n (heard w.transcript)).events) in
+      let enough : count ≤ all = omega (arith, ap length f.1, length-append (frames (sent w.transcript)) f.0) in
+      honest_prefix device d n (heard w.transcript) w.waits p (becames_of all fates)
+      (subst (λ t. AreHonest device d n t p (becames_of all fates)) brings ((goes_along prefix).honest all enough))
+
+  -- the programmer stands along the line
+  pub stands_along : SendsFirst → w.wire.programmer ≡ (along device count d p (turns_of fates)).programmer
+  stands_along prefix = ap (λ x. x.programmer) keeps.stands ∙ (goes_along prefix).programmer
+
+  -- where the talk was whole the dialog has said the same and come to the same result there
+  module _ (events : List (Event E)) (r : R) (after : Progress)
+      (plays : Plays d (progress_at n []) w.transcript events r after) (prefix : SendsFirst) where
+    -- the play along the line
+    over : played_along device count d n p (turns_of fates) []
+        ≡ record { events = events; outcome = Some (r, after.next, on_tape after.unread ++ w.waits) }
+    over = sym (goes_along prefix).play ∙ (ap (played d n) brings ∙ plays.plays w.waits)
+
+    pub whole_said : outputs events ≡ said_along device count d p (turns_of fates)
+    whole_said = sym (ap (λ x. outputs x.events) over) ∙ said_played device count d n p (turns_of fates) []
+
+    pub whole_done : (along device count d p (turns_of fates)).dialog ≡ Done r
+    whole_done = (done_played device count d n p (turns_of fates) [] r after.next (on_tape after.unread ++ w.waits)
+        (ap (λ x. x.outcome) over)).0

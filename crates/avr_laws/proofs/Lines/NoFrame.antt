@@ -1,0 +1,208 @@
+-- On a line that makes no frame all that is read is honest.
+use Rattle.std.proofs.Common.{◌≡◌, ℕ, zero, suc, ◌+◌, ◌%◌, ◌≤◌, List, [], ◌∷◌, ◌++◌, length, take, drop, refl, sym, ap, ◌∙◌, arith, inl, inr, ◌⊎◌, Bool, true, false, Option, Some, None}
+use Rattle.std.proofs.lemmas.Bool.{cases_Bool, and_parts, eqb-true, false≢true, cond-true, cond-false}
+use Rattle.std.specs.Prelude.{◌==◌, nat_le, filter, replicate}
+use Rattle.stk_frame.specs.Cut.{cut, frames, is_good, seq_of, body_of}
+use Rattle.stk_frame.proofs.Laws.{body_of_frame}
+use Rattle.stk_host.specs.declared.link.Item.TheVariants.{Byte}
+use Rattle.stk_host.specs.Tape.{Tape, Reading, Answered, answer, read_to, silence_or_end, first_answer, is_answer, further, bytes_in, limit}
+use Rattle.stk_host.specs.Dialog.{Dialog, Done, Say, Ask, next}
+use Rattle.stk_emu.specs.Device.{Device, refusal}
+use Rattle.stk_emu.specs.Turn.{Became, Kept, Obeyed, Anew, after_became, IsHonest}
+use Rattle.avr_laws.specs.AnyTape.{first_became, other_becames, on_answer, AreHonest, let_through, CameThrough}
+use Rattle.avr_laws.proofs.Lines.Plays.{tail_is}
+use Rattle.avr_laws.specs.NoFrame.{given, IsAmong, WasSent, WereSent, MakesNoFrame}
+use Rattle.avr_laws.proofs.Lines.AnyTape.{HonestOn}
+
+-- ---- the numbers of the answers given before
+
+-- those so many questions back and further: each has the number of its question, or is nothing
+abbrev pub Past : ℕ → ℕ → List (List ℕ) → Type 0
+Past n k [] = Unit {0}
+Past n k (answer ∷ before) = ((answer ≡ []) ⊎ ((seq_of answer + k) % 256 ≡ n % 256)) × Past n (suc k) before
+
+further_back : (n k : ℕ) (before : List (List ℕ)) → Past n k before → Past (next n) (suc k) before
+further_back n k [] past = tt
+further_back n k (answer ∷ before) past = (one past.0, further_back n (suc k) before past.1)
+  where
+    one : (answer ≡ []) ⊎ ((seq_of answer + k) % 256 ≡ n % 256)
+        → (answer ≡ []) ⊎ ((seq_of answer + suc k) % 256 ≡ next n % 256)
+    one (inl e) = inl e
+    one (inr e) = inr (omega (arith, e))
+
+none_good : (piece : List ℕ) → piece ≡ [] → is_good piece ≡ true → ⊥
+none_good piece e good = no (sym (ap is_good e) ∙ good)
+  where
+    no : false ≡ true → ⊥
+    no e = cc
+
+-- none of the last 255 has this number
+not_past : (c n k : ℕ) (before : List (List ℕ)) (piece : List ℕ) → 1 ≤ k → k + c ≤ 256 → Past n k before
+    → is_good piece ≡ true → seq_of piece ≡ n → IsAmong c before piece → ⊥
+not_past zero n k before piece some few past good is among = among
+not_past (suc c) n k [] piece some few past good is among = among
+not_past (suc c) n k (answer ∷ before) piece some few past good is (inl same) = by_past past.0
+  where
+    by_past : (answer ≡ []) ⊎ ((seq_of answer + k) % 256 ≡ n % 256) → ⊥
+    by_past (inl e) = none_good piece (same ∙ e) good
+    by_past (inr e) = let number : seq_of answer ≡ n = sym (ap seq_of same) ∙ is in omega (arith, e, number, some, few)
+not_past (suc c) n k (answer ∷ before) piece some few past good is (inr among) =
+    not_past c n (suc k) before piece (omega arith) (omega (arith, few)) past.1 good is among
+
+-- ---- the piece that is taken
+
+abbrev Taken : ℕ → List (List ℕ) → List ℕ → Type 0
+Taken n sent body = (piece : List ℕ) × (is_answer n piece ≡ true) × (body_of piece ≡ body) × WasSent sent piece
+
+abbrev body_in : Option (List ℕ × ℕ) → List ℕ
+body_in None = []
+body_in (Some (body, used)) = body
+
+abbrev body_read : Option (Reading × Tape) → List ℕ
+body_read (Some (Answered body, left)) = body
+body_read other = []
+
+abbrev is_answered : Option (Reading × Tape) → Bool
+is_answered (Some (Answered body, left)) = true
+is_answered other = false
+
+further_body : (count : ℕ) (o : Option (List ℕ × ℕ)) (body : List ℕ) (used : ℕ) → further count o ≡ Some (body, used)
+    → (u : ℕ) × (o ≡ Some (body, u))
+further_body count None body used e = cc
+further_body count (Some (b, u)) body used e = (u, ap (λ x. Some (x, u)) (ap body_in e))
+
+taken : (n : ℕ) (sent : List (List ℕ)) (pieces : List (List ℕ)) (body : List ℕ) (used : ℕ)
+    → first_answer n pieces ≡ Some (body, used) → WereSent n sent pieces → Taken n sent body
+taken n sent [] body used e were = cc
+taken n sent (piece ∷ pieces) body used e were = elim (cases_Bool (is_answer n piece)) [
+  | inl is ↦ (piece, is, ap body_in (sym (cond-true (is_answer n piece) _ _ is) ∙ e), were.0)
+  | inr other ↦
+      let rest = further_body (length piece) (first_answer n pieces) body used
+      (sym (cond-false (is_answer n piece) _ _ other) ∙ e) in
+      taken n sent pieces body rest.0 rest.1 (were.1 other)
+]
+
+-- what is answered was found
+no_answer : (tape left : Tape) (body : List ℕ) → silence_or_end tape ≡ Some (Answered body, left) → ⊥
+no_answer (Byte b ∷ tape) left body e = false≢true (ap is_answered e)
+no_answer tape left body e = false≢true (ap is_answered e)
+
+found_by : (o : Option (List ℕ × ℕ)) (bytes : List ℕ) (tape left : Tape) (body : List ℕ)
+    → read_to o bytes tape ≡ Some (Answered body, left) → (used : ℕ) × (o ≡ Some (body, used))
+found_by (Some (b, used)) bytes tape left body e = (used, ap (λ x. Some (x, used)) (ap body_read e))
+found_by None bytes tape left body e = absurd (elim (cases_Bool (nat_le limit (length bytes))) [
+  | inl full ↦ false≢true (ap is_answered (sym (cond-true (nat_le limit (length bytes)) _ _ full) ∙ e))
+  | inr few ↦ no_answer (drop (length bytes) tape) left body
+      (sym (cond-false (nat_le limit (length bytes)) _ _ few) ∙ e)
+])
+
+found : (n : ℕ) (tape left : Tape) (body : List ℕ) → answer n tape ≡ Some (Answered body, left)
+    → (used : ℕ) × (first_answer n (cut (take limit (bytes_in tape))) ≡ Some (body, used))
+unfolding answer
+found n tape left body e = found_by (first_answer n (cut (take limit (bytes_in tape)))) (take limit (bytes_in tape))
+    tape left body e
+
+module _ {P : Type 0} (m : Device P) where
+  -- among the last 256 answers only the one to this question has its number
+  own : (n : ℕ) (bytes : List ℕ) (p : P) (became : Became) (before : List (List ℕ)) (body : List ℕ) → Past n 1 before
+      → Taken n (given m n bytes p became ∷ before) body → IsHonest m bytes p became (Answered body)
+  own n bytes p became before body past t = by_sent became (t.3 good)
+    where
+      good : is_good t.0 ≡ true
+      good = (and_parts (is_good t.0) (seq_of t.0 == n) t.1).0
+
+      number : seq_of t.0 ≡ n
+      number = eqb-true (seq_of t.0) n (and_parts (is_good t.0) (seq_of t.0 == n) t.1).1
+
+      by_sent : (became : Became) → (body_of t.0 ≡ refusal) ⊎ IsAmong 256 (given m n bytes p became ∷ before) t.0
+          → IsHonest m bytes p became (Answered body)
+      by_sent became (inl e) = inr (sym t.2 ∙ e)
+      by_sent became (inr (inr among)) = absurd
+          (not_past 255 n 1 before t.0 (omega arith) (omega arith) past good number among)
+      by_sent Obeyed (inr (inl same)) = inl (refl, sym t.2 ∙ (ap body_of same ∙ body_of_frame n (m.answer bytes p)))
+      by_sent became (inr (inl same)) = absurd (none_good t.0 same good)
+
+  by_reading : (n : ℕ) (bytes : List ℕ) (p : P) (became : Became) (before : List (List ℕ)) (reading : Reading)
+      (tape left : Tape) → answer n tape ≡ Some (reading, left) → Past n 1 before
+      → WereSent n (given m n bytes p became ∷ before) (cut (take limit (bytes_in tape)))
+      → IsHonest m bytes p became reading
+  by_reading n bytes p became before (Answered body) tape left e past were =
+      let f = found n tape left body e in
+      own n bytes p became before body past (taken n (given m n bytes p became ∷ before)
+      (cut (take limit (bytes_in tape))) body f.0 f.1 were)
+  by_reading n bytes p became before reading tape left e past were = tt
+
+  more_past : (n : ℕ) (bytes : List ℕ) (p : P) (became : Became) (before : List (List ℕ)) → Past n 1 before
+      → Past (next n) 1 (given m n bytes p became ∷ before)
+  more_past n bytes p became before past = (here became, further_back n 1 before past)
+    where
+      here : (became : Became) → (given m n bytes p became ≡ [])
+          ⊎ ((seq_of (given m n bytes p became) + 1) % 256 ≡ next n % 256)
+      here Kept = inl refl
+      here Obeyed = inr (omega arith)
+      here (Anew became) = inl refl
+
+  honest_by : {E R : Type 0} (bytes : List ℕ) (go_on : Reading → Dialog E R) (n : ℕ) (tape : Tape) (p : P)
+      (becames : List Became) (before : List (List ℕ)) (o : Option (Reading × Tape)) → answer n tape ≡ o
+      → Past n 1 before
+      → ((reading : Reading) (left : Tape)
+      → MakesNoFrame m (go_on reading) (next n) left (after_became (first_became becames) (m.after bytes p) p m.reset)
+      (other_becames becames) (given m n bytes p (first_became becames) ∷ before)
+      → AreHonest m (go_on reading) (next n) left (after_became (first_became becames) (m.after bytes p) p m.reset)
+      (other_becames becames))
+      → on_answer (λ reading left.
+      WereSent n (given m n bytes p (first_became becames) ∷ before) (cut (take limit (bytes_in tape)))
+      × MakesNoFrame m (go_on reading) (next n) left (after_became (first_became becames) (m.after bytes p) p m.reset)
+      (other_becames becames) (given m n bytes p (first_became becames) ∷ before)) o
+      → HonestOn m bytes go_on n p becames o
+  honest_by bytes go_on n tape p becames before None e past each made = tt
+  honest_by bytes go_on n tape p becames before (Some (reading, left)) e past each made =
+      (by_reading n bytes p (first_became becames) before reading tape left e past made.0, each reading left made.1)
+
+  -- THE LAW
+  pub no_frame_honest : {E R : Type 0} (d : Dialog E R) (n : ℕ) (tape : Tape) (p : P) (becames : List Became)
+      (before : List (List ℕ)) → Past n 1 before → MakesNoFrame m d n tape p becames before
+      → AreHonest m d n tape p becames
+  no_frame_honest (Done r) n tape p becames before past made = tt
+  no_frame_honest (Say e d) n tape p becames before past made = no_frame_honest d n tape p becames before past made
+  no_frame_honest (Ask bytes go_on) n tape p becames before past made =
+      honest_by bytes go_on n tape p becames before (answer n tape) refl past
+      (λ reading left inner. no_frame_honest (go_on reading) (next n) left _ (other_becames becames)
+      (given m n bytes p (first_became becames) ∷ before) (more_past n bytes p (first_became becames) before past)
+      inner) made
+
+-- ---- a programmer that got a prefix of the bytes that were sent, as over a line that keeps their order
+
+all_through : (xs ys : List (List ℕ)) → let_through (replicate (length xs) true) (xs ++ ys) ≡ xs
+all_through [] ys = refl
+all_through (x ∷ xs) ys = ap (λ zs. x ∷ zs) (all_through xs ys)
+
+all_good : (xs ys : List (List ℕ)) → filter is_good (xs ++ ys) ≡ xs ++ ys → filter is_good xs ≡ xs
+all_good [] ys e = refl
+all_good (x ∷ xs) ys e = elim (cases_Bool (is_good x)) [
+  | inl good ↦ cond-true (is_good x) _ _ good
+      ∙ ap (λ zs. x ∷ zs) (all_good xs ys (tail_is x x _ _ (sym (cond-true (is_good x) _ _ good) ∙ e)))
+  | inr bad ↦ absurd (fewer (sym (ap length
+      (cond-false (is_good x) (x ∷ filter is_good (xs ++ ys)) (filter is_good (xs ++ ys)) bad)) ∙ ap length e)
+      (filter_fewer (xs ++ ys)))
+]
+  where
+    filter_fewer : (zs : List (List ℕ)) → length (filter is_good zs) ≤ length zs
+    filter_fewer [] = omega arith
+    filter_fewer (z ∷ zs) = elim (cases_Bool (is_good z)) [
+      | inl good ↦ rw (cond-true (is_good z) (z ∷ filter is_good zs) (filter is_good zs) good)
+          (let f = filter_fewer zs in omega (arith, f))
+      | inr bad ↦ rw (cond-false (is_good z) (z ∷ filter is_good zs) (filter is_good zs) bad)
+          (let f = filter_fewer zs in omega (arith, f))
+    ]
+
+    fewer : {k l : ℕ} → k ≡ suc l → k ≤ l → ⊥
+    fewer e le = omega (arith, e, le)
+
+pub prefix_came : (got : List ℕ) (sent others : List (List ℕ)) → sent ≡ frames got ++ others
+    → filter is_good sent ≡ sent
+    → CameThrough got sent (replicate (length (frames got)) true)
+prefix_came got sent others is good = record {
+  good = all_good (frames got) others (ap (filter is_good) (sym is) ∙ (good ∙ is))
+      ∙ (sym (all_through (frames got) others) ∙ ap (let_through (replicate (length (frames got)) true)) (sym is));
+}

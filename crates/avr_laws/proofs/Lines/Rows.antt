@@ -1,0 +1,37 @@
+-- Worked lines that aren't honest.
+use Rattle.std.proofs.Common.{◌≡◌, ℕ, List, [], ◌∷◌, inl, inr}
+use Rattle.stk_frame.specs.Frame.{frame}
+use Rattle.stk_host.specs.Tape.{on_tape, answer}
+use Rattle.stk_host.specs.Dialog.{Dialog, Done, Ask}
+use Rattle.stk_emu.specs.Device.{device, refusal}
+use Rattle.stk_emu.specs.Turn.{Kept, Obeyed}
+use Rattle.avr_laws.specs.AnyTape.{AreHonest}
+use Rattle.stk_emu.proofs.Rows.Answers.{start, told}
+
+-- one question, of a command that no programmer knows, whatever is read
+abbrev asks : Dialog ⊥ ℕ
+asks = Ask (0x05 ∷ []) (λ reading. Done 0)
+
+-- an answer that another made, though all else is in order
+pub forged : AreHonest device asks 1 (on_tape (frame 1 (0x05 ∷ 0x00 ∷ []))) start (Obeyed ∷ []) → ⊥
+unfolding answer
+forged (inl own, rest) = different own.1
+  where
+    different : ◌≡◌ {A = List ℕ} (0x05 ∷ 0x00 ∷ []) (0x05 ∷ 0xC9 ∷ []) → ⊥
+    different e = cc
+forged (inr e, rest) = different e
+  where
+    different : ◌≡◌ {A = List ℕ} (0x05 ∷ 0x00 ∷ []) refusal → ⊥
+    different e = cc
+
+-- and the programmer's own answer to a question that it didn't obey now, as an answer kept from before under the number
+pub unseen : AreHonest device asks 1 (on_tape (told 1)) start (Kept ∷ []) → ⊥
+unfolding answer
+unseen (inl own, rest) = kept own.0
+  where
+    kept : Kept ≡ Obeyed → ⊥
+    kept e = cc
+unseen (inr e, rest) = different e
+  where
+    different : ◌≡◌ {A = List ℕ} (0x05 ∷ 0xC9 ∷ []) refusal → ⊥
+    different e = cc

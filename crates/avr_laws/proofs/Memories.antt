@@ -1,0 +1,6 @@
+-- What a verified run leaves in the memories.
+pub mod ExpectedAgrees
+pub mod LaidImages
+pub mod VerifiedRuns
+pub mod FlashBytes
+pub mod WrittenThere

@@ -1,0 +1,165 @@
+-- A byte of flash, after items.
+use Rattle.std.proofs.Common.{◌≡◌, ◌⊎◌, ◌<◌, ℕ, zero, suc, List, [], ◌∷◌, length, get_or, take, bit_and, refl, sym, ap, ◌∙◌, subst, inl, inr, arith, Bool, true, false, if◌then◌else◌, Option, Some, None}
+use Rattle.std.proofs.lemmas.Bool.{true≢false}
+use Rattle.std.proofs.lemmas.List.{length-replicate, get_or-replicate}
+use Rattle.avr_image.specs.Image.{byte_at}
+use Rattle.avr_part.specs.Part.{Part}
+use Rattle.avr_part.specs.declared.part.Mem.TheVariants.{Flash}
+use Rattle.avr_plan.specs.Plan.{Plan}
+use Rattle.stk_emu.specs.Effect.{Image, Item, Erase, Write, Memories, and_with, and_in, are_locked, effect, effects}
+use Rattle.stk_emu.proofs.Memories.LaidImages.{length-and_in, get_and_in}
+use Rattle.avr_laws.specs.Items.{items, has_erase}
+use Rattle.avr_laws.specs.Outcome.{page_writes, IsTouched, IsDone}
+use Rattle.avr_laws.specs.Written.{IsThere, AreThere, and_all, IsMade}
+
+are_later : (item : Item) (xs : List Item) (addr : ℕ) (bytes : List ℕ) → AreThere xs addr bytes
+    → AreThere (item ∷ xs) addr bytes
+are_later item xs addr [] are = tt
+are_later item xs addr (b ∷ bytes) are = (inr are.0, are_later item xs addr bytes are.1)
+
+erase_later : (item : Item) (xs : List Item) → has_erase xs ≡ true → has_erase (item ∷ xs) ≡ true
+erase_later Erase xs has = refl
+erase_later (Write mem image) xs has = has
+
+-- an item before, of which the byte has nothing
+later : (item : Item) (xs : List Item) (addr before after : ℕ) → IsMade xs addr before after
+    → IsMade (item ∷ xs) addr before after
+later item xs addr before after m =
+    let first_is : (m.first ≡ before) ⊎ ((m.first ≡ 255) × (has_erase (item ∷ xs) ≡ true)) =
+    elim m.first_is [ inl same ↦ inl same | inr blank ↦ inr (blank.0, erase_later item xs blank.1) ] in
+    record {
+      first = m.first;
+      bytes = m.bytes;
+      first_is = first_is;
+      are_there =
+          are_later item xs addr m.bytes m.are_there;
+      is = m.is;
+    }
+
+-- an erase
+erased : (xs : List Item) (addr before mid after : ℕ) → mid ≡ 255 → IsMade xs addr mid after
+    → IsMade (Erase ∷ xs) addr before after
+erased xs addr before mid after e m = record {
+  first = m.first;
+  bytes = m.bytes;
+  first_is = elim m.first_is [ inl is ↦ inr (is ∙ e, refl) | inr is ↦ inr (is.0, refl) ];
+  are_there = are_later Erase xs addr m.bytes m.are_there;
+  is = m.is;
+}
+
+-- a write that gives its byte to the one before
+anded : (image : Image) (xs : List Item) (addr before byte mid after : ℕ) → byte_at image addr ≡ Some byte
+    → mid ≡ bit_and before byte
+    → IsMade xs addr mid after → IsMade (Write Flash image ∷ xs) addr before after
+anded image xs addr before byte mid after at e m = elim m.first_is [
+  | inl is ↦ record {
+    first = before;
+    bytes = byte ∷ m.bytes;
+    first_is = inl refl;
+    are_there = (inl at, are_later (Write Flash image) xs addr m.bytes m.are_there);
+    is = m.is ∙ ap (λ (first : ℕ). and_all first m.bytes) (is ∙ e);
+  }
+  | inr is ↦ record {
+    first = m.first;
+    bytes = m.bytes;
+    first_is = inr is;
+    are_there =
+        are_later (Write Flash image) xs addr m.bytes m.are_there;
+    is = m.is;
+  }
+]
+
+-- what a write leaves: the byte, or it AND the image's
+abbrev Writes : Image → ℕ → ℕ → ℕ → Type 0
+Writes image addr before mid = (mid ≡ before)
+    ⊎ ((byte : ℕ) × (byte_at image addr ≡ Some byte) × (mid ≡ bit_and before byte))
+
+with_byte : (image : Image) (addr before mid : ℕ) (b : Option ℕ) → byte_at image addr ≡ b → mid ≡ and_with b before
+    → Writes image addr before mid
+with_byte image addr before mid None at e = inl e
+with_byte image addr before mid (Some byte) at e = inr (byte, at, e)
+
+writes : (image : Image) (xs : List ℕ) (addr : ℕ) (lock : Bool) → addr < length xs
+    → Writes image addr (get_or xs addr 0) (get_or (if lock then xs else and_in image xs) addr 0)
+writes image xs addr true l = inl refl
+writes image xs addr false l = with_byte image addr (get_or xs addr 0) (get_or (and_in image xs) addr 0)
+    (byte_at image addr) refl (get_and_in image xs addr l)
+
+still_inside : (image : Image) (xs : List ℕ) (addr : ℕ) (lock : Bool) → addr < length xs
+    → addr < length (if lock then xs else and_in image xs)
+still_inside image xs addr true l = l
+still_inside image xs addr false l = omega (arith, l, length-and_in image xs)
+
+joined : (image : Image) (xs : List Item) (addr before mid after : ℕ) → Writes image addr before mid
+    → IsMade xs addr mid after → IsMade (Write Flash image ∷ xs) addr before after
+joined image xs addr before mid after (inl same) m =
+    later (Write Flash image) xs addr before after (subst (λ (b : ℕ). IsMade xs addr b after) same m)
+joined image xs addr before mid after (inr by) m = anded image xs addr before by.0 mid after by.1 by.2 m
+
+module _ (part : Part) (addr : ℕ) where
+  abbrev byte : Memories → ℕ
+  byte m = get_or m.flash addr 0
+
+  pub made : (xs : List Item) (m : Memories) → addr < length m.flash
+      → IsMade xs addr (byte m) (byte (effects part xs m))
+  made [] m l = record { first = byte m; bytes = []; first_is = inl refl; are_there = tt; is = refl }
+  made (Erase ∷ xs) m l =
+      erased xs addr (byte m) (byte (effect part Erase m)) (byte (effects part xs (effect part Erase m)))
+      (get_or-replicate (length m.flash) addr 255 0 l)
+      (made xs (effect part Erase m) (omega (arith, l, length-replicate {A = ℕ} (length m.flash) 255)))
+  made (Write Flash image ∷ xs) m l =
+      joined image xs addr (byte m) (byte (effect part (Write Flash image) m))
+      (byte (effects part xs (effect part (Write Flash image) m)))
+      (writes image m.flash addr (are_locked m) l)
+      (made xs (effect part (Write Flash image) m) (still_inside image m.flash addr (are_locked m) l))
+  made (Write mem image ∷ xs) m l =
+      later (Write mem image) xs addr (byte m) (byte (effects part xs (effect part (Write mem image) m)))
+      (made xs (effect part (Write mem image) m) l)
+
+-- first items of some
+there_of : (k : ℕ) (xs : List Item) (addr byte : ℕ) → IsThere (take k xs) addr byte → IsThere xs addr byte
+there_of zero xs addr byte is = absurd is
+there_of (suc k) [] addr byte is = absurd is
+there_of (suc k) (x ∷ xs) addr byte (inl is) = inl is
+there_of (suc k) (x ∷ xs) addr byte (inr is) = inr (there_of k xs addr byte is)
+
+all_there : (k : ℕ) (xs : List Item) (addr : ℕ) (bytes : List ℕ) → AreThere (take k xs) addr bytes
+    → AreThere xs addr bytes
+all_there k xs addr [] are = tt
+all_there k xs addr (b ∷ bytes) are = (there_of k xs addr b are.0, all_there k xs addr bytes are.1)
+
+erase_of : (k : ℕ) (xs : List Item) → has_erase (take k xs) ≡ true → has_erase xs ≡ true
+erase_of zero xs has = absurd (true≢false (sym has))
+erase_of (suc k) [] has = has
+erase_of (suc k) (Erase ∷ xs) has = refl
+erase_of (suc k) (Write mem image ∷ xs) has = erase_of k xs has
+
+pub done_made : (plan : Plan) (before after : Memories) (addr : ℕ) → addr < length before.flash
+    → IsDone plan before after
+    → IsMade (items plan) addr (get_or before.flash addr 0) (get_or after.flash addr 0)
+done_made plan before after addr l done =
+    subst (λ (m : Memories). IsMade (items plan) addr (get_or before.flash addr 0) (get_or m.flash addr 0))
+    (sym done.memories) (made plan.part addr (items plan) before l)
+
+pub touched_made : (plan : Plan) (before after : Memories) (addr : ℕ) → addr < length before.flash
+    → IsTouched plan before after
+    → IsMade (page_writes plan) addr (get_or before.flash addr 0) (get_or after.flash addr 0)
+touched_made plan before after addr l touched =
+    let m : IsMade (take touched.count (page_writes plan)) addr (get_or before.flash addr 0)
+    (get_or after.flash addr 0) =
+    subst (λ (n : Memories). IsMade (take touched.count (page_writes plan)) addr (get_or before.flash addr 0)
+    (get_or n.flash addr 0)) (sym touched.memories)
+    (made plan.part addr (take touched.count (page_writes plan)) before l) in
+    let first_is : (m.first ≡ get_or before.flash addr 0) ⊎ ((m.first ≡ 255) × (has_erase (page_writes plan) ≡ true)) =
+    elim m.first_is [
+      | inl same ↦ inl same
+      | inr blank ↦ inr (blank.0, erase_of touched.count (page_writes plan) blank.1)
+    ] in
+    record {
+      first = m.first;
+      bytes = m.bytes;
+      first_is = first_is;
+      are_there =
+          all_there touched.count (page_writes plan) addr m.bytes m.are_there;
+      is = m.is;
+    }

@@ -1,0 +1,197 @@
+-- What writes leave in a memory: their images laid over each other, and elsewhere what was there.
+use Rattle.std.proofs.Common.{◌≡◌, ℕ, zero, suc, ◌≤◌, ◌<◌, arith, refl, sym, ap, ◌∙◌, subst, List, [], ◌∷◌, ◌++◌, length, get_or, Bool, true, false, Option, Some, None, unwrap_or}
+use Rattle.std.proofs.lemmas.Bool.{true≢false}
+use Rattle.std.proofs.lemmas.List.{length-replicate}
+use Rattle.std.specs.Prelude.{◌==◌, if◌then◌else◌}
+use Rattle.avr_cli.specs.declared.settings.Switches.{Switches}
+use Rattle.avr_image.specs.Image.{empty, byte_at, either, over}
+use Rattle.avr_part.specs.Part.{Part, size_of}
+use Rattle.avr_part.specs.declared.part.Mem.{Mem}
+use Rattle.avr_plan.specs.declared.planned.Task.{Task}
+use Rattle.avr_plan.specs.declared.planned.Task.TheVariants as task
+use Rattle.avr_session.specs.Actions.{TheWrite, Action, WriteImage, CompareImage, LeaveOut, tasks_actions}
+use Rattle.stk_emu.specs.Effect.{Image, Memories, with_image, and_in, and_with, are_locked, write_effect, effects, memory_in}
+use Rattle.stk_emu.proofs.Memories.LaidImages.{length-laid, length-and_in}
+use Rattle.avr_laws.proofs.PageWrites.EachMemory.{same_memory, keeps_zeros, laid, spares, write_is, others_stay}
+use Rattle.avr_laws.specs.Agrees.{Shows, ActionsAgree}
+use Rattle.avr_laws.specs.Items.{actions_items}
+use Rattle.avr_laws.specs.Written.{memory_number, written_to, byte_in}
+use Rattle.avr_laws.proofs.Plans.Fits.{AllFitActions}
+
+none_some : {A : Type 0} (b : ℕ) → ◌≡◌ {A = Option ℕ} None (Some b) → A
+none_some b e = absurd (let no : ⊥ = cc in no)
+
+some_none : {A : Type 0} (b : ℕ) → ◌≡◌ {A = Option ℕ} (Some b) None → A
+some_none b e = absurd (let no : ⊥ = cc in no)
+
+-- ---- images laid over each other, byte by byte
+
+byte_of_empty : (size i : ℕ) → byte_at (empty size) i ≡ None
+byte_of_empty zero i = refl
+byte_of_empty (suc size) zero = refl
+byte_of_empty (suc size) (suc i) = byte_of_empty size i
+
+length-over : (a b : Image) → length (over a b) ≡ length a
+length-over [] b = refl
+length-over (x ∷ a) [] = refl
+length-over (x ∷ a) (y ∷ b) = ap suc (length-over a b)
+
+byte_of_over : (a b : Image) (i : ℕ) → length b ≤ length a → byte_at (over a b) i ≡ either (byte_at b i) (byte_at a i)
+byte_of_over [] [] i l = refl
+byte_of_over [] (y ∷ b) i l = absurd (omega (arith, l))
+byte_of_over (x ∷ a) [] i l = refl
+byte_of_over (x ∷ a) (y ∷ b) zero l = refl
+byte_of_over (x ∷ a) (y ∷ b) (suc i) l = byte_of_over a b i (omega (arith, l))
+
+-- ---- a write to bytes
+
+-- The bytes stay as many, and keep theirs where the image holds none.
+pub record Keeps (image : Image) (old new : List ℕ) : Type 0 where
+  pub size : length new ≡ length old
+  pub rest : (i : ℕ) → byte_at image i ≡ None → get_or new i 0 ≡ get_or old i 0
+
+kept_byte : (o : Option ℕ) (x : ℕ) → o ≡ None → unwrap_or o x ≡ x
+kept_byte None x e = refl
+kept_byte (Some b) x e = some_none b e
+
+kept_bits : (o : Option ℕ) (x : ℕ) → o ≡ None → and_with o x ≡ x
+kept_bits None x e = refl
+kept_bits (Some b) x e = some_none b e
+
+rest_laid : (image : Image) (xs : List ℕ) (i : ℕ) → byte_at image i ≡ None
+    → get_or (with_image image xs) i 0 ≡ get_or xs i 0
+rest_laid image [] i e = refl
+rest_laid [] (x ∷ xs) i e = refl
+rest_laid (b ∷ image) (x ∷ xs) zero e = kept_byte b x e
+rest_laid (b ∷ image) (x ∷ xs) (suc i) e = rest_laid image xs i e
+
+rest_anded : (image : Image) (xs : List ℕ) (i : ℕ) → byte_at image i ≡ None
+    → get_or (and_in image xs) i 0 ≡ get_or xs i 0
+rest_anded image [] i e = refl
+rest_anded [] (x ∷ xs) i e = refl
+rest_anded (b ∷ image) (x ∷ xs) zero e = kept_bits b x e
+rest_anded (b ∷ image) (x ∷ xs) (suc i) e = rest_anded image xs i e
+
+keeps_written : (spared zeros : Bool) (image : Image) (xs : List ℕ)
+    → Keeps image xs (if spared then xs else laid zeros image xs)
+keeps_written true zeros image xs = record { size = refl; rest = λ i none. refl }
+keeps_written false true image xs =
+    record { size = length-and_in image xs; rest = λ i none. rest_anded image xs i none }
+keeps_written false false image xs = record { size = length-laid image xs; rest = λ i none. rest_laid image xs i none }
+
+pub write_keeps : (part : Part) (mem : Mem) (image : Image) (m : Memories)
+    → Keeps image (memory_in part mem m) (memory_in part mem (write_effect mem image m))
+write_keeps part mem image m = subst (Keeps image (memory_in part mem m)) (sym (write_is part mem mem image m))
+    (keeps_written (spares mem mem (are_locked m)) (keeps_zeros mem) image (memory_in part mem m))
+
+-- ---- what is left of one memory
+
+-- It is as large as before, holds the image, and elsewhere what it held.
+pub record Left (part : Part) (mem : Mem) (image : Image) (old new : Memories) : Type 0 where
+  pub size : length (memory_in part mem new) ≡ length (memory_in part mem old)
+  pub shows : Shows part mem image new
+  pub rest : (i : ℕ) → byte_at image i ≡ None → byte_in part mem i new ≡ byte_in part mem i old
+
+module _ (part : Part) where
+  left_as_it_is : (mem : Mem) (size : ℕ) (m : Memories) → Left part mem (empty size) m m
+  left_as_it_is mem size m = record {
+    size = refl;
+    shows = λ i b held l. none_some b (sym (byte_of_empty size i) ∙ held);
+    rest = λ i none. refl;
+  }
+
+  left_by_write : (mem : Mem) (image : Image) (m : Memories) → Shows part mem image (write_effect mem image m)
+      → Left part mem image m (write_effect mem image m)
+  left_by_write mem image m shows = let kept = write_keeps part mem image m in
+      record { size = kept.size; shows = shows; rest = kept.rest }
+
+  -- from where the memory was the same
+  left_from : (mem : Mem) (image : Image) (old between new : Memories)
+      → memory_in part mem between ≡ memory_in part mem old
+      → Left part mem image between new → Left part mem image old new
+  left_from mem image old between new same left = record {
+    size = left.size ∙ ap (λ (xs : List ℕ). length xs) same;
+    shows = left.shows;
+    rest = λ i none. left.rest i none ∙ ap (λ (xs : List ℕ). get_or xs i 0) same;
+  }
+
+  -- one image after another
+  left_over : (mem : Mem) (first second : Image) (old between new : Memories) → length second ≤ length first
+      → Left part mem first old between → Left part mem second between new → Left part mem (over first second) old new
+  left_over mem first second old between new l a b = record {
+    size = b.size ∙ a.size;
+    shows = λ i byte held inside. shown i byte (byte_at second i) refl (sym (byte_of_over first second i l) ∙ held)
+        inside;
+    rest = λ i none. kept i (byte_at second i) refl (sym (byte_of_over first second i l) ∙ none);
+  }
+    where
+      shown : (i byte : ℕ) (o : Option ℕ) → byte_at second i ≡ o → either o (byte_at first i) ≡ Some byte
+          → i < length (memory_in part mem new) → get_or (memory_in part mem new) i 0 ≡ byte
+      shown i byte (Some c) e held inside = b.shows i byte (e ∙ held) inside
+      shown i byte None e held inside = b.rest i e ∙ a.shows i byte held (omega (arith, inside, b.size))
+
+      kept : (i : ℕ) (o : Option ℕ) → byte_at second i ≡ o → either o (byte_at first i) ≡ None
+          → get_or (memory_in part mem new) i 0 ≡ get_or (memory_in part mem old) i 0
+      kept i (Some c) e none = some_none c none
+      kept i None e none = b.rest i e ∙ a.rest i none
+
+  -- ---- what actions leave
+
+  size_over : (mem other : Mem) (image more : Image) (same : Bool) → (memory_number other == memory_number mem) ≡ same
+      → length image ≡ size_of other part → length more ≡ size_of mem part
+      → length (if same then over image more else more) ≡ size_of mem part
+  size_over mem other image more true e fits rest =
+      length-over image more ∙ (fits ∙ ap (λ (x : Mem). size_of x part) (same_memory other mem e))
+  size_over mem other image more false e fits rest = rest
+
+  length-written_to : (mem : Mem) (actions : List Action) → AllFitActions part actions
+      → length (written_to part mem (actions_items actions)) ≡ size_of mem part
+  length-written_to mem [] fit = length-replicate {A = Option ℕ} (size_of mem part) None
+  length-written_to mem (WriteImage other image ∷ actions) fit =
+      size_over mem other image (written_to part mem (actions_items actions)) (memory_number other == memory_number mem)
+      refl fit.0.0 (length-written_to mem actions fit.1)
+  length-written_to mem (action ∷ actions) fit = length-written_to mem actions fit.1
+
+  -- a write, and what follows it
+  write_left : (mem other : Mem) (image more : Image) (m new : Memories) (same : Bool)
+      → (memory_number other == memory_number mem) ≡ same
+      → length image ≡ size_of other part → length more ≡ size_of mem part
+      → Shows part other image (write_effect other image m) → Left part mem more (write_effect other image m) new
+      → Left part mem (if same then over image more else more) m new
+  write_left mem other image more m new true e fits size shows left =
+      let is = same_memory other mem e in
+      let long : length image ≡ size_of mem part = fits ∙ ap (λ (x : Mem). size_of x part) is in
+      let first : Left part mem image m (write_effect other image m) =
+      subst (λ x. Left part x image m (write_effect other image m)) is (left_by_write other image m shows) in
+      left_over mem image more m (write_effect other image m) new (omega (arith, long, size)) first left
+  write_left mem other image more m new false e fits size shows left =
+      left_from mem more m (write_effect other image m) new (others_stay part other mem image m e) left
+
+  -- what actions leave of a memory that agree
+  abbrev Leave : Mem → List Action → Memories → Type 0
+  Leave mem actions m = AllFitActions part actions → ActionsAgree part actions m
+      → Left part mem (written_to part mem (actions_items actions)) m (effects part (actions_items actions) m)
+
+  write_leaves : (dry left_out : Bool) (mem other : Mem) (image : Image) (more : List Action) (m : Memories)
+      → left_out ≡ false → ((now : Memories) → Leave mem more now)
+      → Leave mem ((if dry then LeaveOut (TheWrite other image) ∷ []
+      else WriteImage other image ∷ (if left_out then [] else CompareImage other image ∷ [])) ++ more) m
+  write_leaves true left_out mem other image more m e rest fit agree = rest m fit.1 agree.1
+  write_leaves false true mem other image more m e rest fit agree = absurd (true≢false e)
+  write_leaves false false mem other image more m e rest fit agree =
+      let after = write_effect other image m in
+      write_left mem other image (written_to part mem (actions_items more)) m (effects part (actions_items more) after)
+      (memory_number other == memory_number mem) refl
+      fit.0.0 (length-written_to mem more fit.1.1) agree.1.0 (rest after fit.1.1 agree.1.1)
+
+  -- where writes are read back
+  pub tasks_left : (s : Switches) → s.no_verify ≡ false → (mem : Mem) (tasks : List Task) (m : Memories)
+      → Leave mem (tasks_actions s tasks) m
+  tasks_left s verified mem [] m fit agree = left_as_it_is mem (size_of mem part) m
+  tasks_left s verified mem (task.Write other image ∷ tasks) m fit agree =
+      write_leaves s.dry s.no_verify mem other image (tasks_actions s tasks) m verified
+      (λ now. tasks_left s verified mem tasks now) fit agree
+  tasks_left s verified mem (task.Verify other image ∷ tasks) m fit agree =
+      tasks_left s verified mem tasks m fit.1 agree.1
+  tasks_left s verified mem (task.Read other format file ∷ tasks) m fit agree =
+      tasks_left s verified mem tasks m fit.1 agree.1

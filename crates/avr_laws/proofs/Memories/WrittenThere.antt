@@ -1,0 +1,134 @@
+-- An image that a memory takes is there once it is written.
+use Rattle.std.proofs.Common.{◌≡◌, ◌<◌, ℕ, zero, suc, List, [], ◌∷◌, ◌++◌, length, get_or, refl, sym, ap, ◌∙◌, subst, arith, Bool, true, false, inl, inr, Option, Some, None, unwrap_or, bit_and}
+use Rattle.std.proofs.lemmas.Bool.{cases_Bool, eqb-true, true≢false}
+use Rattle.std.proofs.lemmas.List.{length-replicate, get_or-replicate}
+use Rattle.std.specs.Prelude.{◌==◌, if◌then◌else◌}
+use Rattle.avr_image.specs.Image.{byte_at, HoldsBytes}
+use Rattle.avr_part.specs.Part.{Part}
+use Rattle.avr_part.specs.declared.part.Mem.{Mem}
+use Rattle.avr_part.specs.declared.part.Mem.TheVariants.{Flash, Eeprom, Lfuse, Hfuse, Efuse, Lock, Signature, Calibration}
+use Rattle.stk_emu.specs.Effect.{Image, Item, Erase, Write, Memories, with_image, and_in, and_with, are_locked, effect, effects, write_effect, memory_in}
+use Rattle.stk_emu.specs.Given.{HoldsImage}
+use Rattle.avr_laws.proofs.Given.Comparisons.{and_from_blank, laid_holds}
+use Rattle.stk_emu.proofs.Memories.LaidImages.{length-and_in, get_and_in}
+use Rattle.avr_laws.proofs.PageWrites.Pages.{effects_on}
+use Rattle.avr_laws.specs.Agrees.{Shows}
+use Rattle.avr_laws.specs.Items.{has_erase}
+use Rattle.avr_laws.specs.Written.{memory_number, LeaveFree, IsErasedFor, IsTaken}
+use Rattle.avr_laws.proofs.PageWrites.EachMemory.{same_memory, size_stays, others_stay}
+use Rattle.avr_laws.proofs.Memories.LaidImages.{write_keeps}
+
+-- ---- an erased place stays blank until an image has a byte for it
+
+module _ (part : Part) (mem : Mem) (addr : ℕ)
+    (blanked : (m : Memories) → addr < length (memory_in part mem m)
+    → get_or (memory_in part mem (effect part Erase m)) addr 0 ≡ 255)
+    (sized : (m : Memories) → length (memory_in part mem (effect part Erase m)) ≡ length (memory_in part mem m)) where
+  abbrev held : Memories → ℕ
+  held m = get_or (memory_in part mem m) addr 0
+
+  abbrev IsInside : Memories → Type 0
+  IsInside m = addr < length (memory_in part mem m)
+
+  -- a write that has no byte there
+  past_write : (other : Mem) (image : Image) (m : Memories)
+      → (memory_number other ≡ memory_number mem → byte_at image addr ≡ None)
+      → held (write_effect other image m) ≡ held m
+  past_write other image m free = elim (cases_Bool (memory_number other == memory_number mem)) [
+    | inl same ↦ subst (λ (o : Mem). held (write_effect o image m) ≡ held m) (sym (same_memory other mem same))
+        ((write_keeps part mem image m).rest addr (free (eqb-true (memory_number other) (memory_number mem) same)))
+    | inr differ ↦ ap (λ (xs : List ℕ). get_or xs addr 0) (others_stay part other mem image m differ)
+  ]
+
+  stays_blank : (xs : List Item) (m : Memories) → IsInside m → LeaveFree xs mem addr → held m ≡ 255
+      → held (effects part xs m) ≡ 255
+  stays_blank [] m inside free blank = blank
+  stays_blank (Erase ∷ xs) m inside free blank =
+      stays_blank xs (effect part Erase m) (omega (arith, inside, sized m)) free (blanked m inside)
+  stays_blank (Write other image ∷ xs) m inside free blank =
+      stays_blank xs (write_effect other image m) (omega (arith, inside, size_stays part other mem image m)) free.1
+      (past_write other image m free.0 ∙ blank)
+
+  pub erased_is_blank : (xs : List Item) (m : Memories) → IsInside m → LeaveFree xs mem addr → has_erase xs ≡ true
+      → held (effects part xs m) ≡ 255
+  erased_is_blank [] m inside free has = absurd (true≢false (sym has))
+  erased_is_blank (Erase ∷ xs) m inside free has =
+      stays_blank xs (effect part Erase m) (omega (arith, inside, sized m)) free (blanked m inside)
+  erased_is_blank (Write other image ∷ xs) m inside free has =
+      erased_is_blank xs (write_effect other image m) (omega (arith, inside, size_stays part other mem image m)) free.1
+      has
+
+  pub sizes_stay : (xs : List Item) (m : Memories)
+      → length (memory_in part mem (effects part xs m)) ≡ length (memory_in part mem m)
+  sizes_stay [] m = refl
+  sizes_stay (Erase ∷ xs) m = sizes_stay xs (effect part Erase m) ∙ sized m
+  sizes_stay (Write other image ∷ xs) m =
+      sizes_stay xs (write_effect other image m) ∙ size_stays part other mem image m
+
+-- ---- and it takes the image's byte
+
+anded_blank : (o : Option ℕ) (x b : ℕ) → o ≡ Some b → x ≡ 255 → b < 256 → and_with o x ≡ b
+anded_blank o x b is blank small = ap (λ (p : Option ℕ). and_with p x) is
+    ∙ (ap (λ (y : ℕ). bit_and y b) blank ∙ and_from_blank b small)
+
+flash_there : (image : Image) (xs : List ℕ) (is_locked : Bool) → is_locked ≡ false → HoldsBytes image
+    → ((i b : ℕ) → byte_at image i ≡ Some b → i < length xs → get_or xs i 0 ≡ 255)
+    → HoldsImage image (if is_locked then xs else and_in image xs)
+flash_there image xs true free bytes blank = absurd (true≢false free)
+flash_there image xs false free bytes blank = λ i b is l.
+    let inside : i < length xs = omega (arith, l, length-and_in image xs) in
+    get_and_in image xs i inside ∙ anded_blank (byte_at image i) (get_or xs i 0) b is (blank i b is inside)
+    (bytes i b is)
+
+eeprom_there : (image : Image) (xs : List ℕ) (is_locked : Bool) → is_locked ≡ false
+    → HoldsImage image (if is_locked then xs else with_image image xs)
+eeprom_there image xs true free = absurd (true≢false free)
+eeprom_there image xs false free = laid_holds image xs
+
+one_there : (image : Image) (y : ℕ) → ((b : ℕ) → byte_at image 0 ≡ Some b → y ≡ b) → HoldsImage image (y ∷ [])
+one_there image y there zero b is l = there b is
+one_there image y there (suc i) b is l = absurd (omega (arith, l))
+
+fuse_there : (image : Image) (x : ℕ) (is_locked : Bool) → is_locked ≡ false
+    → HoldsImage image ((if is_locked then x else unwrap_or (byte_at image 0) x) ∷ [])
+fuse_there image x true free = absurd (true≢false free)
+fuse_there image x false free = one_there image (unwrap_or (byte_at image 0) x)
+    (λ b is. ap (λ (o : Option ℕ). unwrap_or o x) is)
+
+module _ (part : Part) (image : Image) (first : List Item) (before : Memories) (bytes : HoldsBytes image) where
+  abbrev mid : Memories
+  mid = effects part first before
+
+  flash_blank : IsErasedFor Flash image first → (i b : ℕ) → byte_at image i ≡ Some b → i < length mid.flash
+      → get_or mid.flash i 0 ≡ 255
+  flash_blank erased i b is l =
+      let blanked : (m : Memories) → i < length m.flash
+      → get_or (memory_in part Flash (effect part Erase m)) i 0 ≡ 255 =
+      λ m inside. get_or-replicate (length m.flash) i 255 0 inside in
+      let sized : (m : Memories) → length (memory_in part Flash (effect part Erase m)) ≡ length m.flash =
+      λ m. length-replicate {A = ℕ} (length m.flash) 255 in
+      erased_is_blank part Flash i blanked sized first before
+      (omega (arith, l, sizes_stay part Flash i blanked sized first before)) (erased.1 i b is) erased.0
+
+  lock_blank : IsErasedFor Lock image first → (b : ℕ) → byte_at image 0 ≡ Some b → mid.lock ≡ 255
+  lock_blank erased b is = erased_is_blank part Lock 0 (λ m inside. refl) (λ m. refl) first before (omega arith)
+      (erased.1 0 b is) erased.0
+
+  there : (mem : Mem) → IsTaken mem image first mid → Shows part mem image (write_effect mem image mid)
+  there Flash taken = flash_there image mid.flash (are_locked mid) taken.0 bytes (flash_blank taken.1)
+  there Eeprom taken = eeprom_there image mid.eeprom (are_locked mid) taken
+  there Lfuse taken = fuse_there image mid.lfuse (are_locked mid) taken
+  there Hfuse taken = fuse_there image mid.hfuse (are_locked mid) taken
+  there Efuse taken = fuse_there image mid.efuse (are_locked mid) taken
+  there Lock taken =
+      one_there image (and_with (byte_at image 0) mid.lock)
+      (λ b is. anded_blank (byte_at image 0) mid.lock b is (lock_blank taken b is) (bytes 0 b is))
+  there Signature taken = absurd taken
+  there Calibration taken = absurd taken
+
+pub written_there : (part : Part) (before now : Memories) (mem : Mem) (image : Image) (first : List Item)
+    → HoldsBytes image → now ≡ effects part (first ++ Write mem image ∷ []) before
+    → IsTaken mem image first (effects part first before) → Shows part mem image now
+written_there part before now mem image first bytes is taken =
+    subst (λ (m : Memories). Shows part mem image m) (sym (is ∙ effects_on part first (Write mem image ∷ []) before))
+    (there part image first before bytes mem taken)

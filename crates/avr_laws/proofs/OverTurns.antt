@@ -1,0 +1,125 @@
+-- A session that went along turns, by the page's words.
+use Rattle.std.proofs.Common.{◌≡◌, ◌*◌, ℕ, List, All, length, sym, ap, ◌∙◌, subst}
+use Rattle.avr_desk.specs.Said.{OutputEvent}
+use Rattle.avr_part.specs.Part.{IsPart}
+use Rattle.avr_part.specs.Sound.{IsSoundChip}
+use Rattle.avr_part.specs.State as chips
+use Rattle.avr_plan.specs.Plan.{Plan, IsFitted}
+use Rattle.avr_session.specs.Session.{session}
+use Rattle.stk_frame.specs.Cut.{frames}
+use Rattle.stk_host.specs.Dialog.{Done, played, frames_in, bytes_sent}
+use Rattle.stk_host.specs.Play.{IsPrefixOf}
+use Rattle.stk_host.specs.Tape.{Tape}
+use Rattle.stk_emu.specs.Along.{along, said_along, AsksBodies}
+use Rattle.stk_emu.specs.Device.{device}
+use Rattle.stk_emu.specs.Effect.{Memories, memories_of}
+use Rattle.stk_emu.specs.Programmer.{Programmer, fresh_programmer}
+use Rattle.stk_emu.specs.Settled.{Idle, FitsPart}
+use Rattle.stk_emu.specs.Turn.{Turn, Became}
+use Rattle.avr_laws.specs.AnyLine.{weighed, bodies_in, OverTurns, ComesOverTurns}
+use Rattle.avr_laws.specs.AnyTape.{AreHonest}
+use Rattle.avr_session.specs.PlanSteps.{run_steps}
+use Rattle.avr_laws.specs.ExpectedRun.{expected_run}
+use Rattle.avr_laws.specs.Few.{AreFew}
+use Rattle.avr_laws.specs.Foretold.{EndsAsForetold}
+use Rattle.avr_laws.specs.Outcome.{IsDone, IsExpectedRun}
+use Rattle.avr_laws.specs.Told.{IsTrue}
+use Rattle.avr_laws.proofs.AnyLine.FrameSizes.{session_asks}
+use Rattle.avr_laws.proofs.AnyLine.PageWriteOrder.{session_makes}
+use Rattle.avr_laws.proofs.Bounds.Weights.{session_weighs}
+use Rattle.avr_laws.proofs.Bounds.WireFrames.{prefix_weighs}
+use Rattle.avr_laws.proofs.FewBad.DialogEnds.{Came}
+use Rattle.avr_laws.proofs.FewBad.Sessions.{session_ends}
+use Rattle.avr_laws.proofs.Given.FirstSteps.{fresh_idle, fresh_fits}
+use Rattle.avr_laws.proofs.Memories.VerifiedRuns.{run_written}
+use Rattle.avr_laws.proofs.Reports.OverTape.{ByTurns, told_any}
+use Rattle.avr_laws.proofs.Reports.Truth.{session_leaves, session_tells}
+use Rattle.avr_laws.proofs.Reports.UpToFault.{foretold_end, foretold_on_tape, session_succeeds}
+use Rattle.avr_laws.proofs.SecondRun.Status.{succeeds}
+
+module _ (plan : Plan) (s : chips.ChipState) (is_sound : IsSoundChip s) (part_is : s.part ≡ plan.part)
+    (fitted : All (IsFitted plan.part) plan.tasks) where
+  abbrev begun : Programmer
+  begun = fresh_programmer s
+
+  abbrev before : Memories
+  before = memories_of s
+
+  sound : IsPart plan.part
+  sound = subst IsPart part_is is_sound.part
+
+  sizes : FitsPart plan.part before
+  sizes = subst (λ part. FitsPart part before) part_is (fresh_fits s is_sound)
+
+  idle : Idle plan.part before begun
+  idle = subst (λ part. Idle part before begun) part_is (fresh_idle s is_sound)
+
+  pub asks : AsksBodies (session plan)
+  asks = session_asks plan sound fitted
+
+  -- after the frames of these bytes the programmer stands along the turns
+  module _ (turns : List Turn) (q : Programmer) (bytes : List ℕ)
+      (stands : q ≡ (along device (length (frames bytes)) (session plan) begun turns).programmer) where
+    abbrev count : ℕ
+    count = length (frames bytes)
+
+    abbrev after : Memories
+    after = memories_of q.chip
+
+    pub over_turns : (tape : Tape) (becames : List Became)
+        → IsPrefixOf bytes (bytes_sent (played (session plan) 1 tape).events)
+        → AreHonest device (session plan) 1 tape begun becames
+        → ByTurns (length (frames_in (played (session plan) 1 tape).events)) becames turns
+        → OverTurns plan begun q turns bytes (played (session plan) 1 tape).events
+    over_turns tape becames prefix honest same =
+        let made = session_makes plan sound fitted before sizes begun turns idle in
+        record {
+          page_writes = record {
+            count = made.count count;
+            at_least = made.at_least count;
+            at_most = made.at_most count;
+            none = λ zero. ap made.count zero ∙ made.none;
+            memories = ap (λ (r : Programmer). memories_of r.chip) stands ∙ made.stands count;
+          };
+          four = λ weight. prefix_weighs weight (4 * weighed weight (bodies_in (run_steps plan))) (session plan) 1 tape
+              bytes asks (session_weighs weight plan) prefix;
+          believable = told_any device (λ r output. IsTrue plan before (memories_of r.chip) output) (session plan) 1
+              tape begun becames turns asks
+              (λ k others. session_tells plan sound before sizes fitted k begun others idle) honest same;
+          foretold = foretold_on_tape plan sound fitted before sizes begun tape becames idle honest;
+        }
+
+    -- and the session has come to a status there
+    module _ (says : List OutputEvent) (status : ℕ)
+        (comes : (along device (length (frames bytes)) (session plan) begun turns).dialog ≡ Done status)
+        (says_are : says ≡ said_along device (length (frames bytes)) (session plan) begun turns) where
+      has_expected : Came status (expected_run plan before).status (said_along device count (session plan) begun turns)
+          (expected_run plan before).says
+          (memories_of (along device count (session plan) begun turns).programmer.chip
+          ≡ (expected_run plan before).memories)
+          → IsExpectedRun plan before after says status
+      has_expected c = record {
+        said = says_are ∙ c.outputs;
+        status_is = c.result;
+        memories = ap (λ (r : Programmer). memories_of r.chip) stands ∙ c.after;
+      }
+
+      is_done : status ≡ 0 → IsDone plan before after
+      is_done zero = subst (λ (r : Programmer). IsDone plan before (memories_of r.chip)) (sym stands)
+          ((session_leaves plan sound fitted before sizes begun turns idle).after count status comes zero)
+
+      its_expected : AreFew turns → IsExpectedRun plan before after says status
+      its_expected few = has_expected
+          (session_ends plan sound fitted before begun turns sizes idle few count status comes)
+
+      pub comes_over_turns : ComesOverTurns plan before after turns says status
+      comes_over_turns = record {
+        said = subst (λ x. EndsAsForetold plan before x status) (sym says_are)
+            (foretold_end plan sound fitted before sizes count status begun turns idle comes);
+        success = λ zero. has_expected
+            (session_succeeds plan sound fitted before sizes count status begun turns idle comes zero);
+        done = is_done;
+        images = λ zero verified. run_written plan before after fitted verified (is_done zero) sound sizes;
+        few_bad = its_expected;
+        again = λ few erases both. succeeds plan before status sizes erases both (its_expected few).status_is;
+      }

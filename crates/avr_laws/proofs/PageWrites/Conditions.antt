@@ -1,0 +1,154 @@
+-- A play of steps along a line: how many of their conditions it has climbed.
+use Rattle.std.proofs.Common.{◌≡◌, ℕ, zero, suc, ◌≤◌, List, [], ◌∷◌, ◌++◌, length, refl, sym, ap, ◌∙◌, subst, arith, ◌⊎◌, inl, inr, Ok, Err}
+use Rattle.stk_frame.specs.declared.command.Command.{Command}
+use Rattle.stk_host.specs.Dialog.{Dialog, Done, Say, Ask, ◌>>=◌}
+use Rattle.stk_host.specs.Steps.{StepOutcome, exchange, attempt, tries, step, if_done, play}
+use Rattle.stk_emu.specs.Turn.{Turn}
+use Rattle.stk_emu.specs.Device.{Device}
+use Rattle.stk_emu.specs.Along.{LineState, along}
+use Rattle.avr_laws.proofs.Leads.{AllFit, AreSome, Climbs}
+use Rattle.avr_laws.specs.Made.{step_count, steps_done}
+use Rattle.avr_laws.proofs.Hosts.Attempts.{along_bind, onward, step_stands, Stepped, err≢ok}
+use Rattle.avr_laws.proofs.Hosts.AnyTurn.{asks≢done, done_is}
+
+module _ {P : Type 0} (m : Device P) where
+  -- a dialog that was done before its last question was done then
+  pub along_before : {E R : Type 0} (k left : ℕ) (d : Dialog E R) (p : P) (turns : List Turn) (r : R)
+      → (along m (suc k) d p turns).dialog ≡ Done r → (along m (suc k) d p turns).left ≡ suc left
+      → along m k d p turns ≡ record {
+        dialog = Done r;
+        programmer = (along m (suc k) d p turns).programmer;
+        turns =
+            (along m (suc k) d p turns).turns;
+        left = left;
+      }
+  along_before k left (Done q) p turns r e n =
+      let same : k ≡ left = omega (arith, n) in
+      ap (λ x. record { dialog = Done q; programmer = p; turns = turns; left = x }) same
+      ∙ ap (λ x. record { dialog = Done x; programmer = p; turns = turns; left = left }) (done_is q r e)
+  along_before k left (Say s d) p turns r e n = along_before k left d p turns r e n
+  along_before zero left (Ask bytes go_on) p turns r e n = absurd (none_left (go_on _) _ _ e n)
+    where
+      none_left : {E R : Type 0} (d : Dialog E R) (p : P) (turns : List Turn) {r : R} {left : ℕ}
+          → (along m 0 d p turns).dialog ≡ Done r → (along m 0 d p turns).left ≡ suc left → ⊥
+      none_left (Done q) p turns e n = omega (arith, n)
+      none_left (Say s d) p turns e n = none_left d p turns e n
+      none_left (Ask bytes go_on) p turns e n = omega (arith, n)
+  along_before (suc k) left (Ask bytes go_on) p turns r e n = along_before k left (go_on _) _ _ r e n
+
+  module _ (At : ℕ → P → Type 0) where
+    -- what is reported of the rest of a play
+    abbrev Rest : ℕ → LineState ⊥ StepOutcome P → ℕ → ℕ → Type 0
+    Rest total s done before =
+        (count : ℕ) × (done ≤ count) × (count ≤ suc before) × (At count s.programmer)
+        × ((bytes : List ℕ) → s.dialog ≡ Done (Ok bytes) → count ≡ total)
+
+    first_rest : (total before : ℕ) (p : P) (s : LineState ⊥ StepOutcome P) → s.programmer ≡ p
+        → ((bytes : List ℕ) → s.dialog ≡ Done (Ok bytes) → ⊥) → At 0 p ⊎ At 1 p → Rest total s 0 before
+    first_rest total before p s is none (inl b) =
+        (0, omega arith, omega arith, subst (At 0) (sym is) b, λ bytes e. absurd (none bytes e))
+    first_rest total before p s is none (inr a) =
+        (1, omega arith, omega arith, subst (At 1) (sym is) a, λ bytes e. absurd (none bytes e))
+
+    -- the rest after a step that gave data, by how many questions are left
+    behind : (left k : ℕ) (steps : List (List Command)) (commands : List Command) (p : P) (turns : List Turn)
+        (bytes : List ℕ) (t : LineState ⊥ StepOutcome P)
+        → (along m (suc k) (step commands) p turns).dialog ≡ Done (Ok bytes)
+        → (along m (suc k) (step commands) p turns).left ≡ left
+        → Climbs m (λ j. At (suc j)) left steps (along m (suc k) (step commands) p turns).programmer
+        (along m (suc k) (step commands) p turns).turns t
+        → Rest (suc (length steps)) t (suc (steps_done m steps left (along m (suc k) (step commands) p turns).programmer
+        (along m (suc k) (step commands) p turns).turns)) (steps_done m (commands ∷ steps) k p turns)
+    behind zero k steps commands p turns bytes t e n c =
+        let zero_is = c.none refl in
+        let l = c.at_least in
+        (suc c.count, omega arith, omega arith, c.stands, λ b f. ap suc (c.whole b f))
+    behind (suc left) k steps commands p turns bytes t e n c =
+        let q = (along m (suc k) (step commands) p turns).programmer in
+        let fs = (along m (suc k) (step commands) p turns).turns in
+        let before : steps_done m (commands ∷ steps) k p turns ≡ suc (steps_done m steps left q fs) =
+        ap (λ (s : LineState ⊥ StepOutcome P). step_count s.dialog (steps_done m steps s.left s.programmer s.turns))
+        (along_before k left (step commands) p turns (Ok bytes) e n) in
+        let l = c.at_least in
+        let u : c.count ≤ suc (steps_done m steps left q fs) =
+        subst (λ i. c.count ≤ suc (steps_done m steps i q fs)) (omega arith) c.at_most in
+        (suc c.count, omega arith, omega arith, c.stands, λ b f. ap suc (c.whole b f))
+
+    climbs_from : (k : ℕ) (steps : List (List Command)) (commands : List Command) (p : P) (turns : List Turn)
+        (go_on : List ℕ → Dialog ⊥ StepOutcome) (d : Dialog ⊥ StepOutcome)
+        → (along m (suc k) (step commands) p turns).dialog ≡ d
+        → Stepped m (At 0) (At 1) (along m (suc k) (step commands) p turns)
+        → ((bytes : List ℕ) → At 1 (along m (suc k) (step commands) p turns).programmer
+        → Climbs m (λ j. At (suc j)) (along m (suc k) (step commands) p turns).left steps
+        (along m (suc k) (step commands) p turns).programmer (along m (suc k) (step commands) p turns).turns
+        (along m (along m (suc k) (step commands) p turns).left (go_on bytes)
+        (along m (suc k) (step commands) p turns).programmer (along m (suc k) (step commands) p turns).turns))
+        → Rest (suc (length steps)) (onward m (if_done go_on) (along m (suc k) (step commands) p turns).left
+        (along m (suc k) (step commands) p turns).turns (along m (suc k) (step commands) p turns).programmer d)
+        (step_count d (steps_done m steps (along m (suc k) (step commands) p turns).left
+        (along m (suc k) (step commands) p turns).programmer (along m (suc k) (step commands) p turns).turns))
+        (steps_done m (commands ∷ steps) k p turns)
+    climbs_from k steps commands p turns go_on (Done (Ok bytes)) e stepped rest =
+        behind (along m (suc k) (step commands) p turns).left k steps commands p turns bytes _ e refl
+        (rest bytes (stepped.whole bytes e))
+    climbs_from k steps commands p turns go_on (Done (Err fault)) e stepped rest =
+        let s = along m (suc k) (step commands) p turns in
+        first_rest (suc (length steps)) (steps_done m (commands ∷ steps) k p turns) s.programmer
+        (along m s.left (Done (Err fault)) s.programmer s.turns) refl
+        (λ bytes f. err≢ok fault bytes f) stepped.stands
+    climbs_from k steps commands p turns go_on (Say said dialog) e stepped rest = absurd said
+    climbs_from k steps commands p turns go_on (Ask bytes more) e stepped rest =
+        let s = along m (suc k) (step commands) p turns in
+        first_rest (suc (length steps)) (steps_done m (commands ∷ steps) k p turns) s.programmer
+        (onward m (if_done go_on) s.left s.turns s.programmer (Ask bytes more)) refl
+        (λ b f. asks≢done bytes (λ reading. more reading >>= if_done go_on) (Ok b) f) stepped.stands
+
+    -- nothing is asked
+    none_asked : (command : Command) (commands : List Command) (steps : List (List Command)) (before : List ℕ) (p : P)
+        (turns : List Turn) → At 0 p
+        → Climbs m At 0 ((command ∷ commands) ∷ steps) p turns
+        (along m 0 (play ((command ∷ commands) ∷ steps) before) p turns)
+    unfolding play tries attempt exchange
+    none_asked command commands steps before p turns at = record {
+      count = 0;
+      at_least = omega arith;
+      at_most = omega arith;
+      none = λ e. refl;
+      stands = at;
+      whole = λ bytes e. absurd (asks≢done _ _ _ e);
+    }
+
+  pub play_climbs : (At : ℕ → P → Type 0) (steps : List (List Command)) (k : ℕ) (before : List ℕ) (p : P)
+      (turns : List Turn) → AreSome steps → AllFit m At steps → At 0 p
+      → Climbs m At k steps p turns (along m k (play steps before) p turns)
+  unfolding play
+  play_climbs At [] k before p turns some fit at = record {
+    count = 0;
+    at_least = omega arith;
+    at_most = omega arith;
+    none = λ e. refl;
+    stands = at;
+    whole = λ bytes e. refl;
+  }
+  play_climbs At ([] ∷ steps) k before p turns some fit at = absurd some
+  play_climbs At ((command ∷ commands) ∷ steps) zero before p turns some fit at =
+      none_asked At command commands steps before p turns at
+  play_climbs At ((command ∷ commands) ∷ steps) (suc k) before p turns some fit at =
+      let cs = command ∷ commands in
+      let s = along m (suc k) (step cs) p turns in
+      let stepped : Stepped m (At 0) (At 1) s = step_stands m (At 0) (At 1) (suc k) cs p turns fit.0 at in
+      let r : Rest At (suc (length steps)) (onward m (if_done (λ bytes. play steps (before ++ bytes))) s.left s.turns
+      s.programmer s.dialog) (step_count s.dialog (steps_done m steps s.left s.programmer s.turns))
+      (steps_done m (cs ∷ steps) k p turns) =
+      climbs_from At k steps cs p turns (λ bytes. play steps (before ++ bytes)) s.dialog refl stepped
+      (λ bytes here. play_climbs (λ j. At (suc j)) steps s.left (before ++ bytes) s.programmer s.turns some fit.1
+      here) in
+      subst (λ z. Climbs m At (suc k) (cs ∷ steps) p turns z)
+      (sym (along_bind m (suc k) (step cs) (if_done (λ bytes. play steps (before ++ bytes))) p turns)) (record {
+        count = r.0;
+        at_least = r.1;
+        at_most = subst (λ i. r.0 ≤ suc (steps_done m (cs ∷ steps) i p turns)) (omega arith) r.2;
+        none = λ e. absurd (omega (arith, e));
+        stands = r.3;
+        whole = r.4;
+      })

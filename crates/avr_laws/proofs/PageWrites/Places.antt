@@ -1,0 +1,81 @@
+-- A memory that is changed place by place, as its image says.
+use Rattle.std.proofs.Common.{◌≡◌, ℕ, ◌+◌, ◌-◌, ◌≤◌, ◌<◌, List, length, get_or, map, refl, sym, ap, ◌∙◌, arith, inl, inr, Option, Some, None, unwrap_or}
+use Rattle.std.proofs.lemmas.Bool.{cases_lt}
+use Rattle.std.proofs.lemmas.List.{ext_get_or, length-map, get_or_past}
+use Rattle.avr_image.specs.Image.{byte_at}
+use Rattle.stk_emu.specs.Effect.{Image, with_image, and_in, and_with}
+use Rattle.stk_emu.specs.PageWrites.{image_at}
+use Rattle.stk_emu.proofs.Memories.LaidImages.{length-laid, length-and_in, get_laid, get_and_in, before_part, in_part, some_at}
+
+-- From a place on each byte is changed as the image says.
+pub record Written (f : Option ℕ → ℕ → ℕ) (image : Image) (from : ℕ) (old new : List ℕ) : Type 0 where
+  pub long : length new ≡ length old
+  pub kept : (i : ℕ) → i < length old → i < from → get_or new i 0 ≡ get_or old i 0
+  pub done : (i : ℕ) → i < length old → from ≤ i → get_or new i 0 ≡ f (byte_at image i) (get_or old i 0)
+
+-- one page write between two places
+pub record Changed (f : Option ℕ → ℕ → ℕ) (image : Image) (from to : ℕ) (old new : List ℕ) : Type 0 where
+  pub order : from ≤ to
+  pub long : length new ≡ length old
+  pub before : (i : ℕ) → i < length old → i < from → get_or new i 0 ≡ get_or old i 0
+  pub within : (i : ℕ) → i < length old → from ≤ i → i < to → get_or new i 0 ≡ f (byte_at image i) (get_or old i 0)
+  pub behind : (i : ℕ) → i < length old → to ≤ i → get_or new i 0 ≡ get_or old i 0
+
+-- a page write, and then the others
+pub changed_first : (f : Option ℕ → ℕ → ℕ) (image : Image) (from to : ℕ) (old mid new : List ℕ)
+    → Changed f image from to old mid → Written f image to mid new → Written f image from old new
+changed_first f image from to old mid new s w = record {
+  long = w.long ∙ s.long;
+  kept = λ i l b. w.kept i (omega (arith, l, s.long)) (omega (arith, b, s.order)) ∙ s.before i l b;
+  done = λ i l b. elim (cases_lt i to) [
+    | inl inside ↦ w.kept i (omega (arith, l, s.long)) inside ∙ s.within i l b inside
+    | inr past ↦ w.done i (omega (arith, l, s.long)) past ∙ ap (f (byte_at image i)) (s.behind i l past)
+  ];
+}
+
+-- nothing is left to change
+pub nothing_left : (f : Option ℕ → ℕ → ℕ) (image : Image) (from : ℕ) (old : List ℕ) → ((x : ℕ) → f None x ≡ x)
+    → ((i : ℕ) → i < length old → from ≤ i → byte_at image i ≡ None) → Written f image from old old
+nothing_left f image from old none gap = record {
+  long = refl;
+  kept = λ i l b. refl;
+  done = λ i l b. sym (none (get_or old i 0)) ∙ ap (λ (o : Option ℕ). f o (get_or old i 0)) (sym (gap i l b));
+}
+
+-- a gap is passed over
+pub gap_first : (f : Option ℕ → ℕ → ℕ) (image : Image) (from to : ℕ) (old new : List ℕ) → ((x : ℕ) → f None x ≡ x)
+    → from ≤ to → ((i : ℕ) → from ≤ i → i < to → byte_at image i ≡ None) → Written f image to old new
+    → Written f image from old new
+gap_first f image from to old new none order gap w = changed_first f image from to old old new (record {
+  order = order;
+  long = refl;
+  before = λ i l b. refl;
+  within = λ i l a b. sym (none (get_or old i 0)) ∙ ap (λ (o : Option ℕ). f o (get_or old i 0)) (sym (gap i a b));
+  behind = λ i l b. refl;
+}) w
+
+-- all is changed
+pub all_laid : (image : Image) (old new : List ℕ) → Written (λ b x. unwrap_or b x) image 0 old new
+    → new ≡ with_image image old
+all_laid image old new w = ext_get_or 0 new (with_image image old) (w.long ∙ sym (length-laid image old))
+    (λ i l. w.done i (omega (arith, l, w.long)) (omega arith) ∙ sym (get_laid image old i (omega (arith, l, w.long))))
+
+pub all_anded : (image : Image) (old new : List ℕ) → Written and_with image 0 old new → new ≡ and_in image old
+all_anded image old new w = ext_get_or 0 new (and_in image old) (w.long ∙ sym (length-and_in image old))
+    (λ i l. w.done i (omega (arith, l, w.long)) (omega arith) ∙ sym (get_and_in image old i (omega (arith, l, w.long))))
+
+-- the bytes of a page write, by their addresses
+
+pub placed_before : (start : ℕ) (bytes : List ℕ) (i : ℕ) → i < start → get_or (image_at start bytes) i None ≡ None
+placed_before start bytes i l = before_part start (map Some bytes) i l
+
+pub placed_within : (start : ℕ) (bytes : List ℕ) (i : ℕ) → start ≤ i → i < start + length bytes
+    → get_or (image_at start bytes) i None ≡ Some (get_or bytes (i - start) 0)
+placed_within start bytes i from to = in_part start (map Some bytes) i from ∙ some_at bytes (i - start) (omega arith)
+
+pub placed_behind : (start : ℕ) (bytes : List ℕ) (i : ℕ) → start + length bytes ≤ i
+    → get_or (image_at start bytes) i None ≡ None
+placed_behind start bytes i past =
+    in_part start (map Some bytes) i (omega arith)
+    ∙ get_or_past (map Some bytes) (i - start) None
+    (let e : length (map {B = Option ℕ} Some bytes) ≤ i - start = rw length-map (omega arith) in e)

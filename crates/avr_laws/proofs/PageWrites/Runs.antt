@@ -1,0 +1,158 @@
+-- The runs of a write do what the write does.
+use Rattle.std.proofs.Common.{◌≡◌, ℕ, zero, suc, ◌+◌, ◌-◌, ◌*◌, ◌/◌, ◌%◌, ◌≤◌, ◌<◌, List, [], ◌∷◌, ◌++◌, length, get_or, refl, sym, ap, ◌∙◌, arith, inl, inr, ◌⊎◌, true, false, Option, Some, None, is_some, unwrap_or}
+use Rattle.std.proofs.lemmas.Bool.{cases_Bool, false≢true, cond-true, cond-false}
+use Rattle.avr_image.specs.Image.{byte_at, filled_bytes, or_blank, run_end, first_from}
+use Rattle.avr_image.specs.Walk.{IsNextHeld}
+use Rattle.avr_image.proofs.Lemmas.{filled_is, run_is_longest, next_held, none_held}
+use Rattle.avr_part.specs.declared.part.Mem.TheVariants.{Eeprom}
+use Rattle.avr_part.specs.Part.{Part, IsPart}
+use Rattle.stk_frame.specs.declared.command.Command.{Command}
+use Rattle.stk_host.specs.Places.{each_from}
+use Rattle.stk_host.specs.WriteSteps.{page_end, begins_run, run_step, run_steps_at}
+use Rattle.stk_host.proofs.ImagePlaces.PagesAndRuns.{IsNextRun, next_run, last_run, zero_border}
+use Rattle.stk_emu.specs.Effect.{Memories, Image, Write, effect, effects, with_image, are_locked}
+use Rattle.stk_emu.specs.PageWrites.{image_at, page_writes_of}
+use Rattle.stk_emu.proofs.Memories.LaidImages.{get_laid, length-laid}
+use Rattle.avr_laws.proofs.PageWrites.Places.{Written, Changed, changed_first, gap_first, nothing_left, all_laid, placed_before, placed_within, placed_behind}
+
+-- a byte that is held is the one of the page write
+held_byte : (o : Option ℕ) (x : ℕ) → is_some o ≡ true → or_blank o ≡ unwrap_or o x
+held_byte (Some b) x e = refl
+held_byte None x e = absurd (false≢true e)
+
+-- the page write of a run
+run_changed : (image : Image) (start end : ℕ) (old : List ℕ) → start ≤ end
+    → ((k : ℕ) → start ≤ k → k < end → is_some (byte_at image k) ≡ true)
+    → Changed (λ b x. unwrap_or b x) image start end old
+    (with_image (image_at start (filled_bytes image start (end - start))) old)
+run_changed image start end old order held =
+    let f = filled_is image start (end - start) in
+    let bytes = filled_bytes image start (end - start) in
+    record {
+      order = order;
+      long = length-laid (image_at start bytes) old;
+      before = λ i l b. get_laid (image_at start bytes) old i l
+          ∙ ap (λ (o : Option ℕ). unwrap_or o (get_or old i 0)) (placed_before start bytes i b);
+      within = λ i l a b.
+          get_laid (image_at start bytes) old i l
+          ∙ (ap (λ (o : Option ℕ). unwrap_or o (get_or old i 0))
+          (placed_within start bytes i a (omega (arith, a, b, f.size)))
+          ∙ (f.byte (i - start) (omega (arith, a, b))
+          ∙ ap (λ (j : ℕ). or_blank (byte_at image j)) (let e : start + (i - start) ≡ i = omega (arith, a) in e)
+          ∙ held_byte (byte_at image i) (get_or old i 0) (held i a b)));
+      behind = λ i l b. get_laid (image_at start bytes) old i l
+          ∙ ap (λ (o : Option ℕ). unwrap_or o (get_or old i 0))
+          (placed_behind start bytes i (omega (arith, b, f.size)));
+    }
+
+module _ (part : Part) (sound : IsPart part) (image : Image) where
+  -- EEPROM after the page writes of these steps
+  pub record Loaded (steps : List (List Command)) (m : Memories) (from : ℕ) (old : List ℕ) : Type 0 where
+    pub new : List ℕ
+    pub is : effects part (page_writes_of steps) (record m { eeprom = old }) ≡ record m { eeprom = new }
+    pub written : Written (λ b x. unwrap_or b x) image from old new
+
+  -- one run more in front
+  run_first : (next start end : ℕ) (steps others : List (List Command)) (m : Memories) (old : List ℕ)
+      → are_locked m ≡ false → IsNextHeld image next start → start ≤ end
+      → end ≡ run_end image start (page_end part.eeprom_page start)
+      → ((k : ℕ) → start ≤ k → k < end → is_some (byte_at image k) ≡ true) → steps ≡ run_step part image start ∷ others
+      → ((mid : List ℕ) → length mid ≡ length old → Loaded others m end mid) → Loaded steps m next old
+  run_first next start end steps others m old free first order end_is held steps_are rest =
+      let bytes = filled_bytes image start (end - start) in
+      let mid = with_image (image_at start bytes) old in
+      let r : Loaded others m end mid = rest mid (length-laid (image_at start bytes) old) in
+      record {
+        new = r.new;
+        is = ap (λ ss. effects part (page_writes_of ss) (record m { eeprom = old })) steps_are
+            ∙ (ap (λ (e : ℕ). effects part (page_writes_of others)
+            (effect part (Write Eeprom (image_at start (filled_bytes image start (e - start))))
+            (record m { eeprom = old }))) (sym end_is)
+            ∙ (ap (λ eeprom. effects part (page_writes_of others) (record m { eeprom = eeprom }))
+            (cond-false (are_locked m) old mid free)
+            ∙ r.is));
+        written = gap_first (λ b x. unwrap_or b x) image next start old r.new (λ x. refl) first.after first.gap
+            (changed_first (λ b x. unwrap_or b x) image start end old mid r.new
+            (run_changed image start end old order held) r.written);
+      }
+
+  -- from a border on, by the next byte that is held
+  abbrev From : ℕ → Memories → List ℕ → Type 0
+  From next m old = Loaded (each_from (run_steps_at part image) next (part.eeprom_size - next)) m next old
+
+  runs_from : (next : ℕ) (o : Option ℕ) (m : Memories) (old : List ℕ) → are_locked m ≡ false
+      → length image ≤ part.eeprom_size → (next % part.eeprom_page ≡ 0) ⊎ (byte_at image next ≡ None)
+      → first_from image next ≡ o
+      → ((end : ℕ) (mid : List ℕ) → next < end → next < part.eeprom_size
+      → (end % part.eeprom_page ≡ 0) ⊎ (byte_at image end ≡ None) → From end m mid) → From next m old
+  runs_from next None m old free fits border e others =
+      let gap = none_held image next e in
+      record {
+        new = old;
+        is = ap (λ ss. effects part (page_writes_of ss) (record m { eeprom = old }))
+            (last_run part image next (part.eeprom_size - next) gap);
+        written = nothing_left (λ b x. unwrap_or b x) image next old (λ x. refl) (λ i l from. gap i from);
+      }
+  runs_from next (Some start) m old free fits border e others =
+      let first : IsNextHeld image next start = next_held image next start e in
+      let page = part.eeprom_page in
+      let end = run_end image start (page_end page start) in
+      let some = sound.eeprom_page in
+      let here : page * (start / page) + start % page ≡ start = omega arith in
+      let rest : start % page < page = omega arith in
+      let whole : start ≤ page_end page start = omega (arith, here, rest) in
+      let run = run_is_longest image start (page_end page start) whole in
+      let found : IsNextRun part image next start end =
+      next_run part image next start end some fits border first run refl in
+      run_first next start end (each_from (run_steps_at part image) next (part.eeprom_size - next))
+      (each_from (run_steps_at part image) end (part.eeprom_size - end)) m old free first run.after refl run.held
+      found.steps
+      (λ mid same. others end mid found.longer (omega (arith, first.after, first.within, fits)) found.border)
+
+  runs_free : (fuel next : ℕ) (m : Memories) (old : List ℕ) → are_locked m ≡ false → length image ≤ part.eeprom_size
+      → part.eeprom_size ≤ next + fuel
+      → (next % part.eeprom_page ≡ 0) ⊎ (byte_at image next ≡ None) → From next m old
+  runs_free zero next m old free fits enough border =
+      runs_from next (first_from image next) m old free fits border refl
+      (λ end mid longer inside b. absurd (omega (arith, inside, enough)))
+  runs_free (suc fuel) next m old free fits enough border =
+      runs_from next (first_from image next) m old free fits border refl
+      (λ end mid longer inside b. runs_free fuel end m mid free fits (omega (arith, longer, enough)) b)
+
+  -- where it is locked nothing changes
+  run_locked : (addr : ℕ) (others : List (List Command)) (m : Memories) → are_locked m ≡ true
+      → effects part (page_writes_of others) m ≡ m
+      → effects part (page_writes_of (run_steps_at part image addr ++ others)) m ≡ m
+  run_locked addr others m lock rest = elim (cases_Bool (begins_run part.eeprom_page image addr)) [
+    | inl begins ↦
+        ap (λ ss. effects part (page_writes_of (ss ++ others)) m)
+        (cond-true (begins_run part.eeprom_page image addr) (run_step part image addr ∷ []) [] begins)
+        ∙ (ap (λ eeprom. effects part (page_writes_of others) (record m { eeprom = eeprom }))
+        (cond-true (are_locked m) m.eeprom _ lock) ∙ rest)
+    | inr none ↦ ap (λ ss. effects part (page_writes_of (ss ++ others)) m)
+        (cond-false (begins_run part.eeprom_page image addr) (run_step part image addr ∷ []) [] none) ∙ rest
+  ]
+
+  runs_locked : (addr count : ℕ) (m : Memories) → are_locked m ≡ true
+      → effects part (page_writes_of (each_from (run_steps_at part image) addr count)) m ≡ m
+  runs_locked addr zero m lock = refl
+  runs_locked addr (suc count) m lock = run_locked addr (each_from (run_steps_at part image) (addr + 1) count) m lock
+      (runs_locked (addr + 1) count m lock)
+
+  -- the runs of an image do what its write does
+  pub runs_effect : (m : Memories) → length image ≤ part.eeprom_size
+      → effects part (page_writes_of (each_from (run_steps_at part image) 0 part.eeprom_size)) m
+      ≡ effect part (Write Eeprom image) m
+  runs_effect m fits = elim (cases_Bool (are_locked m)) [
+    | inl lock ↦ runs_locked 0 part.eeprom_size m lock
+        ∙ ap (λ e. record m { eeprom = e }) (sym (cond-true (are_locked m) m.eeprom (with_image image m.eeprom) lock))
+    | inr free ↦
+        let r : Loaded (each_from (run_steps_at part image) 0 (part.eeprom_size - 0)) m 0 m.eeprom =
+        runs_free part.eeprom_size 0 m m.eeprom free fits (omega arith) (inl (zero_border part.eeprom_page)) in
+        let all : part.eeprom_size ≡ part.eeprom_size - 0 = omega arith in
+        ap (λ count. effects part (page_writes_of (each_from (run_steps_at part image) 0 count)) m) all
+        ∙ (r.is
+        ∙ (ap (λ e. record m { eeprom = e }) (all_laid image m.eeprom r.new r.written)
+        ∙ ap (λ e. record m { eeprom = e }) (sym
+        (cond-false (are_locked m) m.eeprom (with_image image m.eeprom) free))))
+  ]

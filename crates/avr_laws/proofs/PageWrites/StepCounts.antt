@@ -1,0 +1,71 @@
+-- Each step of a write has one page write: steps are counted as page writes.
+use Rattle.std.proofs.Common.{◌≡◌, ℕ, zero, suc, ◌*◌, ◌/◌, List, [], ◌∷◌, ◌++◌, length, take, refl, arith, Bool, true, false, cond, Option, Some, None}
+use Rattle.avr_image.specs.Image.{byte_at}
+use Rattle.avr_part.specs.declared.part.Mem.{Mem}
+use Rattle.avr_part.specs.declared.part.Mem.TheVariants.{Flash, Eeprom, Lfuse, Hfuse, Efuse, Lock}
+use Rattle.avr_part.specs.Part.{Part}
+use Rattle.stk_frame.specs.declared.command.Command.{Command}
+use Rattle.stk_frame.specs.declared.host_command.Fuse.TheVariants.{Low, High, Extended}
+use Rattle.stk_frame.specs.HostCommands.{program_fuse, program_lock}
+use Rattle.stk_host.specs.WriteSteps.{is_used, page_step, page_steps, begins_run, run_step, run_steps_at, byte_steps, write_steps}
+use Rattle.avr_laws.proofs.Each.{Each, each_on, each_of}
+use Rattle.stk_emu.specs.Effect.{Memories, Image, Item, Erase, Write, effect, effects}
+use Rattle.stk_emu.specs.PageWrites.{page_write_of, page_writes_of, changed_by, all_steps}
+
+-- each step has one page write
+abbrev IsPageWrite : List Command → Type 0
+IsPageWrite commands = length (page_write_of commands) ≡ 1
+
+abbrev ArePageWrites : List (List Command) → Type 0
+ArePageWrites steps = Each IsPageWrite steps
+
+one_more : (part : Part) (items others : List Item) (steps : List (List Command)) (count : ℕ) (m : Memories)
+    → length items ≡ 1
+    → ((n : Memories) → changed_by part count steps n ≡ effects part (take count others) n)
+    → changed_by part count steps (effects part items m) ≡ effects part (take (suc count) (items ++ others)) m
+one_more part [] others steps count m e rest = absurd (omega arith)
+one_more part (item ∷ []) others steps count m e rest = rest (effect part item m)
+one_more part (item ∷ next ∷ items) others steps count m e rest = absurd (omega arith)
+
+-- so the memories after the first so many steps are those of the first so many page writes
+pub counted_page_writes : (part : Part) (count : ℕ) (steps : List (List Command)) (m : Memories) → ArePageWrites steps
+    → changed_by part count steps m ≡ effects part (take count (page_writes_of steps)) m
+counted_page_writes part zero steps m are = refl
+counted_page_writes part (suc count) [] m are = refl
+counted_page_writes part (suc count) (commands ∷ steps) m are =
+    one_more part (page_write_of commands) (page_writes_of steps) steps count m are.0
+    (λ n. counted_page_writes part count steps n are.1)
+
+either_page_writes : (b : Bool) (x : List (List Command)) → ArePageWrites x → ArePageWrites (cond b x [])
+either_page_writes true x f = f
+either_page_writes false x f = tt
+
+byte_page_writes : (program : ℕ → Command) (o : Option ℕ) → ((v : ℕ) → IsPageWrite (program v ∷ []))
+    → ArePageWrites (byte_steps program o)
+byte_page_writes program None each = tt
+byte_page_writes program (Some v) each = (each v, tt)
+
+image_page_writes : (part : Part) (mem : Mem) (image : Image) → ArePageWrites (write_steps part mem image)
+image_page_writes part Flash image =
+    each_of IsPageWrite (page_steps part image) 0 (part.flash_size / part.flash_page)
+    (λ n. either_page_writes (is_used part.flash_page image (n * part.flash_page))
+    (page_step part image (n * part.flash_page) ∷ []) (refl, tt))
+image_page_writes part Eeprom image = each_of IsPageWrite (run_steps_at part image) 0 part.eeprom_size
+    (λ a. either_page_writes (begins_run part.eeprom_page image a) (run_step part image a ∷ []) (refl, tt))
+image_page_writes part Lfuse image = byte_page_writes (program_fuse Low) (byte_at image 0) (λ v. refl)
+image_page_writes part Hfuse image = byte_page_writes (program_fuse High) (byte_at image 0) (λ v. refl)
+image_page_writes part Efuse image = byte_page_writes (program_fuse Extended) (byte_at image 0) (λ v. refl)
+image_page_writes part Lock image = byte_page_writes program_lock (byte_at image 0) (λ v. refl)
+image_page_writes part mem image = tt
+
+pub all_page_writes : (part : Part) (items : List Item) → ArePageWrites (all_steps part items)
+all_page_writes part [] = tt
+all_page_writes part (Erase ∷ items) = (refl, all_page_writes part items)
+all_page_writes part (Write mem image ∷ items) =
+    each_on IsPageWrite (write_steps part mem image) (all_steps part items) (image_page_writes part mem image)
+    (all_page_writes part items)
+
+pub items_counted : (part : Part) (items : List Item) (count : ℕ) (m : Memories)
+    → changed_by part count (all_steps part items) m
+    ≡ effects part (take count (page_writes_of (all_steps part items))) m
+items_counted part items count m = counted_page_writes part count (all_steps part items) m (all_page_writes part items)

@@ -1,0 +1,189 @@
+-- Each step leads from its memories to those that it leaves, also where it is cut short and begun again.
+use Rattle.std.proofs.Common.{◌≡◌, ℕ, ◌+◌, ◌*◌, ◌/◌, ◌<◌, ◌^◌, List, [], ◌∷◌, refl, sym, subst, arith, Some, inl, inr}
+use Rattle.std.proofs.lemmas.Bool.{cases_Bool, cond-true, cond-false}
+use Rattle.std.specs.Prelude.{nat_lt}
+use Rattle.avr_part.specs.declared.part.Mem.TheVariants.{Flash, Eeprom, Lfuse, Hfuse, Efuse, Lock}
+use Rattle.avr_part.specs.Part.{Part, IsPart}
+use Rattle.stk_frame.specs.declared.command.Command.{Command}
+use Rattle.stk_frame.specs.declared.command.Command.TheVariants.{SignOn}
+use Rattle.stk_frame.specs.declared.host_command.Fuse.{Fuse}
+use Rattle.stk_frame.specs.declared.host_command.Fuse.TheVariants.{Low, High, Extended}
+use Rattle.stk_frame.specs.Commands.{body}
+use Rattle.stk_frame.specs.HostCommands.{enter, leave, erase, program_page, program_eeprom_block, program_fuse, program_lock, read_flash_block, read_eeprom_block, read_fuse, read_lock, read_signature, read_calibration}
+use Rattle.stk_host.specs.Places.{flash_address, load_flash, load_eeprom}
+use Rattle.stk_emu.specs.Programmer.{Programmer}
+use Rattle.stk_emu.specs.Device.{device}
+use Rattle.stk_emu.specs.Effect.{Memories, Item, Erase, Write, effect}
+use Rattle.stk_emu.specs.Settled.{Idle, Settled, Ready}
+use Rattle.stk_emu.specs.Fits.{Fits}
+use Rattle.avr_laws.proofs.Leads.{AllFit}
+use Rattle.stk_emu.specs.PageWrites.{changed, changed_by, IsStep, Erases, ProgramsPage, ProgramsRun, ProgramsFuse, ProgramsLock, ReadsFlash, ReadsEeprom, ReadsFuse, ReadsLock, ReadsSignature, ReadsCalibration, AreSteps, IsPage, FitsEepromPage, IsBlock, AreWords}
+use Rattle.avr_laws.proofs.PageWrites.NetWrites.{written_again, erased_again}
+use Rattle.stk_emu.proofs.Answers.Commands.{one_fits, steady, one_steady, two_steady, settled_idle, ready_settled, ready_idle, anew_idle, anew_settled, sign_on_keeps, enter_does, leave_keeps, load_keeps, fuse_does, lock_does, erase_does, fuse_read_after, lock_read_after, signature_read_after, calibration_read_after}
+use Rattle.stk_emu.proofs.Memories.Runs.{run_does}
+use Rattle.stk_emu.proofs.Memories.Pages.{page_does}
+use Rattle.avr_laws.proofs.Given.ReadAnswers.{flash_read_keeps, eeprom_read_keeps}
+
+-- twice is once
+pub effect_twice : (part : Part) (item : Item) (m : Memories)
+    → effect part item (effect part item m) ≡ effect part item m
+effect_twice part Erase m = erased_again part [] m refl (λ keeps. keeps)
+effect_twice part (Write mem image) m = written_again part (Write mem image ∷ []) m refl
+
+fuse_twice : (part : Part) (f : Fuse) (v : ℕ) (m : Memories)
+    → changed part (program_fuse f v ∷ []) (changed part (program_fuse f v ∷ []) m)
+    ≡ changed part (program_fuse f v ∷ []) m
+fuse_twice part Low v m = effect_twice part (Write Lfuse (Some v ∷ [])) m
+fuse_twice part High v m = effect_twice part (Write Hfuse (Some v ∷ [])) m
+fuse_twice part Extended v m = effect_twice part (Write Efuse (Some v ∷ [])) m
+
+module _ (part : Part) where
+  -- a command that changes nothing that a host sees
+  quiet : (c : Command) (m : Memories) → ((p : Programmer) → Ready part m p → Ready part m (device.after (body c) p))
+      → Fits steady (c ∷ []) (Ready part m) (Ready part m)
+  quiet c m keeps = one_steady c _ _ (λ p s. keeps p s) (λ p s. keeps p s)
+
+  pub sign_on_fits : (m : Memories) → Fits device (SignOn ∷ []) (Idle part m) (Idle part m)
+  sign_on_fits m = one_fits device SignOn (Idle part m) (Idle part m) (λ p s. sign_on_keeps part m p s)
+      (λ p s. sign_on_keeps part m p s) (λ p s. anew_idle part m p s) (λ p s. anew_idle part m p s)
+
+  pub enter_fits : (m : Memories) → Fits device (enter ∷ []) (Idle part m) (Settled part m)
+  enter_fits m =
+      one_fits device enter (Idle part m) (Settled part m) (λ p s. ready_settled part m _ (enter_does part m p s))
+      (λ p s. ready_settled part m _ (enter_does part m p (settled_idle part m p s)))
+      (λ p s. anew_idle part m p s) (λ p s. anew_settled part m p s)
+
+  pub leave_fits : (m : Memories) → Fits device (leave ∷ []) (Idle part m) (Idle part m)
+  leave_fits m = one_fits device leave (Idle part m) (Idle part m) (λ p s. leave_keeps part m p s)
+      (λ p s. leave_keeps part m p s) (λ p s. anew_idle part m p s) (λ p s. anew_idle part m p s)
+
+  -- and where nothing begins anew
+  pub sign_on_steady : (m : Memories) → Fits steady (SignOn ∷ []) (Idle part m) (Idle part m)
+  sign_on_steady m = one_steady SignOn (Idle part m) (Idle part m) (λ p s. sign_on_keeps part m p s)
+      (λ p s. sign_on_keeps part m p s)
+
+  pub enter_ready : (m : Memories) → Fits steady (enter ∷ []) (Idle part m) (Ready part m)
+  enter_ready m = one_steady enter (Idle part m) (Ready part m) (λ p s. enter_does part m p s)
+      (λ p s. enter_does part m p (ready_idle part m p s))
+
+  pub leave_steady : (m : Memories) → Fits steady (leave ∷ []) (Idle part m) (Idle part m)
+  leave_steady m = one_steady leave (Idle part m) (Idle part m) (λ p s. leave_keeps part m p s)
+      (λ p s. leave_keeps part m p s)
+
+  module _ (sound : IsPart part) where
+    -- what is done again
+    again_of : (commands : List Command) (m : Memories) (q : Programmer)
+        → changed part commands (changed part commands m) ≡ changed part commands m
+        → Ready part (changed part commands (changed part commands m)) q → Ready part (changed part commands m) q
+    again_of commands m q twice s = subst (λ z. Ready part z q) twice s
+
+    -- the address of a place in flash fits its command
+    pub address_fits : (start : ℕ) → start < 4294967296 → flash_address part start < 2 ^ 32
+    address_fits start few = elim (cases_Bool (nat_lt 131072 part.flash_size)) [
+      | inl wide ↦ let is : flash_address part start ≡ start / 2 + 2147483648 =
+          cond-true (nat_lt 131072 part.flash_size) (start / 2 + 2147483648) (start / 2) wide in omega (arith, is)
+      | inr narrow ↦ let is : flash_address part start ≡ start / 2 =
+          cond-false (nat_lt 131072 part.flash_size) (start / 2 + 2147483648) (start / 2) narrow in omega (arith, is)
+    ]
+
+    page_fits : (number : ℕ) (bytes : List ℕ) (m : Memories) → IsPage part number bytes
+        → Fits steady (load_flash part (number * part.flash_page) ∷ program_page bytes ∷ []) (Ready part m)
+        (Ready part (changed part (load_flash part (number * part.flash_page) ∷ program_page bytes ∷ []) m))
+    page_fits number bytes m is_page =
+        let inside = is_page.inside in
+        let most = sound.flash_most in
+        let few : flash_address part (number * part.flash_page) < 2 ^ 32 =
+        address_fits (number * part.flash_page) (omega arith) in
+        let commands = load_flash part (number * part.flash_page) ∷ program_page bytes ∷ [] in
+        two_steady (load_flash part (number * part.flash_page)) (program_page bytes) _ _
+        (λ p s. load_keeps part (flash_address part (number * part.flash_page)) m p few s)
+        (λ p s. load_keeps part (flash_address part (number * part.flash_page)) (changed part commands m) p few s)
+        (λ p s. page_does part sound number bytes m p is_page s)
+        (λ p s. again_of commands m _ (effect_twice part (Write Flash _) m)
+        (page_does part sound number bytes (changed part commands m) p is_page s))
+
+    run_fits : (address : ℕ) (bytes : List ℕ) (m : Memories) → FitsEepromPage part address bytes
+        → Fits steady (load_eeprom address ∷ program_eeprom_block bytes ∷ []) (Ready part m)
+        (Ready part (changed part (load_eeprom address ∷ program_eeprom_block bytes ∷ []) m))
+    run_fits address bytes m is_run =
+        let inside = is_run.inside in
+        let most = sound.eeprom_most in
+        let few : address < 2 ^ 32 = omega arith in
+        let commands = load_eeprom address ∷ program_eeprom_block bytes ∷ [] in
+        two_steady (load_eeprom address) (program_eeprom_block bytes) _ _
+        (λ p s. load_keeps part address m p few s)
+        (λ p s. load_keeps part address (changed part commands m) p few s)
+        (λ p s. run_does part sound address bytes m p is_run s)
+        (λ p s. again_of commands m _ (effect_twice part (Write Eeprom _) m)
+        (run_does part sound address bytes (changed part commands m) p is_run s))
+
+    flash_read_fits : (start count : ℕ) (m : Memories) → IsBlock part Flash start count → AreWords start count
+        → Fits steady (load_flash part start ∷ read_flash_block count ∷ []) (Ready part m) (Ready part m)
+    flash_read_fits start count m is_block words =
+        let inside = is_block.inside in
+        let most = sound.flash_most in
+        let few : flash_address part start < 2 ^ 32 = address_fits start (omega arith) in
+        two_steady (load_flash part start) (read_flash_block count) _ _
+        (λ p s. load_keeps part (flash_address part start) m p few s)
+        (λ p s. load_keeps part (flash_address part start) m p few s)
+        (λ p s. flash_read_keeps part sound start count m p is_block words s)
+        (λ p s. flash_read_keeps part sound start count m p is_block words s)
+
+    eeprom_read_fits : (start count : ℕ) (m : Memories) → IsBlock part Eeprom start count
+        → Fits steady (load_eeprom start ∷ read_eeprom_block count ∷ []) (Ready part m) (Ready part m)
+    eeprom_read_fits start count m is_block =
+        let inside = is_block.inside in
+        let most = sound.eeprom_most in
+        let few : start < 2 ^ 32 = omega arith in
+        two_steady (load_eeprom start) (read_eeprom_block count) _ _
+        (λ p s. load_keeps part start m p few s) (λ p s. load_keeps part start m p few s)
+        (λ p s. eeprom_read_keeps part sound start count m p is_block s)
+        (λ p s. eeprom_read_keeps part sound start count m p is_block s)
+
+    pub fuse_read_fits : (f : Fuse) (m : Memories) → Fits steady (read_fuse f ∷ []) (Ready part m) (Ready part m)
+    fuse_read_fits f m = quiet (read_fuse f) m (λ p s. subst (Ready part m) (sym (fuse_read_after f p s.mode)) s)
+
+    -- from the commands as they are written
+    by_commands : (written commands : List Command) (m : Memories) → commands ≡ written
+        → Fits steady written (Ready part m) (Ready part (changed part written m))
+        → Fits steady commands (Ready part m) (Ready part (changed part commands m))
+    by_commands written commands m e fits = subst (λ cs. Fits steady cs (Ready part m) (Ready part (changed part cs m)))
+        (sym e) fits
+
+    pub step_ready : (commands : List Command) (m : Memories) → IsStep part commands
+        → Fits steady commands (Ready part m) (Ready part (changed part commands m))
+    step_ready commands m (Erases e) = by_commands _ commands m e
+        (one_steady erase _ _ (λ p s. erase_does part m p s)
+        (λ p s. again_of (erase ∷ []) m _ (effect_twice part Erase m)
+        (erase_does part (changed part (erase ∷ []) m) p s)))
+    step_ready commands m (ProgramsPage number bytes is_page e) =
+        by_commands _ commands m e (page_fits number bytes m is_page)
+    step_ready commands m (ProgramsRun address bytes is_run e) =
+        by_commands _ commands m e (run_fits address bytes m is_run)
+    step_ready commands m (ProgramsFuse f v e) = by_commands _ commands m e
+        (one_steady (program_fuse f v) _ _ (λ p s. fuse_does part f v m p s)
+        (λ p s. again_of (program_fuse f v ∷ []) m _ (fuse_twice part f v m)
+        (fuse_does part f v (changed part (program_fuse f v ∷ []) m) p s)))
+    step_ready commands m (ProgramsLock v e) = by_commands _ commands m e
+        (one_steady (program_lock v) _ _ (λ p s. lock_does part v m p s)
+        (λ p s. again_of (program_lock v ∷ []) m _ (effect_twice part (Write Lock (Some v ∷ [])) m)
+        (lock_does part v (changed part (program_lock v ∷ []) m) p s)))
+    step_ready commands m (ReadsFlash start count is_block words e) =
+        by_commands _ commands m e (flash_read_fits start count m is_block words)
+    step_ready commands m (ReadsEeprom start count is_block e) =
+        by_commands _ commands m e (eeprom_read_fits start count m is_block)
+    step_ready commands m (ReadsFuse f e) = by_commands _ commands m e (fuse_read_fits f m)
+    step_ready commands m (ReadsLock e) = by_commands _ commands m e
+        (quiet read_lock m (λ p s. subst (Ready part m) (sym (lock_read_after p s.mode)) s))
+    step_ready commands m (ReadsSignature place few e) =
+        by_commands _ commands m e (quiet (read_signature place) m
+        (λ p s. subst (Ready part m) (sym (signature_read_after place p s.mode)) s))
+    step_ready commands m (ReadsCalibration e) =
+        by_commands _ commands m e (quiet read_calibration m
+        (λ p s. subst (Ready part m) (sym (calibration_read_after p s.mode)) s))
+
+    -- each step of many, from the memories that those before it leave
+    pub all_ready : (steps : List (List Command)) (m : Memories) → AreSteps part steps
+        → AllFit steady (λ j. Ready part (changed_by part j steps m)) steps
+    all_ready [] m are = tt
+    all_ready (commands ∷ steps) m are = (step_ready commands m are.0, all_ready steps (changed part commands m) are.1)

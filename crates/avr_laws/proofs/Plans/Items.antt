@@ -1,0 +1,177 @@
+-- The items of a plan: an erase, if it has one, and then writes alone.
+use Rattle.std.proofs.Common.{◌≡◌, refl, sym, ap, ◌∙◌, subst, List, [], ◌∷◌, ◌++◌, append_assoc, drop, Bool, true, false}
+use Rattle.std.proofs.lemmas.Bool.{true≢false}
+use Rattle.std.specs.Prelude.{filter_map, if◌then◌else◌}
+use Rattle.avr_cli.specs.declared.settings.Switches.{Switches}
+use Rattle.avr_part.specs.Part.{Part}
+use Rattle.avr_part.specs.declared.part.Mem.{Mem}
+use Rattle.avr_plan.specs.Plan.{Plan}
+use Rattle.avr_plan.specs.declared.planned.Task.{Task}
+use Rattle.avr_plan.specs.declared.planned.Task.TheVariants as task
+use Rattle.avr_session.specs.Actions.{TheErase, TheWrite, Action, EraseChip, WriteImage, CompareImage, LeaveOut, is_erase_due, erase_actions, write_actions, tasks_actions}
+use Rattle.stk_emu.specs.Effect.{Image, Memories, Item, Erase, Write, effects}
+use Rattle.avr_laws.proofs.PageWrites.Pages.{effects_on}
+use Rattle.avr_laws.specs.Agrees.{ActionsAgree, Agrees}
+use Rattle.avr_laws.specs.Items.{action_items, actions_items, items, has_erase, task_item, asked_items}
+
+-- what the erase of a session can be
+pub by_erase : (P : List Action → Type 0) (s : Switches) (tasks : List Task) → P [] → P (LeaveOut TheErase ∷ [])
+    → P (EraseChip ∷ []) → P (erase_actions s tasks)
+by_erase P s tasks none left_out done = by_switches s.dry s.erase (is_erase_due s tasks)
+  where
+    by_switches : (dry asked due : Bool) → P
+        (if dry then (if asked then LeaveOut TheErase ∷ [] else []) else if due then EraseChip ∷ [] else [])
+    by_switches true true due = left_out
+    by_switches false asked true = done
+    by_switches dry asked due = none
+
+-- and a write
+pub by_write : (P : List Action → Type 0) (s : Switches) (mem : Mem) (image : Image)
+    → P (LeaveOut (TheWrite mem image) ∷ []) → P (WriteImage mem image ∷ [])
+    → P (WriteImage mem image ∷ CompareImage mem image ∷ []) → P (write_actions s mem image)
+by_write P s mem image left_out alone compared = by_switches s.dry s.no_verify
+  where
+    by_switches : (dry unverified : Bool) → P (if dry then LeaveOut (TheWrite mem image) ∷ []
+        else WriteImage mem image ∷ (if unverified then [] else CompareImage mem image ∷ []))
+    by_switches true unverified = left_out
+    by_switches false true = alone
+    by_switches false false = compared
+
+abbrev pub writes : Plan → List Item
+writes plan = actions_items (tasks_actions plan.switches plan.tasks)
+
+abbrev pub erase_if : Bool → List Item
+erase_if true = Erase ∷ []
+erase_if false = []
+
+pub items_on : (xs ys : List Action) → actions_items (xs ++ ys) ≡ actions_items xs ++ actions_items ys
+items_on [] ys = refl
+items_on (x ∷ xs) ys = ap (λ more. action_items x ++ more) (items_on xs ys)
+    ∙ sym (append_assoc (action_items x) (actions_items xs) (actions_items ys))
+
+pub tasks_write : (s : Switches) (tasks : List Task) → has_erase (actions_items (tasks_actions s tasks)) ≡ false
+tasks_write s [] = refl
+tasks_write s (task.Write mem image ∷ tasks) =
+    let none = tasks_write s tasks in
+    by_write (λ xs. has_erase (actions_items (xs ++ tasks_actions s tasks)) ≡ false) s mem image none none none
+tasks_write s (task.Verify mem image ∷ tasks) = tasks_write s tasks
+tasks_write s (task.Read mem format file ∷ tasks) = tasks_write s tasks
+
+pub begins : (plan : Plan) → actions_items (erase_actions plan.switches plan.tasks) ≡ erase_if (has_erase (items plan))
+begins plan =
+    let more = tasks_actions plan.switches plan.tasks in
+    let none : [] ≡ erase_if (has_erase (actions_items more)) =
+    ap erase_if (sym (tasks_write plan.switches plan.tasks)) in
+    by_erase (λ xs. actions_items xs ≡ erase_if (has_erase (actions_items (xs ++ more)))) plan.switches plan.tasks none
+    none refl
+
+pub items_are : (plan : Plan) → items plan ≡ erase_if (has_erase (items plan)) ++ writes plan
+items_are plan =
+    items_on (erase_actions plan.switches plan.tasks) (tasks_actions plan.switches plan.tasks)
+    ∙ ap (λ xs. xs ++ writes plan) (begins plan)
+
+erases_behind : (xs ys : List Item) → has_erase ys ≡ true → has_erase (xs ++ ys) ≡ true
+erases_behind [] ys has = has
+erases_behind (Erase ∷ xs) ys has = refl
+erases_behind (Write mem image ∷ xs) ys has = erases_behind xs ys has
+
+nothing_before : (due : Bool) (xs first later : List Item) → has_erase xs ≡ false
+    → erase_if due ++ xs ≡ first ++ Erase ∷ later → first ≡ []
+nothing_before due xs [] later none e = refl
+nothing_before true xs (x ∷ first) later none e =
+    let same : has_erase xs ≡ has_erase (first ++ Erase ∷ later) = ap (λ all. has_erase (drop 1 all)) e in
+    absurd (true≢false (sym (erases_behind first (Erase ∷ later) refl) ∙ (sym same ∙ none)))
+nothing_before false xs (x ∷ first) later none e =
+    absurd (true≢false (sym (erases_behind (x ∷ first) (Erase ∷ later) refl) ∙ (sym (ap has_erase e) ∙ none)))
+
+-- nothing comes before an erase
+pub erase_first : (plan : Plan) (first later : List Item) → items plan ≡ first ++ Erase ∷ later → first ≡ []
+erase_first plan first later e =
+    nothing_before (has_erase (items plan)) (writes plan) first later (tasks_write plan.switches plan.tasks)
+    (sym (items_are plan) ∙ e)
+
+-- ---- by the tasks
+
+write_items : (dry left_out : Bool) (mem : Mem) (image : Image) (more : List Action)
+    → actions_items ((if dry then LeaveOut (TheWrite mem image) ∷ []
+    else WriteImage mem image ∷ (if left_out then [] else CompareImage mem image ∷ [])) ++ more)
+    ≡ (if dry then actions_items more else Write mem image ∷ actions_items more)
+write_items true left_out mem image more = refl
+write_items false true mem image more = refl
+write_items false false mem image more = refl
+
+write_unless : (dry : Bool) (item : Item) (xs ys : List Item) → xs ≡ (if dry then [] else ys)
+    → (if dry then xs else item ∷ xs) ≡ (if dry then [] else item ∷ ys)
+write_unless true item xs ys e = e
+write_unless false item xs ys e = ap (λ more. item ∷ more) e
+
+none_unless : (dry : Bool) → ◌≡◌ {A = List Item} [] (if dry then [] else [])
+none_unless true = refl
+none_unless false = refl
+
+writes_by_tasks : (s : Switches) (tasks : List Task)
+    → actions_items (tasks_actions s tasks) ≡ (if s.dry then [] else filter_map task_item tasks)
+writes_by_tasks s [] = none_unless s.dry
+writes_by_tasks s (task.Write mem image ∷ tasks) =
+    let more = tasks_actions s tasks in
+    write_items s.dry s.no_verify mem image more
+    ∙ write_unless s.dry (Write mem image) (actions_items more) (filter_map task_item tasks)
+    (writes_by_tasks s tasks)
+writes_by_tasks s (task.Verify mem image ∷ tasks) = writes_by_tasks s tasks
+writes_by_tasks s (task.Read mem format file ∷ tasks) = writes_by_tasks s tasks
+
+behind_erase : (dry asked due : Bool) (xs ys : List Item) → xs ≡ (if dry then [] else ys)
+    → actions_items (if dry then (if asked then LeaveOut TheErase ∷ [] else [])
+    else if due then EraseChip ∷ [] else []) ++ xs
+    ≡ (if dry then [] else (if due then Erase ∷ [] else []) ++ ys)
+behind_erase true true due xs ys e = e
+behind_erase true false due xs ys e = e
+behind_erase false asked true xs ys e = ap (λ more. Erase ∷ more) e
+behind_erase false asked false xs ys e = e
+
+pub items_by_tasks : (plan : Plan) → items plan ≡ asked_items plan
+items_by_tasks plan =
+    let s = plan.switches in
+    items_on (erase_actions s plan.tasks) (tasks_actions s plan.tasks)
+    ∙ behind_erase s.dry s.erase (is_erase_due s plan.tasks) (writes plan) (filter_map task_item plan.tasks)
+    (writes_by_tasks s plan.tasks)
+
+-- ---- what they compare
+
+module _ (part : Part) where
+  -- an erase compares nothing
+  erasing_agrees : (s : Switches) (tasks : List Task) (m : Memories) → ActionsAgree part (erase_actions s tasks) m
+  erasing_agrees s tasks m = by_erase (λ xs. ActionsAgree part xs m) s tasks tt (tt, tt) (tt, tt)
+
+  agree_behind : (xs ys : List Action) (m : Memories) → ActionsAgree part (xs ++ ys) m
+      → ActionsAgree part ys (effects part (actions_items xs) m)
+  agree_behind [] ys m agree = agree
+  agree_behind (x ∷ xs) ys m agree =
+      subst (ActionsAgree part ys) (sym (effects_on part (action_items x) (actions_items xs) m))
+      (agree_behind xs ys (effects part (action_items x) m) agree.1)
+
+  agree_joined : (xs ys : List Action) (m : Memories) → ActionsAgree part xs m
+      → ActionsAgree part ys (effects part (actions_items xs) m) → ActionsAgree part (xs ++ ys) m
+  agree_joined [] ys m first more = more
+  agree_joined (x ∷ xs) ys m first more = (
+    first.0,
+    agree_joined xs ys (effects part (action_items x) m) first.1
+        (subst (ActionsAgree part ys) (effects_on part (action_items x) (actions_items xs) m) more),
+  )
+
+-- the comparisons of a plan are those of its tasks, after the erase
+pub tasks_agree : (plan : Plan) (m : Memories) → Agrees plan m
+    → ActionsAgree plan.part (tasks_actions plan.switches plan.tasks)
+    (effects plan.part (erase_if (has_erase (items plan))) m)
+tasks_agree plan m agree =
+    subst (λ xs. ActionsAgree plan.part (tasks_actions plan.switches plan.tasks) (effects plan.part xs m)) (begins plan)
+    (agree_behind plan.part (erase_actions plan.switches plan.tasks) (tasks_actions plan.switches plan.tasks) m agree.1)
+
+pub plan_agrees : (plan : Plan) (m : Memories)
+    → ActionsAgree plan.part (tasks_actions plan.switches plan.tasks)
+    (effects plan.part (actions_items (erase_actions plan.switches plan.tasks)) m) → Agrees plan m
+plan_agrees plan m agree = (
+  tt,
+  agree_joined plan.part (erase_actions plan.switches plan.tasks) (tasks_actions plan.switches plan.tasks) m
+      (erasing_agrees plan.part plan.switches plan.tasks m) agree,
+)

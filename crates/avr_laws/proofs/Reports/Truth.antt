@@ -1,0 +1,220 @@
+-- What a run tells is true where it tells it, action by action.
+use Rattle.std.proofs.Common.{◌≡◌, ℕ, List, [], ◌∷◌, ◌++◌, length, append_assoc, refl, sym, ap, ◌∙◌, subst, arith, inl, inr, Ok, Err, Result, Bool, true, false}
+use Rattle.std.proofs.lemmas.List.{append-nil}
+use Rattle.std.proofs.lemmas.List.Elements.{Contains-append_right}
+use Rattle.std.specs.Prelude.{All, Contains, ⊤, codes, decimal, nat_lt, if◌then◌else◌}
+use Rattle.std.specs.Str.{bytes_eq}
+use Rattle.avr_desk.specs.Record.{Bytes}
+use Rattle.avr_cli.specs.declared.update.Format.{Format}
+use Rattle.avr_image.specs.Image.{byte_count}
+use Rattle.avr_desk.specs.Lines.{spaced_digits, information, warning}
+use Rattle.avr_desk.specs.Said.{OutputEvent, Line, Creates, Writes, Outs}
+use Rattle.avr_part.specs.Mem.{name_of}
+use Rattle.avr_part.specs.Part.{IsPart}
+use Rattle.avr_part.specs.declared.part.Mem.{Mem}
+use Rattle.avr_plan.specs.Plan.{Plan, IsFitted}
+use Rattle.avr_session.specs.Actions.{TheErase, TheWrite, Action, OpenSession, EraseChip, WriteImage, CompareImage, SaveMemory, LeaveOut, actions}
+use Rattle.avr_session.specs.FileText.{file_text}
+use Rattle.avr_session.specs.Lines.{informs, fault_line}
+use Rattle.avr_session.specs.Session.{signature_says, warns_of_signature, opening_says, saving_says, bytes_say, written_says, verified_says, closed_says, read_says, session}
+use Rattle.stk_host.specs.Operations.{difference_from, comparison, host_fault}
+use Rattle.stk_host.specs.declared.fault.HostFault.{HostFault}
+use Rattle.stk_host.specs.declared.fault.StepFault.{StepFault}
+use Rattle.stk_host.specs.declared.fault.StepFault.TheVariants as of_step
+use Rattle.stk_emu.specs.Turn.{Turn}
+use Rattle.stk_emu.specs.Device.{device}
+use Rattle.stk_emu.specs.Effect.{Memories, Image, Item, Erase, Write, effect, effects, memories_of, memory_in}
+use Rattle.avr_laws.proofs.Leads.{Leads}
+use Rattle.stk_emu.specs.Programmer.{Programmer}
+use Rattle.stk_emu.specs.Settled.{Idle, Settled, FitsPart}
+use Rattle.avr_laws.proofs.Given.Comparisons.{no_difference}
+use Rattle.avr_laws.proofs.Hosts.AnyTurn.{leads}
+use Rattle.avr_laws.proofs.PageWrites.Pages.{effects_on}
+use Rattle.avr_laws.specs.Items.{action_items, actions_items, items}
+use Rattle.avr_laws.specs.Told.{TellsTrue, count_line, kept_in, IsTrue, SignatureRead, ChipErased, BytesWritten, BytesVerified, Differed, BytesSaved, BytesRead, EraseLeftOut, WriteLeftOut, StepFailed, SessionDone}
+use Rattle.avr_laws.proofs.AnyLine.EachAction.{AllTrue, ActionTrue, ActionsTrue, none_differs}
+use Rattle.avr_laws.proofs.Hosts.Operations.{IsClosed}
+use Rattle.avr_laws.proofs.AnyLine.Sessions.{Left, session_goes, true_along}
+use Rattle.avr_laws.specs.Outcome.{IsTouched, IsDone}
+use Rattle.avr_laws.proofs.FewBad.Calls.{bytes_same}
+use Rattle.avr_laws.proofs.Plans.Fits.{FitsAction, AllFitActions, work, work_fits}
+use Rattle.avr_laws.proofs.Plans.Items.{items_on, erase_first}
+
+hold_on : (T : OutputEvent → Programmer → Type 0) (xs ys : List OutputEvent) (q : Programmer) → AllTrue T xs q
+    → AllTrue T ys q
+    → AllTrue T (xs ++ ys) q
+hold_on T [] ys q f g = g
+hold_on T (x ∷ xs) ys q f g = (f.0, hold_on T xs ys q f.1 g)
+
+hold_unless : (T : OutputEvent → Programmer → Type 0) (b : Bool) (x : OutputEvent) (q : Programmer) → T x q
+    → AllTrue T (if b then [] else x ∷ []) q
+hold_unless T true x q t = tt
+hold_unless T false x q t = (t, tt)
+
+hold_not : (T : OutputEvent → Programmer → Type 0) (b : Bool) (xs : List OutputEvent) (q : Programmer) → b ≡ true
+    → AllTrue T (if b then [] else xs) q
+hold_not T true xs q e = tt
+hold_not T false xs q e = absurd (cc)
+
+module _ (plan : Plan) (sound : IsPart plan.part) (m0 : Memories) (f0 : FitsPart plan.part m0) where
+  abbrev T : OutputEvent → Programmer → Type 0
+  T output q = IsTrue plan m0 (memories_of q.chip) output
+
+  informs_hold : (quiet : ℕ) (pieces : List Bytes) (q : Programmer) → T (Line (information pieces)) q
+      → AllTrue T (informs quiet pieces) q
+  informs_hold quiet pieces q t = hold_unless T (nat_lt 0 quiet) (Line (information pieces)) q t
+
+  counts_hold : (mem : Mem) (count : ℕ) (done_text : Bytes) (q : Programmer) → T (count_line mem count done_text) q
+      → AllTrue T (bytes_say plan.switches.quiet mem count done_text) q
+  counts_hold mem count done_text q t = informs_hold plan.switches.quiet
+      (name_of mem ∷ codes ": " ∷ decimal count ∷ done_text ∷ []) q t
+
+  failed : (fault : StepFault) (q : Programmer) → AllTrue T (Line (fault_line plan.part (host_fault fault)) ∷ []) q
+  failed fault q = (StepFailed fault refl, tt)
+
+  -- ---- the opening
+
+  no_signature : (quiet : ℕ) (fault : StepFault) (q : Programmer)
+      → AllTrue T (opening_says quiet plan.part (Err (host_fault fault))) q
+  no_signature quiet of_step.NoAnswer q = failed of_step.NoAnswer q
+  no_signature quiet fault q = failed fault q
+
+  own_signature : (quiet : ℕ) (q : Programmer) → AllTrue T (opening_says quiet plan.part (Ok plan.part.signature)) q
+  own_signature quiet q =
+      hold_on T (signature_says quiet plan.part.signature) (warns_of_signature quiet plan.part plan.part.signature) q
+      (informs_hold quiet (codes "device signature = " ∷ spaced_digits plan.part.signature ∷ []) q (SignatureRead refl))
+      (hold_not T (bytes_eq plan.part.signature plan.part.signature) _ q (bytes_same plan.part.signature))
+
+  -- ---- the actions after it
+
+  compared_now : (mem : Mem) (image : Image) (q : Programmer) → Contains (actions plan) (CompareImage mem image)
+      → (r : Result ⊤ HostFault) → comparison mem image (memory_in plan.part mem (memories_of q.chip)) ≡ r
+      → AllTrue T (verified_says plan.switches.quiet plan.part mem image r) q
+  compared_now mem image q has (Ok a) e =
+      counts_hold mem (byte_count image) (codes " bytes verified") q
+      (BytesVerified mem image has refl
+      (no_difference 0 image (memory_in plan.part mem (memories_of q.chip))
+      (none_differs mem (difference_from 0 image (memory_in plan.part mem (memories_of q.chip))) a e)))
+  compared_now mem image q has (Err fault) e = (Differed mem image fault has refl e, tt)
+
+  saved_now : (b : Bool) (mem : Mem) (format : Format) (file : Bytes) (q : Programmer)
+      → Contains (actions plan) (SaveMemory mem format file) → (text : Bytes)
+      → text ≡ file_text format (kept_in plan mem (memories_of q.chip))
+      → AllTrue T (if b then Outs text ∷ [] else Creates file ∷ Writes text ∷ []) q
+  saved_now true mem format file q has text e = (BytesSaved mem format file has (inr (inr (ap Outs e))), tt)
+  saved_now false mem format file q has text e =
+      (BytesSaved mem format file has (inl refl), (BytesSaved mem format file has (inr (inl (ap Writes e))), tt))
+
+  written_now : (mem : Mem) (image : Image) (first later : List Item) (q : Programmer)
+      → items plan ≡ first ++ Write mem image ∷ later
+      → Settled plan.part (effects plan.part (Write mem image ∷ []) (effects plan.part first m0)) q
+      → AllTrue T (written_says plan.switches.quiet plan.part mem image (Ok tt)) q
+  written_now mem image first later q order s =
+      counts_hold mem (byte_count image) (codes " bytes written") q
+      (BytesWritten mem image first later refl order
+      (s.memories ∙ sym (effects_on plan.part first (Write mem image ∷ []) m0)))
+
+  action_true : (action : Action) (done later : List Action) → FitsAction plan.part action
+      → actions plan ≡ done ++ action ∷ later
+      → ActionTrue plan.part sound T plan.switches action (effects plan.part (actions_items done) m0)
+  action_true action done later fits order = by_kind action fits here among
+    where
+      here : Contains (actions plan) action
+      here = subst (λ all. Contains all action) (sym order)
+          (Contains-append_right done (action ∷ later) action (0, omega arith, refl))
+
+      among : items plan ≡ actions_items done ++ (action_items action ++ actions_items later)
+      among = ap actions_items order ∙ items_on done (action ∷ later)
+
+      m : Memories
+      m = effects plan.part (actions_items done) m0
+
+      by_kind : (a : Action) → FitsAction plan.part a → Contains (actions plan) a
+          → items plan ≡ actions_items done ++ (action_items a ++ actions_items later)
+          → ActionTrue plan.part sound T plan.switches a m
+      by_kind OpenSession fits has order = absurd fits
+      by_kind EraseChip fits has order = (
+        λ q s.
+            informs_hold plan.switches.quiet (codes "chip erased" ∷ []) q
+            (ChipErased has refl (s.memories ∙ ap (λ xs. effect plan.part Erase (effects plan.part xs m0))
+            (erase_first plan (actions_items done) (actions_items later) order))),
+        failed,
+      )
+      by_kind (WriteImage mem image) fits has order =
+          (λ q s. written_now mem image (actions_items done) (actions_items later) q order s, failed)
+      by_kind (CompareImage mem image) fits has order = (
+        λ q s.
+            subst (λ z. AllTrue T (verified_says plan.switches.quiet plan.part mem image
+            (comparison mem image (memory_in plan.part mem z))) q) s.memories
+            (compared_now mem image q has (comparison mem image (memory_in plan.part mem (memories_of q.chip))) refl),
+        failed,
+      )
+      by_kind (SaveMemory mem format file) fits has order = (
+        λ q s.
+            subst (λ z. AllTrue T (read_says plan.switches mem format file (memory_in plan.part mem z)) q) s.memories
+            (hold_on T (saving_says file (file_text format (kept_in plan mem (memories_of q.chip))))
+            (bytes_say plan.switches.quiet mem (length (kept_in plan mem (memories_of q.chip)))
+            (codes " bytes read")) q
+            (saved_now (bytes_eq file (codes "-")) mem format file q has
+            (file_text format (kept_in plan mem (memories_of q.chip))) refl)
+            (counts_hold mem (length (kept_in plan mem (memories_of q.chip))) (codes " bytes read") q
+            (BytesRead mem format file has refl))),
+        failed,
+      )
+      by_kind (LeaveOut TheErase) fits has order = λ q s.
+          hold_unless T (nat_lt 1 plan.switches.quiet) (Line (warning (codes "chip not erased because of -n" ∷ []))) q
+          (EraseLeftOut has refl)
+      by_kind (LeaveOut (TheWrite mem image)) fits has order =
+          λ q s. counts_hold mem (byte_count image) (codes " bytes not written") q (WriteLeftOut mem image has refl)
+
+  -- the memories after one more action
+  one_more : (done : List Action) (action : Action)
+      → effects plan.part (actions_items (done ++ action ∷ [])) m0
+      ≡ effects plan.part (action_items action) (effects plan.part (actions_items done) m0)
+  one_more done action =
+      ap (λ xs. effects plan.part xs m0) (items_on done (action ∷ [])
+      ∙ ap (λ xs. actions_items done ++ xs) (append-nil (action_items action)))
+      ∙ effects_on plan.part (actions_items done) (action_items action) m0
+
+  actions_true : (later done : List Action) → AllFitActions plan.part later → actions plan ≡ done ++ later
+      → ActionsTrue plan.part sound T plan.switches later (effects plan.part (actions_items done) m0)
+  actions_true [] done fit order = tt
+  actions_true (action ∷ later) done fit order = (
+    action_true action done later fit.0 order,
+    subst (ActionsTrue plan.part sound T plan.switches later) (one_more done action)
+        (actions_true later (done ++ action ∷ []) fit.1 (order ∙ sym (append_assoc done (action ∷ []) later))),
+  )
+
+  -- ---- the end
+
+  closed_true : (r : Result ⊤ HostFault) (q : Programmer) → IsClosed r
+      → AllTrue T (closed_says plan.switches.quiet plan.part r) q
+  closed_true r q (inl e) = subst (λ x. AllTrue T (closed_says plan.switches.quiet plan.part x) q) (sym e)
+      (informs_hold plan.switches.quiet (codes "done" ∷ []) q (SessionDone refl))
+  closed_true r q (inr broke) = subst (λ x. AllTrue T (closed_says plan.switches.quiet plan.part x) q) (sym broke.1)
+      (failed broke.0 q)
+
+  -- a session
+  pub session_tells : All (IsFitted plan.part) plan.tasks → (k : ℕ) (p : Programmer) (turns : List Turn)
+      → Idle plan.part m0 p
+      → TellsTrue device (λ q output. IsTrue plan m0 (memories_of q.chip) output) k (session plan) p turns
+  session_tells fitted k p turns idle =
+      true_along device (λ bytes q. IsTouched plan m0 (memories_of q.chip)) (λ q output. T output q)
+      (Left plan sound fitted m0 f0) k (session plan) p turns
+      (session_goes plan sound fitted m0 f0 T (
+        λ q s. own_signature plan.switches.quiet q,
+        no_signature plan.switches.quiet,
+      )
+      (actions_true (work plan) (OpenSession ∷ []) (work_fits plan fitted) refl) closed_true p idle).holds
+
+-- what a session leaves
+pub session_leaves : (plan : Plan) (sound : IsPart plan.part) (fitted : All (IsFitted plan.part) plan.tasks)
+    (m : Memories) (f : FitsPart plan.part m) (p : Programmer) (turns : List Turn)
+    → Idle plan.part m p → Leads device (session plan) p turns (λ q. IsTouched plan m (memories_of q.chip))
+    (λ status q. status ≡ 0 → IsDone plan m (memories_of q.chip))
+session_leaves plan sound fitted m f p turns idle =
+    leads device (λ r q x. x)
+    (session_goes plan sound fitted m f (T plan sound m f)
+    (λ q s. own_signature plan sound m f plan.switches.quiet q, no_signature plan sound m f plan.switches.quiet)
+    (actions_true plan sound m f (work plan) (OpenSession ∷ []) (work_fits plan fitted) refl)
+    (closed_true plan sound m f) p idle)

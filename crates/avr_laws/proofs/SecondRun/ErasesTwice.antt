@@ -1,0 +1,190 @@
+-- The page writes of a plan that erases: an erase and writes, which keep EEPROM where the plan's do.
+use Rattle.std.proofs.Common.{◌≡◌, ℕ, zero, suc, ◌+◌, ◌*◌, ◌/◌, refl, sym, ap, ◌∙◌, subst, List, [], ◌∷◌, ◌++◌, Bool, true, false, cond, Option, Some, None, unwrap_or}
+use Rattle.std.proofs.lemmas.Bool.{true≢false}
+use Rattle.std.specs.Prelude.{◌==◌, if◌then◌else◌, take, ⊤, All}
+use Rattle.std.specs.Int.{bit_at}
+use Rattle.avr_image.specs.Image.{byte_at}
+use Rattle.avr_part.specs.Part.{Part, IsPart}
+use Rattle.avr_part.specs.declared.part.Mem.{Mem}
+use Rattle.avr_part.specs.declared.part.Mem.TheVariants.{Flash, Eeprom, Lfuse, Hfuse, Efuse, Lock}
+use Rattle.avr_plan.specs.Plan.{Plan, IsFitted}
+use Rattle.stk_frame.specs.declared.command.Command.{Command}
+use Rattle.stk_frame.specs.declared.host_command.Fuse.TheVariants.{Low, High, Extended}
+use Rattle.stk_frame.specs.HostCommands.{program_fuse, program_lock}
+use Rattle.stk_host.specs.Places.{each_from}
+use Rattle.stk_host.specs.WriteSteps.{is_used, page_step, page_steps, begins_run, run_step, run_steps_at, byte_steps, write_steps}
+use Rattle.stk_emu.specs.Effect.{Image, Memories, Item, Erase, Write, are_locked, erase_keeps_eeprom, effect, effects}
+use Rattle.stk_emu.specs.Settled.{FitsPart}
+use Rattle.stk_emu.specs.PageWrites.{page_writes_of, all_steps, AllFitItems}
+use Rattle.avr_laws.proofs.PageWrites.Items.{items_do, effect_sizes}
+use Rattle.avr_laws.proofs.PageWrites.Pages.{page_writes_on}
+use Rattle.avr_laws.specs.Again.{is_keeping, AreKeeping}
+use Rattle.avr_laws.specs.Items.{items, has_erase}
+use Rattle.avr_laws.specs.Outcome.{page_writes}
+use Rattle.avr_laws.proofs.PageWrites.NetWrites.{first_again, first_writes_again}
+use Rattle.avr_laws.proofs.Each.{Each, each_on}
+use Rattle.avr_laws.proofs.Plans.Fits.{work, work_fits, items_fit}
+use Rattle.avr_laws.proofs.Plans.Items.{writes, erase_if, tasks_write, items_are}
+use Rattle.avr_laws.proofs.AnyLine.FirstSteps.{effects_sizes}
+
+-- a write, and if this is wanted one that keeps EEPROM
+abbrev Mild : Part → Type 0 → Item → Type 0
+Mild part want Erase = ⊥
+Mild part want (Write Hfuse image) = want → is_keeping part (byte_at image 0) ≡ true
+Mild part want (Write mem image) = ⊤
+
+abbrev AllMild : Part → Type 0 → List Item → Type 0
+AllMild part want items = Each (Mild part want) items
+
+mild_take : (part : Part) (want : Type 0) (k : ℕ) (xs : List Item) → AllMild part want xs
+    → AllMild part want (take k xs)
+mild_take part want zero xs f = tt
+mild_take part want (suc k) [] f = tt
+mild_take part want (suc k) (x ∷ xs) f = (f.0, mild_take part want k xs f.1)
+
+mild_writes : (part : Part) (want : Type 0) (xs : List Item) → AllMild part want xs → has_erase xs ≡ false
+mild_writes part want [] f = refl
+mild_writes part want (Erase ∷ xs) f = absurd f.0
+mild_writes part want (Write mem image ∷ xs) f = mild_writes part want xs f.1
+
+mild_item : (part : Part) (want : Type 0) (mem : Mem) (image : Image) → (want → AreKeeping part (Write mem image ∷ []))
+    → Mild part want (Write mem image)
+mild_item part want Hfuse image k = λ w. (k w).0
+mild_item part want mem image k = tt
+
+all_mild : (part : Part) (want : Type 0) (xs : List Item) → has_erase xs ≡ false → (want → AreKeeping part xs)
+    → AllMild part want xs
+all_mild part want [] f k = tt
+all_mild part want (Erase ∷ xs) f k = absurd (true≢false f)
+all_mild part want (Write mem image ∷ xs) f k =
+    (mild_item part want mem image (λ w. ((k w).0, tt)), all_mild part want xs f (λ w. (k w).1))
+
+-- ---- EEPROM stays kept
+
+module _ (part : Part) where
+  fuse_keeps : (is_locked : Bool) (o : Option ℕ) (fuse : ℕ) → (bit_at fuse part.eesave_bit == 0) ≡ true
+      → is_keeping part o ≡ true
+      → (bit_at (if is_locked then fuse else unwrap_or o fuse) part.eesave_bit == 0) ≡ true
+  fuse_keeps true o fuse e k = e
+  fuse_keeps false None fuse e k = e
+  fuse_keeps false (Some byte) fuse e k = k
+
+  item_keeps : (want : Type 0) → want → (item : Item) (m : Memories) → Mild part want item
+      → erase_keeps_eeprom part m ≡ true → erase_keeps_eeprom part (effect part item m) ≡ true
+  item_keeps want w (Write Hfuse image) m f e = fuse_keeps (are_locked m) (byte_at image 0) m.hfuse e (f w)
+  item_keeps want w item m f e = e
+
+  items_keep : (want : Type 0) → want → (xs : List Item) (m : Memories) → AllMild part want xs
+      → erase_keeps_eeprom part m ≡ true → erase_keeps_eeprom part (effects part xs m) ≡ true
+  items_keep want w [] m f e = e
+  items_keep want w (x ∷ xs) m f e = items_keep want w xs (effect part x m) f.1 (item_keeps want w x m f.0 e)
+
+  first_keep : (want : Type 0) → want → (k : ℕ) (xs : List Item) (m : Memories) → AllMild part want xs
+      → erase_keeps_eeprom part m ≡ true
+      → erase_keeps_eeprom part (effects part (take k (Erase ∷ xs)) m) ≡ true
+  first_keep want w zero xs m f e = e
+  first_keep want w (suc k) xs m f e = items_keep want w (take k xs) (effect part Erase m) (mild_take part want k xs f)
+      e
+
+  -- ---- the page writes of writes
+
+  module _ (want : Type 0) where
+    abbrev MildSteps : List (List Command) → Type 0
+    MildSteps steps = AllMild part want (page_writes_of steps)
+
+    steps_join : (xs ys : List (List Command)) → MildSteps xs → MildSteps ys → MildSteps (xs ++ ys)
+    steps_join xs ys f g = subst (AllMild part want) (sym (page_writes_on xs ys))
+        (each_on (Mild part want) (page_writes_of xs) (page_writes_of ys) f g)
+
+    each_mild : (steps_at : ℕ → List (List Command)) (place count : ℕ) → ((i : ℕ) → MildSteps (steps_at i))
+        → MildSteps (each_from steps_at place count)
+    each_mild steps_at place zero each = tt
+    each_mild steps_at place (suc count) each =
+        steps_join (steps_at place) (each_from steps_at (place + 1) count) (each place)
+        (each_mild steps_at (place + 1) count each)
+
+    either_mild : (b : Bool) (x : List (List Command)) → MildSteps x → MildSteps (cond b x [])
+    either_mild true x f = f
+    either_mild false x f = tt
+
+    byte_mild : (program : ℕ → Command) (o : Option ℕ) → ((v : ℕ) → o ≡ Some v → MildSteps ((program v ∷ []) ∷ []))
+        → MildSteps (byte_steps program o)
+    byte_mild program None each = tt
+    byte_mild program (Some v) each = each v refl
+
+    write_mild : (mem : Mem) (image : Image) → Mild part want (Write mem image) → MildSteps (write_steps part mem image)
+    write_mild Flash image f =
+        each_mild (page_steps part image) 0 (part.flash_size / part.flash_page)
+        (λ n. either_mild (is_used part.flash_page image (n * part.flash_page))
+        (page_step part image (n * part.flash_page) ∷ []) (tt, tt))
+    write_mild Eeprom image f = each_mild (run_steps_at part image) 0 part.eeprom_size
+        (λ a. either_mild (begins_run part.eeprom_page image a) (run_step part image a ∷ []) (tt, tt))
+    write_mild Lfuse image f = byte_mild (program_fuse Low) (byte_at image 0) (λ v e. (tt, tt))
+    write_mild Hfuse image f = byte_mild (program_fuse High) (byte_at image 0)
+        (λ v e. (λ w. ap (is_keeping part) (sym e) ∙ f w, tt))
+    write_mild Efuse image f = byte_mild (program_fuse Extended) (byte_at image 0) (λ v e. (tt, tt))
+    write_mild Lock image f = byte_mild program_lock (byte_at image 0) (λ v e. (tt, tt))
+    write_mild mem image f = tt
+
+    page_writes_mild : (xs : List Item) → AllMild part want xs → MildSteps (all_steps part xs)
+    page_writes_mild [] f = tt
+    page_writes_mild (Erase ∷ xs) f = absurd f.0
+    page_writes_mild (Write mem image ∷ xs) f = steps_join (write_steps part mem image) (all_steps part xs)
+        (write_mild mem image f.0) (page_writes_mild xs f.1)
+
+-- ---- the items of a plan
+
+some_page_writes_again : (part : Part) (sound : IsPart part) (xs : List Item) (k : ℕ) (m : Memories)
+    → AllFitItems part xs
+    → FitsPart part m → has_erase xs ≡ false
+    → (erase_keeps_eeprom part m ≡ true → AreKeeping part xs)
+    → effects part (Erase ∷ xs) (effects part (take k (page_writes_of (all_steps part (Erase ∷ xs)))) m)
+    ≡ effects part (Erase ∷ xs) m
+some_page_writes_again part sound xs k m fits f writes kept =
+    let want : Type 0 = erase_keeps_eeprom part m ≡ true in
+    let ys = page_writes_of (all_steps part xs) in
+    let mild : AllMild part (erase_keeps_eeprom part m ≡ true) ys =
+    page_writes_mild part (erase_keeps_eeprom part m ≡ true) xs
+    (all_mild part (erase_keeps_eeprom part m ≡ true) xs writes kept) in
+    let some = effects part (take k (Erase ∷ ys)) m in
+    let same : (x : Memories) → FitsPart part x → effects part (Erase ∷ ys) x ≡ effects part (Erase ∷ xs) x =
+    λ x g. items_do part sound xs (effect part Erase x) fits (effect_sizes part sound Erase x g) in
+    sym (same some (effects_sizes part sound (take k (Erase ∷ ys)) m f))
+    ∙ (first_again part k ys m (mild_writes part (erase_keeps_eeprom part m ≡ true) ys mild)
+    (λ e. first_keep part (erase_keeps_eeprom part m ≡ true) e k ys m mild e)
+    ∙ same m f)
+
+some_writes_again : (part : Part) (sound : IsPart part) (xs : List Item) (k : ℕ) (m : Memories) → AllFitItems part xs
+    → FitsPart part m → has_erase xs ≡ false
+    → effects part xs (effects part (take k (page_writes_of (all_steps part xs))) m) ≡ effects part xs m
+some_writes_again part sound xs k m fits f writes =
+    let ys = page_writes_of (all_steps part xs) in
+    let mild : AllMild part ⊥ ys = page_writes_mild part ⊥ xs (all_mild part ⊥ xs writes (λ w. absurd w)) in
+    let some = effects part (take k ys) m in
+    sym (items_do part sound xs some fits (effects_sizes part sound (take k ys) m f))
+    ∙ (first_writes_again part k ys m (mild_writes part ⊥ ys mild) ∙ items_do part sound xs m fits f)
+
+items_again : (part : Part) (sound : IsPart part) (due : Bool) (xs : List Item) (k : ℕ) (m : Memories)
+    → AllFitItems part (erase_if due ++ xs) → FitsPart part m → has_erase xs ≡ false
+    → (due ≡ true → erase_keeps_eeprom part m ≡ true → AreKeeping part (erase_if due ++ xs))
+    → effects part (erase_if due ++ xs) (effects part (take k (page_writes_of (all_steps part (erase_if due ++ xs)))) m)
+    ≡ effects part (erase_if due ++ xs) m
+items_again part sound true xs k m fits f writes kept =
+    some_page_writes_again part sound xs k m fits.1 f writes (λ e. (kept refl e).1)
+items_again part sound false xs k m fits f writes kept = some_writes_again part sound xs k m fits f writes
+
+pub plan_again : (plan : Plan) (k : ℕ) (m : Memories) → IsPart plan.part → All (IsFitted plan.part) plan.tasks
+    → FitsPart plan.part m
+    → (has_erase (items plan) ≡ true → erase_keeps_eeprom plan.part m ≡ true → AreKeeping plan.part (items plan))
+    → effects plan.part (items plan) (effects plan.part (take k (page_writes plan)) m)
+    ≡ effects plan.part (items plan) m
+plan_again plan k m sound fitted f kept =
+    let part = plan.part in
+    let due = has_erase (items plan) in
+    let are = items_are plan in
+    subst (λ all. effects part all (effects part (take k (page_writes_of (all_steps part all))) m) ≡ effects part all m)
+    (sym are)
+    (items_again part sound due (writes plan) k m
+    (subst (AllFitItems part) are (items_fit part (work plan) (work_fits plan fitted))) f
+    (tasks_write plan.switches plan.tasks)
+    (λ erases keeps. subst (AreKeeping part) are (kept erases keeps)))

@@ -1,0 +1,73 @@
+-- A second run over what the first one left: its status, and its memories.
+use Rattle.std.proofs.Common.{◌≡◌, ℕ, arith, ap, subst, sym, ◌∙◌, take, true}
+use Rattle.std.proofs.lemmas.List.{length-replicate}
+use Rattle.std.proofs.lemmas.List.Elements.{All-replicate}
+use Rattle.std.specs.Prelude.{◌<◌, All}
+use Rattle.avr_part.specs.Part.{Part, IsPart}
+use Rattle.avr_plan.specs.Plan.{Plan, IsFitted}
+use Rattle.stk_emu.specs.Effect.{Memories, erase_keeps_eeprom, effects}
+use Rattle.stk_emu.specs.Settled.{FitsPart}
+use Rattle.avr_laws.specs.Again.{AreKeeping, chip_of, AgreesAnyway, Heals}
+use Rattle.avr_laws.specs.Agrees.{Agrees}
+use Rattle.avr_laws.specs.ExpectedRun.{expected_run}
+use Rattle.avr_laws.specs.Items.{items, has_erase}
+use Rattle.avr_laws.specs.Outcome.{page_writes, IsTouched, IsDone}
+use Rattle.avr_laws.proofs.SecondRun.EveryChip.{agrees_anyway}
+use Rattle.avr_laws.proofs.SecondRun.ErasesTwice.{plan_again}
+use Rattle.avr_laws.proofs.Memories.ExpectedAgrees.{expected_status, expected_memories}
+use Rattle.avr_laws.proofs.AnyLine.FirstSteps.{effects_sizes}
+
+chip_fits : (part : Part) (byte : ℕ) → byte < 256 → FitsPart part (chip_of part byte)
+chip_fits part byte l = record {
+  flash = length-replicate {A = ℕ} part.flash_size byte;
+  eeprom = length-replicate {A = ℕ} part.eeprom_size byte;
+  bytes = All-replicate (λ (b : ℕ). b < 256) part.flash_size byte l;
+}
+
+-- it is as much as is needed
+pub two_of_all : (plan : Plan) → ((m : Memories) → FitsPart plan.part m → Agrees plan m) → AgreesAnyway plan
+two_of_all plan all = record {
+  zeros = all (chip_of plan.part 0) (chip_fits plan.part 0 (omega arith));
+  ones = all (chip_of plan.part 255) (chip_fits plan.part 255 (omega arith));
+}
+
+pub healed : (plan : Plan) (k : ℕ) (m : Memories) → IsPart plan.part → All (IsFitted plan.part) plan.tasks
+    → FitsPart plan.part m
+    → has_erase (items plan) ≡ true → AgreesAnyway plan
+    → (erase_keeps_eeprom plan.part m ≡ true → AreKeeping plan.part (items plan))
+    → Heals plan m (effects plan.part (take k (page_writes plan)) m)
+healed plan k m sound fitted f erases both kept =
+    let some = effects plan.part (take k (page_writes plan)) m in
+    let again : Agrees plan some = agrees_anyway plan some
+    (effects_sizes plan.part sound (take k (page_writes plan)) m f)
+    erases both in
+    let once : Agrees plan m = agrees_anyway plan m f erases both in
+    record {
+      status = (expected_status plan some).1 again;
+      memories = expected_memories plan some again
+          ∙ (plan_again plan k m sound fitted f (λ _. kept) ∙ sym (expected_memories plan m once));
+    }
+
+pub touched_healed : (plan : Plan) (before after : Memories) → IsPart plan.part → All (IsFitted plan.part) plan.tasks
+    → FitsPart plan.part before
+    → has_erase (items plan) ≡ true → AgreesAnyway plan
+    → (erase_keeps_eeprom plan.part before ≡ true → AreKeeping plan.part (items plan))
+    → IsTouched plan before after → Heals plan before after
+touched_healed plan before after sound fitted f erases both kept touched =
+    subst (Heals plan before) (sym touched.memories) (healed plan touched.count before sound fitted f erases both kept)
+
+-- a second run that did all comes to what the first one would have come to
+pub done_again : (plan : Plan) (before left after : Memories) → IsPart plan.part → All (IsFitted plan.part) plan.tasks
+    → FitsPart plan.part before
+    → (has_erase (items plan) ≡ true → erase_keeps_eeprom plan.part before ≡ true → AreKeeping plan.part (items plan))
+    → IsTouched plan before left → IsDone plan left after → after ≡ effects plan.part (items plan) before
+done_again plan before left after sound fitted f kept touched all =
+    all.memories ∙ (ap (effects plan.part (items plan)) touched.memories
+    ∙ plan_again plan touched.count before sound fitted f kept)
+
+-- an expected run that succeeds, whatever the chip was
+pub succeeds : (plan : Plan) (before : Memories) (status : ℕ) → FitsPart plan.part before
+    → has_erase (items plan) ≡ true → AgreesAnyway plan
+    → status ≡ (expected_run plan before).status → status ≡ 0
+succeeds plan before status f erases both status_is =
+    status_is ∙ (expected_status plan before).1 (agrees_anyway plan before f erases both)

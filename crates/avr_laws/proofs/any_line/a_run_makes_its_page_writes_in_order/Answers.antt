@@ -1,0 +1,5 @@
+use Rattle.avr_laws.proofs.AnyLine.PageWriteOrder.{session_makes}
+use Rattle.avr_laws.proofs.any_line.a_run_makes_its_page_writes_in_order.Goals as goal
+
+pub returns : goal.returns
+returns c = λ plan m p fates sound fitted f idle. session_makes plan sound fitted m f p fates idle

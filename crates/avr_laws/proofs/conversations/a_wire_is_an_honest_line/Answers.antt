@@ -1,0 +1,13 @@
+use Rattle.std.proofs.Common.{length, arith}
+use Rattle.stk_emu.specs.Device.{device}
+use Rattle.stk_emu.proofs.Answers.BodySizes.{answers_bodies}
+use Rattle.avr_laws.proofs.Lines.NoFrame.{prefix_came}
+use Rattle.avr_laws.proofs.Lines.WireTapes.{over_wire}
+use Rattle.avr_laws.proofs.conversations.a_wire_is_an_honest_line.Goals as goal
+
+pub returns-clause-wire : goal.returns-clause-wire
+returns-clause-wire g c = λ d n w sent more asks clear lawful e.
+    (over_wire device answers_bodies d n w sent more asks clear lawful e).honest (length sent) (omega arith)
+
+pub returns-clause-prefix : goal.returns-clause-prefix
+returns-clause-prefix g c = λ got sent others is good. prefix_came got sent others is good

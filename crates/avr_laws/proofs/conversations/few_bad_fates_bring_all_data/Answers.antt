@@ -1,0 +1,26 @@
+use Rattle.avr_laws.proofs.Given.FewBadTurns.{good_few, four_too_many, second_too_many, three_of_six, few_left, step_comes, play_few}
+use Rattle.stk_host.specs.Steps.{step}
+use Rattle.avr_laws.proofs.conversations.few_bad_fates_bring_all_data.Goals as goal
+
+pub returns-clause-step : goal.returns-clause-step
+returns-clause-step c = λ part commands m k p fates sound is f s few le. step_comes part sound commands m k p fates is f
+    s few le
+
+pub returns-clause-rest : goal.returns-clause-rest
+returns-clause-rest c = λ k commands p fates few. few_left k (step commands) p fates few
+
+pub returns-clause-play : goal.returns-clause-play
+returns-clause-play c = λ part steps m k before p fates o sound are f s few e. play_few part sound steps m k before p
+    fates o are f s few e
+
+pub returns-clause-good : goal.returns-clause-good
+returns-clause-good c = good_few
+
+pub returns-clause-four : goal.returns-clause-four
+returns-clause-four c = four_too_many
+
+pub returns-clause-six : goal.returns-clause-six
+returns-clause-six c = three_of_six
+
+pub returns-clause-six_fail : goal.returns-clause-six_fail
+returns-clause-six_fail c = second_too_many

@@ -1,0 +1,104 @@
+-- A dialog run over any tape, given what happened to the programmer at each question.
+use Rattle.std.specs.Prelude.{ℕ, suc, Bool, true, false, List, [], ◌∷◌, ◌≡◌, ◌≤◌, Option, Some, None, length, filter, take, if◌then◌else◌}
+use Rattle.std.specs.Str.{bytes_eq}
+use Rattle.stk_frame.specs.Cut.{frames, is_good}
+use Rattle.stk_host.specs.Tape.{Tape, Reading, Answered, Silent, Ended, Babbled, answer}
+use Rattle.stk_host.specs.Dialog.{Dialog, Done, Say, Ask, played, next, frames_in, outputs}
+use Rattle.stk_emu.specs.Device.{Device, after_frame, refusal}
+use Rattle.stk_emu.specs.Turn.{Became, Kept, Obeyed, after_became, Turn, Right, Wrong, Refusal, Nothing, Babble, Ending, IsHonest}
+use Rattle.stk_emu.specs.Along.{along, said_along}
+
+-- After the list no command arrives.
+abbrev pub first_became : List Became → Became
+first_became [] = Kept
+first_became (became ∷ becames) = became
+
+abbrev pub other_becames : List Became → List Became
+other_becames [] = []
+other_becames (became ∷ becames) = becames
+
+-- An answer that is awaited meets any claim; one that was read must meet this claim.
+abbrev pub on_answer : (Reading → Tape → Type 0) → Option (Reading × Tape) → Type 0
+on_answer Claim None = Unit {0}
+on_answer Claim (Some (reading, tape)) = Claim reading tape
+
+-- WHATEVER THE LINK DOES, as long as it forges no answer: each reading of this dialog is honest, given what happened
+-- to the programmer at its question. The dialog is run over this tape, with frames numbered from `n`.
+abbrev pub AreHonest : {E R P : Type 0} → Device P → Dialog E R → ℕ → Tape → P → List Became → Type 0
+AreHonest m (Done r) n tape p becames = Unit {0}
+AreHonest m (Say e dialog) n tape p becames = AreHonest m dialog n tape p becames
+AreHonest m (Ask bytes go_on) n tape p becames =
+    on_answer (λ reading left.
+    IsHonest m bytes p (first_became becames) reading
+    × AreHonest m (go_on reading) (next n) left
+    (after_became (first_became becames) (m.after bytes p) p m.reset) (other_becames becames))
+    (answer n tape)
+
+-- The device after these frames were sent, given what happened to it at each.
+abbrev pub after_pieces : {P : Type 0} → Device P → List (List ℕ) → List Became → P → P
+after_pieces m [] becames p = p
+after_pieces m (piece ∷ sent) becames p =
+    after_pieces m sent (other_becames becames) (after_became (first_became becames) (after_frame m piece p) p m.reset)
+
+-- The turn of a question, from what happened to the programmer and what was read. The answer to a command that was
+-- obeyed is its own, unless it is the refusal.
+abbrev pub answered_turn : Became → List ℕ → Turn
+answered_turn Obeyed body = if bytes_eq body refusal then Wrong Obeyed Refusal else Right
+answered_turn became body = Wrong became Refusal
+
+abbrev pub turn_by : Became → Reading → Turn
+turn_by became (Answered body) = answered_turn became body
+turn_by became Silent = Wrong became Nothing
+turn_by became Ended = Wrong became Ending
+turn_by became Babbled = Wrong became Babble
+
+-- A question whose answer is awaited has read nothing.
+abbrev pub turns_from : Became → (Reading → Tape → List Turn) → Option (Reading × Tape) → List Turn
+turns_from became more None = Wrong became Nothing ∷ []
+turns_from became more (Some (reading, tape)) = turn_by became reading ∷ more reading tape
+
+-- THE TURNS of a run over this tape, one for each frame sent.
+abbrev pub turns_heard : {E R : Type 0} → Dialog E R → ℕ → Tape → List Became → List Turn
+turns_heard (Done r) n tape becames = []
+turns_heard (Say e dialog) n tape becames = turns_heard dialog n tape becames
+turns_heard (Ask bytes go_on) n tape becames =
+    turns_from (first_became becames)
+    (λ reading left. turns_heard (go_on reading) (next n) left (other_becames becames)) (answer n tape)
+
+-- A run waits: its output is that along the turns of all questions but the last.
+pub record WaitsAlong {E R P : Type 0} (m : Device P) (d : Dialog E R) (p : P) (turns : List Turn)
+    (sent : List (List ℕ)) (says : List E) : Type 0 where
+  pub answered : ℕ
+  pub one_more : length sent ≡ suc answered
+  pub said : says ≡ said_along m answered d p turns
+
+-- The run of a dialog over a tape goes along its turns. After any first frames the programmer is the one along them.
+-- If the run is done, the dialog is done along them, with the same result and the same output.
+pub record GoesAs {E R P : Type 0} (m : Device P) (d : Dialog E R) (n : ℕ) (tape : Tape) (p : P)
+    (becames : List Became) : Type 0 where
+  pub programmer : (k : ℕ) → k ≤ length (frames_in (played d n tape).events)
+      → (along m k d p (turns_heard d n tape becames)).programmer
+      ≡ after_pieces m (take k (frames_in (played d n tape).events)) becames p
+  pub outcome : (r : R) (seq : ℕ) (left : Tape) → (played d n tape).outcome ≡ Some (r, seq, left)
+      → ((along m (length (frames_in (played d n tape).events)) d p (turns_heard d n tape becames)).dialog ≡ Done r)
+      × (outputs (played d n tape).events
+      ≡ said_along m (length (frames_in (played d n tape).events)) d p (turns_heard d n tape becames))
+  pub waits : (played d n tape).outcome ≡ None
+      → WaitsAlong m d p (turns_heard d n tape becames) (frames_in (played d n tape).events)
+      (outputs (played d n tape).events)
+
+-- Some of these frames, in order, each at most once: those that arrived.
+abbrev pub let_through : List Bool → List (List ℕ) → List (List ℕ)
+let_through [] sent = []
+let_through (through ∷ more) [] = []
+let_through (true ∷ more) (piece ∷ sent) = piece ∷ let_through more sent
+let_through (false ∷ more) (piece ∷ sent) = let_through more sent
+
+-- A programmer that got any bytes: the good frames cut from them are some of those sent.
+pub record CameThrough (got : List ℕ) (sent : List (List ℕ)) (through : List Bool) : Type 0 where
+  pub good : filter is_good (frames got) ≡ let_through through sent
+
+abbrev pub became_by : List Bool → List Became
+became_by [] = []
+became_by (true ∷ more) = Obeyed ∷ became_by more
+became_by (false ∷ more) = Kept ∷ became_by more

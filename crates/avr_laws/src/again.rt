@@ -1,0 +1,57 @@
+//! Laws of running the same run again, and of succeeding whatever the chip held. No code.
+#![tactic(auto)]
+
+ghost use Rattle.std.specs.Prelude.{◌≡◌, ℕ, true, take, All};
+ghost use Rattle.avr_part.specs.Part.{IsPart};
+ghost use Rattle.avr_plan.specs.Plan.{Plan, IsFitted};
+ghost use Rattle.stk_emu.specs.Effect.{Memories, erase_keeps_eeprom, effects};
+ghost use Rattle.stk_emu.specs.Settled.{FitsPart};
+ghost use Rattle.avr_laws.specs.Again.{AreKeeping, AgreesAnyway, Heals};
+ghost use Rattle.avr_laws.specs.Agrees.{Agrees};
+ghost use Rattle.avr_laws.specs.ExpectedRun.{expected_run};
+ghost use Rattle.avr_laws.specs.Items.{items, has_erase};
+ghost use Rattle.avr_laws.specs.Outcome.{page_writes, IsTouched, IsDone};
+
+/// States that a plan leaves the same memories if some of its first writes were made before. If the plan erases and
+/// the chip keeps EEPROM at an erase, each byte that it writes to the high fuse must keep it too.
+pub fn a_second_run_heals_the_first()
+    ensures { (plan : Plan) (k : ℕ) (m : Memories) → IsPart plan.part → All (IsFitted plan.part) plan.tasks
+        → FitsPart plan.part m
+        → (has_erase (items plan) ≡ true → erase_keeps_eeprom plan.part m ≡ true
+        → AreKeeping plan.part (items plan))
+        → effects plan.part (items plan) (effects plan.part (take k (page_writes plan)) m)
+        ≡ effects plan.part (items plan) m }
+{}
+
+/// States that a plan with an erase agrees on every chip if its comparisons agree on a chip of 00 and on one of FF.
+/// Its expected run then has status 0, whatever the chip held. `needed`: a plan that agrees on every chip agrees on
+/// these two.
+pub fn what_agrees_on_two_chips_agrees_on_all()
+    ensures agrees { (plan : Plan) (m : Memories) → FitsPart plan.part m
+        → has_erase (items plan) ≡ true → AgreesAnyway plan → Agrees plan m }
+    ensures status { (plan : Plan) (m : Memories) → FitsPart plan.part m
+        → has_erase (items plan) ≡ true → AgreesAnyway plan
+        → (expected_run plan m).status ≡ 0 }
+    ensures needed { (plan : Plan) → ((m : Memories) → FitsPart plan.part m → Agrees plan m) → AgreesAnyway plan }
+{}
+
+/// States that the same run again heals what a broken-off run left. Its expected run has status 0, and leaves the
+/// memories that one run would have left. `done`: a second run with status 0, whatever its link does, leaves what a
+/// first run leaves that is not broken off.
+pub fn the_same_run_again_heals()
+    ensures touched { (plan : Plan) (before after : Memories) → IsPart plan.part → All (IsFitted plan.part) plan.tasks
+        → FitsPart plan.part before
+        → has_erase (items plan) ≡ true → AgreesAnyway plan
+        → (erase_keeps_eeprom plan.part before ≡ true → AreKeeping plan.part (items plan))
+        → IsTouched plan before after → Heals plan before after }
+    ensures page_writes { (plan : Plan) (k : ℕ) (m : Memories) → IsPart plan.part → All (IsFitted plan.part) plan.tasks
+        → FitsPart plan.part m
+        → has_erase (items plan) ≡ true → AgreesAnyway plan
+        → (erase_keeps_eeprom plan.part m ≡ true → AreKeeping plan.part (items plan))
+        → Heals plan m (effects plan.part (take k (page_writes plan)) m) }
+    ensures done { (plan : Plan) (before left after : Memories) → IsPart plan.part → All (IsFitted plan.part) plan.tasks
+        → FitsPart plan.part before
+        → (has_erase (items plan) ≡ true → erase_keeps_eeprom plan.part before ≡ true
+        → AreKeeping plan.part (items plan))
+        → IsTouched plan before left → IsDone plan left after → after ≡ effects plan.part (items plan) before }
+{}

@@ -1,0 +1,152 @@
+//! Laws of what a run leaves in a chip and how much it sends, whatever the link does. No code.
+#![tactic(auto)]
+
+ghost use Rattle.std.specs.Prelude.{◌≡◌, ◌*◌, ◌++◌, ℕ, Bool, List, [], All, Some, take};
+ghost use Rattle.avr_desk.specs.Record.{DeskState};
+ghost use Rattle.avr_desk.specs.Said.{OutputEvent, SaidPart};
+ghost use Rattle.avr_part.specs.Part.{IsPart};
+ghost use Rattle.avr_plan.specs.Plan.{Plan, IsFitted};
+ghost use Rattle.avr_session.specs.Actions.{actions};
+ghost use Rattle.avr_session.specs.Runs.{Devices, devices};
+ghost use Rattle.avr_session.specs.Session.{session};
+ghost use Rattle.avr_session.specs.Stopping.{IsPlayed};
+ghost use Rattle.stk_emu.specs.Along.{along, said_along};
+ghost use Rattle.stk_emu.specs.Device.{device, after_frames};
+ghost use Rattle.stk_emu.specs.Effect.{Memories, effects, memories_of};
+ghost use Rattle.stk_emu.specs.Programmer.{Programmer, fresh_programmer};
+ghost use Rattle.stk_emu.specs.Settled.{Idle, FitsPart};
+ghost use Rattle.avr_laws.specs.Tallies.{Tallies};
+ghost use Rattle.stk_emu.specs.Wired.{WiredState, wired_link};
+ghost use Rattle.stk_emu.specs.Turn.{Turn, Became};
+ghost use Rattle.avr_laws.specs.AnyTape.{AreHonest, CameThrough, after_pieces, became_by, turns_heard};
+ghost use Rattle.avr_laws.specs.NoFrame.{MakesNoFrame};
+ghost use Rattle.avr_part.specs.Sound.{IsSoundChip};
+ghost use Rattle.avr_part.specs.State.{ChipState as Chip};
+ghost use Rattle.avr_session.specs.Run.{RunsSession};
+ghost use Rattle.stk_frame.specs.Cut.{frames};
+ghost use Rattle.stk_host.specs.Play.{IsPrefixOf};
+ghost use Rattle.stk_host.specs.Transcript.{sent, heard};
+ghost use Rattle.stk_emu.specs.Wire.{turns_of};
+ghost use Rattle.stk_host.specs.Tape.{Tape};
+ghost use Rattle.stk_host.specs.Dialog.{Done, Event, played, bytes_sent};
+ghost use Rattle.stk_host.specs.Bound.{SendsAtMost, commands_in};
+ghost use Rattle.avr_laws.specs.AnyLine.{OverAnyLine, OverTurns, WholeOverTurns, Stopped, WereTrue};
+ghost use Rattle.avr_session.specs.PlanSteps.{run_steps};
+ghost use Rattle.avr_laws.specs.Bound.{ListensAtMost};
+ghost use Rattle.avr_laws.specs.ExpectedRun.{expected_run};
+ghost use Rattle.avr_laws.specs.Foretold.{SaysFirst, IsForetold, EndsAsForetold};
+ghost use Rattle.avr_laws.specs.Made.{made_by};
+ghost use Rattle.avr_laws.specs.Told.{TellsTrue, IsTrue};
+ghost use Rattle.avr_laws.specs.Outcome.{page_writes};
+
+/// States that at each moment of a session the memories are those of the first writes of its plan, in order: those
+/// completed, and perhaps one more.
+pub fn a_run_makes_its_page_writes_in_order()
+    ensures { (plan : Plan) (m : Memories) (p : Programmer) (turns : List Turn)
+        → IsPart plan.part → All (IsFitted plan.part) plan.tasks → FitsPart plan.part m → Idle plan.part m p
+        → Tallies device (session plan) (made_by plan) (λ j q. memories_of q.chip
+        ≡ effects plan.part (take j (page_writes plan)) m) p turns }
+{}
+
+/// States that a run sends at most four frames for each command in the steps of its plan, counted over all steps.
+/// This holds whatever the link does, and also if the run breaks off.
+pub fn a_run_sends_at_most_four_times_its_commands()
+    ensures { (plan : Plan) → SendsAtMost SaidPart (4 * commands_in (run_steps plan)) (session plan) }
+{}
+
+/// Bounds how long a run can take, without a clock, whatever the link does. At most one timeout occurs for each frame
+/// sent, so at most four times as many as the steps have commands. At most 4,096 bytes are read for each frame.
+pub fn a_run_listens_at_most_once_for_each_frame()
+    ensures { (plan : Plan) → IsPart plan.part → All (IsFitted plan.part) plan.tasks
+        → ListensAtMost (4 * commands_in (run_steps plan)) (session plan) }
+{}
+
+/// States that everything reported is true of the chip at that moment, whatever the link does and whatever the
+/// status. So each line of a run that failed later can be trusted. What was written is there as the plan's writes so
+/// far make it, and what was verified is held. What was read and saved is what the chip has, and a reported
+/// difference exists.
+pub fn what_a_run_tells_is_true()
+    ensures { (plan : Plan) (m : Memories) (k : ℕ) (p : Programmer) (turns : List Turn)
+        → IsPart plan.part → All (IsFitted plan.part) plan.tasks → FitsPart plan.part m → Idle plan.part m p
+        → TellsTrue device (λ q output. IsTrue plan m (memories_of q.chip) output) k (session plan) p turns }
+{}
+
+/// States that everything reported over a wire was true of the chip at that moment. This covers all output of a
+/// session that ran whole, and all whole events of one that stopped.
+pub fn what_was_told_was_true()
+    ensures played { (plan : Plan) (w v : WiredState) (d e : DeskState) (status : ℕ)
+        → w.transcript ≡ [] → OverAnyLine plan w v d e status
+        → (whole : IsPlayed (session plan) (devices (wired_link w) d) (devices (wired_link v) e) status)
+        → WereTrue plan (fresh_programmer w.wire.programmer.chip) (turns_of w.wire.fates) whole.1.events }
+    ensures stopped { (plan : Plan) (w v : WiredState) (d e : DeskState) (status : ℕ)
+        → w.transcript ≡ [] → OverAnyLine plan w v d e status
+        → (stopped : Stopped plan w v d e)
+        → WereTrue plan (fresh_programmer w.wire.programmer.chip) (turns_of w.wire.fates) stopped.breaks.prefix.whole }
+{}
+
+/// States that a session outputs its expected run up to a fault, at each moment and whatever the link does. Its
+/// output so far is that of the expected run, or of its first actions, each of which ended. After these at most the
+/// line of a failed step follows.
+///
+/// With a status the output is all of the expected run, with its status, or the output up to a failed step, with
+/// status 1. The output of first actions is a prefix of the expected run's.
+pub fn a_session_outputs_its_expected_run_up_to_a_fault()
+    ensures moment { (plan : Plan) (m : Memories) (k : ℕ) (p : Programmer) (turns : List Turn)
+        → IsPart plan.part → All (IsFitted plan.part) plan.tasks → FitsPart plan.part m → Idle plan.part m p
+        → IsForetold plan m (said_along device k (session plan) p turns) }
+    ensures end { (plan : Plan) (m : Memories) (k status : ℕ) (p : Programmer) (turns : List Turn)
+        → IsPart plan.part → All (IsFitted plan.part) plan.tasks → FitsPart plan.part m → Idle plan.part m p
+        → (along device k (session plan) p turns).dialog ≡ Done status
+        → EndsAsForetold plan m (said_along device k (session plan) p turns) status }
+    ensures prefix { (plan : Plan) (m : Memories) (says : List OutputEvent)
+        → SaysFirst plan.part plan.switches (actions plan) m says
+        → (later : List OutputEvent) × ((expected_run plan m).says ≡ says ++ later) }
+{}
+
+/// States what a session does over any link that forges no answer. The link may lose, spoil, cut, delay, hold and
+/// repeat anything. The session goes along the turns of its questions, which follow from what was read and what
+/// happened to the programmer. It does what the page says.
+///
+/// `bytes` states this in bytes. The programmer may have got any bytes whose good frames are some of those sent, in
+/// order. The tape that came back is any on which each good frame that the host cuts is one of the programmer's last
+/// answers, or a refusal. `end` holds however a session ends, so that any prefix of its bytes was sent. The memories
+/// are those of its first writes. Its output is the expected run's, up to the line of a failed step.
+pub fn a_session_over_any_line()
+    ensures turns { (plan : Plan) (s : Chip) (becames : List Became) (bytes : List ℕ)
+        (tape left : Tape) (events : List (Event OutputEvent)) (status next : ℕ)
+        → IsSoundChip s → s.part ≡ plan.part → All (IsFitted plan.part) plan.tasks
+        → AreHonest device (session plan) 1 tape (fresh_programmer s) becames
+        → played (session plan) 1 tape ≡ record { events = events; outcome = Some (status, next, left) }
+        → bytes_sent events ≡ bytes
+        → WholeOverTurns plan (fresh_programmer s) (after_pieces device (frames bytes) becames (fresh_programmer s))
+        (turns_heard (session plan) 1 tape becames) bytes events status }
+    ensures bytes { (plan : Plan) (s : Chip) (got bytes : List ℕ) (through : List Bool) (tape left : Tape)
+        (events : List (Event OutputEvent)) (status next : ℕ)
+        → IsSoundChip s → s.part ≡ plan.part → All (IsFitted plan.part) plan.tasks
+        → CameThrough got (frames bytes) through
+        → MakesNoFrame device (session plan) 1 tape (fresh_programmer s) (became_by through) []
+        → played (session plan) 1 tape ≡ record { events = events; outcome = Some (status, next, left) }
+        → bytes_sent events ≡ bytes
+        → WholeOverTurns plan (fresh_programmer s) (after_frames device (frames got) (fresh_programmer s))
+        (turns_heard (session plan) 1 tape (became_by through)) bytes events status }
+    ensures end { (plan : Plan) (s : Chip) (becames : List Became) (bytes : List ℕ) (tape : Tape)
+        → IsSoundChip s → s.part ≡ plan.part → All (IsFitted plan.part) plan.tasks
+        → AreHonest device (session plan) 1 tape (fresh_programmer s) becames
+        → IsPrefixOf bytes (bytes_sent (played (session plan) 1 tape).events)
+        → OverTurns plan (fresh_programmer s) (after_pieces device (frames bytes) becames (fresh_programmer s))
+        (turns_heard (session plan) 1 tape becames) bytes (played (session plan) 1 tape).events }
+{}
+
+/// States what a session leaves that ran whole or broke off, also because its link failed, over a link over which
+/// nothing had passed. If no frame is forged, the memories are those of its first writes: as many as were completed
+/// by what was received, and at most one more. Its output is the expected run's, up to the line of a failed step.
+pub fn whatever_becomes_of_a_session_its_first_page_writes_were_made()
+    ensures { (plan : Plan) (s : Chip) (got : List ℕ) (through : List Bool) (old new : Devices) (status : ℕ)
+        → IsSoundChip s → s.part ≡ plan.part → All (IsFitted plan.part) plan.tasks
+        → old.link.transcript ≡ [] → RunsSession plan old new status
+        → CameThrough got (frames (sent new.link.transcript)) through
+        → MakesNoFrame device (session plan) 1 (heard new.link.transcript) (fresh_programmer s) (became_by through) []
+        → OverTurns plan (fresh_programmer s) (after_frames device (frames got) (fresh_programmer s))
+        (turns_heard (session plan) 1 (heard new.link.transcript) (became_by through)) (sent new.link.transcript)
+        (played (session plan) 1 (heard new.link.transcript)).events }
+{}

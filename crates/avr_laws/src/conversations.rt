@@ -1,0 +1,80 @@
+//! Laws of a conversation with the emulated programmer over a bad link. What a link does to a question is a turn. A
+//! conversation goes along the turns question by question, over a wire and over any tape without forged frames.
+
+ghost use Rattle.std.specs.Prelude.{filter, true, ◌≡◌, ◌++◌, ℕ, List, [], ◌∷◌, Ok, Bool, length, replicate, ◌<◌, ◌≤◌, Err};
+ghost use Rattle.avr_part.specs.Part.{Part, IsPart};
+ghost use Rattle.stk_frame.specs.declared.command.Command.{Command};
+ghost use Rattle.stk_frame.specs.Frame.{frame};
+ghost use Rattle.stk_frame.specs.Cut.{frames, is_good};
+ghost use Rattle.stk_host.specs.Tape.{Tape, answer};
+ghost use Rattle.stk_host.specs.Dialog.{Dialog, played, frames_in, Done};
+ghost use Rattle.stk_host.specs.Steps.{StepOutcome, step, play};
+ghost use Rattle.stk_host.specs.Transcript.{sent};
+ghost use Rattle.stk_emu.specs.Programmer.{Programmer};
+ghost use Rattle.stk_emu.specs.Device.{device, after_frames};
+ghost use Rattle.avr_laws.specs.NoFrame.{MakesNoFrame};
+ghost use Rattle.avr_laws.specs.AnyTape.{AreHonest, GoesAs, CameThrough, after_pieces, became_by};
+ghost use Rattle.stk_emu.specs.Lawful.{IsClear};
+ghost use Rattle.stk_emu.specs.Wire.{Wire, AreLawful, becames_of, tape_of};
+ghost use Rattle.stk_emu.specs.Turn.{Became, Turn};
+ghost use Rattle.stk_emu.specs.Along.{along, AsksBodies};
+ghost use Rattle.stk_emu.specs.Effect.{Memories};
+ghost use Rattle.stk_emu.specs.Settled.{Ready, FitsPart};
+ghost use Rattle.stk_emu.specs.PageWrites.{IsStep, AreSteps};
+ghost use Rattle.stk_emu.specs.Given.{given_by, all_given};
+ghost use Rattle.avr_laws.specs.Few.{AreFew, FewOf, lost, each_second, AreGood};
+ghost use Rattle.stk_host.specs.declared.fault.StepFault.TheVariants.{NoAnswer};
+ghost use Rattle.stk_frame.specs.declared.command.Command.TheVariants.{LoadAddress};
+
+/// States that steps bring all their data if at most three of any seven consecutive frames go wrong. After each step
+/// the link is still such a link. A good link is the simplest case. The bound is sharp: four lost commands in a row
+/// are too many, and so are three lost of any six, if every second one is lost.
+pub fn few_bad_fates_bring_all_data()
+    ensures step { (part : Part) (commands : List Command) (m : Memories) (k : ℕ) (p : Programmer) (turns : List Turn)
+        → IsPart part → IsStep part commands → FitsPart part m → Ready part m p → AreFew turns → 8 ≤ k
+        → (along device k (step commands) p turns).dialog ≡ Done (Ok (given_by part commands m)) }
+    ensures rest { (k : ℕ) (commands : List Command) (p : Programmer) (turns : List Turn)
+        → AreFew turns → AreFew (along device k (step commands) p turns).turns }
+    ensures play { (part : Part) (steps : List (List Command)) (m : Memories) (k : ℕ) (before : List ℕ) (p : Programmer)
+        (turns : List Turn)
+        (o : StepOutcome)
+        → IsPart part → AreSteps part steps → FitsPart part m → Ready part m p → AreFew turns
+        → (along device k (play steps before) p turns).dialog ≡ Done o → o ≡ Ok (before ++ all_given part steps m) }
+    ensures good { (turns : List Turn) → AreGood turns → AreFew turns }
+    ensures four { (command : Command) (commands : List Command) (p : Programmer)
+        → (along device 4 (step (command ∷ commands)) p (lost ∷ lost ∷ lost ∷ lost
+        ∷ [])).dialog ≡ Done (Err NoAnswer) }
+    ensures six { FewOf 6 each_second }
+    ensures six_fail { (address : ℕ) (command : Command) (commands : List Command) (p : Programmer)
+        → (along device 7 (step (LoadAddress address ∷ command ∷ commands)) p each_second).dialog
+        ≡ Done (Err NoAnswer) }
+{}
+
+/// States that a conversation over any tape goes along turns, one for each frame sent, as long as the link forges no
+/// answer. The programmer may have got any bytes whose good frames are some of those sent, in order. Then it is the
+/// programmer along these turns, and the conversation has the same output and result as along them.
+pub fn over_any_tape_a_conversation_goes_along_turns<E, R>()
+    ensures goes { (d : Dialog E R) (n : ℕ) (tape : Tape) (p : Programmer) (becames : List Became)
+        → AsksBodies d → AreHonest device d n tape p becames → GoesAs device d n tape p becames }
+    ensures got { (got : List ℕ) (sent : List (List ℕ)) (through : List Bool) (p : Programmer)
+        → CameThrough got sent through
+        → after_frames device (frames got) p ≡ after_pieces device sent (became_by through) p }
+{}
+
+/// States that everything read on a link that forges no frame is honest, from the first frame on. An answer that is
+/// taken has the number of its question, and of the last 256 answers only the one to that question has it.
+pub fn a_line_that_makes_no_frame_is_honest<E, R>()
+    ensures { (d : Dialog E R) (n : ℕ) (tape : Tape) (p : Programmer) (becames : List Became)
+        → MakesNoFrame device d n tape p becames [] → AreHonest device d n tape p becames }
+{}
+
+/// States that a wire with fates is such a link. A programmer that got a prefix of the bytes sent, as over a link
+/// that keeps their order, got some of the frames.
+pub fn a_wire_is_an_honest_line<E, R>()
+    ensures wire { (d : Dialog E R) (n : ℕ) (w : Wire Programmer) (sent more : List (List ℕ)) → AsksBodies d
+        → IsClear n w.late → AreLawful w.fates
+        → frames_in (played d n (tape_of device sent w)).events ≡ sent ++ more
+        → AreHonest device d n (tape_of device sent w) w.programmer (becames_of (length sent) w.fates) }
+    ensures prefix { (got : List ℕ) (sent others : List (List ℕ)) → sent ≡ frames got ++ others
+        → filter is_good sent ≡ sent → CameThrough got sent (replicate (length (frames got)) true) }
+{}

@@ -1,0 +1,43 @@
+//! Laws of a run over a link on which few frames go wrong. No code.
+#![tactic(auto)]
+
+ghost use Rattle.std.specs.Prelude.{◌≡◌, ◌≤◌, ◌*◌, ℕ, List, All};
+ghost use Rattle.avr_part.specs.Part.{IsPart};
+ghost use Rattle.avr_plan.specs.Plan.{Plan, IsFitted};
+ghost use Rattle.avr_session.specs.Session.{session};
+ghost use Rattle.stk_host.specs.Bound.{commands_in};
+ghost use Rattle.stk_host.specs.Dialog.{Done};
+ghost use Rattle.stk_emu.specs.Along.{along, said_along};
+ghost use Rattle.stk_emu.specs.Device.{device};
+ghost use Rattle.stk_emu.specs.Effect.{Memories, memories_of};
+ghost use Rattle.avr_laws.specs.Few.{AreFew};
+ghost use Rattle.stk_emu.specs.Programmer.{Programmer};
+ghost use Rattle.stk_emu.specs.Settled.{Idle, FitsPart};
+ghost use Rattle.stk_emu.specs.Turn.{Turn};
+ghost use Rattle.avr_session.specs.PlanSteps.{run_steps};
+ghost use Rattle.avr_laws.specs.ExpectedRun.{expected_run};
+
+/// States when a session is its expected run: if at most three of any seven consecutive frames go wrong, and a
+/// restart of the programmer counts as four. It is done after at most four times its commands, with the expected
+/// run's output, status and memories.
+pub fn a_run_with_few_bad_frames_is_its_expected_run()
+    ensures done { (plan : Plan) (m : Memories) (k : ℕ) (p : Programmer) (turns : List Turn)
+        → IsPart plan.part → All (IsFitted plan.part) plan.tasks → FitsPart plan.part m → Idle plan.part m p
+        → AreFew turns
+        → 4 * commands_in (run_steps plan) ≤ k → (along device k (session plan) p turns).dialog
+        ≡ Done (expected_run plan m).status }
+    ensures status { (plan : Plan) (m : Memories) (k status : ℕ) (p : Programmer) (turns : List Turn)
+        → IsPart plan.part → All (IsFitted plan.part) plan.tasks → FitsPart plan.part m → Idle plan.part m p
+        → AreFew turns
+        → (along device k (session plan) p turns).dialog ≡ Done status → status ≡ (expected_run plan m).status }
+    ensures memories { (plan : Plan) (m : Memories) (k status : ℕ) (p : Programmer) (turns : List Turn)
+        → IsPart plan.part → All (IsFitted plan.part) plan.tasks → FitsPart plan.part m → Idle plan.part m p
+        → AreFew turns
+        → (along device k (session plan) p turns).dialog ≡ Done status
+        → memories_of (along device k (session plan) p turns).programmer.chip ≡ (expected_run plan m).memories }
+    ensures says { (plan : Plan) (m : Memories) (k status : ℕ) (p : Programmer) (turns : List Turn)
+        → IsPart plan.part → All (IsFitted plan.part) plan.tasks → FitsPart plan.part m → Idle plan.part m p
+        → AreFew turns
+        → (along device k (session plan) p turns).dialog ≡ Done status
+        → said_along device k (session plan) p turns ≡ (expected_run plan m).says }
+{}

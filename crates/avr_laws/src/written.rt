@@ -1,0 +1,75 @@
+//! Laws of what a plan writes, and what the memories hold after a verified run, address by address. No code.
+#![tactic(auto)]
+
+ghost use Rattle.std.specs.Prelude.{◌≡◌, ◌↔◌, ◌<◌, ◌++◌, ◌∷◌, [], ℕ, false, List, All, length, map};
+ghost use Rattle.avr_cli.specs.declared.settings.Switches.{Switches};
+ghost use Rattle.avr_image.specs.Image.{HoldsBytes};
+ghost use Rattle.avr_part.specs.Part.{Part, IsPart};
+ghost use Rattle.avr_part.specs.declared.part.Mem.{Mem};
+ghost use Rattle.avr_part.specs.declared.part.Mem.TheVariants.{Flash};
+ghost use Rattle.avr_plan.specs.Plan.{Plan, IsFitted};
+ghost use Rattle.avr_plan.specs.declared.planned.Task.{Task};
+ghost use Rattle.stk_emu.specs.Effect.{Image, Item, Write, Memories, effects};
+ghost use Rattle.stk_emu.specs.Settled.{FitsPart};
+ghost use Rattle.avr_laws.specs.Agrees.{Agrees, Shows};
+ghost use Rattle.avr_laws.specs.ExpectedRun.{expected_run};
+ghost use Rattle.avr_laws.specs.Items.{asked_items, items};
+ghost use Rattle.avr_laws.specs.Outcome.{page_writes, IsTouched, IsDone};
+ghost use Rattle.avr_laws.specs.Written.{IsMade, IsTaken, IsWritten, byte_in, written_to};
+
+/// States what a plan does to a chip, in terms of its switches and tasks. A dry run does nothing. Any other run
+/// erases if an erase is due, and then makes the writes of its tasks in order.
+pub fn a_plan_writes_what_its_tasks_write()
+    ensures { (plan : Plan) → items plan ≡ asked_items plan }
+{}
+
+/// States that an expected run has status 0 if and only if its comparisons agree. Then it has done all that its plan
+/// writes.
+pub fn an_expected_run_succeeds_if_it_agrees()
+    ensures status { (plan : Plan) (m : Memories) → (expected_run plan m).status ≡ 0 ↔ Agrees plan m }
+    ensures memories { (plan : Plan) (m : Memories) → Agrees plan m
+        → (expected_run plan m).memories ≡ effects plan.part (items plan) m }
+{}
+
+/// States that after a verified run with status 0 each memory holds the images written to it, later over earlier.
+/// Nothing else changed except what an erase erased. A further run that compares memories with these images succeeds
+/// over a good link.
+pub fn a_verified_run_leaves_its_images()
+    ensures images { (plan : Plan) (before after : Memories)
+        → IsPart plan.part → All (IsFitted plan.part) plan.tasks → FitsPart plan.part before
+        → plan.switches.no_verify ≡ false → IsDone plan before after
+        → IsWritten plan.part (asked_items plan) before after }
+    ensures again { (plan : Plan) (before after : Memories) (s : Switches) (mems : List Mem)
+        → IsPart plan.part → All (IsFitted plan.part) plan.tasks → FitsPart plan.part before
+        → plan.switches.no_verify ≡ false → IsDone plan before after → s.erase ≡ false
+        → (expected_run (record {
+          part = plan.part;
+          tasks = map (λ mem. Task.Verify mem (written_to plan.part mem (asked_items plan)))
+              mems;
+          switches = s;
+        }) after).status ≡ 0 }
+{}
+
+/// States how a byte of flash is made, whatever was done. It is the byte before, or the FF of an erase, AND the bytes
+/// at this address of none, one or more images written to flash. After a run that did its whole plan these are the
+/// plan's images; after any other run they are those of its page writes.
+pub fn a_byte_of_flash_is_made_by_images()
+    ensures items { (part : Part) (items : List Item) (m : Memories) (addr : ℕ) → addr < length m.flash
+        → IsMade items addr (byte_in part Flash addr m) (byte_in part Flash addr (effects part items m)) }
+    ensures done { (plan : Plan) (before after : Memories) (addr : ℕ) → addr < length before.flash
+        → IsDone plan before after
+        → IsMade (items plan) addr (byte_in plan.part Flash addr before) (byte_in plan.part Flash addr after) }
+    ensures touched { (plan : Plan) (before after : Memories) (addr : ℕ) → addr < length before.flash
+        → IsTouched plan before after
+        → IsMade (page_writes plan) addr (byte_in plan.part Flash addr before) (byte_in plan.part Flash addr after) }
+{}
+
+/// States when a memory holds an image after the line that it was written. EEPROM and fuses: the chip was not locked.
+/// Flash: moreover, the same plan erased it before, and wrote no other image at the same addresses. The lock: the
+/// plan did the same for it. Otherwise `written` means only that each command was answered with OK, and `verified`
+/// what is there.
+pub fn what_is_written_is_there()
+    ensures { (part : Part) (before now : Memories) (mem : Mem) (image : Image) (first : List Item)
+        → HoldsBytes image → now ≡ effects part (first ++ Write mem image ∷ []) before
+        → IsTaken mem image first (effects part first before) → Shows part mem image now }
+{}

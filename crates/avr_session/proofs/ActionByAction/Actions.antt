@@ -1,0 +1,38 @@
+-- Actions of a session, one after another.
+use Rattle.std.proofs.Common.{◌≡◌, List, [], ◌∷◌, ◌++◌, refl, sym, ap, ◌∙◌}
+use Rattle.avr_cli.specs.declared.settings.Switches.{Switches}
+use Rattle.avr_desk.specs.Said.{OutputEvent}
+use Rattle.avr_part.specs.Part.{Part}
+use Rattle.stk_host.specs.Dialog.{Dialog, Done, ◌>>=◌}
+use Rattle.stk_host.proofs.Dialogs.Bound.{bind_same, bind_done, bind_assoc}
+use Rattle.avr_session.specs.Standing.{Standing, Fine}
+use Rattle.avr_session.specs.Actions.{Action}
+use Rattle.avr_session.specs.Session.{unless_fault, action_dialog, actions_dialog}
+
+unless_done : (standing : Standing) → unless_fault (Done Fine) standing ≡ Done standing
+unless_done Fine = refl
+unless_done standing = refl
+
+unless_both : (first more : Dialog OutputEvent Standing) (standing : Standing)
+    → unless_fault (first >>= unless_fault more) standing ≡ unless_fault first standing >>= unless_fault more
+unless_both first more Fine = refl
+unless_both first more standing = refl
+
+-- of one action its action is all
+pub actions_dialog-one : (part : Part) (s : Switches) (action : Action) → actions_dialog part s (action ∷ [])
+    ≡ action_dialog part s action
+actions_dialog-one part s action = bind_same (action_dialog part s action) (unless_fault (Done Fine)) Done unless_done
+    ∙ bind_done (action_dialog part s action)
+
+-- of two lists of actions the second is left out after a fault
+pub actions_dialog-append : (part : Part) (s : Switches) (xs ys : List Action)
+    → actions_dialog part s (xs ++ ys) ≡ actions_dialog part s xs >>= unless_fault (actions_dialog part s ys)
+actions_dialog-append part s [] ys = refl
+actions_dialog-append part s (x ∷ xs) ys =
+    let more = actions_dialog part s ys in
+    ap (λ (next : Dialog OutputEvent Standing). action_dialog part s x
+    >>= unless_fault next) (actions_dialog-append part s xs ys)
+    ∙ (bind_same (action_dialog part s x) (unless_fault (actions_dialog part s xs >>= unless_fault more))
+    (λ standing. unless_fault (actions_dialog part s xs) standing >>= unless_fault more)
+    (unless_both (actions_dialog part s xs) more)
+    ∙ sym (bind_assoc (action_dialog part s x) (unless_fault (actions_dialog part s xs)) (unless_fault more)))

@@ -1,0 +1,282 @@
+-- How an action of a session stands at its end says whether a fault was reported in it: laws of dialogs alone.
+use Rattle.std.proofs.Common.{◌≡◌, ℕ, Bool, true, false, ◌||◌, List, [], ◌∷◌, ◌++◌, length, drop, map, refl, sym, ap, ◌∙◌, subst, append_assoc, append-nil, nat_lt, bytes_eq, codes, decimal, if◌then◌else◌, Option, Some, None, Result, Ok, Err, inl, inr}
+use Rattle.std.proofs.lemmas.Bool.{cases_Bool, or_parts}
+use Rattle.std.proofs.lemmas.List.Folds.{list_any-append}
+use Rattle.std.proofs.lemmas.Slice.Eq.{starts_is}
+use Rattle.std.specs.Cmp.{unsigned_Decides}
+use Rattle.avr_desk.specs.Record.{DeskState, Bytes}
+use Rattle.avr_cli.specs.declared.settings.Switches.{Switches}
+use Rattle.avr_cli.specs.declared.update.Format.{Format}
+use Rattle.avr_image.specs.Image.{byte_count}
+use Rattle.avr_part.specs.Mem.{name_of}
+use Rattle.avr_part.specs.Part.{Part}
+use Rattle.avr_part.specs.declared.part.Mem.{Mem}
+use Rattle.avr_part.specs.declared.part.Mem.TheVariants.{Flash}
+use Rattle.stk_host.specs.declared.fault.HostFault.{HostFault}
+use Rattle.stk_host.specs.declared.fault.HostFault.TheVariants.{NoAnswer, WrongSignature}
+use Rattle.stk_host.specs.Tape.{Tape, Reading, on_tape, answer}
+use Rattle.stk_host.specs.Play.{Progress}
+use Rattle.stk_host.specs.Transcript.{heard}
+use Rattle.stk_host.specs.Dialog.{Dialog, Done, Say, Ask, ◌>>=◌, lifted, Event, Frame, Said, Played, played, by_answer, next, outputs}
+use Rattle.stk_host.specs.Operations.{opening, erasing, writing, reading, verifying}
+use Rattle.avr_desk.specs.Lines.{information, warning}
+use Rattle.avr_desk.specs.Said.{OutputEvent, Line, Creates, Writes, Outs, IsPrefixOf}
+use Rattle.avr_session.specs.Standing.{Standing, Fine}
+use Rattle.avr_session.specs.Actions.{LeftOut, TheErase, TheWrite, Action, OpenSession, EraseChip, WriteImage, CompareImage, SaveMemory, LeaveOut}
+use Rattle.avr_session.specs.FileText.{file_text}
+use Rattle.avr_session.specs.Lines.{informs, warns, other_signature, fault_line}
+use Rattle.avr_session.specs.Performing.{is_told}
+use Rattle.avr_session.specs.Runs.{Devices, Cause, OfSending, OfListening, OfFile, OfPrinting, OfMemory, NotCreated, NotWritten, is_error, tells_fault, Ran, AtFrame, StopsAt}
+use Rattle.avr_session.specs.Reporting.{SaysPrefix}
+use Rattle.avr_session.specs.Session.{says, standing, reported, unless_fault, fault_or, opening_says, warns_of_signature, signature_says, bytes_say, saving_says, kept_of, erased_says, written_says, verified_says, read_says, left_out_says, action_dialog, actions_dialog}
+use Rattle.avr_session.proofs.Runs.Stops.{outputs_by}
+
+-- ---- along every way of a dialog
+
+-- whatever is read, what is said to the end and the result are so
+abbrev pub Along : {R : Type 0} → (List OutputEvent → R → Type 0) → Dialog OutputEvent R → Type 0
+Along P (Done r) = P [] r
+Along P (Say e dialog) = Along (λ said r. P (e ∷ said) r) dialog
+Along {R = R} P (Ask body answered) = (reading : Reading) → Along P (answered reading)
+
+pub along_more : {R : Type 0} (P Q : List OutputEvent → R → Type 0) (dialog : Dialog OutputEvent R)
+    → ((said : List OutputEvent) (r : R) → P said r → Q said r) → Along P dialog → Along Q dialog
+along_more P Q (Done r) why f = why [] r f
+along_more P Q (Say e dialog) why f = along_more (λ said r. P (e ∷ said) r) (λ said r. Q (e ∷ said) r) dialog
+    (λ said r p. why (e ∷ said) r p) f
+along_more P Q (Ask body answered) why f = λ reading. along_more P Q (answered reading) why (f reading)
+
+pub along_bind : {A R : Type 0} (P : List OutputEvent → A → Type 0) (Q : List OutputEvent → R
+    → Type 0) (dialog : Dialog OutputEvent A)
+    (go_on : A → Dialog OutputEvent R)
+    → Along P dialog → ((said : List OutputEvent) (a : A) → P said a → Along (λ more r. Q (said ++ more) r) (go_on a))
+    → Along Q (dialog >>= go_on)
+along_bind P Q (Done a) go_on f g = g [] a f
+along_bind P Q (Say e dialog) go_on f g =
+    along_bind (λ said a. P (e ∷ said) a) (λ said r. Q (e ∷ said) r) dialog go_on f (λ said a p. g (e ∷ said) a p)
+along_bind P Q (Ask body answered) go_on f g = λ reading. along_bind P Q (answered reading) go_on (f reading) g
+
+pub along_lifted : {R : Type 0} (dialog : Dialog ⊥ R) → Along (λ said r. said ≡ []) (lifted dialog)
+along_lifted (Done r) = refl
+along_lifted (Say e dialog) = absurd e
+along_lifted (Ask body answered) = λ reading. along_lifted (answered reading)
+
+pub along_says : {R : Type 0} (Q : List OutputEvent → R
+    → Type 0) (xs : List OutputEvent) (dialog : Dialog OutputEvent R)
+    → Along (λ more r. Q (xs ++ more) r) dialog → Along Q (says xs dialog)
+along_says Q [] dialog f = f
+along_says Q (x ∷ xs) dialog f = along_says (λ said r. Q (x ∷ said) r) xs dialog f
+
+-- a play goes one of the ways
+abbrev Ends : {R : Type 0} → (List OutputEvent → R → Type 0) → List OutputEvent → Option (R × ℕ × Tape) → Type 0
+Ends P said None = Unit {0}
+Ends P said (Some x) = P said x.0
+
+ends_behind : {R : Type 0} (P : List OutputEvent → R
+    → Type 0) (e : OutputEvent) (said : List OutputEvent) (o : Option (R × ℕ × Tape))
+    → Ends (λ said r. P (e ∷ said) r) said o → Ends P (e ∷ said) o
+ends_behind P e said None g = tt
+ends_behind P e said (Some x) g = g
+
+along_play : {R : Type 0} (P : List OutputEvent → R → Type 0) (dialog : Dialog OutputEvent R) (seq : ℕ) (tape : Tape)
+    → Along P dialog → Ends P (outputs (played dialog seq tape).events) (played dialog seq tape).outcome
+along_play P (Done r) seq tape f = f
+along_play P (Say e dialog) seq tape f =
+    ends_behind P e (outputs (played dialog seq tape).events) (played dialog seq tape).outcome
+    (along_play (λ said r. P (e ∷ said) r) dialog seq tape f)
+along_play {R = R} P (Ask body answered) seq tape f =
+    elim (answer seq tape) as (λ o. Ends P (outputs (by_answer (λ r. played (answered r) (next seq)) o).events)
+    (by_answer (λ r. played (answered r) (next seq)) o).outcome) [
+      | None ↦ tt
+      | Some got ↦ along_play P (answered got.0) (next seq) got.1 (f got.0)
+    ]
+
+-- ---- the standing says it
+
+abbrev pub Foretold : List OutputEvent → Standing → Type 0
+Foretold said standing = tells_fault said ≡ is_told standing
+
+abbrev pub Foretells : Dialog OutputEvent Standing → Type 0
+Foretells dialog = Along Foretold dialog
+
+pub foretold : {dialog : Dialog OutputEvent Standing} {m n : Progress} {o p : Devices} {standing : Standing}
+    → Foretells dialog → (ran : Ran dialog m o p standing n) → tells_fault (outputs ran.events) ≡ is_told standing
+foretold {dialog = dialog} {m = m} f ran =
+    subst (λ (p : Played OutputEvent Standing). Ends Foretold (outputs p.events) p.outcome) (ran.plays.plays [])
+    (along_play Foretold dialog m.next (on_tape m.unread ++ (heard ran.during ++ [])) f)
+
+-- one action after another
+pub foretells_then : (first more : Dialog OutputEvent Standing) → Foretells first → Foretells more
+    → Foretells (first >>= unless_fault more)
+foretells_then first more f g = along_bind Foretold Foretold first (unless_fault more) f λ said s is. next_of said s is
+  where
+    next_of : (said : List OutputEvent) (s : Standing) → tells_fault said ≡ is_told s
+        → Along (λ behind after. tells_fault (said ++ behind) ≡ is_told after) (unless_fault more s)
+    next_of said Fine is = along_more Foretold (λ behind after. tells_fault (said ++ behind) ≡ is_told after) more
+        (λ behind after same. list_any-append is_error said behind ∙ (ap (λ x. x || tells_fault behind) is ∙ same)) g
+    next_of said s is = ap tells_fault (append-nil said) ∙ is
+
+-- an operation and its report
+foretells_reported : {A : Type 0} (operation : Dialog ⊥ (Result A HostFault))
+    (outcome_says : Result A HostFault → List OutputEvent)
+    → ((outcome : Result A HostFault) → tells_fault (outcome_says outcome) ≡ is_told (standing outcome))
+    → Foretells (reported operation outcome_says)
+foretells_reported operation outcome_says f =
+    along_bind (λ said outcome. said ≡ []) Foretold (lifted operation)
+    (λ outcome. says (outcome_says outcome) (Done (standing outcome))) (along_lifted operation) λ said outcome none.
+    along_says (λ more after. Foretold (said ++ more) after) (outcome_says outcome) (Done (standing outcome))
+    (ap tells_fault (ap (λ (xs : List OutputEvent). xs ++ (outcome_says outcome ++ [])) none
+    ∙ append-nil (outcome_says outcome)) ∙ f outcome)
+
+-- what is said in place of an action
+foretells_says : (outputs : List OutputEvent) → tells_fault outputs ≡ false → Foretells (says outputs (Done Fine))
+foretells_says outputs f = along_says Foretold outputs (Done Fine) (ap tells_fault (append-nil outputs) ∙ f)
+
+-- ---- lines that tell no fault, and those that do
+
+fault_is_told : (A : Type 0) (fault : HostFault) → is_told (standing {A = A} (Err fault)) ≡ true
+fault_is_told A NoAnswer = refl
+fault_is_told A fault = refl
+
+fault_tells : (part : Part) (fault : HostFault) → tells_fault (Line (fault_line part fault) ∷ []) ≡ true
+unfolding fault_line
+fault_tells part fault = refl
+
+unless_quiet : (b : Bool) (line : Bytes) → is_error (Line line) ≡ false
+    → tells_fault (if b then [] else Line line ∷ []) ≡ false
+unless_quiet true line none = refl
+unless_quiet false line none = ap (λ x. x || false) none
+
+both_none : (x y : List OutputEvent) → tells_fault x ≡ false → tells_fault y ≡ false → tells_fault (x ++ y) ≡ false
+both_none x y f g = list_any-append is_error x y ∙ (ap (λ b. b || tells_fault y) f ∙ g)
+
+warns_none : (quiet : ℕ) (pieces : List Bytes) → tells_fault (warns quiet pieces) ≡ false
+warns_none quiet pieces = unless_quiet (nat_lt 1 quiet) (warning pieces) refl
+
+bytes_none : (quiet : ℕ) (mem : Mem) (count : ℕ) (done : Bytes) → tells_fault (bytes_say quiet mem count done) ≡ false
+bytes_none quiet Flash count done = unless_quiet (nat_lt 0 quiet)
+    (information (name_of Flash ∷ codes ": " ∷ decimal count ∷ done ∷ [])) refl
+bytes_none quiet mem count done = unless_quiet (nat_lt 0 quiet)
+    (information (name_of mem ∷ codes ": " ∷ decimal count ∷ done ∷ [])) refl
+
+signature_none : (quiet : ℕ) (found : Bytes) → tells_fault (signature_says quiet found) ≡ false
+signature_none quiet found = unless_quiet (nat_lt 0 quiet) (information (codes "device signature = " ∷ _ ∷ [])) refl
+
+of_signature_none : (quiet : ℕ) (part : Part) (found : Bytes)
+    → tells_fault (warns_of_signature quiet part found) ≡ false
+of_signature_none quiet part found = elim (bytes_eq found part.signature) as
+    (λ b. tells_fault (if b then [] else warns quiet (other_signature part found)) ≡ false) [
+      | true ↦ refl
+      | false ↦ warns_none quiet (other_signature part found)
+    ]
+
+saved_none : (file text : Bytes) → tells_fault (saving_says file text) ≡ false
+saved_none file text = elim (bytes_eq file (codes "-")) as
+    (λ b. tells_fault (if b then Outs text ∷ [] else Creates file ∷ Writes text ∷ []) ≡ false) [
+      | true ↦ refl
+      | false ↦ refl
+    ]
+
+pub read_none : (s : Switches) (mem : Mem) (format : Format) (file bytes : Bytes)
+    → tells_fault (read_says s mem format file bytes) ≡ false
+read_none s mem format file bytes =
+    let kept = kept_of mem s.all bytes in
+    both_none (saving_says file (file_text format kept)) (bytes_say s.quiet mem (length kept) (codes " bytes read"))
+    (saved_none file (file_text format kept)) (bytes_none s.quiet mem (length kept) (codes " bytes read"))
+
+or_tells : {A : Type 0} (part : Part) (good : A → List OutputEvent) → ((a : A) → tells_fault (good a) ≡ false)
+    → (outcome : Result A HostFault) → tells_fault (fault_or part good outcome) ≡ is_told (standing outcome)
+or_tells part good f (Ok a) = f a
+or_tells {A = A} part good f (Err fault) = fault_tells part fault ∙ sym (fault_is_told A fault)
+
+opening_tells : (quiet : ℕ) (part : Part) (outcome : Result Bytes HostFault)
+    → tells_fault (opening_says quiet part outcome) ≡ is_told (standing outcome)
+opening_tells quiet part (Ok found) = both_none (signature_says quiet found) (warns_of_signature quiet part found)
+    (signature_none quiet found) (of_signature_none quiet part found)
+opening_tells quiet part (Err (WrongSignature found)) =
+    list_any-append is_error (signature_says quiet found) (Line (fault_line part (WrongSignature found)) ∷ [])
+    ∙ (ap (λ b. b || tells_fault (Line (fault_line part (WrongSignature found)) ∷ [])) (signature_none quiet found)
+    ∙ fault_tells part (WrongSignature found))
+opening_tells quiet part (Err fault) = fault_tells part fault
+
+left_out_none : (quiet : ℕ) (what : LeftOut) → tells_fault (left_out_says quiet what) ≡ false
+left_out_none quiet TheErase = warns_none quiet (codes "chip not erased because of -n" ∷ [])
+left_out_none quiet (TheWrite mem image) = bytes_none quiet mem (byte_count image) (codes " bytes not written")
+
+-- ---- the actions of a session
+
+pub action_foretells : (part : Part) (s : Switches) (action : Action) → Foretells (action_dialog part s action)
+action_foretells part s OpenSession = foretells_reported (opening part.signature s.force) (opening_says s.quiet part)
+    (opening_tells s.quiet part)
+action_foretells part s EraseChip =
+    foretells_reported erasing (erased_says s.quiet part)
+    (or_tells part (λ _. informs s.quiet (codes "chip erased" ∷ []))
+    (λ done. unless_quiet (nat_lt 0 s.quiet) (information (codes "chip erased" ∷ [])) refl))
+action_foretells part s (WriteImage mem image) =
+    foretells_reported (writing part mem image) (written_says s.quiet part mem image)
+    (or_tells part (λ _. bytes_say s.quiet mem (byte_count image) (codes " bytes written"))
+    (λ done. bytes_none s.quiet mem (byte_count image) (codes " bytes written")))
+action_foretells part s (CompareImage mem image) =
+    foretells_reported (verifying part mem image) (verified_says s.quiet part mem image)
+    (or_tells part (λ _. bytes_say s.quiet mem (byte_count image) (codes " bytes verified"))
+    (λ done. bytes_none s.quiet mem (byte_count image) (codes " bytes verified")))
+action_foretells part s (SaveMemory mem format file) =
+    foretells_reported (reading part mem) (fault_or part (read_says s mem format file))
+    (or_tells part (read_says s mem format file) (λ bytes. read_none s mem format file bytes))
+action_foretells part s (LeaveOut what) = foretells_says (left_out_says s.quiet what) (left_out_none s.quiet what)
+
+pub actions_foretells : (part : Part) (s : Switches) (actions : List Action) → Foretells (actions_dialog part s actions)
+actions_foretells part s [] = refl
+actions_foretells part s (action ∷ actions) =
+    foretells_then (action_dialog part s action) (actions_dialog part s actions) (action_foretells part s action)
+    (actions_foretells part s actions)
+
+-- ---- a prefix of what tells no fault tells none
+
+error_prefix : (prefix whole : Bytes) → IsPrefixOf prefix whole → is_error (Line prefix) ≡ true
+    → is_error (Line whole) ≡ true
+error_prefix prefix whole is f =
+    let mark = codes "avrstk: error: " in
+    let rest = drop (length mark) prefix in
+    let begins : prefix ≡ mark ++ rest = (starts_is unsigned_Decides prefix mark (is_error (Line prefix)) refl).0 f in
+    (starts_is unsigned_Decides whole mark (is_error (Line whole)) refl).1 (rest ++ is.0)
+    (sym is.1 ∙ (ap (λ (xs : Bytes). xs ++ is.0) begins ∙ append_assoc mark rest is.0))
+
+line_none : (part whole : Bytes) → IsPrefixOf part whole → is_error (Line whole) ≡ false → is_error (Line part) ≡ false
+line_none part whole is none = elim (cases_Bool (is_error (Line part))) [
+  | inl t ↦ let e = error_prefix part whole is t in absurd (cc)
+  | inr f ↦ f
+]
+
+quiet_by : (begun : List OutputEvent) (events : List (Event OutputEvent)) → map Said begun ≡ events
+    → tells_fault (outputs events) ≡ false → tells_fault begun ≡ false
+quiet_by begun events is none = ap tells_fault (outputs_by begun events is) ∙ none
+
+of_frame : (begun later : List OutputEvent) → AtFrame (map Said begun) (map Said later) → tells_fault begun ≡ false
+of_frame begun later x = quiet_by begun (Frame x.done ∷ []) x.part refl
+
+begun_none : (cause : Cause) (whole begun later : List OutputEvent)
+    → StopsAt cause (map Said whole) (map Said begun) (map Said later) → tells_fault later ≡ false
+    → tells_fault begun ≡ false
+begun_none OfSending whole begun later x none = of_frame begun later x
+begun_none OfListening whole begun later x none = quiet_by begun [] x.0 refl
+begun_none (OfFile file NotCreated) whole begun later x none = quiet_by begun [] x.none refl
+begun_none (OfFile file NotWritten) whole begun later (inl x) none =
+    quiet_by begun (Said (Writes x.1.done) ∷ []) x.1.part refl
+begun_none (OfFile file NotWritten) whole begun later (inr x) none =
+    quiet_by begun (Said (Outs x.1.done) ∷ []) x.1.part refl
+begun_none OfPrinting whole begun later x none =
+    let due = sym (ap tells_fault (outputs_by later (Said (Line x.bytes) ∷ x.more) x.due)) ∙ none in
+    let one = line_none x.done x.bytes x.prefix
+    (or_parts (is_error (Line x.bytes)) (tells_fault (outputs x.more)) due).0 in
+    quiet_by begun (Said (Line x.done) ∷ []) x.part (ap (λ b. b || false) one)
+begun_none OfMemory whole begun later x none = quiet_by begun [] x refl
+
+pub prefix_tells_none : {cause : Cause} {old new : DeskState} {outputs : List OutputEvent}
+    (prefix : SaysPrefix cause old new outputs) → tells_fault outputs ≡ false
+    → tells_fault (prefix.whole ++ prefix.begun) ≡ false
+prefix_tells_none {cause = cause} prefix none =
+    let both = or_parts (tells_fault prefix.whole) (tells_fault prefix.later)
+    (sym (list_any-append is_error prefix.whole prefix.later) ∙ (ap tells_fault (sym prefix.outputs_are) ∙ none)) in
+    both_none prefix.whole prefix.begun both.0
+    (begun_none cause prefix.whole prefix.begun prefix.later prefix.place both.1)

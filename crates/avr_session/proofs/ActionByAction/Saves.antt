@@ -1,0 +1,111 @@
+-- Files that are created and written.
+use Rattle.std.proofs.Common.{◌≡◌, ℕ, true, List, [], ◌∷◌, map, bytes_eq, codes, Result, Ok, Err, ◌∙◌, refl}
+use Rattle.std.proofs.lemmas.Slice.Eq.{bytes_eq-Decides}
+use Rattle.avr_desk.specs.Record.{DeskState, Passes, after_create}
+use Rattle.avr_desk.specs.Fault.{Counts, Follows, HasFailedAt, HasSameCounts}
+use Rattle.avr_desk.specs.Stream.{SendsPart}
+use Rattle.avr_desk.specs.declared.stream.Stream.{Stream}
+use Rattle.avr_desk.specs.declared.stream.Stream.TheVariants.{File, Messages, Output}
+use Rattle.avr_desk.specs.declared.desk.DeskFault.{DeskFault}
+use Rattle.stk_host.specs.Dialog.{Said}
+use Rattle.avr_desk.specs.Said.{OutputEvent, Creates, Writes, Outs, Tells, after_all}
+use Rattle.avr_desk.proofs.Stages.Outputs.{kept_append, kept_none}
+use Rattle.avr_desk.proofs.Lines.Told.{failure_told, follows_on, same_on}
+use Rattle.avr_session.specs.Runs.{Cause, OfFile, NotCreated, NotWritten, cause_line}
+use Rattle.avr_session.specs.Reporting.{SaysPrefix, SaysOrStops, Reports, DeskStops}
+use Rattle.avr_session.specs.Session.{saving_says}
+use Rattle.avr_session.specs.Saving.{IsForData, SaveStops, WritesSome, WritesAll}
+use Rattle.avr_session.proofs.Runs.Stops.{file_part, output_part}
+use Rattle.avr_session.proofs.ActionByAction.Reports.{file_stops_in}
+
+pub not_created : (old new : DeskState) (file : List ℕ) (result : Result (Unit {0}) DeskFault) (fault : DeskFault)
+    (more : List OutputEvent) → result ≡ Err fault → Passes (after_create file result) old new
+    → SaysPrefix (OfFile file NotCreated) old new (Creates file ∷ more)
+not_created old new file (Ok done) fault more is kept = cc
+not_created old new file (Err other) fault more is kept = record {
+  whole = [];
+  begun = [];
+  later = Creates file ∷ more;
+  outputs_are = refl;
+  place = record { more = map Said more; due = refl; none = refl };
+  by_desk = tt;
+  kept = kept ∙ kept_none old.kept;
+}
+
+-- where a file can't be saved the desk has failed
+pub save_is_desk : (file : List ℕ) (before now : DeskState) (cause : Cause) (told : List ℕ)
+    → SaveStops file before now cause told → DeskStops before now cause told
+save_is_desk file before now (OfFile named NotCreated) told stops = stops.1
+save_is_desk file before now (OfFile named NotWritten) told stops = stops.1
+save_is_desk file before now cause told stops = absurd stops
+
+-- a file was created, and its bytes were written, or a prefix of them
+text_then : (old mid new : DeskState) (file text : List ℕ) (result : Result (Unit {0}) DeskFault)
+    → Passes (after_all (Creates file ∷ [])) old mid → HasSameCounts old mid → WritesAll File file mid new text result
+    → SaysOrStops (SaveStops file) old new (Creates file ∷ Writes text ∷ []) result
+text_then old mid new file text (Ok done) kept same writes = (
+  kept_append (Creates file ∷ []) (Writes text ∷ []) old.kept mid.kept new.kept kept writes.0,
+  same_on old mid new same writes.1,
+)
+text_then old mid new file text (Err _) kept same writes = record {
+  between = writes.between;
+  cause = OfFile file NotWritten;
+  prefix = file_part old mid writes.between file text kept writes.part;
+  told = writes.told;
+  stops = (refl, file_stops_in old mid new file NotWritten writes.told same writes.stops);
+  kept = writes.kept;
+}
+
+pub created_then : (old mid new : DeskState) (file text : List ℕ) (created : Result (Unit {0}) DeskFault)
+    (result : Result (Unit {0}) DeskFault) {done : Unit {0}} → created ≡ Ok done
+    → Passes (after_create file created) old mid → Counts File old mid created → Follows mid new
+    → WritesAll File file mid new text result
+    → Reports (SaveStops file) old new (Creates file ∷ Writes text ∷ []) result
+created_then old mid new file text (Err fault) result is kept first last writes = cc
+created_then old mid new file text (Ok ok) result is kept first last writes =
+    record {
+      says = text_then old mid new file text result kept first.1 writes;
+      follows =
+          follows_on old mid new first.0 last;
+    }
+
+-- bytes were written to standard output, or a prefix of them
+put_out : (old new : DeskState) (file text : List ℕ) (result : Result (Unit {0}) DeskFault) → file ≡ codes "-"
+    → WritesAll Output file old new text result → SaysOrStops (SaveStops file) old new (Outs text ∷ []) result
+put_out old new file text (Ok done) named writes = writes
+put_out old new file text (Err _) named writes = record {
+  between = writes.between;
+  cause = OfFile file NotWritten;
+  prefix = output_part old writes.between file text named writes.part;
+  told = writes.told;
+  stops = (refl, writes.stops);
+  kept = writes.kept;
+}
+
+pub saved_out : (old new : DeskState) (file text : List ℕ) (result : Result (Unit {0}) DeskFault)
+    → bytes_eq file (codes "-") ≡ true → WritesAll Output file old new text result → Follows old new
+    → Reports (SaveStops file) old new (saving_says file text) result
+saved_out old new file text result same writes follows =
+    record {
+      says = rw same (put_out old new file text result ((bytes_eq-Decides file (codes "-")).0 same) writes);
+      follows = follows;
+    }
+
+-- what fails as it is written fails as a file
+pub failed_at_file : (stream : Stream) (old new : DeskState) → IsForData stream → HasFailedAt stream old new
+    → HasFailedAt File old new
+failed_at_file File old new written failed = failed
+failed_at_file Output old new written failed = failed
+failed_at_file Messages old new written failed = absurd written
+
+-- what was reported of a file after a prefix of its bytes
+pub writes_some : (stream : Stream) (file text : List ℕ) (old mid new : DeskState) → SendsPart stream old mid text
+    → HasFailedAt File old mid → Follows old mid → Tells mid new (cause_line (OfFile file NotWritten))
+    → WritesSome stream file old new text
+writes_some stream file text old mid new part failed first some = record {
+  between = mid;
+  part = part;
+  told = some.told;
+  stops = failure_told old mid new (cause_line (OfFile file NotWritten)) first failed some;
+  kept = some.kept;
+}

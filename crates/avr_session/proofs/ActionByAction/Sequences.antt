@@ -1,0 +1,489 @@
+-- Actions of a session, one after another.
+use Rattle.std.proofs.Common.{◌≡◌, ℕ, Bool, true, false, ◌||◌, ◌++◌, ◌≤◌, arith, List, [], ◌∷◌, length, refl, sym, ap, ◌∙◌, subst, subst₂, append_assoc, Some, None, Result, Ok, Err, inl, get_or, take, drop, ◌<◌, ◌-◌}
+use Rattle.std.proofs.Math.Bool.{or-false}
+use Rattle.std.specs.List.{list_any}
+use Rattle.std.proofs.lemmas.Grind.{common_steps}
+use Rattle.std.proofs.lemmas.List.Folds.{list_any-append}
+use Rattle.avr_desk.specs.Fault.{Follows}
+use Rattle.avr_desk.specs.Record.{DeskState}
+use Rattle.avr_desk.specs.declared.desk.DeskFault.{DeskFault}
+use Rattle.avr_cli.specs.declared.settings.Switches.{Switches}
+use Rattle.avr_part.specs.Part.{Part}
+use Rattle.stk_host.specs.declared.fault.HostFault.{HostFault}
+use Rattle.stk_host.specs.declared.fault.Broken.TheVariants.{Send, Recv}
+use Rattle.stk_host.specs.Operations.{closing}
+use Rattle.stk_host.specs.State.{HostState}
+use Rattle.stk_host.specs.Transcript as link
+use Rattle.stk_host.specs.Play.{Progress}
+use Rattle.stk_host.specs.Transcript.{LinkState, heard}
+use Rattle.stk_host.specs.Tape.{Tape, on_tape}
+use Rattle.stk_host.proofs.Transcripts.InDialogs.{followed, played_bind}
+use Rattle.stk_host.proofs.Transcripts.Laws.{heard_append}
+use Rattle.stk_host.specs.Calls.{IsBroken, Calls, CallsBy, given_or_fault}
+use Rattle.stk_host.specs.Dialog.{Dialog, Done, ◌>>=◌, Event, Played, played, behind, outputs}
+use Rattle.avr_desk.specs.Said.{OutputEvent, Tells}
+use Rattle.avr_plan.specs.Plan.{Plan}
+use Rattle.avr_plan.specs.declared.planned.Task.{Task}
+use Rattle.avr_session.specs.Standing.{Standing, Fine, Over}
+use Rattle.avr_session.specs.declared.ending.End.{End}
+use Rattle.avr_session.specs.declared.ending.End.TheVariants as ends
+use Rattle.avr_session.specs.Actions.{Action, action_takes_memory, actions, takes_memory}
+use Rattle.avr_session.specs.Concluding.{HostServes, conclusion, stands}
+use Rattle.avr_session.specs.Session.{says, standing, reported, unless_fault, fault_or, action_dialog, actions_dialog, ending, playing, session, status_of}
+use Rattle.avr_session.specs.Runs.{Cause, OfFile, OfPrinting, cause_line, tells_fault, Devices, devices, start, Terms, untold, TellsCause, StopsBehind, Lacking, BrokeOff, Ran}
+use Rattle.avr_session.specs.Reporting.{DeskStops, PrintStops, ReadStops, Reports}
+use Rattle.avr_session.specs.Run.{StopsSession}
+use Rattle.avr_session.specs.Stopping.{IsPlayed}
+use Rattle.avr_session.specs.Taking.{AtOnce, AtTaking}
+use Rattle.avr_session.specs.Performing.{is_told, PerformsBehind, Performs, Does, LeavesOut, Runs}
+use Rattle.avr_session.proofs.ActionByAction.Reports.{kept_nothing}
+use Rattle.avr_desk.proofs.Stages.Outputs.{kept_none}
+use Rattle.avr_desk.proofs.Lines.Told.{follows_here, follows_on, same_here}
+use Rattle.avr_session.proofs.Runs.Calls.{none_failed_here, came_here, came_said, came_part, ran_from, ran_on, stops_in, stops_since, broke_on, broke_part, broke_output, LacksLater, StopsReport, ToldBy}
+use Rattle.avr_session.proofs.ActionByAction.FaultsTold.{Foretells, foretold, prefix_tells_none, actions_foretells}
+use Rattle.avr_session.proofs.ActionByAction.Actions.{actions_dialog-one, actions_dialog-append}
+use Rattle.avr_session.proofs.ActionByAction.Operations.{call_ended, closing_lacks_none, Stop, Broke, Lacks, cause_at, StopsAs, StopsOver, Ended, operation_runs, serves_after, stop_come, told_of}
+
+-- a desk that failed as it printed stops the run, whatever was reported
+printing_tells : (flag : Bool) (told : List ℕ) (d : DeskState) → told ≡ [] → TellsCause flag OfPrinting told d d
+unfolding cause_line
+printing_tells false told d none = inl (none, same_here d)
+printing_tells true told d none = none
+
+pub print_stops_run : (terms : Terms) (o : LinkState) (d e : DeskState) → Follows d e
+    → (said : List OutputEvent) (cause : Cause) (told : List ℕ) → PrintStops d e cause told
+    → StopsBehind terms (devices o d) (devices o e) said cause told
+print_stops_run terms o d e le said OfPrinting told stops =
+    record {
+      between = e;
+      has_come = (stops.0, refl);
+      tells =
+          printing_tells (terms.was_told || tells_fault said) told e stops.1;
+      since = le;
+      until = follows_here e;
+    }
+print_stops_run terms o d e le said cause told stops = absurd stops
+
+-- at a file too, where no fault was reported
+desk_stops_run : (takes : Bool) (o : LinkState) (d e : DeskState) → Follows d e → (said : List OutputEvent)
+    → tells_fault said ≡ false → (cause : Cause) (told : List ℕ) → DeskStops d e cause told
+    → StopsBehind (untold takes) (devices o d) (devices o e) said cause told
+desk_stops_run takes o d e le said none (OfFile file trouble) told stops = record {
+  between = stops.between;
+  has_come = (stops.failed, refl);
+  tells = subst (λ x. TellsCause x (OfFile file trouble) told stops.between e) (sym none) stops.tells;
+  since = stops.since;
+  until = stops.until;
+}
+desk_stops_run takes o d e le said none OfPrinting told stops =
+    print_stops_run (untold takes) o d e le said OfPrinting told stops
+desk_stops_run takes o d e le said none cause told stops = absurd stops
+
+-- what a report stops by, after a prefix of what it says
+
+pub print_stops_report : (terms : Terms) (o : LinkState) {d e : DeskState} {outputs : List OutputEvent}
+    {told : Result (Unit {0}) DeskFault} → Reports PrintStops d e outputs told
+    → StopsReport terms o d e outputs PrintStops
+print_stops_report terms o {d = d} {e = e} reports mid cause prefix told stops =
+    print_stops_run terms o d e reports.follows (prefix.whole ++ prefix.begun) cause told stops
+
+desk_stops_report : (takes : Bool) (o : LinkState) (d e : DeskState) (outputs : List OutputEvent) → Follows d e
+    → tells_fault outputs ≡ false → StopsReport (untold takes) o d e outputs DeskStops
+desk_stops_report takes o d e outputs le none mid cause prefix told stops =
+    desk_stops_run takes o d e le (prefix.whole ++ prefix.begun) (prefix_tells_none prefix none) cause told stops
+
+-- a cause that was reported
+told_by : {A R : Type 0} (takes : Bool) (dialog : Dialog ⊥ R) (m : Progress) (o p : LinkState)
+    {outcome : Result A HostFault} {d e : DeskState} (stop : Stop) → (IsBroken outcome → link.HasFailed o p)
+    → StopsAs outcome stop → StopsOver takes dialog m o p stop → Tells d e (cause_line (cause_at stop))
+    → ToldBy (untold takes) (cause_at stop) (devices o d) (devices p e)
+told_by takes dialog m o p {d = d} stop failed is over some = (
+  some.told,
+  record {
+    between = d;
+    has_come = stop_come takes dialog m o p d stop failed is over;
+    tells = some.tells;
+    since = follows_here d;
+    until = some.follows;
+  },
+  some.kept,
+)
+
+-- An operation of the host, and what is said of its outcome: of a call that ended it so, and that was reported so.
+module _ {A : Type 0} (operation : Dialog ⊥ (Result A HostFault)) (outcome_says : Result A HostFault → List OutputEvent)
+    {Ends : Progress → LinkState → LinkState → Result A HostFault → Progress → Type 0} {old new : HostState}
+    {o p : LinkState} {d e : DeskState} {outcome : Result A HostFault} {told : Result (Unit {0}) DeskFault}
+    {result : Result (Unit {0}) End} {By : DeskState → DeskState → Cause → List ℕ → Type 0}
+    (reports : Reports By d e (outcome_says outcome) told) where
+  action_performs : (terms : Terms) → StopsReport terms p d e (outcome_says outcome) By
+      → ((stop : Stop) → StopsAs outcome stop → StopsOver terms.takes operation old.progress o p stop
+      → ToldBy terms (cause_at stop) (devices o d) (devices p e)) → old.broken ≡ None
+      → CallsBy Ends old new o p outcome
+      → (Ends old.progress o p outcome new.progress
+      → Ended terms.takes operation old.progress o p outcome new.progress) → result ≡ conclusion outcome told
+      → PerformsBehind terms (AtOnce terms.takes) (reported operation outcome_says) old new (devices o d) (devices p e)
+      (stands result)
+  action_performs terms why tells sound calls ends is = rw is (record {
+    runs = operation_runs operation outcome_says old.progress new.progress outcome told terms By why
+        (ends (calls.played sound)) (calls.bound sound) (calls.sound sound) reports.says tells;
+    serves = serves_after outcome told new.broken (calls.lasts sound);
+    part = calls.part;
+    link = calls.counted;
+    desk = reports.follows;
+  })
+
+  pub operation_performs : (takes : Bool) → StopsReport (untold takes) p d e (outcome_says outcome) By
+      → ((stop : Stop) → StopsAs outcome stop → Tells d e (cause_line (cause_at stop)))
+      → old.broken ≡ None → CallsBy Ends old new o p outcome
+      → (Ends old.progress o p outcome new.progress → Ended takes operation old.progress o p outcome new.progress)
+      → result ≡ conclusion outcome told
+      → Performs takes (reported operation outcome_says) old new (devices o d) (devices p e) (stands result)
+  operation_performs takes why some sound calls = action_performs (untold takes) why
+      (λ stop at over. told_by takes operation old.progress o p stop (calls.failed sound) at over (some stop at)) sound
+      calls
+
+left_out_runs : (takes : Bool) (outputs : List OutputEvent) (m : Progress) (o : LinkState) (d e : DeskState)
+    (told : Result (Unit {0}) DeskFault) → Reports PrintStops d e outputs told
+    → Runs (says outputs (Done Fine)) m (devices o d) (devices o e) (untold takes) (AtOnce takes)
+    (stands (conclusion {A = Unit {0}} (Ok tt) told)) m
+left_out_runs takes outputs m o d e (Ok done) reports = ran_from (came_said outputs (Done Fine) m o reports.says)
+left_out_runs takes outputs m o d e (Err _) reports =
+    broke_output outputs (Done Fine) m o (print_stops_report (untold takes) o reports) reports.says
+
+-- something said in its place
+pub left_out_performs : (takes : Bool) (outputs : List OutputEvent) {host : HostState} {o : LinkState} {d e : DeskState}
+    (result : Result (Unit {0}) End) → host.broken ≡ None → LeavesOut outputs d e result
+    → Performs takes (says outputs (Done Fine)) host host (devices o d) (devices o e) (stands result)
+left_out_performs takes outputs {host = host} {o = o} {d = d} {e = e} result sound leaves =
+    rw leaves.result_is (record {
+      runs = left_out_runs takes outputs host.progress o d e leaves.told leaves.reports;
+      serves = serves_after {A = Unit {0}} (Ok tt) leaves.told host.broken sound;
+      part = refl;
+      link = omega arith;
+      desk = leaves.reports.follows;
+    })
+
+-- nothing
+pub nothing_performs : {terms : Terms} {L : Lacking} (standing : Standing) (host : HostState) (o : Devices)
+    → HostServes (Ok standing) host.broken → PerformsBehind terms L (Done standing) host host o o (Ok standing)
+nothing_performs standing host o serves = record {
+  runs = ran_from (came_here (Done standing) host.progress o);
+  serves = serves;
+  part = refl;
+  link = omega arith;
+  desk = follows_here o.desk;
+}
+
+-- after an action that was done a session goes on as its standing chooses
+module _ {first : Dialog OutputEvent Standing} {K : Lacking} {x y : HostState} {o p : Devices} (takes : Bool)
+    (standing : Standing) (done : PerformsBehind (untold takes) K first x y o p (Ok standing)) where
+  after_done : {terms : Terms} {L M : Lacking} {more whole : Dialog OutputEvent Standing} {z : HostState} {q : Devices}
+      {result : Result Standing (Unit {0})} → PerformsBehind terms M more y z p q result
+      → Runs whole x.progress o q (untold takes) L result z.progress
+      → PerformsBehind (untold takes) L whole x z o q result
+  after_done {q = q} rest runs = record {
+    runs = runs;
+    serves = rest.serves;
+    part = rest.part ∙ done.part;
+    link = omega (arith, done.link, rest.link);
+    desk = follows_on o.desk p.desk q.desk done.desk rest.desk;
+  }
+
+  pub performs_on : {L M : Lacking} (more_takes : Bool) (go_on : Standing → Dialog OutputEvent Standing) {z : HostState}
+      {q : Devices} (result : Result Standing (Unit {0})) → (more_takes ≡ true → takes ≡ true) → Foretells first
+      → LacksLater L x.progress done.runs.during done.runs.events M y.progress
+      → PerformsBehind (record { takes = more_takes; was_told = is_told standing }) M (go_on standing) y z p q result
+      → PerformsBehind (untold takes) L (first >>= go_on) x z o q result
+  unfolding came_part
+  performs_on more_takes go_on (Ok then) both foretells lack rest =
+      after_done rest (ran_on (came_part go_on done.runs) rest.runs)
+  performs_on more_takes go_on {q = q} (Err stopped) both foretells lack rest =
+      after_done rest (broke_on (came_part go_on done.runs) (stops_in (record
+      { takes = more_takes; was_told = is_told standing }) (untold takes) (outputs done.runs.events) o p q both
+      done.runs.sound (foretold foretells done.runs)) lack rest.runs)
+
+-- the same run of the host and its devices, as another action
+abbrev performs_as : {terms all : Terms} {L M : Lacking} {first whole : Dialog OutputEvent Standing} {x y : HostState}
+    {o p : Devices} {one other : Result Standing (Unit {0})} → PerformsBehind terms L first x y o p one
+    → Runs whole x.progress o p all M other y.progress → HostServes other y.broken
+    → PerformsBehind all M whole x y o p other
+performs_as done runs serves =
+    record { runs = runs; serves = serves; part = done.part; link = done.link; desk = done.desk }
+
+-- memory is taken in the one or in the other
+
+or_first : (b c : Bool) → b ≡ true → (b || c) ≡ true
+or_first true c is = refl
+or_first false c is = absurd (cc)
+
+or_then : (b c : Bool) → c ≡ true → (b || c) ≡ true
+or_then true c is = refl
+or_then false c is = is
+
+module _ (takes more_takes : Bool) where
+  -- an action at which a session ends
+  performs_last : {first : Dialog OutputEvent Standing} {L M : Lacking} (more : Dialog OutputEvent Standing)
+      {x y : HostState}
+      {o p : Devices} (end : End) → LacksLater L x.progress [] [] M x.progress
+      → PerformsBehind (untold takes) M first x y o p (stands (Err end))
+      → PerformsBehind (untold (takes || more_takes)) L (first >>= unless_fault more) x y o p (stands (Err end))
+  performs_last more {o = o} {p = p} ends.Stopped lack done = performs_as done (broke_part (unless_fault more)
+      (stops_since takes (takes || more_takes) false o o p (or_first takes more_takes) (none_failed_here o)) lack
+      done.runs) done.serves
+  performs_last more end lack done =
+      performs_as done (ran_from (came_part (unless_fault more) done.runs)) done.serves
+
+-- ---- where memory is taken
+
+-- at once in the only action
+taking_one : (part : Part) (s : Switches) (action : Action) (m : Progress)
+    → LacksLater (AtTaking part s (action ∷ [])) m [] [] (AtOnce (action_takes_memory action)) m
+taking_one part s action m during shown at = record {
+  done = [];
+  due = action;
+  more = [];
+  actions_are = refl;
+  takes = at.0;
+  next = m.next;
+  left = on_tape m.unread ++ heard during;
+  is_played = ap (λ (es : List (Event OutputEvent)). record
+      { events = es; outcome = Some (Fine, m.next, on_tape m.unread ++ heard during) }) (sym at.1);
+}
+
+-- in the first of more
+taking_prefix : (part : Part) (s : Switches) (xs ys : List Action) (m : Progress)
+    → LacksLater (AtTaking part s (xs ++ ys)) m [] [] (AtTaking part s xs) m
+taking_prefix part s xs ys m during shown at = record {
+  done = at.done;
+  due = at.due;
+  more = at.more ++ ys;
+  actions_are = ap (λ (every : List Action). every ++ ys) at.actions_are ∙ append_assoc at.done (at.due ∷ at.more) ys;
+  takes = at.takes;
+  next = at.next;
+  left = at.left;
+  is_played = at.is_played;
+}
+
+-- after others that were played
+taking_then : (part : Part) (s : Switches) (xs ys : List Action) {m n : Progress} {o p : Devices}
+    (ran : Ran (actions_dialog part s xs) m o p Fine n)
+    → LacksLater (AtTaking part s (xs ++ ys)) m ran.during ran.events (AtTaking part s ys) n
+taking_then part s xs ys {m = m} {n = n} ran during shown at =
+    let go_on : Standing → Dialog OutputEvent Standing = unless_fault (actions_dialog part s at.done) in
+    let tape : Tape = on_tape m.unread ++ heard (ran.during ++ during) in
+    let first = ap (λ (t : Tape). played (actions_dialog part s xs) m.next (on_tape m.unread ++ t))
+    (heard_append ran.during during) ∙ ran.plays.plays (heard during) in
+    record {
+      done = xs ++ at.done;
+      due = at.due;
+      more = at.more;
+      actions_are = ap (λ (every : List Action). xs ++ every) at.actions_are
+          ∙ sym (append_assoc xs at.done (at.due ∷ at.more));
+      takes = at.takes;
+      next = at.next;
+      left = at.left;
+      is_played = ap (λ (d : Dialog OutputEvent Standing). played d m.next tape)
+          (actions_dialog-append part s xs at.done)
+          ∙ (played_bind (actions_dialog part s xs) go_on m.next tape
+          ∙ (ap (λ (q : Played OutputEvent Standing). followed q (λ st. played (go_on st))) first
+          ∙ ap (behind ran.events) at.is_played));
+    }
+
+-- ---- the actions of a plan
+
+-- none
+pub does_nothing : (plan : Plan) (host : HostState) (o : Devices) → host.broken ≡ None
+    → Does plan [] host host o o (Ok Fine)
+does_nothing plan host o sound = nothing_performs Fine host o sound
+
+-- the same action, by where else memory may be taken
+performs_lacking : {terms : Terms} {L M : Lacking} {dialog : Dialog OutputEvent Standing} {x y : HostState}
+    {o p : Devices}
+    → LacksLater L x.progress [] [] M x.progress → (result : Result Standing (Unit {0}))
+    → PerformsBehind terms M dialog x y o p result
+    → PerformsBehind terms L dialog x y o p result
+unfolding came_here
+performs_lacking lack (Ok standing) done = performs_as done done.runs done.serves
+performs_lacking {dialog = dialog} {x = x} {o = o} lack (Err stopped) done = performs_as done
+    (broke_on (came_here dialog x.progress o) (λ said cause told stops. stops) lack done.runs) done.serves
+
+-- one
+pub does_one : (plan : Plan) (action : Action) {x y : HostState} {o p : Devices} {result : Result Standing (Unit {0})}
+    → Performs (action_takes_memory action) (action_dialog plan.part plan.switches action) x y o p result
+    → Does plan (action ∷ []) x y o p result
+does_one plan action {x = x} {y = y} {o = o} {p = p} {result = result} done =
+    subst₂ (λ (takes : Bool) (dialog : Dialog OutputEvent Standing). PerformsBehind (untold takes)
+    (AtTaking plan.part plan.switches (action ∷ [])) dialog x y o p result)
+    (sym (or-false (action_takes_memory action))) (sym (actions_dialog-one plan.part plan.switches action))
+    (performs_lacking (taking_one plan.part plan.switches action x.progress) result done)
+
+-- the same actions, as they are written elsewhere
+pub does_same : (plan : Plan) (xs ys : List Action) {x y : HostState} {o p : Devices}
+    {result : Result Standing (Unit {0})}
+    → xs ≡ ys → Does plan xs x y o p result → Does plan ys x y o p result
+does_same plan xs ys {x = x} {y = y} {o = o} {p = p} {result = result} same done =
+    subst (λ (every : List Action). Does plan every x y o p result) same done
+
+-- these, and others after them
+module _ (plan : Plan) (xs ys : List Action) where
+  does_both : {x y : HostState} {o p : Devices} {result : Result Standing (Unit {0})}
+      → PerformsBehind (untold (list_any action_takes_memory xs || list_any action_takes_memory ys))
+      (AtTaking plan.part plan.switches (xs ++ ys))
+      (actions_dialog plan.part plan.switches xs
+      >>= unless_fault (actions_dialog plan.part plan.switches ys)) x y o p result
+      → Does plan (xs ++ ys) x y o p result
+  does_both {x = x} {y = y} {o = o} {p = p} {result = result} done =
+      subst₂ (λ (takes : Bool) (dialog : Dialog OutputEvent Standing). PerformsBehind (untold takes)
+      (AtTaking plan.part plan.switches (xs ++ ys)) dialog x y o p result)
+      (sym (list_any-append action_takes_memory xs ys)) (sym (actions_dialog-append plan.part plan.switches xs ys)) done
+
+  -- both
+  pub does_then : {x y z : HostState} {o p q : Devices} (result : Result Standing (Unit {0}))
+      → Does plan xs x y o p (Ok Fine) → Does plan ys y z p q result → Does plan (xs ++ ys) x z o q result
+  does_then result done rest =
+      does_both (performs_on {K = AtTaking plan.part plan.switches xs}
+      (list_any action_takes_memory xs || list_any action_takes_memory ys) Fine
+      (performs_as done done.runs done.serves)
+      (list_any action_takes_memory ys) (unless_fault (actions_dialog plan.part plan.switches ys)) result
+      (or_then (list_any action_takes_memory xs) (list_any action_takes_memory ys))
+      (actions_foretells plan.part plan.switches xs) (taking_then plan.part plan.switches xs ys done.runs) rest)
+
+  -- the others are left out
+  pub does_last : {x y : HostState} {o p : Devices} (end : End) → Does plan xs x y o p (stands (Err end))
+      → Does plan (xs ++ ys) x y o p (stands (Err end))
+  does_last {x = x} end done =
+      does_both (performs_last (list_any action_takes_memory xs) (list_any action_takes_memory ys)
+      (actions_dialog plan.part plan.switches ys) end (taking_prefix plan.part plan.switches xs ys x.progress) done)
+
+-- a read, whose data stand in a vector
+
+pub given_concluded : {A : Type 0} (a : A) (outcome : Result (Unit {0}) HostFault)
+    (told : Result (Unit {0}) DeskFault) → conclusion (given_or_fault a outcome) told ≡ conclusion outcome told
+given_concluded a (Ok ok) (Ok done) = refl
+given_concluded a (Err fault) (Ok done) = refl
+given_concluded a outcome (Err _) = refl
+
+-- a fault alone tells why a run stops
+pub given_told : {A : Type 0} (a : A) (good : A → List OutputEvent) {d e : DeskState} (part : Part)
+    (outcome : Result (Unit {0}) HostFault) {told : Result (Unit {0}) DeskFault}
+    → Reports (ReadStops outcome) d e (fault_or part good (given_or_fault a outcome)) told
+    → (stop : Stop) → StopsAs (given_or_fault a outcome) stop → Tells d e (cause_line (cause_at stop))
+given_told a good part (Ok ok) reports stop is = absurd (cc)
+given_told a good part (Err fault) reports stop is = told_of part (fault_or part good) (λ stop. refl) reports stop is
+
+-- only where bytes were read there is something to save, and no fault is reported of them
+pub read_stops_report : (part : Part) (good : List ℕ → List OutputEvent) (items : List ℕ) → tells_fault (good items)
+    ≡ false
+    → (outcome : Result (Unit {0}) HostFault) (takes : Bool) (o : LinkState) {d e : DeskState}
+    {told : Result (Unit {0}) DeskFault}
+    → Reports (ReadStops outcome) d e (fault_or part good (given_or_fault items outcome)) told
+    → StopsReport (untold takes) o d e (fault_or part good (given_or_fault items outcome)) (ReadStops outcome)
+read_stops_report part good items none (Ok done) takes o {d = d} {e = e} reports =
+    desk_stops_report takes o d e (good items) reports.follows none
+read_stops_report part good items none (Err fault) takes o reports = print_stops_report (untold takes) o reports
+
+-- the tasks are the first and those after it
+pub first_task : (tasks : List Task) (task : Task) → 1 ≤ length tasks → task ≡ get_or tasks 0 task
+    → task ∷ drop 1 tasks ≡ tasks
+first_task [] task some is = absurd (omega (arith, some))
+first_task (t ∷ tasks) task some is = ap (λ x. x ∷ tasks) is
+
+pub no_task : (tasks : List Task) → length tasks < 1 → [] ≡ tasks
+no_task [] few = refl
+no_task (t ∷ tasks) few = absurd (omega (arith, few))
+
+pub tasks_behind : (tasks : List Task) → take (length tasks - 1) (drop 1 tasks) ≡ drop 1 tasks
+tasks_behind tasks = grind (arith, common_steps)
+
+-- the end of a session
+
+pub performs_until : {terms : Terms} {L : Lacking} {first : Dialog OutputEvent Standing}
+    (go_on : Standing → Dialog OutputEvent Standing) {x y : HostState} {o p : Devices} (stopped : Unit {0})
+    → PerformsBehind terms L first x y o p (Err stopped)
+    → PerformsBehind terms L (first >>= go_on) x y o p (Err stopped)
+performs_until go_on stopped done =
+    performs_as done (broke_part go_on (λ said cause told s. s) (λ during shown lack. lack) done.runs) tt
+
+-- after a fault that was reported
+abbrev told_before : Terms
+told_before = record { takes = false; was_told = true }
+
+-- nothing is reported there of a link that failed, and memory is taken nowhere
+silent_at : {R : Type 0} (dialog : Dialog ⊥ R) (m : Progress) (o p : LinkState) (d : DeskState) (stop : Stop)
+    → StopsOver false dialog m o p stop → TellsCause true (cause_at stop) [] d d
+silent_at dialog m o p d (Broke Send) over = refl
+silent_at dialog m o p d (Broke Recv) over = refl
+silent_at dialog m o p d Lacks over = let e = over.0 in absurd (cc)
+
+told_nothing : {A R : Type 0} (dialog : Dialog ⊥ R) (m : Progress) (o p : LinkState) {outcome : Result A HostFault}
+    (d : DeskState) → (IsBroken outcome → link.HasFailed o p) → (stop : Stop) → StopsAs outcome stop
+    → StopsOver false dialog m o p stop → ToldBy told_before (cause_at stop) (devices o d) (devices p d)
+told_nothing dialog m o p d failed stop is over = (
+  [],
+  record {
+    between = d;
+    has_come = stop_come false dialog m o p d stop failed is over;
+    tells = silent_at dialog m o p d stop over;
+    since = follows_here d;
+    until = follows_here d;
+  },
+  kept_nothing d.kept,
+)
+
+-- programming mode is left, and nothing is reported of it
+pub quietly_performs : {old new : HostState} {o p : LinkState} (d : DeskState) {outcome : Result (Unit {0}) HostFault}
+    {result : Result (Unit {0}) End} → old.broken ≡ None → Calls closing old new o p outcome
+    → result ≡ conclusion outcome (Ok tt)
+    → PerformsBehind told_before (AtOnce false) (reported closing (λ _. [])) old new (devices o d) (devices p d)
+    (stands result)
+quietly_performs {old = old} {o = o} {p = p} d sound calls is =
+    let reports : Reports PrintStops d d [] (Ok tt) =
+    record { says = (kept_none d.kept, same_here d); follows = follows_here d } in
+    action_performs closing (λ _. []) reports told_before (print_stops_report told_before p reports)
+    (told_nothing closing old.progress o p d (calls.failed sound)) sound calls
+    (call_ended closing _ _ _ _ _ closing_lacks_none) is
+
+-- after it nothing more goes over the line
+pub quietly_over : {first : Dialog OutputEvent Standing} {L : Lacking} {x y : HostState} {o p : Devices}
+    (standing : Standing)
+    → PerformsBehind told_before L first x y o p (Ok standing)
+    → PerformsBehind told_before L (first >>= λ _. Done Over) x y o p (Ok Over)
+quietly_over {y = y} {p = p} standing done =
+    performs_as done (ran_on (came_part (λ _. Done Over) done.runs) (ran_from (came_here (Done Over) y.progress p))) tt
+
+-- a session that stood so after its actions ends so
+pub ends_so : (plan : Plan) (standing : Standing) {x y z : HostState} {o p q : Devices}
+    (result : Result Standing (Unit {0})) → Does plan (actions plan) x y o p (Ok standing)
+    → PerformsBehind (record { takes = false; was_told = is_told standing }) (AtOnce false)
+    (ending plan.part plan.switches standing) y z p q result
+    → PerformsBehind (untold (takes_memory plan)) (AtTaking plan.part plan.switches (actions plan)) (playing plan) x z o
+    q result
+ends_so plan standing result done rest =
+    performs_on (takes_memory plan) standing done false (ending plan.part plan.switches) result (λ e. absurd (cc))
+    (actions_foretells plan.part plan.switches (actions plan)) (λ during shown never. let e = never.0 in absurd (cc))
+    rest
+
+-- a whole session, played to its status, or stopped where it stood
+pub session_played : (plan : Plan) {x y : HostState} {o p : Devices} (standing : Standing) → x.progress ≡ start
+    → PerformsBehind (untold (takes_memory plan)) (AtTaking plan.part plan.switches (actions plan)) (playing plan) x y o
+    p (Ok standing)
+    → IsPlayed (session plan) o p (status_of standing)
+unfolding session
+session_played plan {x = x} {y = y} {o = o} {p = p} standing first done =
+    let ran = ran_on (came_part (λ standing. Done (status_of standing)) done.runs)
+    (ran_from (came_here (Done (status_of standing)) y.progress p)) in (
+      y.progress,
+      subst (λ n. Ran (playing plan >>= λ standing. Done (status_of standing)) n o p (status_of standing) y.progress)
+          first ran,
+    )
+
+pub session_stopped : (plan : Plan) {x y : HostState} {o p : Devices} (stopped : Unit {0}) → x.progress ≡ start
+    → PerformsBehind (untold (takes_memory plan)) (AtTaking plan.part plan.switches (actions plan)) (playing plan) x y o
+    p (Err stopped)
+    → StopsSession plan o p
+unfolding session
+session_stopped plan {o = o} {p = p} stopped first done =
+    let broke = broke_part (λ standing. Done (status_of standing)) (λ said cause told s. s) (λ during shown lack. lack)
+    done.runs in
+    subst (λ n. BrokeOff (playing plan >>= λ standing. Done (status_of standing)) n o p (untold (takes_memory plan))
+    (AtTaking plan.part plan.switches (actions plan))) first broke

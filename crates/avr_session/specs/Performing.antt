@@ -1,0 +1,57 @@
+-- How an action of a session ends: for contracts inside this crate.
+use Rattle.std.specs.Prelude.{Bool, true, false, ◌≡◌, ◌≤◌, List, Result, Ok, Err, ⊤}
+use Rattle.std.specs.List.{list_any}
+use Rattle.avr_desk.specs.Fault.{Follows}
+use Rattle.avr_desk.specs.Record.{DeskState}
+use Rattle.avr_desk.specs.declared.desk.DeskFault.{DeskFault}
+use Rattle.avr_plan.specs.Plan.{Plan}
+use Rattle.stk_host.specs.Dialog.{Dialog}
+use Rattle.stk_host.specs.Play.{Progress}
+use Rattle.stk_host.specs.State.{HostState}
+use Rattle.avr_desk.specs.Said.{OutputEvent}
+use Rattle.avr_session.specs.declared.ending.End.{End}
+use Rattle.avr_session.specs.Standing.{Standing, Fine}
+use Rattle.avr_session.specs.Actions.{Action, action_takes_memory}
+use Rattle.avr_session.specs.Concluding.{HostServes, conclusion}
+use Rattle.avr_session.specs.Runs.{Devices, Lacking, Terms, untold, Ran, BrokeOff}
+use Rattle.avr_session.specs.Reporting.{PrintStops, Reports}
+use Rattle.avr_session.specs.Session.{actions_dialog}
+use Rattle.avr_session.specs.Taking.{AtOnce, AtTaking}
+
+abbrev pub is_told : Standing → Bool
+is_told Fine = false
+is_told standing = true
+
+-- The result of a call: the dialog ran whole, or it broke off.
+abbrev pub Runs : {R : Type 0} → Dialog OutputEvent R → Progress → Devices → Devices → Terms → Lacking → Result R ⊤
+    → Progress → Type 0
+Runs dialog before old new terms Lacks (Ok result) after = Ran dialog before old new result after
+Runs dialog before old new terms Lacks (Err stopped) after = BrokeOff dialog before old new terms Lacks
+
+-- A host ran this action on these terms, between these states of the devices.
+pub record PerformsBehind (terms : Terms) (Lacks : Lacking) (dialog : Dialog OutputEvent Standing)
+    (host_old host_new : HostState) (old new : Devices) (result : Result Standing ⊤) : Type 0 where
+  pub runs : Runs dialog host_old.progress old new terms Lacks result host_new.progress
+  pub serves : HostServes result host_new.broken
+  pub part : host_new.part ≡ host_old.part
+  pub link : old.link.failures ≤ new.link.failures
+  pub desk : Follows old.desk new.desk
+
+-- The same, if no fault was reported before, and the action allocates at its start or never.
+abbrev pub Performs : Bool → Dialog OutputEvent Standing → HostState → HostState → Devices → Devices
+    → Result Standing ⊤ → Type 0
+Performs takes dialog host_old host_new old new result =
+    PerformsBehind (untold takes) (AtOnce takes) dialog host_old host_new old new result
+
+-- These actions of a plan were done in order, up to the first fault. Allocation can fail only at an action that
+-- allocates.
+abbrev pub Does : Plan → List Action → HostState → HostState → Devices → Devices → Result Standing ⊤ → Type 0
+Does plan actions host_old host_new old new result =
+    PerformsBehind (untold (list_any action_takes_memory actions)) (AtTaking plan.part plan.switches actions)
+    (actions_dialog plan.part plan.switches actions) host_old host_new old new result
+
+-- These events were output in place of an action.
+pub record LeavesOut (outputs : List OutputEvent) (old new : DeskState) (result : Result ⊤ End) : Type 0 where
+  pub told : Result ⊤ DeskFault
+  pub reports : Reports PrintStops old new outputs told
+  pub result_is : result ≡ conclusion {A = ⊤} (Ok tt) told

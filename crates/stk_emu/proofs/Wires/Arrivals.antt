@@ -1,0 +1,192 @@
+-- What a frame brings over the wire, as it is read.
+use Rattle.std.proofs.Common.{◌≡◌, ℕ, suc, ◌*◌, ◌≤◌, ◌<◌, ◌≢◌, List, [], ◌∷◌, ◌++◌, length, refl, sym, ap, ◌∙◌, subst, append_assoc, arith, true, false, inl, inr, Some, None, length-append}
+use Rattle.std.proofs.lemmas.Bool.{cases_Bool, ne_eqb, eq-eqb, and_from, and_right, cond-true, cond-false}
+use Rattle.std.specs.Prelude.{filter, ◌==◌}
+use Rattle.stk_frame.specs.declared.protocol.TheConstants.{LARGEST_FRAME}
+use Rattle.stk_frame.specs.Frame.{frame}
+use Rattle.stk_frame.specs.Cut.{cut, is_good}
+use Rattle.stk_frame.proofs.FedReaders.{cut_whole}
+use Rattle.stk_frame.proofs.Laws.{cut_first, frame_is_piece, frame_is_good, length_frame, body_of_frame}
+use Rattle.stk_host.specs.declared.link.Item.TheVariants.{Silence}
+use Rattle.stk_host.specs.Tape.{Tape, Answered, Silent, answer, on_tape, first_answer, is_answer, further, limit}
+use Rattle.stk_host.specs.Dialog.{next}
+use Rattle.stk_host.proofs.Tapes.Answers.{answer_found, answer_silent, on_tape_append, further_zero, further_further}
+use Rattle.stk_emu.specs.declared.fate.Fate.{Fate}
+use Rattle.stk_emu.specs.declared.fate.Fate.TheVariants.{Good, LateAnswer, HeldAnswer, CommandRefused, AnswerSpoiled}
+use Rattle.stk_emu.specs.Device.{Device, refusal, answer_body}
+use Rattle.stk_emu.specs.Wire.{IsLawfulFate, first_fate, turn_of, back, let_go, late_of, Wire, arrival, wire_behind}
+use Rattle.stk_emu.specs.Lawful.{IsLawful, IsBody, Late, none_late, behind_late, waiting, later, IsPast, IsClear}
+use Rattle.stk_emu.specs.Turn.{after_turn, turn_reading}
+
+-- no good frame, no answer
+none_good : (n : ℕ) (pieces : List (List ℕ)) → filter is_good pieces ≡ [] → first_answer n pieces ≡ None
+none_good n [] e = refl
+none_good n (piece ∷ pieces) e = elim (cases_Bool (is_good piece)) [
+  | inl good ↦ let f = rw good at e in cc
+  | inr bad ↦ rw bad (ap (further (length piece)) (none_good n pieces (rw bad at e)))
+]
+
+frame_cut : (n : ℕ) (bytes more : List ℕ) → IsBody bytes → cut (frame n bytes ++ more) ≡ frame n bytes ∷ cut more
+frame_cut n bytes more b = cut_first (frame n bytes) more (frame_is_piece n bytes b.some b.few)
+
+-- a frame of another sequence is passed over
+other_frame : (n seq : ℕ) (bytes : List ℕ) → seq ≢ n → is_answer n (frame seq bytes) ≡ false
+other_frame n seq bytes other = and_right (is_good (frame seq bytes)) (seq == n) (ne_eqb seq n other)
+
+own_frame : (n : ℕ) (bytes : List ℕ) → IsBody bytes → is_answer n (frame n bytes) ≡ true
+own_frame n bytes b = and_from _ _ (frame_is_good n bytes b.some) (eq-eqb n n refl)
+
+-- Bytes that are passed over: after them others are judged as by themselves.
+pub record Skipped (n : ℕ) (prefix : List ℕ) : Type 0 where
+  pub first : (more : List ℕ) → first_answer n (cut (prefix ++ more))
+      ≡ further (length prefix) (first_answer n (cut more))
+
+pub none_skipped : (n : ℕ) → Skipped n []
+none_skipped n = record { first = λ more. further_zero (first_answer n (cut more)) }
+
+pub frame_skipped : (n seq : ℕ) (bytes : List ℕ) → seq ≢ n → IsBody bytes → Skipped n (frame seq bytes)
+frame_skipped n seq bytes other carried = record {
+  first = λ more. ap (first_answer n) (frame_cut seq bytes more carried)
+      ∙ cond-false (is_answer n (frame seq bytes)) _ _ (other_frame n seq bytes other);
+}
+
+pub both_skipped : (n : ℕ) (x y : List ℕ) → Skipped n x → Skipped n y → Skipped n (x ++ y)
+both_skipped n x y f g = record {
+  first = λ more. rw (append_assoc x y more, f.first (y ++ more), g.first more, length-append x y)
+      (further_further (length x) (length y) (first_answer n (cut more)));
+}
+
+-- an answer to a frame before this one
+late_skipped : (k n : ℕ) (late : List ℕ) → ((seq : ℕ) → later k seq ≡ n → seq ≢ n) → IsPast k n late → Skipped n late
+late_skipped k n late other (inl e) = rw e (none_skipped n)
+late_skipped k n late other (inr l) = rw l.is (frame_skipped n l.seq l.bytes (other l.seq l.before) l.carried)
+
+late_length : (k n : ℕ) (late : List ℕ) → IsPast k n late → length late ≤ LARGEST_FRAME
+late_length k n late (inl e) = rw e (omega arith)
+late_length k n late (inr l) = rw (l.is, length_frame l.seq l.bytes) (let f = l.carried.few in omega arith)
+
+-- all that wait
+clear_skipped : (n : ℕ) (late : Late) → IsClear n late → Skipped n (waiting late)
+clear_skipped n late c =
+    both_skipped n late.first (late.second ++ late.third)
+    (late_skipped 3 n late.first (λ seq e. omega (arith, e)) c.first)
+    (both_skipped n late.second late.third (late_skipped 2 n late.second (λ seq e. omega (arith, e)) c.second)
+    (late_skipped 1 n late.third (λ seq e. omega (arith, e)) c.third))
+
+clear_length : (n : ℕ) (late : Late) → IsClear n late → length (waiting late) ≤ 3 * LARGEST_FRAME
+clear_length n late c =
+    let x = late_length 3 n late.first c.first in
+    let y = late_length 2 n late.second c.second in
+    let z = late_length 1 n late.third c.third in
+    rw (length-append late.first (late.second ++ late.third), length-append late.second late.third) (omega arith)
+
+-- the answer itself
+pub found_frame : (n : ℕ) (bytes : List ℕ) → IsBody bytes
+    → first_answer n (cut (frame n bytes)) ≡ Some (bytes, length (frame n bytes))
+found_frame n bytes b =
+    ap (first_answer n) (cut_whole (frame n bytes) (frame_is_piece n bytes b.some b.few))
+    ∙ (cond-true (is_answer n (frame n bytes)) _ _ (own_frame n bytes b)
+    ∙ ap (λ x. Some (x, length (frame n bytes))) (body_of_frame n bytes))
+
+reads_frame : (n : ℕ) (prefix bytes : List ℕ) (more : Tape) → Skipped n prefix → length prefix ≤ 3 * LARGEST_FRAME
+    → IsBody bytes
+    → answer n ((on_tape prefix ++ on_tape (frame n bytes)) ++ more) ≡ Some (Answered bytes, more)
+reads_frame n prefix bytes more skipped short b =
+    let found : first_answer n (cut (prefix ++ frame n bytes)) ≡ Some (bytes, length (prefix ++ frame n bytes)) =
+    rw (skipped.first (frame n bytes), found_frame n bytes b, length-append prefix (frame n bytes)) refl in
+    let few : length (prefix ++ frame n bytes) ≤ limit =
+    let f = b.few in
+    rw (length-append prefix (frame n bytes), length_frame n bytes) (omega arith) in
+    ap (λ t. answer n (t ++ more)) (sym (on_tape_append prefix (frame n bytes)))
+    ∙ answer_found n (prefix ++ frame n bytes) more bytes found few
+
+reads_silence : (n : ℕ) (prefix noise : List ℕ) (more : Tape) → Skipped n prefix → length prefix ≤ 3 * LARGEST_FRAME
+    → IsLawful noise
+    → answer n ((on_tape prefix ++ (on_tape noise ++ Silence ∷ [])) ++ more) ≡ Some (Silent, more)
+reads_silence n prefix noise more skipped short lawful =
+    let none : first_answer n (cut (prefix ++ noise)) ≡ None =
+    skipped.first noise ∙ ap (further (length prefix)) (none_good n (cut noise) lawful.no_frame) in
+    let few : length (prefix ++ noise) < limit =
+    let f = lawful.few in
+    rw (length-append prefix noise) (omega arith) in
+    rw (append_assoc (on_tape prefix) (on_tape noise ++ Silence ∷ []) more)
+    (rw (append_assoc (on_tape noise) (Silence ∷ []) more)
+    (rw (← append_assoc (on_tape prefix) (on_tape noise) (Silence ∷ more), ← on_tape_append prefix noise)
+    (answer_silent n (prefix ++ noise) more none few)))
+
+no_noise : IsLawful []
+no_noise = record { few = omega arith; no_frame = refl }
+
+refusal_is_body : IsBody refusal
+refusal_is_body = record { some = omega arith; few = omega arith }
+
+reads_back : (n : ℕ) (fate : Fate) (late : Late) (bytes : List ℕ) (more : Tape) → IsClear n late → IsLawfulFate fate
+    → IsBody bytes
+    → answer n ((on_tape (let_go fate late) ++ back fate (frame n bytes) (frame n refusal)) ++ more)
+    ≡ Some (turn_reading (turn_of fate) bytes, more)
+reads_back n Good late bytes more clear lawful b =
+    reads_frame n (waiting late) bytes more (clear_skipped n late clear) (clear_length n late clear) b
+reads_back n HeldAnswer late bytes more clear lawful b =
+    reads_silence n [] [] more (none_skipped n) (omega arith) no_noise
+reads_back n CommandRefused late bytes more clear lawful b =
+    reads_frame n (waiting late) refusal more (clear_skipped n late clear) (clear_length n late clear) refusal_is_body
+reads_back n (AnswerSpoiled noise) late bytes more clear lawful b =
+    reads_silence n (waiting late) noise.items more (clear_skipped n late clear) (clear_length n late clear) lawful
+reads_back n _ late bytes more clear lawful b =
+    reads_silence n (waiting late) [] more (clear_skipped n late clear) (clear_length n late clear) no_noise
+
+-- a whole frame is answered as its body is
+answered_body : {P : Type 0} (m : Device P) (n : ℕ) (bytes : List ℕ) (p : P) → IsBody bytes
+    → answer_body m (frame n bytes) p ≡ m.answer bytes p
+answered_body m n bytes p b = rw (frame_is_good n bytes b.some, body_of_frame n bytes) refl
+
+-- The arrival: of a frame of sequence n it is read whole, and nothing else; the answer is the programmer's, the
+-- refusal, or a silence.
+pub arrival_read : {P : Type 0} (m : Device P) (n : ℕ) (bytes : List ℕ) (w : Wire P) (more : Tape) → IsBody bytes
+    → IsBody (m.answer bytes w.programmer) → IsClear n w.late → IsLawfulFate (first_fate w.fates)
+    → answer n (arrival m (frame n bytes) w ++ more)
+    ≡ Some (turn_reading (turn_of (first_fate w.fates)) (m.answer bytes w.programmer), more)
+arrival_read m n bytes w more b a clear lawful =
+    ap (λ x. answer n ((on_tape (let_go (first_fate w.fates) w.late)
+    ++ back (first_fate w.fates) (frame n x) (frame n refusal)) ++ more)) (answered_body m n bytes w.programmer b)
+    ∙ reads_back n (first_fate w.fates) w.late (m.answer bytes w.programmer) more clear lawful a
+
+-- and the programmer behind it
+pub arrival_leaves : {P : Type 0} (m : Device P) (n : ℕ) (bytes : List ℕ) (w : Wire P) → IsBody bytes
+    → (wire_behind m (frame n bytes) w).programmer
+    ≡ after_turn (turn_of (first_fate w.fates)) (m.after bytes w.programmer) w.programmer m.reset
+arrival_leaves m n bytes w b =
+    rw (frame_is_good n bytes b.some, body_of_frame n bytes) refl
+
+-- nothing waits
+pub none_clear : (n : ℕ) → IsClear n none_late
+none_clear n = record { first = inl refl; second = inl refl; third = inl refl }
+
+-- for the next frame an answer is one more back
+more_past : (k n : ℕ) (late : List ℕ) → IsPast k n late → IsPast (suc k) (next n) late
+more_past k n late (inl e) = inl e
+more_past k n late (inr l) = inr (record
+    { seq = l.seq; before = ap next l.before; bytes = l.bytes; carried = l.carried; is = l.is })
+
+-- one more waits after them
+behind_clear : (n : ℕ) (late : Late) (bytes : List ℕ) → IsBody bytes → IsClear n late
+    → IsClear (next n) (behind_late late (frame n bytes))
+behind_clear n late bytes b c = record {
+  first = more_past 2 n late.second c.second;
+  second = more_past 1 n late.third c.third;
+  third = inr (record { seq = n; before = refl; bytes = bytes; carried = b; is = refl });
+}
+
+-- what comes late has the sequence of its frame
+late_is : (n : ℕ) (fate : Fate) (bytes : List ℕ) (late : Late) → IsBody bytes → IsClear n late
+    → IsClear (next n) (late_of fate (frame n bytes) late)
+late_is n LateAnswer bytes late b c = behind_clear n none_late bytes b (none_clear n)
+late_is n HeldAnswer bytes late b c = behind_clear n late bytes b c
+late_is n _ bytes late b c = none_clear (next n)
+
+pub arrival_late : {P : Type 0} (m : Device P) (n : ℕ) (bytes : List ℕ) (w : Wire P) → IsBody bytes
+    → IsBody (m.answer bytes w.programmer) → IsClear n w.late → IsClear (next n) (wire_behind m (frame n bytes) w).late
+arrival_late m n bytes w b a clear =
+    subst (λ x. IsClear (next n) (late_of (first_fate w.fates) (frame n x) w.late))
+    (sym (answered_body m n bytes w.programmer b))
+    (late_is n (first_fate w.fates) (m.answer bytes w.programmer) w.late a clear)
