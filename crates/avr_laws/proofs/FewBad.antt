@@ -1,5 +1,5 @@
 -- A session over a line on which few frames go wrong goes as its expected run.
 pub mod DialogEnds
 pub mod Calls
-pub mod Expected
+pub mod ExpectedRun
 pub mod Sessions

@@ -7,7 +7,7 @@ pub mod Tallies
 pub mod Items
 pub mod Bound
 pub mod Agrees
-pub mod Expected
+pub mod ExpectedRun
 pub mod Foretold
 pub mod Written
 pub mod Made
