@@ -2,7 +2,7 @@
 -- this page, which says what a run does, from settings to status. It also says what a run leaves in a chip behind a
 -- link that loses, delays and spoils bytes but forges no frame. Read it from top to bottom: each term is defined
 -- here, or one step below in the file that its `use` names. Sections 1 to 3 say what a run is, that a call does it,
--- and how it stops; `ActsAtPort` states this of `stdio:`. What the session of a plan leaves (4) is avr_expected's
+-- and how it stops; `ActsAtPort` states this of `stdio:`. What the session of a plan leaves (4) is avr_laws's
 -- specs/AnyLine, and 5 is the same from settings on. A run over a chip file (6), which `ActsAtPort` states of `emu:`,
 -- is avr_emulator's specs/Emulated. For `net:` and for a server it uses specs/OverNet and specs/ServedNet. From bytes
 -- to bytes (7) is specs/InMemory.
@@ -120,7 +120,7 @@ pub record IsPrefixOfRun (settings : Settings) (before now : Devices) : Type 0 w
   pub all_sent : bytes_sent shown ≡ sent during
   pub grows : Grows before.link.transcript during now.link.transcript
 
--- ---- 4. Over any link to the emulated programmer, as long as it forges no frame: avr_expected's specs/AnyLine
+-- ---- 4. Over any link to the emulated programmer, as long as it forges no frame: avr_laws's specs/AnyLine
 --
 -- `OverTurns`: however the session of a plan ends, the plan's first writes were made, few frames were sent, and what
 -- was reported was true then. It is what the expected run reports, up to a step that failed. `ComesOverTurns`: if the
