@@ -56,7 +56,7 @@ no_silent_failure counts = let e : 0 ≡ 1 = counts.1.0 in omega (arith, e)
 pub no_failure_twice : Counts File (silent 0) (silent 2) failed → ⊥
 no_failure_twice counts = let e : 2 ≡ 1 = counts.1.0 in omega (arith, e)
 
--- a failure at the messages that only one count shows, one at a file and one at the output that both show, and an
+-- a failure at the messages that only one count shows; one at a file, or at the output, that both show; and an
 -- unreported failure after a success
 pub no_message_unsaid_uncounted : Counts Messages (silent 0) (silent 1) failed → ⊥
 no_message_unsaid_uncounted counts = let e : 0 ≡ 1 = counts.1.1 in omega (arith, e)

@@ -172,7 +172,7 @@ runs_first = walks.runs-first
 
 -- ---- the bytes before the next gap
 
--- not empty if the next address has a byte
+-- not empty at the next byte
 pub lead_some : (image : List (Option ℕ)) (addr place : ℕ) → first_from image addr ≡ Some place
     → 0 < length (lead (drop place image))
 lead_some = walks.lead-some

@@ -1,5 +1,5 @@
--- The limits of files. Then when allocation may fail with no file open. Then wrong ends, which the contract refuses: of
--- a plan that writes the file `x.hex` to flash, at a desk that shows no opened file, and of one for a part that doesn't
+-- The limits of files. Then when allocation may fail with no file open. Then wrong ends, which the contract refuses.
+-- One plan writes the file `x.hex` to flash, at a desk that shows no opened file. The other is for a part that doesn't
 -- exist.
 use Rattle.std.proofs.Common.{◌≡◌, ◌∙◌, sym, ap, subst, arith, ℕ, ◌+◌, ◌<◌, ◌≤◌, ◌-◌, ◌^◌, ◌⊎◌, inl, inr, List, [], ◌∷◌, ◌++◌, take, get_or, append-nil, refl, true, false, Option, Some, None, Ok, Err}
 use Rattle.std.specs.Prelude.{codes}

@@ -1,4 +1,4 @@
--- Every body that a session asks fits a frame: by a weight of 1 for a body too long for a frame, its total is 0.
+-- Every body that a session asks fits a frame: if each other body weighs 1, all that it asks weighs 0.
 use Rattle.std.proofs.Common.{◌≡◌, ℕ, ◌*◌, ◌-◌, ◌≤◌, List, [], ◌∷◌, ◌++◌, map, length, subst, arith}
 use Rattle.std.proofs.lemmas.Bool.Decides.{nat_tests}
 use Rattle.std.specs.Prelude.{All, nat_le, ◌&&◌, if◌then◌else◌}

@@ -82,7 +82,7 @@ bytes_same (x ∷ xs) = both (x == x) (bytes_eq xs xs) (eq-eqb x x refl) (bytes_
     both true b e f = f
     both false b e f = e
 
--- the part's signature is taken, whether or not any is
+-- the part's own signature is accepted, with `force` or without
 pub signature_taken : (signature : List ℕ) (force : Bool)
     → signature_judged signature force (Ok signature) ≡ Ok signature
 signature_taken signature true = refl

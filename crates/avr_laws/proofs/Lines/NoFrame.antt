@@ -82,7 +82,7 @@ taken n sent (piece ∷ pieces) body used e were = elim (cases_Bool (is_answer n
       taken n sent pieces body rest.0 rest.1 (were.1 other)
 ]
 
--- an answered body was found on the tape
+-- a timeout or the end is never an answered body
 no_answer : (tape left : Tape) (body : List ℕ) → silence_or_end tape ≡ Some (Answered body, left) → ⊥
 no_answer (Byte b ∷ tape) left body e = false≢true (ap is_answered e)
 no_answer tape left body e = false≢true (ap is_answered e)

@@ -103,7 +103,7 @@ module _ {P : Type 0} (m : Device P) where
         (onward m (if_done go_on) s.left s.turns s.programmer (Ask bytes more)) refl
         (λ b f. asks≢done bytes (λ reading. more reading >>= if_done go_on) (Ok b) f) stepped.stands
 
-    -- nothing is asked
+    -- before the first question
     none_asked : (command : Command) (commands : List Command) (steps : List (List Command)) (before : List ℕ) (p : P)
         (turns : List Turn) → At 0 p
         → Climbs m At 0 ((command ∷ commands) ∷ steps) p turns

@@ -24,7 +24,7 @@ chip_fits part byte l = record {
   bytes = All-replicate (λ (b : ℕ). b < 256) part.flash_size byte l;
 }
 
--- this is sufficient
+-- a plan that agrees on every chip agrees on the two
 pub two_of_all : (plan : Plan) → ((m : Memories) → FitsPart plan.part m → Agrees plan m) → AgreesAnyway plan
 two_of_all plan all = record {
   zeros = all (chip_of plan.part 0) (chip_fits plan.part 0 (omega arith));

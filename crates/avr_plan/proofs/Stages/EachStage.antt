@@ -89,7 +89,7 @@ module _ (Holds : (A : Type 0) → Stage A → List Bytes → Type 0)
           onward Task (List Task) (task_stage s part u) (λ task. tasks_stage s part (before ++ task ∷ []) updates)
           (file_of_op u u.op) (files_of updates) (operation u u.op) (λ task. tasks (before ++ task ∷ []) updates)
 
-  -- the outcome of the parts
+  -- the plan made of a part and tasks
   abbrev made : Settings → Part → List Task → Stage Plan
   made s part tasks = verdict_stage (Ok (record { part = part; tasks = tasks; switches = s.switches }))
 

@@ -363,7 +363,7 @@ given_concluded a (Ok ok) (Ok done) = refl
 given_concluded a (Err fault) (Ok done) = refl
 given_concluded a outcome (Err _) = refl
 
--- a fault alone is the cause of a stop
+-- why a run stops depends on the fault alone
 pub given_told : {A : Type 0} (a : A) (good : A → List OutputEvent) {d e : DeskState} (part : Part)
     (outcome : Result (Unit {0}) HostFault) {told : Result (Unit {0}) DeskFault}
     → Reports (ReadStops outcome) d e (fault_or part good (given_or_fault a outcome)) told

@@ -71,7 +71,7 @@ module _ {A : Type 0} (part : Part) (tells : Result A HostFault → List OutputE
   told_by {By = By} {old = old} {new = new} {outcome = outcome} {reported = reported} last reports is =
       rw is (concluded By old new outcome reported last reports)
 
--- if an action was skipped, no fault was reported
+-- if an action was left out, no fault was reported
 said_told : (part : Part) (view : DeskState) (said : Result (Unit {0}) DeskFault)
     → EndsTold part view (conclusion {A = Unit {0}} (Ok tt) said)
 said_told part view (Ok done) = tt

@@ -14,8 +14,8 @@ pub record World (S M : Type 0) : Type 0 where
   pub after : List ℕ → S → M → S
 
 module _ {E S M : Type 0} (w : World S M) (Asks : List ℕ → S → Type 0) (Says : E → S → Type 0) where
-  -- From this state on, each question and each output event comes only if its condition holds, and each result only if
-  -- its own does, whatever moves are made.
+  -- From this state on, whatever moves are made, each question and each output event comes only if its condition holds.
+  -- Each result comes only if its own does.
   abbrev pub HoldsFrom : {R : Type 0} → (R → S → Type 0) → Dialog E R → S → Type 0
   HoldsFrom After (Done r) s = After r s
   HoldsFrom After (Say e dialog) s = Says e s × HoldsFrom After dialog s
