@@ -24,7 +24,7 @@ pub after_more : {P : Type 0} (m : Device P) (xs ys : List (List ℕ)) (p : P)
 after_more m [] ys p = refl
 after_more m (x ∷ xs) ys p = after_more m xs ys (after_frame m x p)
 
--- an event of the reader stands for at most one frame
+-- an event of the reader gives at most one frame
 pub found_frames : (event : Event) (held : List ℕ) → TellsEvent event held
     → filter is_frame (frames_of_event event held) ≡ frames_of_event event held
 found_frames More held tells = refl
