@@ -1,4 +1,4 @@
-//! Chip files that are missing, whole, of another length, and at a desk that fails.
+//! Chip files that are missing, complete or of the wrong length, and desks that fail.
 use avr_desk::{Desk, FailingDesk, MemDesk};
 use avr_emulator::{hold_chip, load_chip, save_chip};
 use avr_part::{Chip, Mem, Part, PartFault, Parts};
@@ -9,7 +9,7 @@ fn m328p() -> Result<Part, PartFault> {
     Parts::none().find("m328p")
 }
 
-/// A file of `n` bytes that tell their places apart.
+/// Returns `n` bytes, each computed from its place, so that swapped bytes are noticed.
 fn file_of(alloc: Global, n: usize) -> Result<Vec<u8>, AllocError> {
     let mut bytes = Vec::with_capacity(alloc, n)?;
     for at in 0..n {
@@ -18,20 +18,20 @@ fn file_of(alloc: Global, n: usize) -> Result<Vec<u8>, AllocError> {
     Ok(bytes)
 }
 
-/// A desk with this file.
+/// Returns a desk that has `file` as `chip.bin`.
 fn desk_with(alloc: Global, file: &[u8]) -> Result<MemDesk, AllocError> {
     let mut desk = MemDesk::new(alloc);
     desk.put("chip.bin", file)?;
     Ok(desk)
 }
 
-/// The chip of this file. It says nothing of it, nor does [`is_given_back`]: a test carries each clause that it meets
-/// to its end, and these are long.
+/// Loads an ATmega328P from this file.
 fn load<D: Desk>(alloc: Global, file: &str, desk: &mut D) -> Result<Result<Chip, u8>, PartFault> {
     Ok(load_chip(alloc, &m328p()?, file, desk))
 }
 
-/// Whether the chip of chip.bin has this first byte of EEPROM, and saved under this name it is a file of these bytes.
+/// Returns whether the chip in `chip.bin` has `first` as its first byte of EEPROM, and saving it as `file` gives
+/// `bytes`.
 fn is_given_back(
     alloc: Global,
     desk: &mut MemDesk,
@@ -67,7 +67,7 @@ fn a_file_is_written_back(rt: HostRuntime) -> Result<(), Fail> {
     Ok(())
 }
 
-/// Whether a file of so many bytes is refused with this line.
+/// Returns whether a file of `n` bytes is refused with this line.
 fn refuses(alloc: Global, n: usize, line: &str) -> Result<bool, Fail> {
     let mut desk = desk_with(alloc, file_of(alloc, n)?.as_slice())?;
     let loaded = load(alloc, "chip.bin", &mut desk)?;
@@ -86,21 +86,21 @@ fn lengths_that_are_refused(rt: HostRuntime) -> Result<(), Fail> {
     Ok(())
 }
 
-/// Whether a chip is not loaded over a desk whose nth call fails, and this is what is said.
+/// Returns whether loading a chip fails with this line at a desk whose nth call fails.
 fn fails_to_load(alloc: Global, n: u64, line: &str) -> Result<bool, Fail> {
     let mut desk = FailingDesk::new(desk_with(alloc, b"")?, n);
     let loaded = load(alloc, "chip.bin", &mut desk)?;
     Ok(matches!(loaded, Err(1)) && desk.inner().messages() == line.as_bytes())
 }
 
-/// The same of a chip that is not held.
+/// Does the same for a chip that is to be held.
 fn fails_to_hold(alloc: Global, n: u64, line: &str) -> Result<bool, Fail> {
     let mut desk = FailingDesk::new(desk_with(alloc, b"")?, n);
     let held = hold(alloc, &mut desk)?;
     Ok(matches!(held, Err(1)) && desk.inner().messages() == line.as_bytes())
 }
 
-/// Whether this chip is saved.
+/// Returns whether this chip can be saved.
 fn saves<D: Desk>(alloc: Global, held: &Result<Chip, u8>, desk: &mut D) -> bool {
     match held {
         Ok(chip) => save_chip(alloc, chip, "chip.bin", desk) == Ok(()),
@@ -108,7 +108,7 @@ fn saves<D: Desk>(alloc: Global, held: &Result<Chip, u8>, desk: &mut D) -> bool 
     }
 }
 
-/// The same of a chip that is not saved.
+/// Does the same as [`fails_to_load`] for a chip that is to be saved.
 fn fails_to_save(alloc: Global, n: u64, line: &str) -> Result<bool, Fail> {
     let chip = Chip::fresh(alloc, m328p()?)?;
     let mut desk = FailingDesk::new(desk_with(alloc, b"")?, n);
@@ -121,7 +121,7 @@ fn a_desk_that_fails(rt: HostRuntime) -> Result<(), Fail> {
     let alloc = rt.alloc();
     assert!(rt; fails_to_load(alloc, 1, "avrstk: error: chip.bin: cannot be opened\n")?);
     assert!(rt; fails_to_load(alloc, 2, "avrstk: error: chip.bin: cannot be read\n")?);
-    // the call that prints the line
+    // the third call prints the line, so there is none
     assert!(rt; fails_to_load(alloc, 3, "")?);
     assert!(rt; fails_to_hold(alloc, 1, "avrstk: error: chip.bin: cannot be written\n")?);
     assert!(rt; fails_to_hold(alloc, 2, "avrstk: error: chip.bin: cannot be opened\n")?);
@@ -129,7 +129,7 @@ fn a_desk_that_fails(rt: HostRuntime) -> Result<(), Fail> {
     Ok(())
 }
 
-/// The chip of chip.bin, held, likewise.
+/// Loads the chip of `chip.bin`, and holds the file.
 fn hold<D: Desk>(alloc: Global, desk: &mut D) -> Result<Result<Chip, u8>, PartFault> {
     Ok(hold_chip(alloc, &m328p()?, "chip.bin", desk))
 }

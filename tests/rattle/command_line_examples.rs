@@ -1,4 +1,4 @@
-//! The examples of the documentation.
+//! Calls of avr_cli's public functions, as in its documentation.
 use avr_cli::{
     Format, Op, Port, Settings, SettingsFault, Text, UpdateFault, Updates, make_command,
     parse_update, port_number, read_settings, read_words,

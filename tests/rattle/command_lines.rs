@@ -1,4 +1,4 @@
-//! What no contract says: that command lines are read, and what is printed of them.
+//! What no contract covers: which command lines are accepted, and how their faults are worded.
 use avr_cli::{
     Format, Op, Port, Settings, SettingsFault, Switches, Update, UpdateFault, make_command,
     parse_update, read_settings, read_words,
@@ -9,7 +9,7 @@ use clap::error::ErrorKind;
 use std::alloc::Global;
 use std::test::Fail;
 
-/// The words of a command line.
+/// Splits a command line into its arguments.
 fn words(alloc: Global, line: &str) -> Result<Vec<String>, Fail> {
     let mut words = Vec::new(alloc);
     for word in line.split(' ') {
@@ -18,14 +18,14 @@ fn words(alloc: Global, line: &str) -> Result<Vec<String>, Fail> {
     Ok(words)
 }
 
-/// What a command line asks for.
+/// Reads the settings of a command line.
 fn asked(alloc: Global, line: &str) -> Result<Result<Settings, SettingsFault>, Fail> {
     let words = words(alloc, line)?;
     let matches = read_words(alloc, words.as_slice())?;
     Ok(read_settings(alloc, &matches))
 }
 
-/// The error by which `clap` refuses a command line.
+/// Returns the error with which `clap` refuses a command line.
 fn refusal(alloc: Global, line: &str) -> Result<Error, Fail> {
     let words = words(alloc, line)?;
     match read_words(alloc, words.as_slice()) {
@@ -34,7 +34,7 @@ fn refusal(alloc: Global, line: &str) -> Result<Error, Fail> {
     }
 }
 
-/// Where the programmer is, as a word or two.
+/// Appends where the programmer is, in a word or two.
 fn add_port(text: &mut String, port: &Port) -> Result<(), Fail> {
     match port {
         Port::Stdio => text.push_str("stdio")?,
@@ -56,7 +56,7 @@ fn add_port(text: &mut String, port: &Port) -> Result<(), Fail> {
     Ok(())
 }
 
-/// An update as `flash w i a.hex`: its memory, operation and format, then its file. (The letter `a` is any format.)
+/// Appends an update such as `flash w i a.hex`: memory, operation, format (`a` for any) and file.
 fn add_update(text: &mut String, update: &Update) -> Result<(), Fail> {
     let op = match update.op {
         Op::Read => " r ",
@@ -100,7 +100,8 @@ fn add_switches(text: &mut String, switches: Switches) -> Result<(), Fail> {
     Ok(())
 }
 
-/// Part, port, switches, part file and updates, as far as they are given: `m328p, stdio, eq, p.toml, flash w a a.hex`.
+/// Returns part, port, switches, part file and updates as text: `m328p, stdio, eq, p.toml, flash w a a.hex`. What isn't
+/// given is left out.
 fn shown(alloc: Global, settings: &Settings) -> Result<String, Fail> {
     let mut text = String::from_str(alloc, settings.part.as_str())?;
     text.push_str(", ")?;
@@ -118,7 +119,7 @@ fn shown(alloc: Global, settings: &Settings) -> Result<String, Fail> {
     Ok(text)
 }
 
-/// The fault by its message, and the text that it holds.
+/// Returns the message of a fault, or for a port the text that it holds.
 fn shown_fault(alloc: Global, fault: &SettingsFault) -> Result<String, Fail> {
     match fault {
         SettingsFault::BadPort(Some(text)) => Ok(format!(in alloc; "port {}", text.as_str())?),
@@ -126,7 +127,7 @@ fn shown_fault(alloc: Global, fault: &SettingsFault) -> Result<String, Fail> {
     }
 }
 
-/// What the words of a line ask for, or the fault.
+/// Returns the settings of a command line as text, or the text of its fault.
 fn read(alloc: Global, line: &str) -> Result<String, Fail> {
     let line = format!(in alloc; "avrstk {line}")?;
     match asked(alloc, line.as_str())? {
@@ -246,7 +247,7 @@ fn updates_are_read(rt: HostRuntime) -> Result<(), Fail> {
         ("flash:v:c:/a.hex:i", "flash v i c:/a.hex"),
         ("flash:w:a:", "flash w a a:"),
         ("flash:w:i", "flash w a i"),
-        // Two bytes make one letter after the last colon.
+        // the letter after the last colon has two bytes
         ("flash:w:x:é", "flash w a x:é"),
     ];
     for (update, wanted) in rows {

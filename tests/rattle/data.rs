@@ -1,12 +1,11 @@
-//! The worked session, for several of these files: the frames of a host that opens and ends a session with an
-//! ATmega328P (STK500 protocol, version 2, AVR068), and what a programmer answers to them. They were written out by
-//! hand, and are no program's output.
+//! The worked session that several modules share: a host opens and ends a session with an ATmega328P (AVR068, the
+//! STK500 protocol, version 2). Its frames and their replies were written out by hand; no program made them.
 //!
-//! [`digits`] has them as hexadecimal digits, for tables in which single frames and answers differ.
+//! [`digits`] has them in hexadecimal, for tables in which single frames or replies differ.
 pub mod digits;
 
-/// SIGN_ON, ENTER_PROGMODE_ISP, three of READ_SIGNATURE_ISP and LEAVE_PROGMODE_ISP, numbered from 1. They end after
-/// 7, 25, 37, 49, 61 and 70 bytes.
+/// SIGN_ON, ENTER_PROGMODE_ISP, three READ_SIGNATURE_ISP and LEAVE_PROGMODE_ISP, numbered from 1. They end after 7, 25,
+/// 37, 49, 61 and 70 bytes.
 pub const FRAMES: [u8; 70] = [
     0x1B, 0x01, 0x00, 0x01, 0x0E, 0x01, 0x14, 0x1B, 0x02, 0x00, 0x0C, 0x0E, 0x10, 0xC8, 0x64, 0x19,
     0x20, 0x00, 0x53, 0x03, 0xAC, 0x53, 0x00, 0x00, 0x31, 0x1B, 0x03, 0x00, 0x06, 0x0E, 0x1B, 0x04,
@@ -15,7 +14,7 @@ pub const FRAMES: [u8; 70] = [
     0x03, 0x0E, 0x11, 0x01, 0x01, 0x01,
 ];
 
-/// What a programmer with an ATmega328P answers to them: 17, 8, three times 10 and 8 bytes.
+/// The replies of a programmer with an ATmega328P: 17, 8, three times 10 and 8 bytes.
 pub const ANSWERS: [u8; 63] = [
     0x1B, 0x01, 0x00, 0x0B, 0x0E, 0x01, 0x00, 0x08, 0x53, 0x54, 0x4B, 0x35, 0x30, 0x30, 0x5F, 0x32,
     0x02, 0x1B, 0x02, 0x00, 0x02, 0x0E, 0x10, 0x00, 0x05, 0x1B, 0x03, 0x00, 0x04, 0x0E, 0x1B, 0x00,

@@ -1,4 +1,4 @@
-//! Calls on their happy path, and the desk of a program over real files.
+//! Calls that succeed, and the desk of a program over real files.
 use avr_desk::{
     Bytes, Desk, DeskCall, DeskFault, FailingDesk, FileFault, MemDesk, Stream, SystemDesk,
     WatchDesk, WatchedDesk, read_file, write_all,
@@ -8,7 +8,7 @@ use std::io::{self, ErrorKind, Write};
 use std::test::Fail;
 use std::{env, fs, process};
 
-/// Whether the file is read to its end within the limit and has these bytes.
+/// Returns whether the whole file fits into the limit and has these bytes.
 fn holds<D: Desk>(alloc: Global, desk: &mut D, name: &str, limit: usize, want: &[u8]) -> bool {
     match read_file(alloc, desk, name, limit) {
         Ok(got) => got.ended && got.bytes.as_slice() == want,
@@ -16,7 +16,7 @@ fn holds<D: Desk>(alloc: Global, desk: &mut D, name: &str, limit: usize, want: &
     }
 }
 
-/// Whether the next read of two bytes gives these.
+/// Returns whether the next read, of at most two bytes, gives `want`.
 fn gives<D: Desk>(desk: &mut D, want: &[u8]) -> bool {
     let mut buf = [0u8; 2];
     match desk.read(&mut buf) {
@@ -25,12 +25,12 @@ fn gives<D: Desk>(desk: &mut D, want: &[u8]) -> bool {
     }
 }
 
-/// Puts these bytes to a stream. It says nothing of the desk then: a test carries each clause that it meets to its end.
+/// Writes these bytes to a stream.
 fn put<D: Desk>(desk: &mut D, stream: Stream, bytes: &[u8]) -> Result<(), DeskFault> {
     write_all(desk, stream, bytes)
 }
 
-/// A desk with this file, likewise.
+/// Returns a desk with this file, and with `in` as standard input.
 fn desk_with(alloc: Global, name: &str, bytes: &[u8]) -> Result<MemDesk, AllocError> {
     let mut desk = MemDesk::with_input(alloc, Bytes::copied(alloc, b"in")?);
     desk.put(name, bytes)?;
@@ -105,7 +105,7 @@ fn the_third_call_fails(rt: HostRuntime) {
     assert!(rt; desk.inner().file("x") == Some(b"third".as_slice()));
 }
 
-/// A watcher that counts the files that weren't there, and the bytes that were written.
+/// A watcher that counts missing files, and the bytes written.
 #[derive(Drop)]
 struct Tally {
     absent: u32,
@@ -188,7 +188,7 @@ fn a_file_of_the_system_is_replaced(rt: HostRuntime) -> Result<(), Fail> {
     Ok(())
 }
 
-/// Prints with a desk over these two writers.
+/// Prints at a desk over these two writers.
 fn print_both<'a>(
     rt: &'a HostRuntime,
     output: &'a mut Vec<u8>,
@@ -211,8 +211,7 @@ fn each_stream_has_its_writer(rt: HostRuntime) {
     assert!(rt; messages.as_slice() == b"a message\n".as_slice());
 }
 
-/// A writer whose first call is interrupted, that takes one byte at a time, and whose second flush
-/// fails.
+/// A writer that takes one byte at a time. Its first call is interrupted, and its second flush fails.
 #[derive(Drop)]
 struct Stubborn {
     calls: u8,

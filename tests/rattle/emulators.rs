@@ -1,4 +1,5 @@
-//! Talks with the programmer, in pieces of every size and over a bad wire; and what real AVRDUDE asks of a programmer.
+//! Sessions with the emulated programmer, in pieces of every size and over bad wires; and the commands that only
+//! AVRDUDE sends.
 ghost use Rattle.std.specs.Prelude.{◌<◌, ◌≤◌, length};
 
 use arrayvec::ArrayVec;
@@ -11,7 +12,7 @@ use stk_frame::{Command, put_frame};
 use stk_host::{Heard, Host, HostFault, Link};
 use crate::data::{ANSWERS, FRAMES};
 
-/// All answers to these bytes, fed in pieces of this size.
+/// Returns all replies to these bytes, fed in pieces of this size.
 fn answers(
     alloc: Global,
     emulator: &mut Emulator,
@@ -27,7 +28,7 @@ fn answers(
     Ok(all)
 }
 
-/// The answer to the frame that carries this body.
+/// Returns the reply to a frame with this body.
 fn answer_to(emulator: &mut Emulator, body: &[u8]) -> ArrayVec<u8, 281>
     requires some { 0 < length body.now }
     requires fits { length body.now ≤ 275 }
@@ -39,7 +40,7 @@ fn answer_to(emulator: &mut Emulator, body: &[u8]) -> ArrayVec<u8, 281>
     out
 }
 
-/// Whether the answer to this body carries that body, under the frame's number.
+/// Returns whether the reply to `body` has the body `want` and the frame's sequence number.
 fn is_answered(emulator: &mut Emulator, body: &[u8], want: &[u8]) -> bool
     requires some { 0 < length body.now }
     requires fits { length body.now ≤ 275 }
@@ -59,7 +60,7 @@ const ENTER: [u8; 12] = [
     0x10, 0xC8, 0x64, 0x19, 0x20, 0x00, 0x53, 0x03, 0xAC, 0x53, 0x00, 0x00,
 ];
 
-/// What a new ATmega328P's programmer answers to the frames of a session that come in pieces of so many bytes.
+/// Returns the replies to the worked session, sent in pieces of `size` bytes to a programmer with a new ATmega328P.
 fn session_in_pieces(alloc: Global, size: usize) -> Result<Vec<u8>, Fail>
     requires { 0 < size }
 {
@@ -148,7 +149,7 @@ fn flash_above_the_extended_address_is_written(rt: HostRuntime) -> Result<(), Fa
     Ok(())
 }
 
-/// What AVRDUDE 7 sends beyond this project's host.
+/// Commands that AVRDUDE 7 sends and this project's host doesn't.
 #[test]
 fn habits_of_avrdude_are_served(rt: HostRuntime) -> Result<(), Fail> {
     let mut e = emulator(rt.alloc(), "m328p")?;
@@ -204,7 +205,7 @@ fn fates_are_judged(rt: HostRuntime) -> Result<(), Fail> {
     Ok(())
 }
 
-/// So many good fates, so many lost commands, and one fate more.
+/// Returns `good` good fates, then `lost` lost commands, then `last`.
 fn fates(alloc: Global, good: usize, lost: usize, last: Fate) -> Result<Fates, FatesFault> {
     let mut fates = Fates::none(alloc);
     for _good in 0..good {
@@ -260,7 +261,7 @@ fn a_programmer_that_begins_anew_is_outside_the_mode(rt: HostRuntime) -> Result<
     Ok(())
 }
 
-/// Whether a session opens and closes in which the frame of this place has a fate of this kind.
+/// Returns whether a session succeeds if one frame has a fate of this kind; `place` counts the frames before it.
 fn gets_through(alloc: Global, place: usize, kind: usize) -> Result<bool, Fail> {
     let fate = match kind {
         0 => Fate::Good,
@@ -319,7 +320,8 @@ fn fate(letter: u8) -> Fate {
     }
 }
 
-/// What frames 1 to 5 bring over a wire whose fates these letters are: a dot for a silence, an answer's number.
+/// Sends frames 1 to 5 over a wire with these fates, a letter each. Returns what is received: the number of each reply,
+/// a dot for each timeout.
 fn brought(alloc: Global, letters: &str, count: usize) -> Result<String, Fail> {
     let mut fates = Fates::none(alloc);
     for letter in letters.bytes() {

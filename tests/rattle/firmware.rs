@@ -1,4 +1,4 @@
-//! A firmware in the files that another program made of it.
+//! One firmware, in the record files that avr-objcopy made of it.
 
 use avr_records::{Ending, Kind, read_records};
 use std::test::Fail;

@@ -1,4 +1,4 @@
-//! Frames of a whole session with an ATmega328P, and what no clause says.
+//! The frames of a whole session with an ATmega328P, and what no contract covers.
 ghost use Rattle.std.specs.Prelude.{◌≤◌, length};
 
 use arrayvec::ArrayVec;
@@ -70,7 +70,7 @@ fn faults_are_numbered_and_told(rt: HostRuntime) -> Result<(), Fail> {
     Ok(())
 }
 
-/// Whether the body in this frame is read as a command, and that command makes this frame.
+/// Returns whether the body of this frame is read as a command, and the command makes the same frame again.
 fn is_read_and_made(frame: &[u8]) -> bool
     requires { 8 ≤ length frame.now }
 {

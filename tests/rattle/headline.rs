@@ -1,4 +1,4 @@
-//! A caller of the headline's calls: that its conditions can be met.
+//! Calls whose contracts are the headline: their conditions can be met.
 ghost use Rattle.std.specs.Prelude.{◌≡◌};
 ghost use Rattle.avr_desk.specs.Record.{nothing_kept};
 
@@ -11,7 +11,7 @@ use std::alloc::Global;
 use std::test::Fail;
 use crate::data::digits::{ANSWERS, LEAVE, OPENING};
 
-/// What a run put onto the line, onto the output and into the messages, and its status.
+/// What a run sent, wrote to standard output and printed as messages, and its status.
 #[derive(Drop)]
 struct Passed {
     sent: Vec<u8>,
@@ -20,7 +20,7 @@ struct Passed {
     status: u8,
 }
 
-/// Runs at a desk and over a link of the program's own kinds, with a reader of these answers and these writers.
+/// Runs at the kinds of desk and link that the program has, over a reader of these replies and these writers.
 fn play<'a>(
     rt: &'a HostRuntime,
     settings: &Settings,
@@ -34,7 +34,7 @@ fn play<'a>(
     run_streams(rt.alloc(), settings, &mut desk, &mut link)
 }
 
-/// Runs a session over these answers, with writers in memory.
+/// Runs a session over these replies, with writers in memory.
 fn run_over_streams(rt: &HostRuntime, answers: &[u8]) -> Result<Passed, Fail> {
     let alloc = rt.alloc();
     let settings = settings_for(alloc, &["-p", "m328p"])?;
@@ -74,7 +74,7 @@ fn the_desk_and_the_link_of_the_program(rt: HostRuntime) -> Result<(), Fail> {
     Ok(())
 }
 
-/// Where the reader ends after the first two answers, the third command goes out, and nothing after it.
+/// If the reader ends after two replies, the third command is the last one sent.
 #[test]
 fn a_reader_that_ends(rt: HostRuntime) -> Result<(), Fail> {
     let alloc = rt.alloc();
@@ -87,21 +87,21 @@ fn a_reader_that_ends(rt: HostRuntime) -> Result<(), Fail> {
     Ok(())
 }
 
-/// The answers to a session that opens, reads the low fuse twice, which is 62, and ends.
+/// The replies to a session that opens, reads the low fuse (62) twice, and ends.
 const FUSE_ANSWERS: &str =
     "1B01000B0E01000853544B3530305F32021B0200020E1000051B0300040E1B001E00171B0400040E1B0095009B1B0500040E1B000F00001B0600040E180062006D1B0700040E180062006C1B0800020E11000E";
 
-/// The frames after its opening.
+/// The frames that follow the opening of that session.
 const FUSE_FRAMES: &str = "1B0600060E180450000000591B0700060E180450000000581B0800030E1101010F";
 
-/// The words of a run that compares a file with the fuse, and makes it anew.
+/// The arguments of a run that compares a file with the fuse, then overwrites the file.
 const FUSE_WORDS: [&str; 6] = ["-p", "m328p", "-U", "lfuse:v:low:r", "-U", "lfuse:r:low:h"];
 
-/// What it prints.
+/// What that run prints.
 const FUSE_MESSAGES: &str =
     "avrstk: device signature = 1E 95 0F\navrstk: lfuse: 1 bytes verified\navrstk: lfuse: 1 bytes read\navrstk: done\n";
 
-/// Runs these words over the file `low`, which has this byte, and a tape of these bytes.
+/// Runs these arguments with a file `low` of one byte, over a tape of these replies.
 fn run_over_tape(
     alloc: Global,
     words: &[&str],
@@ -120,7 +120,7 @@ fn run_over_tape(
     Ok(Over { desk, link, status })
 }
 
-/// Runs over a desk of which nothing was asked, a reader of these bytes and a writer.
+/// Runs at a desk that has not been called yet, over a reader of these replies and a writer.
 fn status_over_streams(
     alloc: Global,
     settings: &Settings,
@@ -134,7 +134,7 @@ fn status_over_streams(
     run_streams_in_memory(alloc, settings, desk, &mut streams)
 }
 
-/// The same as over a tape, over a reader of these bytes and a writer in memory.
+/// Does the same as [`run_over_tape`], over a reader of these replies and a writer in memory.
 fn run_over_reader(
     alloc: Global,
     words: &[&str],
@@ -149,14 +149,14 @@ fn run_over_reader(
     Ok(Over { desk, link, status })
 }
 
-/// All frames of that run.
+/// Returns all frames of the run.
 fn fuse_frames(alloc: Global) -> Result<Vec<u8>, Fail> {
     let mut frames = hex::decode(alloc, OPENING)?;
     frames.extend_from_slice(hex::decode(alloc, FUSE_FRAMES)?.as_slice())?;
     Ok(frames)
 }
 
-/// The file is read as it was before, and then it is what was read of the fuse.
+/// The run reads the file as it was, and then overwrites it with the fuse.
 #[test]
 fn from_bytes_to_bytes(rt: HostRuntime) -> Result<(), Fail> {
     let alloc = rt.alloc();
@@ -183,7 +183,7 @@ fn from_a_reader_to_a_writer(rt: HostRuntime) -> Result<(), Fail> {
     Ok(())
 }
 
-/// A wire to a fresh ATmega328P, whose first frame is lost.
+/// The wire to a fresh ATmega328P loses the first frame.
 #[test]
 fn a_lost_frame_is_sent_again(rt: HostRuntime) -> Result<(), Fail> {
     let alloc = rt.alloc();

@@ -1,4 +1,4 @@
-//! Worked operations: what a host sends to write, read and verify the memories of an ATmega328P.
+//! Worked operations: the frames by which a host writes, reads and verifies memories of an ATmega328P.
 ghost use Rattle.std.specs.Prelude.{◌≡◌, length, IfOk};
 ghost use Rattle.avr_part.specs.Part.{size_of};
 
@@ -15,7 +15,7 @@ fn part() -> Result<Part, PartFault> {
     Parts::none().find("m328p")
 }
 
-/// An image of a memory that holds this byte at address 0.
+/// Returns an image of a memory with this byte at address 0.
 fn image(alloc: Global, part: &Part, mem: Mem, byte: u8) -> Result<Image, ImageFault>
     ensures { IfOk result (λ image. length image ≡ size_of mem part.now) }
 {
@@ -24,7 +24,7 @@ fn image(alloc: Global, part: &Part, mem: Mem, byte: u8) -> Result<Image, ImageF
     Ok(image)
 }
 
-/// A link that answers the first frames with these bodies.
+/// Returns a link that answers the first frames with these bodies.
 fn answering(alloc: Global, bodies: &[&[u8]]) -> Result<TapeLink, AllocError> {
     let mut items = Vec::new(alloc);
     let mut seq: u8 = 1;
@@ -41,7 +41,7 @@ fn answering(alloc: Global, bodies: &[&[u8]]) -> Result<TapeLink, AllocError> {
     Ok(TapeLink::new(alloc, items, 281))
 }
 
-/// ERASE, then two runs: the byte between them isn't written.
+/// An erase, then two runs of bytes. The byte between them is not written.
 const RUNS: [u8; 69] = [
     0x1B, 0x01, 0x00, 0x07, 0x0E, 0x12, 0x09, 0x00, 0xAC, 0x80, 0x00, 0x00, 0x24, 0x1B, 0x02, 0x00,
     0x05, 0x0E, 0x06, 0x00, 0x00, 0x00, 0x00, 0x14, 0x1B, 0x03, 0x00, 0x0B, 0x0E, 0x15, 0x00, 0x01,

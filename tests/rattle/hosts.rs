@@ -1,4 +1,4 @@
-//! Worked sessions: the frames are those of the STK500 protocol, version 2 (AVR068), for an ATmega328P.
+//! Worked sessions with an ATmega328P; the frames are those of AVR068 (STK500 protocol, version 2).
 use avr_part::{PartFault, Parts};
 use std::alloc::{AllocError, Global};
 use std::io;
@@ -15,7 +15,7 @@ fn host() -> Result<Host, PartFault> {
     Ok(Host::new(&part))
 }
 
-/// A link that gives these bytes and then an end.
+/// Returns a link that gives these bytes, then ends.
 fn answering(alloc: Global, bytes: &[u8]) -> Result<TapeLink, AllocError> {
     let mut items = Vec::new(alloc);
     for byte in bytes {
@@ -24,7 +24,7 @@ fn answering(alloc: Global, bytes: &[u8]) -> Result<TapeLink, AllocError> {
     Ok(TapeLink::new(alloc, items, 281))
 }
 
-/// Opens and closes a session over these answers, and looks at the outcome and at all that was sent.
+/// Opens and closes a session over these replies; checks the outcome and all that was sent.
 fn session(
     rt: &impl Abort,
     alloc: Global,
@@ -118,7 +118,7 @@ fn babble_a_silence_an_answer_and_the_end(rt: HostRuntime) -> Result<(), Fail> {
         0x20, 0x00, 0x53, 0x03, 0xAC, 0x53, 0x00, 0x00, 0x37,
     ];
     assert_eq!(rt; link.sent(), sent);
-    // the end stays: each call answers it again and sends nothing
+    // the end stays: each later call returns it and sends nothing
     assert!(rt; host.close(&mut link) == Err(HostFault::LinkEnded));
     assert!(rt; host.open(&mut link, true) == Err(HostFault::LinkEnded));
     assert_eq!(rt; link.sent(), sent);
@@ -127,7 +127,7 @@ fn babble_a_silence_an_answer_and_the_end(rt: HostRuntime) -> Result<(), Fail> {
 
 #[test]
 fn enter_is_refused(rt: HostRuntime) -> Result<(), Fail> {
-    // a spoiled frame is answered by `B0 C1`: ENTER goes out again, with the next number
+    // `B0 C1` reports a spoiled frame: ENTER is sent again, with the next number
     let mut answers = ANSWERS[..17].to_vec(rt.alloc())?;
     answers.extend_from_slice(&[0x1B, 0x02, 0x00, 0x02, 0x0E, 0xB0, 0xC1, 0x64])?;
     let mut sent = FRAMES[..25].to_vec(rt.alloc())?;
@@ -144,7 +144,7 @@ fn enter_is_refused(rt: HostRuntime) -> Result<(), Fail> {
         &sent,
     )?;
 
-    // up to four times; then LEAVE
+    // at most four times, then LEAVE
     answers.extend_from_slice(&[
         0x1B, 0x03, 0x00, 0x02, 0x0E, 0xB0, 0xC1, 0x65, 0x1B, 0x04, 0x00, 0x02, 0x0E, 0xB0, 0xC1,
         0x62, 0x1B, 0x05, 0x00, 0x02, 0x0E, 0xB0, 0xC1, 0x63,
@@ -180,7 +180,7 @@ fn enter_fails_at_once(rt: HostRuntime) -> Result<(), Fail> {
         Err(HostFault::Refused { command: 0x10, status: 0xC0 }),
         &sent,
     )?;
-    // the answer to another command
+    // the reply to another command
     let mut other = ANSWERS[..17].to_vec(rt.alloc())?;
     other.extend_from_slice(&[0x1B, 0x02, 0x00, 0x02, 0x0E, 0x11, 0x00, 0x04])?;
     session(
@@ -224,7 +224,7 @@ fn over_a_reader_and_a_writer(rt: HostRuntime) -> Result<(), Fail> {
     Ok(())
 }
 
-/// A device that is interrupted at every other call.
+/// A device whose every second call is interrupted.
 #[derive(Drop)]
 struct Unsteady {
     calls: u8,

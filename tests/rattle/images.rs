@@ -1,4 +1,4 @@
-//! Worked rows, and an ordered map as the slow form of an image.
+//! Worked examples, and a comparison of images with an ordered map, which is slow and plain.
 
 use arrayvec::ArrayVec;
 use avr_image::{Base, Image, ImageFault, ListWriter, Pieces, RawReader, parse_immediate};
@@ -78,7 +78,7 @@ fn readers_and_writers_tell_where_they_are(rt: HostRuntime) -> Result<(), Fail> 
     Ok(())
 }
 
-/// The least key from `addr` on.
+/// Returns the least key that is `addr` or above.
 fn first_key(map: &BTreeMap<u32, u8>, addr: u32) -> Option<u32> {
     for (key, _) in map {
         if *key >= addr {
@@ -88,7 +88,7 @@ fn first_key(map: &BTreeMap<u32, u8>, addr: u32) -> Option<u32> {
     None
 }
 
-/// The end of the keys that follow each other from `addr` on, at most `end`.
+/// Returns the end of the run of keys that begins at `addr`, at most `end`.
 fn run_of_keys(map: &BTreeMap<u32, u8>, addr: u32, end: u32) -> u32 {
     for at in addr..end {
         if !map.contains_key(&at) {
@@ -185,7 +185,7 @@ fn values_of_every_base_are_read(rt: HostRuntime) -> Result<(), Fail> {
     Ok(())
 }
 
-/// The pieces of a list, joined.
+/// Joins the pieces of a list of numbers.
 fn joined(rt: &HostRuntime, base: Base, bytes: &[u8]) -> Result<Vec<u8>, Fail> {
     let mut writer = ListWriter::new(base, bytes);
     let mut piece = ArrayVec::new();

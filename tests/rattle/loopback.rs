@@ -1,4 +1,4 @@
-//! Whole runs over one connection, with the tool at one end of it and the emulator at the other, in one thread.
+//! Whole runs over one connection in one thread: the tool at one end, the emulator at the other.
 ghost use Rattle.stk_host.specs.Links.{stream_state};
 
 use avr_cli::{Settings, read_settings, read_words};
@@ -14,7 +14,7 @@ use std::time::Duration;
 use stk_emu::Emulator;
 use stk_host::{Heard, Link, LinkFault, StreamLink};
 
-/// A connection at both ends: what is sent at the one is answered at the other before anybody listens.
+/// Both ends of a connection. What is sent at the near end is answered at the far one at once, before the next receive.
 #[derive(Drop)]
 struct Loopback {
     near: StreamLink<TcpStream, TcpStream>,
@@ -40,7 +40,7 @@ impl Link for Loopback {
     }
 }
 
-/// A connection to a new ATmega328P.
+/// Returns a connection to a new ATmega328P.
 fn connected(rt: &HostRuntime) -> Result<Loopback, Fail> {
     let listener = listen(rt, 0)?;
     let stream = TcpStream::connect(rt, listener.local_addr()?)?;
@@ -67,7 +67,7 @@ fn settings_for(alloc: Global, updates: &[&str]) -> Result<Settings, Fail> {
     Ok(read_settings(alloc, &matches)?)
 }
 
-/// A run that is over.
+/// A run that has ended.
 #[derive(Drop)]
 struct Over {
     desk: MemDesk,

@@ -1,4 +1,4 @@
-//! Lines byte for byte: the examples of the documentation, and each piece.
+//! Message lines, byte for byte: the examples of the documentation, and one with each kind of piece.
 use avr_desk::{MemDesk, Piece, print_error, print_information, print_warning};
 use std::test::Fail;
 

@@ -1,24 +1,24 @@
-//! What no contract says: texts, and that calls succeed.
+//! What no contract covers: texts, and that calls succeed.
 use avr_part::{Chip, Field, Mem, Part, PartFault, Parts, parse_parts};
 use std::alloc::Global;
 use std::process::Abort;
 use std::test::Fail;
 
-/// How a part's table begins.
+/// The first lines of a part's table.
 const HEAD: &str = "[parts.x1]\nsignature = \"1e950F\"\n";
 
 fn built_in(rt: &impl Abort, id: &str) -> Part {
     Parts::none().find(id).expect(rt, "a built-in part")
 }
 
-/// The chip's bytes out for these bytes in, one instruction after another.
+/// Sends these instructions to the chip, and checks the bytes that each one returns.
 fn obeys(rt: &impl Abort, chip: &mut Chip, rows: &[([u8; 4], [u8; 4])]) {
     for (bytes, out) in rows {
         assert_eq!(rt; chip.spi(*bytes), *out, "at {bytes:?}");
     }
 }
 
-/// The fault of a part file.
+/// Returns the fault of a part file.
 fn fault_of(alloc: Global, text: &[u8]) -> Option<PartFault> {
     let refused = parse_parts(alloc, text).err()?;
     Some(refused.fault())
@@ -160,7 +160,7 @@ fn damaged_part_files(rt: HostRuntime) -> Result<(), Fail> {
     Ok(())
 }
 
-/// The line of a part file's fault.
+/// Returns the line of a part file's fault.
 fn line_of(alloc: Global, text: &[u8]) -> Option<usize> {
     let refused = parse_parts(alloc, text).err()?;
     refused.line()
@@ -298,7 +298,7 @@ fn the_second_half_of_a_large_flash(rt: HostRuntime) -> Result<(), Fail> {
     Ok(())
 }
 
-/// The chip file of an ATmega328P of which a byte of EEPROM, the low fuse and the lock were written.
+/// Returns the chip file of an ATmega328P after writes of a byte of EEPROM, the low fuse and the lock bits.
 fn written_chip(rt: &impl Abort, alloc: Global) -> Result<Vec<u8>, PartFault> {
     let mut chip = Chip::fresh(alloc, built_in(rt, "m328p"))?;
     let rows = [
@@ -310,7 +310,7 @@ fn written_chip(rt: &impl Abort, alloc: Global) -> Result<Vec<u8>, PartFault> {
     chip.to_bytes(alloc)
 }
 
-/// The chip of this file.
+/// Reads an ATmega328P from this chip file.
 fn chip_of(rt: &impl Abort, alloc: Global, file: &[u8]) -> Result<Chip, PartFault> {
     Chip::from_bytes(alloc, built_in(rt, "m328p"), file)
 }

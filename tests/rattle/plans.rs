@@ -1,5 +1,5 @@
-//! Every line of a plan brought about once, those of files and values beside what their faults show, and what a plan
-//! holds.
+//! Every message line of a plan, brought about once, and what plans hold. Lines about files and values are compared
+//! with the texts of their faults.
 use avr_cli::{Format, Op, Port, Settings, Switches, Text, Update, Updates};
 use avr_desk::{FailingDesk, FileFault, MemDesk};
 use avr_image::ImageFault;
@@ -11,7 +11,7 @@ use std::fmt;
 use std::test::Fail;
 
 #[derive(Clone, Copy)]
-/// What is asked for: a part, a part file (none if the name is empty), and one update.
+/// The settings of a case: a part, a part file (none if the name is empty), and one update.
 struct Asked<'a> {
     part: &'a str,
     parts: &'a str,
@@ -22,7 +22,7 @@ struct Asked<'a> {
     quiet: u8,
 }
 
-/// A write of this file to the flash of m328p, its format detected.
+/// Asks to write this file, whose format is detected, to the flash of m328p.
 fn flash_of<'a>(file: &'a str) -> Asked<'a> {
     Asked {
         part: "m328p",
@@ -35,7 +35,7 @@ fn flash_of<'a>(file: &'a str) -> Asked<'a> {
     }
 }
 
-/// A read of the flash of this part.
+/// Asks to read the flash of this part.
 fn part_of<'a>(parts: &'a str, part: &'a str) -> Asked<'a> {
     Asked {
         part,
@@ -78,7 +78,7 @@ fn settings(alloc: Global, asked: &Asked<'_>) -> Result<Settings, AllocError> {
     })
 }
 
-/// Whether there is no plan over a desk with this file, and this is what is said.
+/// Returns whether the plan is refused with this line at a desk with this file.
 fn refuses(
     alloc: Global,
     name: &str,
@@ -92,7 +92,7 @@ fn refuses(
     Ok(refused && desk.messages() == line.as_bytes())
 }
 
-/// Whether there is a plan whose one image holds so many bytes, and this is what is said.
+/// Returns whether there is a plan with one image of `held` bytes, and this line is printed.
 fn plans(
     alloc: Global,
     name: &str,
@@ -112,7 +112,7 @@ fn plans(
     Ok(image.len() == held && desk.messages() == line.as_bytes())
 }
 
-/// Whether a line of an error about a file is what its fault shows.
+/// Returns whether `line` is the error line that names this file and has the text of this fault.
 fn shows<F: fmt::Display>(
     alloc: Global,
     file: &str,
@@ -122,7 +122,7 @@ fn shows<F: fmt::Display>(
     Ok(format!(in alloc; "avrstk: error: {file}: {fault}\n")?.as_str() == line)
 }
 
-/// Whether each of these texts as a.hex is refused with its line, and that is what its fault shows.
+/// Returns whether each of these texts, as a.hex, is refused with its line, and the line has the text of its fault.
 fn refuses_all(alloc: Global, rows: &[(&str, RecordFault, &str)]) -> Result<bool, AllocError> {
     for (text, fault, line) in rows {
         if !refuses(alloc, "a.hex", text.as_bytes(), &flash_of("a.hex"), line)?
@@ -177,7 +177,7 @@ fn lines_of_record_files(rt: HostRuntime) -> Result<(), Fail> {
     Ok(())
 }
 
-/// A text of `n` bytes that begins so, and goes on with this block over and over.
+/// Returns a text of `n` bytes: `prefix`, then `block` over and over.
 fn text_of(alloc: Global, prefix: &[u8], block: &[u8], n: usize) -> Result<Vec<u8>, AllocError> {
     let mut text = Vec::new(alloc);
     text.extend_from_slice(prefix)?;
@@ -191,10 +191,10 @@ fn text_of(alloc: Global, prefix: &[u8], block: &[u8], n: usize) -> Result<Vec<u
     Ok(text)
 }
 
-/// An empty line, for all its blanks.
+/// A line of blanks, which counts as empty.
 const EMPTY: &[u8] = b"                                                               \n";
 
-/// Whether a file that begins so and goes on with this block is refused with this line.
+/// Returns whether a file of `prefix`, then `block` over and over, is refused with this line.
 fn refuses_text(
     alloc: Global,
     prefix: &[u8],
@@ -214,7 +214,7 @@ fn a_line_too_long(rt: HostRuntime) -> Result<(), Fail> {
     Ok(())
 }
 
-/// The first record of a file, with a bad checksum and with a good one.
+/// A record with a bad checksum; `GOOD` is the same with a good one.
 const BAD: &[u8] = b":0400000001020304F3\n";
 
 const GOOD: &[u8] = b":0400000001020304F2\n";
@@ -274,7 +274,7 @@ fn other_files(rt: HostRuntime) -> Result<(), Fail> {
     Ok(())
 }
 
-/// Whether these values for the low fuse are refused with this line, and that is what the fault shows.
+/// Returns whether these values for the low fuse are refused with this line, and the line has the text of the fault.
 fn refuses_values(
     alloc: Global,
     values: &str,
@@ -302,7 +302,7 @@ fn lines_of_values(rt: HostRuntime) -> Result<(), Fail> {
 const PART: &str =
     "[parts.m328p]\nsignature = \"1E950F\"\nflash_size = 100\nflash_page = 64\neeprom_size = 1024\neeprom_page = 4\neesave_bit = 3\n";
 
-/// Whether this part file is refused with this line, and that is what the fault shows.
+/// Returns whether this part file is refused with this line, and the line has the text of the fault.
 fn refuses_parts(
     alloc: Global,
     text: &str,
@@ -349,7 +349,7 @@ fn other_parts(rt: HostRuntime) -> Result<(), Fail> {
     Ok(())
 }
 
-/// The messages of a plan over a desk whose nth call fails.
+/// Returns whether a plan prints this line at a desk whose nth call fails.
 fn fails_at(alloc: Global, n: u64, line: &str) -> Result<bool, AllocError> {
     let mut desk = MemDesk::new(alloc);
     desk.put("a.hex", b":00000001FF\n")?;

@@ -1,4 +1,4 @@
-//! Both ends of a port of this machine, in one thread.
+//! Both ends of a TCP port of this machine, in one thread.
 use avr_cli::{Settings, read_settings, read_words};
 use avr_desk::MemDesk;
 use avr_tool::{accept, listen, run_net, serve_net, serve_on};
@@ -10,7 +10,7 @@ use std::test::Fail;
 use stk_host::{Heard, Link, StreamLink};
 use crate::data::{ANSWERS, FRAMES};
 
-/// The settings of a run on a part without updates: it asks for the part's signature.
+/// Returns the settings of a run without updates: it only reads the part's signature.
 fn settings_for(alloc: Global, part: &str) -> Result<Settings, Fail> {
     let mut words: Vec<String> = Vec::new(alloc);
     for word in ["avrstk", "-P", "net:127.0.0.1:1", "-p", part] {
@@ -20,7 +20,7 @@ fn settings_for(alloc: Global, part: &str) -> Result<Settings, Fail> {
     Ok(read_settings(alloc, &matches)?)
 }
 
-/// A run that is over.
+/// A run that has ended.
 #[derive(Drop)]
 struct Over {
     desk: MemDesk,
@@ -36,7 +36,7 @@ fn run_at<R: Net>(rt: &R, alloc: Global, part: &str, port: u16) -> Result<Over, 
     Ok(Over { desk, status })
 }
 
-/// All that is heard on a link up to its end.
+/// Receives everything on a link up to its end.
 fn heard_to_the_end<R: Read + Drop, W: Write + Drop>(
     alloc: Global,
     link: &mut StreamLink<R, W>,
@@ -53,7 +53,7 @@ fn heard_to_the_end<R: Read + Drop, W: Write + Drop>(
     Ok(bytes)
 }
 
-/// No contract says that nobody was called: the port is opened after the plan.
+/// The port is opened after the plan, so a refused plan makes no connection. No contract covers this.
 #[test]
 fn a_refused_plan_leaves_the_port_alone(rt: HostRuntime) -> Result<(), Fail> {
     let listener = listen(&rt, 0)?;
@@ -90,7 +90,7 @@ const UNANSWERED: [u8; 64] = [
     0x00, 0x03, 0x0E, 0x11, 0x01, 0x01, 0x00, 0x1B, 0x08, 0x00, 0x03, 0x0E, 0x11, 0x01, 0x01, 0x0F,
 ];
 
-/// The connection is accepted only when the run is over: each attempt ends in a silence of one second.
+/// The connection is accepted only after the run, so each attempt ends with a timeout of one second.
 #[test]
 fn a_programmer_that_never_answers(rt: HostRuntime) -> Result<(), Fail> {
     let listener = listen(&rt, 0)?;
@@ -102,7 +102,7 @@ fn a_programmer_that_never_answers(rt: HostRuntime) -> Result<(), Fail> {
     Ok(())
 }
 
-/// A network with one connection, which is made already.
+/// A network whose one connection is already open.
 #[derive(Drop)]
 struct Connected {
     stream: TcpStream,
@@ -122,7 +122,7 @@ impl Net for Connected {
     }
 }
 
-/// All answers lie there before the first frame comes.
+/// All replies are sent before the first frame arrives.
 #[test]
 fn a_programmer_that_answers(rt: HostRuntime) -> Result<(), Fail> {
     let listener = listen(&rt, 0)?;
@@ -143,10 +143,10 @@ fn a_programmer_that_answers(rt: HostRuntime) -> Result<(), Fail> {
 /// A frame with a command that no programmer knows.
 const FRAME: [u8; 7] = [0x1B, 0x09, 0x00, 0x01, 0x0E, 0x05, 0x18];
 
-/// What any programmer answers to it.
+/// The reply of any programmer to it.
 const ANSWER: [u8; 8] = [0x1B, 0x09, 0x00, 0x02, 0x0E, 0x05, 0xC9, 0xD2];
 
-/// The caller has sent all and shut down its writing side before it is accepted.
+/// The caller has sent everything and shut down its writing side before it is accepted.
 #[test]
 fn a_caller_is_answered_and_the_chip_is_saved(rt: HostRuntime) -> Result<(), Fail> {
     let alloc = rt.alloc();
@@ -166,7 +166,7 @@ fn a_caller_is_answered_and_the_chip_is_saved(rt: HostRuntime) -> Result<(), Fai
     Ok(())
 }
 
-/// No contract says where a port is opened.
+/// The port is open to this machine only. No contract covers this.
 #[test]
 fn a_port_is_open_to_this_machine_alone(rt: HostRuntime) -> Result<(), Fail> {
     let listener = listen(&rt, 0)?;
@@ -174,7 +174,7 @@ fn a_port_is_open_to_this_machine_alone(rt: HostRuntime) -> Result<(), Fail> {
     Ok(())
 }
 
-/// Serves a part at the listener's port, which is taken, with the bytes of a chip file where there is one.
+/// Serves a part at the listener's port, which is taken. `chip` is the chip file, if there is one.
 fn serve_at_taken(
     rt: &HostRuntime,
     listener: &TcpListener,
@@ -205,7 +205,7 @@ fn a_port_that_is_taken(rt: HostRuntime) -> Result<(), Fail> {
     Ok(())
 }
 
-/// No contract says that the port is opened after the part and the chip.
+/// The port is opened after the part and the chip are found good. No contract covers this.
 #[test]
 fn a_part_and_a_chip_are_refused_before_the_port(rt: HostRuntime) -> Result<(), Fail> {
     let listener = listen(&rt, 0)?;

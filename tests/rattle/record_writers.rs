@@ -1,4 +1,4 @@
-//! Written files whose text is known from outside.
+//! Written files whose text is known from other sources.
 
 ghost use Rattle.std.specs.Prelude.{◌+◌, ◌^◌, ◌≤◌, length};
 
@@ -8,7 +8,7 @@ use avr_records::{Kind, Run, Writer, what_is_written_reads_back};
 use std::alloc::{AllocError, Global};
 use std::test::Fail;
 
-/// All pieces of the file of some bytes.
+/// Writes these bytes as a record file, and joins its pieces.
 fn text_of(alloc: Global, kind: Kind, base: u32, bytes: &[u8]) -> Result<Vec<u8>, AllocError>
     requires { base + length bytes.now ≤ 2 ^ 32 }
 {

@@ -1,4 +1,4 @@
-//! Files whose meaning is known from outside, and each public call on its happy path.
+//! Files whose meaning is known from other sources, and a success of each public call.
 
 mod slow;
 
@@ -11,13 +11,13 @@ use std::alloc::Global;
 use std::process::Abort;
 use std::test::Fail;
 
-/// The lengths of pieces into which the files are cut.
+/// The lengths of the pieces in which files are fed.
 const CUTS: [usize; 6] = [1, 2, 3, 5, 280, 281];
 
-/// The bytes of a file at their addresses, and whether its end record came; or its fault.
+/// What a file holds: its bytes at their addresses and how it ends, or its fault.
 type Says<'a> = Result<(&'a [(u32, u8)], Ending), RecordFault>;
 
-/// What a file says that comes in pieces of this length.
+/// Reads a file that is fed in pieces of this length.
 fn read_cut(
     alloc: Global,
     kind: Kind,
@@ -37,7 +37,7 @@ fn read_cut(
     reader.finish()
 }
 
-/// Sees that a file says this, however it is cut.
+/// Checks what a file holds, in pieces of each length.
 fn says(rt: &impl Abort, alloc: Global, kind: Kind, size: u32, text: &[u8], want: Says<'_>) {
     for cut in CUTS {
         match (read_cut(alloc, kind, size, text, cut), want) {
@@ -191,7 +191,7 @@ fn reads_srec(rt: HostRuntime) {
     }
 }
 
-/// The first bytes of a small file.
+/// A small file is cut off after each of its bytes.
 #[test]
 fn reads_what_is_cut_short(rt: HostRuntime) {
     let alloc = rt.alloc();
@@ -209,7 +209,7 @@ fn reads_what_is_cut_short(rt: HostRuntime) {
     }
 }
 
-/// A line may have 600 bytes, blanks at its end among them.
+/// A line may have at most 600 bytes, including the blanks at its end.
 #[test]
 fn reads_long_lines(rt: HostRuntime) -> Result<(), Fail> {
     let alloc = rt.alloc();
@@ -226,7 +226,7 @@ fn reads_long_lines(rt: HostRuntime) -> Result<(), Fail> {
         text.push(b'\n')?;
         says(&rt, alloc, Kind::Ihex, 4, text.as_slice(), want);
     }
-    // after an end record no line is looked at
+    // lines after an end record are not read
     let mut text = b":00000001FF\n".to_vec(alloc)?;
     for _ in 0..601 {
         text.push(b' ')?;
@@ -295,7 +295,7 @@ fn detects(rt: HostRuntime) {
     }
 }
 
-/// The plain reader of a whole text and the real one agree.
+/// The reader agrees with a plain reader of whole texts.
 #[test]
 fn agrees_with_the_plain_reader(rt: HostRuntime) -> Result<(), Fail> {
     let alloc = rt.alloc();
@@ -351,17 +351,17 @@ fn a_size_is_told_without_an_image(rt: HostRuntime) {
         needed_size(Kind::Srec, b"S107000001020304EE\nS9030000FC"),
         Ok(4)
     );
-    // the highest byte isn't the last one
+    // the byte with the highest address isn't the last one
     assert_eq!(rt;
         needed_size(Kind::Ihex, b":0100200001DE\n:0100000002FD\n"),
         Ok(0x21)
     );
-    // a record that goes on at the beginning of its segment
+    // the record wraps to the beginning of its segment
     assert_eq!(rt;
         needed_size(Kind::Ihex, b":020000021000EC\n:02FFFF000A0BEB\n"),
         Ok(0x2_0000)
     );
-    // the last address that a memory has, and the one after it
+    // the last address that a memory can have, and the one after it
     assert_eq!(rt;
         needed_size(Kind::Srec, b"S306FFFFFFFE11ED\n"),
         Ok(0xFFFF_FFFF)

@@ -1,4 +1,4 @@
-//! Each call as a caller in C has it.
+//! Each call as a program in C makes it.
 
 use avr_records_c::{
     Cursor, Outcome, Piece, avr_records_detect, avr_records_length, avr_records_read,
@@ -27,12 +27,12 @@ const START: Cursor = Cursor {
     ended: 0,
 };
 
-/// The S-records of three bytes, the first of which is not there.
+/// Writes a memory of three bytes, of which the first is absent, as S-records.
 fn write(cursor: &mut Cursor, room: &mut [u8]) -> Piece {
     avr_records_write(2, &[0xFF, 0x0A, 0x0B], &[0b110], cursor, room)
 }
 
-/// The fault of a read of one data record, for a memory of so many bytes.
+/// Reads a file of one data record into a memory with the size of `bytes`.
 fn fault_of(alloc: Global, kind: u8, bytes: &mut [u8], present: &mut [u8]) -> Outcome {
     read(alloc, kind, b":020001000A0BE8\n", bytes, present)
 }

@@ -1,5 +1,5 @@
-//! Worked runs: what is sent, what is printed, and the status. The frames are those of the STK500 protocol, version 2
-//! (AVR068), written out by hand.
+//! Worked runs: what is sent, what is printed, and the status. The frames are those of AVR068 (STK500 protocol,
+//! version 2), written out by hand.
 use avr_cli::{Settings, read_settings, read_words};
 use avr_desk::{Desk, FailingDesk, MemDesk};
 use avr_session::run;
@@ -10,7 +10,8 @@ use std::test::Fail;
 use stk_host::{FailingLink, Item, Link, TapeLink};
 use crate::data::digits::{ANSWERS, LEAVE, OPENING};
 
-/// A run: the part, the answers as digits with `-` for a silence, the frames as digits, the messages and the status.
+/// A run: the part, the replies in hexadecimal (`-` is a timeout), the frames in hexadecimal, the messages and the
+/// status.
 struct Row {
     part: &'static str,
     answers: &'static str,
@@ -28,7 +29,7 @@ fn settings_for(alloc: Global, part: &str) -> Result<Settings, Fail> {
     Ok(read_settings(alloc, &matches)?)
 }
 
-/// The items of a tape: bytes as pairs of digits, and silences.
+/// Parses a tape: pairs of hexadecimal digits, and `-` for a timeout.
 fn tape(alloc: Global, text: &str) -> Result<Vec<Item>, Fail> {
     let mut items = Vec::new(alloc);
     for (n, digits) in text.split('-').enumerate() {
@@ -42,7 +43,7 @@ fn tape(alloc: Global, text: &str) -> Result<Vec<Item>, Fail> {
     Ok(items)
 }
 
-/// The bytes of several frames as digits.
+/// Decodes and joins several frames in hexadecimal.
 fn joined(alloc: Global, frames: &[&str]) -> Result<Vec<u8>, Fail> {
     let mut bytes = Vec::new(alloc);
     for digits in frames {
@@ -51,7 +52,7 @@ fn joined(alloc: Global, frames: &[&str]) -> Result<Vec<u8>, Fail> {
     Ok(bytes)
 }
 
-/// A run that is over.
+/// A run that has ended.
 #[derive(Drop)]
 struct Over {
     desk: MemDesk,
@@ -59,8 +60,7 @@ struct Over {
     status: u8,
 }
 
-/// Runs at this desk and over this link. It says nothing of them: a test carries each clause that it meets to its end,
-/// and these are long.
+/// Runs at this desk and over this link. Returns the status.
 fn status_of<D: Desk, L: Link>(
     alloc: Global,
     settings: &Settings,
@@ -70,7 +70,7 @@ fn status_of<D: Desk, L: Link>(
     run(alloc, settings, desk, link)
 }
 
-/// Runs over a tape that is given in pieces of at most this many bytes.
+/// Runs over a tape that is received in pieces of at most `cut` bytes.
 fn run_over(alloc: Global, part: &str, items: Vec<Item>, cut: usize) -> Result<Over, Fail> {
     let settings = settings_for(alloc, part)?;
     let mut desk = MemDesk::new(alloc);
@@ -79,7 +79,7 @@ fn run_over(alloc: Global, part: &str, items: Vec<Item>, cut: usize) -> Result<O
     Ok(Over { desk, link, status })
 }
 
-/// Looks at what a run sent, printed and answered.
+/// Checks what a run sent and printed, and its status.
 fn shows(
     rt: &impl Abort,
     over: &Over,
@@ -162,7 +162,7 @@ fn answers_that_do_not_come(rt: HostRuntime) -> Result<(), Fail> {
                 messages: "avrstk: error: no answer\n",
                 status: 1,
             },
-            // the tape ends where the answer to LEAVE is due
+            // the tape ends when the reply to LEAVE is due
             Row {
                 part: "m328p",
                 answers: "1B01000B0E01000853544B3530305F32021B0200020E1000051B0300040E1B001E00171B0400040E1B0095009B1B0500040E1B000F0000",
@@ -222,7 +222,7 @@ fn commands_that_are_refused(rt: HostRuntime) -> Result<(), Fail> {
     )
 }
 
-/// The first bytes of the sound answers; then the line ends.
+/// Returns a tape of the first bytes of the good replies; then the link ends.
 fn prefix_of_answers(alloc: Global, count: usize) -> Result<Vec<Item>, Fail> {
     let mut items = Vec::new(alloc);
     for byte in hex::decode(alloc, ANSWERS)?.into_iter().take(count) {
@@ -231,8 +231,8 @@ fn prefix_of_answers(alloc: Global, count: usize) -> Result<Vec<Item>, Fail> {
     Ok(items)
 }
 
-/// Looks at runs over answers that are cut to each of these counts of bytes, of which this prefix of the sound run is
-/// sent.
+/// Checks runs over replies that are cut off after each of these counts of bytes: the first `sent` bytes of the good
+/// run are sent.
 fn look_at_cuts(
     rt: &impl Abort,
     alloc: Global,
@@ -251,7 +251,7 @@ fn look_at_cuts(
     Ok(())
 }
 
-/// Each answer that came whole draws the next frame: after 17, 25, 35, 45 and 55 bytes.
+/// Each complete reply lets the next frame be sent: after 17, 25, 35, 45 and 55 bytes.
 #[test]
 fn answers_that_break_off(rt: HostRuntime) -> Result<(), Fail> {
     let alloc = rt.alloc();
@@ -270,7 +270,7 @@ fn answers_that_break_off(rt: HostRuntime) -> Result<(), Fail> {
     )
 }
 
-/// 5,000 start bytes; then a silence, an answer and the end.
+/// Returns a tape of 5,000 start bytes, a timeout, a reply and the end.
 fn rubbish(alloc: Global) -> Result<Vec<Item>, Fail> {
     let mut items = Vec::new(alloc);
     for _ in 0..5_000 {
@@ -282,7 +282,7 @@ fn rubbish(alloc: Global) -> Result<Vec<Item>, Fail> {
     Ok(items)
 }
 
-/// Of the start bytes 4,096 are read for the first answer and 904 for the second.
+/// The first attempt reads 4,096 of the start bytes, and the second one the other 904.
 #[test]
 fn rubbish_on_the_line(rt: HostRuntime) -> Result<(), Fail> {
     let sent = joined(
@@ -314,7 +314,7 @@ fn a_link_that_fails(rt: HostRuntime) -> Result<(), Fail> {
     Ok(())
 }
 
-/// Nothing is printed then, and no LEAVE is sent.
+/// If the desk fails, nothing is printed and no LEAVE is sent.
 #[test]
 fn a_desk_that_fails(rt: HostRuntime) -> Result<(), Fail> {
     let alloc = rt.alloc();

@@ -1,4 +1,4 @@
-//! Whole runs over lines whose fates are drawn, by the call of the headline, compared with a plain rule.
+//! Whole runs by `run_wired` over links with pseudorandom fates, compared with a plain rule.
 
 use crate::support::{Over, desk_with, is_blank, run_wired_on};
 use avr_part::{Chip, Mem};
@@ -7,19 +7,19 @@ use std::alloc::{AllocError, Global};
 use std::process::Abort;
 use std::test::Fail;
 
-/// The numbers from here on draw good fates.
+/// This number and all above it draw a good fate.
 const GOOD: u32 = 13;
 
 /// The number that draws a reset.
 const RESET: u32 = 12;
 
-/// A frame with this XOR in place of the answer; 07 would be right, and is not drawn.
+/// Returns the fate that replaces a reply by a frame with this XOR. The right XOR, 07, is never drawn.
 fn spoiled(alloc: Global, xor: u8) -> Result<Fate, AllocError> {
     let noise = [0x1B, 0x06, 0x00, 0x03, 0x0E, 0x17, 0x00, 0x00, xor];
     Ok(Fate::AnswerSpoiled(Vec::from_slice(alloc, &noise)?))
 }
 
-/// The fate that a number draws.
+/// Returns the fate that a number draws.
 fn fate_drawn(alloc: Global, number: u32) -> Result<Fate, AllocError> {
     match number {
         0 | 1 => Ok(Fate::LostCommand),
@@ -34,8 +34,8 @@ fn fate_drawn(alloc: Global, number: u32) -> Result<Fate, AllocError> {
     }
 }
 
-/// Sixty numbers, by a linear congruential generator: of the even seeds 13 of 48 draw a bad fate, of the odd ones 13
-/// of 192.
+/// Returns sixty numbers of a linear congruential generator. With an even seed 13 of 48 numbers draw a bad fate, with
+/// an odd one 13 of 192.
 fn numbers_drawn(alloc: Global, seed: u32) -> Result<Vec<u32>, AllocError> {
     let all = if seed % 2 == 0 { 48 } else { 192 };
     let mut state = seed.wrapping_mul(0x9E37_79B9);
@@ -47,7 +47,7 @@ fn numbers_drawn(alloc: Global, seed: u32) -> Result<Vec<u32>, AllocError> {
     Ok(numbers)
 }
 
-/// The fates that these numbers draw.
+/// Returns the fates that these numbers draw.
 fn fates_drawn(alloc: Global, numbers: &[u32]) -> Result<Fates, Fail> {
     let mut fates = Fates::none(alloc);
     for number in numbers {
@@ -56,7 +56,7 @@ fn fates_drawn(alloc: Global, numbers: &[u32]) -> Result<Fates, Fail> {
     Ok(fates)
 }
 
-/// Whether no number draws a reset, and of any seven in a row at most three draw a bad fate.
+/// Returns whether no number draws a reset, and at most three of any seven in a row draw a bad fate.
 fn are_few(numbers: &[u32]) -> bool {
     !numbers.contains(&RESET) && numbers.windows(7).all(|seven| bad_in(seven) <= 3)
 }
@@ -65,12 +65,12 @@ fn bad_in(numbers: &[u32]) -> usize {
     numbers.iter().filter(|number| **number < GOOD).count()
 }
 
-/// Sixteen bytes, none of them FF.
+/// The image to write: no byte is FF, so that each write is seen.
 const IMAGE: [u8; 16] = [
     0x10, 0x21, 0x32, 0x43, 0x54, 0x65, 0x76, 0x87, 0x98, 0xA9, 0xBA, 0xCB, 0xDC, 0xED, 0xFE, 0x0F,
 ];
 
-/// What is said where all is done.
+/// The messages of a run that does everything.
 const DONE: &[u8] = b"avrstk: device signature = 1E 93 0B
 avrstk: eeprom: 16 bytes written
 avrstk: eeprom: 16 bytes verified
@@ -79,7 +79,7 @@ avrstk: lfuse: 1 bytes verified
 avrstk: done
 ";
 
-/// A run on an ATtiny85, over a line of these fates, that writes and reads back the image and a fuse.
+/// Writes the image and a fuse to an ATtiny85, over a link with these fates, and verifies them.
 fn run_over(alloc: Global, fates: Fates) -> Result<Over<MemDesk, Wired>, Fail> {
     let words = [
         "-p",
@@ -93,7 +93,7 @@ fn run_over(alloc: Global, fates: Fates) -> Result<Over<MemDesk, Wired>, Fail> {
     run_wired_on(alloc, "t85", &words, desk, fates)
 }
 
-/// How many pages of the EEPROM, of four bytes, are the image's, where all from the first untouched one on are FF.
+/// Returns how many pages of the EEPROM (four bytes each) hold the image, if all pages after them are FF.
 fn pages_written(chip: &Chip) -> Option<u32> {
     let mut pages = 0u32;
     let mut is_untouched = false;
@@ -115,8 +115,7 @@ fn pages_written(chip: &Chip) -> Option<u32> {
     Some(pages)
 }
 
-/// Pages are written in rising order and whole, and the fuse after them; nothing else is. Answers how many pages are
-/// written.
+/// Checks that whole pages were written in rising order, then the fuse, and nothing else. Returns the number of pages.
 fn look_at_chip(rt: &impl Abort, over: &Over<MemDesk, Wired>, seed: u32) -> Option<u32> {
     let chip = over.link.chip();
     let pages = pages_written(chip);
@@ -130,8 +129,8 @@ fn look_at_chip(rt: &impl Abort, over: &Over<MemDesk, Wired>, seed: u32) -> Opti
     pages
 }
 
-/// What is called done is done and said as over a good line; else the status is 1, which is never so where few frames
-/// go wrong. No more than four frames go out for each one over a good line.
+/// Checks that the status is 0 if the messages are those of a good link, and 1 if not; that it is 0 if few frames fail;
+/// and that at most four times as much is sent as over a good link.
 fn look_at_outcome(
     rt: &impl Abort,
     over: &Over<MemDesk, Wired>,
@@ -149,7 +148,7 @@ fn look_at_outcome(
     );
 }
 
-/// How many runs there were of a kind.
+/// Counts runs by how they ended; `few` counts the links on which few frames fail.
 #[derive(Drop)]
 struct Counts {
     sound: u32,
@@ -158,7 +157,7 @@ struct Counts {
     few: u32,
 }
 
-/// A run over the line of this seed, looked at and counted.
+/// Runs over the link of this seed, and checks and counts the run.
 fn try_seed(
     rt: &impl Abort,
     alloc: Global,
@@ -179,7 +178,7 @@ fn try_seed(
     Ok(())
 }
 
-/// Some runs end well, some don't, and some of these in the middle of the pages; on some lines few frames go wrong.
+/// The seeds give every kind of run: complete, stopped, and stopped in the middle of the pages.
 #[test]
 fn drawn_fates_leave_a_prefix(rt: HostRuntime) -> Result<(), Fail> {
     let good = run_over(rt.alloc(), Fates::none(rt.alloc()))?;

@@ -1,4 +1,4 @@
-//! Runs over devices that fail, each at every one of its calls in turn, and over links that pass little at once.
+//! Runs in which each call of a device fails in turn, and runs over links that pass few bytes at once.
 ghost use Rattle.std.specs.Prelude.{◌<◌};
 
 use crate::support::{
@@ -13,25 +13,25 @@ use stk_emu::{Fate, Fates, Wired};
 use stk_host::FailingLink;
 use crate::data::digits::OPENING;
 
-/// A run to which nothing happens, and how many calls of its devices it makes.
+/// A run without failures, and the number of calls that it makes of its devices.
 #[derive(Drop)]
 struct SoundRun {
     row: Row,
-    /// How many bytes the file `e.bin` has. The EEPROM begins with them at the end.
+    /// The size of the file `e.bin`. At the end the EEPROM begins with its bytes.
     size: u32,
-    /// The answer to frame 255 comes late.
+    /// Whether the reply to frame 255 is late.
     is_late: bool,
-    /// Two for each frame.
+    /// Two calls for each frame.
     link_calls: u64,
-    /// One for each line, each output, and each opening and reading of a file.
+    /// A call for each message, each write to standard output, and each opening and reading of a file.
     desk_calls: u64,
-    /// The calls of the desk whose failure is reported; where any other fails, printing itself did.
+    /// The calls of the desk whose failure is reported, with the report. A call that prints has none.
     told: &'static [(u64, &'static [&'static str])],
 }
 
 type OverFailing = Over<FailingDesk<MemDesk>, FailingLink<Wired>>;
 
-/// A session and nothing else.
+/// A session without updates.
 const SESSION: SoundRun = SoundRun {
     row: Row {
         words: &["-p", "m328p"],
@@ -46,7 +46,8 @@ const SESSION: SoundRun = SoundRun {
     told: &[],
 };
 
-/// An empty file as flash: five frames that open, the erase, 256 of the read back, and LEAVE.
+/// Writes an empty file to flash: five frames open the session, then come the erase, 256 frames of verifying, and
+/// LEAVE.
 const EMPTY_FLASH: SoundRun = SoundRun {
     row: Row {
         words: &["-p", "m328p", "-U", "flash:w:e.bin:r"],
@@ -70,7 +71,7 @@ const EMPTY_FLASH: SoundRun = SoundRun {
     ],
 };
 
-/// A fuse, which is written, compared and read: the fourth call of the desk writes it.
+/// Writes, verifies and reads a fuse. The fourth call of the desk writes its value to standard output.
 const FUSE: SoundRun = SoundRun {
     row: Row {
         words: &["-p", "m328p", "-U", "lfuse:w:0xE2:m", "-U", "lfuse:r:-:h"],
@@ -91,7 +92,7 @@ const FUSE: SoundRun = SoundRun {
     told: &[(4, &["error: -: cannot be written"])],
 };
 
-/// The whole EEPROM, over a wire whose frame 255 is answered late.
+/// Writes the whole EEPROM, over a wire on which the reply to frame 255 is late.
 const EEPROM: SoundRun = SoundRun {
     row: Row {
         words: &["-p", "m328p", "-V", "-U", "eeprom:w:e.bin:r"],
@@ -129,7 +130,7 @@ fn wire_of(alloc: Global, run: &SoundRun) -> Result<Wired, Fail> {
     }
 }
 
-/// The run, to which nothing happens.
+/// Makes the run without failures, and checks it.
 fn sound(rt: &impl Abort, alloc: Global, run: &SoundRun) -> Result<Over<MemDesk, Wired>, Fail> {
     run_row(
         rt,
@@ -140,8 +141,8 @@ fn sound(rt: &impl Abort, alloc: Global, run: &SoundRun) -> Result<Over<MemDesk,
     )
 }
 
-/// The run where the calls of these numbers, from 1, of the link and of the desk fail (0: none), over a link that
-/// passes at most so many bytes at once.
+/// Makes the run with a failing call of the link and of the desk, counted from 1 (0 for none). The link passes at most
+/// `cut` bytes at once.
 fn failing(
     alloc: Global,
     run: &SoundRun,
@@ -156,8 +157,8 @@ fn failing(
     run_on(alloc, run.row.words, desk, link)
 }
 
-/// Whether what was said is a prefix of what a sound run says, and after it what was reported of a fault, on a line of
-/// its own.
+/// Returns whether the messages `said` are a proper prefix of those of a good run, followed by the report `told` on a
+/// line of its own.
 fn is_prefix(said: &[u8], sound: &[u8], told: &[u8]) -> bool {
     match said.strip_suffix(told) {
         Some(prefix) => {
@@ -169,8 +170,8 @@ fn is_prefix(said: &[u8], sound: &[u8], told: &[u8]) -> bool {
     }
 }
 
-/// The run broke off: what it sent and wrote is a prefix of what the sound one did, and so is what it said, but for
-/// these lines after it.
+/// Checks a run that broke off. What it sent and wrote is a prefix of what the good run did; so are its messages,
+/// except for these lines at the end.
 fn broke_off(
     rt: &impl Abort,
     alloc: Global,
@@ -192,7 +193,8 @@ fn broke_off(
     Ok(())
 }
 
-/// Every other call sends a frame, and where it fails no more was sent than before; the next hears its answer.
+/// Lets each call of the link fail. Odd calls send a frame: if one fails, no more is sent than in the run before. Even
+/// calls receive the reply.
 fn fail_each_link_call(rt: &impl Abort, alloc: Global, run: &SoundRun) -> Result<(), Fail> {
     let sound = sound(rt, alloc, run)?;
     let mut failures = 0u64;
@@ -234,7 +236,7 @@ fn each_call_of_the_link_fails_over_the_whole_eeprom(rt: HostRuntime) -> Result<
     fail_each_link_call(&rt, rt.alloc(), &EEPROM)
 }
 
-/// What is reported where this call of the desk fails.
+/// Returns the report of a failure of this call of the desk.
 fn told_of(run: &SoundRun, n: u64) -> &'static [&'static str] {
     for (call, lines) in run.told {
         if *call == n {
@@ -267,7 +269,7 @@ fn each_call_of_the_desk_fails(rt: HostRuntime) -> Result<(), Fail> {
     Ok(())
 }
 
-/// The run over links that pass little at once says, writes, answers, sends and does the same.
+/// Checks that a link that passes few bytes at once changes nothing that the run sends, prints or does.
 fn pass_in_pieces(rt: &impl Abort, alloc: Global, run: &SoundRun) -> Result<(), Fail> {
     let sound = sound(rt, alloc, run)?;
     let bytes = pattern(alloc, run.size)?;
@@ -292,7 +294,7 @@ fn pieces_change_nothing(rt: HostRuntime) -> Result<(), Fail> {
     Ok(())
 }
 
-/// After the signature's line the desk is to write the fuse, and fails: the sixth frame is the last.
+/// The desk prints the line of the signature, then fails to write the fuse. The sixth frame is the last.
 #[test]
 fn no_leave_follows_an_output_that_fails(rt: HostRuntime) -> Result<(), Fail> {
     let alloc = rt.alloc();

@@ -1,4 +1,4 @@
-//! A file that is patched, and one that isn't.
+//! A file that is patched, and one that is refused.
 
 use avr_part::Parts;
 use serial_patch::{PatchFault, patch_serial_number};

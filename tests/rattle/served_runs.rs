@@ -1,4 +1,4 @@
-//! From settings to status: how serving ends, what is reported of it, and the chip file.
+//! Serving, from settings to status: how it ends, what it reports, and the chip file.
 use avr_cli::{Settings, read_settings, read_words};
 use avr_desk::MemDesk;
 use avr_emulator::{serve, serve_part};
@@ -10,10 +10,10 @@ use stk_host::{FailingLink, Item, Link, TapeLink};
 /// A frame with a command that no programmer knows.
 const FRAME: [u8; 7] = [0x1B, 0x09, 0x00, 0x01, 0x0E, 0x05, 0x18];
 
-/// What any programmer answers to it.
+/// The reply of any programmer to it.
 const ANSWER: [u8; 8] = [0x1B, 0x09, 0x00, 0x02, 0x0E, 0x05, 0xC9, 0xD2];
 
-/// The frame, a silence before its last byte, and an end.
+/// Returns a tape of the frame, with a timeout before its last byte, and the end.
 fn frame_and_end(alloc: Global) -> Result<Vec<Item>, AllocError> {
     let mut items = Vec::new(alloc);
     for byte in &FRAME[..6] {
@@ -36,7 +36,7 @@ fn settings_to_serve(alloc: Global) -> Result<Settings, Fail> {
     Ok(read_settings(alloc, &matches)?)
 }
 
-/// Serves at this desk and over this link.
+/// Serves at this desk and over this link, and returns the status.
 fn served<L: Link>(alloc: Global, settings: &Settings, desk: &mut MemDesk, link: &mut L) -> u8 {
     serve(alloc, settings, "chip.bin", desk, link)
 }

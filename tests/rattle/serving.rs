@@ -1,4 +1,4 @@
-//! Frames that come in pieces, silences, and every call of the link failing in turn.
+//! Frames in pieces, timeouts, and a link of which each call fails in turn.
 use avr_emulator::{Served, answer_all};
 use avr_part::{Chip, PartFault, Parts};
 use std::alloc::{AllocError, Global};
@@ -11,7 +11,7 @@ const FRAMES: [u8; 14] = [
     0x1B, 0x09, 0x00, 0x01, 0x0E, 0x05, 0x18, 0x1B, 0x0A, 0x00, 0x01, 0x0E, 0x05, 0x1B,
 ];
 
-/// What any programmer answers to them.
+/// The replies of any programmer to them.
 const ANSWERS: [u8; 16] = [
     0x1B, 0x09, 0x00, 0x02, 0x0E, 0x05, 0xC9, 0xD2, 0x1B, 0x0A, 0x00, 0x02, 0x0E, 0x05, 0xC9, 0xD1,
 ];
@@ -51,7 +51,7 @@ fn silences_use_up_the_turns(rt: HostRuntime) -> Result<(), Fail> {
     Ok(())
 }
 
-/// Which call of the link fails, in pieces of five bytes, how serving ends then, and how many bytes have been sent.
+/// The call of the link that fails (it passes five bytes at once), how serving ends, and how many bytes were sent.
 const ENDS: [(u64, Served, usize); 9] = [
     (1, Served::RecvFailed, 0),
     (2, Served::RecvFailed, 0),

@@ -1,4 +1,4 @@
-//! Faults show in the words of the lines that are printed of them. A port's doesn't: its line names the port.
+//! Each fault is formatted as its message line. The fault of a port isn't: its line also names the port.
 use avr_cli::{Settings, SettingsFault, Text, UpdateFault, read_settings, read_words};
 use avr_desk::MemDesk;
 use avr_part::Mem;
@@ -12,7 +12,7 @@ use crate::data::ANSWERS;
 /// An update that only reads.
 const READ: &str = "lfuse:r:low:h";
 
-/// Whether a fault of the settings shows as the line that is printed of it.
+/// Returns whether a fault of the settings is formatted as the line that is printed for it.
 fn shows_as_printed(alloc: Global, fault: &SettingsFault) -> bool {
     let mut desk = MemDesk::new(alloc);
     refuse(fault, &mut desk);
@@ -46,8 +46,7 @@ fn settings_for(alloc: Global, update: &str) -> Result<Settings, Fail> {
     Ok(read_settings(alloc, &matches)?)
 }
 
-/// What came of a session with this update. It says nothing of it: a test carries each clause that it meets to its end,
-/// and these are long.
+/// Runs a session with this update. Returns its outcome, or nothing if there is no plan.
 fn outcome_over<L: Link>(
     alloc: Global,
     update: &str,
@@ -61,7 +60,7 @@ fn outcome_over<L: Link>(
     }
 }
 
-/// The first bytes of the answers to a session, and then these.
+/// Returns a tape of the first `count` bytes of the worked session's replies, then `more`.
 fn answers_then(alloc: Global, count: usize, more: &[u8]) -> Result<Vec<Item>, AllocError> {
     let mut items = Vec::new(alloc);
     for byte in ANSWERS.iter().take(count).chain(more) {
@@ -70,7 +69,7 @@ fn answers_then(alloc: Global, count: usize, more: &[u8]) -> Result<Vec<Item>, A
     Ok(items)
 }
 
-/// Whether a session over these items comes to this fault, and the last line is what it shows.
+/// Returns whether a session over these items ends with this fault, and the last line is its text.
 fn ends_with(
     alloc: Global,
     update: &str,
@@ -84,7 +83,7 @@ fn ends_with(
     Ok(outcome == Some(Outcome::Faulty(fault)) && desk.messages().ends_with(line.as_bytes()))
 }
 
-/// Whether a session stops where this call of the link fails, and the last line is what this fault shows.
+/// Returns whether a session stops if this call of the link fails, and the last line is the text of this fault.
 fn stops_with(alloc: Global, call: u64, fault: HostFault) -> Result<bool, Fail> {
     let mut desk = MemDesk::new(alloc);
     let tape = TapeLink::new(alloc, answers_then(alloc, 63, &[])?, 281);
@@ -94,8 +93,8 @@ fn stops_with(alloc: Global, call: u64, fault: HostFault) -> Result<bool, Fail> 
     Ok(outcome == Some(Outcome::Stopped) && desk.messages().ends_with(line.as_bytes()))
 }
 
-// The faults of hosts follow, but for those of which no line is printed so: a read-only memory is refused before any
-// frame, and memory isn't. Each test has few of them, since its proof grows faster than their number.
+// The faults of a host follow, except two that no session brings about here: a read-only memory is refused before the
+// session, and memory doesn't run out.
 
 #[test]
 fn faults_of_the_line_show_as_their_lines(rt: HostRuntime) -> Result<(), Fail> {
@@ -138,7 +137,7 @@ fn another_byte_shows_as_its_line(rt: HostRuntime) -> Result<(), Fail> {
     Ok(())
 }
 
-/// After what the fault shows the line says which signature the part has.
+/// This line continues after the text of the fault: it also has the signature of the part.
 #[test]
 fn another_signature_shows_as_its_line(rt: HostRuntime) -> Result<(), Fail> {
     let alloc = rt.alloc();

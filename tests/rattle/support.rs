@@ -1,4 +1,4 @@
-//! What the tests share: words, desks, wires and their fates, runs, and looks at what came of them.
+//! Shared by the tests of whole runs: settings, desks, wires and their fates, runs, and checks of their results.
 
 use avr_cli::{Settings, read_settings, read_words};
 use avr_desk::{Desk, MemDesk};
@@ -11,8 +11,8 @@ use std::test::Fail;
 use stk_emu::{Fate, Fates, FatesFault, Wired};
 use stk_host::Link;
 
-/// A run: the words after the program's name and port, what goes to standard output, the messages without the
-/// program's name in front, and the status.
+/// A run: the arguments after the program's name and port, standard output, the messages without `avrstk: ` in front,
+/// and the status.
 #[derive(Drop)]
 pub(crate) struct Row {
     pub(crate) words: &'static [&'static str],
@@ -21,7 +21,7 @@ pub(crate) struct Row {
     pub(crate) status: u8,
 }
 
-/// A run that is over.
+/// A run that has ended.
 #[derive(Drop)]
 pub(crate) struct Over<D, L> {
     pub(crate) desk: D,
@@ -29,7 +29,7 @@ pub(crate) struct Over<D, L> {
     pub(crate) status: u8,
 }
 
-/// The settings of a command line with these words after the program's name and port.
+/// Reads the settings of a command line with these arguments after the program's name and port.
 pub(crate) fn settings_for(alloc: Global, words: &[&str]) -> Result<Settings, Fail> {
     let mut all: Vec<String> = Vec::new(alloc);
     for word in ["avrstk", "-P", "emu:chip.bin"] {
@@ -42,7 +42,7 @@ pub(crate) fn settings_for(alloc: Global, words: &[&str]) -> Result<Settings, Fa
     Ok(read_settings(alloc, &matches)?)
 }
 
-/// A desk with these files, each a name and its bytes.
+/// Returns a desk with these files, each a name and its bytes.
 pub(crate) fn desk_with(alloc: Global, files: &[(&str, &[u8])]) -> Result<MemDesk, Fail> {
     let mut desk = MemDesk::new(alloc);
     for (name, bytes) in files {
@@ -51,7 +51,7 @@ pub(crate) fn desk_with(alloc: Global, files: &[(&str, &[u8])]) -> Result<MemDes
     Ok(desk)
 }
 
-/// So many good fates, and then another.
+/// Returns `good` good fates, then `last`.
 pub(crate) fn fates(alloc: Global, good: usize, last: Fate) -> Result<Fates, FatesFault> {
     let mut fates = Fates::none(alloc);
     for _good in 0..good {
@@ -61,14 +61,14 @@ pub(crate) fn fates(alloc: Global, good: usize, last: Fate) -> Result<Fates, Fat
     Ok(fates)
 }
 
-/// A wire with these fates to a part that was never written.
+/// Returns a wire with these fates to a fresh chip.
 pub(crate) fn wire_to(alloc: Global, id: &str, fates: Fates) -> Result<Wired, Fail> {
     let part = Parts::none().find(id)?;
     let chip = Chip::fresh(alloc, part.copied())?;
     Ok(Wired::new(alloc, chip, fates))
 }
 
-/// Runs the tool with these words at a desk and over a link.
+/// Runs the tool with these arguments at a desk and over a link.
 pub(crate) fn run_on<D: Desk + Drop, L: Link + Drop>(
     alloc: Global,
     words: &[&str],
@@ -82,8 +82,8 @@ pub(crate) fn run_on<D: Desk + Drop, L: Link + Drop>(
     Ok(Over { desk, link, status })
 }
 
-/// Runs the tool with these words at a desk and over a line of these fates to a part that was never written, by the
-/// call of the headline. It says nothing of what came of it: whoever looks is spared the clauses of the whole.
+/// Runs the tool with these arguments at a desk, over a wire with these fates to a fresh chip, by `run_wired`, whose
+/// contract is the headline.
 pub(crate) fn run_wired_on(
     alloc: Global,
     id: &str,
@@ -99,7 +99,7 @@ pub(crate) fn run_wired_on(
     Ok(Over { desk, link, status })
 }
 
-/// The lines of messages, each with the program's name.
+/// Joins message lines, each with the program's name in front.
 pub(crate) fn printed(alloc: Global, lines: &[&str]) -> Result<Vec<u8>, Fail> {
     let mut bytes = Vec::new(alloc);
     for line in lines {
@@ -110,7 +110,7 @@ pub(crate) fn printed(alloc: Global, lines: &[&str]) -> Result<Vec<u8>, Fail> {
     Ok(bytes)
 }
 
-/// What was said, written and answered is what the row says.
+/// Checks that messages, standard output and status are those of the row.
 pub(crate) fn shows(
     rt: &impl Abort,
     alloc: Global,
@@ -124,7 +124,7 @@ pub(crate) fn shows(
     Ok(())
 }
 
-/// Runs a row at a desk and over a wire, and looks at what was said, written and answered.
+/// Runs a row at a desk and over a wire, and checks it.
 pub(crate) fn run_row(
     rt: &impl Abort,
     alloc: Global,
@@ -137,7 +137,7 @@ pub(crate) fn run_row(
     Ok(over)
 }
 
-/// The bytes of these frames, which are given in hexadecimal digits.
+/// Decodes and joins several frames in hexadecimal.
 pub(crate) fn joined(alloc: Global, frames: &[&str]) -> Result<Vec<u8>, Fail> {
     let mut bytes = Vec::new(alloc);
     for digits in frames {
@@ -146,7 +146,7 @@ pub(crate) fn joined(alloc: Global, frames: &[&str]) -> Result<Vec<u8>, Fail> {
     Ok(bytes)
 }
 
-/// Whether a memory of the chip begins with these bytes.
+/// Returns whether a memory of the chip begins with these bytes.
 pub(crate) fn holds(chip: &Chip, mem: Mem, bytes: &[u8]) -> bool {
     for (address, byte) in (0u32..4_096).zip(bytes) {
         if chip.byte(mem, address) != Some(*byte) {
@@ -156,7 +156,7 @@ pub(crate) fn holds(chip: &Chip, mem: Mem, bytes: &[u8]) -> bool {
     true
 }
 
-/// Whether each byte of these memories of the chip is FF.
+/// Returns whether every byte of these memories is FF.
 pub(crate) fn is_blank(chip: &Chip, mems: &[Mem]) -> bool {
     for mem in mems {
         for address in 0..chip.part().size_of(*mem) {
@@ -168,7 +168,7 @@ pub(crate) fn is_blank(chip: &Chip, mems: &[Mem]) -> bool {
     true
 }
 
-/// So many bytes, each the low byte of its address.
+/// Returns `size` bytes, each the low byte of its address.
 pub(crate) fn pattern(alloc: Global, size: u32) -> Result<Vec<u8>, AllocError> {
     let mut bytes = Vec::new(alloc);
     for n in 0..size {

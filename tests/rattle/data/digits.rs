@@ -1,12 +1,12 @@
-//! The worked session as hexadecimal digits; `runs` looks that these are its bytes.
+//! The worked session in hexadecimal. A test of `runs` compares it with the bytes.
 
-/// SIGN_ON, ENTER_PROGMODE_ISP and the three of READ_SIGNATURE_ISP.
+/// SIGN_ON, ENTER_PROGMODE_ISP and three READ_SIGNATURE_ISP.
 pub const OPENING: &str =
     "1B0100010E01141B02000C0E10C8641920005303AC530000311B0300060E1B04300000003F1B0400060E1B0430000100391B0500060E1B04300002003B";
 
 /// LEAVE_PROGMODE_ISP.
 pub const LEAVE: &str = "1B0600030E11010101";
 
-/// What a programmer with an ATmega328P answers to these six frames.
+/// The replies of a programmer with an ATmega328P to these six frames.
 pub const ANSWERS: &str =
     "1B01000B0E01000853544B3530305F32021B0200020E1000051B0300040E1B001E00171B0400040E1B0095009B1B0500040E1B000F00001B0600020E110000";

@@ -1,10 +1,10 @@
-//! A plain reader of record files: the whole text at once, a list of addresses and bytes.
+//! A plain reader of record files: it reads a whole text into a list of addresses and bytes.
 
 use avr_image::Image;
 use avr_records::{Ending, Kind, RecordFault};
 use std::alloc::{AllocError, Global};
 
-/// What the lines of a file say, one after another.
+/// What the lines read so far hold.
 #[derive(Drop)]
 pub(super) struct Slow {
     size: u64,
@@ -13,7 +13,7 @@ pub(super) struct Slow {
     records: u64,
     ending: Ending,
     fault: Option<RecordFault>,
-    /// In the order in which they are laid down.
+    /// In the order of the file; a later byte replaces an earlier one.
     bytes: Vec<(u64, u8)>,
 }
 
@@ -43,7 +43,7 @@ pub(super) fn slow_read(
     Ok(file)
 }
 
-/// A line without the spaces, tabs and returns at its end.
+/// Removes the spaces, tabs and carriage returns at the end of a line.
 fn trimmed(line: &[u8]) -> &[u8] {
     let mut end = 0;
     for (i, c) in line.iter().enumerate() {
@@ -54,7 +54,7 @@ fn trimmed(line: &[u8]) -> &[u8] {
     line.get(..end).unwrap_or(line)
 }
 
-/// The value of a hexadecimal digit.
+/// Returns the value of a hexadecimal digit.
 fn digit(c: u8) -> Option<u8> {
     match c {
         b'0'..=b'9' => Some(c - b'0'),
@@ -64,7 +64,7 @@ fn digit(c: u8) -> Option<u8> {
     }
 }
 
-/// The number that bytes spell, the high one first.
+/// Returns the number that these bytes form, the highest first.
 fn number_of(bytes: &[u8]) -> u64 {
     bytes.iter().fold(
         0u64,
@@ -73,7 +73,7 @@ fn number_of(bytes: &[u8]) -> u64 {
 }
 
 impl Slow {
-    /// Whether a reader answered the same.
+    /// Returns whether another reader returned the same.
     pub(super) fn is_same(&self, outcome: &Result<(Image, Ending), RecordFault>) -> bool {
         match (outcome, self.fault) {
             (Ok((image, ending)), None) => *ending == self.ending && self.is_image(image),
@@ -82,7 +82,7 @@ impl Slow {
         }
     }
 
-    /// Whether an image holds these bytes and no others.
+    /// Returns whether an image has these bytes and no others.
     fn is_image(&self, image: &Image) -> bool {
         for addr in 0..image.size() {
             let mut want = None;
@@ -226,7 +226,7 @@ impl Slow {
     }
 }
 
-/// The sum of bytes modulo 256.
+/// Returns the sum of these bytes modulo 256.
 fn low_sum(bytes: &[u8]) -> u8 {
     bytes
         .iter()
