@@ -1,11 +1,13 @@
 // crates: anyhow arrayvec avr_part stk_emu stk_frame stk_host
-//! A `Link` of one's own, for a device that the libraries don't know: here a bench with an emulated programmer, whose
-//! answers wait in a queue and are heard at most three bytes at a time.
+//! Implements [`Link`] for a device that these crates don't know. Here the device is a test bench: an emulated
+//! programmer whose replies wait in a queue and are received at most three bytes at a time.
 //!
-//! A link shows to contracts what passed (`talk`; this one keeps it in a `Log`) and how often it has failed, and it
-//! answers a fault only where it has counted one. Where it has failed nothing has passed.
+//! Contracts see two things of a link: the transcript of what was sent and received, which this one keeps in a [`Log`],
+//! and the count of its failures. So before a call returns a fault, the link counts it; the call has then sent and
+//! received nothing.
 //!
-//! What it prints is of the ATtiny85's data sheet: its signature, and 512 bytes of EEPROM, each FF where it is erased.
+//! The expected output is from the ATtiny85's data sheet: its signature, and 512 bytes of EEPROM, all FF after the
+//! erase.
 //= signature: 1E 93 0B
 //= eeprom: 512 bytes, 512 of them FF
 #![tactic(auto)]
@@ -17,11 +19,10 @@ use stk_emu::Emulator;
 use stk_frame::LARGEST_FRAME;
 use stk_host::{Heard, Host, Link, LinkFault, Log};
 
-/// How many bytes are heard at a time.
+/// The most bytes that are received at a time.
 const AT_MOST: usize = 3;
 
-/// A programmer on the bench, what it has answered, how much of that was heard, all that passed, and how often memory
-/// was refused.
+/// A programmer, its replies and how many of their bytes were received, the transcript, and the count of failures.
 #[derive(Drop)]
 struct Bench {
     emulator: Emulator,
@@ -32,7 +33,7 @@ struct Bench {
 }
 
 impl Bench {
-    /// Memory was refused.
+    /// Counts a failure and returns the fault; here the only failure is of allocation.
     fn failed<T>(&mut self) -> std::result::Result<T, LinkFault> {
         self.failures = self.failures.saturating_add(1);
         Err(LinkFault::Failed)

@@ -1,9 +1,9 @@
 // crates: anyhow avr_part stk_emu stk_frame
-//! Answers a client's bytes by an emulated programmer, as a double to test a client of one's own against: a good frame
-//! after noise, and one that was spoiled on its way.
+//! Replies to a client with an emulated programmer, as a test double for a client of your own. The client here sends
+//! noise, a good frame, and a frame that was corrupted on its way.
 //!
-//! What it prints was worked out by hand from AVR068: the good frame asks for the programmer's name, the spoiled one is
-//! answered with ANSWER_CKSUM_ERROR and STATUS_CKSUM_ERROR, and the XOR of the bytes of a frame is 00.
+//! The expected output was worked out by hand from AVR068. The good frame asks for the programmer's name. The reply to
+//! the corrupted one is ANSWER_CKSUM_ERROR with STATUS_CKSUM_ERROR. All bytes of a frame have the XOR 00.
 //= 1B 01 00 0B 0E 01 00 08 53 54 4B 35 30 30 5F 32 02 1B 02 00 02 0E B0 C1 64
 //= answer 1 is good
 //= answer 2: not good
@@ -15,7 +15,7 @@ use std::io::{self, Write};
 use stk_emu::Emulator;
 use stk_frame::{Answer, Command, Event, FrameReader};
 
-/// What the client sends: noise, SIGN_ON with the number 1, and with the number 2 SIGN_ON with a wrong XOR.
+/// What the client sends: noise, SIGN_ON with sequence number 1, and SIGN_ON with number 2 and a wrong XOR.
 const SENT: &[u8] = b"\x00\x1B\x01\x00\x01\x0E\x01\x14\x1B\x02\x00\x01\x0E\x01\x00";
 
 fn main(rt: HostRuntime) -> Result<()> {
@@ -28,7 +28,7 @@ fn main(rt: HostRuntime) -> Result<()> {
     read_answers(answers.as_slice(), &mut out)
 }
 
-/// What the client reads in these bytes, as the answers to SIGN_ON.
+/// Reads these bytes as the client does, and prints for each frame whether it is a good reply to SIGN_ON.
 fn read_answers<W: Write>(bytes: &[u8], out: &mut W) -> Result<()> {
     let mut reader = FrameReader::new();
     let mut used = 0;

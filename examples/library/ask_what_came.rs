@@ -1,9 +1,10 @@
 // crates: anyhow avr_tool
-//! Compares a chip with a file, and asks for the fault by its type, as a program does that shows where they differ: the
-//! settings become a plan, and its session answers an outcome in place of a status.
+//! Compares a chip with a file, and gets the fault as a value: a program can so show where the two differ. `plan` turns
+//! settings into a plan; `drive_outcome` runs its session and returns an `Outcome`, which has more than the exit
+//! status.
 //!
-//! What it prints was worked out by hand: the flash of a fresh chip is FF everywhere, and so are the file's first two
-//! bytes; the messages are those of docs/USAGE.
+//! The expected output was worked out by hand: the flash of a fresh chip is all FF, and so are the file's first two
+//! bytes. The messages are those of docs/USAGE.
 //= flash differs at byte 2: 03 wanted, FF found
 //= status 1
 //= avrstk: device signature = 1E 95 0F
@@ -44,7 +45,7 @@ fn main(rt: HostRuntime) -> Result<()> {
     Ok(())
 }
 
-/// The words, as a program has them.
+/// Returns the arguments as a program gets them.
 fn words(alloc: Global) -> Result<Vec<String>> {
     let mut words = Vec::new(alloc);
     for word in WORDS {

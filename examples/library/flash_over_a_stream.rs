@@ -1,9 +1,9 @@
 // crates: anyhow avr_image avr_part stk_frame stk_host
-//! Flashes two bytes by a `Host` over a reader and a writer, as the two sides of a serial port or a socket; here they
-//! are bytes and a `Vec`, so what the host sent can be looked at.
+//! Flashes two bytes with a [`Host`] over any reader and writer, such as the two directions of a serial port or a
+//! socket. Here they are bytes and a `Vec`, so the program can print the frames that it sent.
 //!
-//! What it prints, and the answers that it reads, were worked out by hand from AVR068 and the ATtiny85's data sheet
-//! (signature 1E 93 0B, pages of 64 bytes): a line is a frame's number and the prefix of its body.
+//! The replies and the expected output were worked out by hand from AVR068 and the ATtiny85's data sheet (signature
+//! 1E 93 0B, pages of 64 bytes). Each line has a frame's number and the first bytes of its body.
 //= signature: 1E 93 0B
 //= 1: 01
 //= 2: 10 C8 64 19 20 00 53 03 AC 53 00 00
@@ -23,11 +23,11 @@ use std::io::{self, Write};
 use stk_frame::{Event, FrameReader};
 use stk_host::{Host, StreamLink};
 
-/// How many bytes of a body are printed.
+/// The most bytes of a body that are printed.
 const SHOWN: usize = 14;
 
-/// What the programmer answers: its name, that programming mode is entered, three bytes of the signature, and that the
-/// chip is erased, the address loaded, the page written and programming mode left.
+/// The replies of the programmer: its name, programming mode entered, three bytes of the signature, chip erased,
+/// address loaded, page written, programming mode left.
 const ANSWERS: &[u8] = b"\x1B\x01\x00\x0B\x0E\x01\x00\x08STK500_2\x02\
     \x1B\x02\x00\x02\x0E\x10\x00\x05\
     \x1B\x03\x00\x04\x0E\x1B\x00\x1E\x00\x17\
@@ -54,7 +54,7 @@ fn main(rt: HostRuntime) -> Result<()> {
     print_frames(sent.as_slice(), &mut io::writer(&rt))
 }
 
-/// Prints the good frames among some bytes, a line each.
+/// Prints a line for each good frame in these bytes.
 fn print_frames<W: Write>(bytes: &[u8], out: &mut W) -> Result<()> {
     let mut reader = FrameReader::new();
     let mut used = 0;

@@ -1,9 +1,9 @@
 // crates: anyhow avr_image avr_records
-//! Lays a patch in S-records over a firmware in Intel HEX, puts a serial number into it, and prints what comes of that
-//! as Intel HEX, with only the bytes that are there.
+//! Merges a patch in S-records into a firmware in Intel HEX, adds a serial number, and prints the result as Intel HEX.
+//! An image knows which bytes it has, so only these are written.
 //!
-//! What it prints was worked out by hand: in Intel HEX the bytes of a line add up to 00 with their checksum, in
-//! S-records to FF.
+//! The expected output was worked out by hand. With its checksum, the bytes of a line add up to 00 in Intel HEX, and to
+//! FF in S-records.
 //= two bytes hide others, the first at 0x2: 03
 //= :040000000102AABB94
 //= :0401000011121314B1
@@ -17,7 +17,7 @@ use avr_records::{Kind, Writer, detect, read_records};
 use std::alloc::Global;
 use std::io::{self, BufWriter, Write};
 
-/// How many bytes of flash memory an ATmega328P has.
+/// The size of an ATmega328P's flash memory in bytes.
 const SIZE: u32 = 32_768;
 
 const FIRMWARE: &[u8] = b":0400000001020304F2\n:0401000011121314B1\n:00000001FF\n";
@@ -38,7 +38,7 @@ fn main(rt: HostRuntime) -> Result<()> {
     Ok(())
 }
 
-/// The image of a record file of either kind.
+/// Reads a record file; its kind is detected.
 fn read_image(alloc: Global, text: &[u8]) -> Result<Image> {
     let Some(kind) = detect(text).kind() else {
         bail!("this is no record file");

@@ -1,9 +1,8 @@
 // crates: anyhow avr_part
-//! Plays the chip of an ATmega328P by the serial programming instructions of its data sheet, and looks into all of its
-//! memories.
+//! Sends serial programming instructions to an emulated ATmega328P, and prints the size of each of its memories.
 //!
-//! What it prints is of that data sheet: the second byte of Programming Enable comes back in the third one, the
-//! signature is 1E 95 0F, what is written to a page is read back, and the sizes are those of its memories.
+//! The expected output is from the data sheet: the third byte of the reply to Programming Enable is the second one
+//! sent, the signature is 1E 95 0F, a written page reads back, and the memories have these sizes.
 //= enabled: 53
 //= signature: 1E 95 0F
 //= word 0: 940C
@@ -44,7 +43,7 @@ fn main(rt: HostRuntime) -> Result<()> {
     Ok(())
 }
 
-/// Loads the page buffer's first word, and writes the first page of flash memory.
+/// Loads the first word of the page buffer, then writes the first page of flash memory.
 fn write_first_word(chip: &mut Chip, low: u8, high: u8) {
     chip.spi([0x40, 0x00, 0x00, low]);
     chip.spi([0x48, 0x00, 0x00, high]);

@@ -1,9 +1,10 @@
 // crates: anyhow avr_tool
-//! Does what a command line of `avrstk` does, with files, messages and the programmer in memory: the words become
-//! settings by `asked`, and these a run over a link by `run`. The port `stdio:` stands for any link that is passed.
+//! Runs a command line of `avrstk` with files, messages and the programmer in memory, so that a test needs no process
+//! and no files. `asked` reads the settings from the arguments, and `run` carries them out over the link that it is
+//! given. The arguments name the port `stdio:`, which stands for that link.
 //!
-//! What it prints was worked out by hand: the fuse is the byte that was written, in the format of docs/FORMATS, and the
-//! messages are those of docs/USAGE.
+//! The expected output was worked out by hand: the fuse is the byte that was written, in the format of docs/FORMATS,
+//! and the messages are those of docs/USAGE.
 //= status 0
 //= fuse.txt: 0xe2
 //= avrstk: device signature = 1E 95 0F
@@ -54,7 +55,7 @@ fn main(rt: HostRuntime) -> Result<()> {
     Ok(())
 }
 
-/// The words, as a program has them.
+/// Returns the arguments as a program gets them.
 fn words(alloc: Global) -> Result<Vec<String>> {
     let mut words = Vec::new(alloc);
     for word in WORDS {

@@ -1,9 +1,9 @@
 // crates: anyhow avr_part stk_emu
-//! A client of one's own that knows `Read` and `Write` and nothing of these crates, tried against an emulated programmer
-//! in place of a serial port.
+//! Tests a client that uses only `Read` and `Write`, and knows nothing of these crates. An emulated programmer takes
+//! the place of the serial port.
 //!
-//! What it prints is of AVR068: the answer to SIGN_ON has 17 bytes, the last eight in front of the XOR are the
-//! programmer's name, and nobody speaks who wasn't asked.
+//! The expected output is from AVR068: the reply to SIGN_ON has 17 bytes, the eight before the XOR are the programmer's
+//! name, and a programmer sends nothing unasked.
 //= programmer: STK500_2
 //= nothing more
 #![tactic(auto)]
@@ -13,10 +13,10 @@ use avr_part::{Chip, Parts};
 use std::io::{self, ErrorKind, Read, Write};
 use stk_emu::{EmulatedPort, Emulator};
 
-/// SIGN_ON with the number 1.
+/// SIGN_ON with sequence number 1.
 const SIGN_ON: &[u8] = b"\x1B\x01\x00\x01\x0E\x01\x14";
 
-/// The client: signs on, and gives the answer.
+/// The client: sends SIGN_ON and returns the reply.
 fn sign_on<P: Read + Write>(port: &mut P) -> io::Result<[u8; 17]> {
     port.write_all(SIGN_ON)?;
     port.flush()?;

@@ -1,8 +1,9 @@
 // crates: anyhow avr_image avr_part stk_emu stk_host
-//! Programs a part by a `Host` over a wire that loses the first answer, verifies it, and finds a byte that differs.
+//! Programs and verifies a part with a [`Host`], over a wire that loses the first reply. Then it changes a byte of the
+//! image, and verifying again finds that byte.
 //!
-//! What it prints was worked out by hand: the signature is the data sheet's, the bytes are those that were written, FF
-//! stands where nothing was, and the first question of AVR068, whose answer is lost, is asked twice.
+//! The expected output was worked out by hand. The signature is from the data sheet, and a byte that was never written
+//! is FF. SIGN_ON (01), the first command, is sent twice because its reply is lost.
 //= signature: 1E 95 0F
 //= asked first: 01, asked then: 01
 //= verified
@@ -26,7 +27,7 @@ fn main(rt: HostRuntime) -> Result<()> {
     let mut host = Host::new(&part);
     let [first, second, third] = host.open(&mut wire, false)?;
     println!(rt; "signature: {first:02X} {second:02X} {third:02X}")?;
-    // a frame of one byte has its body after the start byte, the number, the size and the token
+    // SIGN_ON has 7 bytes; its body is byte 5, after the start byte, the number, two bytes of length and the token
     let sent = wire.sent();
     println!(rt; "asked first: {:02X}, asked then: {:02X}", sent[5], sent[12])?;
     let mut image = Image::new(alloc, part.size_of(Mem::Flash))?;

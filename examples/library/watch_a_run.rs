@@ -1,14 +1,13 @@
 // crates: anyhow avr_tool
-//! Watches a run, as a program with a window does: it shows how far the run is, in percent, and the messages as they
-//! come.
+//! Shows the progress of a run in percent, and its messages as they are printed, as a program with a window does.
 //!
-//! A desk and a link are each put into one that tells a watcher of its calls; the run is the same. How many frames the
-//! plan asks for is known before the first one is sent. What the watchers make of what they are told no proof asks here,
-//! so each says `Unit {0}` of it.
+//! `WatchedDesk` and `WatchedLink` wrap a desk and a link, and report each call to a watcher; the run is the same.
+//! `frame_count` returns the number of frames before the first one is sent. Nothing is proved about these watchers, so
+//! their `after` is `Unit {0}`.
 //!
-//! What it prints was worked out by hand: by docs/PROTOCOL five frames open a session (SIGN_ON, ENTER_PROGMODE and three
-//! bytes of the signature), a fuse is written by one and read by one, and one leaves; the messages are those of
-//! docs/USAGE.
+//! The expected output was worked out by hand from docs/PROTOCOL. Five frames open a session: SIGN_ON, ENTER_PROGMODE
+//! and three for the signature. One frame writes the fuse, one reads it, and one leaves programming mode. The messages
+//! are those of docs/USAGE.
 //= opened fuse.hex
 //= 12% 25% 37% 50% 62% avrstk: device signature = 1E 95 0F
 //= 75% avrstk: lfuse: 1 bytes written
@@ -27,7 +26,7 @@ use std::io::{self, Write};
 
 const WORDS: [&str; 7] = ["avrstk", "-P", "stdio:", "-p", "m328p", "-U", "lfuse:w:fuse.hex"];
 
-/// How far a run is, shown on a writer: how many frames were sent, of how many.
+/// Writes how much of a run is done: `sent` of `all` frames.
 #[derive(Drop)]
 struct Progress<W> {
     out: W,
@@ -46,7 +45,7 @@ impl<W: Write> WatchLink for Progress<W> {
     }
 }
 
-/// What is shown beside it.
+/// Writes the messages, and the names of files that are opened.
 #[derive(Drop)]
 struct Notes<W> {
     out: W,
@@ -87,7 +86,7 @@ fn main(rt: HostRuntime) -> Result<()> {
     Ok(())
 }
 
-/// The words, as a program has them.
+/// Returns the arguments as a program gets them.
 fn words(alloc: Global) -> Result<Vec<String>> {
     let mut words = Vec::new(alloc);
     for word in WORDS {
