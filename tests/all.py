@@ -140,7 +140,7 @@ def build():
 
 
 def current():
-    """Whether ./avrstk has a program to run."""
+    """Returns whether ./avrstk has a program to run."""
     return subprocess.run(["./avrstk", "--which"], cwd=TOP, capture_output=True).returncode == 0
 
 

@@ -52,7 +52,7 @@ def writes_fuse(value):
 
 
 def is_good(what, found):
-    """Whether a run succeeded, and the new file is gone."""
+    """Returns whether a run succeeded, and the new file is gone."""
     see(what, found[0] == 0, found)
     same(f"{what}: no file is left beside the chip", room.read(NEW_FILE), None)
 

@@ -78,7 +78,7 @@ HARMLESS = [("read", "interrupt"), ("read", "one"), ("write", "interrupt"), ("wr
 
 
 class Sweep:
-    """The runs with some options, with one call refused in each."""
+    """Makes runs with these options, with one call refused in each."""
 
     def __init__(self, room, shim, label, words, given, status=0):
         self.room, self.shim, self.label, self.words, self.given = room, shim, label, words, given
@@ -116,7 +116,7 @@ class Sweep:
             counts["unneeded" if is_sound else "told"] += 1
 
     def is_told(self, kind, how, status, output, messages, chip, read_file):
-        """Whether a failed run reports the failure, and reports each half-written file."""
+        """Returns whether a failed run reports the failure and each half-written file."""
         refused = Path(self.room.read("refused").decode())
         # (the folder is synced after the chip is in place)
         file = "chip.bin" if refused == self.room.folder.resolve() else refused.name.removesuffix(".avrstk-new")
@@ -132,7 +132,7 @@ class Sweep:
 
 
 class Serving(Sweep):
-    """The emulated programmer served to a caller that runs a session, and the chip file that it leaves."""
+    """Serves the emulated programmer to a caller that runs a session, and keeps the chip file that is left."""
 
     def done(self, refused=None):
         self.room.clear()
@@ -146,7 +146,7 @@ class Serving(Sweep):
 
 
 def heard_from(server):
-    """Returns the replies of a serving program to the frames of a session, as far as they come."""
+    """Sends the frames of a session, and returns the replies up to the end of the connection."""
     heard = b""
     try:
         with caller_of(server) as caller:
@@ -173,14 +173,14 @@ def caller_of(server):
 
 
 def is_front_and_line(said, sound, line, may_stop):
-    """Whether it is a prefix of an undisturbed run's messages, then the error line, or part of it if `may_stop`."""
+    """Returns whether these are a prefix of an undisturbed run's messages, then the error line, or part of it if `may_stop`."""
     if may_stop and sound.startswith(said):
         return True
     return any(sound.startswith(said[:end]) and is_front_of_error(said[end:], line.encode(), may_stop) for end in range(len(said) + 1))
 
 
 def is_front_of_error(said, line, may_stop):
-    """Whether it is this error line, or a prefix of it if `may_stop`."""
+    """Returns whether this is the error line, or a prefix of it if `may_stop`."""
     whole = b"avrstk: error: " + line + b"\n"
     return said == whole or (may_stop and whole.startswith(said))
 
@@ -201,7 +201,7 @@ class OverNet(Sweep):
 
 
 def is_on_its_way(old, chip, end):
-    """Whether a chip is whole and as an interrupted run may leave it: each byte is the old one, an erased one, or that of
+    """Returns whether an interrupted run may leave this chip: it is whole, and each byte is the old one, FF, or that of
     the run's end."""
     if old is None or chip is None or len(chip) != len(old):
         return False

@@ -1,16 +1,16 @@
 #!/usr/bin/env python3
-"""How large the project is and how it reads: what can be counted in its sources.
+"""Counts how large the sources are and how they read.
 
-    tests/measure.py            the table, which docs/ARCHITECTURE has too
-    tests/measure.py -v         also the places: lines over 120 columns, the widest definitions, names with several meanings
-    tests/measure.py --write    puts it into docs/ARCHITECTURE
-    tests/measure.py --check    whether it is there, and whether no document has a sentence over 30 words
+    tests/measure.py            prints the table that docs/ARCHITECTURE has
+    tests/measure.py -v         also lists lines over 120 columns, the widest definitions, and names with several meanings
+    tests/measure.py --write    writes the table into docs/ARCHITECTURE
+    tests/measure.py --check    fails if the table there is out of date, or if a document has a sentence over 30 words
     tests/measure.py --words    counts words that the style rules of CONTRIBUTING avoid, and long sentences of documents
 
-Only files that git knows of are read. Lines of code are those of src/ without tests, blank lines, comments and contracts;
-contracts are the clauses of functions, definitions specs/, proofs proofs/, each without blank lines, comments and `use`
-lines. Wide lines have more than 120 columns; imports aside. A clause is one `requires` or `ensures`; the mean is over
-public functions. A definition is as wide as it has explicit arguments.
+Only files known to git are read. Code is counted in src/, without tests and contracts. Contracts are the clauses of
+functions, definitions are in specs/, and proofs in proofs/. Blank lines, comments and `use` lines are never counted. Wide
+lines have more than 120 columns, except imports. A clause is one `requires` or `ensures`; the mean is over public
+functions. The width of a definition is the number of its explicit arguments.
 """
 
 import re
@@ -35,14 +35,14 @@ TEST = re.compile(r"/src/(?:.*/)?(?:\w*tests?|examples)(?:/|\.rt)")
 AVOIDED = ["answers", "where", "stands", "so many", "told", "tell", "tells", "says", "is none"]
 LONG = 30
 COMMENT = {".rt": re.compile(r"^\s*//[/!]?(.*)"), ".antt": re.compile(r"^\s*--(.*)")}
-# what isn't prose: code blocks, tables, titles
+# code blocks, tables and titles, which aren't prose
 NO_PROSE = re.compile(r"^```.*?^```|^(?:\||#|    ).*?$", re.MULTILINE | re.DOTALL)
 PARAGRAPH = re.compile(r"\n\s*\n|\n(?=\s*(?:[-*]|\d+\.) )")
 SENTENCE = re.compile(r"(?<=[.!?])[*_)\"]*\s+(?=[*_(`\"]*[A-Z`\[])")
 
 
 def known_files():
-    """The files of each crate that isn't one of tests, by its name."""
+    """Returns the files of each crate, except crates of tests."""
     listed = subprocess.run(["git", "-C", TOP, "ls-files", "crates"], capture_output=True, text=True, check=True)
     crates = defaultdict(list)
     for name in listed.stdout.splitlines():
@@ -57,7 +57,7 @@ def lines_of(name):
 
 
 def is_text(line, name):
-    """Whether a line counts: neither blank nor a comment nor an import."""
+    """Returns whether a line counts: it isn't blank, a comment or an import."""
     line = line.strip()
     if name.endswith(".antt"):
         return bool(line) and not line.startswith(("--", "use ", "pub use ", "pub mod "))
@@ -69,7 +69,7 @@ def depth(line):
 
 
 def clauses_in(name):
-    """The lines of clauses in a file of src/, and for each function whether it is public and how many clauses it has."""
+    """Returns the lines of clauses in a file of src/, and for each function whether it is public and its number of clauses."""
     contract, functions, open_braces = [], [], 0
     for line in lines_of(name):
         function = FUNCTION.match(line)
@@ -84,7 +84,7 @@ def clauses_in(name):
 
 
 def definitions_in(name):
-    """The definitions of a file of specs/: name, kind, arguments and text of each."""
+    """Returns the definitions of a file of specs/: the name, kind and text of each."""
     found, block = [], None
     for line in lines_of(name):
         header = HEADER.match(line)
@@ -99,7 +99,7 @@ def definitions_in(name):
 
 
 def without_nested(text):
-    """A type without the text in parentheses and braces, but a mark for each explicit binder."""
+    """Returns a type without the text in parentheses and braces, with a mark for each explicit binder."""
     kept, level, group = "", 0, ""
     for character in text:
         if character in "({":
@@ -119,7 +119,7 @@ def without_nested(text):
 
 
 def arguments_of(name, kind, text):
-    """How many explicit arguments a definition takes."""
+    """Returns the number of explicit arguments of a definition."""
     if kind:
         head = text.split(" where", 1)[0].split(name, 1)[1]
         return without_nested(head.rsplit(" : ", 1)[0]).count("#")
@@ -137,7 +137,7 @@ def arguments_of(name, kind, text):
 
 
 def measured(name):
-    """What one crate comes to."""
+    """Returns the figures of a crate."""
     code = contracts = definitions = proofs = over_in_proofs = 0
     over, widest, longest, clauses = [], 0, 0, []
     for file in CRATES[name]:
@@ -169,7 +169,7 @@ def measured(name):
 
 
 def meanings():
-    """Names that are defined in more than one file of specs/, with another text in each."""
+    """Returns the names that several files of specs/ define with different texts, with their places."""
     texts = defaultdict(dict)
     for name, files in CRATES.items():
         for file in files:
@@ -180,8 +180,8 @@ def meanings():
 
 
 def types():
-    """Names of types, of the sources or of definitions, that more than one crate has; a definition and a type of one
-    crate that have a name in common are taken to be one."""
+    """Returns the names of types that several crates have, in sources or definitions, with these crates. If a crate has a
+    type and a definition of one name, they count as one."""
     places = defaultdict(set)
     for name, files in CRATES.items():
         for file in files:
@@ -193,7 +193,7 @@ def types():
 
 
 def figures():
-    """The table, a line for each crate, and how many names have several meanings."""
+    """Returns the table, with a row for each crate, and the two counts of names."""
     titles = ["Crate", "Code", "Contracts", "Definitions", "Proofs", "Wide lines", "in proofs", "Longest clause line",
               "Clauses, mean", "Clauses, most", "Widest definition"]
     rows = {name: measured(name) for name in CRATES}
@@ -207,7 +207,7 @@ def figures():
 
 
 def with_figures(page):
-    """The page with the table and the count in their places."""
+    """Returns the page with the current table and counts."""
     table, several, shared = figures()
     head, rest = page.split("| Crate | Code |", 1)
     behind = rest.split("\n\n", 1)[1]
@@ -216,26 +216,26 @@ def with_figures(page):
 
 
 def documents():
-    """The documents, by their names."""
+    """Returns the names of all documents."""
     listed = subprocess.run(["git", "-C", TOP, "ls-files", "*.md"], capture_output=True, text=True, check=True)
     return [name for name in listed.stdout.splitlines() if (TOP / name).exists()]
 
 
 def comments_in(name):
-    """The comments of a source, joined."""
+    """Returns the comments of a source as one text."""
     found = map(COMMENT[Path(name).suffix].match, lines_of(name))
     return " ".join(it.group(1) for it in found if it)
 
 
 def long_sentences(name):
-    """The sentences of a document with more than 30 words."""
+    """Returns the sentences of a document with more than 30 words."""
     prose = NO_PROSE.sub("\n\n", (TOP / name).read_text())
     sentences = [it for paragraph in PARAGRAPH.split(prose) for it in SENTENCE.split(" ".join(paragraph.split()))]
     return [it for it in sentences if len(it.split()) > LONG]
 
 
 def words():
-    """How often documents and comments have each avoided word, and the long sentences of each document."""
+    """Prints how often documents and comments have each avoided word, and counts the long sentences of each document."""
     texts = {
         "documents": " ".join((TOP / name).read_text() for name in documents()),
         "comments": " ".join(comments_in(name) for files in CRATES.values() for name in files),

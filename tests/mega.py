@@ -38,7 +38,7 @@ def updates(*texts):
 
 
 class Board:
-    """The board at a port of its own. Its flash outside the boot section has this content."""
+    """A simulated board at a port of its own. Its flash outside the boot section has this content."""
 
     def __init__(self, content=b""):
         self.room = Room()

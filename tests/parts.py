@@ -78,7 +78,7 @@ def bits(text):
 
 
 def fits(text, sent):
-    """Whether these first bytes match the operation, except for the bits that it leaves open."""
+    """Returns whether these first bytes match the operation, except for the bits that it leaves open."""
     wanted = "".join(f"{byte:08b}" for byte in sent)
     letters = bits(text)
     return len(letters) == 32 and all(it in (bit, "x", "a", "i", "o") for it, bit in zip(letters, wanted))
@@ -271,7 +271,7 @@ def session(room, short, fields, part):
 
 
 def has_sources():
-    """Whether both sources are installed; reports it if not."""
+    """Returns whether both sources are installed; reports it if not."""
     if shutil.which("avrdude") and shutil.which("avr-gcc") and HEADERS.is_dir():
         return True
     return leave_out("what needs two sources", "avrdude, or avr-gcc with avr-libc, is not installed")

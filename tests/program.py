@@ -54,7 +54,7 @@ CHIP_FILE = 33_796
 
 
 def has_avrdude():
-    """Whether AVRDUDE is installed, in the version that README and docs describe."""
+    """Returns whether AVRDUDE is installed, in the version that README and docs describe."""
     try:
         ran = subprocess.run(["avrdude", "-?"], capture_output=True, text=True)
     except FileNotFoundError:
@@ -150,7 +150,7 @@ class Server:
             self.wait_until_listens()
 
     def listens(self):
-        """Whether a process listens at the port (state 0A). This makes no call, because the first caller is the one served."""
+        """Returns whether a process listens at the port (state 0A). It doesn't call, because the first caller is served."""
         return f" 0100007F:{self.port:04X} 00000000:0000 0A " in Path("/proc/net/tcp").read_text()
 
     def wait_until_listens(self):

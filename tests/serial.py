@@ -42,7 +42,7 @@ boards = itertools.count()
 
 
 def is_open(line):
-    """Whether the other end of a pseudo terminal is open."""
+    """Returns whether the other end of a pseudo terminal is open."""
     look = select.poll()
     look.register(line)
     return not any(what & select.POLLHUP for _, what in look.poll(0))
