@@ -32,25 +32,18 @@ struct Bench {
     failures: u64,
 }
 
-impl Bench {
-    /// Counts a failure and returns the fault; here the only failure is of allocation.
-    fn failed<T>(&mut self) -> std::result::Result<T, LinkFault> {
-        self.failures = self.failures.saturating_add(1);
-        Err(LinkFault::Failed)
-    }
-}
-
 impl Link for Bench {
-    ghost view = { λ bench. record { talk = bench.passed.talk; failures = bench.failures } };
+    ghost view = { λ bench. record { transcript = bench.passed.transcript; failures = bench.failures } };
 
     ghost Start = { Unit {0} };
 
     ghost comes_of = { λ start bench. Unit {0} };
 
     fn send(&mut self, bytes: &[u8]) -> std::result::Result<usize, LinkFault> {
-        if self.passed.reserve(bytes.len()).is_err() || self.answered.reserve(LARGEST_FRAME).is_err() {
-            return self.failed();
-        }
+        let (Ok(()), Ok(())) = (self.passed.reserve(bytes.len()), self.answered.reserve(LARGEST_FRAME)) else {
+            self.failures = self.failures.saturating_add(1);
+            return Err(LinkFault::Failed);
+        };
         let mut answer: ArrayVec<u8, LARGEST_FRAME> = ArrayVec::new();
         let used = self.emulator.feed(bytes, &mut answer);
         let _there_is_room = self.answered.extend_from_slice(answer.as_slice());
@@ -59,14 +52,15 @@ impl Link for Bench {
     }
 
     fn recv(&mut self, buffer: &mut [u8]) -> std::result::Result<Heard, LinkFault> {
-        let waits = &self.answered.as_slice()[self.heard..];
+        let waits = self.answered.as_slice().get(self.heard..).unwrap_or(&[]);
         let count = buffer.len().min(waits.len()).min(AT_MOST);
         buffer[..count].copy_from_slice(&waits[..count]);
         let heard = if count == 0 { Heard::Silence } else { Heard::Bytes(count) };
-        if self.passed.hear(heard, buffer).is_err() {
-            return self.failed();
-        }
-        self.heard += count;
+        let Ok(()) = self.passed.hear(heard, buffer) else {
+            self.failures = self.failures.saturating_add(1);
+            return Err(LinkFault::Failed);
+        };
+        self.heard = self.heard.saturating_add(count);
         Ok(heard)
     }
 }
