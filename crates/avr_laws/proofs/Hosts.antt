@@ -2,4 +2,5 @@
 pub mod AnyTurn
 pub mod Attempts
 pub mod Operations
+pub mod Outputs
 pub mod FrameSizes
