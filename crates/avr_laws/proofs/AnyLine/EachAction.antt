@@ -25,7 +25,8 @@ use Rattle.avr_laws.proofs.AnyLine.FirstSteps.{Rests, rests_here, rests_before, 
 use Rattle.avr_laws.proofs.Given.Comparisons.{signature_taken}
 use Rattle.avr_laws.proofs.Hosts.AnyTurn.{Keeps}
 use Rattle.avr_laws.proofs.Hosts.Operations.{AfterCall, operation_goes, beginning_goes}
-use Rattle.avr_laws.proofs.Hosts.Outputs.{Spot, Runs, AllTrue, Prints, stops, prints_reported, prints_then, prints_wider}
+use Rattle.avr_laws.proofs.Hosts.OneLine.{Spot, Runs}
+use Rattle.avr_laws.proofs.Hosts.Outputs.{AllTrue, Prints, stops, prints_reported, prints_then, prints_wider}
 use Rattle.avr_laws.proofs.Leads.{Reached, AfterBeginning}
 use Rattle.avr_laws.proofs.Plans.Calls.{Outcome, outcome_of, call_of, outcome_says, dialog_is, expected_is, IsOperation, is_operation}
 use Rattle.avr_laws.proofs.Plans.Fits.{FitsAction, AllFitActions, action_items_fit}
@@ -48,7 +49,7 @@ module _ (part : Part) (s : Switches) (At : Memories → Spot → Type 0) (Fails
       × RestsIn part (action_items action) m z))
 
   abbrev pub Comes : Action → Memories → Spot → Type 0
-  Comes action m z = Runs (λ y. RestsIn part (action_items action) m y) (Came action m) (call_of part s action) z
+  Comes action m z = Runs device (λ y. RestsIn part (action_items action) m y) (Came action m) (call_of part s action) z
 
   -- what the expected run has at this moment
   pub record Own (c : Expected) (at : Standing) (said : List OutputEvent) (z : Spot) : Type 0 where
@@ -85,7 +86,7 @@ module _ (part : Part) (s : Switches) (At : Memories → Spot → Type 0) (Fails
     pub idle : (m : Memories) (z : Spot) → At m z → Idle part m z.0
     pub calls : (action : Action) (m : Memories) (z : Spot) → FitsAction part action → FitsPart part m → At m z
         → Comes action m z
-    pub closes : (m : Memories) (z : Spot) → At m z → Runs (λ y. Idle part m y.0) (λ r y. Idle part m y.0
+    pub closes : (m : Memories) (z : Spot) → At m z → Runs device (λ y. Idle part m y.0) (λ r y. Idle part m y.0
         × ((r ≡ Ok tt) ⊎ (Fails × ((fault : StepFault) × (r ≡ Err (host_fault fault)))))) closing z
 
 module _ (part : Part) (sound : IsPart part) (s : Switches) where

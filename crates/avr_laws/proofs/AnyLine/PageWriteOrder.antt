@@ -36,7 +36,8 @@ use Rattle.avr_laws.proofs.AnyLine.FirstSteps.{Rests, rests_here, effects_sizes}
 use Rattle.avr_laws.proofs.AnyLine.Sessions.{anyhow}
 use Rattle.avr_laws.proofs.AnyLine.EachAction.{ComesAnyhow, AfterOne, fault_told, action_prints, operation_comes, opening_comes}
 use Rattle.avr_laws.proofs.Hosts.Operations.{along_told, closing_goes}
-use Rattle.avr_laws.proofs.Hosts.Outputs.{Spot, AllTrue, Prints, on_line, stops, at_moment, prints_reported, prints_then, prints_wider}
+use Rattle.avr_laws.proofs.Hosts.OneLine.{Spot, on_line}
+use Rattle.avr_laws.proofs.Hosts.Outputs.{AllTrue, Prints, stops, at_moment, prints_reported, prints_then, prints_wider}
 use Rattle.avr_laws.proofs.PageWrites.Steps.{leave_fits}
 use Rattle.avr_laws.proofs.Plans.Calls.{outcome_of, outcome_says}
 use Rattle.stk_emu.proofs.Answers.Commands.{settled_idle}
@@ -66,8 +67,8 @@ module _ (part : Part) (sound : IsPart part) (s : Switches) where
       → Leads device (action_dialog part s action) p turns (Rests part (all_steps part (action_items action)) m)
       (λ at q. at ≡ Fine → Settled part (effects part (action_items action) m) q)
   action_leads action m p turns fits f comes = record {
-    during = λ k. (at_moment Anything (λ at said z x. x.0) k prints).0;
-    after = λ k at e fine. elim ((at_moment Anything (λ at said z x. x.0) k prints).1 at e).1 [
+    during = λ k. (at_moment Anything (λ at said z x. x.0) k prints).now;
+    after = λ k at e fine. elim ((at_moment Anything (λ at said z x. x.0) k prints).after at e).1 [
       | inl own ↦ own.left
       | inr broken ↦ absurd (broken.faulty fine)
     ];
@@ -81,7 +82,7 @@ module _ (part : Part) (sound : IsPart part) (s : Switches) where
             λ q is. any_outputs (outcome_says part s action (outcome_of part action m)) q,
             λ fault q. any_outputs (fault_told part s fault) q,
           )
-          (on_line comes))
+          (on_line device comes))
 
   makes_action : (action : Action) (m : Memories) → FitsAction part action → FitsPart part m
       → Strikes part m (action_items action) (action_made part action) (action_dialog part s action)
@@ -127,7 +128,7 @@ module _ (part : Part) (sound : IsPart part) (s : Switches) where
     closing_keeps : (outcome_says : Result ⊤ HostFault → List OutputEvent) (z : Spot) → Idle part m z.0
         → Kept (reported closing outcome_says) z
     closing_keeps outcome_says z i =
-        prints_reported Anything outcome_says (on_line (closing_goes (Idle part m) (leave_fits part m) z.0 i))
+        prints_reported Anything outcome_says (on_line device (closing_goes (Idle part m) (leave_fits part m) z.0 i))
         (λ y i. i) (λ r y x. (any_outputs (outcome_says r) y.0, x.0))
 
     ending_keeps : (at : Standing) (z : Spot) → Idle part m z.0 → Kept (ending part s at) z
@@ -171,7 +172,7 @@ module _ (plan : Plan) (sound : IsPart plan.part) (fitted : All (IsFitted plan.p
             (λ l. subst (λ i. At i (along device l (ending part plan.switches s) z.programmer z.turns).programmer)
             (let same : made ≡ made + 0 = omega arith in same) (record {
               few = changed.few;
-              stands = (at_moment Anything (λ at said y i. i) l keeps).0;
+              stands = (at_moment Anything (λ at said y i. i) l keeps).now;
             }));
         sharp = inr (λ l. refl);
       }

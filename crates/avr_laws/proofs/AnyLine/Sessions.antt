@@ -14,13 +14,15 @@ use Rattle.stk_host.specs.declared.fault.HostFault.{HostFault}
 use Rattle.stk_host.specs.declared.fault.StepFault.{StepFault}
 use Rattle.stk_host.specs.Operations.{host_fault}
 use Rattle.stk_emu.proofs.Answers.Commands.{settled_idle}
+use Rattle.stk_emu.specs.Device.{device}
 use Rattle.stk_emu.specs.Effect.{Memories, memories_of}
 use Rattle.stk_emu.specs.PageWrites.{changed_by, all_steps}
 use Rattle.stk_emu.specs.Programmer.{Programmer}
 use Rattle.stk_emu.specs.Settled.{Idle, Settled, FitsPart}
 use Rattle.avr_laws.proofs.AnyLine.EachAction.{RestsIn, Comes, Own, After, Passes, ActionTrue, ActionsTrue, fault_told, operation_comes, goes_cons, goes_actions}
 use Rattle.avr_laws.proofs.Hosts.Operations.{closing_goes}
-use Rattle.avr_laws.proofs.Hosts.Outputs.{Spot, AllTrue, Prints, on_line, stops, prints_reported, prints_then}
+use Rattle.avr_laws.proofs.Hosts.OneLine.{Spot, on_line}
+use Rattle.avr_laws.proofs.Hosts.Outputs.{AllTrue, Prints, stops, prints_reported, prints_then}
 use Rattle.avr_laws.proofs.PageWrites.StepCounts.{items_counted}
 use Rattle.avr_laws.proofs.PageWrites.Steps.{leave_fits}
 use Rattle.avr_laws.proofs.Plans.Fits.{work, work_fits}
@@ -34,7 +36,7 @@ use Rattle.avr_laws.specs.Outcome.{IsTouched, IsExpectedRun}
 pub anyhow : (part : Part) → IsPart part → (s : Switches) → Passes part s (λ m z. Settled part m z.0) ⊤
 anyhow part sound s = record {
   idle = λ m z t. settled_idle part m z.0 t;
-  calls = λ action m z fits f t. on_line (operation_comes part sound s action m fits f z.0 t);
+  calls = λ action m z fits f t. on_line device (operation_comes part sound s action m fits f z.0 t);
   closes = λ m z t.
       wider (λ bytes y i. i) (λ e y x. x) (λ r y x. (
         x.0,
@@ -42,7 +44,7 @@ anyhow part sound s = record {
           | inl ok ↦ inl ok
           | inr broke ↦ inr (tt, broke)
         ],
-      )) (on_line (closing_goes (Idle part m) (leave_fits part m) z.0 (settled_idle part m z.0 t)));
+      )) (on_line device (closing_goes (Idle part m) (leave_fits part m) z.0 (settled_idle part m z.0 t)));
 }
 
 module _ (plan : Plan) (m : Memories) where
@@ -167,7 +169,7 @@ module _ (plan : Plan) (sound : IsPart plan.part) (fitted : All (IsFitted plan.p
         (with_fault Faulty said y z refl refl after (i.memories ∙ sym after.0.stands.memories)) in
         prints_then True (λ x z now. now)
         (prints_reported True {Then = λ at x z. AtEnd plan m Fails 1 (said ++ x) z} (λ _. [])
-        (on_line (closing_goes (Idle part before) (leave_fits part before) y.0 after.0.stands))
+        (on_line device (closing_goes (Idle part before) (leave_fits part before) y.0 after.0.stands))
         (λ z i. at_last plan m Fails 1 (said ++ []) z (left z i)) (λ r z x. (tt, left z x.0)))
         (λ closed x z a. stops True (λ b v. AtEnd plan m Fails (status_of b) (said ++ v)) Over x z a)
     ending_prints Over said y after =

@@ -1,37 +1,31 @@
 -- The calls of a host over a line on which few frames go wrong: each has all its data, and no fault but of what they
 -- are.
-use Rattle.std.proofs.Common.{◌≡◌, ℕ, List, [], ◌∷◌, length, refl, sym, ap, ◌∙◌, subst, arith, inl, ◌⊎◌, Bool, Ok}
-use Rattle.std.specs.Prelude.{⊤, ◌≤◌}
+use Rattle.std.proofs.Common.{ℕ, List, [], ◌∷◌, length, refl, subst, arith, inl, Bool, Ok}
 use Rattle.avr_cli.specs.declared.settings.Switches.{Switches}
 use Rattle.avr_part.specs.declared.part.Mem.TheVariants.{Signature}
 use Rattle.avr_part.specs.Part.{Part, IsPart}
 use Rattle.avr_session.specs.Actions.{Action, OpenSession}
 use Rattle.avr_session.specs.PlanSteps.{action_steps}
-use Rattle.stk_frame.specs.declared.command.Command.{Command}
 use Rattle.stk_frame.specs.declared.command.Command.TheVariants.{SignOn}
 use Rattle.stk_frame.specs.HostCommands.{enter, leave}
-use Rattle.stk_host.proofs.Dialogs.Logic.{bind, told, wider}
-use Rattle.stk_host.specs.Dialog.{Dialog, Done, ◌>>=◌}
-use Rattle.stk_host.specs.Steps.{StepOutcome, Data, step, if_done, play}
+use Rattle.stk_host.proofs.Dialogs.Logic.{wider}
+use Rattle.stk_host.specs.Dialog.{Dialog, ◌>>=◌}
+use Rattle.stk_host.specs.Steps.{StepOutcome, step, if_done, play}
 use Rattle.stk_host.specs.ReadSteps.{signature_steps}
 use Rattle.stk_host.specs.Operations as host
 use Rattle.stk_host.specs.Operations.{judged_by, signature_judged, without_bytes}
-use Rattle.stk_emu.proofs.Answers.Commands.{steady, ready_idle, ready_settled}
-use Rattle.stk_emu.specs.Along.{along}
+use Rattle.stk_emu.proofs.Answers.Commands.{ready_idle, ready_settled}
 use Rattle.stk_emu.specs.Device.{device}
 use Rattle.stk_emu.specs.Effect.{Memories, effects}
-use Rattle.stk_emu.specs.Fits.{Fits}
-use Rattle.stk_emu.specs.Given.{joined_reply, all_given}
-use Rattle.stk_emu.specs.PageWrites.{AreSteps, changed_by}
-use Rattle.stk_emu.specs.Programmer.{Programmer}
+use Rattle.stk_emu.specs.Given.{all_given}
+use Rattle.stk_emu.specs.PageWrites.{changed_by}
 use Rattle.stk_emu.specs.Settled.{Idle, Ready, FitsPart}
-use Rattle.stk_emu.specs.Turn.{Turn}
 use Rattle.avr_laws.proofs.AnyLine.EachAction.{Comes, Passes, operation_comes, opening_comes}
 use Rattle.avr_laws.proofs.Given.Comparisons.{signature_taken}
-use Rattle.avr_laws.proofs.Given.FewBadTurns.{others_few, step_steady, play_few, play_ready}
+use Rattle.avr_laws.proofs.Given.FewBadTurns.{Few, few_bind, few_told, few_step, few_play}
 use Rattle.avr_laws.proofs.Given.WholeMemories.{read_gives}
 use Rattle.avr_laws.proofs.Hosts.Operations.{closing_goes}
-use Rattle.avr_laws.proofs.Hosts.Outputs.{Spot, Runs, both, wherever}
+use Rattle.avr_laws.proofs.Hosts.OneLine.{Spot, on_line, both}
 use Rattle.avr_laws.proofs.PageWrites.Items.{read_are_steps}
 use Rattle.avr_laws.proofs.PageWrites.Steps.{sign_on_steady, enter_ready, leave_steady, leave_fits}
 use Rattle.avr_laws.proofs.Plans.Calls.{outcome_of, call_of, is_operation}
@@ -39,53 +33,7 @@ use Rattle.avr_laws.proofs.Plans.Fits.{FitsAction}
 use Rattle.avr_laws.specs.Few.{AreFew}
 use Rattle.avr_laws.specs.Items.{action_items}
 
--- over such a line, from each programmer under the one condition to this result and one under the other
-abbrev Few : {R : Type 0} → (Programmer → Type 0) → Dialog ⊥ R → R → (Programmer → Type 0) → Type 0
-Few Before d r After = (z : Spot) → Before z.0 → AreFew z.1
-    → Runs (λ y. ⊤) (λ got y. ((got ≡ r) × After y.0) × AreFew y.1) d z
-
--- so if it is so wherever it is done
-few_done : {R : Type 0} (Before : Programmer → Type 0) (d : Dialog ⊥ R) (r : R) (After : Programmer → Type 0)
-    → ((k : ℕ) (p : Programmer) (turns : List Turn) (got : R) → Before p → AreFew turns
-    → (along device k d p turns).dialog ≡ Done got → (got ≡ r) × After (along device k d p turns).programmer)
-    → Few Before d r After
-few_done Before d r After each z before few = record {
-  holds = wherever AreFew others_few (λ got q. (got ≡ r) × After q) d z few
-      (λ k got e. each k z.0 z.1 got before few e);
-}
-
-few_bind : {A B : Type 0} (next : A → Dialog ⊥ B) (a : A) (b : B) (Before Between After : Programmer → Type 0)
-    (d : Dialog ⊥ A) → Few Before d a Between → Few Between (next a) b After → Few Before (d >>= next) b After
-few_bind next a b Before Between After d first more z before few = bind (first z before few)
-    (λ got y x. subst (λ o. Runs (λ y. ⊤) (λ got y. ((got ≡ b) × After y.0) × AreFew y.1) (next o) y) (sym x.0.0)
-    (more y x.0.1 x.1))
-
--- the outcome of a call, reported otherwise
-few_told : {A B : Type 0} (d : Dialog ⊥ A) (tell : A → B) (a : A) (Before After : Programmer → Type 0)
-    → Few Before d a After → Few Before (d >>= (λ outcome. Done (tell outcome))) (tell a) After
-few_told d tell a Before After l z before few =
-    told tell (l z before few) (λ got y x. ((ap tell x.0.0, x.0.1), x.1))
-
--- a step of at most two commands, which have these data from under the one condition and the other
-few_step : (commands : List Command) (got : List ℕ) (Before After : Programmer → Type 0)
-    → Fits steady commands Before After → length commands ≤ 2
-    → ((q : Programmer) → Before q ⊎ After q → joined_reply device commands [] q ≡ Data got)
-    → Few Before (step commands) (Ok got) After
-few_step commands got Before After fits short has = few_done Before (step commands) (Ok got) After
-    (λ k p turns o before few e. step_steady Before After commands got fits has k p turns o short few before e)
-
 module _ (part : Part) (sound : IsPart part) (m : Memories) (f : FitsPart part m) where
-  few_play : (steps : List (List Command)) → AreSteps part steps
-      → Few (Ready part m) (play steps []) (Ok (all_given part steps m))
-      (Ready part (changed_by part (length steps) steps m))
-  few_play steps are = few_done (Ready part m) (play steps []) (Ok (all_given part steps m))
-      (Ready part (changed_by part (length steps) steps m)) (λ k p turns o ready few e.
-      let is : o ≡ Ok (all_given part steps m) = play_few part sound steps m k [] p turns o are f ready few e in (
-        is,
-        play_ready part sound steps m k [] (all_given part steps m) p turns are ready few
-            (e ∙ ap (λ x. Done x) is),
-      ))
-
   few_operation : (s : Switches) (action : Action) → FitsAction part action
       → Few (Ready part m) (call_of part s action) (outcome_of part action m)
       (Ready part (effects part (action_items action) m))
@@ -100,7 +48,7 @@ module _ (part : Part) (sound : IsPart part) (m : Memories) (f : FitsPart part m
       (subst (λ left. Few (Ready part m) (host.operation steps o.judge) (o.judge (all_given part steps m))
       (Ready part left)) o.all
       (few_told (play steps []) (judged_by o.judge) (Ok (all_given part steps m)) (Ready part m)
-      (Ready part (changed_by part (length steps) steps m)) (few_play steps o.are))))
+      (Ready part (changed_by part (length steps) steps m)) (few_play part sound steps m [] o.are f))))
 
   few_handshake : Few (Idle part m) host.handshake (Ok part.signature) (Ready part m)
   unfolding host.handshake
@@ -115,7 +63,8 @@ module _ (part : Part) (sound : IsPart part) (m : Memories) (f : FitsPart part m
       (step (enter ∷ []))
       (few_step (enter ∷ []) [] (Idle part m) (Ready part m) (enter_ready part m) (omega arith) (λ q stands. refl))
       (subst (λ bytes. Few (Ready part m) (play signature_steps []) (Ok bytes) (Ready part m))
-      (read_gives part sound m f Signature) (few_play signature_steps (read_are_steps part sound Signature))))
+      (read_gives part sound m f Signature)
+      (few_play part sound signature_steps m [] (read_are_steps part sound Signature) f)))
 
   few_opening : (force : Bool) → Few (Idle part m) (host.opening part.signature force) (Ok part.signature)
       (Ready part m)
@@ -143,16 +92,18 @@ no_failure part sound s = record {
   idle = λ m z t. ready_idle part m z.0 t.0;
   calls = λ action m z fits f t.
       wider (λ bytes y r. r) (λ e y x. x) (λ got y x. inl (x.1.0.0, (x.1.0.1, x.1.1)))
-      (both (operation_comes part sound s action m fits f z.0 (ready_settled part m z.0 t.0))
+      (both device (on_line device (operation_comes part sound s action m fits f z.0 (ready_settled part m z.0 t.0)))
       (few_operation part sound m f s action fits z t.0 t.1));
   closes = λ m z t.
       let i = ready_idle part m z.0 t.0 in
       wider (λ bytes y i. i) (λ e y x. x) (λ r y x. (x.0.0, inl x.1.0.0))
-      (both (closing_goes (Idle part m) (leave_fits part m) z.0 i) (few_closing part m z i t.1));
+      (both device (on_line device (closing_goes (Idle part m) (leave_fits part m) z.0 i))
+      (few_closing part m z i t.1));
 }
 
 pub few_opens : (part : Part) (sound : IsPart part) (s : Switches) (m : Memories) (z : Spot) → FitsPart part m
     → Idle part m z.0 → AreFew z.1 → Comes part s (AtFew part) ⊥ OpenSession m z
 few_opens part sound s m z f idle few =
     wider (λ bytes y r. r) (λ e y x. x) (λ got y x. inl (x.1.0.0, (x.1.0.1, x.1.1)))
-    (both (opening_comes part sound s m f z.0 idle) (few_opening part sound m f s.force z idle few))
+    (both device (on_line device (opening_comes part sound s m f z.0 idle))
+    (few_opening part sound m f s.force z idle few))

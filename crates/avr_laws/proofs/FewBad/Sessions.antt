@@ -32,7 +32,7 @@ module _ (plan : Plan) (sound : IsPart plan.part) (fitted : All (IsFitted plan.p
   session_ends m p turns sizes idle few k status e =
       elim ((at_moment (T plan sound m sizes) (at_last plan m ⊥) k
       (session_prints_true plan sound m sizes fitted (AtFew plan.part) ⊥ (no_failure plan.part sound plan.switches)
-      (p, turns) (few_opens plan.part sound plan.switches m (p, turns) sizes idle few))).1 status e).1 [
+      (p, turns) (few_opens plan.part sound plan.switches m (p, turns) sizes idle few))).after status e).1 [
         | inl own ↦ own
         | inr broke ↦ absurd broke.0
       ]
@@ -43,5 +43,5 @@ module _ (plan : Plan) (sound : IsPart plan.part) (fitted : All (IsFitted plan.p
       → (along device k (session plan) p turns).dialog ≡ Done (expected_run plan m).status
   session_done m k p turns sizes idle few le =
       let within : (r : ℕ) × ((along device k (session plan) p turns).dialog ≡ Done r) =
-      done_within device (4 * commands_in (run_steps plan)) k (session plan) p turns (session_most plan) le in
+      done_within (4 * commands_in (run_steps plan)) k (session plan) p turns (session_most plan) le in
       within.1 ∙ ap (λ r. Done r) (session_ends m p turns sizes idle few k within.0 within.1).status_is

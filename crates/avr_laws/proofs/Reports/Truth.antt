@@ -35,7 +35,8 @@ use Rattle.avr_laws.specs.Told.{TellsTrue, count_line, kept_in, IsTrue, Signatur
 use Rattle.avr_laws.proofs.AnyLine.EachAction.{Comes, Passes, ActionTrue, ActionsTrue, opening_comes}
 use Rattle.avr_laws.proofs.AnyLine.Sessions.{AtMoment, AtEnd, at_last, anyhow, session_prints}
 use Rattle.avr_laws.proofs.Given.Comparisons.{bytes_same}
-use Rattle.avr_laws.proofs.Hosts.Outputs.{Spot, spot, AllTrue, Prints, on_line, at_moment, all_true}
+use Rattle.avr_laws.proofs.Hosts.OneLine.{Spot, on_line}
+use Rattle.avr_laws.proofs.Hosts.Outputs.{AllTrue, Prints, Printed, at_moment, all_true}
 use Rattle.avr_laws.proofs.Memories.ExpectedAgrees.{no_difference_if_fine, expected_status, expected_memories}
 use Rattle.avr_laws.specs.Outcome.{IsTouched, IsDone, IsExpectedRun}
 use Rattle.avr_laws.proofs.Plans.Fits.{FitsAction, AllFitActions, work, work_fits}
@@ -204,7 +205,7 @@ module _ (plan : Plan) (sound : IsPart plan.part) (m0 : Memories) (f0 : FitsPart
       → Prints T (AtMoment plan m0) (AtEnd plan m0 ⊤) (session plan) (p, turns)
   session_goes fitted p turns idle =
       session_prints_true fitted (λ m z. Settled plan.part m z.0) ⊤ (anyhow plan.part sound plan.switches) (p, turns)
-      (on_line (opening_comes plan.part sound plan.switches m0 f0 p idle))
+      (on_line device (opening_comes plan.part sound plan.switches m0 f0 p idle))
 
   pub session_tells : All (IsFitted plan.part) plan.tasks → (k : ℕ) (p : Programmer) (turns : List Turn)
       → Idle plan.part m0 p
@@ -213,19 +214,17 @@ module _ (plan : Plan) (sound : IsPart plan.part) (m0 : Memories) (f0 : FitsPart
       all_true T (AtMoment plan m0) (AtEnd plan m0 ⊤) k (session plan) (p, turns)
       (session_goes fitted p turns idle).holds
 
-  -- where it is done
-  pub session_ended : All (IsFitted plan.part) plan.tasks → (k status : ℕ) (p : Programmer) (turns : List Turn)
-      → Idle plan.part m0 p → (along device k (session plan) p turns).dialog ≡ Done status
-      → AtEnd plan m0 ⊤ status (said_along device k (session plan) p turns) (spot k (session plan) (p, turns))
-  session_ended fitted k status p turns idle e =
-      (at_moment T (at_last plan m0 ⊤) k (session_goes fitted p turns idle)).1 status e
+  -- along it
+  pub session_along : All (IsFitted plan.part) plan.tasks → (k : ℕ) (p : Programmer) (turns : List Turn)
+      → Idle plan.part m0 p → Printed (AtMoment plan m0) (AtEnd plan m0 ⊤) k (session plan) (p, turns)
+  session_along fitted k p turns idle = at_moment T (at_last plan m0 ⊤) k (session_goes fitted p turns idle)
 
   -- with status 0 it has its expected run
   pub session_succeeds : All (IsFitted plan.part) plan.tasks → (k status : ℕ) (p : Programmer) (turns : List Turn)
       → Idle plan.part m0 p → (along device k (session plan) p turns).dialog ≡ Done status → status ≡ 0
       → IsExpectedRun plan m0 (memories_of (along device k (session plan) p turns).programmer.chip)
       (said_along device k (session plan) p turns) status
-  session_succeeds fitted k status p turns idle e zero = elim (session_ended fitted k status p turns idle e).1 [
+  session_succeeds fitted k status p turns idle e zero = elim ((session_along fitted k p turns idle).after status e).1 [
     | inl own ↦ own
     | inr broke ↦ let one = broke.1.1 in absurd (omega (arith, zero, one))
   ]
@@ -235,7 +234,7 @@ module _ (plan : Plan) (sound : IsPart plan.part) (m0 : Memories) (f0 : FitsPart
       → Leads device (session plan) p turns (λ q. IsTouched plan m0 (memories_of q.chip))
       (λ status q. status ≡ 0 → IsDone plan m0 (memories_of q.chip))
   session_leaves fitted p turns idle = record {
-    during = λ k. (at_moment T (at_last plan m0 ⊤) k (session_goes fitted p turns idle)).0.0;
+    during = λ k. (session_along fitted k p turns idle).now.0;
     after = λ k status e zero.
         let run = session_succeeds fitted k status p turns idle e zero in
         let agrees = (expected_status plan m0).0 (sym run.status_is ∙ zero) in

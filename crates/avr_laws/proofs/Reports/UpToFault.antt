@@ -1,6 +1,5 @@
 -- What a session says is what its expected run says, up to the first action that does not come to its end.
 use Rattle.std.proofs.Common.{◌≡◌, ℕ, List, [], ◌∷◌, ◌++◌, length, append_assoc, refl, sym, ap, ◌∙◌, subst, inl, inr, All, Option, Some, None}
-use Rattle.std.specs.Prelude.{⊤}
 use Rattle.avr_cli.specs.declared.settings.Switches.{Switches}
 use Rattle.avr_desk.specs.Said.{OutputEvent}
 use Rattle.avr_part.specs.Part.{Part, IsPart}
@@ -17,10 +16,8 @@ use Rattle.stk_emu.specs.Programmer.{Programmer}
 use Rattle.stk_emu.specs.Settled.{Idle, FitsPart}
 use Rattle.stk_emu.specs.Turn.{Turn, Became}
 use Rattle.avr_laws.proofs.AnyLine.FrameSizes.{session_asks}
-use Rattle.avr_laws.proofs.AnyLine.Sessions.{at_last}
-use Rattle.avr_laws.proofs.Hosts.Outputs.{at_moment}
 use Rattle.avr_laws.proofs.Lines.AnyTape.{goes_as}
-use Rattle.avr_laws.proofs.Reports.Truth.{T, session_goes, session_ended}
+use Rattle.avr_laws.proofs.Reports.Truth.{session_along}
 use Rattle.avr_laws.specs.AnyTape.{AreHonest, GoesAs, turns_heard}
 use Rattle.avr_laws.specs.ExpectedRun.{Expected, then_from, ◌then◌, action_expected, actions_expected, working_expected, ending_says, expected_run}
 use Rattle.avr_laws.specs.Foretold.{SaysFirst, IsForetold, EndsAsForetold}
@@ -30,13 +27,12 @@ module _ (plan : Plan) (sound : IsPart plan.part) (fitted : All (IsFitted plan.p
   -- AT EACH MOMENT, and at its end
   pub foretold_now : (k : ℕ) (p : Programmer) (turns : List Turn) → Idle plan.part m p
       → IsForetold plan m (said_along device k (session plan) p turns)
-  foretold_now k p turns idle =
-      (at_moment (T plan sound m f) (at_last plan m ⊤) k (session_goes plan sound m f fitted p turns idle)).0.1
+  foretold_now k p turns idle = (session_along plan sound m f fitted k p turns idle).now.1
 
   pub foretold_end : (k status : ℕ) (p : Programmer) (turns : List Turn) → Idle plan.part m p
       → (along device k (session plan) p turns).dialog ≡ Done status
       → EndsAsForetold plan m (said_along device k (session plan) p turns) status
-  foretold_end k status p turns idle e = elim (session_ended plan sound m f fitted k status p turns idle e).1 [
+  foretold_end k status p turns idle e = elim ((session_along plan sound m f fitted k p turns idle).after status e).1 [
     | inl own ↦ inl (own.said, own.status_is)
     | inr broke ↦ inr broke.1
   ]
