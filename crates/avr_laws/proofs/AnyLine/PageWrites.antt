@@ -27,7 +27,7 @@ use Rattle.avr_session.specs.Standing.{Standing, Fine}
 use Rattle.avr_session.specs.Session.{reported, unless_fault}
 use Rattle.avr_laws.specs.Made.{none_made, made_unless_fault, step_count, steps_done}
 use Rattle.avr_laws.proofs.AnyLine.FirstSteps.{Rests, quiet_stays, changed_min, changed_prefix, changed_behind, all_on, all_changed}
-use Rattle.avr_laws.proofs.AnyLine.Calls.{says≢done, reported_programmer, reported_fine, operation_programmer, operation_ok}
+use Rattle.avr_laws.proofs.AnyLine.Calls.{says≢done, told_programmer, told_fine}
 
 -- the memories of so many first steps of these items
 pub record Changed (part : Part) (items : List Item) (m : Memories) (j : ℕ) (q : Programmer) : Type 0 where
@@ -86,8 +86,8 @@ module _ (part : Part) (sound : IsPart part) where
     played = (tallies_play part steps m [] p turns sound are settled).0
 
     moved : (k : ℕ) → (along device k (play steps []) p turns).programmer ≡ (along device k told p turns).programmer
-    moved k = sym (reported_programmer device (operation steps judge) outcome_says k p turns
-        ∙ operation_programmer device steps judge k p turns)
+    unfolding operation
+    moved k = sym (told_programmer device judge outcome_says k (play steps []) p turns)
 
     stands : (k : ℕ) (q : Programmer) → Settled part (changed_by part (played.count k) steps m) q
         → Changed part items m (min (played.count k) (length steps)) q
@@ -109,9 +109,9 @@ module _ (part : Part) (sound : IsPart part) where
 
     all_done : (k : ℕ) → (along device k told p turns).dialog ≡ Done Fine
         → steps_done device steps k p turns ≡ length steps
+    unfolding operation
     all_done k e =
-        let ok = reported_fine device (operation steps judge) outcome_says k p turns e in
-        let got = operation_ok device steps judge k p turns ok.0 ok.1 in
+        let got = told_fine device judge outcome_says k (play steps []) p turns e in
         steps_all device steps k [] p turns got.0 got.1
 
     pub makes_items : Makes part m items told (steps_done device steps) p turns

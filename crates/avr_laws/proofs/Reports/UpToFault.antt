@@ -64,36 +64,28 @@ then_at : (first : Expected) (next : Memories → Expected) (at : Standing) → 
     → (first then next) ≡ then_from first at next
 then_at first next at e = ap (λ x. then_from first x next) e
 
+was_fine : (first : Expected) (next : Memories → Expected) (at : Standing) → first.standing ≡ at
+    → (first then next).standing ≡ Fine → first.standing ≡ Fine
+was_fine first next Fine stands fine = stands
+was_fine first next at stands fine =
+    let same : at ≡ Fine = sym (ap (λ x. x.standing) (then_at first next at stands) ∙ stands) ∙ fine in absurd (cc)
+
 actions_prefix : (part : Part) (s : Switches) (done more : List Action) (m : Memories)
     → (actions_expected part s done m).standing ≡ Fine
     → (later : List OutputEvent) × ((actions_expected part s (done ++ more) m).says
     ≡ (actions_expected part s done m).says ++ later)
 actions_prefix part s [] more m fine = ((actions_expected part s more m).says, refl)
 actions_prefix part s (action ∷ done) more m fine =
-    by_first (action_expected part s action m)
-    (λ fine. actions_prefix part s done more (action_expected part s action m).memories fine)
-    (action_expected part s action m).standing refl fine
-  where
-    by_first : (first : Expected)
-        → ((actions_expected part s done first.memories).standing ≡ Fine
-        → (later : List OutputEvent) × ((actions_expected part s (done ++ more) first.memories).says
-        ≡ (actions_expected part s done first.memories).says ++ later))
-        → (at : Standing) → first.standing ≡ at → (first then actions_expected part s done).standing ≡ Fine
-        → (later : List OutputEvent) × ((first then actions_expected part s (done ++ more)).says
-        ≡ (first then actions_expected part s done).says ++ later)
-    by_first first prefix Fine stands fine =
-        let on = then_at first (actions_expected part s done) Fine stands in
-        let rest = prefix (sym (ap (λ x. x.standing) on) ∙ fine) in (
-          rest.0,
-          ap (λ x. x.says) (then_at first (actions_expected part s (done ++ more)) Fine stands)
-              ∙ (ap (λ xs. first.says ++ xs) rest.1
-              ∙ (sym (append_assoc first.says (actions_expected part s done first.memories).says rest.0)
-              ∙ ap (λ xs. xs ++ rest.0) (sym (ap (λ x. x.says) on)))),
-        )
-    by_first first prefix at stands fine =
-        let same : at ≡ Fine =
-        sym (ap (λ x. x.standing) (then_at first (actions_expected part s done) at stands) ∙ stands) ∙ fine in
-        absurd (cc)
+    let c = action_expected part s action m in
+    let stands = was_fine c (actions_expected part s done) c.standing refl fine in
+    let on = then_at c (actions_expected part s done) Fine stands in
+    let rest = actions_prefix part s done more c.memories (sym (ap (λ x. x.standing) on) ∙ fine) in (
+      rest.0,
+      ap (λ x. x.says) (then_at c (actions_expected part s (done ++ more)) Fine stands)
+          ∙ (ap (λ xs. c.says ++ xs) rest.1
+          ∙ (sym (append_assoc c.says (actions_expected part s done c.memories).says rest.0)
+          ∙ ap (λ xs. xs ++ rest.0) (sym (ap (λ x. x.says) on)))),
+    )
 
 pub first_prefix : (plan : Plan) (m : Memories) (says : List OutputEvent)
     → SaysFirst plan.part plan.switches (actions plan) m says
