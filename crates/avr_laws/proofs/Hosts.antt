@@ -2,4 +2,6 @@
 pub mod AnyTurn
 pub mod Attempts
 pub mod Operations
+pub mod OneLine
+pub mod Outputs
 pub mod FrameSizes

@@ -5,4 +5,3 @@ pub mod WireTapes
 pub mod InTurn
 pub mod NoFrame
 pub mod Rows
-pub mod Outputs

@@ -19,7 +19,6 @@ use Rattle.stk_emu.specs.Turn.{Turn, Became}
 use Rattle.avr_laws.specs.AnyLine.{weighed, bodies_in, OverTurns, ComesOverTurns}
 use Rattle.avr_laws.specs.AnyTape.{AreHonest}
 use Rattle.avr_session.specs.PlanSteps.{run_steps}
-use Rattle.avr_laws.specs.ExpectedRun.{expected_run}
 use Rattle.avr_laws.specs.Few.{AreFew}
 use Rattle.avr_laws.specs.Foretold.{EndsAsForetold}
 use Rattle.avr_laws.specs.Outcome.{IsDone, IsExpectedRun}
@@ -28,13 +27,12 @@ use Rattle.avr_laws.proofs.AnyLine.FrameSizes.{session_asks}
 use Rattle.avr_laws.proofs.AnyLine.PageWriteOrder.{session_makes}
 use Rattle.avr_laws.proofs.Bounds.Weights.{session_weighs}
 use Rattle.avr_laws.proofs.Bounds.WireFrames.{prefix_weighs}
-use Rattle.avr_laws.proofs.FewBad.DialogEnds.{Came}
 use Rattle.avr_laws.proofs.FewBad.Sessions.{session_ends}
 use Rattle.avr_laws.proofs.Given.FirstSteps.{fresh_idle, fresh_fits}
 use Rattle.avr_laws.proofs.Memories.VerifiedRuns.{run_written}
 use Rattle.avr_laws.proofs.Reports.OverTape.{ByTurns, told_any}
-use Rattle.avr_laws.proofs.Reports.Truth.{session_leaves, session_tells}
-use Rattle.avr_laws.proofs.Reports.UpToFault.{foretold_end, foretold_on_tape, session_succeeds}
+use Rattle.avr_laws.proofs.Reports.Truth.{session_leaves, session_succeeds, session_tells}
+use Rattle.avr_laws.proofs.Reports.UpToFault.{foretold_end, foretold_on_tape}
 use Rattle.avr_laws.proofs.SecondRun.Status.{succeeds}
 
 module _ (plan : Plan) (s : chips.ChipState) (is_sound : IsSoundChip s) (part_is : s.part ≡ plan.part)
@@ -93,20 +91,19 @@ module _ (plan : Plan) (s : chips.ChipState) (is_sound : IsSoundChip s) (part_is
     module _ (says : List OutputEvent) (status : ℕ)
         (comes : (along device (length (frames bytes)) (session plan) begun turns).dialog ≡ Done status)
         (says_are : says ≡ said_along device (length (frames bytes)) (session plan) begun turns) where
-      has_expected : Came status (expected_run plan before).status (said_along device count (session plan) begun turns)
-          (expected_run plan before).says
-          (memories_of (along device count (session plan) begun turns).programmer.chip
-          ≡ (expected_run plan before).memories)
+      has_expected : IsExpectedRun plan before
+          (memories_of (along device count (session plan) begun turns).programmer.chip)
+          (said_along device count (session plan) begun turns) status
           → IsExpectedRun plan before after says status
       has_expected c = record {
-        said = says_are ∙ c.outputs;
-        status_is = c.result;
-        memories = ap (λ (r : Programmer). memories_of r.chip) stands ∙ c.after;
+        said = says_are ∙ c.said;
+        status_is = c.status_is;
+        memories = ap (λ (r : Programmer). memories_of r.chip) stands ∙ c.memories;
       }
 
       is_done : status ≡ 0 → IsDone plan before after
       is_done zero = subst (λ (r : Programmer). IsDone plan before (memories_of r.chip)) (sym stands)
-          ((session_leaves plan sound fitted before sizes begun turns idle).after count status comes zero)
+          ((session_leaves plan sound before sizes fitted begun turns idle).after count status comes zero)
 
       its_expected : AreFew turns → IsExpectedRun plan before after says status
       its_expected few = has_expected
@@ -117,7 +114,7 @@ module _ (plan : Plan) (s : chips.ChipState) (is_sound : IsSoundChip s) (part_is
         said = subst (λ x. EndsAsForetold plan before x status) (sym says_are)
             (foretold_end plan sound fitted before sizes count status begun turns idle comes);
         success = λ zero. has_expected
-            (session_succeeds plan sound fitted before sizes count status begun turns idle comes zero);
+            (session_succeeds plan sound before sizes fitted count status begun turns idle comes zero);
         done = is_done;
         images = λ zero verified. run_written plan before after fitted verified (is_done zero) sound sizes;
         few_bad = its_expected;

@@ -2,3 +2,4 @@
 pub mod Standings
 pub mod Items
 pub mod Fits
+pub mod Calls

@@ -177,9 +177,9 @@ module _ (plan : Plan) (s : chips.ChipState) (is_sound : IsSoundChip s) (part_is
           goes.dialog in
           let stands : (along device (length fs) (session plan) p []).programmer ≡ left =
           goes.programmer ∙ leaves left serves joined prefix in (
-            came.result,
-            ap (λ x. outputs x.events) (sym over) ∙ (goes.says ∙ came.outputs),
-            ap (λ (q : Programmer). memories_of q.chip) (sym stands) ∙ came.after,
+            came.status_is,
+            ap (λ x. outputs x.events) (sym over) ∙ (goes.says ∙ came.said),
+            ap (λ (q : Programmer). memories_of q.chip) (sym stands) ∙ came.memories,
           )
 
   -- over an ordered link that stalls anywhere, and forges no frame

@@ -1,5 +1,5 @@
--- A session makes the page writes of its plan in order.
-use Rattle.std.proofs.Common.{◌≡◌, ℕ, ◌+◌, ◌-◌, List, [], ◌∷◌, ◌++◌, take, refl, sym, ap, ◌∙◌, subst, arith, inr, Ok, Err}
+-- A session makes the page writes of its plan in their order.
+use Rattle.std.proofs.Common.{◌≡◌, ℕ, ◌+◌, ◌-◌, List, [], ◌∷◌, ◌++◌, take, refl, sym, ap, ◌∙◌, subst, arith, inl, inr, Err, Result}
 use Rattle.std.proofs.lemmas.Bool.{cond-true}
 use Rattle.std.proofs.lemmas.List.{append-nil}
 use Rattle.std.specs.Prelude.{All, ⊤}
@@ -9,34 +9,38 @@ use Rattle.avr_part.specs.Mem.{is_writable}
 use Rattle.avr_part.specs.Part.{Part, IsPart}
 use Rattle.avr_plan.specs.Plan.{Plan, IsFitted}
 use Rattle.stk_host.specs.declared.fault.HostFault.TheVariants.{ReadOnly}
+use Rattle.stk_host.specs.declared.fault.HostFault.{HostFault}
 use Rattle.stk_host.specs.Dialog.{Dialog, Done, ◌>>=◌}
 use Rattle.stk_host.specs.WriteSteps.{write_steps}
-use Rattle.stk_host.specs.Operations.{no_result, operation}
+use Rattle.stk_host.specs.Operations.{no_result, operation, closing}
 use Rattle.stk_emu.specs.Turn.{Turn}
 use Rattle.stk_emu.specs.Programmer.{Programmer}
 use Rattle.stk_emu.specs.Device.{device}
 use Rattle.stk_emu.specs.Along.{along}
 use Rattle.stk_emu.specs.Effect.{Memories, Item, Erase, Write, effects, memories_of}
 use Rattle.stk_emu.specs.Settled.{Idle, Settled, FitsPart}
-use Rattle.stk_emu.specs.PageWrites.{changed_by, all_steps, AreSteps}
+use Rattle.stk_emu.specs.PageWrites.{changed_by, all_steps, AreSteps, AllFitItems}
 use Rattle.avr_laws.proofs.Leads.{Leads, GoesOn}
 use Rattle.avr_laws.specs.Tallies.{Count, with_next, then_count, Tallies}
 use Rattle.avr_laws.proofs.PageWrites.StepCounts.{items_counted}
 use Rattle.avr_laws.proofs.PageWrites.Items.{write_are_steps, item_are_steps}
-use Rattle.avr_laws.proofs.Hosts.AnyTurn.{leads}
-use Rattle.avr_laws.proofs.Hosts.Operations.{along_told}
 use Rattle.avr_laws.proofs.PageWrites.Counts.{tallies_none, tallies_as, tallies_bind}
-use Rattle.avr_session.specs.Standing.{Standing, Fine}
+use Rattle.avr_session.specs.Standing.{Standing, Fine, Faulty, Over}
 use Rattle.avr_session.specs.Actions.{Action, OpenSession, EraseChip, WriteImage, actions}
-use Rattle.avr_session.specs.Session.{reported, opening_says, erased_says, written_says, closed_says, action_dialog, actions_dialog, ending, playing, status_of, session}
+use Rattle.avr_session.specs.Session.{reported, erased_says, written_says, closed_says, action_dialog, actions_dialog, ending, playing, status_of, session}
 use Rattle.avr_laws.specs.Items.{action_items, actions_items, items}
-use Rattle.avr_laws.specs.Agrees.{ActionAgrees}
 use Rattle.avr_laws.specs.Made.{none_made, action_made, actions_made, made_by}
 use Rattle.avr_laws.specs.Outcome.{page_writes}
 use Rattle.avr_laws.proofs.Plans.Fits.{FitsAction, AllFitActions, work, work_fits, action_items_fit}
-use Rattle.avr_laws.proofs.AnyLine.FirstSteps.{effects_sizes}
-use Rattle.avr_laws.proofs.AnyLine.Sessions.{goes_ending}
-use Rattle.avr_laws.proofs.AnyLine.EachAction.{Comes, Goes, goes_leads, goes_opening, goes_action, goes_output, Anything, any_outputs, any_says, any_action}
+use Rattle.avr_laws.proofs.AnyLine.FirstSteps.{Rests, rests_here, effects_sizes}
+use Rattle.avr_laws.proofs.AnyLine.Sessions.{anyhow}
+use Rattle.avr_laws.proofs.AnyLine.EachAction.{ComesAnyhow, AfterOne, fault_told, action_prints, operation_comes, opening_comes}
+use Rattle.avr_laws.proofs.Hosts.Operations.{along_told, closing_goes}
+use Rattle.avr_laws.proofs.Hosts.OneLine.{Spot, on_line}
+use Rattle.avr_laws.proofs.Hosts.Outputs.{AllTrue, Prints, stops, at_moment, prints_reported, prints_then, prints_wider}
+use Rattle.avr_laws.proofs.PageWrites.Steps.{leave_fits}
+use Rattle.avr_laws.proofs.Plans.Calls.{outcome_of, outcome_says}
+use Rattle.stk_emu.proofs.Answers.Commands.{settled_idle}
 use Rattle.avr_laws.proofs.AnyLine.PageWrites.{Changed, Makes, makes_none, makes_items, makes_then}
 
 -- an action makes the page writes of these items, from a programmer in programming mode with these memories
@@ -48,14 +52,38 @@ nothing_after : (x : Dialog OutputEvent Standing) (n : ℕ) → with_next x n (�
 nothing_after (Done s) n = omega arith
 nothing_after d n = refl
 
--- without items, nothing is made
-makes_quiet : (part : Part) (sound : IsPart part) (m : Memories) (Check : Type 0) (d : Dialog OutputEvent Standing)
-    → FitsPart part m → Goes part sound Anything (Settled part m) m [] Check d → Strikes part m [] none_made d
-makes_quiet part sound m Check d f goes p turns settled =
-    makes_none part m d p turns (Comes part m [] Check)
-    (goes_leads part sound Anything m [] Check d p turns tt f goes settled)
+-- ---- where nothing is asked of what is said
+
+abbrev Anything : OutputEvent → Programmer → Type 0
+Anything output q = ⊤
+
+any_outputs : (outputs : List OutputEvent) (q : Programmer) → AllTrue Anything outputs q
+any_outputs [] q = tt
+any_outputs (output ∷ outputs) q = (tt, any_outputs outputs q)
 
 module _ (part : Part) (sound : IsPart part) (s : Switches) where
+  action_leads : (action : Action) (m : Memories) (p : Programmer) (turns : List Turn)
+      → AllFitItems part (action_items action) → FitsPart part m → ComesAnyhow part sound s action m p
+      → Leads device (action_dialog part s action) p turns (Rests part (all_steps part (action_items action)) m)
+      (λ at q. at ≡ Fine → Settled part (effects part (action_items action) m) q)
+  action_leads action m p turns fits f comes = record {
+    during = λ k. (at_moment Anything (λ at said z x. x.0) k prints).now;
+    after = λ k at e fine. elim ((at_moment Anything (λ at said z x. x.0) k prints).after at e).1 [
+      | inl own ↦ own.left
+      | inr broken ↦ absurd (broken.faulty fine)
+    ];
+  }
+    where
+      prints : Prints Anything (λ said z. Rests part (all_steps part (action_items action)) m z.0)
+          (AfterOne part s (λ m z. Settled part m z.0) ⊤ action [] m) (action_dialog part s action) (p, turns)
+      prints = prints_wider Anything (λ said z x. x.0) (λ at said z x. x)
+          (action_prints part sound s Anything (λ m z. Settled part m z.0) ⊤ (anyhow part sound s) action [] m fits f
+          (p, turns) (
+            λ q is. any_outputs (outcome_says part s action (outcome_of part action m)) q,
+            λ fault q. any_outputs (fault_told part s fault) q,
+          )
+          (on_line device comes))
+
   makes_action : (action : Action) (m : Memories) → FitsAction part action → FitsPart part m
       → Strikes part m (action_items action) (action_made part action) (action_dialog part s action)
   makes_action EraseChip m fits f = λ p turns settled.
@@ -71,32 +99,43 @@ module _ (part : Part) (sound : IsPart part) (s : Switches) where
       (makes_items part sound m (Write mem image ∷ []) no_result (written_says s.quiet part mem image) p turns
       (subst (AreSteps part) (sym only)
       (write_are_steps part sound mem image (let size = fits.0 in omega (arith, size)))) settled)
-  makes_action action m fits f = makes_quiet part sound m (ActionAgrees part action m) (action_dialog part s action) f
-      (goes_action part sound Anything s action m fits f (any_action part sound s action m))
+  makes_action action m fits f = λ p turns settled.
+      makes_none part m (action_dialog part s action) p turns
+      (λ at q. at ≡ Fine → Settled part (effects part (action_items action) m) q)
+      (action_leads action m p turns tt f (operation_comes part sound s action m fits f p settled))
 
   makes_each_action : (actions : List Action) (m : Memories) → AllFitActions part actions → FitsPart part m
       → Strikes part m (actions_items actions) (actions_made part s actions) (actions_dialog part s actions)
   makes_each_action [] m fits f p turns settled =
-      makes_quiet part sound m ⊤ (Done Fine) f (goes_output part sound Anything m [] (λ q s. tt)) p turns settled
+      makes_none part m (Done Fine) p turns (λ at q. ⊤)
+      (record { during = λ k. rests_here part [] m p (settled_idle part m p settled); after = λ k at e. tt })
   makes_each_action (action ∷ actions) m fits f p turns settled =
       let items = action_items action in
       let left = effects part items m in
-      makes_then part sound m items (actions_items actions) (ActionAgrees part action m) (action_dialog part s action)
+      makes_then part sound m items (actions_items actions) (action_dialog part s action)
       (actions_dialog part s actions) (action_made part action) (actions_made part s actions) p turns
       (action_items_fit part action fits.0) f
-      (goes_leads part sound Anything m items (ActionAgrees part action m) (action_dialog part s action) p turns
-      (action_items_fit part action fits.0) f
-      (goes_action part sound Anything s action m fits.0 f (any_action part sound s action m)) settled)
+      (action_leads action m p turns (action_items_fit part action fits.0) f
+      (operation_comes part sound s action m fits.0 f p settled))
       (makes_action action m fits.0 f p turns settled)
       (λ q fs there. makes_each_action actions left fits.1 (effects_sizes part sound items m f) q fs there)
 
--- the end keeps the memories
-ending_keeps : (part : Part) (sound : IsPart part) (s : Switches) (before : Memories) (standing : Standing)
-    (p : Programmer) (turns : List Turn) → Idle part before p
-    → Leads device (ending part s standing) p turns (Idle part before) (λ t q. Idle part before q)
-ending_keeps part sound s before standing p turns idle =
-    leads device (λ t q x. (x.0, x.0)) (goes_ending part sound Anything s
-    (λ r q c. any_outputs (closed_says s.quiet part r) q) before standing p idle)
+  -- the end keeps the memories
+  module _ (m : Memories) where
+    abbrev Kept : Dialog OutputEvent Standing → Spot → Type 0
+    Kept d z = Prints Anything (λ said y. Idle part m y.0) (λ at said y. Idle part m y.0) d z
+
+    closing_keeps : (outcome_says : Result ⊤ HostFault → List OutputEvent) (z : Spot) → Idle part m z.0
+        → Kept (reported closing outcome_says) z
+    closing_keeps outcome_says z i =
+        prints_reported Anything outcome_says (on_line device (closing_goes (Idle part m) (leave_fits part m) z.0 i))
+        (λ y i. i) (λ r y x. (any_outputs (outcome_says r) y.0, x.0))
+
+    ending_keeps : (at : Standing) (z : Spot) → Idle part m z.0 → Kept (ending part s at) z
+    ending_keeps Fine z i = closing_keeps (closed_says s.quiet part) z i
+    ending_keeps Faulty z i = prints_then Anything (λ x y i. i) (closing_keeps (λ _. []) z i)
+        (λ at x y i. stops Anything (λ at said y. Idle part m y.0) Over x y i)
+    ending_keeps Over z i = record { holds = i }
 
 module _ (plan : Plan) (sound : IsPart plan.part) (fitted : All (IsFitted plan.part) plan.tasks) (m : Memories)
     (f : FitsPart plan.part m) (p : Programmer) (turns : List Turn)
@@ -109,13 +148,10 @@ module _ (plan : Plan) (sound : IsPart plan.part) (fitted : All (IsFitted plan.p
       let part = plan.part in
       let s = plan.switches in
       let opened = action_dialog part s OpenSession in
-      let opens =
-      goes_leads part sound Anything m [] ⊤ opened p turns tt f
-      (goes_opening part sound Anything s m f (any_says part sound (opening_says s.quiet part) []
-      (Ok part.signature) m)) idle in
-      makes_then part sound m [] (actions_items (work plan)) ⊤ opened (actions_dialog part s (work plan)) none_made
+      let opens = action_leads part sound s OpenSession m p turns tt f (opening_comes part sound s m f p idle) in
+      makes_then part sound m [] (actions_items (work plan)) opened (actions_dialog part s (work plan)) none_made
       (actions_made part s (work plan)) p turns tt f
-      opens (makes_none part m opened p turns (Comes part m [] ⊤) opens)
+      opens (makes_none part m opened p turns (λ at q. at ≡ Fine → Settled part m q) opens)
       (λ q fs there. makes_each_action part sound s (work plan) m (work_fits plan fitted) f q fs there)
 
   abbrev At : ℕ → Programmer → Type 0
@@ -130,11 +166,14 @@ module _ (plan : Plan) (sound : IsPart plan.part) (fitted : All (IsFitted plan.p
       let made = makes_actions.tally.count k in
       let changed = makes_actions.tally.stands k in
       let before = changed_by part made (all_steps part (items plan)) m in
-      let keeps = ending_keeps part sound plan.switches before s z.programmer z.turns changed.stands in
+      let keeps = ending_keeps part sound plan.switches before s (z.programmer, z.turns) changed.stands in
       record {
         rest = tallies_none device (ending part plan.switches s) (λ j. At (made + j)) z.programmer z.turns
             (λ l. subst (λ i. At i (along device l (ending part plan.switches s) z.programmer z.turns).programmer)
-            (let same : made ≡ made + 0 = omega arith in same) (record { few = changed.few; stands = keeps.during l }));
+            (let same : made ≡ made + 0 = omega arith in same) (record {
+              few = changed.few;
+              stands = (at_moment Anything (λ at said y i. i) l keeps).now;
+            }));
         sharp = inr (λ l. refl);
       }
 

@@ -26,9 +26,8 @@ use Rattle.avr_laws.proofs.PageWrites.Counts.{tallies_none, tallies_as, tallies_
 use Rattle.avr_session.specs.Standing.{Standing, Fine}
 use Rattle.avr_session.specs.Session.{reported, unless_fault}
 use Rattle.avr_laws.specs.Made.{none_made, made_unless_fault, step_count, steps_done}
-use Rattle.avr_laws.proofs.AnyLine.FirstSteps.{Rests, changed_min, changed_prefix, changed_behind, all_on, all_changed}
-use Rattle.avr_laws.proofs.AnyLine.EachAction.{Comes}
-use Rattle.avr_laws.proofs.AnyLine.Calls.{says≢done, reported_programmer, reported_fine, operation_programmer, operation_ok}
+use Rattle.avr_laws.proofs.AnyLine.FirstSteps.{Rests, quiet_stays, changed_min, changed_prefix, changed_behind, all_on, all_changed}
+use Rattle.avr_laws.proofs.AnyLine.Calls.{says≢done, told_programmer, told_fine}
 
 -- the memories after `j` first steps of these items
 pub record Changed (part : Part) (items : List Item) (m : Memories) (j : ℕ) (q : Programmer) : Type 0 where
@@ -43,11 +42,7 @@ pub record Makes (part : Part) (m : Memories) (items : List Item) (d : Dialog Ou
   pub complete : (k : ℕ) → (along device k d p turns).dialog ≡ Done Fine
       → made k p turns ≡ length (all_steps part items)
 
-changed_none : (part : Part) (count : ℕ) (m : Memories) → changed_by part count [] m ≡ m
-changed_none part zero m = refl
-changed_none part (suc count) m = refl
-
--- nothing is made if the memories stay
+-- nothing is made where the memories stay
 pub makes_none : (part : Part) (m : Memories) (d : Dialog OutputEvent Standing) (p : Programmer) (turns : List Turn)
     (After : Standing → Programmer → Type 0)
     → Leads device d p turns (Rests part [] m) After → Makes part m [] d none_made p turns
@@ -56,7 +51,8 @@ makes_none part m d p turns After l = record {
       let r = l.during k in
       record {
         few = omega arith;
-        stands = subst (λ z. Idle part z (along device k d p turns).programmer) (changed_none part r.count m) r.stands;
+        stands = subst (λ z. Idle part z (along device k d p turns).programmer) (quiet_stays part r.count [] m tt)
+            r.stands;
       });
   complete = λ k e. refl;
 }
@@ -90,8 +86,8 @@ module _ (part : Part) (sound : IsPart part) where
     played = (tallies_play part steps m [] p turns sound are settled).0
 
     moved : (k : ℕ) → (along device k (play steps []) p turns).programmer ≡ (along device k told p turns).programmer
-    moved k = sym (reported_programmer device (operation steps judge) outcome_says k p turns
-        ∙ operation_programmer device steps judge k p turns)
+    unfolding operation
+    moved k = sym (told_programmer device judge outcome_says k (play steps []) p turns)
 
     stands : (k : ℕ) (q : Programmer) → Settled part (changed_by part (played.count k) steps m) q
         → Changed part items m (min (played.count k) (length steps)) q
@@ -113,9 +109,9 @@ module _ (part : Part) (sound : IsPart part) where
 
     all_done : (k : ℕ) → (along device k told p turns).dialog ≡ Done Fine
         → steps_done device steps k p turns ≡ length steps
+    unfolding operation
     all_done k e =
-        let ok = reported_fine device (operation steps judge) outcome_says k p turns e in
-        let got = operation_ok device steps judge k p turns ok.0 ok.1 in
+        let got = told_fine device judge outcome_says k (play steps []) p turns e in
         steps_all device steps k [] p turns got.0 got.1
 
     pub makes_items : Makes part m items told (steps_done device steps) p turns
@@ -157,11 +153,12 @@ module _ (part : Part) (sound : IsPart part) where
             ∙ ap (changed_by part j (all_steps part ys)) (all_changed part sound xs m fits f))))) s.stands;
       }
 
-  -- one action, then the next unless there was a fault
-  module _ (m : Memories) (xs ys : List Item) (Check : Type 0) (d next : Dialog OutputEvent Standing)
+  -- one action, and the next one unless there was a fault
+  module _ (m : Memories) (xs ys : List Item) (d next : Dialog OutputEvent Standing)
       (made later : Count Programmer) (p : Programmer) (turns : List Turn)
       (fits : AllFitItems part xs) (f : FitsPart part m)
-      (leads : Leads device d p turns (Rests part (all_steps part xs) m) (Comes part m xs Check))
+      (leads : Leads device d p turns (Rests part (all_steps part xs) m)
+      (λ s q. s ≡ Fine → Settled part (effects part xs m) q))
       (first : Makes part m xs d made p turns)
       (more : (q : Programmer) (fs : List Turn) → Settled part (effects part xs m) q
       → Makes part (effects part xs m) ys next later q fs) where
@@ -206,10 +203,9 @@ module _ (part : Part) (sound : IsPart part) where
           sharp = inl (λ l n. sharp k l e n);
         }
 
-    goes_on : (k : ℕ) (s : Standing) → (along device k d p turns).dialog ≡ Done s
-        → Comes part m xs Check s (along device k d p turns).programmer → GoesFrom k s
-    goes_on k Fine e came = goes_fine k e came.0
-    goes_on k at e rests =
+    goes_on : (k : ℕ) (s : Standing) → (along device k d p turns).dialog ≡ Done s → GoesFrom k s
+    goes_on k Fine e = goes_fine k e (leads.after k Fine e refl)
+    goes_on k at e =
         let s = along device k d p turns in
         record {
           rest = tallies_none device (unless_fault next at) (λ j. At (first.tally.count k + j)) s.programmer s.turns
@@ -226,25 +222,24 @@ module _ (part : Part) (sound : IsPart part) where
 
     tally : Tallies device (d >>= unless_fault next) (then_count device d made after) At p turns
     tally = tallies_bind device d (unless_fault next) made after At p turns among
-        (λ k s e. goes_on k s e (leads.after k s e))
+        goes_on
 
     abbrev Ends : ℕ → Dialog OutputEvent Standing → Type 0
     Ends k x = let s = along device k d p turns in
         (onward device (unless_fault next) s.left s.turns s.programmer x).dialog ≡ Done Fine
         → with_next x (made k p turns) (λ a. after a s.left s.programmer s.turns) ≡ length (all_steps part (xs ++ ys))
 
-    complete_fine : (k : ℕ) (s : Standing) → (along device k d p turns).dialog ≡ Done s
-        → Comes part m xs Check s (along device k d p turns).programmer → Ends k (Done s)
-    complete_fine k Fine e came = λ done.
+    complete_fine : (k : ℕ) (s : Standing) → (along device k d p turns).dialog ≡ Done s → Ends k (Done s)
+    complete_fine k Fine e = λ done.
         let t = along device k d p turns in
         let all = first.complete k e in
-        let rest = (more t.programmer t.turns came.0).complete t.left done in
+        let rest = (more t.programmer t.turns (leads.after k Fine e refl)).complete t.left done in
         let size = size_on xs ys in
         omega (arith, all, rest, size)
-    complete_fine k at e rests = λ done. let same : at ≡ Fine = done_is _ _ done in absurd (cc)
+    complete_fine k at e = λ done. let same : at ≡ Fine = done_is _ _ done in absurd (cc)
 
     complete_from : (k : ℕ) (x : Dialog OutputEvent Standing) → (along device k d p turns).dialog ≡ x → Ends k x
-    complete_from k (Done s) e = complete_fine k s e (leads.after k s e)
+    complete_from k (Done s) e = complete_fine k s e
     complete_from k (Say s dialog) e = λ done. absurd (says≢done _ _ _ done)
     complete_from k (Ask bytes go_on) e = λ done. absurd (asks≢done _ _ _ done)
 

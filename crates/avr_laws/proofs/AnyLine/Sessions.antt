@@ -1,114 +1,188 @@
--- A session from its opening to its end, over any link: what it leaves, and that its output is true.
-use Rattle.std.proofs.Common.{◌≡◌, ℕ, List, [], ◌∙◌, arith, Ok, Result, zero, suc, refl}
-use Rattle.std.specs.Prelude.{All, ⊤}
+-- A session on one line, from its opening to its end: what it prints, what it comes to, and what it leaves.
+use Rattle.std.proofs.Common.{◌≡◌, ℕ, List, [], ◌++◌, refl, sym, ap, ◌∙◌, subst, inl, inr, ◌⊎◌, Ok, Err, Result, All}
+use Rattle.std.proofs.lemmas.List.{append-nil}
+use Rattle.std.specs.Prelude.{⊤}
+use Rattle.avr_cli.specs.declared.settings.Switches.{Switches}
 use Rattle.avr_desk.specs.Said.{OutputEvent}
 use Rattle.avr_part.specs.Part.{Part, IsPart}
 use Rattle.avr_plan.specs.Plan.{Plan, IsFitted}
-use Rattle.stk_host.specs.declared.fault.HostFault.{HostFault}
-use Rattle.stk_host.specs.Dialog.{Done, Dialog, Say, Ask}
-use Rattle.stk_emu.specs.Turn.{Turn, first_turn, other_turns}
-use Rattle.stk_emu.specs.Programmer.{Programmer}
-use Rattle.stk_emu.specs.Effect.{Memories, Item, effects, memories_of}
-use Rattle.stk_emu.specs.Settled.{Idle, FitsPart}
-use Rattle.stk_emu.specs.PageWrites.{changed_by, all_steps, AllFitItems}
-use Rattle.stk_emu.proofs.Answers.Commands.{settled_idle}
-use Rattle.avr_laws.proofs.PageWrites.StepCounts.{items_counted}
-use Rattle.avr_laws.proofs.Hosts.Operations.{IsClosed, closing_goes}
-use Rattle.stk_host.proofs.Dialogs.Logic.{HoldsFrom, done, bind, told, wider}
-use Rattle.avr_laws.proofs.Hosts.AnyTurn.{any_turn}
-use Rattle.avr_laws.proofs.PageWrites.Steps.{leave_fits}
-use Rattle.avr_laws.specs.Told.{TellsTrue}
-use Rattle.stk_emu.specs.Device.{Device}
+use Rattle.avr_session.specs.Actions.{OpenSession, actions}
+use Rattle.avr_session.specs.Session.{standing, closed_says, ending, status_of, session}
 use Rattle.avr_session.specs.Standing.{Standing, Fine, Faulty, Over}
-use Rattle.avr_session.specs.Actions.{OpenSession}
-use Rattle.avr_cli.specs.declared.settings.Switches.{Switches}
-use Rattle.avr_session.specs.Session.{opening_says, closed_says, action_dialog, actions_dialog, ending, status_of, session}
-use Rattle.avr_laws.specs.Items.{actions_items, items}
-use Rattle.avr_laws.specs.Agrees.{ActionsAgree, Agrees}
-use Rattle.avr_laws.specs.Outcome.{IsTouched, IsDone}
-use Rattle.avr_laws.proofs.Plans.Standings.{over_fine}
-use Rattle.avr_laws.proofs.Plans.Fits.{work, work_fits, items_fit}
-use Rattle.avr_laws.proofs.AnyLine.FirstSteps.{Rests, rests_all}
-use Rattle.avr_laws.proofs.AnyLine.EachAction.{AllTrue, Comes, Tells, SaysTrue, ActionsTrue, tells_reported, goes_then, goes_opening, goes_actions}
+use Rattle.stk_host.proofs.Dialogs.Logic.{wider}
+use Rattle.stk_host.specs.declared.fault.HostFault.{HostFault}
+use Rattle.stk_host.specs.declared.fault.StepFault.{StepFault}
+use Rattle.stk_host.specs.Operations.{host_fault}
+use Rattle.stk_emu.proofs.Answers.Commands.{settled_idle}
+use Rattle.stk_emu.specs.Device.{device}
+use Rattle.stk_emu.specs.Effect.{Memories, memories_of}
+use Rattle.stk_emu.specs.PageWrites.{changed_by, all_steps}
+use Rattle.stk_emu.specs.Programmer.{Programmer}
+use Rattle.stk_emu.specs.Settled.{Idle, Settled, FitsPart}
+use Rattle.avr_laws.proofs.AnyLine.EachAction.{RestsIn, Comes, Own, After, Passes, ActionTrue, ActionsTrue, fault_told, operation_comes, goes_cons, goes_actions}
+use Rattle.avr_laws.proofs.Hosts.Operations.{closing_goes}
+use Rattle.avr_laws.proofs.Hosts.OneLine.{Spot, on_line}
+use Rattle.avr_laws.proofs.Hosts.Outputs.{AllTrue, Prints, stops, prints_reported, prints_then}
+use Rattle.avr_laws.proofs.PageWrites.StepCounts.{items_counted}
+use Rattle.avr_laws.proofs.PageWrites.Steps.{leave_fits}
+use Rattle.avr_laws.proofs.Plans.Fits.{work, work_fits}
+use Rattle.avr_laws.proofs.Plans.Standings.{after_fault}
+use Rattle.avr_laws.specs.ExpectedRun.{Expected, working_expected, ending_says}
+use Rattle.avr_laws.specs.Foretold.{SaysFirst, SaysFault, IsForetold}
+use Rattle.avr_laws.specs.Items.{items}
+use Rattle.avr_laws.specs.Outcome.{IsTouched, IsExpectedRun}
 
-module _ (part : Part) (sound : IsPart part) (True : OutputEvent → Programmer → Type 0) (s : Switches)
-    (closed_true : (r : Result ⊤ HostFault) (q : Programmer) → IsClosed r
-    → AllTrue True (closed_says s.quiet part r) q) where
-  -- the end keeps the memories, and turns no fault into success
-  pub goes_ending : (before : Memories) (at : Standing) (p : Programmer) → Idle part before p
-      → Tells part sound True (Idle part before) (λ t q. Idle part before q × (t ≡ Fine → at ≡ Fine)) (ending part s at)
-      p
-  goes_ending before Fine p idle = tells_reported part sound True (closed_says s.quiet part) p
-      (closing_goes (Idle part before) (leave_fits part before) p idle)
-      (λ r q a. (closed_true r q a.1, (a.0, λ e. refl)))
-  goes_ending before Faulty p idle =
-      told (λ closed. Over) (tells_reported part sound True {Then = λ t q. Idle part before q} (λ _. []) p
-      (closing_goes (Idle part before) (leave_fits part before) p idle) (λ r q a. (tt, a.0)))
-      (λ t q i. (i, λ e. over_fine e))
-  goes_ending before Over p idle = done (idle, λ e. e)
+-- a line on which any step may fail
+pub anyhow : (part : Part) → IsPart part → (s : Switches) → Passes part s (λ m z. Settled part m z.0) ⊤
+anyhow part sound s = record {
+  idle = λ m z t. settled_idle part m z.0 t;
+  calls = λ action m z fits f t. on_line device (operation_comes part sound s action m fits f z.0 t);
+  closes = λ m z t.
+      wider (λ bytes y i. i) (λ e y x. x) (λ r y x. (
+        x.0,
+        elim x.1 [
+          | inl ok ↦ inl ok
+          | inr broke ↦ inr (tt, broke)
+        ],
+      )) (on_line device (closing_goes (Idle part m) (leave_fits part m) z.0 (settled_idle part m z.0 t)));
+}
 
-  module _ (m : Memories) (f : FitsPart part m) (all : List Item) (fits : AllFitItems part all) (Check : Type 0) where
-    abbrev Ended : Standing → Programmer → Type 0
-    Ended t q = Rests part (all_steps part all) m q × (t ≡ Fine → Idle part (effects part all m) q × Check)
+module _ (plan : Plan) (m : Memories) where
+  abbrev pub AtMoment : List OutputEvent → Spot → Type 0
+  AtMoment said y = IsTouched plan m (memories_of y.0.chip) × IsForetold plan m said
 
-    pub goes_to_end : (at : Standing) (p : Programmer) → Comes part m all Check at p
-        → Tells part sound True (Rests part (all_steps part all) m) Ended (ending part s at) p
-    goes_to_end Fine p came =
-        wider (λ bytes q i. rests_all part sound all m q fits f i) (λ e q x. x)
-        (λ t q x. (rests_all part sound all m q fits f x.0, λ e. (x.0, came.1)))
-        (goes_ending (effects part all m) Fine p (settled_idle part (effects part all m) p came.0))
-    goes_to_end at p r =
-        wider (λ bytes q i. record { count = r.count; stands = i }) (λ e q x. x)
-        (λ t q x. (record { count = r.count; stands = x.0 }, λ e. let same : at ≡ Fine = x.1 e in absurd (cc)))
-        (goes_ending (changed_by part r.count (all_steps part all) m) at p r.stands)
+  -- with a status: as the expected run, or after the line of a step that failed
+  abbrev pub AtEnd : Type 0 → ℕ → List OutputEvent → Spot → Type 0
+  AtEnd Fails status said y = IsTouched plan m (memories_of y.0.chip)
+      × (IsExpectedRun plan m (memories_of y.0.chip) said status
+      ⊎ (Fails × (SaysFault plan.part plan.switches (actions plan) m said × (status ≡ 1))))
 
-module _ (plan : Plan) (sound : IsPart plan.part) (fitted : All (IsFitted plan.part) plan.tasks) (m : Memories)
-    (f : FitsPart plan.part m) where
-  abbrev pub Left : ℕ → Programmer → Type 0
-  Left status q = IsTouched plan m (memories_of q.chip) × (status ≡ 0 → IsDone plan m (memories_of q.chip))
+  pub at_last : (Fails : Type 0) (status : ℕ) (said : List OutputEvent) (y : Spot) → AtEnd Fails status said y
+      → AtMoment said y
+  at_last Fails status said y (touched, inl own) = (touched, inl own.said)
+  at_last Fails status said y (touched, inr broke) = (touched, inr (inr broke.1.0))
 
-  touched : (q : Programmer) → Rests plan.part (all_steps plan.part (items plan)) m q
-      → IsTouched plan m (memories_of q.chip)
-  touched q r = record {
+module _ (plan : Plan) (sound : IsPart plan.part) (fitted : All (IsFitted plan.part) plan.tasks)
+    (True : OutputEvent → Programmer → Type 0) (At : Memories → Spot → Type 0) (Fails : Type 0)
+    (pass : Passes plan.part plan.switches At Fails) (m : Memories) (f : FitsPart plan.part m) where
+  abbrev part : Part
+  part = plan.part
+
+  abbrev s : Switches
+  s = plan.switches
+
+  abbrev w : Expected
+  w = working_expected plan m
+
+  touched : (y z : Spot) → RestsIn part (items plan) m y → memories_of z.0.chip ≡ memories_of y.0.chip
+      → IsTouched plan m (memories_of z.0.chip)
+  touched y z r kept = record {
     count = r.count;
-    memories =
-        r.stands.memories ∙ items_counted plan.part (items plan) r.count m;
+    memories = kept ∙ (r.stands.memories ∙ items_counted part (items plan) r.count m);
   }
 
-  pub session_goes : (True : OutputEvent → Programmer → Type 0)
-      → SaysTrue plan.part sound True (opening_says plan.switches.quiet plan.part) [] (Ok plan.part.signature) m
-      → ActionsTrue plan.part sound True plan.switches (work plan) m
-      → ((r : Result ⊤ HostFault) (q : Programmer) → IsClosed r
-      → AllTrue True (closed_says plan.switches.quiet plan.part r) q)
-      → (p : Programmer) → Idle plan.part m p → Tells plan.part sound True (λ q. IsTouched plan m (memories_of q.chip))
-      Left (session plan) p
-  unfolding session
-  session_goes True opened worked closed p idle =
-      let part = plan.part in
-      let s = plan.switches in
-      let all = items plan in
-      let fits = items_fit part (work plan) (work_fits plan fitted) in
-      wider (λ bytes q r. touched q r) (λ e q x. x) (λ r q x. x)
-      (told status_of
-      (bind
-      (goes_then part sound True (Idle part m) m [] (actions_items (work plan)) ⊤ (ActionsAgree part (work plan) m)
-      (action_dialog part s OpenSession) (actions_dialog part s (work plan)) tt f
-      (goes_opening part sound True s m f opened)
-      (goes_actions part sound True s (work plan) m (work_fits plan fitted) f worked) p idle)
-      (goes_to_end part sound True s closed m f all fits (Agrees plan m)))
-      left)
-    where
-      left : (t : Standing) (q : Programmer) → Ended plan.part sound True plan.switches closed m f (items plan)
-          (items_fit plan.part (work plan) (work_fits plan fitted)) (Agrees plan m) t q → Left (status_of t) q
-      left Fine q x = (touched q x.0, λ e. let a = x.1 refl in record { memories = a.0.memories; agrees = a.1 })
-      left at q x = (touched q x.0, λ e. absurd (omega (arith, e)))
+  all_done : (said : List OutputEvent) → said ≡ w.says → w.standing ≡ Fine → SaysFirst part s (actions plan) m said
+  all_done said is fine = record {
+    done = actions plan;
+    more = [];
+    actions_are = sym (append-nil (actions plan));
+    fine = fine;
+    says_are = is;
+  }
 
--- along each link
-module _ {P : Type 0} (m : Device P) {E R : Type 0} (Asks : List ℕ → P → Type 0) (T : P → E → Type 0)
-    (After : R → P → Type 0) where
-  pub true_along : (k : ℕ) (d : Dialog E R) (p : P) (turns : List Turn)
-      → HoldsFrom (any_turn m) Asks (λ e q. T q e) After d p → TellsTrue m T k d p turns
-  true_along k (Done r) p turns h = tt
-  true_along k (Say e d) p turns h = (h.0, true_along k d p turns h.1)
-  true_along zero (Ask bytes go_on) p turns h = tt
-  true_along (suc k) (Ask bytes go_on) p turns h = true_along k (go_on _) _ (other_turns turns) (h.1 (first_turn turns))
+  -- where all has gone well
+  module _ (said : List OutputEvent) (y : Spot) (rests : RestsIn part (items plan) m y)
+      (own : Own part s At Fails w Fine said y) (done_true : (q : Programmer)
+      → AllTrue True (closed_says s.quiet part (Ok tt)) q)
+      (fault_true : (fault : StepFault) (q : Programmer) → AllTrue True (fault_told part s fault) q) where
+    left : (z : Spot) → Idle part w.memories z.0 → IsTouched plan m (memories_of z.0.chip)
+    left z i = touched y z rests (i.memories ∙ sym (pass.idle w.memories y own.left).memories)
+
+    abbrev Told : Result ⊤ HostFault → Spot → Type 0
+    Told r z = AllTrue True (closed_says s.quiet part r) z.0
+        × AtEnd plan m Fails (status_of (standing r)) (said ++ closed_says s.quiet part r) z
+
+    closed : (r : Result ⊤ HostFault) (z : Spot) → Idle part w.memories z.0
+        × ((r ≡ Ok tt) ⊎ (Fails × ((fault : StepFault) × (r ≡ Err (host_fault fault))))) → Told r z
+    closed r z (i, inl ok) = subst (λ x. Told x z) (sym ok) (
+      done_true z.0,
+      (
+        left z i,
+        inl (record {
+          said = ap (λ xs. xs ++ closed_says s.quiet part (Ok tt)) own.says_are
+              ∙ sym (ap (λ t. w.says ++ ending_says plan t) own.stands);
+          status_is = sym (ap status_of own.stands);
+          memories = i.memories;
+        }),
+      ),
+    )
+    closed r z (i, inr broke) =
+        let fault = broke.1.0 in
+        subst (λ x. Told x z) (sym broke.1.1) (
+          fault_true fault z.0,
+          (
+            left z i,
+            inr (
+              broke.0,
+              (
+                record { told = said; first = all_done said own.says_are own.stands; fault = fault; says_are = refl },
+                after_fault ⊤ (λ at. status_of at ≡ 1) (host_fault fault) refl refl,
+              ),
+            ),
+          ),
+        )
+
+  -- with a fault: what is left afterwards
+  with_fault : (at : Standing) (said : List OutputEvent) (y z : Spot) → ending_says plan at ≡ [] → status_of at ≡ 1
+      → After part s At Fails (actions plan) m at said y → memories_of z.0.chip ≡ memories_of y.0.chip
+      → AtEnd plan m Fails 1 said z
+  with_fault at said y z none one (rests, inl own) kept = (
+    touched y z rests kept,
+    inl (record {
+      said = own.says_are ∙ sym (ap (λ t. w.says ++ ending_says plan t) own.stands
+          ∙ (ap (λ xs. w.says ++ xs) none ∙ append-nil w.says));
+      status_is = sym one ∙ sym (ap status_of own.stands);
+      memories = kept ∙ (pass.idle w.memories y own.left).memories;
+    }),
+  )
+  with_fault at said y z none one (rests, inr broken) kept =
+      (touched y z rests kept, inr (broken.fails, (broken.line, refl)))
+
+  module _ (opening_true : ActionTrue part s True OpenSession m) (work_true : ActionsTrue part s True (work plan) m)
+      (done_true : (q : Programmer) → AllTrue True (closed_says s.quiet part (Ok tt)) q) where
+    ending_prints : (at : Standing) (said : List OutputEvent) (y : Spot)
+        → After part s At Fails (actions plan) m at said y
+        → Prints True (λ x. AtMoment plan m (said ++ x)) (λ b x. AtEnd plan m Fails (status_of b) (said ++ x))
+        (ending part s at) y
+    ending_prints Fine said y (rests, inl own) =
+        prints_reported True (closed_says s.quiet part) (pass.closes w.memories y own.left)
+        (λ z i. (
+          left said y rests own done_true opening_true.1 z i,
+          inr (inl (all_done (said ++ []) (append-nil said ∙ own.says_are) own.stands)),
+        ))
+        (closed said y rests own done_true opening_true.1)
+    ending_prints Fine said y (rests, inr broken) = absurd (broken.faulty refl)
+    ending_prints Faulty said y after =
+        let before = changed_by part after.0.count (all_steps part (items plan)) m in
+        let left : (z : Spot) → Idle part before z.0 → AtEnd plan m Fails 1 (said ++ []) z =
+        λ z i. subst (λ x. AtEnd plan m Fails 1 x z) (sym (append-nil said))
+        (with_fault Faulty said y z refl refl after (i.memories ∙ sym after.0.stands.memories)) in
+        prints_then True (λ x z now. now)
+        (prints_reported True {Then = λ at x z. AtEnd plan m Fails 1 (said ++ x) z} (λ _. [])
+        (on_line device (closing_goes (Idle part before) (leave_fits part before) y.0 after.0.stands))
+        (λ z i. at_last plan m Fails 1 (said ++ []) z (left z i)) (λ r z x. (tt, left z x.0)))
+        (λ closed x z a. stops True (λ b v. AtEnd plan m Fails (status_of b) (said ++ v)) Over x z a)
+    ending_prints Over said y after =
+        stops True (λ b. AtEnd plan m Fails (status_of b)) Over said y
+        (with_fault Over said y y refl refl after refl)
+
+    pub session_prints : (z : Spot) → Comes part s At Fails OpenSession m z
+        → Prints True (AtMoment plan m) (AtEnd plan m Fails) (session plan) z
+    unfolding session
+    session_prints z opened =
+        prints_then True (λ x y now. now)
+        (prints_then True (λ x y now. (touched y y now.0 refl, inr (inl now.1)))
+        (goes_cons part sound s True At Fails pass OpenSession (work plan) m tt f z opening_true opened
+        (λ y there. goes_actions part sound s True At Fails pass (work plan) m y (work_fits plan fitted) f work_true
+        there)) ending_prints)
+        (λ at said y a. stops True (AtEnd plan m Fails) (status_of at) said y a)

@@ -1,5 +1,5 @@
 -- How much a session asks, by any weight of bodies: at most four times the commands of its plan's steps.
-use Rattle.std.proofs.Common.{◌≡◌, ℕ, ◌+◌, ◌*◌, ◌-◌, ◌≤◌, List, [], ◌∷◌, ◌++◌, map, append_assoc, refl, sym, ap, ◌∙◌, arith, Bool, true, false, Ok, Err, Result, Option}
+use Rattle.std.proofs.Common.{◌≡◌, ℕ, ◌+◌, ◌*◌, ◌-◌, ◌≤◌, List, [], ◌∷◌, ◌++◌, map, append_assoc, refl, sym, ap, ◌∙◌, subst, arith, Bool, true, false, Ok, Err, Result, Option}
 use Rattle.std.proofs.Math.Nat.{suc-mul}
 use Rattle.std.specs.Prelude.{if◌then◌else◌}
 use Rattle.avr_cli.specs.declared.settings.Switches.{Switches}
@@ -21,12 +21,13 @@ use Rattle.stk_host.specs.Dialog.{Dialog, Done, ◌>>=◌}
 use Rattle.stk_host.specs.Steps.{exchange, Reply, Data, Again, Stop, reading_reply, with_data, attempt, StepOutcome, step, if_done, play}
 use Rattle.stk_host.specs.WriteSteps.{write_steps}
 use Rattle.stk_host.specs.ReadSteps.{signature_steps, read_steps}
-use Rattle.stk_host.specs.Operations.{handshake, signature_judged, opening, without_bytes, closing, judged_by, operation, no_result, erasing, writing, reading, comparison, verifying}
+use Rattle.stk_host.specs.Operations.{handshake, signature_judged, opening, without_bytes, closing, judged_by, operation, no_result, writing, comparison}
 use Rattle.stk_host.specs.Bound.{opening_steps, erasing_steps, closing_steps}
 use Rattle.avr_session.specs.Standing.{Standing, Fine, Faulty, Over}
 use Rattle.avr_session.specs.Actions.{Action, OpenSession, EraseChip, WriteImage, CompareImage, SaveMemory, LeaveOut, actions}
-use Rattle.avr_session.specs.Session.{says, standing, reported, unless_fault, fault_or, opening_says, erased_says, written_says, verified_says, closed_says, read_says, left_out_says, action_dialog, actions_dialog, ending, status_of, session}
+use Rattle.avr_session.specs.Session.{says, standing, reported, unless_fault, closed_says, action_dialog, actions_dialog, ending, status_of, session}
 use Rattle.avr_session.specs.PlanSteps.{action_steps, actions_steps, run_steps}
+use Rattle.avr_laws.proofs.Plans.Calls.{call_of, outcome_says, dialog_is}
 use Rattle.avr_laws.specs.AnyLine.{Weight, weighed, bodies_in}
 
 -- what is left of a budget after each question, whatever is read
@@ -169,22 +170,18 @@ module _ (w : Weight) where
       bind (call (asks k left le)) (λ r t e. says_costs (tells r) (standing r) k t e)
 
   module _ (part : Part) (s : Switches) where
+    call_spends : (action : Action) → Spends (4 * total (action_steps part action)) (call_of part s action)
+    call_spends OpenSession = opening_spends part.signature s.force
+    call_spends EraseChip = operation_spends erasing_steps no_result
+    call_spends (WriteImage mem image) = writing_spends part mem image
+    call_spends (CompareImage mem image) = operation_spends (read_steps part mem) (comparison mem image)
+    call_spends (SaveMemory mem format file) = operation_spends (read_steps part mem) Ok
+    call_spends (LeaveOut what) = λ k left le. done (omega (arith, le))
+
     action_costs : (action : Action) → Costs (4 * total (action_steps part action)) (action_dialog part s action)
-    action_costs OpenSession =
-        reported_costs (4 * total opening_steps) (opening part.signature s.force) (opening_says s.quiet part)
-        (opening_spends part.signature s.force)
-    action_costs EraseChip = reported_costs (4 * total erasing_steps) erasing (erased_says s.quiet part)
-        (operation_spends erasing_steps no_result)
-    action_costs (WriteImage mem image) =
-        reported_costs (4 * total (write_steps part mem image)) (writing part mem image)
-        (written_says s.quiet part mem image) (writing_spends part mem image)
-    action_costs (CompareImage mem image) =
-        reported_costs (4 * total (read_steps part mem)) (verifying part mem image)
-        (verified_says s.quiet part mem image) (operation_spends (read_steps part mem) (comparison mem image))
-    action_costs (SaveMemory mem format file) =
-        reported_costs (4 * total (read_steps part mem)) (reading part mem)
-        (fault_or part (read_says s mem format file)) (operation_spends (read_steps part mem) Ok)
-    action_costs (LeaveOut what) = λ k left le. says_costs (left_out_says s.quiet what) Fine k left (omega (arith, le))
+    action_costs action = subst (Costs (4 * total (action_steps part action))) (dialog_is part s action)
+        (reported_costs (4 * total (action_steps part action)) (call_of part s action) (outcome_says part s action)
+        (call_spends action))
 
     actions_cost : (actions : List Action)
         → Costs (4 * total (actions_steps part actions)) (actions_dialog part s actions)

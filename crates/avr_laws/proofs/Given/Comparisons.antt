@@ -1,11 +1,13 @@
--- The output of a comparison without a difference, and which comparisons have none.
-use Rattle.std.proofs.Common.{◌≡◌, ℕ, zero, suc, ◌+◌, ◌<◌, List, [], ◌∷◌, get_or, refl, sym, ap, ◌∙◌, arith, inl, inr, Option, Some, None, unwrap_or, bit_and}
+-- What a comparison without a difference says, and which comparisons have none.
+use Rattle.std.proofs.Common.{◌≡◌, ℕ, zero, suc, ◌+◌, ◌<◌, List, [], ◌∷◌, get_or, refl, sym, ap, ◌∙◌, arith, inl, inr, Bool, true, false, Ok, Err, Option, Some, None, unwrap_or, bit_and}
 use Rattle.std.proofs.lemmas.Bool.{cases_Bool, eqb-true, eq-eqb, cond-true, cond-false}
 use Rattle.std.proofs.Math.Nat.{mod-eq_of_lt}
 use Rattle.std.proofs.lemmas.Grind.{and_numeral}
 use Rattle.std.proofs.lemmas.Nat.{and_comm}
-use Rattle.std.specs.Prelude.{◌==◌}
-use Rattle.stk_host.specs.Operations.{Difference, difference_from}
+use Rattle.std.specs.Prelude.{◌==◌, ◌&&◌}
+use Rattle.std.specs.Str.{bytes_eq}
+use Rattle.stk_host.specs.declared.fault.HostFault.TheVariants.{WrongSignature}
+use Rattle.stk_host.specs.Operations.{Difference, difference_from, signature_judged}
 use Rattle.stk_emu.specs.Effect.{Image, with_image}
 use Rattle.stk_emu.specs.Given.{HoldsImage}
 use Rattle.stk_emu.proofs.Memories.LaidImages.{get_laid, length-laid}
@@ -70,3 +72,21 @@ laid_holds image bytes i b held l =
 
 pub and_from_blank : (b : ℕ) → b < 256 → bit_and 255 b ≡ b
 and_from_blank b l = and_comm 255 b ∙ (and_numeral b 254 refl ∙ mod-eq_of_lt l)
+
+-- ---- the part's own signature
+
+pub bytes_same : (xs : List ℕ) → bytes_eq xs xs ≡ true
+bytes_same [] = refl
+bytes_same (x ∷ xs) = both (x == x) (bytes_eq xs xs) (eq-eqb x x refl) (bytes_same xs)
+  where
+    both : (a b : Bool) → a ≡ true → b ≡ true → (a && b) ≡ true
+    both true b e f = f
+    both false b e f = e
+
+-- it is taken, whether or not any is
+pub signature_taken : (signature : List ℕ) (force : Bool)
+    → signature_judged signature force (Ok signature) ≡ Ok signature
+signature_taken signature true = refl
+signature_taken signature false = cond-true (bytes_eq signature signature) (Ok signature)
+    (Err (WrongSignature signature))
+    (bytes_same signature)

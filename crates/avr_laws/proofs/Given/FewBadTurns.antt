@@ -1,33 +1,32 @@
 -- Over few bad turns each step gives its data, and a run of steps all that they give.
 use Rattle.std.proofs.Common.{◌≡◌, ℕ, zero, suc, ◌+◌, ◌*◌, ◌≤◌, List, [], ◌∷◌, ◌++◌, length, refl, sym, ap, ◌∙◌, subst, arith, append_assoc, inl, inr, ◌⊎◌, Ok, Err}
 use Rattle.std.proofs.lemmas.List.{append-nil}
+use Rattle.std.specs.Prelude.{⊤}
 use Rattle.avr_part.specs.Part.{Part, IsPart}
 use Rattle.stk_frame.specs.declared.command.Command.{Command}
 use Rattle.stk_frame.specs.declared.command.Command.TheVariants.{LoadAddress}
 use Rattle.stk_frame.specs.Commands.{body}
 use Rattle.stk_host.specs.declared.fault.StepFault.{StepFault}
 use Rattle.stk_host.specs.declared.fault.StepFault.TheVariants.{NoAnswer}
-use Rattle.stk_host.specs.Dialog.{Dialog, Done, Say, Ask}
+use Rattle.stk_host.specs.Dialog.{Dialog, Done, Say, Ask, ◌>>=◌}
 use Rattle.stk_host.specs.Bound.{AsksAtMost}
-use Rattle.stk_host.specs.Steps.{Reply, Data, Again, Stop, StepOutcome, reading_reply, with_data, exchange, attempt, end_or_again, tries, step, if_done, play}
+use Rattle.stk_host.specs.Steps.{Reply, Data, Again, Stop, StepOutcome, reading_reply, with_data, exchange, attempt, tries, step, if_done, play}
+use Rattle.stk_host.proofs.Dialogs.Logic.{HoldsFrom, NoSays, OnReply, done, ask, bind, told, wider, attempts}
 use Rattle.stk_host.proofs.Dialogs.Questions.{step_most}
 use Rattle.stk_emu.specs.Turn.{Turn, Became, Kept, Anew, Instead, Ending, Right, Wrong, after_turn, turn_reading, first_turn, other_turns}
 use Rattle.stk_emu.specs.Programmer.{Programmer}
-use Rattle.stk_emu.specs.Device.{Device, device}
-use Rattle.stk_emu.specs.Along.{LineState, along}
+use Rattle.stk_emu.specs.Device.{device}
+use Rattle.stk_emu.specs.Along.{along}
 use Rattle.stk_emu.specs.Effect.{Memories}
 use Rattle.avr_laws.specs.Few.{bad, bad_became, bad_instead, bad_in, FewOf, AreFew, lost, each_second, AreGood}
-use Rattle.avr_laws.proofs.Leads.{Climbs}
 use Rattle.stk_emu.specs.Fits.{Fits}
 use Rattle.stk_emu.specs.Settled.{Ready, FitsPart}
 use Rattle.stk_emu.specs.PageWrites.{changed, changed_by, IsStep, Erases, ProgramsPage, ProgramsRun, ProgramsFuse, ProgramsLock, ReadsFlash, ReadsEeprom, ReadsFuse, ReadsLock, ReadsSignature, ReadsCalibration, AreSteps}
 use Rattle.stk_emu.specs.Given.{on_data, reply_to, joined_reply, given_by, all_given}
-use Rattle.avr_laws.proofs.Hosts.Attempts.{along_bind, onward, step_stands, Stepped}
-use Rattle.avr_laws.proofs.Hosts.AnyTurn.{asks≢done, done_is, try_stands}
-use Rattle.avr_laws.proofs.Given.FirstSteps.{are_some}
-use Rattle.avr_laws.proofs.PageWrites.Conditions.{play_climbs}
+use Rattle.avr_laws.proofs.Hosts.AnyTurn.{AfterStep, try_goes}
+use Rattle.avr_laws.proofs.Hosts.OneLine.{Spot, this_line, Runs, on_line, both, where_done}
 use Rattle.stk_emu.proofs.Answers.Commands.{steady}
-use Rattle.avr_laws.proofs.PageWrites.Steps.{step_ready, all_ready}
+use Rattle.avr_laws.proofs.PageWrites.Steps.{step_ready}
 use Rattle.avr_laws.proofs.PageWrites.OutsideMode.{gathered_steady, stop_no}
 use Rattle.avr_laws.proofs.Given.StepsGive.{step_data, changed_sizes, given_same}
 
@@ -58,28 +57,24 @@ pub good_few : (turns : List Turn) → AreGood turns → AreFew turns
 good_few [] good = tt
 good_few (turn ∷ turns) good = (let none = none_bad 7 (turn ∷ turns) good in omega (arith, none), good_few turns good.1)
 
-module _ {E R P : Type 0} (m : Device P) where
-  -- what holds of the turns to come holds of those that are left
-  pub turns_along : (Line : List Turn → Type 0) → ((turns : List Turn) → Line turns → Line (other_turns turns))
-      → (k : ℕ) (d : Dialog E R) (p : P) (turns : List Turn) → Line turns → Line (along m k d p turns).turns
-  turns_along Line kept k (Done r) p turns line = line
-  turns_along Line kept k (Say s d) p turns line = turns_along Line kept k d p turns line
-  turns_along Line kept zero (Ask bytes go_on) p turns line = line
-  turns_along Line kept (suc k) (Ask bytes go_on) p turns line =
-      turns_along Line kept k (go_on _) _ (other_turns turns) (kept turns line)
+module _ {E R : Type 0} where
+  -- of turns to come few are bad, so of those that are left
+  pub few_left : (k : ℕ) (d : Dialog E R) (p : Programmer) (turns : List Turn) → AreFew turns
+      → AreFew (along device k d p turns).turns
+  few_left k (Done r) p turns few = few
+  few_left k (Say s d) p turns few = few_left k d p turns few
+  few_left zero (Ask bytes go_on) p turns few = few
+  few_left (suc k) (Ask bytes go_on) p turns few = few_left k (go_on _) _ (other_turns turns) (others_few turns few)
 
-  -- a dialog that asks at most `n` questions is done after `n`
-  pub done_within : (n k : ℕ) (d : Dialog E R) (p : P) (turns : List Turn) → AsksAtMost n d → n ≤ k
-      → (r : R) × ((along m k d p turns).dialog ≡ Done r)
+  -- a dialog that asks at most so many questions is done after them
+  pub done_within : (n k : ℕ) (d : Dialog E R) (p : Programmer) (turns : List Turn) → AsksAtMost n d → n ≤ k
+      → (r : R) × ((along device k d p turns).dialog ≡ Done r)
   done_within n k (Done r) p turns asks le = (r, refl)
   done_within n k (Say e d) p turns asks le = done_within n k d p turns asks le
   done_within zero k (Ask bytes go_on) p turns asks le = absurd asks
   done_within (suc n) zero (Ask bytes go_on) p turns asks le = absurd (omega (arith, le))
   done_within (suc n) (suc k) (Ask bytes go_on) p turns asks le =
-      let turn = first_turn turns in
-      let reading = turn_reading turn (m.answer bytes p) in
-      done_within n k (go_on reading) (after_turn turn (m.after bytes p) p m.reset) (other_turns turns) (asks reading)
-      (omega (arith, le))
+      done_within n k (go_on _) _ (other_turns turns) (asks _) (omega (arith, le))
 
 -- the turns after the first `n`
 abbrev behind : ℕ → List Turn → List Turn
@@ -122,17 +117,10 @@ well size turns got then rest (inr s) = inr
     })
 
 -- the frame that went wrong
-wrong : (size : ℕ) (turns : List Turn) (got : List ℕ) (then : Reply) (fault : StepFault) → 1 ≤ bad (first_turn turns)
-    → ◌≡◌ {A = Dialog ⊥ Reply} (Done (Again fault)) (Done then) → Tried (suc size) turns got then (other_turns turns)
-wrong size turns got then fault is e = inr
-    (record {
-      fault = fault;
-      again = sym (done_is (Again fault) then e);
-      place = 0;
-      near = omega arith;
-      went_wrong = is;
-      behind_it = refl;
-    })
+wrong : (size : ℕ) (turns : List Turn) (got : List ℕ) (fault : StepFault) → 1 ≤ bad (first_turn turns)
+    → Tried (suc size) turns got (Again fault) (other_turns turns)
+wrong size turns got fault is = inr
+    (record { fault = fault; again = refl; place = 0; near = omega arith; went_wrong = is; behind_it = refl })
 
 -- Enough frames go well for one attempt and `more` others: at most one frame goes well between two that go wrong.
 record Clear (more : ℕ) (turns : List Turn) : Type 0 where
@@ -212,143 +200,139 @@ few_steady : (turns : List Turn) → AreFew turns → AreSteady turns
 few_steady [] few = tt
 few_steady (turn ∷ turns) few = (not_four turn (let le = few.0 in omega (arith, le)), few_steady turns few.1)
 
-module _ {P : Type 0} (m : Device P) where
-  -- if the dialog ends with this reply, an attempt of `size` frames was tried
-  abbrev TriesTo : ℕ → Reply → List Turn → List ℕ → ℕ → List Turn → Dialog ⊥ Reply → P → Type 0
-  TriesTo k then rest got size turns d q = (along m k d q rest).dialog ≡ Done then
-      → Tried size turns got then (along m k d q rest).turns
+-- ---- attempts and steps, where nothing begins anew
 
-  module _ (k : ℕ) (then : Reply) (go_on : List ℕ → Dialog ⊥ Reply) (go : List ℕ → Reply) (size : ℕ) (turns : List Turn)
-      (got : List ℕ) where
-    -- by the answer to a command that was obeyed
-    answered : (q : P) (reply : Reply)
-        → ((bytes : List ℕ) → go bytes ≡ Data got
-        → TriesTo k then (other_turns turns) got size (other_turns turns) (go_on bytes) q)
-        → on_data reply go ≡ Data got
-        → TriesTo k then (other_turns turns) got (suc size) turns (with_data go_on reply) q
-    answered q (Data bytes) each has e = well size turns got then (along m k (go_on bytes) q (other_turns turns)).turns
-        (each bytes has e)
-    answered q (Again fault) each has e = absurd (again_not fault got has)
-    answered q (Stop fault) each has e = absurd (stop_no fault got has)
+-- wherever a dialog comes to a reply, an attempt of so many frames was tried
+abbrev Tries : ℕ → List Turn → List ℕ → Dialog ⊥ Reply → Spot → Type 0
+Tries size turns got d z = Runs steady (λ y. ⊤) (λ reply y. Tried size turns got reply y.1 × AreFew y.1) d z
 
-    by_turn : (turn : Turn) (command : Command) (p : P) → bad (first_turn turns) ≡ bad turn → IsSteady turn
-        → ((bytes : List ℕ) → go bytes ≡ Data got
-        → TriesTo k then (other_turns turns) got size (other_turns turns) (go_on bytes) (m.after (body command) p))
-        → on_data (reply_to m command p) go ≡ Data got
-        → TriesTo k then (other_turns turns) got (suc size) turns
-        (with_data go_on (reading_reply command (turn_reading turn (m.answer (body command) p))))
-        (after_turn turn (m.after (body command) p) p m.reset)
-    by_turn Right command p is calm each has e = answered (m.after (body command) p) (reply_to m command p) each has e
-    by_turn (Wrong became Ending) command p is calm each has e = absurd calm.1
-    by_turn (Wrong became instead) command p is calm each has e =
-        wrong size turns got then _ (let some = some_bad became in omega (arith, is, some)) e
+module _ (go_on : List ℕ → Dialog ⊥ Reply) (go : List ℕ → Reply) (size : ℕ) (turns : List Turn) (got : List ℕ)
+    (few : AreFew (other_turns turns)) where
+  -- by the answer to a command that was obeyed
+  answered : (q : Programmer) (reply : Reply)
+      → ((bytes : List ℕ) → go bytes ≡ Data got
+      → Tries size (other_turns turns) got (go_on bytes) (q, other_turns turns))
+      → on_data reply go ≡ Data got → Tries (suc size) turns got (with_data go_on reply) (q, other_turns turns)
+  answered q (Data bytes) each has = wider (λ b y x. x) (λ e y x. x)
+      (λ reply y x. (well size turns got reply y.1 x.0, x.1)) (each bytes has)
+  answered q (Again fault) each has = absurd (again_not fault got has)
+  answered q (Stop fault) each has = absurd (stop_no fault got has)
 
-  -- an attempt whose commands would all have data: the data come, or a frame went wrong
-  attempt_tried : (k : ℕ) (commands : List Command) (before : List ℕ) (p : P) (turns : List Turn) (got : List ℕ)
-      (then : Reply) → AreSteady turns → joined_reply m commands before p ≡ Data got
-      → (along m k (attempt commands before) p turns).dialog ≡ Done then
-      → Tried (length commands) turns got then (along m k (attempt commands before) p turns).turns
-  unfolding attempt exchange
-  attempt_tried k [] before p turns got then calm has e = inl (sym (done_is (Data before) then e) ∙ has)
-  attempt_tried zero (command ∷ commands) before p turns got then calm has e = absurd (asks≢done _ _ _ e)
-  attempt_tried (suc k) (command ∷ commands) before p turns got then calm has e =
-      by_turn k then (λ bytes. attempt commands (before ++ bytes))
-      (λ bytes. joined_reply m commands (before ++ bytes) (m.after (body command) p)) (length commands) turns got
-      (first_turn turns) command p refl (first_steady turns calm)
-      (λ bytes f g. attempt_tried k commands (before ++ bytes) (m.after (body command) p) (other_turns turns) got
-      then (others_steady turns calm) f g) has e
+  by_turn : (turn : Turn) (command : Command) (p : Programmer) → bad (first_turn turns) ≡ bad turn → IsSteady turn
+      → ((bytes : List ℕ) → go bytes ≡ Data got
+      → Tries size (other_turns turns) got (go_on bytes) (steady.after (body command) p, other_turns turns))
+      → on_data (reply_to steady command p) go ≡ Data got
+      → Tries (suc size) turns got
+      (with_data go_on (reading_reply command (turn_reading turn (steady.answer (body command) p))))
+      (after_turn turn (steady.after (body command) p) p steady.reset, other_turns turns)
+  by_turn Right command p is calm each has =
+      answered (steady.after (body command) p) (reply_to steady command p) each has
+  by_turn (Wrong became Ending) command p is calm each has = absurd calm.1
+  by_turn (Wrong became instead) command p is calm each has =
+      done (wrong size turns got _ (let some = some_bad became in omega (arith, is, some)), few)
 
-  module _ (Before After : P → Type 0) (commands : List Command) (got : List ℕ) (fits : Fits m commands Before After)
-      (has : (q : P) → Before q ⊎ After q → joined_reply m commands [] q ≡ Data got) where
-    module _ (again : StepFault → Dialog ⊥ StepOutcome) (left : ℕ) (first turns : List Turn) (q : P)
-        (o : StepOutcome) where
-      -- all data come after an attempt that was spent
-      abbrev ComesLater : Reply → Type 0
-      ComesLater then = (fault : StepFault) → Spent (length commands) first then turns
-          → (along m left (again fault) q turns).dialog ≡ Done o → o ≡ Ok got
+-- an attempt whose commands would all have data: they come, or a frame went wrong
+attempt_tried : (commands : List Command) (before : List ℕ) (z : Spot) (got : List ℕ) → AreFew z.1
+    → joined_reply steady commands before z.0 ≡ Data got
+    → Tries (length commands) z.1 got (attempt commands before) z
+unfolding attempt exchange
+attempt_tried [] before z got few has = done (inl has, few)
+attempt_tried (command ∷ commands) before z got few has =
+    let left = others_few z.1 few in
+    let q = steady.after (body command) z.0 in
+    ask tt (λ move. by_turn (λ bytes. attempt commands (before ++ bytes))
+    (λ bytes. joined_reply steady commands (before ++ bytes) q) (length commands) z.1 got left (first_turn z.1) command
+    z.0 refl (first_steady z.1 (few_steady z.1 few))
+    (λ bytes f. attempt_tried commands (before ++ bytes) (q, other_turns z.1) got left f) has)
 
-      after_try : (then : Reply) → ComesLater then → Tried (length commands) first got then turns
-          → (along m left (end_or_again again then) q turns).dialog ≡ Done o → o ≡ Ok got
-      after_try (Data bytes) more (inl is) e =
-          sym (done_is (Ok bytes) o e) ∙ ap (λ x. Ok x) (same_data bytes got is)
-      after_try (Data bytes) more (inr s) e = absurd (again_not s.fault bytes (sym s.again))
-      after_try (Again fault) more (inl is) e = absurd (again_not fault got is)
-      after_try (Again fault) more (inr s) e = more fault s e
-      after_try (Stop fault) more (inl is) e = absurd (stop_no fault got is)
-      after_try (Stop fault) more (inr s) e = absurd (stop_again fault s.fault s.again)
+-- a step of at most two commands, which have these data from under the one condition and the other
+module _ (Before After : Programmer → Type 0) (commands : List Command) (got : List ℕ)
+    (fits : Fits steady commands Before After) (short : length commands ≤ 2)
+    (has : (q : Programmer) → Before q ⊎ After q → joined_reply device commands [] q ≡ Data got) where
+  abbrev Whole : StepOutcome → Spot → Type 0
+  Whole o z = ((o ≡ Ok got) × After z.0) × AreFew z.1
 
-      on_from : (d : Dialog ⊥ Reply)
-          → ((then : Reply) → d ≡ Done then → Tried (length commands) first got then turns)
-          → ((then : Reply) → ComesLater then) → (onward m (end_or_again again) left turns q d).dialog ≡ Done o
-          → o ≡ Ok got
-      on_from (Done then) each more e = after_try then (more then) (each then refl) e
-      on_from (Say s dialog) each more e = absurd s
-      on_from (Ask bytes go_on) each more e = absurd (asks≢done _ _ _ e)
+  -- with so many attempts left
+  abbrev Begins : ℕ → Spot → Type 0
+  Begins zero z = ⊥
+  Begins (suc more) z = (Before z.0 ⊎ After z.0) × (AreFew z.1 × Clear more z.1)
 
-    tries_few : (k more : ℕ) (fault : StepFault) (p : P) (turns : List Turn) (o : StepOutcome) → length commands ≤ 2
-        → AreSteady turns → Before p ⊎ After p → Clear more turns
-        → (along m k (tries (suc more) commands fault) p turns).dialog ≡ Done o → o ≡ Ok got
-    unfolding tries
-    tries_few k zero fault p turns o short calm stood clear e =
-        let s = along m k (attempt commands []) p turns in
-        on_from (tries 0 commands) s.left turns s.turns s.programmer o s.dialog
-        (λ then f. attempt_tried k commands [] p turns got then calm (has p stood) f)
-        (λ then again spent f. absurd (none_wrong spent.place turns (let n = spent.near in omega (arith, n, short))
-        spent.went_wrong clear))
-        (sym (ap (λ z. z.dialog) (along_bind m k (attempt commands []) (end_or_again (tries 0 commands)) p turns)) ∙ e)
-    tries_few k (suc more) fault p turns o short calm stood clear e =
-        let s = along m k (attempt commands []) p turns in
-        on_from (tries (suc more) commands) s.left turns s.turns s.programmer o s.dialog
-        (λ then f. attempt_tried k commands [] p turns got then calm (has p stood) f)
-        (λ then again spent f. tries_few s.left more again s.programmer s.turns o short
-        (turns_along m AreSteady others_steady k (attempt commands []) p turns calm)
-        (try_stands m commands Before After fits k p turns stood)
-        (clear_behind spent.place more turns s.turns (let n = spent.near in omega (arith, n, short)) spent.behind_it
-        spent.went_wrong clear) f)
-        (sym (ap (λ z. z.dialog) (along_bind m k (attempt commands []) (end_or_again (tries (suc more) commands)) p
-        turns)) ∙ e)
+  again : (more : ℕ) (place : ℕ) (turns : List Turn) (y : Spot) → suc place ≤ length commands
+      → 1 ≤ bad (first_turn (behind place turns)) → y.1 ≡ other_turns (behind place turns) → Clear more turns
+      → Before y.0 ⊎ After y.0 → AreFew y.1 → Begins more y
+  again zero place turns y near wrong is clear stood few =
+      none_wrong place turns (omega (arith, near, short)) wrong clear
+  again (suc more) place turns y near wrong is clear stood few =
+      (stood, (few, clear_behind place more turns y.1 (omega (arith, near, short)) is wrong clear))
 
-    -- a step of at most two commands
-    pub step_few : (k : ℕ) (p : P) (turns : List Turn) (o : StepOutcome) → length commands ≤ 2 → AreFew turns → Before p
-        → (along m k (step commands) p turns).dialog ≡ Done o → o ≡ Ok got
-    step_few k p turns o short few before e =
-        tries_few k 3 NoAnswer p turns o short (few_steady turns few) (inl before)
-        (record { here = in_seven turns few; next = in_seven (other_turns turns) (others_few turns few) }) e
+  after_try : (more : ℕ) (turns : List Turn) → Clear more turns → (reply : Reply) (y : Spot)
+      → OnReply (λ q. Before q ⊎ After q) (AfterStep steady commands Before After fits) reply y.0
+      × (Tried (length commands) turns got reply y.1 × AreFew y.1) → OnReply (Begins more) Whole reply y
+  after_try more turns clear (Data bytes) y (stood, (inl is, few)) =
+      ((ap (λ x. Ok x) (same_data bytes got is), stood.0), few)
+  after_try more turns clear (Data bytes) y (stood, (inr s, few)) = absurd (again_not s.fault bytes (sym s.again))
+  after_try more turns clear (Again fault) y (stood, (inl is, few)) = absurd (again_not fault got is)
+  after_try more turns clear (Again fault) y (stood, (inr s, few)) =
+      again more s.place turns y s.near s.went_wrong s.behind_it clear stood few
+  after_try more turns clear (Stop fault) y (stood, (inl is, few)) = absurd (stop_no fault got is)
+  after_try more turns clear (Stop fault) y (stood, (inr s, few)) = absurd (stop_again fault s.fault s.again)
+
+  step_steady : (z : Spot) → Before z.0 → AreFew z.1 → Runs steady (λ y. ⊤) Whole (step commands) z
+  step_steady z before few =
+      attempts (this_line steady) (λ bytes y. ⊤) commands Begins Whole
+      (λ more y begins. wider (λ bytes y x. tt) (λ e y x. x) (after_try more y.1 begins.1.1)
+      (both steady (on_line steady (try_goes steady commands Before After fits y.0 begins.0))
+      (attempt_tried commands [] y got begins.1.0 (gathered_steady commands [] y.0 ∙ has y.0 begins.0))))
+      (λ fault y none. absurd none) 4 NoAnswer z
+      (inl before, (few, record { here = in_seven z.1 few; next = in_seven (other_turns z.1) (others_few z.1 few) }))
 
 same_after : {P : Type 0} (turn : Turn) (obeyed kept : P) (anew other : P → P) → IsSteady turn
     → after_turn turn obeyed kept anew ≡ after_turn turn obeyed kept other
 same_after (Wrong (Anew became) instead) obeyed kept anew other s = absurd s.0
 same_after turn obeyed kept anew other s = refl
 
-along_steady : {E R : Type 0} (k : ℕ) (d : Dialog E R) (p : Programmer) (turns : List Turn) → AreSteady turns
-    → along device k d p turns ≡ along steady k d p turns
-along_steady k (Done r) p turns s = refl
-along_steady k (Say e d) p turns s = along_steady k d p turns s
-along_steady zero (Ask bytes go_on) p turns s = refl
-along_steady (suc k) (Ask bytes go_on) p turns s =
-    let turn = first_turn turns in
-    let d = go_on (turn_reading turn (device.answer bytes p)) in
-    ap (λ q. along device k d q (other_turns turns))
-    (same_after turn (device.after bytes p) p device.reset (λ q. q) (first_steady turns s))
-    ∙ along_steady k d (after_turn turn (device.after bytes p) p (λ q. q)) (other_turns turns) (others_steady turns s)
+-- where nothing begins anew the programmer may begin anew
+on_steady : {R : Type 0} (After : R → Spot → Type 0) (d : Dialog ⊥ R) (z : Spot) → AreSteady z.1
+    → HoldsFrom (this_line steady) (λ bytes y. ⊤) NoSays After d z
+    → HoldsFrom (this_line device) (λ bytes y. ⊤) NoSays After d z
+on_steady After (Done r) z s h = h
+on_steady After (Say e d) z s h = absurd e
+on_steady After (Ask bytes go_on) z s h = (
+  tt,
+  λ move. subst (λ q. HoldsFrom (this_line device) (λ bytes y. ⊤) NoSays After
+      (go_on (turn_reading (first_turn z.1) (device.answer bytes z.0))) (q, other_turns z.1))
+      (same_after (first_turn z.1) (device.after bytes z.0) z.0 (λ q. q) device.reset (first_steady z.1 s))
+      (on_steady After (go_on _) _ (others_steady z.1 s) (h.1 tt)),
+)
 
--- a step of at most two commands, which have these data under either condition
-pub step_steady : (Before After : Programmer → Type 0) (commands : List Command) (got : List ℕ)
-    → Fits steady commands Before After → ((q : Programmer) → Before q ⊎ After q
-    → joined_reply device commands [] q ≡ Data got)
-    → (k : ℕ) (p : Programmer) (turns : List Turn) (o : StepOutcome) → length commands ≤ 2 → AreFew turns → Before p
-    → (along device k (step commands) p turns).dialog ≡ Done o
-    → (o ≡ Ok got) × After (along device k (step commands) p turns).programmer
-step_steady Before After commands got fits has k p turns o short few before e =
-    let same = along_steady k (step commands) p turns (few_steady turns few) in
-    let here : (along steady k (step commands) p turns).dialog ≡ Done o =
-    sym (ap (λ (z : LineState ⊥ StepOutcome Programmer). z.dialog) same) ∙ e in
-    let is : o ≡ Ok got = step_few steady Before After commands got fits
-    (λ q stood. gathered_steady commands [] q ∙ has q stood) k p turns o short few before here in (
-      is,
-      subst (λ (z : LineState ⊥ StepOutcome Programmer). After z.programmer) (sym same)
-          ((step_stands steady Before After k commands p turns fits before).whole got (here ∙ ap (λ x. Done x) is)),
-    )
+-- ---- calls over such a line
+
+-- from each programmer under the one condition to this result and one under the other
+abbrev pub Few : {R : Type 0} → (Programmer → Type 0) → Dialog ⊥ R → R → (Programmer → Type 0) → Type 0
+Few Before d r After = (z : Spot) → Before z.0 → AreFew z.1
+    → Runs device (λ y. ⊤) (λ got y. ((got ≡ r) × After y.0) × AreFew y.1) d z
+
+pub few_bind : {A B : Type 0} (next : A → Dialog ⊥ B) (a : A) (b : B) (Before Between After : Programmer → Type 0)
+    (d : Dialog ⊥ A) → Few Before d a Between → Few Between (next a) b After → Few Before (d >>= next) b After
+few_bind next a b Before Between After d first more z before few = bind (first z before few)
+    (λ got y x. subst (λ o. Runs device (λ y. ⊤) (λ got y. ((got ≡ b) × After y.0) × AreFew y.1) (next o) y) (sym x.0.0)
+    (more y x.0.1 x.1))
+
+-- the outcome of a call, reported otherwise
+pub few_told : {A B : Type 0} (d : Dialog ⊥ A) (tell : A → B) (a : A) (Before After : Programmer → Type 0)
+    → Few Before d a After → Few Before (d >>= (λ outcome. Done (tell outcome))) (tell a) After
+few_told d tell a Before After l z before few =
+    told tell (l z before few) (λ got y x. ((ap tell x.0.0, x.0.1), x.1))
+
+-- a step of at most two commands, which have these data from under the one condition and the other
+pub few_step : (commands : List Command) (got : List ℕ) (Before After : Programmer → Type 0)
+    → Fits steady commands Before After → length commands ≤ 2
+    → ((q : Programmer) → Before q ⊎ After q → joined_reply device commands [] q ≡ Data got)
+    → Few Before (step commands) (Ok got) After
+few_step commands got Before After fits short has z before few = record {
+  holds = on_steady (λ o y. ((o ≡ Ok got) × After y.0) × AreFew y.1) (step commands) z (few_steady z.1 few)
+      (step_steady Before After commands got fits short has z before few).holds;
+}
 
 -- ---- the steps of a host
 
@@ -377,96 +361,46 @@ module _ (part : Part) (sound : IsPart part) where
   data_either commands m is f q (inr t) = step_data part sound commands (changed part commands m) q is
       (changed_sizes part commands m sound f) t ∙ ap Data (given_same part sound commands m is)
 
-  data_steady : (commands : List Command) (m : Memories) → IsStep part commands → FitsPart part m → (q : Programmer)
-      → Ready part m q ⊎ Ready part (changed part commands m) q
-      → joined_reply steady commands [] q ≡ Data (given_by part commands m)
-  data_steady commands m is f q stood = gathered_steady commands [] q ∙ data_either commands m is f q stood
+  few_one : (commands : List Command) (m : Memories) → IsStep part commands → FitsPart part m
+      → Few (Ready part m) (step commands) (Ok (given_by part commands m)) (Ready part (changed part commands m))
+  few_one commands m is f =
+      few_step commands (given_by part commands m) (Ready part m) (Ready part (changed part commands m))
+      (step_ready part sound commands m is) (step_short commands is) (data_either commands m is f)
 
   -- a step gives its data, in at most eight questions
   pub step_comes : (commands : List Command) (m : Memories) (k : ℕ) (p : Programmer) (turns : List Turn)
       → IsStep part commands → FitsPart part m → Ready part m p → AreFew turns → 8 ≤ k
       → (along device k (step commands) p turns).dialog ≡ Done (Ok (given_by part commands m))
-  step_comes commands m k p turns is f s few le =
+  step_comes commands m k p turns is f ready few le =
       let short = step_short commands is in
       let within : (o : StepOutcome) × ((along device k (step commands) p turns).dialog ≡ Done o) =
-      done_within device (4 * length commands) k (step commands) p turns (step_most commands)
-      (omega (arith, short, le)) in
-      within.1 ∙ ap (λ x. Done x) (step_steady (Ready part m) (Ready part (changed part commands m)) commands
-      (given_by part commands m) (step_ready part sound commands m is) (data_either commands m is f) k p turns
-      within.0 short few s within.1).0
+      done_within (4 * length commands) k (step commands) p turns (step_most commands) (omega (arith, short, le)) in
+      within.1 ∙ ap (λ x. Done x)
+      (where_done device (step commands) (p, turns) (few_one commands m is f (p, turns) ready few) k within.0
+      within.1).0.0
 
-  few_on : (left : ℕ) (turns : List Turn) (q : Programmer) (d : Dialog ⊥ StepOutcome)
-      (go_on : List ℕ → Dialog ⊥ StepOutcome)
-      (bytes : List ℕ) (o want : StepOutcome)
-      → ((first : StepOutcome) → d ≡ Done first → first ≡ Ok bytes)
-      → (d ≡ Done (Ok bytes) → (along steady left (go_on bytes) q turns).dialog ≡ Done o → o ≡ want)
-      → (onward steady (if_done go_on) left turns q d).dialog ≡ Done o → o ≡ want
-  few_on left turns q (Done (Ok got)) go_on bytes o want first more e =
-      let same : got ≡ bytes = ok_is got bytes (first (Ok got) refl) in
-      more (ap (λ x. Done (Ok x)) same) (subst (λ x. (along steady left (go_on x) q turns).dialog ≡ Done o) same e)
-    where
-      ok_is : (a b : List ℕ) → ◌≡◌ {A = StepOutcome} (Ok a) (Ok b) → a ≡ b
-      ok_is a b e = cc
-  few_on left turns q (Done (Err fault)) go_on bytes o want first more e =
-      absurd (err_no fault bytes (first (Err fault) refl))
-    where
-      err_no : (fault : StepFault) (bytes : List ℕ) → ◌≡◌ {A = StepOutcome} (Err fault) (Ok bytes) → ⊥
-      err_no fault bytes e = cc
-  few_on left turns q (Say s dialog) go_on bytes o want first more e = absurd s
-  few_on left turns q (Ask x answered) go_on bytes o want first more e = absurd (asks≢done _ _ _ e)
-
-  -- a run of steps gives all that they give
-  play_steady : (steps : List (List Command)) (m : Memories) (k : ℕ) (before : List ℕ) (p : Programmer)
-      (turns : List Turn) (o : StepOutcome) → AreSteps part steps → FitsPart part m → Ready part m p → AreFew turns
-      → (along steady k (play steps before) p turns).dialog ≡ Done o → o ≡ Ok (before ++ all_given part steps m)
+  -- a play of steps comes to all that they give
+  pub few_play : (steps : List (List Command)) (m : Memories) (before : List ℕ) → AreSteps part steps → FitsPart part m
+      → Few (Ready part m) (play steps before) (Ok (before ++ all_given part steps m))
+      (Ready part (changed_by part (length steps) steps m))
   unfolding play
-  play_steady [] m k before p turns o are f s few e =
-      sym (done_is (Ok before) o e) ∙ ap (λ x. Ok x) (sym (append-nil before))
-  play_steady (commands ∷ steps) m k before p turns o are f s few e =
-      let z = along steady k (step commands) p turns in
+  few_play [] m before are f = λ z ready few. done ((ap (λ x. Ok x) (sym (append-nil before)), ready), few)
+  few_play (commands ∷ steps) m before are f =
       let bytes = given_by part commands m in
-      let fits = step_ready part sound commands m are.0 in
-      let stepped : Stepped steady (Ready part m) (Ready part (changed part commands m)) z =
-      step_stands steady (Ready part m) (Ready part (changed part commands m)) k commands p turns fits s in
-      let go_on : List ℕ → Dialog ⊥ StepOutcome = λ got. play steps (before ++ got) in
-      few_on z.left z.turns z.programmer z.dialog go_on bytes o (Ok (before ++ all_given part (commands ∷ steps) m))
-      (λ first is.
-      step_few steady (Ready part m) (Ready part (changed part commands m)) commands bytes fits
-      (data_steady commands m are.0 f) k p turns first (step_short commands are.0) few s is)
-      (λ is done.
-      play_steady steps (changed part commands m) z.left (before ++ bytes) z.programmer z.turns o are.1
-      (changed_sizes part commands m sound f) (stepped.whole bytes is)
-      (turns_along steady AreFew others_few k (step commands) p turns few) done
-      ∙ ap (λ x. Ok x) (append_assoc before bytes (all_given part steps (changed part commands m))))
-      (sym (ap (λ (t : LineState ⊥ StepOutcome Programmer). t.dialog)
-      (along_bind steady k (step commands) (if_done go_on) p turns)) ∙ e)
+      let after = changed part commands m in
+      let left = changed_by part (length steps) steps after in
+      few_bind (if_done (λ got. play steps (before ++ got))) (Ok bytes)
+      (Ok (before ++ all_given part (commands ∷ steps) m)) (Ready part m) (Ready part after) (Ready part left)
+      (step commands) (few_one commands m are.0 f)
+      (subst (λ x. Few (Ready part after) (play steps (before ++ bytes)) (Ok x) (Ready part left))
+      (append_assoc before bytes (all_given part steps after))
+      (few_play steps after (before ++ bytes) are.1 (changed_sizes part commands m sound f)))
 
   pub play_few : (steps : List (List Command)) (m : Memories) (k : ℕ) (before : List ℕ) (p : Programmer)
       (turns : List Turn) (o : StepOutcome) → AreSteps part steps → FitsPart part m → Ready part m p → AreFew turns
       → (along device k (play steps before) p turns).dialog ≡ Done o → o ≡ Ok (before ++ all_given part steps m)
-  play_few steps m k before p turns o are f s few e =
-      play_steady steps m k before p turns o are f s few
-      (sym (ap (λ (z : LineState ⊥ StepOutcome Programmer). z.dialog)
-      (along_steady k (play steps before) p turns (few_steady turns few))) ∙ e)
-
-  -- and the programmer is ready after them
-  pub play_ready : (steps : List (List Command)) (m : Memories) (k : ℕ) (before got : List ℕ) (p : Programmer)
-      (turns : List Turn) → AreSteps part steps → Ready part m p → AreFew turns
-      → (along device k (play steps before) p turns).dialog ≡ Done (Ok got)
-      → Ready part (changed_by part (length steps) steps m) (along device k (play steps before) p turns).programmer
-  play_ready steps m k before got p turns are s few e =
-      let same = along_steady k (play steps before) p turns (few_steady turns few) in
-      let climbs : Climbs steady (λ j. Ready part (changed_by part j steps m)) k steps p turns
-      (along steady k (play steps before) p turns) =
-      play_climbs steady (λ j. Ready part (changed_by part j steps m)) steps k before p turns (are_some part steps are)
-      (all_ready part sound steps m are) s in
-      let whole : climbs.count ≡ length steps =
-      climbs.whole got (sym (ap (λ (z : LineState ⊥ StepOutcome Programmer). z.dialog) same) ∙ e) in
-      subst (λ (z : LineState ⊥ StepOutcome Programmer). Ready part (changed_by part (length steps) steps m)
-      z.programmer)
-      (sym same)
-      (subst (λ count. Ready part (changed_by part count steps m)
-      (along steady k (play steps before) p turns).programmer) whole climbs.stands)
+  play_few steps m k before p turns o are f ready few e =
+      (where_done device (play steps before) (p, turns) (few_play steps m before are f (p, turns) ready few) k o e).0.0
 
 -- four bad frames of seven are too many, both in a row and if each second one is bad
 pub four_too_many : (command : Command) (commands : List Command) (p : Programmer)
@@ -487,7 +421,3 @@ three_of_six = (
     (omega arith, (omega arith, (omega arith, (omega arith, (omega arith, tt))))),
   ),
 )
-
-pub few_left : {E R : Type 0} (k : ℕ) (d : Dialog E R) (p : Programmer) (turns : List Turn) → AreFew turns
-    → AreFew (along device k d p turns).turns
-few_left k d p turns few = turns_along device AreFew others_few k d p turns few

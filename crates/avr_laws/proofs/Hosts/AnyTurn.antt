@@ -128,7 +128,7 @@ module _ {P : Type 0} (m : Device P) where
     wholes q (inl b) got has = fits.whole q got has b
     wholes q (inr a) got has = fits.again q (length commands) a
 
-    try_goes : (p : P) → Either p → Keeps Either (OnReply Either AfterStep) (attempt commands []) p
+    pub try_goes : (p : P) → Either p → Keeps Either (OnReply Either AfterStep) (attempt commands []) p
     try_goes p stood =
         attempt_goes Either AfterStep anew (λ fault q x. x) commands [] p (prefixes p stood)
         (λ got has. (wholes p stood got has, record { from = p; stood = stood; is = has }))
@@ -154,16 +154,7 @@ module _ {P : Type 0} (m : Device P) where
         ended (Ok got) q x = x
         ended (Err fault) q x = failed fault q (either q x)
 
-    -- along each link
-    pub try_stands : (k : ℕ) (p : P) (turns : List Turn) → Either p
-        → Either (along m k (attempt commands []) p turns).programmer
-    try_stands k p turns stood = (leads {After' = λ reply q. ⊤} {turns = turns} at_end (try_goes p stood)).during k
-      where
-        at_end : (reply : Reply) (q : P) → OnReply Either AfterStep reply q → Either q × ⊤
-        at_end (Data got) q x = (inr x.0, tt)
-        at_end (Again fault) q x = (x, tt)
-        at_end (Stop fault) q x = (x, tt)
-
+    -- along each line
     pub step_along : (p : P) (turns : List Turn) → Before p → Leads m (step commands) p turns Either AfterStep
     step_along p turns before = leads at_end (step_goes p before)
       where

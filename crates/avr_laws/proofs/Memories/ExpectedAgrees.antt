@@ -47,7 +47,7 @@ turns_then first next A B between left turns more = turns_on first next A B betw
 
 -- ---- an action
 
-no_difference_if_fine : (mem : Mem) (d : Option Difference) → standing (differs mem d) ≡ Fine → d ≡ None
+pub no_difference_if_fine : (mem : Mem) (d : Option Difference) → standing (differs mem d) ≡ Fine → d ≡ None
 no_difference_if_fine mem None f = refl
 no_difference_if_fine mem (Some d) f = faulty_fine f
 

@@ -16,27 +16,29 @@ use Rattle.avr_plan.specs.Plan.{Plan, IsFitted}
 use Rattle.avr_session.specs.Actions.{TheErase, TheWrite, Action, OpenSession, EraseChip, WriteImage, CompareImage, SaveMemory, LeaveOut, actions}
 use Rattle.avr_session.specs.FileText.{file_text}
 use Rattle.avr_session.specs.Lines.{informs, fault_line}
-use Rattle.avr_session.specs.Session.{signature_says, warns_of_signature, opening_says, saving_says, bytes_say, written_says, verified_says, closed_says, read_says, session}
+use Rattle.avr_session.specs.Session.{signature_says, warns_of_signature, opening_says, saving_says, bytes_say, written_says, verified_says, read_says, standing, session}
+use Rattle.stk_host.specs.Dialog.{Done}
 use Rattle.stk_host.specs.Operations.{difference_from, comparison, host_fault}
 use Rattle.stk_host.specs.declared.fault.HostFault.{HostFault}
 use Rattle.stk_host.specs.declared.fault.StepFault.{StepFault}
-use Rattle.stk_host.specs.declared.fault.StepFault.TheVariants as of_step
 use Rattle.stk_emu.specs.Turn.{Turn}
+use Rattle.stk_emu.specs.Along.{along, said_along}
 use Rattle.stk_emu.specs.Device.{device}
 use Rattle.stk_emu.specs.Effect.{Memories, Image, Item, Erase, Write, effect, effects, memories_of, memory_in}
 use Rattle.avr_laws.proofs.Leads.{Leads}
 use Rattle.stk_emu.specs.Programmer.{Programmer}
 use Rattle.stk_emu.specs.Settled.{Idle, Settled, FitsPart}
 use Rattle.avr_laws.proofs.Given.Comparisons.{no_difference}
-use Rattle.avr_laws.proofs.Hosts.AnyTurn.{leads}
 use Rattle.avr_laws.proofs.PageWrites.Pages.{effects_on}
 use Rattle.avr_laws.specs.Items.{action_items, actions_items, items}
 use Rattle.avr_laws.specs.Told.{TellsTrue, count_line, kept_in, IsTrue, SignatureRead, ChipErased, BytesWritten, BytesVerified, Differed, BytesSaved, BytesRead, EraseLeftOut, WriteLeftOut, StepFailed, SessionDone}
-use Rattle.avr_laws.proofs.AnyLine.EachAction.{AllTrue, ActionTrue, ActionsTrue, none_differs}
-use Rattle.avr_laws.proofs.Hosts.Operations.{IsClosed}
-use Rattle.avr_laws.proofs.AnyLine.Sessions.{Left, session_goes, true_along}
-use Rattle.avr_laws.specs.Outcome.{IsTouched, IsDone}
-use Rattle.avr_laws.proofs.FewBad.Calls.{bytes_same}
+use Rattle.avr_laws.proofs.AnyLine.EachAction.{Comes, Passes, ActionTrue, ActionsTrue, opening_comes}
+use Rattle.avr_laws.proofs.AnyLine.Sessions.{AtMoment, AtEnd, at_last, anyhow, session_prints}
+use Rattle.avr_laws.proofs.Given.Comparisons.{bytes_same}
+use Rattle.avr_laws.proofs.Hosts.OneLine.{Spot, on_line}
+use Rattle.avr_laws.proofs.Hosts.Outputs.{AllTrue, Prints, Printed, at_moment, all_true}
+use Rattle.avr_laws.proofs.Memories.ExpectedAgrees.{no_difference_if_fine, expected_status, expected_memories}
+use Rattle.avr_laws.specs.Outcome.{IsTouched, IsDone, IsExpectedRun}
 use Rattle.avr_laws.proofs.Plans.Fits.{FitsAction, AllFitActions, work, work_fits}
 use Rattle.avr_laws.proofs.Plans.Items.{items_on, erase_first}
 
@@ -57,7 +59,7 @@ hold_not T true xs q e = tt
 hold_not T false xs q e = absurd (cc)
 
 module _ (plan : Plan) (sound : IsPart plan.part) (m0 : Memories) (f0 : FitsPart plan.part m0) where
-  abbrev T : OutputEvent → Programmer → Type 0
+  abbrev pub T : OutputEvent → Programmer → Type 0
   T output q = IsTrue plan m0 (memories_of q.chip) output
 
   informs_hold : (quiet : ℕ) (pieces : List Bytes) (q : Programmer) → T (Line (information pieces)) q
@@ -74,11 +76,6 @@ module _ (plan : Plan) (sound : IsPart plan.part) (m0 : Memories) (f0 : FitsPart
 
   -- ---- the opening
 
-  no_signature : (quiet : ℕ) (fault : StepFault) (q : Programmer)
-      → AllTrue T (opening_says quiet plan.part (Err (host_fault fault))) q
-  no_signature quiet of_step.NoAnswer q = failed of_step.NoAnswer q
-  no_signature quiet fault q = failed fault q
-
   own_signature : (quiet : ℕ) (q : Programmer) → AllTrue T (opening_says quiet plan.part (Ok plan.part.signature)) q
   own_signature quiet q =
       hold_on T (signature_says quiet plan.part.signature) (warns_of_signature quiet plan.part plan.part.signature) q
@@ -94,7 +91,8 @@ module _ (plan : Plan) (sound : IsPart plan.part) (m0 : Memories) (f0 : FitsPart
       counts_hold mem (byte_count image) (codes " bytes verified") q
       (BytesVerified mem image has refl
       (no_difference 0 image (memory_in plan.part mem (memories_of q.chip))
-      (none_differs mem (difference_from 0 image (memory_in plan.part mem (memories_of q.chip))) a e)))
+      (no_difference_if_fine mem (difference_from 0 image (memory_in plan.part mem (memories_of q.chip)))
+      (ap standing e))))
   compared_now mem image q has (Err fault) e = (Differed mem image fault has refl e, tt)
 
   saved_now : (b : Bool) (mem : Mem) (format : Format) (file : Bytes) (q : Programmer)
@@ -107,16 +105,16 @@ module _ (plan : Plan) (sound : IsPart plan.part) (m0 : Memories) (f0 : FitsPart
 
   written_now : (mem : Mem) (image : Image) (first later : List Item) (q : Programmer)
       → items plan ≡ first ++ Write mem image ∷ later
-      → Settled plan.part (effects plan.part (Write mem image ∷ []) (effects plan.part first m0)) q
+      → memories_of q.chip ≡ effects plan.part (Write mem image ∷ []) (effects plan.part first m0)
       → AllTrue T (written_says plan.switches.quiet plan.part mem image (Ok tt)) q
-  written_now mem image first later q order s =
+  written_now mem image first later q order is =
       counts_hold mem (byte_count image) (codes " bytes written") q
       (BytesWritten mem image first later refl order
-      (s.memories ∙ sym (effects_on plan.part first (Write mem image ∷ []) m0)))
+      (is ∙ sym (effects_on plan.part first (Write mem image ∷ []) m0)))
 
   action_true : (action : Action) (done later : List Action) → FitsAction plan.part action
       → actions plan ≡ done ++ action ∷ later
-      → ActionTrue plan.part sound T plan.switches action (effects plan.part (actions_items done) m0)
+      → ActionTrue plan.part plan.switches T action (effects plan.part (actions_items done) m0)
   action_true action done later fits order = by_kind action fits here among
     where
       here : Contains (actions plan) action
@@ -131,27 +129,27 @@ module _ (plan : Plan) (sound : IsPart plan.part) (m0 : Memories) (f0 : FitsPart
 
       by_kind : (a : Action) → FitsAction plan.part a → Contains (actions plan) a
           → items plan ≡ actions_items done ++ (action_items a ++ actions_items later)
-          → ActionTrue plan.part sound T plan.switches a m
+          → ActionTrue plan.part plan.switches T a m
       by_kind OpenSession fits has order = absurd fits
       by_kind EraseChip fits has order = (
-        λ q s.
+        λ q is.
             informs_hold plan.switches.quiet (codes "chip erased" ∷ []) q
-            (ChipErased has refl (s.memories ∙ ap (λ xs. effect plan.part Erase (effects plan.part xs m0))
+            (ChipErased has refl (is ∙ ap (λ xs. effect plan.part Erase (effects plan.part xs m0))
             (erase_first plan (actions_items done) (actions_items later) order))),
         failed,
       )
       by_kind (WriteImage mem image) fits has order =
-          (λ q s. written_now mem image (actions_items done) (actions_items later) q order s, failed)
+          (λ q is. written_now mem image (actions_items done) (actions_items later) q order is, failed)
       by_kind (CompareImage mem image) fits has order = (
-        λ q s.
+        λ q is.
             subst (λ z. AllTrue T (verified_says plan.switches.quiet plan.part mem image
-            (comparison mem image (memory_in plan.part mem z))) q) s.memories
+            (comparison mem image (memory_in plan.part mem z))) q) is
             (compared_now mem image q has (comparison mem image (memory_in plan.part mem (memories_of q.chip))) refl),
         failed,
       )
       by_kind (SaveMemory mem format file) fits has order = (
-        λ q s.
-            subst (λ z. AllTrue T (read_says plan.switches mem format file (memory_in plan.part mem z)) q) s.memories
+        λ q is.
+            subst (λ z. AllTrue T (read_says plan.switches mem format file (memory_in plan.part mem z)) q) is
             (hold_on T (saving_says file (file_text format (kept_in plan mem (memories_of q.chip))))
             (bytes_say plan.switches.quiet mem (length (kept_in plan mem (memories_of q.chip)))
             (codes " bytes read")) q
@@ -161,11 +159,16 @@ module _ (plan : Plan) (sound : IsPart plan.part) (m0 : Memories) (f0 : FitsPart
             (BytesRead mem format file has refl))),
         failed,
       )
-      by_kind (LeaveOut TheErase) fits has order = λ q s.
-          hold_unless T (nat_lt 1 plan.switches.quiet) (Line (warning (codes "chip not erased because of -n" ∷ []))) q
-          (EraseLeftOut has refl)
-      by_kind (LeaveOut (TheWrite mem image)) fits has order =
-          λ q s. counts_hold mem (byte_count image) (codes " bytes not written") q (WriteLeftOut mem image has refl)
+      by_kind (LeaveOut TheErase) fits has order = (
+        λ q is.
+            hold_unless T (nat_lt 1 plan.switches.quiet) (Line (warning (codes "chip not erased because of -n" ∷ []))) q
+            (EraseLeftOut has refl),
+        failed,
+      )
+      by_kind (LeaveOut (TheWrite mem image)) fits has order = (
+        λ q is. counts_hold mem (byte_count image) (codes " bytes not written") q (WriteLeftOut mem image has refl),
+        failed,
+      )
 
   -- the memories after one more action
   one_more : (done : List Action) (action : Action)
@@ -177,44 +180,63 @@ module _ (plan : Plan) (sound : IsPart plan.part) (m0 : Memories) (f0 : FitsPart
       ∙ effects_on plan.part (actions_items done) (action_items action) m0
 
   actions_true : (later done : List Action) → AllFitActions plan.part later → actions plan ≡ done ++ later
-      → ActionsTrue plan.part sound T plan.switches later (effects plan.part (actions_items done) m0)
+      → ActionsTrue plan.part plan.switches T later (effects plan.part (actions_items done) m0)
   actions_true [] done fit order = tt
   actions_true (action ∷ later) done fit order = (
     action_true action done later fit.0 order,
-    subst (ActionsTrue plan.part sound T plan.switches later) (one_more done action)
+    subst (ActionsTrue plan.part plan.switches T later) (one_more done action)
         (actions_true later (done ++ action ∷ []) fit.1 (order ∙ sym (append_assoc done (action ∷ []) later))),
   )
 
-  -- ---- the end
+  -- ---- a session
 
-  closed_true : (r : Result ⊤ HostFault) (q : Programmer) → IsClosed r
-      → AllTrue T (closed_says plan.switches.quiet plan.part r) q
-  closed_true r q (inl e) = subst (λ x. AllTrue T (closed_says plan.switches.quiet plan.part x) q) (sym e)
-      (informs_hold plan.switches.quiet (codes "done" ∷ []) q (SessionDone refl))
-  closed_true r q (inr broke) = subst (λ x. AllTrue T (closed_says plan.switches.quiet plan.part x) q) (sym broke.1)
-      (failed broke.0 q)
+  -- on any line, or where no step fails
+  pub session_prints_true : All (IsFitted plan.part) plan.tasks → (At : Memories → Spot → Type 0) (Fails : Type 0)
+      → Passes plan.part plan.switches At Fails → (z : Spot)
+      → Comes plan.part plan.switches At Fails OpenSession m0 z
+      → Prints T (AtMoment plan m0) (AtEnd plan m0 Fails) (session plan) z
+  session_prints_true fitted At Fails pass z opened =
+      session_prints plan sound fitted T At Fails pass m0 f0
+      (λ q is. own_signature plan.switches.quiet q, failed)
+      (actions_true (work plan) (OpenSession ∷ []) (work_fits plan fitted) refl)
+      (λ q. informs_hold plan.switches.quiet (codes "done" ∷ []) q (SessionDone refl)) z opened
 
-  -- a session
+  pub session_goes : All (IsFitted plan.part) plan.tasks → (p : Programmer) (turns : List Turn) → Idle plan.part m0 p
+      → Prints T (AtMoment plan m0) (AtEnd plan m0 ⊤) (session plan) (p, turns)
+  session_goes fitted p turns idle =
+      session_prints_true fitted (λ m z. Settled plan.part m z.0) ⊤ (anyhow plan.part sound plan.switches) (p, turns)
+      (on_line device (opening_comes plan.part sound plan.switches m0 f0 p idle))
+
   pub session_tells : All (IsFitted plan.part) plan.tasks → (k : ℕ) (p : Programmer) (turns : List Turn)
       → Idle plan.part m0 p
       → TellsTrue device (λ q output. IsTrue plan m0 (memories_of q.chip) output) k (session plan) p turns
   session_tells fitted k p turns idle =
-      true_along device (λ bytes q. IsTouched plan m0 (memories_of q.chip)) (λ q output. T output q)
-      (Left plan sound fitted m0 f0) k (session plan) p turns
-      (session_goes plan sound fitted m0 f0 T (
-        λ q s. own_signature plan.switches.quiet q,
-        no_signature plan.switches.quiet,
-      )
-      (actions_true (work plan) (OpenSession ∷ []) (work_fits plan fitted) refl) closed_true p idle).holds
+      all_true T (AtMoment plan m0) (AtEnd plan m0 ⊤) k (session plan) (p, turns)
+      (session_goes fitted p turns idle).holds
 
--- what a session leaves
-pub session_leaves : (plan : Plan) (sound : IsPart plan.part) (fitted : All (IsFitted plan.part) plan.tasks)
-    (m : Memories) (f : FitsPart plan.part m) (p : Programmer) (turns : List Turn)
-    → Idle plan.part m p → Leads device (session plan) p turns (λ q. IsTouched plan m (memories_of q.chip))
-    (λ status q. status ≡ 0 → IsDone plan m (memories_of q.chip))
-session_leaves plan sound fitted m f p turns idle =
-    leads device (λ r q x. x)
-    (session_goes plan sound fitted m f (T plan sound m f)
-    (λ q s. own_signature plan sound m f plan.switches.quiet q, no_signature plan sound m f plan.switches.quiet)
-    (actions_true plan sound m f (work plan) (OpenSession ∷ []) (work_fits plan fitted) refl)
-    (closed_true plan sound m f) p idle)
+  -- along it
+  pub session_along : All (IsFitted plan.part) plan.tasks → (k : ℕ) (p : Programmer) (turns : List Turn)
+      → Idle plan.part m0 p → Printed (AtMoment plan m0) (AtEnd plan m0 ⊤) k (session plan) (p, turns)
+  session_along fitted k p turns idle = at_moment T (at_last plan m0 ⊤) k (session_goes fitted p turns idle)
+
+  -- with status 0 it has its expected run
+  pub session_succeeds : All (IsFitted plan.part) plan.tasks → (k status : ℕ) (p : Programmer) (turns : List Turn)
+      → Idle plan.part m0 p → (along device k (session plan) p turns).dialog ≡ Done status → status ≡ 0
+      → IsExpectedRun plan m0 (memories_of (along device k (session plan) p turns).programmer.chip)
+      (said_along device k (session plan) p turns) status
+  session_succeeds fitted k status p turns idle e zero = elim ((session_along fitted k p turns idle).after status e).1 [
+    | inl own ↦ own
+    | inr broke ↦ let one = broke.1.1 in absurd (omega (arith, zero, one))
+  ]
+
+  -- what it leaves
+  pub session_leaves : All (IsFitted plan.part) plan.tasks → (p : Programmer) (turns : List Turn) → Idle plan.part m0 p
+      → Leads device (session plan) p turns (λ q. IsTouched plan m0 (memories_of q.chip))
+      (λ status q. status ≡ 0 → IsDone plan m0 (memories_of q.chip))
+  session_leaves fitted p turns idle = record {
+    during = λ k. (session_along fitted k p turns idle).now.0;
+    after = λ k status e zero.
+        let run = session_succeeds fitted k status p turns idle e zero in
+        let agrees = (expected_status plan m0).0 (sym run.status_is ∙ zero) in
+        record { memories = run.memories ∙ expected_memories plan m0 agrees; agrees = agrees };
+  }
