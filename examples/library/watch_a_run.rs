@@ -37,7 +37,7 @@ struct Progress<W> {
 impl<W: Write> WatchLink for Progress<W> {
     ghost after = { λ call old new. Unit {0} };
 
-    fn told(&mut self, call: &LinkCall<'_>) {
+    fn on_call(&mut self, call: &LinkCall<'_>) {
         if let LinkCall::Sent(_, Ok(_)) = call {
             self.sent += 1;
             let _ = write!(self.out, "{}% ", self.sent * 100 / self.all);
@@ -54,7 +54,7 @@ struct Notes<W> {
 impl<W: Write> WatchDesk for Notes<W> {
     ghost after = { λ call old new. Unit {0} };
 
-    fn told(&mut self, call: &DeskCall<'_>) {
+    fn on_call(&mut self, call: &DeskCall<'_>) {
         let _ = match call {
             DeskCall::Opened(name, Ok(())) => writeln!(self.out, "opened {name}"),
             DeskCall::Wrote(Stream::Messages, bytes, _) => self.out.write_all(bytes),

@@ -115,7 +115,7 @@ struct Tally {
 impl WatchDesk for Tally {
     ghost after = { λ call old new. Unit {0} };
 
-    fn told(&mut self, call: &DeskCall<'_>) {
+    fn on_call(&mut self, call: &DeskCall<'_>) {
         match call {
             DeskCall::Opened(_, Err(DeskFault::NotFound)) => {
                 self.absent = self.absent.saturating_add(1);

@@ -6,13 +6,13 @@ use crate::settings::SettingsFault;
 use crate::text::Text;
 use std::alloc::Global;
 
-pub fn owned(alloc: Global, text: &str) -> Result<Text, SettingsFault>
+pub(crate) fn owned(alloc: Global, text: &str) -> Result<Text, SettingsFault>
     ensures { GivesOrMemory (Ok text.now) result }
 {
     Text::new(alloc, text).map_err(|_| SettingsFault::Memory)
 }
 
-pub fn owned_option(alloc: Global, text: Option<&str>) -> Result<Option<Text>, SettingsFault>
+pub(crate) fn owned_option(alloc: Global, text: Option<&str>) -> Result<Option<Text>, SettingsFault>
     ensures { GivesOrMemory (Ok (option_map (λ s. s.now) text.entry)) result }
 {
     match text {

@@ -87,7 +87,7 @@ fn port_of(alloc: Global, text: &str) -> Result<Port, SettingsFault>
     }
 }
 
-pub fn port_given(alloc: Global, text: Option<&str>) -> Result<Port, SettingsFault>
+pub(crate) fn port_given(alloc: Global, text: Option<&str>) -> Result<Port, SettingsFault>
     ensures gives { GivesOrMemory (port_given_of (option_map (λ s. s.now) text.entry)) result }
     ensures tells { TellsAnyway (port_given_of (option_map (λ s. s.now) text.entry)) result }
 {
@@ -98,7 +98,7 @@ pub fn port_given(alloc: Global, text: Option<&str>) -> Result<Port, SettingsFau
 }
 
 /// Reads the port of `--serve` and the file of `--chip`. A bad number is reported before a missing file.
-pub fn served(alloc: Global, text: &str, chip: Option<&str>) -> Result<Port, SettingsFault>
+pub(crate) fn served(alloc: Global, text: &str, chip: Option<&str>) -> Result<Port, SettingsFault>
     ensures gives { GivesOrMemory (served_at text.now (port_number text.now) (option_map (λ s. s.now) chip.entry))
         result }
     ensures tells { TellsAnyway (served_at text.now (port_number text.now) (option_map (λ s. s.now) chip.entry))

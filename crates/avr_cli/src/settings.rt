@@ -137,7 +137,7 @@ pub enum SettingsFault {
 }
 
 impl SettingsFault {
-    /// Returns the number of the fault, from 1 on. It is not the order in which faults are reported.
+    /// Returns the fault's number, which never changes. It is not the order in which faults are reported.
     ///
     /// ```text
     /// assert_eq!(rt; SettingsFault::NoPart.number(), 1);

@@ -71,7 +71,7 @@ fn is_taken(port: &Port, updates: &[Update], parts: Option<&str>, chip: Option<&
 
 /// Refuses a standard stream that is asked for twice, or in place of a file. The files of `--parts` and `--chip`
 /// count even if they are not used.
-pub fn check_streams(
+pub(crate) fn check_streams(
     port: &Port,
     updates: &[Update],
     parts: Option<&str>,

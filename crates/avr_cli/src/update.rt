@@ -135,7 +135,7 @@ pub enum UpdateFault {
 }
 
 impl UpdateFault {
-    /// Returns the number of the fault, from 1 on, in this order.
+    /// Returns the fault's number, which never changes.
     ///
     /// ```text
     /// assert_eq!(rt; UpdateFault::NoFile.number(), 4);

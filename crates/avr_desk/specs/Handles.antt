@@ -15,8 +15,8 @@ use Rattle.avr_desk.specs.declared.record.Open.TheVariants as is
 use Rattle.avr_desk.specs.declared.record.Opening.TheVariants.{Absent, Found}
 use Rattle.avr_desk.specs.declared.record.Reading.{Reading}
 use Rattle.avr_desk.specs.declared.record.Writing.{Writing}
-use Rattle.avr_desk.specs.declared.system.Held.{Held}
-use Rattle.avr_desk.specs.declared.system.Held.TheVariants.{Nothing, Input, ToRead, ToWrite, Output}
+use Rattle.avr_desk.specs.declared.system.OpenFile.{OpenFile}
+use Rattle.avr_desk.specs.declared.system.OpenFile.TheVariants.{Nothing, Input, ToRead, ToWrite, Output}
 
 -- what a handle gave between `first` and `now`: its next bytes, and none are left if its end was seen
 pub record HasGiven {H : Type 0} (reads : Reads H) (first now : H) (reading : Reading) : Type 0 where
@@ -38,7 +38,7 @@ TookFile {F = F} system writes now writing =
     × Appends (writes.contents first) (writes.contents now) writing.bytes
 
 -- what is open is what the record says
-abbrev pub IsTrueOpen : {S F H I : Type 0} → Ghosts S F H → Reads F → Writes F → Reads I → Held F I → Open → Type 0
+abbrev pub IsTrueOpen : {S F H I : Type 0} → Ghosts S F H → Reads F → Writes F → Reads I → OpenFile F I → Open → Type 0
 IsTrueOpen system reads writes input Nothing current = current ≡ is.Closed
 IsTrueOpen system reads writes input (Input now) current =
     (reading : Reading) × (current ≡ is.ToRead reading) × GaveInput input now reading
@@ -65,7 +65,7 @@ IsHeldBy system hold name = ⊥
 
 -- All that the record says of files and standard input is what the system returned for the names asked.
 pub record IsTrueRecord {S F H I : Type 0} (system : Ghosts S F H) (reads : Reads F) (writes : Writes F)
-    (input : Reads I) (opened : Held F I) (hold : Option H) (kept : Record) : Type 0 where
+    (input : Reads I) (opened : OpenFile F I) (hold : Option H) (kept : Record) : Type 0 where
   pub uses : All (IsTrueUse system reads writes input) kept.uses
   pub current : IsTrueOpen system reads writes input opened kept.current
   pub denied : All system.denies kept.denied

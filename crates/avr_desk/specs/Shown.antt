@@ -15,7 +15,7 @@ use Rattle.avr_desk.specs.declared.record.Writing.{Writing}
 use Rattle.avr_desk.specs.declared.stream.Stream.{Stream}
 use Rattle.avr_desk.specs.declared.desk.DeskFault.{DeskFault}
 use Rattle.avr_desk.specs.declared.desk.DeskFault.TheVariants.{Failed, NotFound}
-use Rattle.avr_desk.specs.declared.system.Held.{Held}
+use Rattle.avr_desk.specs.declared.system.OpenFile.{OpenFile}
 
 -- The writers; the failures, those at the messages, and the last error; the handles of what is open and held; the
 -- record, which is kept for proofs alone.
@@ -24,8 +24,8 @@ pub record Shown (F H I O E : Type 0) : Type 0 where
   pub messages : E
   pub failures : ℕ
   pub unsaid : ℕ
-  pub error : Option ErrorKind
-  pub opened : Held F I
+  pub last_error : Option ErrorKind
+  pub opened : OpenFile F I
   pub hold : Option H
   pub kept : Record
 

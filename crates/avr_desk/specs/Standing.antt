@@ -4,42 +4,42 @@ use Rattle.std.specs.Io.KnownBytes.{Consumes, IsAtEnd, Keeps}
 use Rattle.std.specs.declared.io.Read.{Ghosts as Reads}
 use Rattle.avr_desk.specs.Record.{Bytes, is_to_read, is_to_write}
 use Rattle.avr_desk.specs.declared.record.Open.{Open}
-use Rattle.avr_desk.specs.declared.system.Held.{Held}
-use Rattle.avr_desk.specs.declared.system.Held.TheVariants.{Input, ToRead, ToWrite, Output}
+use Rattle.avr_desk.specs.declared.system.OpenFile.{OpenFile}
+use Rattle.avr_desk.specs.declared.system.OpenFile.TheVariants.{Input, ToRead, ToWrite, Output}
 
-abbrev pub is_output : {F I : Type 0} → Held F I → Bool
+abbrev pub is_output : {F I : Type 0} → OpenFile F I → Bool
 is_output Output = true
-is_output held = false
+is_output opened = false
 
-abbrev pub gives : {F I : Type 0} → Held F I → Bool
+abbrev pub gives : {F I : Type 0} → OpenFile F I → Bool
 gives (Input i) = true
 gives (ToRead f) = true
-gives held = false
+gives opened = false
 
-abbrev pub takes : {F I : Type 0} → Held F I → Bool
+abbrev pub takes : {F I : Type 0} → OpenFile F I → Bool
 takes (ToWrite f) = true
 takes Output = true
-takes held = false
+takes opened = false
 
 -- what is open is what the record says
-pub record Stands {F I : Type 0} (held : Held F I) (current : Open) : Type 0 where
-  pub reads : is_to_read current ≡ gives held
-  pub writes : is_to_write current ≡ takes held
+pub record Stands {F I : Type 0} (opened : OpenFile F I) (current : Open) : Type 0 where
+  pub reads : is_to_read current ≡ gives opened
+  pub writes : is_to_write current ≡ takes opened
 
 -- a handle gave n bytes into the start of the buffer, and none only at its end or without room
 pub record GivesBytes {H : Type 0} (reads : Reads H) (old new : H) (buf : Bytes) (n : ℕ) : Type 0 where
   pub gave : Consumes (reads.remaining old) (reads.remaining new) (take n buf)
   pub ends : n ≡ 0 → 0 < length buf → IsAtEnd (reads.remaining new)
 
-abbrev pub HeldGives : {F I : Type 0} → Reads F → Reads I → Held F I → Held F I → Bytes → ℕ → Type 0
-HeldGives {I = I} reads input (Input old) new buf n = (now : I) × (new ≡ Input now) × GivesBytes input old now buf n
-HeldGives {F = F} reads input (ToRead old) new buf n = (now : F) × (new ≡ ToRead now) × GivesBytes reads old now buf n
-HeldGives reads input old new buf n = ⊥
+abbrev pub FileGives : {F I : Type 0} → Reads F → Reads I → OpenFile F I → OpenFile F I → Bytes → ℕ → Type 0
+FileGives {I = I} reads input (Input old) new buf n = (now : I) × (new ≡ Input now) × GivesBytes input old now buf n
+FileGives {F = F} reads input (ToRead old) new buf n = (now : F) × (new ≡ ToRead now) × GivesBytes reads old now buf n
+FileGives reads input old new buf n = ⊥
 
 -- it gave none, and is still open
-abbrev pub HeldGivesNone : {F I : Type 0} → Reads F → Reads I → Held F I → Held F I → Type 0
-HeldGivesNone {I = I} reads input (Input old) new =
+abbrev pub FileGivesNone : {F I : Type 0} → Reads F → Reads I → OpenFile F I → OpenFile F I → Type 0
+FileGivesNone {I = I} reads input (Input old) new =
     (now : I) × (new ≡ Input now) × Keeps (input.remaining old) (input.remaining now)
-HeldGivesNone {F = F} reads input (ToRead old) new =
+FileGivesNone {F = F} reads input (ToRead old) new =
     (now : F) × (new ≡ ToRead now) × Keeps (reads.remaining old) (reads.remaining now)
-HeldGivesNone reads input old new = new ≡ old
+FileGivesNone reads input old new = new ≡ old

@@ -28,7 +28,7 @@ pub enum FileFault {
 }
 
 impl FileFault {
-    /// Returns the fault's number, from 1 on, which no later version changes.
+    /// Returns the fault's number, which never changes.
     pub fn number(&self) -> u8
         ensures { result ≡ file_fault_number self.now }
     {

@@ -6,7 +6,7 @@ ghost use Rattle.avr_desk.specs.Memory.{MemDeskState, Stock, stock_of};
 ghost use Rattle.avr_desk.specs.Record.{all_uses, nothing_kept};
 ghost use Rattle.avr_desk.specs.Shown.{IsTrueSince};
 ghost use Rattle.avr_desk.specs.Truth.{AreTrue, HoldsTrue};
-ghost use Rattle.avr_desk.specs.declared.system.Held.TheVariants.{Nothing};
+ghost use Rattle.avr_desk.specs.declared.system.OpenFile.TheVariants.{Nothing};
 
 use crate::file_system::FileSystem;
 use crate::mem_desk::MemDesk;

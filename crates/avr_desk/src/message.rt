@@ -2,6 +2,7 @@
 ghost use Rattle.std.specs.Prelude.{◌≡◌, ◌≤◌, ◌∷◌, [], length, map};
 ghost use Rattle.avr_desk.specs.Lines.{text_of, error, file_pieces, memory_pieces, not_created_pieces, not_written_pieces, too_long_pieces};
 ghost use Rattle.avr_desk.specs.Said.{Tells};
+ghost use Rattle.avr_desk.specs.declared.message.TheConstants.{MOST_PIECES};
 ghost use Rattle.ghosts.specs.Stays.{Stays};
 
 use crate::desk::Desk;
@@ -10,24 +11,25 @@ use crate::line::{Piece, print_error};
 use std::marker::Model;
 
 /// The most pieces of a message.
-const MOST: usize = 8;
+const MOST_PIECES: usize = 8;
 
 /// The text of a line, in at most eight pieces. Contracts see it as the list of their texts.
 #[derive(Debug, Drop)]
 pub struct Message<'a> {
-    pieces: [Piece<'a>; MOST],
+    pieces: [Piece<'a>; MOST_PIECES],
     count: usize,
 }
 
 impl<'a> Model for Message<'a> {
     ghost use Rattle.std.specs.Prelude.{◌≤◌, ℕ, List, map, take};
     ghost use Rattle.avr_desk.specs.Lines.{text_of};
+    ghost use Rattle.avr_desk.specs.declared.message.TheConstants.{MOST_PIECES};
 
     ghost Value = { List (List ℕ) };
 
     ghost view = { λ m. map text_of (take m.count m.pieces) };
 
-    ghost invariant = { λ m. m.count ≤ 8 };
+    ghost invariant = { λ m. m.count ≤ MOST_PIECES };
 }
 
 impl<'a> Message<'a> {
@@ -38,10 +40,10 @@ impl<'a> Message<'a> {
     /// refuse(&mut desk, &message)
     /// ```
     pub fn new(pieces: &[Piece<'a>]) -> Message<'a>
-        requires { length pieces.now ≤ 8 }
+        requires { length pieces.now ≤ MOST_PIECES }
         ensures { result ≡ map text_of pieces.now }
     {
-        let mut held = [Piece::Text(""); MOST];
+        let mut held = [Piece::Text(""); MOST_PIECES];
         held[..pieces.len()].copy_from_slice(pieces);
         Message {
             pieces: held,

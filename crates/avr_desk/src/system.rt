@@ -7,11 +7,11 @@ ghost use Rattle.ghosts.specs.Stays.{Stays};
 ghost use Rattle.avr_desk.specs.Fault.{Counts, WriteCounts};
 ghost use Rattle.avr_desk.specs.Record.{HasOpen, Passes, after_open, after_create, after_hold, after_read, after_replace, released, is_to_read, is_to_write, nothing_kept};
 ghost use Rattle.avr_desk.specs.Shown.{AppendsTaken, IsTrueSince, KeepsError, Shown, TakesTruly, shown_state, to_output, to_output_opened, to_output_created, to_output_replaced};
-ghost use Rattle.avr_desk.specs.Standing.{HeldGives, HeldGivesNone};
+ghost use Rattle.avr_desk.specs.Standing.{FileGives, FileGivesNone};
 ghost use Rattle.avr_desk.specs.Stream.{SendsTaken};
 ghost use Rattle.avr_desk.specs.declared.desk.DeskFault.TheVariants.{Failed};
 ghost use Rattle.avr_desk.specs.declared.stream.Stream.TheVariants.{File, Output, Messages};
-ghost use Rattle.avr_desk.specs.declared.system.Held.TheVariants.{Nothing};
+ghost use Rattle.avr_desk.specs.declared.system.OpenFile.TheVariants.{Nothing};
 
 use crate::desk::{Desk, DeskFault};
 use crate::file_system::FileSystem;
@@ -24,8 +24,9 @@ use std::io::{ErrorKind, Read, Write};
 use std::marker::Model;
 use std::{fmt, io};
 
+/// What a desk has open.
 #[derive(Drop)]
-enum Held<F, I> {
+enum OpenFile<F, I> {
     Nothing,
     Input(I),
     ToRead(F),
@@ -48,11 +49,11 @@ pub struct SystemDesk<'a, R: FileSystem + Input, O: Write + Drop, E: Write + Dro
     rt: &'a R,
     output: O,
     messages: E,
-    held: Held<R::File, R::Reader>,
+    opened: OpenFile<R::File, R::Reader>,
     replacement: Option<R::Hold>,
     failures: u64,
     unsaid: u64,
-    error: Option<ErrorKind>,
+    last_error: Option<ErrorKind>,
     journal: Journal,
 }
 
@@ -68,23 +69,23 @@ impl<'a, R: FileSystem + Input, O: Write + Drop, E: Write + Drop> Model
       messages = desk.messages;
       failures = desk.failures;
       unsaid = desk.unsaid;
-      error = desk.error;
-      opened = desk.held;
+      last_error = desk.last_error;
+      opened = desk.opened;
       hold = desk.replacement;
       kept = desk.journal.kept;
     } };
 
-    ghost invariant = { λ desk. Stands desk.held desk.journal.kept.current };
+    ghost invariant = { λ desk. Stands desk.opened desk.journal.kept.current };
 }
 
-fn read_held<F: Read, I: Read>(held: &mut Held<F, I>, buf: &mut [u8]) -> io::Result<usize>
+fn read_opened<F: Read, I: Read>(opened: &mut OpenFile<F, I>, buf: &mut [u8]) -> io::Result<usize>
     ensures bound { IfOk result (λ n. n ≤ length buf.new) }
-    ensures ok { IfOk result (λ n. HeldGives F.Read I.Read held.old held.new buf.new n) }
-    ensures err { OnErr result (HeldGivesNone F.Read I.Read held.old held.new) }
+    ensures ok { IfOk result (λ n. FileGives F.Read I.Read opened.old opened.new buf.new n) }
+    ensures err { OnErr result (FileGivesNone F.Read I.Read opened.old opened.new) }
 {
-    match held {
-        Held::Input(input) => read_some(input, buf),
-        Held::ToRead(file) => read_some(file, buf),
+    match opened {
+        OpenFile::Input(input) => read_some(input, buf),
+        OpenFile::ToRead(file) => read_some(file, buf),
         _ => Err(io::Error::from(ErrorKind::NotFound)),
     }
 }
@@ -135,7 +136,7 @@ impl<'a, R: FileSystem + Input, O: Write + Drop, E: Write + Drop> SystemDesk<'a,
           messages = messages;
           failures = 0;
           unsaid = 0;
-          error = None;
+          last_error = None;
           opened = Nothing;
           hold = None;
           kept = nothing_kept;
@@ -145,11 +146,11 @@ impl<'a, R: FileSystem + Input, O: Write + Drop, E: Write + Drop> SystemDesk<'a,
             rt,
             output,
             messages,
-            held: Held::Nothing,
+            opened: OpenFile::Nothing,
             replacement: None,
             failures: 0,
             unsaid: 0,
-            error: None,
+            last_error: None,
             journal: Journal::new(),
         }
     }
@@ -158,9 +159,9 @@ impl<'a, R: FileSystem + Input, O: Write + Drop, E: Write + Drop> SystemDesk<'a,
     /// writer's, such as `StorageFull`. It is `WriteZero` if a writer took no byte, and `NotFound` if no file was
     /// open to read or write. A success keeps it, and so does opening a file that doesn't exist, which is no failure.
     pub fn last_error(&self) -> Option<ErrorKind>
-        ensures { result ≡ self.now.error }
+        ensures { result ≡ self.now.last_error }
     {
-        self.error
+        self.last_error
     }
 
     fn leave_replacement(&mut self)
@@ -185,32 +186,32 @@ impl<'a, R: FileSystem + Input, O: Outlet + Drop, E: Outlet + Drop> Desk
         ensures counts { Counts File (shown_state self.old) (shown_state self.new) result }
         ensures quiet { self.new ≡ record self.old {
           failures = self.new.failures;
-          error = self.new.error;
+          last_error = self.new.last_error;
           opened = self.new.opened;
           kept = self.new.kept;
         } }
         ensures goes { to_output self.new ≡ to_output_opened result (to_output self.old) }
-        ensures error { KeepsError self.old.error self.new.error result }
+        ensures error { KeepsError self.old.last_error self.new.last_error result }
         ensures stays { Stays (IsTrueSince R.FileSystem R.File.Read R.File.Write R.Reader.Read O.Write E.Write)
             self.old self.new }
     {
         if name == "-" {
-            self.held = Held::Input(self.rt.reader());
+            self.opened = OpenFile::Input(self.rt.reader());
             self.journal = self.journal.then(&Call::Opened(name.as_bytes()));
             return Ok(());
         }
         match self.rt.open_named(name) {
             Ok(file) => {
-                self.held = Held::ToRead(file);
+                self.opened = OpenFile::ToRead(file);
                 self.journal = self.journal.then(&Call::Opened(name.as_bytes()));
                 Ok(())
             }
             Err(error) if error.kind() == ErrorKind::NotFound => {
-                self.held = Held::Nothing;
+                self.opened = OpenFile::Nothing;
                 self.journal = self.journal.then(&Call::Absent(name.as_bytes()));
                 Err(DeskFault::NotFound)
             }
-            Err(error) => Err(fail(&mut self.failures, &mut self.error, &error)),
+            Err(error) => Err(fail(&mut self.failures, &mut self.last_error, &error)),
         }
     }
 
@@ -220,27 +221,27 @@ impl<'a, R: FileSystem + Input, O: Outlet + Drop, E: Outlet + Drop> Desk
         ensures fault { IfErr result (λ e. e ≡ Failed) }
         ensures quiet { self.new ≡ record self.old {
           failures = self.new.failures;
-          error = self.new.error;
+          last_error = self.new.last_error;
           opened = self.new.opened;
           kept = self.new.kept;
         } }
         ensures goes { to_output self.new ≡ to_output_created name.now result (to_output self.old) }
-        ensures error { KeepsError self.old.error self.new.error result }
+        ensures error { KeepsError self.old.last_error self.new.last_error result }
         ensures stays { Stays (IsTrueSince R.FileSystem R.File.Read R.File.Write R.Reader.Read O.Write E.Write)
             self.old self.new }
     {
         if name == "-" {
-            self.held = Held::Output;
+            self.opened = OpenFile::Output;
             self.journal = self.journal.then(&Call::Created(name.as_bytes()));
             return Ok(());
         }
         match self.rt.create_named(name) {
             Ok(file) => {
-                self.held = Held::ToWrite(file);
+                self.opened = OpenFile::ToWrite(file);
                 self.journal = self.journal.then(&Call::Created(name.as_bytes()));
                 Ok(())
             }
-            Err(error) => Err(fail(&mut self.failures, &mut self.error, &error)),
+            Err(error) => Err(fail(&mut self.failures, &mut self.last_error, &error)),
         }
     }
 
@@ -250,11 +251,11 @@ impl<'a, R: FileSystem + Input, O: Outlet + Drop, E: Outlet + Drop> Desk
         ensures fault { IfErr result (λ e. e ≡ Failed) }
         ensures quiet { self.new ≡ record self.old {
           failures = self.new.failures;
-          error = self.new.error;
+          last_error = self.new.last_error;
           hold = self.new.hold;
           kept = self.new.kept;
         } }
-        ensures error { KeepsError self.old.error self.new.error result }
+        ensures error { KeepsError self.old.last_error self.new.last_error result }
         ensures stays { Stays (IsTrueSince R.FileSystem R.File.Read R.File.Write R.Reader.Read O.Write E.Write)
             self.old self.new }
     {
@@ -269,7 +270,7 @@ impl<'a, R: FileSystem + Input, O: Outlet + Drop, E: Outlet + Drop> Desk
                 self.journal = self.journal.then(&Call::Denied(name.as_bytes()));
                 Ok(false)
             }
-            Err(error) => Err(fail(&mut self.failures, &mut self.error, &error)),
+            Err(error) => Err(fail(&mut self.failures, &mut self.last_error, &error)),
         }
     }
 
@@ -289,24 +290,24 @@ impl<'a, R: FileSystem + Input, O: Outlet + Drop, E: Outlet + Drop> Desk
         ensures fault { IfErr result (λ e. e ≡ Failed) }
         ensures quiet { self.new ≡ record self.old {
           failures = self.new.failures;
-          error = self.new.error;
+          last_error = self.new.last_error;
           opened = self.new.opened;
           hold = self.new.hold;
           kept = self.new.kept;
         } }
         ensures goes { to_output self.new ≡ to_output_replaced result (to_output self.old) }
-        ensures error { KeepsError self.old.error self.new.error result }
+        ensures error { KeepsError self.old.last_error self.new.last_error result }
         ensures stays { Stays (IsTrueSince R.FileSystem R.File.Read R.File.Write R.Reader.Read O.Write E.Write)
             self.old self.new }
     {
         match replace_named(self.rt, &mut self.replacement, name, bytes) {
             Ok(()) => {
                 self.leave_replacement();
-                self.held = Held::Nothing;
+                self.opened = OpenFile::Nothing;
                 self.journal = self.journal.then(&Call::Replaced(name.as_bytes(), bytes));
                 Ok(())
             }
-            Err(error) => Err(fail(&mut self.failures, &mut self.error, &error)),
+            Err(error) => Err(fail(&mut self.failures, &mut self.last_error, &error)),
         }
     }
 
@@ -318,21 +319,21 @@ impl<'a, R: FileSystem + Input, O: Outlet + Drop, E: Outlet + Drop> Desk
         ensures fault { IfErr result (λ e. e ≡ Failed) }
         ensures quiet { self.new ≡ record self.old {
           failures = self.new.failures;
-          error = self.new.error;
+          last_error = self.new.last_error;
           opened = self.new.opened;
           kept = self.new.kept;
         } }
         ensures goes { to_output self.new ≡ to_output self.old }
-        ensures error { KeepsError self.old.error self.new.error result }
+        ensures error { KeepsError self.old.last_error self.new.last_error result }
         ensures stays { Stays (IsTrueSince R.FileSystem R.File.Read R.File.Write R.Reader.Read O.Write E.Write)
             self.old self.new }
     {
-        match read_held(&mut self.held, buf) {
+        match read_opened(&mut self.opened, buf) {
             Ok(count) => {
                 self.journal = self.journal.then(&Call::Read(&*buf, count));
                 Ok(count)
             }
-            Err(error) => Err(fail(&mut self.failures, &mut self.error, &error)),
+            Err(error) => Err(fail(&mut self.failures, &mut self.last_error, &error)),
         }
     }
 
@@ -351,35 +352,35 @@ impl<'a, R: FileSystem + Input, O: Outlet + Drop, E: Outlet + Drop> Desk
         ensures quiet { self.new ≡ record self.old {
           output = self.new.output;
           failures = self.new.failures;
-          error = self.new.error;
+          last_error = self.new.last_error;
           opened = self.new.opened;
           kept = self.new.kept;
         } }
         ensures goes { to_output self.new ≡ to_output self.old }
-        ensures error { KeepsError self.old.error self.new.error result }
+        ensures error { KeepsError self.old.last_error self.new.last_error result }
         ensures stays { Stays (IsTrueSince R.FileSystem R.File.Read R.File.Write R.Reader.Read O.Write E.Write)
             self.old self.new }
     {
-        match &mut self.held {
-            Held::ToWrite(file) => match write_some(file, bytes) {
+        match &mut self.opened {
+            OpenFile::ToWrite(file) => match write_some(file, bytes) {
                 Ok(count) => {
                     self.journal = self.journal.then(&Call::Sent(Stream::File, bytes, count));
                     Ok(count)
                 }
-                Err(error) => Err(fail(&mut self.failures, &mut self.error, &error)),
+                Err(error) => Err(fail(&mut self.failures, &mut self.last_error, &error)),
             },
-            Held::Output => match write_through(
+            OpenFile::Output => match write_through(
                 &mut self.output,
                 Stream::File,
                 bytes,
                 &mut self.journal,
             ) {
                 Ok(count) => Ok(count),
-                Err(error) => Err(fail(&mut self.failures, &mut self.error, &error)),
+                Err(error) => Err(fail(&mut self.failures, &mut self.last_error, &error)),
             },
             _ => {
                 let error = io::Error::from(ErrorKind::NotFound);
-                Err(fail(&mut self.failures, &mut self.error, &error))
+                Err(fail(&mut self.failures, &mut self.last_error, &error))
             }
         }
     }
@@ -396,16 +397,16 @@ impl<'a, R: FileSystem + Input, O: Outlet + Drop, E: Outlet + Drop> Desk
         ensures quiet { self.new ≡ record self.old {
           output = self.new.output;
           failures = self.new.failures;
-          error = self.new.error;
+          last_error = self.new.last_error;
           kept = self.new.kept;
         } }
-        ensures error { KeepsError self.old.error self.new.error result }
+        ensures error { KeepsError self.old.last_error self.new.last_error result }
         ensures stays { Stays (IsTrueSince R.FileSystem R.File.Read R.File.Write R.Reader.Read O.Write E.Write)
             self.old self.new }
     {
         match write_through(&mut self.output, Stream::Output, bytes, &mut self.journal) {
             Ok(count) => Ok(count),
-            Err(error) => Err(fail(&mut self.failures, &mut self.error, &error)),
+            Err(error) => Err(fail(&mut self.failures, &mut self.last_error, &error)),
         }
     }
 
@@ -421,11 +422,11 @@ impl<'a, R: FileSystem + Input, O: Outlet + Drop, E: Outlet + Drop> Desk
         ensures quiet { self.new ≡ record self.old {
           messages = self.new.messages;
           failures = self.new.failures;
-          error = self.new.error;
+          last_error = self.new.last_error;
           unsaid = self.new.unsaid;
           kept = self.new.kept;
         } }
-        ensures error { KeepsError self.old.error self.new.error result }
+        ensures error { KeepsError self.old.last_error self.new.last_error result }
         ensures stays { Stays (IsTrueSince R.FileSystem R.File.Read R.File.Write R.Reader.Read O.Write E.Write)
             self.old self.new }
     {
@@ -438,7 +439,7 @@ impl<'a, R: FileSystem + Input, O: Outlet + Drop, E: Outlet + Drop> Desk
             Ok(count) => Ok(count),
             Err(error) => {
                 raise(&mut self.unsaid);
-                Err(fail(&mut self.failures, &mut self.error, &error))
+                Err(fail(&mut self.failures, &mut self.last_error, &error))
             }
         }
     }
@@ -451,7 +452,7 @@ impl<'a, R: FileSystem + Input, O: Write + Drop, E: Write + Drop> fmt::Debug
         f.debug_struct("SystemDesk")
             .field("failures", &self.failures)
             .field("unsaid", &self.unsaid)
-            .field("last_error", &self.error)
+            .field("last_error", &self.last_error)
             .finish_non_exhaustive()
     }
 }

@@ -33,7 +33,7 @@ pub trait WatchDesk {
     ghost after: { ToldOfDesk → Self → Self → Type 0 };
 
     /// Receives a finished call.
-    fn told(&mut self, call: &DeskCall<'_>)
+    fn on_call(&mut self, call: &DeskCall<'_>)
         ensures { after (desk_told call.now) self.old self.new };
 }
 
@@ -45,7 +45,7 @@ pub trait WatchDesk {
 /// struct Sizes { printed: usize }
 /// impl WatchDesk for Sizes {
 ///     ghost after = { λ call old new. Unit {0} };
-///     fn told(&mut self, call: &DeskCall<'_>) {
+///     fn on_call(&mut self, call: &DeskCall<'_>) {
 ///         if let DeskCall::Wrote(Stream::Output, _, Ok(count)) = call {
 ///             self.printed = self.printed.saturating_add(*count);
 ///         }
@@ -82,7 +82,7 @@ impl<D: Desk, W: WatchDesk> Desk for WatchedDesk<D, W> {
         ensures told { W.after (Opened name.now result) self.old.watcher self.new.watcher }
     {
         let answer = self.desk.open(name);
-        self.watcher.told(&DeskCall::Opened(name, answer));
+        self.watcher.on_call(&DeskCall::Opened(name, answer));
         answer
     }
 
@@ -94,7 +94,7 @@ impl<D: Desk, W: WatchDesk> Desk for WatchedDesk<D, W> {
         ensures told { W.after (Created name.now result) self.old.watcher self.new.watcher }
     {
         let answer = self.desk.create(name);
-        self.watcher.told(&DeskCall::Created(name, answer));
+        self.watcher.on_call(&DeskCall::Created(name, answer));
         answer
     }
 
@@ -106,7 +106,7 @@ impl<D: Desk, W: WatchDesk> Desk for WatchedDesk<D, W> {
         ensures told { W.after (Held name.now result) self.old.watcher self.new.watcher }
     {
         let answer = self.desk.hold(name);
-        self.watcher.told(&DeskCall::Held(name, answer));
+        self.watcher.on_call(&DeskCall::Held(name, answer));
         answer
     }
 
@@ -116,7 +116,7 @@ impl<D: Desk, W: WatchDesk> Desk for WatchedDesk<D, W> {
         ensures told { W.after Released self.old.watcher self.new.watcher }
     {
         self.desk.release();
-        self.watcher.told(&DeskCall::Released);
+        self.watcher.on_call(&DeskCall::Released);
     }
 
     fn replace(&mut self, name: &str, bytes: &[u8]) -> Result<(), DeskFault>
@@ -128,7 +128,8 @@ impl<D: Desk, W: WatchDesk> Desk for WatchedDesk<D, W> {
         ensures told { W.after (Replaced name.now bytes.now result) self.old.watcher self.new.watcher }
     {
         let answer = self.desk.replace(name, bytes);
-        self.watcher.told(&DeskCall::Replaced(name, bytes, answer));
+        self.watcher
+            .on_call(&DeskCall::Replaced(name, bytes, answer));
         answer
     }
 
@@ -142,7 +143,7 @@ impl<D: Desk, W: WatchDesk> Desk for WatchedDesk<D, W> {
         ensures told { W.after (Read buf.new result) self.old.watcher self.new.watcher }
     {
         let answer = self.desk.read(buf);
-        self.watcher.told(&DeskCall::Read(buf, answer));
+        self.watcher.on_call(&DeskCall::Read(buf, answer));
         answer
     }
 
@@ -157,7 +158,7 @@ impl<D: Desk, W: WatchDesk> Desk for WatchedDesk<D, W> {
     {
         let answer = self.desk.write(bytes);
         self.watcher
-            .told(&DeskCall::Wrote(Stream::File, bytes, answer));
+            .on_call(&DeskCall::Wrote(Stream::File, bytes, answer));
         answer
     }
 
@@ -171,7 +172,7 @@ impl<D: Desk, W: WatchDesk> Desk for WatchedDesk<D, W> {
     {
         let answer = self.desk.out(bytes);
         self.watcher
-            .told(&DeskCall::Wrote(Stream::Output, bytes, answer));
+            .on_call(&DeskCall::Wrote(Stream::Output, bytes, answer));
         answer
     }
 
@@ -185,7 +186,7 @@ impl<D: Desk, W: WatchDesk> Desk for WatchedDesk<D, W> {
     {
         let answer = self.desk.err(bytes);
         self.watcher
-            .told(&DeskCall::Wrote(Stream::Messages, bytes, answer));
+            .on_call(&DeskCall::Wrote(Stream::Messages, bytes, answer));
         answer
     }
 }

@@ -11,7 +11,7 @@ use Rattle.avr_desk.specs.Lines.{too_long_line}
 use Rattle.avr_desk.specs.Said.{OutputEvent, Opens, Tells}
 use Rattle.avr_part.specs.ChipFile.{chip_file_size, chip_in, state_in}
 use Rattle.avr_part.specs.Part.{Part}
-use Rattle.avr_part.specs.PartFile.{GivesOrMemory}
+use Rattle.avr_part.specs.PartFile.{GivesChipOrMemory}
 use Rattle.avr_part.specs.State.{ChipState, fresh_state}
 use Rattle.avr_part.specs.declared.fault.PartFault.{PartFault}
 use Rattle.avr_part.specs.declared.fault.PartFault.TheVariants.{BadChipFile}
@@ -25,7 +25,7 @@ use Rattle.avr_emulator.specs.Loading.{AtOpened, chip_or_line, judged_chip, chip
 
 -- ---- a fresh chip
 
-pub went_fresh : (part : Part) (chip : ChipState) (d : DeskState) → GivesOrMemory (Ok (fresh_state part)) (Ok chip)
+pub went_fresh : (part : Part) (chip : ChipState) (d : DeskState) → GivesChipOrMemory (Ok (fresh_state part)) (Ok chip)
     → Went (verdict_stage (Ok (fresh_state part))) d d (Made chip)
 went_fresh part chip d (inl gives) = let same : fresh_state part ≡ chip = cc in
     went_settled (Ok (fresh_state part)) chip d (ap Ok same)
@@ -45,26 +45,26 @@ none_is : (test : Bool) (good : ChipState) (n : ℕ) (fault : PartFault)
 none_is true good n fault is = cc
 none_is false good n fault is = refl
 
-right_length : (part : Part) (bytes : Bytes) (chip : ChipState) → GivesOrMemory (chip_in part bytes) (Ok chip)
+right_length : (part : Part) (bytes : Bytes) (chip : ChipState) → GivesChipOrMemory (chip_in part bytes) (Ok chip)
     → ((length bytes == chip_file_size part) ≡ true) × (chip ≡ state_in part bytes)
 right_length part bytes chip (inl gives) =
     chip_is (length bytes == chip_file_size part) (state_in part bytes) chip (length bytes) (sym gives)
 right_length part bytes chip (inr memory) = cc
 
 pub went_chip : (part : Part) (file bytes : Bytes) (chip : ChipState) (d : DeskState)
-    → GivesOrMemory (chip_in part bytes) (Ok chip)
+    → GivesChipOrMemory (chip_in part bytes) (Ok chip)
     → Went (verdict_stage (chip_or_line part file bytes)) d d (Made chip)
 went_chip part file bytes chip d gives =
     let right = right_length part bytes chip gives in
     let given : chip_or_line part file bytes ≡ Ok chip = rw (right.0, right.1) refl in
     went_settled (chip_or_line part file bytes) chip d given
 
-pub chip_of_part : (part : Part) (bytes : Bytes) (chip : ChipState) → GivesOrMemory (chip_in part bytes) (Ok chip)
+pub chip_of_part : (part : Part) (bytes : Bytes) (chip : ChipState) → GivesChipOrMemory (chip_in part bytes) (Ok chip)
     → chip.part ≡ part
 chip_of_part part bytes chip gives = ap (λ (c : ChipState). c.part) (right_length part bytes chip gives).1
 
 pub goes_wrong_length : (part : Part) (file bytes : Bytes) (n : ℕ) (old new : DeskState) (status : ℕ)
-    → GivesOrMemory (chip_in part bytes) (Err (BadChipFile n)) → status ≡ 1
+    → GivesChipOrMemory (chip_in part bytes) (Err (BadChipFile n)) → status ≡ 1
     → Tells old new (length_line file (length bytes) (chip_file_size part))
     → Goes (AtStart true) (verdict_stage (chip_or_line part file bytes)) old new (Err status)
 goes_wrong_length part file bytes n old new status (inl gives) one told =

@@ -35,7 +35,7 @@ pub enum ImageFault {
 }
 
 impl ImageFault {
-    /// Returns the fault's number, from 1 on.
+    /// Returns the fault's number, which never changes.
     ///
     /// ```text
     /// assert_eq!(rt; ImageFault::OutOfRange(64).number(), 1);

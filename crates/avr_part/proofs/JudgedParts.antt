@@ -6,20 +6,20 @@ use Rattle.std.proofs.lemmas.Str.{is_utf8-from_IsUtf8, IsUtf8-from_is_utf8}
 use Rattle.toml.specs.View.{view, members_view}
 use Rattle.toml.specs.declared.value.Value.{Value}
 use Rattle.avr_part.specs.Part.{Part}
-use Rattle.avr_part.specs.PartFile.{Bytes, FileFault, ◌>>=◌, in_part, part_of, parts_in, utf8_text}
+use Rattle.avr_part.specs.PartFile.{Bytes, NamedFault, ◌>>=◌, in_part, part_of, parts_in, utf8_text}
 
--- these parts, then those of the result
-abbrev pub onto : List Part → Result (List Part) FileFault → Result (List Part) FileFault
+-- these parts, and then those of the result
+abbrev pub onto : List Part → Result (List Part) NamedFault → Result (List Part) NamedFault
 onto ps (Ok qs) = Ok (ps ++ qs)
 onto ps (Err e) = Err e
 
-pub onto-next : (ps : List Part) (p : Part) (r : Result (List Part) FileFault)
+pub onto-next : (ps : List Part) (p : Part) (r : Result (List Part) NamedFault)
     → onto ps (r >>= (λ qs. Ok (p ∷ qs))) ≡ onto (ps ++ p ∷ []) r
 onto-next ps p (Ok qs) = ap (λ (xs : List Part). Ok xs) (sym (append_assoc ps (p ∷ []) qs))
 onto-next ps p (Err e) = refl
 
 -- one more member is judged
-pub judged_next : (all : Result (List Part) FileFault) (ps : List Part) (left next : List (String Global × Value))
+pub judged_next : (all : Result (List Part) NamedFault) (ps : List Part) (left next : List (String Global × Value))
     (k : String Global) (v : Value) (p : Part)
     → left ≡ (k, v) ∷ next → all ≡ onto ps (parts_in (members_view left))
     → Ok p ≡ in_part (string_bytes k) (part_of (string_bytes k) (view v))
@@ -27,7 +27,7 @@ pub judged_next : (all : Result (List Part) FileFault) (ps : List Part) (left ne
 judged_next all ps left next k v p split so_far is =
     so_far
     ∙ ap (λ (es : List (String Global × Value)). onto ps (parts_in (members_view es))) split
-    ∙ ap (λ (r : Result Part FileFault). onto ps
+    ∙ ap (λ (r : Result Part NamedFault). onto ps
     (r >>= (λ part. parts_in (members_view next) >>= (λ parts. Ok (part ∷ parts))))) (sym is)
     ∙ onto-next ps p (parts_in (members_view next))
 

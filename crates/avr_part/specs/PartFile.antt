@@ -83,26 +83,26 @@ part_of key d = do
   part_with id fields
 
 -- why a part file is refused, and the id of the part at fault, if it has one
-pub record FileFault : Type 0 where
+pub record NamedFault : Type 0 where
   pub part : Option Bytes
   pub fault : PartFault
 
-abbrev pub of_file : PartFault → FileFault
+abbrev pub of_file : PartFault → NamedFault
 of_file fault = record { part = None; fault = fault }
 
-abbrev pub in_part : Bytes → Result Part PartFault → Result Part FileFault
+abbrev pub in_part : Bytes → Result Part PartFault → Result Part NamedFault
 in_part key (Ok part) = Ok part
 in_part key (Err fault) = Err (record { part = id_of key; fault = fault })
 
 -- the members of the table of parts, in the byte order of their keys
-abbrev pub parts_in : Members → Result (List Part) FileFault
+abbrev pub parts_in : Members → Result (List Part) NamedFault
 parts_in no_members = Ok []
 parts_in (member key d rest) = do
   part ← in_part key (part_of key d)
   parts ← parts_in rest
   Ok (part ∷ parts)
 
-abbrev pub document_parts : Members → Result (List Part) FileFault
+abbrev pub document_parts : Members → Result (List Part) NamedFault
 document_parts ms = do
   parts ← ok_or (get_member (codes "parts") ms) (of_file (Missing field.Parts))
   members ← ok_or (as_table parts) (of_file (BadValue field.Parts))
@@ -117,13 +117,13 @@ line_at text place = line_count (take place text)
 
 -- why a part file is refused, and the line at which it stops being TOML
 pub record PlacedFault : Type 0 where
-  pub why : FileFault
+  pub why : NamedFault
   pub line : Option ℕ
 
 abbrev pub not_toml_at : ℕ → PlacedFault
 not_toml_at line = record { why = of_file NotToml; line = Some line }
 
-abbrev pub lineless : FileFault → PlacedFault
+abbrev pub lineless : NamedFault → PlacedFault
 lineless why = record { why = why; line = None }
 
 -- a text that is not TOML has a line, one of its own; no other fault has one
@@ -134,27 +134,27 @@ HasLine text fault None = fault ≢ NotToml
 abbrev pub IsPlaced : Bytes → PlacedFault → Type 0
 IsPlaced text f = HasLine text f.why.fault f.line
 
-abbrev pub unplaced : {T : Type 0} → Result T PlacedFault → Result T FileFault
+abbrev pub unplaced : {T : Type 0} → Result T PlacedFault → Result T NamedFault
 unplaced (Ok t) = Ok t
 unplaced (Err f) = Err f.why
 
 abbrev pub utf8_text : Bytes → Option Bytes
 utf8_text bytes = if is_utf8 bytes then Some bytes else None
 
-abbrev pub parts_of : Bytes → Result (List Part) FileFault
+abbrev pub parts_of : Bytes → Result (List Part) NamedFault
 parts_of bytes = do
   text ← ok_or (utf8_text bytes) (of_file NotToml)
   document ← ok_or (parse_document text) (of_file NotToml)
   document_parts document
 
 -- the wanted result, or allocation failed
-abbrev pub GivesOrMemory : {T : Type 0} → Result T PartFault → Result T PartFault → Type 0
-GivesOrMemory want got = (got ≡ want) ⊎ (got ≡ Err Memory)
+abbrev pub GivesChipOrMemory : {T : Type 0} → Result T PartFault → Result T PartFault → Type 0
+GivesChipOrMemory want got = (got ≡ want) ⊎ (got ≡ Err Memory)
 
-abbrev pub ReadsOrMemory : {T : Type 0} → Result T FileFault → Result T FileFault → Type 0
+abbrev pub ReadsOrMemory : {T : Type 0} → Result T NamedFault → Result T NamedFault → Type 0
 ReadsOrMemory want got = (got ≡ want) ⊎ (got ≡ Err (of_file Memory))
 
-abbrev pub listed_items : Result (Vec Part) FileFault → Result (List Part) FileFault
+abbrev pub listed_items : Result (Vec Part) NamedFault → Result (List Part) NamedFault
 listed_items (Ok v) = Ok v.items
 listed_items (Err e) = Err e
 

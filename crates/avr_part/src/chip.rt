@@ -11,6 +11,9 @@ use std::alloc::{AllocError, Global};
 use std::marker::Model;
 use std::{fmt, slice};
 
+/// The lowest lock bit, by its name in the data sheets; programmed if 0.
+const LB1: u8 = 0x01;
+
 /// A chip of some part: its memories, page buffers and extended address.
 ///
 /// ```text
@@ -65,7 +68,7 @@ impl Chip {
     ghost use Rattle.avr_part.specs.Instruction.{instruction_of};
     ghost use Rattle.avr_part.specs.Block.{load_block, is_in_page, loaded_in_turn, flash_block, is_in_flash, read_in_turn};
     ghost use Rattle.avr_part.specs.Sound.{IsSoundChip};
-    ghost use Rattle.avr_part.specs.PartFile.{GivesOrMemory};
+    ghost use Rattle.avr_part.specs.PartFile.{GivesChipOrMemory};
 
     /// Creates a chip of this part whose memories are all FF.
     ///
@@ -78,7 +81,7 @@ impl Chip {
     /// assert_eq!(rt; chip.byte(Mem::Eeprom, 511), Some(0xFF));
     /// ```
     pub fn fresh(alloc: Global, part: Part) -> Result<Chip, PartFault>
-        ensures { GivesOrMemory (Ok (fresh_state part)) result }
+        ensures { GivesChipOrMemory (Ok (fresh_state part)) result }
     {
         Chip::make(alloc, part).map_err(|_| PartFault::Memory)
     }
@@ -170,7 +173,7 @@ impl Chip {
     fn keeps_eeprom(&self) -> bool
         ensures { result ≡ keeps_eeprom self.now }
     {
-        (self.hfuse >> self.part.eesave_bit()) % 2 == 0
+        (self.hfuse >> self.part.eesave_bit()) & 1 == 0
     }
 
     #[inline(never)]
@@ -218,11 +221,11 @@ impl Chip {
         usize::from(address) % self.eeprom_size()
     }
 
-    /// Returns whether lock bit 0 is programmed: then only a chip erase changes flash, EEPROM and fuses.
+    /// Returns whether LB1 is programmed: then only a chip erase changes flash, EEPROM and fuses.
     fn is_locked(&self) -> bool
         ensures { result ≡ is_locked self.now }
     {
-        self.lock % 2 == 0
+        self.lock & LB1 == 0
     }
 
     #[inline(never)]

@@ -1,7 +1,7 @@
 //! The chip file.
 ghost use Rattle.std.specs.Prelude.{◌≡◌, ◌+◌, IfOk, IfErr, length, Ok};
 ghost use Rattle.avr_part.specs.ChipFile.{chip_file, chip_file_size, chip_in, state_in};
-ghost use Rattle.avr_part.specs.PartFile.{GivesOrMemory};
+ghost use Rattle.avr_part.specs.PartFile.{GivesChipOrMemory};
 
 use crate::chip::Chip;
 use crate::fault::PartFault;
@@ -63,7 +63,7 @@ impl Chip {
     /// assert_eq!(rt; chip.err(), Some(PartFault::BadChipFile(100)));
     /// ```
     pub fn from_bytes(alloc: Global, part: Part, bytes: &[u8]) -> Result<Chip, PartFault>
-        ensures { GivesOrMemory (chip_in part bytes.now) result }
+        ensures { GivesChipOrMemory (chip_in part bytes.now) result }
     {
         if bytes.len() != part.chip_file_size() as usize {
             return Err(PartFault::BadChipFile(bytes.len()));

@@ -85,7 +85,7 @@ pub enum PartFault {
 }
 
 impl PartFault {
-    /// Returns the fault's number, from 1 on.
+    /// Returns the fault's number, which never changes.
     ///
     /// ```text
     /// assert_eq!(rt; PartFault::Missing(Field::Signature).number(), 2);

@@ -11,31 +11,31 @@ use std::fmt;
 use std::marker::Model;
 
 #[derive(Drop)]
-pub(crate) struct FileFault {
+pub(crate) struct NamedFault {
     part: Option<ArrayString<31>>,
     fault: PartFault,
 }
 
-impl Model for FileFault {
+impl Model for NamedFault {
     ghost use Rattle.std.specs.Prelude.{option_map};
-    ghost use Rattle.avr_part.specs.PartFile.{FileFault};
+    ghost use Rattle.avr_part.specs.PartFile.{NamedFault};
 
-    ghost Value = { FileFault };
+    ghost Value = { NamedFault };
 
     ghost view = { λ f. record { part = option_map (λ id. id.bytes) f.part; fault = f.fault } };
 }
 
-impl FileFault {
-    pub(crate) fn of_file(fault: PartFault) -> FileFault
+impl NamedFault {
+    pub(crate) fn of_file(fault: PartFault) -> NamedFault
         ensures { result ≡ of_file fault }
     {
-        FileFault { part: None, fault }
+        NamedFault { part: None, fault }
     }
 
-    pub(crate) fn of_part(key: &str, fault: PartFault) -> FileFault
+    pub(crate) fn of_part(key: &str, fault: PartFault) -> NamedFault
         ensures { result ≡ record { part = id_of key.now; fault = fault } }
     {
-        FileFault {
+        NamedFault {
             part: id_of(key),
             fault,
         }
@@ -68,7 +68,7 @@ impl FileFault {
 /// ```
 #[derive(Drop)]
 pub struct PartFileFault {
-    why: FileFault,
+    why: NamedFault,
     line: Option<usize>,
 }
 
@@ -85,12 +85,12 @@ impl PartFileFault {
         ensures { result ≡ not_toml_at line }
     {
         PartFileFault {
-            why: FileFault::of_file(PartFault::NotToml),
+            why: NamedFault::of_file(PartFault::NotToml),
             line: Some(line),
         }
     }
 
-    pub(crate) fn lineless(why: FileFault) -> PartFileFault
+    pub(crate) fn lineless(why: NamedFault) -> PartFileFault
         ensures { result ≡ lineless why }
     {
         PartFileFault { why, line: None }

@@ -8,7 +8,7 @@ ghost use Rattle.avr_part.specs.Part.{is_id_byte, is_id, id_of};
 ghost use Rattle.avr_part.specs.PartFile.{number_in, number_field, page_field, power_of, hex_value, signature_field, part_with, part_of, in_part};
 
 use crate::fault::{Field, PartFault};
-use crate::file_fault::FileFault;
+use crate::file_fault::NamedFault;
 use crate::part::Part;
 use arrayvec::ArrayString;
 use hex::FromHex;
@@ -157,12 +157,12 @@ fn judge_part(key: &str, value: &Value) -> Result<Part, PartFault>
 }
 
 /// Reads a member of the table of parts; a fault carries the part's id.
-pub(crate) fn judge_member(key: &str, value: &Value) -> Result<Part, FileFault>
+pub(crate) fn judge_member(key: &str, value: &Value) -> Result<Part, NamedFault>
     ensures value { result ≡ in_part key.now (part_of key.now (view value.now)) }
     ensures toml { IfErr result (λ fault. fault.fault ≢ PartFault.NotToml) }
 {
     match judge_part(key, value) {
         Ok(part) => Ok(part),
-        Err(fault) => Err(FileFault::of_part(key, fault)),
+        Err(fault) => Err(NamedFault::of_part(key, fault)),
     }
 }

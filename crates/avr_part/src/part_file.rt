@@ -7,7 +7,7 @@ ghost use Rattle.toml.specs.Parse.{parse_document};
 ghost use Rattle.avr_part.specs.PartFile.{ReadsOrMemory, listed_items, parts_in, document_parts, parts_of, utf8_text, ReadsDocument, IsPlaced, line_at, not_toml_at, unplaced};
 
 use crate::fault::{Field, PartFault};
-use crate::file_fault::{FileFault, PartFileFault};
+use crate::file_fault::{NamedFault, PartFileFault};
 use crate::judge::{at_key, judge_member};
 use crate::lines::line_at;
 use crate::part::Part;
@@ -16,7 +16,7 @@ use std::alloc::Global;
 use std::str;
 use toml::Table;
 
-fn judge_all(alloc: Global, table: &Table) -> Result<Vec<Part>, FileFault>
+fn judge_all(alloc: Global, table: &Table) -> Result<Vec<Part>, NamedFault>
     ensures reads { ReadsOrMemory (parts_in (table_view table.now)) (listed_items result) }
     ensures toml { IfErr result (λ e. e.fault ≢ PartFault.NotToml) }
 {
@@ -25,18 +25,18 @@ fn judge_all(alloc: Global, table: &Table) -> Result<Vec<Part>, FileFault>
         let part = judge_member(key.as_str(), value)?;
         parts
             .push(part)
-            .map_err(|_| FileFault::of_file(PartFault::Memory))?;
+            .map_err(|_| NamedFault::of_file(PartFault::Memory))?;
     }
     Ok(parts)
 }
 
-fn judge_document(alloc: Global, document: &Table) -> Result<Vec<Part>, FileFault>
+fn judge_document(alloc: Global, document: &Table) -> Result<Vec<Part>, NamedFault>
     ensures reads { ReadsOrMemory (document_parts (table_view document.now)) (listed_items result) }
     ensures toml { IfErr result (λ e. e.fault ≢ PartFault.NotToml) }
 {
-    let missing = FileFault::of_file(PartFault::Missing(Field::Parts));
+    let missing = NamedFault::of_file(PartFault::Missing(Field::Parts));
     let value = at_key(document, "parts").ok_or(missing)?;
-    let bad_value = FileFault::of_file(PartFault::BadValue(Field::Parts));
+    let bad_value = NamedFault::of_file(PartFault::BadValue(Field::Parts));
     let table = value.as_table().ok_or(bad_value)?;
     judge_all(alloc, table)
 }
@@ -50,7 +50,7 @@ fn read_document(alloc: Global, text: &str) -> Result<Table, PartFileFault>
         Ok(document) => Ok(document),
         Err(error) => Err(match error.span() {
             Some(span) => PartFileFault::not_toml_at(line_at(text.as_bytes(), span.start)),
-            None => PartFileFault::lineless(FileFault::of_file(PartFault::Memory)),
+            None => PartFileFault::lineless(NamedFault::of_file(PartFault::Memory)),
         }),
     }
 }

@@ -31,7 +31,7 @@ impl Model for Parts {
 }
 
 impl Parts {
-    /// Creates a list of the built-in parts alone.
+    /// Creates a list without a part file: the built-in parts alone.
     ///
     /// ```text
     /// assert_eq!(rt; Parts::none().iter().count(), 3);

@@ -15,7 +15,7 @@ use Rattle.avr_desk.specs.Said.{OutputEvent, Line, Tells}
 use Rattle.avr_part.specs.BuiltIn.{part_of_id}
 use Rattle.avr_part.specs.Mem.{is_writable}
 use Rattle.avr_part.specs.Part.{Part, size_of}
-use Rattle.avr_part.specs.PartFile.{FileFault, parts_of}
+use Rattle.avr_part.specs.PartFile.{NamedFault, parts_of}
 use Rattle.avr_part.specs.declared.fault.PartFault.{PartFault}
 use Rattle.avr_part.specs.declared.part.Mem.{Mem}
 use Rattle.avr_records.specs.declared.kind.Ending.{Ending}
@@ -31,7 +31,7 @@ use Rattle.avr_plan.specs.declared.planned.Task.TheVariants.{Write, Verify, Read
 
 -- ---- the part
 
-abbrev pub parts_or_line : Bytes → Result (List Part) FileFault → Result (List Part) Bytes
+abbrev pub parts_or_line : Bytes → Result (List Part) NamedFault → Result (List Part) Bytes
 parts_or_line file (Ok parts) = Ok parts
 parts_or_line file (Err refused) = Err (part_file_line file refused.fault)
 

@@ -3,7 +3,7 @@ use Rattle.std.specs.Prelude.{◌≡◌, ℕ, ◌+◌, ◌/◌, ◌%◌, ◌-◌
 use Rattle.avr_image.specs.Image.{HoldsBytes, empty}
 use Rattle.avr_image.specs.Runs.{runs}
 use Rattle.avr_records.specs.Reading.{image_in_text}
-use Rattle.avr_records.specs.Text.{rows, ihex_record, ihex_rows, ihex_row_size, low_bytes, srec_record, srec_rows, address_size, bytes_of}
+use Rattle.avr_records.specs.Text.{rows, ihex_record, ihex_rows, ihex_row_size, low_bytes, srec_record, srec_rows, address_size, width_of}
 use Rattle.avr_records.specs.declared.address_size.AddressSize.{AddressSize}
 use Rattle.avr_records.specs.declared.kind.Kind.{Kind}
 use Rattle.avr_records.specs.declared.kind.Kind.TheVariants.{Ihex, Srec}
@@ -35,7 +35,7 @@ new_upper Srec in_force addr = None
 
 abbrev pub row_text : Kind → AddressSize → ℕ → List ℕ → List ℕ
 row_text Ihex size addr bytes = ihex_record 0 (addr % 65536) bytes
-row_text Srec size addr bytes = srec_record (bytes_of size - 1) (low_bytes (bytes_of size) addr ++ bytes)
+row_text Srec size addr bytes = srec_record (width_of size - 1) (low_bytes (width_of size) addr ++ bytes)
 
 -- the data records and the end record, with this upper half in force (Intel HEX) or this size of addresses
 -- (S-records)

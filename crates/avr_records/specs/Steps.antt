@@ -66,8 +66,8 @@ abbrev pub no_lines : Extent
 no_lines = record { base = Linear 0; data_records = 0; lines = 0; end = 0; ended = false }
 
 -- before any line, with the image
-abbrev pub IsFresh : ℕ → Progress → Type 0
-IsFresh size p = (p.extent ≡ no_lines) × (p.image ≡ empty size)
+abbrev pub HasNoLines : ℕ → Progress → Type 0
+HasNoLines size p = (p.extent ≡ no_lines) × (p.image ≡ empty size)
 
 -- what a reader holds before any byte came
 pub record Begins (kind : Kind) (size : ℕ) (p : Progress) (part : List ℕ) : Type 0 where

@@ -1,7 +1,7 @@
 //! How many bytes an S-record's address has.
 
 ghost use Rattle.std.specs.Prelude.{◌≡◌, ◌≤◌};
-ghost use Rattle.avr_records.specs.Text.{address_size, bytes_of};
+ghost use Rattle.avr_records.specs.Text.{address_size, width_of};
 
 /// How many bytes the addresses of a file of S-records have.
 #[derive(Clone, Copy, Debug, PartialEq, Eq)]
@@ -34,7 +34,7 @@ impl AddressSize {
     /// assert_eq!(rt; AddressSize::Three.bytes(), 3);
     /// ```
     pub fn bytes(self) -> usize
-        ensures count { result ≡ bytes_of self }
+        ensures count { result ≡ width_of self }
         ensures least { 2 ≤ result }
         ensures most { result ≤ 4 }
     {

@@ -6,9 +6,10 @@ ghost use Rattle.avr_records.specs.Record.{bytes_of_digits, number};
 ghost use Rattle.avr_records.specs.Judging.{low_sum};
 
 use crate::fault::LineFault;
+use crate::line::LONGEST;
 
 /// The room for a line's decoded bytes.
-pub(crate) const ROOM: usize = 300;
+pub(crate) const ROOM: usize = LONGEST / 2;
 
 pub(crate) fn first(count: usize, text: &[u8]) -> &[u8]
     ensures { result.now ≡ take count text.now }

@@ -53,7 +53,7 @@ pub enum RecordFault {
 }
 
 impl RecordFault {
-    /// Returns the number of the fault's kind, from 1 on.
+    /// Returns the fault's number, which never changes.
     ///
     /// ```text
     /// assert_eq!(rt; RecordFault::BadSum(2).number(), 4);

@@ -8,6 +8,19 @@ use crate::fault::LineFault;
 use crate::kind::Kind;
 use crate::record::{LineRecord, with_size};
 
+// The types of records, by their names in Intel's specification.
+pub(crate) const DATA: u8 = 0;
+
+pub(crate) const END_OF_FILE: u8 = 1;
+
+pub(crate) const EXTENDED_SEGMENT_ADDRESS: u8 = 2;
+
+const START_SEGMENT_ADDRESS: u8 = 3;
+
+pub(crate) const EXTENDED_LINEAR_ADDRESS: u8 = 4;
+
+const START_LINEAR_ADDRESS: u8 = 5;
+
 /// Checks the size that the type requires.
 fn ihex_typed(record_type: u8, offset: u32, bytes: &[u8]) -> Result<LineRecord<'_>, LineFault>
     requires near { offset < 65536 }
@@ -22,12 +35,10 @@ fn ihex_typed(record_type: u8, offset: u32, bytes: &[u8]) -> Result<LineRecord<'
         bytes,
     };
     match record_type {
-        0 => Ok(good),
-        1 => with_size(0, good),
-        2 => with_size(2, good),
-        3 => with_size(4, good),
-        4 => with_size(2, good),
-        5 => with_size(4, good),
+        DATA => Ok(good),
+        END_OF_FILE => with_size(0, good),
+        EXTENDED_SEGMENT_ADDRESS | EXTENDED_LINEAR_ADDRESS => with_size(2, good),
+        START_SEGMENT_ADDRESS | START_LINEAR_ADDRESS => with_size(4, good),
         _ => Err(LineFault::Unknown),
     }
 }

@@ -7,17 +7,10 @@ ghost use Rattle.std.specs.Prelude.{◌≡◌, ◌/◌, ◌%◌, ◌≤◌, ◌=
 ghost use Rattle.avr_records.specs.Text.{IsLine, ihex_record as spec_record, ihex_row_size, two};
 
 use crate::bytes::low_sum_of;
+use crate::ihex::{DATA, END_OF_FILE, EXTENDED_LINEAR_ADDRESS};
+use crate::kind::SEGMENT;
 use crate::written_line::{Fields, ROW_SIZE, append, put_line};
 use arrayvec::ArrayVec;
-
-const DATA: u8 = 0;
-
-const END: u8 = 1;
-
-const EXTENDED_LINEAR_ADDRESS: u8 = 4;
-
-/// How many addresses share their upper 16 bits.
-const SEGMENT: u32 = 65_536;
 
 fn put_record(kind: u8, offset: u16, row: &[u8], out: &mut ArrayVec<u8, 80>)
     requires { length row.now ≤ 32 }
@@ -55,7 +48,7 @@ pub(crate) fn put_end(out: &mut ArrayVec<u8, 80>)
     ensures text { out.new.items ≡ spec_record 1 0 [] }
     ensures line { IsLine out.new.items }
 {
-    put_record(END, 0, &[], out);
+    put_record(END_OF_FILE, 0, &[], out);
 }
 
 /// Returns the upper 16 bits of `addr`, unless they are in force already.

@@ -71,6 +71,9 @@ impl Found {
     }
 }
 
+/// How many addresses an offset of 16 bits reaches: those with the same upper 16 bits, or the bytes of a segment.
+pub(crate) const SEGMENT: u32 = 65_536;
+
 /// The base of the addresses of data records.
 #[derive(Clone, Copy)]
 pub enum Base {

@@ -12,7 +12,9 @@ ghost use Rattle.avr_records.specs.Meaning.{ihex_means, srec_means, means, rebas
 
 use crate::bytes::{ROOM, decode_digits};
 use crate::fault::LineFault;
-use crate::ihex::ihex_fields;
+use crate::ihex::{
+    DATA, END_OF_FILE, EXTENDED_LINEAR_ADDRESS, EXTENDED_SEGMENT_ADDRESS, ihex_fields,
+};
 use crate::kind::{Base, Kind};
 use crate::record::LineRecord;
 use crate::srec::srec_fields;
@@ -194,10 +196,10 @@ fn ihex_meaning(found: LineRecord<'_>) -> Line<'_>
     ensures fits { FitsKind Kind.Ihex result }
 {
     match found.record_type {
-        0 => Line::Data(found.address, found.bytes),
-        1 => Line::End,
-        2 => segment_base(found.bytes),
-        4 => linear_base(found.bytes),
+        DATA => Line::Data(found.address, found.bytes),
+        END_OF_FILE => Line::End,
+        EXTENDED_SEGMENT_ADDRESS => segment_base(found.bytes),
+        EXTENDED_LINEAR_ADDRESS => linear_base(found.bytes),
         _ => Line::Nothing,
     }
 }

@@ -1,7 +1,7 @@
 //! The lines of a record file so far: their extent, and their bytes in an image.
 ghost use Rattle.std.specs.Prelude.{◌≡◌, ◌<◌, ◌≤◌, ◌+◌, ◌^◌, length, Ok, Err, MatchResult, OnOk, IfErr};
 ghost use Rattle.avr_records.specs.Reading.{said_by_line};
-ghost use Rattle.avr_records.specs.Steps.{next_progress, IsFresh, InRange, IsLineFault};
+ghost use Rattle.avr_records.specs.Steps.{next_progress, HasNoLines, InRange, IsLineFault};
 
 use crate::bytes::ROOM;
 use crate::extent::Extent;
@@ -18,7 +18,7 @@ pub struct Progress {
 
 impl Progress {
     pub(crate) fn new(alloc: Global, size: u32) -> Result<Progress, ImageFault>
-        ensures { MatchResult result (IsFresh size) (λ fault. fault ≡ ImageFault.Memory) }
+        ensures { MatchResult result (HasNoLines size) (λ fault. fault ≡ ImageFault.Memory) }
     {
         Ok(Progress {
             extent: Extent::new(),

@@ -5,11 +5,8 @@ ghost use Rattle.avr_image.specs.Image.{laid_over};
 ghost use Rattle.avr_records.specs.Laying.{Extends, Near, spans_places};
 ghost use Rattle.avr_records.specs.Reading.{beyond, places};
 
-use crate::kind::Base;
+use crate::kind::{Base, SEGMENT};
 use avr_image::Image;
-
-/// The bytes of a segment, within which offsets wrap.
-const SEGMENT: u32 = 65_536;
 
 /// Returns the end of all bytes once these are added, or their first address that isn't below `limit`.
 fn span_end(limit: u32, end: u32, addr: u32, bytes: &[u8]) -> Result<u32, u32>

@@ -7,7 +7,7 @@ use Rattle.std.specs.Option.{option_map, option_and_then}
 use Rattle.std.proofs.lemmas.Bool.{cases_lt}
 use Rattle.std.proofs.lemmas.List.{drop_all, length-take-le, take_all, take-append-le, take-append-drop}
 use Rattle.avr_records.specs.Sparse.{image_text}
-use Rattle.avr_records.specs.Text.{bytes_of}
+use Rattle.avr_records.specs.Text.{width_of}
 use Rattle.avr_records.specs.Writing.{left, text_from, unless_ended}
 use Rattle.avr_records.specs.declared.address_size.AddressSize.{AddressSize}
 use Rattle.avr_records.specs.declared.address_size.AddressSize.TheVariants.{Two}
@@ -21,7 +21,7 @@ use Rattle.avr_records_c.specs.declared.cursor.Cursor.{Cursor}
 ended-back : (ended : Bool) → ended_of (if ended then 1 else 0) ≡ Some ended
 ended-back x = grind (arith, nat_tests)
 
-size-back : (size : AddressSize) (image : List (Option ℕ)) → size_in_force Srec (bytes_of size) image ≡ Some size
+size-back : (size : AddressSize) (image : List (Option ℕ)) → size_in_force Srec (width_of size) image ≡ Some size
 size-back x image = grind (arith, nat_tests)
 
 -- past the memory all addresses are the same

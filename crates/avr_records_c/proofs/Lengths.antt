@@ -6,7 +6,7 @@ use Rattle.std.proofs.lemmas.List.{length-append, length-take}
 use Rattle.hex.proofs.HexLemmas.{length-encode_with}
 use Rattle.avr_image.specs.Runs.{onto_runs, runs}
 use Rattle.avr_records.specs.Sparse.{image_text, rows_of}
-use Rattle.avr_records.specs.Text.{rows_behind, two, ihex_record, upper_record, ihex_rows, bytes_of, low_bytes, srec_record, srec_rows}
+use Rattle.avr_records.specs.Text.{rows_behind, two, ihex_record, upper_record, ihex_rows, width_of, low_bytes, srec_record, srec_rows}
 use Rattle.avr_records.specs.declared.address_size.AddressSize.{AddressSize}
 use Rattle.avr_records.specs.declared.kind.Kind.{Kind}
 use Rattle.avr_records.specs.declared.kind.Kind.TheVariants.{Ihex, Srec}
@@ -43,9 +43,9 @@ srec-end : (size : ℕ) → size ≤ 4 → length (srec_record (11 - size) (low_
 srec-end size few = grind (arith, nat_tests, length-append, length-encode_with, length_low_bytes)
 
 srec-lines : (size : AddressSize) (cut : List (ℕ × List ℕ)) → length (srec_rows size cut) ≤ 28 * weight cut + 15
-srec-lines size [] = srec-end (bytes_of size) (few_bytes size).1
+srec-lines size [] = srec-end (width_of size) (few_bytes size).1
 srec-lines size ((addr, bytes) ∷ more) =
-    let n : ℕ = bytes_of size in
+    let n : ℕ = width_of size in
     omega (
       arith,
       length-append (srec_record (n - 1) (low_bytes n addr ++ bytes)) (srec_rows size more),

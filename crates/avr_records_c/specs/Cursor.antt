@@ -2,7 +2,7 @@
 use Rattle.std.specs.Prelude.{ℕ, Bool, true, false, ◌==◌, min, List, Option, Some, None, if◌then◌else◌}
 use Rattle.std.specs.Option.{option_map, option_and_then}
 use Rattle.avr_records.specs.Sparse.{last_held}
-use Rattle.avr_records.specs.Text.{address_size, bytes_of}
+use Rattle.avr_records.specs.Text.{address_size, width_of}
 use Rattle.avr_records.specs.declared.address_size.AddressSize.{AddressSize}
 use Rattle.avr_records.specs.declared.address_size.AddressSize.TheVariants.{Two, Three, Four}
 use Rattle.avr_records.specs.declared.cursor.Cursor.{Cursor as Lines}
@@ -39,7 +39,7 @@ upper_number Srec upper = 0
 
 abbrev pub size_number : Kind → AddressSize → ℕ
 size_number Ihex size = 0
-size_number Srec size = bytes_of size
+size_number Srec size = width_of size
 
 -- the cursor for `lines`, with `gone` bytes of the next line put
 abbrev pub cursor_of : Lines → ℕ → Cursor

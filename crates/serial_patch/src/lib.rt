@@ -35,7 +35,7 @@ pub enum PatchFault {
 }
 
 impl PatchFault {
-    /// Returns the fault's number, from 1 on, which no later version changes.
+    /// Returns the fault's number, which never changes.
     pub fn number(&self) -> u8
         ensures { result ≡ patch_fault_number self.now }
     {

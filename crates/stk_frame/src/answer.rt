@@ -34,7 +34,7 @@ pub enum FrameFault {
 }
 
 impl FrameFault {
-    /// Returns the fault's number, from 1 on, which no later version changes.
+    /// Returns the fault's number, which never changes.
     ///
     /// ```text
     /// assert_eq!(rt; FrameFault::CheckSum.number(), 3);

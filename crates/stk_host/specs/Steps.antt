@@ -3,7 +3,7 @@ use Rattle.std.specs.Prelude.{ℕ, zero, suc, List, [], ◌∷◌, ◌++◌, Opt
 use Rattle.stk_frame.specs.declared.protocol.TheConstants.{STATUS_CKSUM_ERROR}
 use Rattle.stk_frame.specs.declared.command.Command.{Command}
 use Rattle.stk_frame.specs.declared.answer.FrameFault.{FrameFault}
-use Rattle.stk_frame.specs.declared.answer.FrameFault.TheVariants.{CheckSum, Status}
+use Rattle.stk_frame.specs.declared.answer.FrameFault.TheVariants.{WrongLength, WrongCommand, CheckSum, Status}
 use Rattle.stk_frame.specs.Commands.{code, body, judge}
 use Rattle.stk_host.specs.declared.fault.StepFault.{StepFault}
 use Rattle.stk_host.specs.declared.fault.StepFault.TheVariants.{NoAnswer, LinkEnded, Babble, Refused, BadAnswer}
@@ -21,7 +21,8 @@ abbrev pub answer_reply : Command → Result (List ℕ) FrameFault → Reply
 answer_reply command (Ok bytes) = Data bytes
 answer_reply command (Err CheckSum) = Again (Refused (code command) STATUS_CKSUM_ERROR)
 answer_reply command (Err (Status status)) = Stop (Refused (code command) status)
-answer_reply command (Err fault) = Stop (BadAnswer (code command))
+answer_reply command (Err WrongCommand) = Stop (BadAnswer (code command))
+answer_reply command (Err WrongLength) = Stop (BadAnswer (code command))
 
 abbrev pub reading_reply : Command → Reading → Reply
 reading_reply command (Answered bytes) = answer_reply command (judge command bytes)

@@ -3,7 +3,7 @@ use Rattle.std.specs.Prelude.{ℕ, Bool, ◌+◌, ◌-◌, ◌*◌, ◌/◌, ◌
 use Rattle.std.specs.List.{list_any}
 use Rattle.avr_image.specs.Image.{byte_at, filled_bytes, run_end}
 use Rattle.avr_part.specs.declared.part.Mem.{Mem}
-use Rattle.avr_part.specs.declared.part.Mem.TheVariants.{Flash, Eeprom, Lfuse, Hfuse, Efuse, Lock}
+use Rattle.avr_part.specs.declared.part.Mem.TheVariants.{Flash, Eeprom, Lfuse, Hfuse, Efuse, Lock, Signature, Calibration}
 use Rattle.avr_part.specs.Part.{Part}
 use Rattle.stk_frame.specs.declared.command.Command.{Command}
 use Rattle.stk_frame.specs.declared.host_command.Fuse.TheVariants.{Low, High, Extended}
@@ -63,4 +63,5 @@ write_steps part Lfuse image = byte_steps (program_fuse Low) (byte_at image 0)
 write_steps part Hfuse image = byte_steps (program_fuse High) (byte_at image 0)
 write_steps part Efuse image = byte_steps (program_fuse Extended) (byte_at image 0)
 write_steps part Lock image = byte_steps program_lock (byte_at image 0)
-write_steps part mem image = []
+write_steps part Signature image = []
+write_steps part Calibration image = []

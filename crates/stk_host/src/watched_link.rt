@@ -23,7 +23,7 @@ pub trait WatchLink {
     ghost after: { ToldOfLink → Self → Self → Type 0 };
 
     /// Called once for each call of the link, after it has returned.
-    fn told(&mut self, call: &LinkCall<'_>)
+    fn on_call(&mut self, call: &LinkCall<'_>)
         ensures { after (link_told call.now) self.old self.new };
 }
 
@@ -34,7 +34,7 @@ pub trait WatchLink {
 /// struct Frames { sent: u32 }
 /// impl WatchLink for Frames {
 ///     ghost after = { λ call old new. Unit {0} };
-///     fn told(&mut self, call: &LinkCall<'_>) {
+///     fn on_call(&mut self, call: &LinkCall<'_>) {
 ///         if let LinkCall::Sent(_, Ok(_)) = call {
 ///             self.sent = self.sent.saturating_add(1);
 ///         }
@@ -66,7 +66,7 @@ impl<L: Link, W: WatchLink> Link for WatchedLink<L, W> {
         ensures told { W.after (Sent bytes.now result) self.old.watcher self.new.watcher }
     {
         let answer = self.link.send(bytes);
-        self.watcher.told(&LinkCall::Sent(bytes, answer));
+        self.watcher.on_call(&LinkCall::Sent(bytes, answer));
         answer
     }
 
@@ -77,7 +77,7 @@ impl<L: Link, W: WatchLink> Link for WatchedLink<L, W> {
         ensures told { W.after (Listened buffer.new result) self.old.watcher self.new.watcher }
     {
         let answer = self.link.recv(buffer);
-        self.watcher.told(&LinkCall::Listened(buffer, answer));
+        self.watcher.on_call(&LinkCall::Listened(buffer, answer));
         answer
     }
 }

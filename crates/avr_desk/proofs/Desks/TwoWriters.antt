@@ -18,15 +18,15 @@ use Rattle.ghosts.specs.Stays.{Stays}
 use Rattle.avr_desk.specs.Named.{is_dash}
 use Rattle.avr_desk.proofs.FileUses.Uses.{files_absent, files_opened, files_replaced}
 use Rattle.avr_desk.specs.Handles.{IsTrueRecord, HasGiven, IsHeldBy, IsTrueOpen, IsTrueUse}
-use Rattle.avr_desk.specs.Standing.{HeldGives, GivesBytes, HeldGivesNone, is_output}
+use Rattle.avr_desk.specs.Standing.{FileGives, GivesBytes, FileGivesNone, is_output}
 use Rattle.avr_desk.specs.Shown.{Shown, IsTrueSince, has_dash, to_output}
 use Rattle.avr_desk.specs.declared.file_system.FileSystem.{Ghosts}
 use Rattle.avr_desk.specs.declared.record.FileUse.{FileUse}
 use Rattle.avr_desk.specs.declared.record.Open.{Open}
 use Rattle.avr_desk.specs.declared.record.Reading.{Reading}
 use Rattle.avr_desk.specs.declared.record.Writing.{Writing}
-use Rattle.avr_desk.specs.declared.system.Held.{Held}
-use Rattle.avr_desk.specs.declared.system.Held.TheVariants as held
+use Rattle.avr_desk.specs.declared.system.OpenFile.{OpenFile}
+use Rattle.avr_desk.specs.declared.system.OpenFile.TheVariants as open_file
 
 -- ---- files that are the output
 
@@ -112,29 +112,29 @@ module _ {S F H I O E : Type 0} (system : Ghosts S F H) (reads : Reads F) (write
   abbrev Since : Desk → Desk → Type 0
   Since = IsTrueSince system reads writes input output_of messages_of
 
-  abbrev TrueOpen : Held F I → Open → Type 0
+  abbrev TrueOpen : OpenFile F I → Open → Type 0
   TrueOpen = IsTrueOpen system reads writes input
 
   abbrev TrueUse : FileUse → Type 0
   TrueUse = IsTrueUse system reads writes input
 
-  abbrev Files : Held F I → Option H → Record → Type 0
+  abbrev Files : OpenFile F I → Option H → Record → Type 0
   Files = IsTrueRecord system reads writes input
 
   -- what is open is a use too
-  of_open : (opened : Held F I) (o : Open) → TrueOpen opened o → All TrueUse (use_of o)
-  of_open held.Nothing o same = rw same (All-nil TrueUse)
-  of_open (held.Input i) o (x, same, was) = grind (arith, nat_tests)
-  of_open (held.ToRead f) o (x, same, was) = grind (arith, nat_tests)
-  of_open (held.ToWrite f) o (x, same, was) = grind (arith, nat_tests)
-  of_open held.Output o (x, same, was) = grind (arith, nat_tests)
+  of_open : (opened : OpenFile F I) (o : Open) → TrueOpen opened o → All TrueUse (use_of o)
+  of_open open_file.Nothing o same = rw same (All-nil TrueUse)
+  of_open (open_file.Input i) o (x, same, was) = grind (arith, nat_tests)
+  of_open (open_file.ToRead f) o (x, same, was) = grind (arith, nat_tests)
+  of_open (open_file.ToWrite f) o (x, same, was) = grind (arith, nat_tests)
+  of_open open_file.Output o (x, same, was) = grind (arith, nat_tests)
 
-  uses_true : (opened : Held F I) (hold : Option H) (r : Record) → Files opened hold r → All TrueUse (all_uses r)
+  uses_true : (opened : OpenFile F I) (hold : Option H) (r : Record) → Files opened hold r → All TrueUse (all_uses r)
   uses_true opened hold r are =
       All-append TrueUse r.uses (use_of r.current) are.uses (of_open opened r.current are.current)
 
   -- one more use, after all others
-  more_true : (opened : Held F I) (hold : Option H) (r : Record) (u : FileUse) → TrueUse u → Files opened hold r
+  more_true : (opened : OpenFile F I) (hold : Option H) (r : Record) (u : FileUse) → TrueUse u → Files opened hold r
       → All TrueUse (all_uses r ++ u ∷ [])
   more_true opened hold r u is are = All-append TrueUse (all_uses r) (u ∷ []) (uses_true opened hold r are)
       (All-cons TrueUse u [] is (All-nil TrueUse))
@@ -164,10 +164,10 @@ module _ {S F H I O E : Type 0} (system : Ghosts S F H) (reads : Reads F) (write
       λ start first. true_on start inside new (subst (Since start) (sym is) first) then
 
   -- a desk after a call that sent nothing
-  abbrev Next : Desk → ℕ → ℕ → Option ErrorKind → Held F I → Option H → Record → Desk
-  Next b f u e o h k = record b { failures = f; unsaid = u; error = e; opened = o; hold = h; kept = k }
+  abbrev Next : Desk → ℕ → ℕ → Option ErrorKind → OpenFile F I → Option H → Record → Desk
+  Next b f u e o h k = record b { failures = f; unsaid = u; last_error = e; opened = o; hold = h; kept = k }
 
-  quiet : {b : Desk} {f u : ℕ} {e : Option ErrorKind} {o : Held F I} {h : Option H} {k : Record}
+  quiet : {b : Desk} {f u : ℕ} {e : Option ErrorKind} {o : OpenFile F I} {h : Option H} {k : Record}
       → k.output ≡ b.kept.output → k.messages ≡ b.kept.messages
       → (has_dash (all_files k) ≡ false → has_dash (all_files b.kept) ≡ false)
       → (has_dash (all_files k) ≡ false → to_output b ≡ false → is_output o ≡ false)
@@ -187,13 +187,13 @@ module _ {S F H I O E : Type 0} (system : Ghosts S F H) (reads : Reads F) (write
   pub true_now : (a : Desk) → Since a a
   true_now a = quiet refl refl (λ none. none) (λ none was. was) (λ are. are)
 
-  -- only the uses and the open file change
-  files_now : {o p : Held F I} {h : Option H} {r : Record} {uses : List FileUse} {current : Open} → Files o h r
+  -- all is as it was but the uses, and what is open
+  files_now : {o p : OpenFile F I} {h : Option H} {r : Record} {uses : List FileUse} {current : Open} → Files o h r
       → All TrueUse uses → TrueOpen p current → Files p h (record r { uses = uses; current = current })
   files_now are uses current = record { uses = uses; current = current; denied = are.denied; held = are.held }
 
   -- it was opened
-  opened_true : {b : Desk} {f u : ℕ} {e : Option ErrorKind} {o : Held F I} {k : Record} (x : Reading)
+  opened_true : {b : Desk} {f u : ℕ} {e : Option ErrorKind} {o : OpenFile F I} {k : Record} (x : Reading)
       → k ≡ with_open (ToRead x) b.kept → is_output o ≡ false → TrueOpen o (ToRead x)
       → Since b (Next b f u e o b.hold k)
   opened_true {b = b} x kept elsewhere is = rw kept (quiet refl refl
@@ -203,7 +203,7 @@ module _ {S F H I O E : Type 0} (system : Ghosts S F H) (reads : Reads F) (write
 
   pub input_true : {b : Desk} {f u : ℕ} {e : Option ErrorKind} {k : Record} {name own : Bytes} {i : I} → own ≡ name
       → true ≡ is_dash name → k ≡ with_open (ToRead (record { name = own; bytes = []; ended = false })) b.kept
-      → Since b (Next b f u e (held.Input i) b.hold k)
+      → Since b (Next b f u e (open_file.Input i) b.hold k)
   input_true {own = own} {i = i} same dash kept =
       let x : Reading = record { name = own; bytes = []; ended = false } in
       opened_true x kept refl
@@ -211,7 +211,7 @@ module _ {S F H I O E : Type 0} (system : Ghosts S F H) (reads : Reads F) (write
 
   pub file_true : {b : Desk} {f u : ℕ} {e : Option ErrorKind} {k : Record} {name own : Bytes} {h : F} → own ≡ name
       → system.is_of h name → k ≡ with_open (ToRead (record { name = own; bytes = []; ended = false })) b.kept
-      → Since b (Next b f u e (held.ToRead h) b.hold k)
+      → Since b (Next b f u e (open_file.ToRead h) b.hold k)
   file_true {own = own} {h = h} same named kept =
       let x : Reading = record { name = own; bytes = []; ended = false } in
       opened_true x kept refl
@@ -219,7 +219,7 @@ module _ {S F H I O E : Type 0} (system : Ghosts S F H) (reads : Reads F) (write
 
   -- there was no such file
   pub absent_true : {b : Desk} {f u : ℕ} {e : Option ErrorKind} {k : Record} {name own : Bytes} → own ≡ name
-      → system.lacks name → k ≡ with_absent own b.kept → Since b (Next b f u e held.Nothing b.hold k)
+      → system.lacks name → k ≡ with_absent own b.kept → Since b (Next b f u e open_file.Nothing b.hold k)
   absent_true {b = b} {own = own} same lacks kept =
       rw kept (quiet refl refl
       (λ none. sym (ap has_dash (files_absent own b.kept)) ∙ none) (λ none was. refl)
@@ -227,7 +227,7 @@ module _ {S F H I O E : Type 0} (system : Ghosts S F H) (reads : Reads F) (write
       (subst system.lacks (sym same) lacks) are) refl))
 
   -- it was created
-  create_true : {b : Desk} {f u : ℕ} {e : Option ErrorKind} {o : Held F I} {k : Record} (x : Writing)
+  create_true : {b : Desk} {f u : ℕ} {e : Option ErrorKind} {o : OpenFile F I} {k : Record} (x : Writing)
       → k ≡ with_open (ToWrite x) b.kept → is_output o ≡ is_dash x.name → TrueOpen o (ToWrite x)
       → Since b (Next b f u e o b.hold k)
   create_true {b = b} x kept to_output is =
@@ -235,7 +235,7 @@ module _ {S F H I O E : Type 0} (system : Ghosts S F H) (reads : Reads F) (write
 
   pub output_true : {b : Desk} {f u : ℕ} {e : Option ErrorKind} {k : Record} {name own : Bytes} → own ≡ name
       → true ≡ is_dash name → k ≡ with_open (ToWrite (record { name = own; bytes = [] })) b.kept
-      → Since b (Next b f u e held.Output b.hold k)
+      → Since b (Next b f u e open_file.Output b.hold k)
   output_true {own = own} same dash kept =
       let is : true ≡ is_dash own = dash ∙ ap is_dash (sym same) in
       let x : Writing = record { name = own; bytes = [] } in
@@ -244,7 +244,7 @@ module _ {S F H I O E : Type 0} (system : Ghosts S F H) (reads : Reads F) (write
   pub created_true : {b : Desk} {f u : ℕ} {e : Option ErrorKind} {k : Record} {name own : Bytes} {h : F}
       → own ≡ name → false ≡ is_dash name → system.is_of h name
       → k ≡ with_open (ToWrite (record { name = own; bytes = [] })) b.kept
-      → Since b (Next b f u e (held.ToWrite h) b.hold k)
+      → Since b (Next b f u e (open_file.ToWrite h) b.hold k)
   created_true {own = own} {h = h} same no_dash named kept =
       let x : Writing = record { name = own; bytes = [] } in
       create_true x kept (no_dash ∙ ap is_dash (sym same))
@@ -252,12 +252,12 @@ module _ {S F H I O E : Type 0} (system : Ghosts S F H) (reads : Reads F) (write
 
   -- a file was replaced, and the held file released
   pub replace_true : {b c : Desk} {name own bytes : Bytes} → own ≡ name → c.output ≡ b.output
-      → c.messages ≡ b.messages → c.hold ≡ None → c.opened ≡ held.Nothing → c.kept ≡ with_replaced own bytes b.kept
+      → c.messages ≡ b.messages → c.hold ≡ None → c.opened ≡ open_file.Nothing → c.kept ≡ with_replaced own bytes b.kept
       → system.replaced name bytes → Since b c
   replace_true {b = b} {c = c} {own = own} {bytes = bytes} same output messages hold opened kept replaced =
       let x : Writing = record { name = own; bytes = bytes } in
       let files = ap has_dash (files_replaced own bytes b.kept) in
-      let now = Next b c.failures c.unsaid c.error held.Nothing None (with_replaced own bytes b.kept) in
+      let now = Next b c.failures c.unsaid c.last_error open_file.Nothing None (with_replaced own bytes b.kept) in
       let is : c ≡ now = rw (← output, ← messages, ← hold, ← opened, ← kept) refl in
       subst (Since b) (sym is) (quiet refl refl (λ none. no_dash_in_front (all_files b.kept) (x ∷ [])
       (sym files ∙ none)) (λ none was. refl)
@@ -281,20 +281,20 @@ module _ {S F H I O E : Type 0} (system : Ghosts S F H) (reads : Reads F) (write
         held = still b.kept.held are.held;
       })
 
-  -- bytes of the open file were read
-  read_on_open : (old new : Held F I) (buf : Bytes) (n : ℕ) (o : Open) → HeldGives reads input old new buf n
+  -- bytes were read of what is open
+  read_on_open : (old new : OpenFile F I) (buf : Bytes) (n : ℕ) (o : Open) → FileGives reads input old new buf n
       → TrueOpen old o → TrueOpen new (read_on buf n o)
-  read_on_open (held.Input i) new buf n o (now, is, gives) (x, same, (dash, first, given)) =
+  read_on_open (open_file.Input i) new buf n o (now, is, gives) (x, same, (dash, first, given)) =
       rw is (_, ap (read_on buf n) same, (dash, first, given_more input first i now x buf n given gives))
-  read_on_open (held.ToRead h) new buf n o (now, is, gives) (x, same, (first, named, given)) =
+  read_on_open (open_file.ToRead h) new buf n o (now, is, gives) (x, same, (first, named, given)) =
       rw is (_, ap (read_on buf n) same, (first, named, given_more reads first h now x buf n given gives))
-  read_on_open held.Nothing new buf n o gives was = elim gives [ ]
-  read_on_open (held.ToWrite h) new buf n o gives was = elim gives [ ]
-  read_on_open held.Output new buf n o gives was = elim gives [ ]
+  read_on_open open_file.Nothing new buf n o gives was = elim gives [ ]
+  read_on_open (open_file.ToWrite h) new buf n o gives was = elim gives [ ]
+  read_on_open open_file.Output new buf n o gives was = elim gives [ ]
 
-  pub read_true : {b : Desk} {f u : ℕ} {e : Option ErrorKind} {o : Held F I} {k : Record} (buf : Bytes) (n : ℕ)
+  pub read_true : {b : Desk} {f u : ℕ} {e : Option ErrorKind} {o : OpenFile F I} {k : Record} (buf : Bytes) (n : ℕ)
       → k ≡ record b.kept { current = read_on buf n b.kept.current } → is_output o ≡ is_output b.opened
-      → HeldGives reads input b.opened o buf n → Since b (Next b f u e o b.hold k)
+      → FileGives reads input b.opened o buf n → Since b (Next b f u e o b.hold k)
   read_true {b = b} {o = o} buf n kept same gives =
       let now : Record = record b.kept { current = read_on buf n b.kept.current } in
       let files : has_dash (all_files now) ≡ has_dash (all_files b.kept) =
@@ -303,22 +303,22 @@ module _ {S F H I O E : Type 0} (system : Ghosts S F H) (reads : Reads F) (write
       (λ are. files_now are are.uses (read_on_open b.opened o buf n b.kept.current gives are.current)))
 
   -- or none were
-  kept_open : (old new : Held F I) (o : Open) → HeldGivesNone reads input old new → TrueOpen old o → TrueOpen new o
-  kept_open (held.Input i) new o (now, is, kept) (x, same, (dash, first, given)) =
+  kept_open : (old new : OpenFile F I) (o : Open) → FileGivesNone reads input old new → TrueOpen old o → TrueOpen new o
+  kept_open (open_file.Input i) new o (now, is, kept) (x, same, (dash, first, given)) =
       rw is (x, same, (dash, first, given_kept input first i now x given kept))
-  kept_open (held.ToRead h) new o (now, is, kept) (x, same, (first, named, given)) =
+  kept_open (open_file.ToRead h) new o (now, is, kept) (x, same, (first, named, given)) =
       rw is (x, same, (first, named, given_kept reads first h now x given kept))
   kept_open x new o same was = rw same was
 
-  pub unread_true : {b : Desk} {f u : ℕ} {e : Option ErrorKind} {o : Held F I} → is_output o ≡ is_output b.opened
-      → HeldGivesNone reads input b.opened o → Since b (Next b f u e o b.hold b.kept)
+  pub unread_true : {b : Desk} {f u : ℕ} {e : Option ErrorKind} {o : OpenFile F I} → is_output o ≡ is_output b.opened
+      → FileGivesNone reads input b.opened o → Since b (Next b f u e o b.hold b.kept)
   unread_true {b = b} {o = o} same none =
       quiet refl refl (λ none. none) (λ none was. same ∙ was)
       (λ are. files_now are are.uses (kept_open b.opened o b.kept.current none are.current))
 
   -- bytes went to a file other than the output
   write_on : (old new : F) (bytes : Bytes) (o : Open) → Appends (writes.contents old) (writes.contents new) bytes
-      → TrueOpen (held.ToWrite old) o → TrueOpen (held.ToWrite new) (written_on bytes o)
+      → TrueOpen (open_file.ToWrite old) o → TrueOpen (open_file.ToWrite new) (written_on bytes o)
   write_on old new bytes o took (x, same, (first, named, all)) = (
     _,
     ap (written_on bytes) same,
@@ -330,24 +330,25 @@ module _ {S F H I O E : Type 0} (system : Ghosts S F H) (reads : Reads F) (write
   )
 
   pub write_true : {b : Desk} {f u : ℕ} {e : Option ErrorKind} {k : Record} {old new : F} (bytes : Bytes)
-      → b.opened ≡ held.ToWrite old → Appends (writes.contents old) (writes.contents new) bytes
-      → k ≡ after_write bytes b.kept → Since b (Next b f u e (held.ToWrite new) b.hold k)
+      → b.opened ≡ open_file.ToWrite old → Appends (writes.contents old) (writes.contents new) bytes
+      → k ≡ after_write bytes b.kept → Since b (Next b f u e (open_file.ToWrite new) b.hold k)
   write_true {b = b} {old = old} {new = new} bytes was took kept =
       rw kept (quiet refl refl
       (λ none. sym (written_dashes bytes b.kept) ∙ none) (λ none elsewhere. refl)
       (λ are. files_now are are.uses (write_on old new bytes b.kept.current took
-      (subst (λ (h : Held F I). TrueOpen h b.kept.current) was are.current))))
+      (subst (λ (h : OpenFile F I). TrueOpen h b.kept.current) was are.current))))
 
   -- a desk after a call that sent to the output
   abbrev Put : Desk → O → ℕ → ℕ → Option ErrorKind → Record → Desk
-  Put b w f u e k = record b { output = w; failures = f; unsaid = u; error = e; kept = k }
+  Put b w f u e k = record b { output = w; failures = f; unsaid = u; last_error = e; kept = k }
 
   -- as the file
-  write_on_output : (bytes : Bytes) (o : Open) → TrueOpen held.Output o → TrueOpen held.Output (written_on bytes o)
+  write_on_output : (bytes : Bytes) (o : Open) → TrueOpen open_file.Output o
+      → TrueOpen open_file.Output (written_on bytes o)
   write_on_output bytes o (x, same, dash) = (_, ap (written_on bytes) same, dash)
 
   pub write_out_true : {b : Desk} {w : O} {f u : ℕ} {e : Option ErrorKind} {k : Record} (bytes : Bytes)
-      → b.opened ≡ held.Output → k ≡ after_write bytes b.kept → Since b (Put b w f u e k)
+      → b.opened ≡ open_file.Output → k ≡ after_write bytes b.kept → Since b (Put b w f u e k)
   write_out_true {b = b} bytes was kept = rw kept (record {
     said = [];
     messages = sym (append-nil b.kept.messages);
@@ -355,12 +356,13 @@ module _ {S F H I O E : Type 0} (system : Ghosts S F H) (reads : Reads F) (write
     put = [];
     output = sym (append-nil b.kept.output);
     dashes = λ none. sym (written_dashes bytes b.kept) ∙ none;
-    out = λ none elsewhere. absurd (let now : is_output b.opened ≡ true = ap (λ (h : Held F I). is_output h) was in cc);
+    out = λ none elsewhere. absurd (let now : is_output b.opened ≡ true =
+        ap (λ (h : OpenFile F I). is_output h) was in cc);
     files = λ are. record {
       uses = are.uses;
-      current = subst (λ (h : Held F I). TrueOpen h (written_on bytes b.kept.current)) (sym was)
+      current = subst (λ (h : OpenFile F I). TrueOpen h (written_on bytes b.kept.current)) (sym was)
           (write_on_output bytes b.kept.current
-          (subst (λ (h : Held F I). TrueOpen h b.kept.current) was are.current));
+          (subst (λ (h : OpenFile F I). TrueOpen h b.kept.current) was are.current));
       denied = are.denied;
       held = are.held;
     };
@@ -382,7 +384,7 @@ module _ {S F H I O E : Type 0} (system : Ghosts S F H) (reads : Reads F) (write
 
   -- a desk after a call that sent to the messages
   abbrev Told : Desk → E → ℕ → ℕ → Option ErrorKind → Record → Desk
-  Told b w f u e k = record b { messages = w; failures = f; unsaid = u; error = e; kept = k }
+  Told b w f u e k = record b { messages = w; failures = f; unsaid = u; last_error = e; kept = k }
 
   pub err_true : {b : Desk} {w : E} {f u : ℕ} {e : Option ErrorKind} {k : Record} (bytes : Bytes)
       → k ≡ record b.kept { messages = b.kept.messages ++ bytes }
@@ -392,5 +394,5 @@ module _ {S F H I O E : Type 0} (system : Ghosts S F H) (reads : Reads F) (write
 -- ---- a new desk
 
 module _ {S F H I : Type 0} (system : Ghosts S F H) (reads : Reads F) (writes : Writes F) (input : Reads I) where
-  pub none_kept_true : IsTrueRecord system reads writes input held.Nothing None nothing_kept
+  pub none_kept_true : IsTrueRecord system reads writes input open_file.Nothing None nothing_kept
   none_kept_true = grind (arith, nat_tests)

@@ -8,7 +8,7 @@ use Rattle.avr_desk.specs.Record.{DeskState, Passes, Bytes}
 use Rattle.avr_desk.specs.Lines.{too_long_line}
 use Rattle.avr_desk.specs.Said.{Tells}
 use Rattle.avr_part.specs.Part.{Part}
-use Rattle.avr_part.specs.PartFile.{FileFault, ReadsOrMemory, of_file, parts_of}
+use Rattle.avr_part.specs.PartFile.{NamedFault, ReadsOrMemory, of_file, parts_of}
 use Rattle.avr_part.specs.declared.fault.PartFault.TheVariants.{Memory}
 use Rattle.avr_desk.proofs.Stages.Files.{goes_whole, went_whole, goes_file_fault}
 use Rattle.avr_desk.proofs.Lines.Told.{follows_same}
@@ -54,7 +54,7 @@ went_parts file bytes true old mid parts kept whole is same (inl gives) =
     (went_settled (judged_parts file bytes) parts mid given)
 went_parts file bytes true old mid parts kept whole is same (inr memory) = cc
 
-pub goes_bad_parts : (file bytes : Bytes) (ended : Bool) (old mid new : DeskState) (status : ℕ) (refused : FileFault)
+pub goes_bad_parts : (file bytes : Bytes) (ended : Bool) (old mid new : DeskState) (status : ℕ) (refused : NamedFault)
     → Passes (with_read file bytes ended) old mid → IsWhole LARGEST_PART_FILE (record { bytes = bytes; ended = ended })
     → ended ≡ true → HasSameCounts old mid
     → ReadsOrMemory (parts_of bytes) (Err refused) → status ≡ 1 → Tells mid new (part_file_line file refused.fault)

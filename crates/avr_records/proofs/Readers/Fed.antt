@@ -14,7 +14,7 @@ use Rattle.avr_records.specs.Reader.{kept, ReadsLines}
 use Rattle.avr_records.specs.Reading.{said_by_line, together, image_in_text}
 use Rattle.avr_records.specs.Meaning.{Nothing}
 use Rattle.avr_records.specs.Record.{longest}
-use Rattle.avr_records.specs.Steps.{next_progress, ending_of, HasBase, IsFresh, Begins}
+use Rattle.avr_records.specs.Steps.{next_progress, ending_of, HasBase, HasNoLines, Begins}
 use Rattle.avr_records.specs.declared.kind.Kind.{Kind}
 use Rattle.avr_records.specs.declared.kind.Kind.TheVariants.{Ihex, Srec}
 use Rattle.avr_records.specs.declared.kind.Base.TheVariants.{Linear}
@@ -273,7 +273,7 @@ pub no-base : (kind : Kind) → HasBase kind (Linear 0)
 no-base Ihex = tt
 no-base Srec = refl
 
-pub begins : (kind : Kind) (size : ℕ) (p : Progress) (part : List ℕ) → IsFresh size p → part ≡ []
+pub begins : (kind : Kind) (size : ℕ) (p : Progress) (part : List ℕ) → HasNoLines size p → part ≡ []
     → Begins kind size p part
 begins kind size p part is empty' =
     let sized : image_size p ≡ size = ap length is.1 ∙ length-replicate size None in

@@ -7,7 +7,7 @@ use Rattle.std.specs.Char.{to_ascii_uppercase}
 use Rattle.std.specs.Prelude.{slice_index}
 use Rattle.std.specs.Int.{to_be_bytes, w32}
 use Rattle.hex.specs.Hex.{encode_with, encode_lower, encode_upper, lower_digits, upper_digits}
-use Rattle.avr_records.specs.Text.{rows, rows_behind, bytes_of, low_bytes, two, ihex_record}
+use Rattle.avr_records.specs.Text.{rows, rows_behind, width_of, low_bytes, two, ihex_record}
 use Rattle.avr_records.specs.Sparse.{file_rows, new_upper, row_size, row_text}
 use Rattle.avr_records.specs.declared.address_size.AddressSize.{AddressSize}
 use Rattle.avr_records.specs.declared.address_size.AddressSize.TheVariants.{Two, Three, Four}
@@ -69,7 +69,7 @@ rows-next size addr n (b ∷ bs) some wide is =
     grind (arith, nat_tests, take_min, rows_behind-drop, drop-one_less, rows-min)
 
 pub low_bytes_is : (size : AddressSize) (n : ℕ)
-    → drop (4 - bytes_of size) (to_be_bytes w32 n) ≡ low_bytes (bytes_of size) n
+    → drop (4 - width_of size) (to_be_bytes w32 n) ≡ low_bytes (width_of size) n
 low_bytes_is Two n = refl
 low_bytes_is Three n = let top : n / 65536 ≡ n / 256 / 256 = omega arith in rw top refl
 low_bytes_is Four n = grind (arith, nat_tests)
@@ -78,7 +78,7 @@ pub length_low_bytes : (size n : ℕ) → length (low_bytes size n) ≡ size
 length_low_bytes zero n = refl
 length_low_bytes (suc size) n = grind (arith, nat_tests, length_low_bytes size (n / 256), length-append)
 
-pub few_bytes : (size : AddressSize) → (2 ≤ bytes_of size) × (bytes_of size ≤ 4)
+pub few_bytes : (size : AddressSize) → (2 ≤ width_of size) × (width_of size ≤ 4)
 few_bytes x = grind (arith, nat_tests)
 
 pub wide_row : (kind : Kind) (addr : ℕ) → 0 < row_size kind addr

@@ -16,7 +16,7 @@ use Rattle.avr_records.specs.Meaning.{Data, End, Nothing}
 use Rattle.avr_records.specs.Record.{RecordFields, number, bytes_of_digits, ◌and_then◌}
 use Rattle.avr_records.specs.Srec.{srec_from_fields, checked_srec, typed_srec, record_with_address}
 use Rattle.avr_records.specs.Reading.{Said, said_by_line, record_meaning}
-use Rattle.avr_records.specs.Text.{bytes_of, low_bytes, with_count_and_checksum, srec_rows, address_size}
+use Rattle.avr_records.specs.Text.{width_of, low_bytes, with_count_and_checksum, srec_rows, address_size}
 use Rattle.avr_records.specs.declared.address_size.AddressSize.{AddressSize}
 use Rattle.avr_records.specs.declared.address_size.AddressSize.TheVariants.{Two, Three, Four}
 use Rattle.avr_records.specs.declared.kind.Kind.TheVariants.{Srec}
@@ -91,13 +91,13 @@ says-line type body digit short all =
     ∙ ap (record_meaning Srec) (fields-counted (48 + type) body)
 
 typed-data : (size : AddressSize) (body : List ℕ)
-    → typed_srec (48 + (bytes_of size - 1)) body ≡ record_with_address (bytes_of size - 1) (bytes_of size) body
+    → typed_srec (48 + (width_of size - 1)) body ≡ record_with_address (width_of size - 1) (width_of size) body
 typed-data Two body = refl
 typed-data Three body = refl
 typed-data Four body = refl
 
 typed-end : (size : AddressSize)
-    → record_meaning Srec (typed_srec (48 + (11 - bytes_of size)) (low_bytes (bytes_of size) 0)) ≡ Ok End
+    → record_meaning Srec (typed_srec (48 + (11 - width_of size)) (low_bytes (width_of size) 0)) ≡ Ok End
 typed-end Two = refl
 typed-end Three = refl
 typed-end Four = refl
@@ -111,7 +111,7 @@ addressed-low type size addr row fits =
     grind (arith, nat_tests, length_low_bytes, nat_le, length-append, take_at, drop_at, number-low_bytes)
 
 meant-data : (size : AddressSize) (addr : ℕ) (row : List ℕ)
-    → record_meaning Srec (record_with (bytes_of size - 1) addr row) ≡ Ok (Data addr row)
+    → record_meaning Srec (record_with (width_of size - 1) addr row) ≡ Ok (Data addr row)
 meant-data x addr row = grind (arith, nat_tests)
 
 -- the meaning of a row of data
@@ -119,34 +119,34 @@ abbrev pub said_of : ℕ × List ℕ → Said
 said_of row = Ok (Data row.0 row.1)
 
 -- the lines of the rows, and of the end record
-pub lines-said : (size : AddressSize) (end : ℕ) (rows : List (ℕ × List ℕ)) → end ≤ 256 ^ bytes_of size
+pub lines-said : (size : AddressSize) (end : ℕ) (rows : List (ℕ × List ℕ)) → end ≤ 256 ^ width_of size
     → Every (IsRow (λ _. 32) end) rows
     → map (said_by_line Srec) (lines (srec_rows size rows)) ≡ map said_of rows ++ Ok End ∷ Ok Nothing ∷ []
 lines-said size end [] fits all =
     let few = few_bytes size in
-    let body : List ℕ = low_bytes (bytes_of size) 0 in
-    let len = length_low_bytes (bytes_of size) 0 in
-    let bytes = IsBytes-low_bytes (bytes_of size) 0 in
-    let plain = plain-line (11 - bytes_of size) body (omega (arith, few.0)) (omega (arith, len, few.1)) bytes in
-    ap (map (said_by_line Srec)) (lines-plain (line_of (11 - bytes_of size) body) [] plain)
+    let body : List ℕ = low_bytes (width_of size) 0 in
+    let len = length_low_bytes (width_of size) 0 in
+    let bytes = IsBytes-low_bytes (width_of size) 0 in
+    let plain = plain-line (11 - width_of size) body (omega (arith, few.0)) (omega (arith, len, few.1)) bytes in
+    ap (map (said_by_line Srec)) (lines-plain (line_of (11 - width_of size) body) [] plain)
     ∙ ap (λ (said : Said). said ∷ Ok Nothing ∷ [])
-    (says-line (11 - bytes_of size) body (omega (arith, few.0)) (omega (arith, len, few.1)) bytes ∙ typed-end size)
+    (says-line (11 - width_of size) body (omega (arith, few.0)) (omega (arith, len, few.1)) bytes ∙ typed-end size)
 lines-said size end ((addr, row) ∷ rows) fits all =
     let few = few_bytes size in
     let is = all.0 in
-    let type : ℕ = bytes_of size - 1 in
-    let body : List ℕ = low_bytes (bytes_of size) addr ++ row in
-    let len : length body ≡ bytes_of size + length row =
-    length-append (low_bytes (bytes_of size) addr) row
-    ∙ ap (λ (n : ℕ). n + length row) (length_low_bytes (bytes_of size) addr) in
-    let bytes = IsBytes-append (low_bytes (bytes_of size) addr) row (IsBytes-low_bytes (bytes_of size) addr) is.bytes in
+    let type : ℕ = width_of size - 1 in
+    let body : List ℕ = low_bytes (width_of size) addr ++ row in
+    let len : length body ≡ width_of size + length row =
+    length-append (low_bytes (width_of size) addr) row
+    ∙ ap (λ (n : ℕ). n + length row) (length_low_bytes (width_of size) addr) in
+    let bytes = IsBytes-append (low_bytes (width_of size) addr) row (IsBytes-low_bytes (width_of size) addr) is.bytes in
     let short : length body ≤ 36 = omega (arith, len, is.few, few.1) in
-    let low : addr < 256 ^ bytes_of size = omega (arith, fits, is.some, is.below) in
+    let low : addr < 256 ^ width_of size = omega (arith, fits, is.some, is.below) in
     let digit : type ≤ 9 = omega (arith, few.1) in
     let plain = plain-line type body digit short bytes in
     let said : said_by_line Srec (line_of type body) ≡ said_of (addr, row) =
     says-line type body digit short bytes
-    ∙ ap (record_meaning Srec) (typed-data size body ∙ addressed-low type (bytes_of size) addr row low)
+    ∙ ap (record_meaning Srec) (typed-data size body ∙ addressed-low type (width_of size) addr row low)
     ∙ meant-data size addr row in
     ap (map (said_by_line Srec)) (lines-written (line_of type body) (srec_rows size rows) plain)
     ∙ ap (λ (s : Said). s ∷ map (said_by_line Srec) (lines (srec_rows size rows))) said
@@ -162,5 +162,5 @@ rows-threaded [] = refl
 rows-threaded (row ∷ rows) = grind (arith, nat_tests, rows-threaded rows, threaded, then_end, places-linear)
 
 -- an address has as many bytes as it needs
-pub wide_enough : (last : ℕ) → last < 2 ^ 32 → last < 256 ^ bytes_of (address_size last)
+pub wide_enough : (last : ℕ) → last < 2 ^ 32 → last < 256 ^ width_of (address_size last)
 wide_enough last below = grind (arith, nat_tests)
