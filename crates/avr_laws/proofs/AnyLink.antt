@@ -1,5 +1,5 @@
 -- A session over any link that forges no answer.
-use Rattle.std.proofs.Common.{◌≡◌, ◌≤◌, ℕ, Bool, List, [], ◌++◌, All, length, take, refl, sym, ap, ◌∙◌, subst, arith, inl, inr, Some, length-append}
+use Rattle.std.proofs.Common.{◌≡◌, ◌≤◌, ℕ, Bool, List, [], ◌++◌, All, length, take, refl, sym, ap, ◌∙◌, subst, arith, inl, inr, Some, length-append, rules}
 use Rattle.std.proofs.lemmas.List.{append-nil, take-append-le, take_all}
 use Rattle.avr_desk.specs.Said.{OutputEvent, SaidPart}
 use Rattle.avr_part.specs.Sound.{IsSoundChip}
@@ -54,15 +54,13 @@ sent_first plan old new status silent runs = elim runs [
   | inr broke ↦
       let b = broke.0 in
       let prefix = shown_prefix SaidPart b.shown (played (session plan) 1 (heard b.during)).events b.breaks.prefix in
-      now b.during b.grows
-      (b.breaks.in_turn, (prefix.0, ap (λ bs. bs ++ prefix.0) (sym b.breaks.all_sent) ∙ prefix.1))
+      search rules
 ]
   where
     now : (during : Transcript) → Grows old.link.transcript during new.link.transcript → IsFirst plan during
         → IsFirst plan new.link.transcript
     now during grows first =
-        subst (IsFirst plan) (since_none old.link.transcript new.link.transcript during new.link.transcript silent refl
-        grows) first
+        search (rules, since_none)
 
 module _ (plan : Plan) (s : chips.ChipState) (is_sound : IsSoundChip s) (part_is : s.part ≡ plan.part)
     (fitted : All (IsFitted plan.part) plan.tasks) where
@@ -94,8 +92,7 @@ module _ (plan : Plan) (s : chips.ChipState) (is_sound : IsSoundChip s) (part_is
       fewer = let all = ap length some.1 in omega (arith, all, length-append (frames bytes) some.0)
 
       first_frames : take count (frames_in events_played) ≡ frames bytes
-      first_frames = ap (take count) some.1 ∙ (take-append-le count (frames bytes) some.0 (omega arith)
-          ∙ take_all count (frames bytes) (omega arith))
+      first_frames = search (rules, some, take-append-le, take_all)
 
       stands : after_pieces device (frames bytes) becames begun
           ≡ (along device count (session plan) begun turns).programmer
@@ -103,8 +100,7 @@ module _ (plan : Plan) (s : chips.ChipState) (is_sound : IsSoundChip s) (part_is
 
       pub over_any_end : OverTurns plan begun (after_pieces device (frames bytes) becames begun) turns bytes
           events_played
-      over_any_end = over_turns plan s is_sound part_is fitted turns (after_pieces device (frames bytes) becames begun)
-          bytes stands tape becames prefix honest (by_tape (session plan) 1 tape becames)
+      over_any_end = search (rules, over_turns, stands, by_tape)
 
     -- a whole session
     module _ (bytes : List ℕ) (left : Tape) (events : List (Event OutputEvent)) (status next : ℕ)
@@ -115,16 +111,13 @@ module _ (plan : Plan) (s : chips.ChipState) (is_sound : IsSoundChip s) (part_is
 
       same : frames_in events_played ≡ frames bytes
       same =
-          let whole : AreWhole (frames_in events_played) = sends_whole (session plan) 1 tape asks_bodies in
-          sym (frames_sent events_played whole) ∙ ap frames (ap (λ p. bytes_sent p.events) is ∙ sent_is)
+          search (rules, sends_whole, asks_bodies, frames_sent)
 
       comes : (along device (length (frames bytes)) (session plan) begun turns).dialog ≡ Done status
-      comes = subst (λ fs. (along device (length fs) (session plan) begun turns).dialog ≡ Done status) same
-          (goes.outcome status next left (ap (λ p. p.outcome) is)).0
+      comes = search (rules, same, goes)
 
       said : outputs events ≡ said_along device (length (frames bytes)) (session plan) begun turns
-      said = subst (λ fs. outputs events ≡ said_along device (length fs) (session plan) begun turns) same
-          (ap (λ p. outputs p.events) (sym is) ∙ (goes.outcome status next left (ap (λ p. p.outcome) is)).1)
+      said = search (rules, same, goes)
 
       pub over_any_line : WholeOverTurns plan begun (after_pieces device (frames bytes) becames begun) turns bytes
           events

@@ -1,5 +1,5 @@
 -- What holds of each element of a list.
-use Rattle.std.proofs.Common.{ℕ, zero, suc, ◌+◌, List, [], ◌∷◌, ◌++◌}
+use Rattle.std.proofs.Common.{ℕ, zero, suc, ◌+◌, List, [], ◌∷◌, ◌++◌, rules}
 use Rattle.stk_frame.specs.declared.command.Command.{Command}
 use Rattle.stk_host.specs.Places.{each_from}
 
@@ -16,5 +16,4 @@ pub each_of : (P : List Command → Type 0) (steps_at : ℕ → List (List Comma
     → ((i : ℕ) → Each P (steps_at i)) → Each P (each_from steps_at place count)
 each_of P steps_at place zero each = tt
 each_of P steps_at place (suc count) each =
-    each_on P (steps_at place) (each_from steps_at (place + 1) count) (each place)
-    (each_of P steps_at (place + 1) count each)
+    search (rules, each_on, each_of P steps_at (place + 1) count each)

@@ -1,5 +1,5 @@
 -- A session that went along turns, in the words of the page.
-use Rattle.std.proofs.Common.{◌≡◌, ◌*◌, ℕ, List, All, length, sym, ap, ◌∙◌, subst}
+use Rattle.std.proofs.Common.{◌≡◌, ◌*◌, ℕ, List, All, length, sym, ap, ◌∙◌, subst, rules}
 use Rattle.avr_desk.specs.Said.{OutputEvent}
 use Rattle.avr_part.specs.Part.{IsPart}
 use Rattle.avr_part.specs.Sound.{IsSoundChip}
@@ -72,18 +72,9 @@ module _ (plan : Plan) (s : chips.ChipState) (is_sound : IsSoundChip s) (part_is
     over_turns tape becames prefix honest same =
         let made = session_makes plan sound fitted before sizes begun turns idle in
         record {
-          page_writes = record {
-            count = made.count count;
-            at_least = made.at_least count;
-            at_most = made.at_most count;
-            none = λ zero. ap made.count zero ∙ made.none;
-            memories = ap (λ (r : Programmer). memories_of r.chip) stands ∙ made.stands count;
-          };
-          four = λ weight. prefix_weighs weight (4 * weighed weight (bodies_in (run_steps plan))) (session plan) 1 tape
-              bytes asks (session_weighs weight plan) prefix;
-          believable = told_any device (λ r output. IsTrue plan before (memories_of r.chip) output) (session plan) 1
-              tape begun becames turns asks
-              (λ k others. session_tells plan sound before sizes fitted k begun others idle) honest same;
+          page_writes = search rules;
+          four = search (rules, prefix_weighs, asks, session_weighs);
+          believable = search (rules, told_any, asks, session_tells, sound, sizes, idle);
           foretold = foretold_on_tape plan sound fitted before sizes begun tape becames idle honest;
         }
 
@@ -106,8 +97,7 @@ module _ (plan : Plan) (s : chips.ChipState) (is_sound : IsSoundChip s) (part_is
           ((session_leaves plan sound before sizes fitted begun turns idle).after count status comes zero)
 
       its_expected : AreFew turns → IsExpectedRun plan before after says status
-      its_expected few = has_expected
-          (session_ends plan sound fitted before begun turns sizes idle few count status comes)
+      its_expected few = search (rules, has_expected, session_ends, sound, sizes, idle)
 
       pub comes_over_turns : ComesOverTurns plan before after turns says status
       comes_over_turns = record {

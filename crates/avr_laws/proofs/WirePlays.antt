@@ -1,5 +1,5 @@
 -- A session that was played over a wire, as it went along the turns of its fates.
-use Rattle.std.proofs.Common.{◌≡◌, ℕ, [], List, ◌++◌, All, length, take, refl, sym, ap, ◌∙◌, subst, inl, inr}
+use Rattle.std.proofs.Common.{◌≡◌, ℕ, [], List, ◌++◌, All, length, take, refl, sym, ap, ◌∙◌, subst, inl, inr, rules}
 use Rattle.std.proofs.lemmas.List.{append-nil}
 use Rattle.avr_desk.specs.Said.{OutputEvent, after_all}
 use Rattle.avr_part.specs.Sound.{IsSoundChip}
@@ -65,8 +65,7 @@ module _ (plan : Plan) (w v : WiredState) (fresh : IsFresh w) (stays : Stays Com
 
   stands : Runs → v.wire.programmer
       ≡ (along device (length (frames (sent v.transcript))) (session plan) begun turns).programmer
-  stands runs = stands_along (session plan) 1 begun w.wire.fates v asks_bodies fresh.lawful keeps (first runs).0
-      (first runs).1
+  stands runs = search (rules, stands_along, asks_bodies, keeps, first)
 
   over : Runs → OverTurns plan begun v.wire.programmer turns (sent v.transcript) (events_over plan v)
   over runs =
@@ -81,8 +80,7 @@ module _ (plan : Plan) (w v : WiredState) (fresh : IsFresh w) (stays : Stays Com
       × Passes (after_all (outputs (events_over plan v))) old now
   came whole =
       let plays : Plays (session plan) start v.transcript whole.1.events status whole.0 =
-      subst (λ transcript. Plays (session plan) start transcript whole.1.events status whole.0)
-      (since_none w.transcript v.transcript whole.1.during v.transcript fresh.silent refl whole.1.grows) whole.1.plays
+      search (rules, since_none)
       in
       let same : whole.1.events ≡ events_over plan v =
       sym (ap (λ t. (played (session plan) 1 t).events) (sym (append-nil (heard v.transcript)))
@@ -90,8 +88,7 @@ module _ (plan : Plan) (w v : WiredState) (fresh : IsFresh w) (stays : Stays Com
       let prefix = (first (inl whole)).1 in (
         comes_over_turns plan w.wire.programmer.chip is_sound part_is fitted turns v.wire.programmer (sent v.transcript)
             (stands (inl whole)) (outputs (events_over plan v)) status
-            (whole_done (session plan) 1 begun w.wire.fates v asks_bodies fresh.lawful keeps plays.in_turn
-            whole.1.events status whole.0 plays prefix)
+            (search (rules, whole_done, asks_bodies, keeps))
             (ap outputs (sym same) ∙ whole_said (session plan) 1 begun w.wire.fates v asks_bodies fresh.lawful keeps
             plays.in_turn whole.1.events status whole.0 plays prefix),
         whole.1.kept ∙ ap (λ events. after_all (outputs events) old.kept) same,
@@ -114,9 +111,7 @@ module _ (plan : Plan) (w v : WiredState) (d e : DeskState) (status : ℕ) (over
   came_to zero = elim over.end [ inl came ↦ came | inr broke ↦ absurd (one_no (sym broke.1 ∙ zero)) ]
 
   pub untouched : frames (sent v.transcript) ≡ [] → memories v ≡ memories w
-  untouched none = over.line.page_writes.memories
-      ∙ ap (λ k. effects plan.part (take k (page_writes plan)) (memories w))
-      (over.line.page_writes.none (ap length none))
+  untouched none = search (rules, over)
 
 -- what was reported is a prefix of the output of the session over what was received
 module _ (plan : Plan) (w v : WiredState) (d e : DeskState) (status : ℕ) (silent : w.transcript ≡ [])
@@ -128,15 +123,9 @@ module _ (plan : Plan) (w v : WiredState) (d e : DeskState) (status : ℕ) (sile
       → AreTrue whole.1.events
   played_truly whole =
       let over_heard = ap (λ t. (played (session plan) 1 t).events)
-      (ap heard (sym (since_none w.transcript v.transcript whole.1.during v.transcript silent refl whole.1.grows))
-      ∙ sym (append-nil (heard whole.1.during))) in
+      (search (rules, since_none, append-nil)) in
       subst AreTrue (over_heard ∙ ap (λ x. x.events) (whole.1.plays.plays [])) over.line.believable
 
   pub stopped_truly : (stopped : Stopped plan w v d e) → AreTrue stopped.breaks.prefix.whole
   stopped_truly stopped =
-      let over_heard = ap (λ t. (played (session plan) 1 t).events)
-      (ap heard (sym (since_none w.transcript v.transcript stopped.during v.transcript silent refl stopped.grows))) in
-      said_prefix device (λ q output. IsTrue plan (memories_of w.wire.programmer.chip) (memories_of q.chip) output)
-      stopped.breaks.prefix.whole stopped.breaks.prefix.later (turns_of w.wire.fates)
-      (fresh_programmer w.wire.programmer.chip)
-      (subst AreTrue (over_heard ∙ stopped.breaks.prefix.events_are) over.line.believable)
+      search (rules, since_none, said_prefix, over)

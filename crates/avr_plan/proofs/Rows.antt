@@ -1,7 +1,7 @@
 -- The limits of files. Then when allocation may fail with no file open. Then wrong ends, which the contract refuses.
 -- One plan writes the file `x.hex` to flash, at a desk that shows no opened file. The other is for a part that doesn't
 -- exist.
-use Rattle.std.proofs.Common.{◌≡◌, ◌∙◌, sym, ap, subst, arith, ℕ, ◌+◌, ◌<◌, ◌≤◌, ◌-◌, ◌^◌, ◌⊎◌, inl, inr, List, [], ◌∷◌, ◌++◌, take, get_or, append-nil, refl, true, false, Option, Some, None, Ok, Err}
+use Rattle.std.proofs.Common.{◌≡◌, ◌∙◌, sym, ap, subst, arith, ℕ, ◌+◌, ◌<◌, ◌≤◌, ◌-◌, ◌^◌, ◌⊎◌, inl, inr, List, [], ◌∷◌, ◌++◌, take, get_or, append-nil, refl, true, false, Option, Some, None, Ok, Err, rules}
 use Rattle.std.specs.Prelude.{codes}
 use Rattle.avr_cli.specs.Settings.{no_switches}
 use Rattle.avr_cli.specs.declared.settings.Port.TheVariants.{Stdio}
@@ -63,16 +63,13 @@ wanted = record {
 
 begins_image : Begins file (file_image_stage no_switches file Ihex 32768)
 begins_image =
-    begins_then file (file_stage file 4194304 (judged_image file Ihex 32768))
-    (λ given. output_stage (warning_says no_switches file given.1) >>= λ ok. verdict_stage (Ok given.0))
-    (begins_file file 4194304 (judged_image file Ihex 32768))
+    search (rules, begins_then, begins_file)
 
 abbrev task : Stage Task
 task = file_image_stage no_switches file Ihex 32768 >>= λ image. verdict_stage (Ok (Write Flash image))
 
 begins_task : Begins file task
-begins_task = begins_then file (file_image_stage no_switches file Ihex 32768)
-    (λ image. verdict_stage (Ok (Write Flash image))) begins_image
+begins_task = search (rules, begins_then, begins_image)
 
 abbrev tasks : Stage (List Task)
 tasks = task >>= λ first. verdict_stage (Ok (first ∷ []))
@@ -100,9 +97,7 @@ only_due u due (x ∷ y ∷ done) more is = let none : [] ≡ y ∷ (done ++ due
 -- never
 takes_none : (passed : List Opening) (said : List OutputEvent) → AtUpdate wanted passed said → ⊥
 takes_none passed said at =
-    let takes : op_takes_memory of_file op.Write ≡ true = subst (λ u. op_takes_memory u u.op ≡ true)
-    (only_due of_file at.due at.done at.more at.updates_are) at.takes in
-    cc
+    search (rules, only_due)
 
 -- the same settings, with values for EEPROM before the file: before anything, but not after the file
 abbrev mixed : Settings
@@ -118,15 +113,9 @@ begins_mixed : (passed : List Opening) (said : List OutputEvent) (done : List Up
     → of_values ∷ of_file ∷ [] ≡ done ++ due ∷ more → op_takes_memory due due.op ≡ true
     → planned (record mixed { updates = done }) passed ≡ record { says = said; answer = Made made; left = [] }
     → (passed ≡ []) × (said ≡ [])
-begins_mixed passed said [] due more made is takes planned_so = (
-  ap (λ (p : StageResult Plan). p.left) (sym (planned_none passed) ∙ planned_so),
-  sym (ap (λ (p : StageResult Plan). p.says) (sym (planned_none passed) ∙ planned_so)),
-)
+begins_mixed passed said [] due more made is takes planned_so = search (rules, planned_none)
 begins_mixed passed said (x ∷ done) due more made is takes planned_so =
-    let rest : of_file ∷ [] ≡ done ++ due ∷ more = cc in
-    let never : op_takes_memory of_file op.Write ≡ true = subst (λ u. op_takes_memory u u.op ≡ true)
-    (only_due of_file due done more rest) takes in
-    absurd (cc)
+    search (rules, only_due)
 
 takes_first : (passed : List Opening) (said : List OutputEvent) → AtUpdate mixed passed said → (passed ≡ [])
     × (said ≡ [])
@@ -139,12 +128,7 @@ parted = record wanted { parts = Some other; updates = of_values ∷ [] }
 
 takes_behind_parts : (passed : List Opening) → AtUpdate parted passed [] → ⊥
 takes_behind_parts passed at =
-    let s : Settings = record parted { updates = at.done } in
-    let begun = begins_then other (parts_stage s.parts) (behind_parts s)
-    (begins_file other LARGEST_PART_FILE (judged_parts other)) passed in
-    let says : [] ≡ Opens (next_opening other passed) ∷ begun.0 =
-    sym (ap (λ (p : StageResult Plan). p.says) at.is_planned) ∙ begun.1 in
-    absurd (cc)
+    search (rules, begins_then, behind_parts, begins_file)
 
 module _ (r : Record) (k l m n status : ℕ) where
   -- the messages grew by this, and the status is that of a refusal
@@ -166,58 +150,41 @@ module _ (r : Record) (k l m n status : ℕ) where
   -- a failed allocation, before the file was opened
   memory_first : Ends memory_line → ⊥
   memory_first ends =
-      let failure = told_by memory_line ends in
-      differs 15 (not_opened_line file) memory_line failure.between (showing r l n)
-      (λ back is. let e : ◌≡◌ {A = ℕ} 111 120 = is in omega (arith, e)) failure.tells
+      search (rules, told_by, differs)
 
   -- the line of another file, whatever failed
   another_file : Ends (not_opened_line other) → ⊥
   another_file ends =
-      let failure = told_by (not_opened_line other) ends in
-      differs 15 (not_opened_line file) (not_opened_line other) failure.between (showing r l n)
-      (λ back is. let e : ◌≡◌ {A = ℕ} 121 120 = is in omega (arith, e)) failure.tells
+      search (rules, told_by, differs)
 
   -- a second line after its own
   second_line : Ends (not_opened_line file ++ memory_line) → ⊥
   second_line ends =
-      let failure = told_by (not_opened_line file ++ memory_line) ends in
-      differs 39 (not_opened_line file) (not_opened_line file ++ memory_line) failure.between (showing r l n)
-      (λ back is. let e : ◌≡◌ {A = ℕ} 97 0 = is in omega (arith, e)) failure.tells
+      search (rules, told_by, differs)
 
   -- half of its line, though the desk failed once, and so at the file
   half_told : (count unsaid : ℕ) → l ≡ k + 1 → l < 2 ^ 64 - 1 → k ≤ count → count ≤ l → HasRisen k count
       → TellsLine (not_opened_line file) half (showing r count unsaid) (showing r l n)
       → ⊥
-  half_told count unsaid one few since until failed (inl whole) = let e : ◌≡◌ {A = ℕ} 0 101 =
-      ap (λ (bytes : Bytes). get_or bytes 30 0) whole.0 in omega (arith, e)
+  half_told count unsaid one few since until failed (inl whole) = search rules
   half_told count unsaid one few since until rose (inr (part, (again, quiet))) =
       omega (arith, one, few, until, rose, again)
 
   half_a_line : l ≡ k + 1 → l < 2 ^ 64 - 1 → Ends half → ⊥
   half_a_line one few ends =
-      let failure = told_by half ends in
-      half_told failure.between.failures failure.between.unsaid one few failure.since.0 failure.until.0 failure.failed.0
-      failure.tells
+      search (rules, told_by, half_told)
 
   -- no message, if the desk has not failed
   told_silence : Goes (AtUpdate wanted) (planned wanted) (showing r k m) (showing r l n) (Err status) → Told []
-  told_silence ends = told_by []
-      (subst (λ x. Goes (AtUpdate wanted) (planned wanted) (showing r k m) (showing x l n) (Err status))
-      (ap (λ bytes. record r { messages = bytes }) (sym (append-nil r.messages))) ends)
+  told_silence ends = search (rules, told_by, append-nil)
 
   silence : HasStood k l → Goes (AtUpdate wanted) (planned wanted) (showing r k m) (showing r l n) (Err status) → ⊥
   silence sound ends =
-      let failure = told_silence ends in
-      stood_has_not_risen k k failure.between.failures l (omega arith) failure.until.0 sound failure.failed.0
+      search (rules, told_silence, stood_has_not_risen)
 
   -- no message, or half of its line, if no write to the messages has failed, however often files have
   told_whole : (told : Bytes) → HasStood m n → Told told → told ≡ not_opened_line file
-  told_whole told sound failure = of_it failure.tells
-    where
-      of_it : TellsLine (not_opened_line file) told failure.between (showing r l n) → told ≡ not_opened_line file
-      of_it (inl whole) = whole.0
-      of_it (inr part) = absurd (stood_has_not_risen m failure.between.unsaid n n failure.since.1 (omega arith) sound
-          part.1.1)
+  told_whole told sound failure = search (rules, stood_has_not_risen)
 
   nothing_of_it : [] ≡ not_opened_line file → ⊥
   nothing_of_it whole = let e : ◌≡◌ {A = ℕ} 0 97 = ap (λ (bytes : Bytes). get_or bytes 0 0) whole in omega (arith, e)
@@ -227,8 +194,7 @@ module _ (r : Record) (k l m n status : ℕ) where
   silence_behind_a_file sound ends = nothing_of_it (told_whole [] sound (told_silence ends))
 
   half_is_not_whole : half ≡ not_opened_line file → ⊥
-  half_is_not_whole whole = let e : ◌≡◌ {A = ℕ} 0 101 = ap (λ (bytes : Bytes). get_or bytes 30 0) whole in
-      omega (arith, e)
+  half_is_not_whole whole = search rules
 
   half_behind_a_file : HasStood m n → Ends half → ⊥
   half_behind_a_file sound ends = half_is_not_whole (told_whole half sound (told_by half ends))
@@ -242,8 +208,7 @@ module _ (r : Record) (k l m n status : ℕ) where
   opened_well bytes good given ends =
       differs 15 memory_line (not_opened_line file) (showing r k m) (showing r l n)
       (λ back is. let e : ◌≡◌ {A = ℕ} 120 111 = is in omega (arith, e))
-      (opened_is_told file 4194304 (judged_image file Ihex 32768) bytes (not_opened_line file) good given
-      (AtStart false) r k l m n status ends)
+      (search (rules, opened_is_told))
 
 -- ---- a refusal is reported last
 
@@ -267,11 +232,9 @@ module _ (r : Record) (k l m n status : ℕ) where
   -- a failed allocation, after the line of the refusal
   refused_twice : TellsOne refusal (refusal ++ memory_line) (planned lacking) lacks (AtUpdate lacking) r k l m n → ⊥
   refused_twice (inl one) =
-      differs 27 refusal (refusal ++ memory_line) (showing r k m) (showing r l n)
-      (λ back is. let e : ◌≡◌ {A = ℕ} 97 0 = is in omega (arith, e)) one
+      search (rules, differs)
   refused_twice (inr memory) = lacks_memory memory.1.0 [] memory.1.1
 
   two_faults : Goes (AtUpdate lacking) (planned lacking) (showing r k m)
       (showing (after_err (refusal ++ memory_line) r) l n) (Err status) → ⊥
-  two_faults ends = refused_twice (refused_once refusal (refusal ++ memory_line) (planned lacking) lacks
-      (AtUpdate lacking) r k l m n status ends)
+  two_faults ends = refused_twice (search (rules, refused_once, lacks))

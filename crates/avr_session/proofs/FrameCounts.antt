@@ -1,5 +1,5 @@
 -- How many commands the steps of a plan have.
-use Rattle.std.proofs.Common.{◌≡◌, ◌∙◌, refl, ap, sym, arith, ℕ, zero, suc, ◌+◌, ◌*◌, ◌-◌, ◌<◌, ◌≤◌, true, false, Option, List, [], ◌∷◌, ◌++◌, drop, min, ◌^◌}
+use Rattle.std.proofs.Common.{◌≡◌, ◌∙◌, refl, ap, sym, arith, ℕ, zero, suc, ◌+◌, ◌*◌, ◌-◌, ◌<◌, ◌≤◌, true, false, Option, List, [], ◌∷◌, ◌++◌, drop, min, ◌^◌, rules}
 use Rattle.avr_part.specs.Part.{Part}
 use Rattle.avr_part.specs.declared.part.Mem.{Mem}
 use Rattle.avr_plan.specs.Plan.{Plan}
@@ -31,21 +31,14 @@ pub write_and_read : (part : Part) (mem : Mem) (image : List (Option ℕ))
     → commands_in (actions_steps part (WriteImage mem image ∷ CompareImage mem image ∷ []))
     ≡ commands_in (write_steps part mem image) + commands_in (read_steps part mem)
 write_and_read part mem image =
-    let first = commands_append (write_steps part mem image) (read_steps part mem ++ []) in
-    let second = commands_append (read_steps part mem) [] in
-    omega (arith, first, second)
+    search (rules, commands_append)
 
 -- the opening has five commands, and the closing one
 pub plan_commands : (plan : Plan) → commands_in (run_steps plan)
     ≡ 6 + commands_in (actions_steps plan.part (erase_actions plan.switches plan.tasks))
     + commands_in (actions_steps plan.part (tasks_actions plan.switches plan.tasks))
 plan_commands plan =
-    let erases = erase_actions plan.switches plan.tasks in
-    let tasks = tasks_actions plan.switches plan.tasks in
-    let whole = commands_append (opening_steps ++ actions_steps plan.part (erases ++ tasks)) closing_steps in
-    let behind = commands_append opening_steps (actions_steps plan.part (erases ++ tasks)) in
-    let both = actions_append plan.part erases tasks in
-    omega (arith, whole, behind, both)
+    search (rules, commands_append, actions_append)
 
 pub two_used : (part : Part) (image : List (Option ℕ)) (page : ℕ)
     → is_used part.flash_page image (page * part.flash_page) ≡ true → 2 ≡ commands_in (page_steps part image page)
@@ -61,14 +54,11 @@ module _ (steps_at : ℕ → List (List Command)) where
       → commands_in (each_from steps_at place (count - place))
       ≡ commands_in (steps_at place) + commands_in (each_from steps_at (place + 1) (count - (place + 1)))
   next_place place count before =
-      let left : count - place ≡ suc (count - (place + 1)) = omega (arith, before) in
-      ap (λ (n : ℕ). commands_in (each_from steps_at place n)) left
-      ∙ commands_append (steps_at place) (each_from steps_at (place + 1) (count - (place + 1)))
+      search (rules, commands_append)
 
   pub no_place : (place count : ℕ) → count ≤ place → commands_in (each_from steps_at place (count - place)) ≡ 0
   no_place place count past =
-      let none : count - place ≡ 0 = omega (arith, past) in
-      ap (λ (n : ℕ). commands_in (each_from steps_at place n)) none
+      search rules
 
   -- if each place has `each` commands
   pub all_places : (each place count : ℕ) → ((k : ℕ) → commands_in (steps_at k) ≡ each)
@@ -77,8 +67,7 @@ module _ (steps_at : ℕ → List (List Command)) where
   all_places each place (suc count) all =
       let here = all place in
       let more = all_places each (place + 1) count all in
-      let both = commands_append (steps_at place) (each_from steps_at (place + 1) count) in
-      omega (arith, here, more, both)
+      search (rules, commands_append)
 
 -- ---- the tasks of a plan, one after another
 
@@ -107,18 +96,9 @@ pub counts_on : (plan : Plan) (i count more next : ℕ) (task : Task)
     → next ≡ min (count + more) most → min most (count + left plan i) ≡ min most (all plan)
     → min most (next + left plan (i + 1)) ≡ min most (all plan)
 counts_on plan i count more next task cut more_is next_is counted =
-    let rest = tasks_actions plan.switches (drop (i + 1) plan.tasks) in
-    let here : left plan i ≡ more + left plan (i + 1) =
-    ap (λ (ts : List Task). commands_in (actions_steps plan.part (tasks_actions plan.switches ts))) cut
-    ∙ actions_append plan.part (task_actions plan.switches task) rest
-    ∙ ap (λ (n : ℕ). n + left plan (i + 1)) (sym more_is) in
-    ap (λ (n : ℕ). min most (n + left plan (i + 1))) next_is ∙ saturates most count more (left plan (i + 1))
-    ∙ ap (λ (n : ℕ). min most (count + n)) (sym here) ∙ counted
+    search (rules, actions_append, saturates)
 
 pub counts_all : (plan : Plan) (i count : ℕ) → drop i plan.tasks ≡ [] → count ≤ most
     → min most (count + left plan i) ≡ min most (all plan) → count ≡ min most (all plan)
 counts_all plan i count none few counted =
-    let nothing : left plan i ≡ 0 =
-    ap (λ (ts : List Task). commands_in (actions_steps plan.part (tasks_actions plan.switches ts))) none in
-    let whole : count ≡ min most (count + left plan i) = omega (arith, nothing, few) in
-    whole ∙ counted
+    search rules

@@ -1,5 +1,5 @@
 -- A desk in memory, call after call: what it keeps stays true by the files that it began with.
-use Rattle.std.proofs.Common.{◌≡◌, ◌∙◌, sym, ap, subst, refl, arith, ℕ, ◌==◌, ◌&&◌, ◌||◌, not, Bool, true, false, List, [], ◌∷◌, ◌++◌, append_assoc, append-nil, take, drop, length, Some, None, if◌then◌else◌}
+use Rattle.std.proofs.Common.{◌≡◌, ◌∙◌, sym, ap, subst, refl, arith, ℕ, ◌==◌, ◌&&◌, ◌||◌, not, Bool, true, false, List, [], ◌∷◌, ◌++◌, append_assoc, append-nil, take, drop, length, Some, None, if◌then◌else◌, rules}
 use Rattle.std.proofs.Math.Seq.{drop-append_seam}
 use Rattle.std.proofs.lemmas.Bool.Decides.{nat_tests}
 use Rattle.std.proofs.lemmas.Grind.{common_steps}
@@ -56,27 +56,12 @@ begins_true m fresh = grind (arith, nat_tests)
 
 -- a call doesn't change what the desk began with
 stock_same : (old new : MemDeskState) → new.input ≡ old.input → new.stored ≡ old.stored → stock_of new ≡ stock_of old
-stock_same old new input stored = ap (λ (b : Bytes). stock b new.stored) input ∙ ap (stock old.input) stored
-  where
-    stock : Bytes → List Writing → Stock
-    stock input files = record { input = input; files = files }
+stock_same old new input stored = search rules
 
 -- the same uses and open file
 pub same_true : (old new : MemDeskState) → new.input ≡ old.input → new.stored ≡ old.stored → new.opened ≡ old.opened
     → new.kept.uses ≡ old.kept.uses → new.kept.current ≡ old.kept.current → Stays HoldsTrue old new
-same_true old new input stored opened uses current = λ stock holds. record {
-  began = stock_same old new input stored ∙ holds.began;
-  uses = subst (AreTrue stock []) (sym uses) holds.uses;
-  current = subst (IsOpenTrue stock new) (sym current) (open_same stock old.kept.current holds.current);
-}
-  where
-    open_same : (stock : Stock) (o : Open) → IsOpenTrue stock old o → IsOpenTrue stock new o
-    open_same stock Closed is = tt
-    open_same stock (ToRead x) is = (
-      ap (λ us. stood_for stock (files_among us) x.name) uses ∙ is.0 ∙ ap (λ (b : Bytes). Some b) (sym opened),
-      subst (λ (b : Bytes). IsRead (Some b) x.bytes x.ended) (sym opened) is.1,
-    )
-    open_same stock (ToWrite x) is = tt
+same_true old new input stored opened uses current = search (rules, stock_same)
 
 -- the open file is put by, perhaps with a finished use after it, and nothing is read
 pub put_by_true : (more : List FileUse) (old new : MemDeskState) → new.input ≡ old.input → new.stored ≡ old.stored
@@ -85,8 +70,7 @@ pub put_by_true : (more : List FileUse) (old new : MemDeskState) → new.input �
     → ((stock : Stock) → IsOpenTrue stock new new.kept.current) → Stays HoldsTrue old new
 put_by_true more old new input stored uses behind current = λ stock holds. record {
   began = stock_same old new input stored ∙ holds.began;
-  uses = subst (AreTrue stock []) (sym uses) (true_append stock [] (all_uses old.kept) more (all_true stock old holds)
-      (subst (λ fs. AreTrue stock fs more) (sym (files_used old.kept)) (behind stock holds)));
+  uses = search (rules, true_append, all_true, files_used);
   current = current stock;
 }
 
@@ -182,52 +166,26 @@ module _ (old new : MemDeskState) (ends : Bool) (n room : ℕ) (whole gave next 
   prefix_on x given_is is =
       let all : old.opened ≡ x.bytes ++ is.unread = let e = is.whole in cc in
       let rest : unread_bytes old ≡ is.unread =
-      ap (λ (b : Bytes). drop (length b) old.opened) given_is ∙ ap (λ (b : Bytes). drop (length x.bytes) b) all
-      ∙ drop-append_seam x.bytes is.unread in
+      search (rules, drop-append_seam) in
       let part : piece ≡ take room is.unread = took ∙ given ∙ ap (λ (b : Bytes). take room b) rest in
       record {
         unread = drop room is.unread;
-        whole = ap (λ (b : Bytes). Some b) (all ∙ ap (λ (b : Bytes). x.bytes ++ b)
-            (sym (take-append-drop room is.unread))
-            ∙ sym (append_assoc x.bytes (take room is.unread) (drop room is.unread))
-            ∙ ap (λ (b : Bytes). (x.bytes ++ b) ++ drop room is.unread) (sym part));
+        whole = search (rules, take-append-drop, append_assoc);
         ends = ended_prefix x.ended is.unread rest is.ends;
       }
 
   open_on : (stock : Stock) (o : Open) → new.kept.uses ≡ old.kept.uses → old.kept.current ≡ o → IsOpenTrue stock old o
       → IsOpenTrue stock new (noted piece ends o)
   open_on stock Closed uses is held = tt
-  open_on stock (ToRead x) uses is held = (
-    ap (λ us. stood_for stock (files_among us) x.name) uses ∙ held.0 ∙ ap (λ (b : Bytes). Some b) (sym opened),
-    subst (λ (b : Bytes). IsRead (Some b) (x.bytes ++ piece) (x.ended || ends)) (sym opened)
-        (prefix_on x (ap bytes_given is) held.1),
-  )
+  open_on stock (ToRead x) uses is held = search (rules, prefix_on)
   open_on stock (ToWrite x) uses is held = tt
 
   pub read_true : (ok : Bool) → new.kept ≡ (if ok then after_reading piece ends old.kept else old.kept)
       → Stays HoldsTrue old new
-  read_true ok kept = changed_true ok (after_reading piece ends) old new input stored opened kept
-      (λ is stock holds. record {
-        began = stock_same old new input stored ∙ holds.began;
-        uses = subst (λ (r : Record). AreTrue stock [] r.uses) (sym is) holds.uses;
-        current = subst (λ (r : Record). IsOpenTrue stock new r.current) (sym is)
-            (open_on stock old.kept.current (ap (λ (r : Record). r.uses) is) refl holds.current);
-      })
+  read_true ok kept = search (rules, changed_true, stock_same, open_on)
 
 -- bytes are written to the open file
 pub written_true : (bytes : Bytes) (old new : MemDeskState) → new.input ≡ old.input → new.stored ≡ old.stored
     → new.opened ≡ old.opened
     → new.kept.uses ≡ old.kept.uses → new.kept.current ≡ written_on bytes old.kept.current → Stays HoldsTrue old new
-written_true bytes old new input stored opened uses current = λ stock holds. record {
-  began = stock_same old new input stored ∙ holds.began;
-  uses = subst (AreTrue stock []) (sym uses) holds.uses;
-  current = subst (IsOpenTrue stock new) (sym current) (open_on stock old.kept.current holds.current);
-}
-  where
-    open_on : (stock : Stock) (o : Open) → IsOpenTrue stock old o → IsOpenTrue stock new (written_on bytes o)
-    open_on stock Closed is = tt
-    open_on stock (ToRead x) is = (
-      ap (λ us. stood_for stock (files_among us) x.name) uses ∙ is.0 ∙ ap (λ (b : Bytes). Some b) (sym opened),
-      subst (λ (b : Bytes). IsRead (Some b) x.bytes x.ended) (sym opened) is.1,
-    )
-    open_on stock (ToWrite x) is = tt
+written_true bytes old new input stored opened uses current = search (rules, stock_same, open_on)

@@ -1,5 +1,5 @@
 -- A desk over two writers and the files of a system, call after call: what it keeps of them stays true.
-use Rattle.std.proofs.Common.{inr, ◌≡◌, ◌∙◌, sym, ap, subst, refl, arith, ℕ, ◌==◌, ◌&&◌, ◌||◌, ◌≤◌, not, Bool, true, false, List, [], ◌∷◌, ◌++◌, append_assoc, append-nil, length, take, Option, None, Some, IfSome}
+use Rattle.std.proofs.Common.{inr, ◌≡◌, ◌∙◌, sym, ap, subst, refl, arith, ℕ, ◌==◌, ◌&&◌, ◌||◌, ◌≤◌, not, Bool, true, false, List, [], ◌∷◌, ◌++◌, append_assoc, append-nil, length, take, Option, None, Some, IfSome, rules}
 use Rattle.std.proofs.KnownBytes.{Appends-nil, Appends-trans, Consumes-nil, Consumes-trans}
 use Rattle.avr_desk.specs.Record.{files_among, Bytes, Record, all_files, all_uses, file_of, is_nil, noted, nothing_kept, read_on, use_of, written_on, with_absent, with_open, with_replaced, after_write}
 use Rattle.avr_desk.specs.declared.record.FileUse.TheVariants.{Created, Opened}
@@ -99,8 +99,7 @@ module _ {H : Type 0} (reads : Reads H) where
           → (was || (n == 0 && not (is_nil buf))) ≡ true
           → IfSome (reads.remaining first) (λ xs. length xs ≤ length (x.bytes ++ take n buf))
       ended true is all now = no_more (reads.remaining first) x.bytes (take n buf) (given.ends is)
-      ended false is all now = all_given (reads.remaining first) (reads.remaining new) (x.bytes ++ take n buf) all
-          (end_seen old new buf n gives now)
+      ended false is all now = search (rules, all_given, end_seen)
 
 -- ---- one call
 
@@ -196,10 +195,7 @@ module _ {S F H I O E : Type 0} (system : Ghosts S F H) (reads : Reads F) (write
   opened_true : {b : Desk} {f u : ℕ} {e : Option ErrorKind} {o : OpenFile F I} {k : Record} (x : Reading)
       → k ≡ with_open (ToRead x) b.kept → is_output o ≡ false → TrueOpen o (ToRead x)
       → Since b (Next b f u e o b.hold k)
-  opened_true {b = b} x kept elsewhere is = rw kept (quiet refl refl
-      (λ none. no_dash_in_front (all_files b.kept) [] (sym (ap has_dash (files_opened (ToRead x) b.kept)) ∙ none))
-      (λ none was. elsewhere)
-      (λ are. files_now are (uses_true b.opened b.hold b.kept are) is))
+  opened_true {b = b} x kept elsewhere is = search (rules, quiet, no_dash_in_front, files_opened, files_now, uses_true)
 
   pub input_true : {b : Desk} {f u : ℕ} {e : Option ErrorKind} {k : Record} {name own : Bytes} {i : I} → own ≡ name
       → true ≡ is_dash name → k ≡ with_open (ToRead (record { name = own; bytes = []; ended = false })) b.kept
@@ -221,10 +217,7 @@ module _ {S F H I O E : Type 0} (system : Ghosts S F H) (reads : Reads F) (write
   pub absent_true : {b : Desk} {f u : ℕ} {e : Option ErrorKind} {k : Record} {name own : Bytes} → own ≡ name
       → system.lacks name → k ≡ with_absent own b.kept → Since b (Next b f u e open_file.Nothing b.hold k)
   absent_true {b = b} {own = own} same lacks kept =
-      rw kept (quiet refl refl
-      (λ none. sym (ap has_dash (files_absent own b.kept)) ∙ none) (λ none was. refl)
-      (λ are. files_now are (more_true b.opened b.hold b.kept (Opened (Absent own))
-      (subst system.lacks (sym same) lacks) are) refl))
+      search (rules, quiet, files_absent, files_now, more_true)
 
   -- it was created
   create_true : {b : Desk} {f u : ℕ} {e : Option ErrorKind} {o : OpenFile F I} {k : Record} (x : Writing)
@@ -259,27 +252,14 @@ module _ {S F H I O E : Type 0} (system : Ghosts S F H) (reads : Reads F) (write
       let files = ap has_dash (files_replaced own bytes b.kept) in
       let now = Next b c.failures c.unsaid c.last_error open_file.Nothing None (with_replaced own bytes b.kept) in
       let is : c ≡ now = rw (← output, ← messages, ← hold, ← opened, ← kept) refl in
-      subst (Since b) (sym is) (quiet refl refl (λ none. no_dash_in_front (all_files b.kept) (x ∷ [])
-      (sym files ∙ none)) (λ none was. refl)
-      (λ are. record {
-        uses = more_true b.opened b.hold b.kept (Created x)
-            (inr (inr (subst (λ n. system.replaced n bytes) (sym same) replaced))) are;
-        current = refl;
-        denied = are.denied;
-        held = tt;
-      }))
+      search (rules, quiet, no_dash_in_front, more_true)
 
   pub unreplaced_true : {b : Desk} {f u : ℕ} {e : Option ErrorKind} {h : Option H}
       → ((name : Option Bytes) → IsHeldBy system b.hold name → IsHeldBy system h name)
       → Since b (Next b f u e b.opened h b.kept)
   unreplaced_true {b = b} {h = h} still =
       quiet refl refl (λ none. none) (λ none was. was)
-      (λ are. record {
-        uses = are.uses;
-        current = are.current;
-        denied = are.denied;
-        held = still b.kept.held are.held;
-      })
+      (λ are. search rules)
 
   -- bytes were read of what is open
   read_on_open : (old new : OpenFile F I) (buf : Bytes) (n : ℕ) (o : Open) → FileGives reads input old new buf n

@@ -1,5 +1,5 @@
 -- Pieces of a file that are read one after another.
-use Rattle.std.proofs.Common.{◌≡◌, ◌∙◌, ap, ap₂, refl, ℕ, ◌++◌, ◌||◌, Bool, true, false, Result, Ok, Err, append_assoc, take, ◌==◌, ◌&&◌, not, arith}
+use Rattle.std.proofs.Common.{◌≡◌, ◌∙◌, ap, ap₂, refl, ℕ, ◌++◌, ◌||◌, Bool, true, false, Result, Ok, Err, append_assoc, take, ◌==◌, ◌&&◌, not, arith, rules}
 use Rattle.std.proofs.lemmas.Bool.Decides.{nat_tests}
 use Rattle.avr_desk.specs.Record.{Record, Bytes, showing, after_open, after_read, noted, is_nil}
 use Rattle.avr_desk.specs.Files.{ReadsFile, ReadsOpen, after_reading, with_read}
@@ -27,12 +27,7 @@ reads_opened name old now new x opened read = absurd read
 -- a piece that was read, and the next
 noted-noted : (o : Open) (a b : Bytes) (ends : Bool) → noted b ends (noted a false o) ≡ noted (a ++ b) ends o
 noted-noted (ToRead x) a b ends =
-    ap₂ (λ (bytes : Bytes) (ended : Bool). ToRead (record x { bytes = bytes; ended = ended }))
-    (append_assoc x.bytes a b) (or-false x.ended)
-  where
-    or-false : (e : Bool) → ((e || false) || ends) ≡ (e || ends)
-    or-false true = refl
-    or-false false = refl
+    search (rules, append_assoc)
 noted-noted y a b ends = refl
 
 pub read_next : (old now new : Record) (a b : Bytes) (ends : Bool) → now ≡ after_reading a false old
@@ -43,11 +38,4 @@ read_next old now new a b ends first then = grind (arith, nat_tests, noted-noted
 pub read_piece : (old now new : Record) (a buf : Bytes) (n : ℕ) → now ≡ after_reading a false old
     → new ≡ after_read buf (Ok n) now → (n ≡ 0 → ⊥) → new ≡ after_reading (a ++ take n buf) false old
 read_piece old now new a buf n first then some =
-    read_next old now new a (take n buf) false first
-    (then ∙ ap (λ (b : Bool). after_reading (take n buf) b now) not_ended)
-  where
-    not_zero : (n == 0) ≡ false
-    not_zero = grind (arith, nat_tests)
-
-    not_ended : ((n == 0) && not (is_nil buf)) ≡ false
-    not_ended = ap (λ (b : Bool). b && not (is_nil buf)) not_zero
+    search (rules, read_next)

@@ -1,6 +1,6 @@
 -- The openings and files among uses that are joined, and when the open file is put by.
 use Rattle.std.proofs.lemmas.Bool.Decides.{nat_tests}
-use Rattle.std.proofs.Common.{arith, ◌≡◌, ◌∙◌, ap, refl, List, [], ◌∷◌, ◌++◌, append-nil}
+use Rattle.std.proofs.Common.{arith, ◌≡◌, ◌∙◌, ap, refl, List, [], ◌∷◌, ◌++◌, append-nil, rules}
 use Rattle.avr_desk.specs.Record.{Bytes, Record, all_files, all_openings, all_uses, file_of, files_among, opening_of, openings_among, use_of, with_absent, with_open, with_replaced}
 use Rattle.avr_desk.specs.declared.record.FileUse.{FileUse}
 use Rattle.avr_desk.specs.declared.record.FileUse.TheVariants.{Opened, Created}
@@ -35,8 +35,7 @@ pub files_used : (r : Record) → files_among (all_uses r) ≡ all_files r
 files_used r = grind (arith, nat_tests, files_append, file_used)
 
 pub openings_used : (r : Record) → openings_among (all_uses r) ≡ all_openings r
-openings_used r = openings_append r.uses (use_of r.current)
-    ∙ ap (λ (os : List Opening). openings_among r.uses ++ os) (opening_used r.current)
+openings_used r = search (rules, openings_append, opening_used)
 
 -- ---- it is put by
 
@@ -55,9 +54,7 @@ files_absent name r = append-nil (files_among (all_uses r ++ Opened (Absent name
 pub openings_absent : (name : Bytes) (r : Record)
     → all_openings (with_absent name r) ≡ all_openings r ++ Absent name ∷ []
 openings_absent name r =
-    append-nil (openings_among (all_uses r ++ Opened (Absent name) ∷ []))
-    ∙ openings_append (all_uses r) (Opened (Absent name) ∷ [])
-    ∙ ap (λ (os : List Opening). os ++ Absent name ∷ []) (openings_used r)
+    search (rules, append-nil, openings_append, openings_used)
 
 pub files_replaced : (name bytes : Bytes) (r : Record)
     → all_files (with_replaced name bytes r) ≡ all_files r ++ record { name = name; bytes = bytes } ∷ []

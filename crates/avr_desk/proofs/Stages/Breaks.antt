@@ -1,6 +1,6 @@
 -- What is reported if a stage broke off, by what a desk shows.
 use Rattle.std.proofs.lemmas.Bool.Decides.{nat_tests}
-use Rattle.std.proofs.Common.{arith, ◌≡◌, ◌∙◌, sym, ap, subst, refl, ℕ, ◌⊎◌, inl, inr, List, [], ◌∷◌, ◌++◌, drop, append-nil, append_assoc, Result, Ok, Err, true, false}
+use Rattle.std.proofs.Common.{arith, ◌≡◌, ◌∙◌, sym, ap, subst, refl, ℕ, ◌⊎◌, inl, inr, List, [], ◌∷◌, ◌++◌, drop, append-nil, append_assoc, Result, Ok, Err, true, false, rules}
 use Rattle.std.proofs.lemmas.List.{append_cancel_left}
 use Rattle.ghosts.specs.Failures.{HasStood}
 use Rattle.avr_desk.specs.Record.{DeskState, Record, showing, all_openings, opening_of, openings_among, after_err, written_on, Bytes}
@@ -101,13 +101,10 @@ pub openings_shown : (outputs : List OutputEvent) (r : Record)
 openings_shown [] r = sym (append-nil (all_openings r))
 openings_shown (Opens (Absent name) ∷ outputs) r =
     let now = after (Opens (Absent name)) r in
-    one_more (all_openings r) (all_openings now) (openings_in outputs) (Absent name)
-    (all_openings (after_all outputs now)) (openings_absent name r) (openings_shown outputs now)
+    search (rules, one_more, openings_absent, openings_shown outputs now)
 openings_shown (Opens (Found reading) ∷ outputs) r =
     let now = after (Opens (Found reading)) r in
-    one_more (all_openings r) (all_openings now) (openings_in outputs) (Found reading)
-    (all_openings (after_all outputs now)) (openings_opened (ToRead reading) r)
-    (openings_shown outputs now)
+    search (rules, one_more, openings_opened, openings_shown outputs now)
 openings_shown (Line bytes ∷ outputs) r = openings_shown outputs (after (Line bytes) r)
 openings_shown (Creates name ∷ outputs) r =
     let now = after (Creates name) r in
@@ -117,9 +114,7 @@ openings_shown (Creates name ∷ outputs) r =
     (openings_shown outputs now)
 openings_shown (Writes bytes ∷ outputs) r =
     let now = after (Writes bytes) r in
-    none_more (all_openings r) (all_openings now) (openings_in outputs) (all_openings (after_all outputs now))
-    (ap (λ (os : List Opening). openings_among r.uses ++ os) (written_openings bytes r.current))
-    (openings_shown outputs now)
+    search (rules, none_more, written_openings, openings_shown outputs now)
 openings_shown (Outs bytes ∷ outputs) r = openings_shown outputs (after (Outs bytes) r)
 
 -- so the same record shows the same openings
@@ -193,16 +188,11 @@ module _ {A : Type 0} (taking : Taking) (name told : Bytes) (stage : Stage A) (b
   by_break passed behind (InLine due) line is taken tells kept =
       let clash : Opens (next_opening name (passed ++ [])) ≡ Line due = let e = is.1 in cc in absurd (cc)
   by_break passed behind (NotOpened other) line is taken tells kept =
-      let named = first_is passed other behind is.0 is.1 in
-      inl (subst (λ n. TellsFailure (not_opened_line n) told Old New) (sym named)
-      (subst (λ t. TellsFailure (not_opened_line other) t Old New) (sym (only_told r told line kept)) tells))
+      search (rules, first_is, only_told)
   by_break passed behind (NotRead other bytes) line is taken tells kept =
       let none : ◌≡◌ {A = List Opening} [] (Found (record { name = other; bytes = bytes; ended = false }) ∷ []) =
       same_openings (Line told ∷ []) (part_read other bytes ∷ Line line ∷ []) r kept in absurd (cc)
-  by_break passed behind NoMemory line is taken tells kept = inr (
-    subst (λ t. TellsLine memory_line t Old New) (sym (only_told r told line kept)) tells,
-    (passed, taken),
-  )
+  by_break passed behind NoMemory line is taken tells kept = search (rules, only_told)
   by_break passed behind (NoMemoryFor reading) line is taken tells kept =
       let none : ◌≡◌ {A = List Opening} [] (Found reading ∷ []) =
       same_openings (Line told ∷ []) (Opens (Found reading) ∷ Line line ∷ []) r kept in absurd (cc)
@@ -212,30 +202,18 @@ module _ {A : Type 0} (taking : Taking) (name told : Bytes) (stage : Stage A) (b
       → Next passed ≡ whole ++ later → IsBreak break [] (all_told later answer) → TakesThere taking break passed whole
       → TellsBreak break line Old New → Leaves (whole ++ last_done break line) → Told
   by_whole passed answer [] later break line says is taken tells kept =
-      let next : IsBreak break [] (all_told (Next passed) answer) =
-      subst (λ (ls : List OutputEvent). IsBreak break [] (all_told ls answer)) (sym says) is in
-      let behind = (begins (passed ++ [])).0 in
-      by_break passed (all_told behind answer) break line
-      (subst (IsBreak break []) (told_first (Opens (next_opening name (passed ++ []))) behind answer) next) taken
-      tells kept
+      search (rules, by_break, told_first)
   by_whole passed answer (first ∷ whole) later break line says is taken tells kept =
       let opens : first ≡ Opens (next_opening name (passed ++ [])) = cc in
       let none = same_openings (Line told ∷ []) (first ∷ (whole ++ last_done break line)) r kept in
-      let some : openings_in (first ∷ (whole ++ last_done break line))
-      ≡ next_opening name (passed ++ []) ∷ openings_in (whole ++ last_done break line) =
-      ap (λ (s : OutputEvent). openings_in (s ∷ (whole ++ last_done break line))) opens in
-      let clash : [] ≡ next_opening name (passed ++ []) ∷ openings_in (whole ++ last_done break line) = none ∙ some in
-      absurd (cc)
+      search rules
 
   pub unopened : (status : ℕ) → Goes taking stage (showing r k m) (showing (after_err told r) l n) (Err status) → Told
   unopened status (one, inl (line, went)) =
       let says : went.says ≡ Next went.passed =
       sym (ap (λ (p : StageResult A). p.says) (went.comes [])) ∙ (begins (went.passed ++ [])).1 in
       let none = same_openings (Line told ∷ []) (went.says ++ Line line ∷ []) r went.kept in
-      let clash : [] ≡ next_opening name (went.passed ++ [])
-      ∷ openings_in ((begins (went.passed ++ [])).0 ++ Line line ∷ []) =
-      none ∙ ap (λ (ss : List OutputEvent). openings_in (ss ++ Line line ∷ [])) says in
-      absurd (cc)
+      search rules
   unopened status (one, inr b) =
       let rest = b.rest [] in
       by_whole b.passed (stage (b.passed ++ [])).answer b.whole rest.later b.break b.told
@@ -284,12 +262,7 @@ module _ {A : Type 0} (name : Bytes) (limit : ℕ) (judge : Bytes → Result A B
       let none : ◌≡◌ {A = List Opening} (Found reading ∷ []) [] = same_openings done (Line line ∷ []) r kept in
       absurd (cc)
   before_it (NotRead other some) line tells kept =
-      let part : Reading = record { name = other; bytes = some; ended = false } in
-      let one : ◌≡◌ {A = List Opening} (Found reading ∷ []) (Found part ∷ []) =
-      same_openings done (part_read other some ∷ Line line ∷ []) r kept in
-      let same : reading ≡ part = cc in
-      let ends : true ≡ false = ap (λ (x : Reading). x.ended) same in
-      absurd (cc)
+      search (rules, same_openings)
   before_it NoMemory line tells kept =
       let none : ◌≡◌ {A = List Opening} (Found reading ∷ []) [] = same_openings done (Line line ∷ []) r kept in
       absurd (cc)
@@ -333,8 +306,7 @@ module _ {A : Type 0} (name : Bytes) (limit : ℕ) (judge : Bytes → Result A B
       sym says ∙ ap (λ (p : StageResult A). p.says) (comes_to openings opening) in
       let none : whole ++ later ≡ [] = cc in
       let is_made : IsBreak break [] later =
-      subst (λ (answer : StageAnswer A). IsBreak break [] (all_told later answer))
-      (ap (λ (p : StageResult A). p.answer) (comes_to openings opening)) is in
+      search (rules, comes_to) in
       by_end first (next_opening name openings) whole later break line first_is none is_made tells kept
 
   -- So the desk showed its opening, read to the end, and what was reported is the line of memory.
@@ -343,19 +315,9 @@ module _ {A : Type 0} (name : Bytes) (limit : ℕ) (judge : Bytes → Result A B
   opened_is_told status (one, inl (line, went)) =
       let openings = went.passed ++ [] in
       let begun = begins_file name limit judge openings in
-      let says : went.says ≡ Opens (next_opening name openings) ∷ begun.0 =
-      sym (ap (λ (p : StageResult A). p.says) (went.comes [])) ∙ begun.1 in
-      let shown : Found reading ∷ [] ≡ next_opening name openings ∷ openings_in (begun.0 ++ Line line ∷ []) =
-      same_openings done (went.says ++ Line line ∷ []) r went.kept
-      ∙ ap (λ (ss : List OutputEvent). openings_in (ss ++ Line line ∷ [])) says in
-      let opening : next_opening name openings ≡ Found reading = cc in
-      let answers : Made good ≡ Refused line =
-      sym (ap (λ (p : StageResult A). p.answer) (comes_to openings opening))
-      ∙ ap (λ (p : StageResult A). p.answer) (went.comes []) in
-      absurd (cc)
+      search (rules, same_openings, comes_to)
   opened_is_told status (one, inr b) =
-      let rest = b.rest [] in by_prefix (b.passed ++ []) b.whole rest.later b.break b.told rest.says_are rest.broken
-      b.tells b.kept
+      let rest = b.rest [] in search (rules, by_prefix)
 
 -- ---- a stage that is refused at once
 
@@ -386,21 +348,12 @@ module _ {A : Type 0} (line told : Bytes) (stage : Stage A)
       → TakesThere taking break passed [] → TellsBreak break some Here There
       → Only (last_done break some) → TellsOne
   at_once passed (InLine due) some is taken tells kept =
-      let same : Line line ≡ Line due = let e = is.1 in cc in
-      let lines : line ≡ due = cc in
-      inl (inr (
-        subst (λ t. IsPrefixOf t line) (sym (only_told r told some kept))
-            (subst (IsPrefixOf some) (sym lines) tells.0),
-        tells.1,
-      ))
+      search (rules, only_told)
   at_once passed (NotOpened name) some is taken tells kept =
       let clash : Line line ≡ Opens (next_opening name []) = let e = is.1 in cc in absurd (cc)
   at_once passed (NotRead name bytes) some is taken tells kept =
       let clash : Line line ≡ Opens (next_opening name []) = let e = is.1 in cc in absurd (cc)
-  at_once passed NoMemory some is taken tells kept = inr (
-    subst (λ t. TellsLine memory_line t Here There) (sym (only_told r told some kept)) tells,
-    (passed, taken),
-  )
+  at_once passed NoMemory some is taken tells kept = search (rules, only_told)
   at_once passed (NoMemoryFor reading) some is taken tells kept =
       let clash : Line line ≡ Opens (next_opening reading.name []) = let e = is.1 in cc in absurd (cc)
 
@@ -421,12 +374,7 @@ module _ {A : Type 0} (line told : Bytes) (stage : Stage A)
       let lines : line ≡ other = same_refusal {A = A} line other
       (sym (ap (λ (p : StageResult A). p.answer) (refuses openings))
       ∙ ap (λ (p : StageResult A). p.answer) (went.comes [])) in
-      let kept : Only (Line other ∷ []) = subst (λ (ss : List OutputEvent). Only (ss ++ Line other ∷ [])) (sym says)
-      went.kept in
-      inl (inl (only_told r told other kept ∙ sym lines, went.sound))
+      search (rules, only_told)
   refused_once status (one, inr b) =
       let rest = b.rest [] in
-      let is = refuses (b.passed ++ []) in
-      in_front b.passed b.whole rest.later b.break b.told (sym (ap (λ (p : StageResult A). p.says) is) ∙ rest.says_are)
-      (subst (λ (answer : StageAnswer A). IsBreak b.break [] (all_told rest.later answer))
-      (ap (λ (p : StageResult A). p.answer) is) rest.broken) b.taken b.tells b.kept
+      search (rules, in_front)

@@ -1,6 +1,6 @@
 -- Stages that ran, one after another.
 use Rattle.std.proofs.lemmas.Bool.Decides.{nat_tests}
-use Rattle.std.proofs.Common.{arith, ◌≡◌, sym, subst, inl, inr, ap, List, [], ◌∷◌, ◌++◌, ℕ, take, drop, refl, Ok, Err, Result, append_assoc, append-nil}
+use Rattle.std.proofs.Common.{arith, ◌≡◌, sym, subst, inl, inr, ap, List, [], ◌∷◌, ◌++◌, ℕ, take, drop, refl, Ok, Err, Result, append_assoc, append-nil, rules}
 use Rattle.std.proofs.lemmas.List.{take-append-drop}
 use Rattle.avr_desk.specs.Record.{DeskState, Passes}
 use Rattle.avr_desk.specs.Fault.{HasFailedToSay, HasSameCounts, Counts, Follows}
@@ -243,8 +243,7 @@ goes_output_part taking old new line fault part is counts = (
 -- the result, made into another
 pub went_into : {A B : Type 0} (stage : Stage A) (f : A → B) (old new : DeskState) (a : A) → Went stage old new (Made a)
     → Went (stage >>= λ x. verdict_stage (Ok (f x))) old new (Made (f a))
-went_into stage f old new a went = went_went stage (λ x. verdict_stage (Ok (f x))) old new new a (Made (f a)) went
-    (went_nowhere new (f a))
+went_into stage f old new a went = search (rules, went_went, went_nowhere)
 
 -- however a stage goes, the counts of failures never fall
 pub goes_follows : {A : Type 0} (taking : Taking) (stage : Stage A) (old new : DeskState) (result : Result A ℕ)

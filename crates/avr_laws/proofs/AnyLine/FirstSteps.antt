@@ -1,5 +1,5 @@
 -- The memories after some first steps of items, and after items one after another.
-use Rattle.std.proofs.Common.{◌≡◌, ℕ, zero, suc, ◌+◌, ◌≤◌, List, [], ◌∷◌, ◌++◌, length, refl, sym, ap, ◌∙◌, subst, append_assoc, arith}
+use Rattle.std.proofs.Common.{◌≡◌, ℕ, zero, suc, ◌+◌, ◌≤◌, List, [], ◌∷◌, ◌++◌, length, refl, sym, ap, ◌∙◌, subst, append_assoc, arith, rules}
 use Rattle.std.specs.Prelude.{min}
 use Rattle.avr_part.specs.declared.part.Mem.{Mem}
 use Rattle.avr_part.specs.declared.part.Mem.TheVariants.{Flash, Eeprom, Signature}
@@ -23,8 +23,7 @@ pub record Rests (part : Part) (steps : List (List Command)) (m : Memories) (q :
 -- a count past the last step changes nothing more
 pub changed_min : (part : Part) (count : ℕ) (steps : List (List Command)) (m : Memories)
     → changed_by part (min count (length steps)) steps m ≡ changed_by part count steps m
-changed_min part zero steps m = ap (λ n. changed_by part n steps m) (let e : min 0 (length steps)
-    ≡ 0 = omega arith in e)
+changed_min part zero steps m = search rules
 changed_min part (suc count) [] m = ap (λ n. changed_by part n [] m) (let e : min (suc count) 0 ≡ 0 = omega arith in e)
 changed_min part (suc count) (commands ∷ steps) m =
     ap (λ n. changed_by part n (commands ∷ steps) m)
@@ -50,17 +49,12 @@ changed_behind part count (commands ∷ xs) ys m =
 
 pub all_on : (part : Part) (xs ys : List Item) → all_steps part (xs ++ ys) ≡ all_steps part xs ++ all_steps part ys
 all_on part [] ys = refl
-all_on part (item ∷ xs) ys = ap (λ steps. steps_of part item ++ steps) (all_on part xs ys)
-    ∙ sym (append_assoc (steps_of part item) (all_steps part xs) (all_steps part ys))
+all_on part (item ∷ xs) ys = search (rules, append_assoc, all_on part xs ys)
 
 module _ (part : Part) where
   pub reached_rests : (steps : List (List Command)) (m : Memories) (q : Programmer) → Reached part steps m q
       → Rests part steps m q
-  reached_rests steps m q r = record {
-    count = r.count;
-    stands =
-        settled_idle part (changed_by part r.count steps m) q r.stands;
-  }
+  reached_rests steps m q r = search (rules, settled_idle)
 
   pub rests_here : (steps : List (List Command)) (m : Memories) (q : Programmer) → Idle part m q → Rests part steps m q
   rests_here steps m q idle = record { count = 0; stands = idle }
@@ -72,9 +66,7 @@ module _ (part : Part) where
       let steps = all_steps part xs in
       subst (λ all. Rests part all m q) (sym (all_on part xs ys)) (record {
         count = min r.count (length steps);
-        stands = subst (λ z. Idle part z q)
-            (sym (changed_prefix part (min r.count (length steps)) steps (all_steps part ys) m (omega arith)
-            ∙ changed_min part r.count steps m)) r.stands;
+        stands = search (rules, changed_prefix, changed_min);
       })
 
   pub effects_sizes : (sound : IsPart part) (items : List Item) (m : Memories) → FitsPart part m
@@ -105,9 +97,7 @@ module _ (part : Part) where
       let steps = all_steps part xs in
       subst (λ all. Rests part all m q) (sym (all_on part xs ys)) (record {
         count = r.count + length steps;
-        stands = subst (λ z. Idle part z q)
-            (sym (changed_behind part r.count steps (all_steps part ys) m
-            ∙ ap (changed_by part r.count (all_steps part ys)) (all_changed sound xs m fits f))) r.stands;
+        stands = search (rules, changed_behind, all_changed);
       })
 
   pub fits_on : (xs ys : List Item) → AllFitItems part xs → AllFitItems part ys → AllFitItems part (xs ++ ys)

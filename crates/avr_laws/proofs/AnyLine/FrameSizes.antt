@@ -1,5 +1,5 @@
 -- Every body that a session asks fits a frame: if each other body weighs 1, all that it asks weighs 0.
-use Rattle.std.proofs.Common.{◌≡◌, ℕ, ◌*◌, ◌-◌, ◌≤◌, List, [], ◌∷◌, ◌++◌, map, length, subst, arith}
+use Rattle.std.proofs.Common.{◌≡◌, ℕ, ◌*◌, ◌-◌, ◌≤◌, List, [], ◌∷◌, ◌++◌, map, length, subst, arith, rules}
 use Rattle.std.proofs.lemmas.Bool.Decides.{nat_tests}
 use Rattle.std.specs.Prelude.{All, nat_le, ◌&&◌, if◌then◌else◌}
 use Rattle.avr_part.specs.Part.{Part, IsPart}
@@ -53,20 +53,13 @@ steps_light [] s = omega arith
 steps_light (commands ∷ steps) s =
     let first = commands_light commands s.0 in
     let more = steps_light steps s.1 in
-    let both = weighed_append unsendable (map body commands) (bodies_in steps) in
-    omega (arith, first, more, both)
+    search (rules, weighed_append)
 
 reads_sendable : (place : ℕ) → AreSendable (read_signature place ∷ [])
 reads_sendable place = (record { some = omega arith; few = omega arith }, tt)
 
 opening_sendable : EachSendable opening_steps
-opening_sendable = (
-  (record { some = omega arith; few = omega arith }, tt),
-  (
-    (record { some = omega arith; few = omega arith }, tt),
-    (reads_sendable 0, (reads_sendable 1, (reads_sendable 2, tt))),
-  ),
-)
+opening_sendable = search (rules, reads_sendable)
 
 closing_sendable : EachSendable closing_steps
 closing_sendable = ((record { some = omega arith; few = omega arith }, tt), tt)
@@ -76,8 +69,7 @@ module _ (part : Part) (sound : IsPart part) where
   action_sendable OpenSession fits = absurd fits
   action_sendable EraseChip fits = all_sendable part sound erasing_steps (item_are_steps part sound Erase tt)
   action_sendable (WriteImage mem image) fits =
-      all_sendable part sound (write_steps part mem image)
-      (write_are_steps part sound mem image (let size = fits.0 in omega (arith, size)))
+      search (rules, all_sendable, write_are_steps)
   action_sendable (CompareImage mem image) fits =
       all_sendable part sound (read_steps part mem) (read_are_steps part sound mem)
   action_sendable (SaveMemory mem format file) fits =
@@ -87,20 +79,13 @@ module _ (part : Part) (sound : IsPart part) where
   actions_sendable : (actions : List Action) → AllFitActions part actions → EachSendable (actions_steps part actions)
   actions_sendable [] fits = tt
   actions_sendable (action ∷ actions) fits =
-      each_on AreSendable (action_steps part action) (actions_steps part actions) (action_sendable action fits.0)
-      (actions_sendable actions fits.1)
+      search (rules, each_on, action_sendable, actions_sendable actions fits.1)
 
 run_sendable : (plan : Plan) → IsPart plan.part → All (IsFitted plan.part) plan.tasks → EachSendable (run_steps plan)
 run_sendable plan sound fitted =
-    let later = actions_steps plan.part (work plan) in
-    each_on AreSendable (opening_steps ++ later) closing_steps
-    (each_on AreSendable opening_steps later opening_sendable
-    (actions_sendable plan.part sound (work plan) (work_fits plan fitted))) closing_sendable
+    search (rules, work, each_on, opening_sendable, actions_sendable, work_fits, closing_sendable)
 
 -- every question of a session
 pub session_asks : (plan : Plan) → IsPart plan.part → All (IsFitted plan.part) plan.tasks → AsksBodies (session plan)
 session_asks plan sound fitted =
-    let none = steps_light (run_steps plan) (run_sendable plan sound fitted) in
-    let nothing : 4 * weighed unsendable (bodies_in (run_steps plan)) ≡ 0 = omega (arith, none) in
-    asks_light (session plan) (subst (λ n. WeighsAtMost unsendable n (session plan)) nothing
-    (session_weighs unsendable plan))
+    search (rules, steps_light, run_sendable, asks_light, session_weighs)

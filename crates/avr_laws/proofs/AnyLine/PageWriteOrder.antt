@@ -1,5 +1,5 @@
 -- A session makes the page writes of its plan in their order.
-use Rattle.std.proofs.Common.{◌≡◌, ℕ, ◌+◌, ◌-◌, List, [], ◌∷◌, ◌++◌, take, refl, sym, ap, ◌∙◌, subst, arith, inl, inr, Err, Result}
+use Rattle.std.proofs.Common.{◌≡◌, ℕ, ◌+◌, ◌-◌, List, [], ◌∷◌, ◌++◌, take, refl, sym, ap, ◌∙◌, subst, arith, inl, inr, Err, Result, rules}
 use Rattle.std.proofs.lemmas.Bool.{cond-true}
 use Rattle.std.proofs.lemmas.List.{append-nil}
 use Rattle.std.specs.Prelude.{All, ⊤}
@@ -94,11 +94,9 @@ module _ (part : Part) (sound : IsPart part) (s : Switches) where
       let only : steps ++ [] ≡ steps = append-nil steps in
       subst (λ call. Makes part m (Write mem image ∷ []) (reported call (written_says s.quiet part mem image))
       (action_made part (WriteImage mem image)) p turns)
-      (ap (λ all. operation all no_result) only
-      ∙ sym (cond-true (is_writable mem) (operation steps no_result) (Done (Err (ReadOnly mem))) fits.1))
+      (search (rules, cond-true))
       (makes_items part sound m (Write mem image ∷ []) no_result (written_says s.quiet part mem image) p turns
-      (subst (AreSteps part) (sym only)
-      (write_are_steps part sound mem image (let size = fits.0 in omega (arith, size)))) settled)
+      (search (rules, write_are_steps)) settled)
   makes_action action m fits f = λ p turns settled.
       makes_none part m (action_dialog part s action) p turns
       (λ at q. at ≡ Fine → Settled part (effects part (action_items action) m) q)

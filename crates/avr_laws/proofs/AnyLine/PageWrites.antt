@@ -1,5 +1,5 @@
 -- The actions of a session, by the page writes that they make one after another.
-use Rattle.std.proofs.Common.{◌≡◌, ℕ, zero, suc, ◌+◌, ◌-◌, ◌≤◌, List, [], ◌∷◌, ◌++◌, length, refl, sym, ap, ◌∙◌, subst, arith, inl, inr, Ok, Result}
+use Rattle.std.proofs.Common.{◌≡◌, ℕ, zero, suc, ◌+◌, ◌-◌, ◌≤◌, List, [], ◌∷◌, ◌++◌, length, refl, sym, ap, ◌∙◌, subst, arith, inl, inr, Ok, Result, rules}
 use Rattle.std.proofs.lemmas.List.{length-append}
 use Rattle.std.specs.Prelude.{⊤, min}
 use Rattle.avr_desk.specs.Said.{OutputEvent}
@@ -67,8 +67,7 @@ steps_most : (steps : List (List Command)) (k : ℕ) (p : Programmer) (turns : L
 steps_most [] k p turns = omega arith
 steps_most (commands ∷ steps) k p turns =
     let s = along device k (step commands) p turns in
-    counted_most s.dialog (steps_done device steps s.left s.programmer s.turns) (length steps)
-    (steps_most steps s.left s.programmer s.turns)
+    search (rules, counted_most, steps_most steps s.left s.programmer s.turns)
 
 module _ (part : Part) (sound : IsPart part) where
   -- the steps of items
@@ -91,11 +90,7 @@ module _ (part : Part) (sound : IsPart part) where
 
     stands : (k : ℕ) (q : Programmer) → Settled part (changed_by part (played.count k) steps m) q
         → Changed part items m (min (played.count k) (length steps)) q
-    stands k q at = record {
-      few = omega arith;
-      stands = subst (λ z. Idle part z q) (sym (changed_min part (played.count k) steps m))
-          (settled_idle part (changed_by part (played.count k) steps m) q at);
-    }
+    stands k q at = search (rules, changed_min, played, settled_idle)
 
     told_tally : Tallies device told (steps_done device steps) (Changed part items m) p turns
     told_tally = record {
@@ -124,15 +119,7 @@ module _ (part : Part) (sound : IsPart part) where
   changed_first : (xs ys : List Item) (m : Memories) (j : ℕ) (q : Programmer) → Changed part xs m j q
       → Changed part (xs ++ ys) m j q
   changed_first xs ys m j q s =
-      let size = size_on xs ys in
-      let few = s.few in
-      let steps = all_steps part xs in
-      record {
-        few = omega (arith, size, few);
-        stands = subst (λ z. Idle part z q)
-            (sym (ap (λ all. changed_by part j all m) (all_on part xs ys)
-            ∙ changed_prefix part j steps (all_steps part ys) m s.few)) s.stands;
-      }
+      search (rules, size_on, stands, all_on, changed_prefix)
 
   changed_next : (xs ys : List Item) (m : Memories) (made j : ℕ) (q : Programmer) → AllFitItems part xs
       → FitsPart part m
@@ -144,14 +131,7 @@ module _ (part : Part) (sound : IsPart part) where
       let few = s.few in
       let steps = all_steps part xs in
       let past : made + j ≡ j + length steps = omega (arith, whole) in
-      record {
-        few = omega (arith, size, few, whole);
-        stands = subst (λ z. Idle part z q)
-            (sym (ap (λ all. changed_by part (made + j) all m) (all_on part xs ys)
-            ∙ (ap (λ n. changed_by part n (steps ++ all_steps part ys) m) past
-            ∙ (changed_behind part j steps (all_steps part ys) m
-            ∙ ap (changed_by part j (all_steps part ys)) (all_changed part sound xs m fits f))))) s.stands;
-      }
+      search (rules, whole, stands, all_on, changed_behind, all_changed)
 
   -- one action, and the next one unless there was a fault
   module _ (m : Memories) (xs ys : List Item) (d next : Dialog OutputEvent Standing)
@@ -171,10 +151,7 @@ module _ (part : Part) (sound : IsPart part) where
     -- if it is fine, it made all its page writes before the last question of what follows
     whole : (k : ℕ) → (along device k d p turns).dialog ≡ Done Fine → first.tally.count k ≡ length (all_steps part xs)
     whole k e =
-        let few = (first.tally.stands k).few in
-        let l = first.tally.at_least k in
-        let all = first.complete k e in
-        omega (arith, few, l, all)
+        search rules
 
     sharp : (k l : ℕ) → (along device k d p turns).dialog ≡ Done Fine → (along device k d p turns).left ≡ suc l
         → first.tally.count k ≤ made (k - 1) p turns
@@ -183,8 +160,7 @@ module _ (part : Part) (sound : IsPart part) where
         let back : suc k - 1 ≡ k = omega arith in
         let all : made k p turns ≡ length (all_steps part xs) =
         first.complete k (ap (λ z. z.dialog) (along_before device k l d p turns Fine e n)) in
-        let made_all = whole (suc k) e in
-        subst (λ i. first.tally.count (suc k) ≤ made i p turns) (sym back) (omega (arith, all, made_all))
+        search (rules, whole)
 
     abbrev GoesFrom : ℕ → Standing → Type 0
     GoesFrom k s = GoesOn device At (along device k d p turns) (first.tally.count k) (made (k - 1) p turns)
@@ -234,8 +210,7 @@ module _ (part : Part) (sound : IsPart part) where
         let t = along device k d p turns in
         let all = first.complete k e in
         let rest = (more t.programmer t.turns (leads.after k Fine e refl)).complete t.left done in
-        let size = size_on xs ys in
-        omega (arith, all, rest, size)
+        search (rules, size_on)
     complete_fine k at e = λ done. let same : at ≡ Fine = done_is _ _ done in absurd (cc)
 
     complete_from : (k : ℕ) (x : Dialog OutputEvent Standing) → (along device k d p turns).dialog ≡ x → Ends k x

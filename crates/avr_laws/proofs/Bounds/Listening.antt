@@ -1,5 +1,5 @@
 -- How long a dialog listens: for each frame at most one timeout and 4,096 bytes.
-use Rattle.std.proofs.Common.{◌≡◌, ℕ, zero, suc, ◌+◌, ◌*◌, ◌<◌, ◌≤◌, List, [], ◌∷◌, ◌++◌, length, length-append, take, drop, refl, sym, ap, ◌∙◌, subst, arith, inl, inr, Option, Some, None, All}
+use Rattle.std.proofs.Common.{◌≡◌, ℕ, zero, suc, ◌+◌, ◌*◌, ◌<◌, ◌≤◌, List, [], ◌∷◌, ◌++◌, length, length-append, take, drop, refl, sym, ap, ◌∙◌, subst, arith, inl, inr, Option, Some, None, All, rules}
 use Rattle.std.proofs.lemmas.Bool.{leb-true, leb-false, cases_Bool, cond-true, cond-false}
 use Rattle.std.specs.List.{concat}
 use Rattle.std.specs.Prelude.{nat_le}
@@ -72,8 +72,7 @@ record Drops (n : ℕ) (tape left : Tape) : Type 0 where
 -- the first `n` bytes
 drops : (n : ℕ) (tape : Tape) → n ≤ length (bytes_in tape) → Drops n tape (drop n tape)
 drops zero tape le = record { silent = refl; bytes = omega arith }
-drops (suc n) (Byte b ∷ tape) le = let d = drops n tape (omega (arith, le)) in let bytes = d.bytes in
-    record { silent = d.silent; bytes = omega (arith, bytes) }
+drops (suc n) (Byte b ∷ tape) le = let d = drops n tape (omega (arith, le)) in search rules
 drops (suc n) tape le = absurd (omega (arith, le))
 
 abbrev left_of : Option (Reading × Tape) → Tape
@@ -89,16 +88,13 @@ cut_within bytes =
 stopped_costs : (tape : Tape) (reading : Reading) (left : Tape) → silence_or_end tape ≡ Some (reading, left)
     → (silences tape ≤ suc (silences left)) × (bytes_on tape ≡ bytes_on left)
 stopped_costs (Silence ∷ tape) reading left e =
-    subst (λ t. (silences (Silence ∷ tape) ≤ suc (silences t)) × (bytes_on (Silence ∷ tape) ≡ bytes_on t))
-    (ap left_of e) (omega arith, refl)
+    search rules
 stopped_costs (End ∷ tape) reading left e =
-    subst (λ t. (silences (End ∷ tape) ≤ suc (silences t)) × (bytes_on (End ∷ tape) ≡ bytes_on t)) (ap left_of e)
-    (omega arith, refl)
+    search rules
 stopped_costs tape reading left e = absurd (cc)
 
 dropped_costs : (n : ℕ) (tape left : Tape) → n ≤ limit → Drops n tape left → Costs tape left
-dropped_costs n tape left few d = let silent = d.silent in let bytes = d.bytes in
-    record { silent = omega (arith, silent); bytes = omega (arith, bytes, few) }
+dropped_costs n tape left few d = search rules
 
 read_costs : (tape : Tape) (bytes : List ℕ) (found : Option (List ℕ × ℕ)) (reading : Reading) (left : Tape)
     → length bytes ≤ limit → length bytes ≤ length (bytes_in tape)
@@ -111,9 +107,7 @@ read_costs tape bytes (Some (body, used)) reading left few within each e =
 read_costs tape bytes None reading left few within each e = elim (cases_Bool (nat_le limit (length bytes))) [
   | inl full ↦
       let enough : limit ≤ length bytes = leb-true limit (length bytes) full in
-      let is : drop limit tape ≡ left = ap left_of
-      (sym (cond-true (nat_le limit (length bytes)) (Some (Babbled, drop limit tape))
-      (silence_or_end (drop (length bytes) tape)) full) ∙ e) in
+      let is : drop limit tape ≡ left = search (rules, cond-true) in
       subst (Costs tape) is (dropped_costs limit tape (drop limit tape) (omega arith)
       (drops limit tape (omega (arith, enough, within))))
   | inr part ↦
@@ -121,11 +115,8 @@ read_costs tape bytes None reading left few within each e = elim (cases_Bool (na
       let silent = d.silent in
       let some = d.bytes in
       let s = stopped_costs (drop (length bytes) tape) reading left
-      (sym (cond-false (nat_le limit (length bytes)) (Some (Babbled, drop limit tape))
-      (silence_or_end (drop (length bytes) tape)) part) ∙ e) in
-      let s0 = s.0 in
-      let s1 = s.1 in
-      record { silent = omega (arith, silent, s0); bytes = omega (arith, some, s1, few) }
+      (search (rules, cond-false)) in
+      search rules
 ]
 
 answer_costs : (seq : ℕ) (tape : Tape) (reading : Reading) (left : Tape) → answer seq tape ≡ Some (reading, left)
@@ -157,11 +148,9 @@ read_waits tape None e =
       | inr part ↦
           let few : length bytes < limit = leb-false limit (length bytes) part in
           let whole : length bytes ≡ length (bytes_in tape) = take_short limit (bytes_in tape) few in
-          let none = sym (cond-false (nat_le limit (length bytes)) (Some (Babbled, drop limit tape))
-          (silence_or_end (drop (length bytes) tape)) part) ∙ e in
+          let none = sym (search (rules, cond-false)) ∙ e in
           let w = all_waiting tape (subst (λ (n : ℕ). silence_or_end (drop n tape) ≡ None) whole none) in
-          let bytes_are = w.1 in
-          (w.0, omega (arith, bytes_are, whole, few))
+          search rules
     ]
 
 answer_waits_for : (seq : ℕ) (tape : Tape) → answer seq tape ≡ None → (silences tape ≡ 0) × (bytes_on tape < limit)
@@ -174,10 +163,7 @@ record ListensOnce (tape : Tape) (got : Option (Reading × Tape)) : Type 0 where
   done : (reading : Reading) (left : Tape) → got ≡ Some (reading, left) → Costs tape left
 
 answer_listens : (seq : ℕ) (tape : Tape) → ListensOnce tape (answer seq tape)
-answer_listens seq tape = record {
-  waiting = λ e. answer_waits_for seq tape e;
-  done = λ reading left e. answer_costs seq tape reading left e;
-}
+answer_listens seq tape = search (rules, answer_waits_for, answer_costs)
 
 -- ---- a run
 
@@ -196,27 +182,18 @@ listens_asked : {E R : Type 0} (f : List ℕ) (go_on : Reading → Tape → Play
     (got : Option (Reading × Tape)) → ListensOnce tape got
     → ((reading : Reading) (left : Tape) → Listens (go_on reading left) left)
     → Listens (behind (Frame f ∷ []) (by_answer go_on got)) tape
-listens_asked f go_on tape None once more = record {
-  waiting = λ e. let w = once.waiting refl in let w0 = w.0 in let w1 = w.1 in (omega (arith, w0), omega (arith, w1));
-  done = λ r seq left e. absurd (cc);
-}
+listens_asked f go_on tape None once more = search rules
 listens_asked f go_on tape (Some (reading, rest)) once more =
     let c = once.done reading rest refl in
     let silent = c.silent in
     let bytes = c.bytes in
     record {
-      waiting = λ e. let w = (more reading rest).waiting e in let w0 = w.0 in let w1 = w.1 in
-          (omega (arith, silent, w0), omega (arith, bytes, w1));
-      done = λ r seq left e. let w = (more reading rest).done r seq left e in let w0 = w.0 in let w1 = w.1 in
-          (omega (arith, silent, w0), omega (arith, bytes, w1));
+      waiting = search rules;
+      done = λ r seq left e. let w = (more reading rest).done r seq left e in search rules;
     }
 
 listens : {E R : Type 0} (d : Dialog E R) (seq : ℕ) (tape : Tape) → Listens (played d seq tape) tape
-listens (Done r) seq tape = record {
-  waiting = λ e. absurd (cc);
-  done = λ s n left e. subst (λ t. (silences tape ≤ 0 + silences t) × (bytes_on tape ≤ limit * 0 + bytes_on t))
-      (ap rest_of e) (omega arith, omega arith);
-}
+listens (Done r) seq tape = search rules
 listens (Say s d) seq tape = let more = listens d seq tape in
     record { waiting = λ e. more.waiting e; done = λ r n left e. more.done r n left e }
 listens (Ask body answered) seq tape =
@@ -241,25 +218,7 @@ listens_at_most {E = E} {R = R} n d most bodies = record {
         ap (λ x. length (frames_in x.events)) (p.plays []) in
         let l = (listens d first.next tape).done result last.next (on_tape last.unread ++ [])
         (ap (λ x. x.outcome) (p.plays [])) in
-        let l0 = l.0 in
-        let l1 = l.1 in
-        let sends = sends_most n d first.next tape most in
-        let a0 = silences_on (on_tape first.unread) (heard transcript ++ []) in
-        let a1 = silences_on (heard transcript) [] in
-        let a2 = no_silences first.unread in
-        let a3 = silences_on (on_tape last.unread) [] in
-        let a4 = no_silences last.unread in
-        let b0 = bytes_append (on_tape first.unread) (heard transcript ++ []) in
-        let b1 = bytes_append (heard transcript) [] in
-        let b2 = all_bytes first.unread in
-        let b3 = bytes_append (on_tape last.unread) [] in
-        let b4 = all_bytes last.unread in (
-          omega (arith, sends, same),
-          (
-            omega (arith, l0, same, a0, a1, a2, a3, a4),
-            omega (arith, l1, same, b0, b1, b2, b3, b4),
-          ),
-        )
+        search (rules, sends_most, silences_on, no_silences, bytes_append, all_bytes)
 
     wherever : (first : Progress) (before after : Transcript) (items : Tape)
         → InTurn d first (before ++ Got items ∷ after)
@@ -269,8 +228,7 @@ listens_at_most {E = E} {R = R} n d most bodies = record {
         let tape = on_tape first.unread ++ heard before in
         let due = due_at d first.next (on_tape first.unread) [] before after items turns in
         let same : length (frames_in (played d first.next tape).events) ≡ length (frames (sent before)) =
-        sym (ap length (frames_sent (played d first.next tape).events (sends_whole d first.next tape bodies)))
-        ∙ ap (λ b. length (frames b)) due.all_sent in
+        search (rules, frames_sent, sends_whole) in
         let l = (listens d first.next tape).waiting due.waits in
         let l0 = l.0 in
         let l1 = l.1 in
@@ -283,5 +241,4 @@ listens_at_most {E = E} {R = R} n d most bodies = record {
 
 pub session_listens : (plan : Plan) → IsPart plan.part → All (IsFitted plan.part) plan.tasks
     → ListensAtMost (4 * commands_in (run_steps plan)) (session plan)
-session_listens plan sound fitted = listens_at_most (4 * commands_in (run_steps plan)) (session plan)
-    (session_most plan) (session_asks plan sound fitted)
+session_listens plan sound fitted = search (rules, listens_at_most, session_most, session_asks)

@@ -1,6 +1,6 @@
 -- A session asks at most four times the commands of its plan's steps, because that is what its bodies weigh if each
 -- weighs 1.
-use Rattle.std.proofs.Common.{◌≡◌, ℕ, zero, suc, ◌*◌, ◌-◌, List, [], ◌∷◌, map, length, subst, arith}
+use Rattle.std.proofs.Common.{◌≡◌, ℕ, zero, suc, ◌*◌, ◌-◌, List, [], ◌∷◌, map, length, subst, arith, rules}
 use Rattle.avr_desk.specs.Said.{SaidPart}
 use Rattle.avr_plan.specs.Plan.{Plan}
 use Rattle.avr_session.specs.Session.{session}
@@ -25,8 +25,7 @@ steps_weigh [] = omega arith
 steps_weigh (commands ∷ steps) =
     let first = commands_weigh commands in
     let more = steps_weigh steps in
-    let both = weighed_append one (map body commands) (bodies_in steps) in
-    omega (arith, first, more, both)
+    search (rules, weighed_append)
 
 asks_weighed : {E R : Type 0} (n : ℕ) (d : Dialog E R) → WeighsAtMost one n d → AsksAtMost n d
 asks_weighed n (Done r) f = tt
@@ -38,8 +37,7 @@ asks_weighed (suc n) (Ask asked answered) f = λ reading.
 
 pub session_most : (plan : Plan) → AsksAtMost (4 * commands_in (run_steps plan)) (session plan)
 session_most plan =
-    asks_weighed (4 * commands_in (run_steps plan)) (session plan)
-    (subst (λ n. WeighsAtMost one (4 * n) (session plan)) (steps_weigh (run_steps plan)) (session_weighs one plan))
+    search (rules, asks_weighed, steps_weigh, session_weighs)
 
 pub session_sends : (plan : Plan) → SendsAtMost SaidPart (4 * commands_in (run_steps plan)) (session plan)
 session_sends plan = sends_asked SaidPart (4 * commands_in (run_steps plan)) (session plan) (session_most plan)

@@ -1,5 +1,5 @@
 -- How much a session asks, by any weight of bodies: at most four times the commands of its plan's steps.
-use Rattle.std.proofs.Common.{◌≡◌, ℕ, ◌+◌, ◌*◌, ◌-◌, ◌≤◌, List, [], ◌∷◌, ◌++◌, map, append_assoc, refl, sym, ap, ◌∙◌, subst, arith, Bool, true, false, Ok, Err, Result, Option}
+use Rattle.std.proofs.Common.{◌≡◌, ℕ, ◌+◌, ◌*◌, ◌-◌, ◌≤◌, List, [], ◌∷◌, ◌++◌, map, append_assoc, refl, sym, ap, ◌∙◌, subst, arith, Bool, true, false, Ok, Err, Result, Option, rules}
 use Rattle.std.proofs.Math.Nat.{suc-mul}
 use Rattle.std.specs.Prelude.{if◌then◌else◌}
 use Rattle.avr_cli.specs.declared.settings.Switches.{Switches}
@@ -45,8 +45,7 @@ module _ (w : Weight) where
 
   bodies_append : (xs ys : List (List Command)) → bodies_in (xs ++ ys) ≡ bodies_in xs ++ bodies_in ys
   bodies_append [] ys = refl
-  bodies_append (commands ∷ xs) ys = ap (λ bodies. map body commands ++ bodies) (bodies_append xs ys)
-      ∙ sym (append_assoc (map body commands) (bodies_in xs) (bodies_in ys))
+  bodies_append (commands ∷ xs) ys = search (rules, append_assoc, bodies_append xs ys)
 
   -- the weight of a step's commands, and of all steps'
   abbrev of_step : List Command → ℕ
@@ -137,8 +136,7 @@ module _ (w : Weight) where
       told (signature_judged signature force)
       (then_spends (SignOn ∷ []) ((enter ∷ []) ∷ signature_steps)
       (λ name. step (enter ∷ []) >>= if_done (λ nothing. play signature_steps []))
-      (λ name. then_spends (enter ∷ []) signature_steps (λ nothing. play signature_steps [])
-      (λ nothing. play_spends signature_steps [])) k left le)
+      (λ name. search (rules, then_spends, play_spends)) k left le)
       (λ o t e. e)
 
   closing_spends : Spends (4 * total closing_steps) closing
@@ -150,12 +148,7 @@ module _ (w : Weight) where
   -- a memory that can't be written is asked nothing
   writing_spends : (part : Part) (mem : Mem) (image : List (Option ℕ))
       → Spends (4 * total (write_steps part mem image)) (writing part mem image)
-  writing_spends part mem image = by_kind (is_writable mem)
-    where
-      by_kind : (b : Bool) → Spends (4 * total (write_steps part mem image))
-          (if b then operation (write_steps part mem image) no_result else Done (Err (ReadOnly mem)))
-      by_kind true = operation_spends (write_steps part mem image) no_result
-      by_kind false = λ k left le. done (omega (arith, le))
+  writing_spends part mem image = search (rules, operation_spends, done)
 
   -- ---- the actions of a session
 

@@ -1,5 +1,5 @@
 -- What goes out over a wire weighs no more than what a dialog asks.
-use Rattle.std.proofs.Common.{◌≡◌, ℕ, ◌+◌, ◌-◌, ◌≤◌, List, map, ap, ◌∙◌, arith, Option, Some, None}
+use Rattle.std.proofs.Common.{◌≡◌, ℕ, ◌+◌, ◌-◌, ◌≤◌, List, map, ap, ◌∙◌, arith, Option, Some, None, rules}
 use Rattle.std.proofs.lemmas.List.{map-append}
 use Rattle.stk_frame.specs.Frame.{frame}
 use Rattle.stk_frame.specs.Cut.{body_of, frames}
@@ -27,8 +27,7 @@ module _ (w : Weight) where
       let first = f.0 in
       let rest = by_reading (n - w asked) (λ reading. played (answered reading) (next seq)) (answer seq tape)
       (λ reading left. frames_weigh (n - w asked) (answered reading) (next seq) left (f.1 reading)) in
-      let same : w (body_of (frame seq asked)) ≡ w asked = ap w (body_of_frame seq asked) in
-      omega (arith, first, rest, same)
+      search (rules, body_of_frame)
 
   -- the same of a prefix of the bytes
   pub prefix_weighs : {E R : Type 0} (n : ℕ) (d : Dialog E R) (seq : ℕ) (tape : Tape) (sent : List ℕ) → AsksBodies d
@@ -37,9 +36,4 @@ module _ (w : Weight) where
   prefix_weighs n d seq tape sent asks f prefix =
       let whole = frames_prefix (played d seq tape).events sent prefix.0 (sends_whole d seq tape asks) prefix.1 in
       let all = frames_weigh n d seq tape f in
-      let split : weighed w (map body_of (frames_in (played d seq tape).events))
-      ≡ weighed w (map body_of (frames sent)) + weighed w (map body_of whole.0) =
-      ap (λ fs. weighed w (map body_of fs)) whole.1
-      ∙ (ap (weighed w) (map-append body_of (frames sent) whole.0)
-      ∙ weighed_append w (map body_of (frames sent)) (map body_of whole.0)) in
-      omega (arith, all, split)
+      search (rules, map-append, weighed_append)

@@ -1,5 +1,5 @@
 -- What a comparison without a difference says, and which comparisons have none.
-use Rattle.std.proofs.Common.{◌≡◌, ℕ, zero, suc, ◌+◌, ◌<◌, List, [], ◌∷◌, get_or, refl, sym, ap, ◌∙◌, arith, inl, inr, Bool, true, false, Ok, Err, Option, Some, None, unwrap_or, bit_and}
+use Rattle.std.proofs.Common.{◌≡◌, ℕ, zero, suc, ◌+◌, ◌<◌, List, [], ◌∷◌, get_or, refl, sym, ap, ◌∙◌, arith, inl, inr, Bool, true, false, Ok, Err, Option, Some, None, unwrap_or, bit_and, rules}
 use Rattle.std.proofs.lemmas.Bool.{cases_Bool, eqb-true, eq-eqb, cond-true, cond-false}
 use Rattle.std.proofs.Math.Nat.{mod-eq_of_lt}
 use Rattle.std.proofs.lemmas.Grind.{and_numeral}
@@ -25,18 +25,7 @@ differs d e = cc
 same_byte : (addr want found : ℕ) (image : Image) (bytes : List ℕ)
     → difference_from addr (Some want ∷ image) (found ∷ bytes) ≡ None
     → (found ≡ want) × (difference_from (addr + 1) image bytes ≡ None)
-same_byte addr want found image bytes e = elim (cases_Bool (found == want)) [
-  | inl same ↦ (
-    eqb-true found want same,
-    sym
-        (cond-true (found == want) (difference_from (addr + 1) image bytes)
-        (Some (record { addr = addr; want = want; found = found })) same) ∙ e,
-  )
-  | inr other ↦
-      absurd (differs (record { addr = addr; want = want; found = found })
-      (sym (cond-false (found == want) (difference_from (addr + 1) image bytes)
-      (Some (record { addr = addr; want = want; found = found })) other) ∙ e))
-]
+same_byte addr want found image bytes e = search (rules, cases_Bool, eqb-true, cond-true, differs, cond-false)
 
 -- without a difference the memory holds the image
 pub no_difference : (addr : ℕ) (image : Image) (bytes : List ℕ) → difference_from addr image bytes ≡ None
@@ -67,8 +56,7 @@ held_same addr (Some want ∷ image) (found ∷ bytes) holds =
 -- an image that was laid over a memory is held
 pub laid_holds : (image : Image) (bytes : List ℕ) → HoldsImage image (with_image image bytes)
 laid_holds image bytes i b held l =
-    get_laid image bytes i (omega (arith, l, length-laid image bytes))
-    ∙ ap (λ (o : Option ℕ). unwrap_or o (get_or bytes i 0)) held
+    search (rules, get_laid, length-laid)
 
 pub and_from_blank : (b : ℕ) → b < 256 → bit_and 255 b ≡ b
 and_from_blank b l = and_comm 255 b ∙ (and_numeral b 254 refl ∙ mod-eq_of_lt l)

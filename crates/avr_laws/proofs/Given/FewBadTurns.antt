@@ -1,5 +1,5 @@
 -- Over few bad turns each step gives its data, and a run of steps all that they give.
-use Rattle.std.proofs.Common.{◌≡◌, ℕ, zero, suc, ◌+◌, ◌*◌, ◌≤◌, List, [], ◌∷◌, ◌++◌, length, refl, sym, ap, ◌∙◌, subst, arith, append_assoc, inl, inr, ◌⊎◌, Ok, Err}
+use Rattle.std.proofs.Common.{◌≡◌, ℕ, zero, suc, ◌+◌, ◌*◌, ◌≤◌, List, [], ◌∷◌, ◌++◌, length, refl, sym, ap, ◌∙◌, subst, arith, append_assoc, inl, inr, ◌⊎◌, Ok, Err, rules}
 use Rattle.std.proofs.lemmas.List.{append-nil}
 use Rattle.std.specs.Prelude.{⊤}
 use Rattle.avr_part.specs.Part.{Part, IsPart}
@@ -190,10 +190,7 @@ few_goes_on instead le = tt
 
 not_four : (turn : Turn) → bad turn ≤ 3 → IsSteady turn
 not_four Right le = tt
-not_four (Wrong became instead) le = (
-  few_stands became (omega (arith, le)),
-  few_goes_on instead (let some = some_bad became in omega (arith, le, some)),
-)
+not_four (Wrong became instead) le = search (rules, few_stands, few_goes_on, some_bad)
 
 -- if few turns go wrong, none restarts the programmer
 few_steady : (turns : List Turn) → AreFew turns → AreSteady turns
@@ -414,10 +411,4 @@ unfolding tries attempt exchange
 second_too_many address command commands p = refl
 
 pub three_of_six : FewOf 6 each_second
-three_of_six = (
-  omega arith,
-  (
-    omega arith,
-    (omega arith, (omega arith, (omega arith, (omega arith, (omega arith, tt))))),
-  ),
-)
+three_of_six = search rules

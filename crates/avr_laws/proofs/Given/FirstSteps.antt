@@ -1,5 +1,5 @@
 -- A programmer at its beginning, and runs of steps from a settled one.
-use Rattle.std.proofs.Common.{◌≡◌, ℕ, List, [], ◌∷◌, refl}
+use Rattle.std.proofs.Common.{◌≡◌, ℕ, List, [], ◌∷◌, refl, rules}
 use Rattle.avr_part.specs.State as chip
 use Rattle.avr_part.specs.Sound.{IsSoundChip}
 use Rattle.avr_part.specs.Part.{Part, IsPart}
@@ -17,13 +17,7 @@ use Rattle.avr_laws.proofs.PageWrites.Conditions.{play_climbs}
 use Rattle.avr_laws.proofs.PageWrites.OutsideMode.{all_fit}
 
 pub fresh_idle : (s : chip.ChipState) → IsSoundChip s → Idle s.part (memories_of s) (fresh_programmer s)
-fresh_idle s sound = record {
-  memories = refl;
-  part_is = refl;
-  flash_buffer = sound.flash_buffer_size;
-  eeprom_buffer =
-      sound.eeprom_buffer_size;
-}
+fresh_idle s sound = search rules
 
 pub fresh_fits : (s : chip.ChipState) → IsSoundChip s → FitsPart s.part (memories_of s)
 fresh_fits s sound = record { flash = sound.flash_size; eeprom = sound.eeprom_size; bytes = sound.flash }
@@ -36,21 +30,7 @@ one_some (d ∷ commands) c more steps e some = some
 -- a step has a command
 pub are_some : (part : Part) (steps : List (List Command)) → AreSteps part steps → AreSome steps
 are_some part [] are = tt
-are_some part (commands ∷ steps) are = first commands steps are.0 (are_some part steps are.1)
-  where
-    first : (commands : List Command) (steps : List (List Command)) → IsStep part commands → AreSome steps
-        → AreSome (commands ∷ steps)
-    first commands steps (Erases e) some = one_some commands _ _ steps e some
-    first commands steps (ProgramsPage number bytes is e) some = one_some commands _ _ steps e some
-    first commands steps (ProgramsRun address bytes is e) some = one_some commands _ _ steps e some
-    first commands steps (ProgramsFuse f byte e) some = one_some commands _ _ steps e some
-    first commands steps (ProgramsLock byte e) some = one_some commands _ _ steps e some
-    first commands steps (ReadsFlash start count is words e) some = one_some commands _ _ steps e some
-    first commands steps (ReadsEeprom start count is e) some = one_some commands _ _ steps e some
-    first commands steps (ReadsFuse f e) some = one_some commands _ _ steps e some
-    first commands steps (ReadsLock e) some = one_some commands _ _ steps e some
-    first commands steps (ReadsSignature place few e) some = one_some commands _ _ steps e some
-    first commands steps (ReadsCalibration e) some = one_some commands _ _ steps e some
+are_some part (commands ∷ steps) are = search (rules, one_some, are_some part steps are.1)
 
 pub steps_climb : (part : Part) (steps : List (List Command)) (m : Memories) (k : ℕ) (before : List ℕ) (p : Programmer)
     (turns : List Turn)
@@ -58,5 +38,4 @@ pub steps_climb : (part : Part) (steps : List (List Command)) (m : Memories) (k 
     → Climbs device (λ j. Settled part (changed_by part j steps m)) k steps p turns
     (along device k (play steps before) p turns)
 steps_climb part steps m k before p turns sound are s =
-    play_climbs device (λ j. Settled part (changed_by part j steps m)) steps k before p turns (are_some part steps are)
-    (all_fit part sound steps m are) s
+    search (rules, play_climbs, are_some, all_fit)

@@ -1,5 +1,5 @@
 -- An answer that is found stays found if the tape grows, and what follows stays after it.
-use Rattle.std.proofs.Common.{◌≡◌, ℕ, zero, suc, ◌+◌, ◌<◌, ◌≤◌, List, [], ◌∷◌, ◌++◌, length, take, drop, refl, sym, ap, ap₂, ◌∙◌, subst, append_assoc, arith, min, length-append, inl, inr, Option, Some, None}
+use Rattle.std.proofs.Common.{◌≡◌, ℕ, zero, suc, ◌+◌, ◌<◌, ◌≤◌, List, [], ◌∷◌, ◌++◌, length, take, drop, refl, sym, ap, ap₂, ◌∙◌, subst, append_assoc, arith, min, length-append, inl, inr, Option, Some, None, rules}
 use Rattle.std.proofs.lemmas.Bool.{leb-true, leb-false, cases_Bool, cond-true, cond-false}
 use Rattle.std.proofs.lemmas.List.{take_all, take-append-le, length-take}
 use Rattle.std.proofs.lemmas.Option.{none-some}
@@ -46,10 +46,7 @@ further_used : (a n : ℕ) (o : Option (List ℕ × ℕ)) (body : List ℕ) (use
     → ((b : List ℕ) (k : ℕ) → o ≡ Some (b, k) → k ≤ n) → used ≤ a + n
 further_used a n None body used e each = absurd (none-some (body, used) e)
 further_used a n (Some (b, k)) body used e each =
-    let p : ◌≡◌ {A = List ℕ × ℕ} (b, a + k) (body, used) = cc in
-    let f : a + k ≡ used = ap (λ x. x.1) p in
-    let g : k ≤ n = each b k refl in
-    omega arith
+    search rules
 
 pub used_within : (seq : ℕ) (pieces : List (List ℕ)) (body : List ℕ) (used : ℕ)
     → first_answer seq pieces ≡ Some (body, used) → used ≤ length (concat pieces)
@@ -57,15 +54,13 @@ used_within seq [] body used e = absurd (none-some (body, used) e)
 used_within seq (piece ∷ pieces) body used e = elim (cases_Bool (is_answer seq piece)) [
   | inl is_it ↦
       let f : ◌≡◌ {A = Option (List ℕ × ℕ)} (Some (body_of piece, length piece)) (Some (body, used)) =
-      sym (cond-true (is_answer seq piece) (Some (body_of piece, length piece))
-      (further (length piece) (first_answer seq pieces)) is_it) ∙ e in
+      search (rules, cond-true) in
       let p : ◌≡◌ {A = List ℕ × ℕ} (body_of piece, length piece) (body, used) = cc in
       let g : length piece ≡ used = ap (λ x. x.1) p in
       rw (length-append piece (concat pieces)) (omega arith)
   | inr is_not ↦
       let f : further (length piece) (first_answer seq pieces) ≡ Some (body, used) =
-      sym (cond-false (is_answer seq piece) (Some (body_of piece, length piece))
-      (further (length piece) (first_answer seq pieces)) is_not) ∙ e in
+      search (rules, cond-false) in
       rw (length-append piece (concat pieces))
       (further_used (length piece) (length (concat pieces)) (first_answer seq pieces) body used f
       (λ b k g. used_within seq pieces b k g))
@@ -82,8 +77,7 @@ used_few seq x body used e =
 some_tape : (a b : Reading) (s t : Tape) → ◌≡◌ {A = Option (Reading × Tape)} (Some (a, s)) (Some (b, t))
     → (a ≡ b) × (s ≡ t)
 some_tape a b s t e =
-    let p : ◌≡◌ {A = Reading × Tape} (a, s) (b, t) = cc in
-    (ap (λ x. x.0) p, ap (λ x. x.1) p)
+    search rules
 
 cons_nil : (b : ℕ) (bs : List ℕ) → b ∷ bs ≡ [] → ⊥
 cons_nil b bs e = cc
@@ -94,13 +88,9 @@ stops_more : (seq : ℕ) (b : List ℕ) (tail u : Tape) (reading : Reading) (lef
 stops_more seq b [] u reading left stops none few e = absurd (none-some (reading, left) e)
 stops_more seq b (Byte c ∷ tail) u reading left stops none few e = absurd (cons_nil c (bytes_in tail) stops)
 stops_more seq b (Silence ∷ tail) u reading left stops none few e =
-    let f = some_tape Silent reading tail left e in
-    ap (answer seq) (append_assoc (on_tape b) (Silence ∷ tail) u)
-    ∙ (answer_silent seq b (tail ++ u) none few ∙ ap₂ (λ r t. Some (r, t ++ u)) f.0 f.1)
+    search (rules, some_tape, append_assoc, answer_silent)
 stops_more seq b (End ∷ tail) u reading left stops none few e =
-    let f = some_tape Ended reading tail left e in
-    ap (answer seq) (append_assoc (on_tape b) (End ∷ tail) u)
-    ∙ (answer_ended seq b (tail ++ u) none few ∙ ap₂ (λ r t. Some (r, t ++ u)) f.0 f.1)
+    search (rules, some_tape, append_assoc, answer_ended)
 
 given_more : (seq : ℕ) (t u : Tape) (o : Option (List ℕ × ℕ)) (reading : Reading) (left : Tape)
     → first_answer seq (cut (take limit (bytes_in t))) ≡ o
@@ -118,8 +108,7 @@ given_more seq t u (Some (body, used)) reading left found e =
     ∙ (ap (λ o. read_to o (x ++ y.0) (t ++ u))
     (ap (first_answer seq) (cut_append x y.0)
     ∙ first_answer_stays seq (cut x) (cut (rest x ++ y.0)) (body, used) found)
-    ∙ (ap (λ r. Some (Answered body, r)) (drop_more_tape used t u (omega arith))
-    ∙ ap₂ (λ r q. Some (r, q ++ u)) f.0 f.1))
+    ∙ (search (rules, drop_more_tape)))
 given_more seq t u None reading left none e =
     let x : List ℕ = take limit (bytes_in t) in
     let l : length x ≡ min limit (length (bytes_in t)) = length-take limit (bytes_in t) in
@@ -131,8 +120,7 @@ given_more seq t u None reading left none e =
           let bytes : take limit (bytes_in (t ++ u)) ≡ x =
           ap (take limit) z.1 ∙ take-append-le limit (bytes_in t) z.0 (omega arith) in
           let f = some_tape Babbled reading (drop limit t) left
-          (sym (cond-true (leb limit (length x)) (Some (Babbled, drop limit t)) (silence_or_end (drop (length x) t))
-          full) ∙ e) in
+          (search (rules, cond-true)) in
           answer_by seq (t ++ u) x bytes
           ∙ (ap (λ o. read_to o x (t ++ u)) none
           ∙ (cond-true (leb limit (length x)) (Some (Babbled, drop limit (t ++ u)))
@@ -144,10 +132,8 @@ given_more seq t u None reading left none e =
           let same : x ≡ bytes_in t = take_all limit (bytes_in t) (omega arith) in
           let s = split t in
           let stop : silence_or_end (drop (length x) t) ≡ Some (reading, left) =
-          sym (cond-false (leb limit (length x)) (Some (Babbled, drop limit t)) (silence_or_end (drop (length x) t))
-          few) ∙ e in
-          let at : drop (length x) t ≡ s.tail = ap (λ n. drop (length n) t) same
-          ∙ (ap (drop (length (bytes_in t))) s.is ∙ drop_tape (bytes_in t) s.tail) in
+          search (rules, cond-false) in
+          let at : drop (length x) t ≡ s.tail = search (rules, drop_tape) in
           ap (λ w. answer seq (w ++ u)) s.is
           ∙ stops_more seq (bytes_in t) s.tail u reading left s.stops
           (ap (λ y. first_answer seq (cut y)) (sym same) ∙ none) (subst (λ y. length y < limit) same lt)

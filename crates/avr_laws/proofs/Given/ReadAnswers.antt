@@ -1,5 +1,5 @@
 -- The programmer's answers to the commands that read, and its state after them.
-use Rattle.std.proofs.Common.{◌≡◌, ℕ, ◌/◌, ◌%◌, ◌≤◌, ◌<◌, sym, ap, ◌∙◌, subst, arith, true, false}
+use Rattle.std.proofs.Common.{◌≡◌, ℕ, ◌/◌, ◌%◌, ◌≤◌, ◌<◌, sym, ap, ◌∙◌, subst, arith, true, false, rules}
 use Rattle.std.proofs.lemmas.Bool.{ne_eqb, eq-eqb, and_from, le-leb, le-ltb, cond-true}
 use Rattle.std.specs.Prelude.{◌==◌, ◌&&◌, not, nat_le}
 use Rattle.avr_part.specs.declared.part.Mem.TheVariants.{Flash, Eeprom}
@@ -18,8 +18,7 @@ use Rattle.stk_emu.proofs.Memories.Runs.{narrow_loaded}
 use Rattle.stk_emu.proofs.Memories.BlocksRead.{Left, flash_left, eeprom_left}
 
 flash_test : (n : ℕ) → 0 < n → n % 2 ≡ 0 → n ≤ 256 → (not (n == 0) && (n % 2 == 0) && nat_le n 272) ≡ true
-flash_test n some even few = and_from _ _
-    (and_from _ _ (ap not (ne_eqb n 0 (λ e. omega (arith, e)))) (eq-eqb (n % 2) 0 even)) (le-leb n 272 (omega arith))
+flash_test n some even few = search (rules, and_from, ne_eqb, eq-eqb, le-leb)
 
 eeprom_test : (n : ℕ) → 0 < n → n ≤ 256 → (not (n == 0) && nat_le n 272) ≡ true
 eeprom_test n some few = and_from _ _ (ap not (ne_eqb n 0 (λ e. omega (arith, e)))) (le-leb n 272 (omega arith))
@@ -29,22 +28,14 @@ pub flash_block : (count : ℕ) (p : Programmer) → p.mode ≡ true → 0 < cou
     → (device.answer (body (read_flash_block count)) p, device.after (body (read_flash_block count)) p)
     ≡ block 0x14 (flash_looks p.wide 0x20 p.address 0 count p.chip) (with_address_moved (count / 2) p)
 flash_block count p mode some even few =
-    ap {A = Response} {B = Response} (λ z. (z.0, z.1))
-    (obeys (read_flash_block count) p (let l : count < 65536 = omega arith in l))
-    ∙ (ap {A = Response} {B = Response} (λ z. (z.0, z.1)) (cond-true p.mode _ _ mode)
-    ∙ ap {A = Response} {B = Response} (λ z. (z.0, z.1))
-    (cond-true (not (count == 0) && (count % 2 == 0) && nat_le count 272) _ _ (flash_test count some even few)))
+    search (rules, obeys, cond-true, flash_test)
 
 -- a block of EEPROM
 pub eeprom_block : (count : ℕ) (p : Programmer) → p.mode ≡ true → 0 < count → count ≤ 256
     → (device.answer (body (read_eeprom_block count)) p, device.after (body (read_eeprom_block count)) p)
     ≡ block 0x16 (eeprom_looks 0xA0 p.address 0 count p.chip) (with_address_moved count p)
 eeprom_block count p mode some few =
-    ap {A = Response} {B = Response} (λ z. (z.0, z.1))
-    (obeys (read_eeprom_block count) p (let l : count < 65536 = omega arith in l))
-    ∙ (ap {A = Response} {B = Response} (λ z. (z.0, z.1)) (cond-true p.mode _ _ mode)
-    ∙ ap {A = Response} {B = Response} (λ z. (z.0, z.1))
-    (cond-true (not (count == 0) && nat_le count 272) _ _ (eeprom_test count some few)))
+    search (rules, obeys, cond-true, eeprom_test)
 
 module _ (part : Part) (sound : IsPart part) where
   narrow_test : IsNarrow part → is_wide part ≡ false
@@ -60,37 +51,10 @@ module _ (part : Part) (sound : IsPart part) where
       let q : Programmer = record p { address = start / 2; wide = is_wide part } in
       let left : Left (is_wide part) p.chip (flash_looks (is_wide part) 0x20 (start / 2) 0 count p.chip).1 =
       flash_left (is_wide part) (start / 2) 0 count p.chip in
-      let after_is : device.after (body (read_flash_block count)) (device.after (body (load_flash part start)) p)
-      ≡ record (with_address_moved (count / 2) q) { chip = record p.chip { extended = left.value } } =
-      ap (device.after (body (read_flash_block count))) (flash_loaded_at part start p (omega arith))
-      ∙ (ap {A = Response} (λ z. z.1) (flash_block count q s.mode is_block.some words.count_even is_block.few)
-      ∙ ap (λ c. record (with_address_moved (count / 2) q) { chip = c }) left.is) in
-      subst (Ready part m) (sym after_is) (record {
-        memories = s.memories;
-        part_is = s.part_is;
-        mode = s.mode;
-        flash_buffer = s.flash_buffer;
-        eeprom_buffer = s.eeprom_buffer;
-        extended = λ is_narrow. left.kept (narrow_test is_narrow) ∙ s.extended is_narrow;
-      })
+      search (rules, flash_loaded_at, flash_block, narrow_test)
 
   pub eeprom_read_keeps : (start count : ℕ) (m : Memories) (p : Programmer) → IsBlock part Eeprom start count
       → Ready part m p
       → Ready part m (device.after (body (read_eeprom_block count)) (device.after (body (load_eeprom start)) p))
   eeprom_read_keeps start count m p is_block s =
-      let inside = is_block.inside in
-      let most = sound.eeprom_most in
-      let q : Programmer = record p { address = start; wide = false } in
-      let after_is : device.after (body (read_eeprom_block count)) (device.after (body (load_eeprom start)) p)
-      ≡ with_address_moved count q =
-      ap (device.after (body (read_eeprom_block count))) (narrow_loaded start p (omega arith))
-      ∙ (ap {A = Response} (λ z. z.1) (eeprom_block count q s.mode is_block.some is_block.few)
-      ∙ ap (λ c. record (with_address_moved count q) { chip = c }) (eeprom_left start 0 count p.chip)) in
-      subst (Ready part m) (sym after_is) (record {
-        memories = s.memories;
-        part_is = s.part_is;
-        mode = s.mode;
-        flash_buffer = s.flash_buffer;
-        eeprom_buffer = s.eeprom_buffer;
-        extended = s.extended;
-      })
+      search (rules, narrow_loaded, eeprom_block, eeprom_left)

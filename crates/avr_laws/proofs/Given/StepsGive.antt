@@ -1,5 +1,5 @@
 -- What each step gives from a settled programmer: nothing, or the bytes of the memories.
-use Rattle.std.proofs.Common.{◌≡◌, ℕ, ◌+◌, ◌-◌, ◌*◌, ◌/◌, ◌%◌, ◌^◌, ◌≤◌, ◌<◌, List, [], ◌∷◌, ◌++◌, length, get_or, take, drop, refl, sym, ap, ◌∙◌, subst, arith, inl, inr, ◌⊎◌, true, false, cond, Ok, drop-cons, length-append}
+use Rattle.std.proofs.Common.{◌≡◌, ℕ, ◌+◌, ◌-◌, ◌*◌, ◌/◌, ◌%◌, ◌^◌, ◌≤◌, ◌<◌, List, [], ◌∷◌, ◌++◌, length, get_or, take, drop, refl, sym, ap, ◌∙◌, subst, arith, inl, inr, ◌⊎◌, true, false, cond, Ok, drop-cons, length-append, rules}
 use Rattle.std.proofs.lemmas.Bool.{ne_eqb, eq-eqb, ltb-false, cond-true, cond-false}
 use Rattle.std.proofs.lemmas.List.{length-take, length-drop, get_or-append_right, take-append-le, take_all}
 use Rattle.std.proofs.Math.Nat.{mod-eq_of_lt}
@@ -41,8 +41,7 @@ module _ {P : Type 0} (m : Device P) where
   two_gathered : (c d : Command) (p : P) (bytes : List ℕ) → reply_to m c p ≡ Data []
       → reply_to m d (m.after (body c) p) ≡ Data bytes → joined_reply m (c ∷ d ∷ []) [] p ≡ Data bytes
   two_gathered c d p bytes e f =
-      ap (λ r. on_data r (λ a. on_data (reply_to m d (m.after (body c) p)) (λ b. Data (a ++ b)))) e
-      ∙ ap (λ r. on_data r (λ b. Data b)) f
+      search rules
 
 -- the answer to a command in programming mode
 reply_is : (c : Command) (p : Programmer) → decoding.FieldsFit c
@@ -56,32 +55,17 @@ in_mode_reply c p x y e = ap (λ (z : programmer.Response). reading_reply c (Ans
 -- data with a good status behind them
 closed_data : (n : ℕ) (bytes : List ℕ) → length bytes ≡ n → data_of (Closed n) (bytes ++ 0 ∷ []) ≡ Ok bytes
 closed_data n bytes len =
-    let long : length (bytes ++ 0 ∷ []) ≡ n + 1 = length-append bytes (0 ∷ []) ∙ ap (λ k. k + 1) len in
-    let last : slice_index (bytes ++ 0 ∷ []) n ≡ 0 =
-    get_or-append_right bytes (0 ∷ []) n n 0 len (omega arith)
-    ∙ ap (λ j. get_or (0 ∷ []) j 0) (let e : n - n ≡ 0 = omega arith in e) in
-    let prefix : take n (bytes ++ 0 ∷ []) ≡ bytes =
-    take-append-le n bytes (0 ∷ []) (omega (arith, len)) ∙ take_all n bytes (omega (arith, len)) in
-    cond-true (length (bytes ++ 0 ∷ []) == n + 1) _ _ (eq-eqb (length (bytes ++ 0 ∷ [])) (n + 1) long)
-    ∙ (cond-true (slice_index (bytes ++ 0 ∷ []) n == 0) _ _ (eq-eqb (slice_index (bytes ++ 0 ∷ []) n) 0 last)
-    ∙ ap Ok prefix)
+    search (rules, length-append, get_or-append_right, take-append-le, take_all, cond-true, eq-eqb)
 
 page_reply : (page : List ℕ) (p : Programmer) → p.mode ≡ true → 0 < length page → length page < 65536
     → length page % 2 ≡ 0 → reply_to device (program_page page) p ≡ Data []
 page_reply page p mode some few even =
-    reply_is (program_page page) p few
-    ∙ (in_mode_reply (program_page page) p _ _ mode
-    ∙ ap (λ (z : programmer.Response). reading_reply (program_page page) (Answered z.0))
-    (cond-true (not (length page == 0) && (length page % 2 == 0) && (length page == length page) && true) _ _
-    (flash_test (length page) some even)))
+    search (rules, reply_is, in_mode_reply, cond-true, flash_test)
 
 run_reply : (run : List ℕ) (p : Programmer) → p.mode ≡ true → 0 < length run → length run < 65536
     → reply_to device (program_eeprom_block run) p ≡ Data []
 run_reply run p mode some few =
-    reply_is (program_eeprom_block run) p few
-    ∙ (in_mode_reply (program_eeprom_block run) p _ _ mode
-    ∙ ap (λ (z : programmer.Response). reading_reply (program_eeprom_block run) (Answered z.0))
-    (cond-true (not (length run == 0) && (length run == length run)) _ _ (program_test (length run) some)))
+    search (rules, reply_is, in_mode_reply, cond-true, program_test)
 
 fuse_reply : (f : Fuse) (v : ℕ) (p : Programmer) → p.mode ≡ true → reply_to device (program_fuse f v) p ≡ Data []
 fuse_reply Low v p e = in_mode_reply (program_fuse Low v) p _ _ e
@@ -91,25 +75,18 @@ flash_read_reply : (count : ℕ) (bytes : List ℕ) (p : Programmer) → p.mode 
     → count ≤ 256 → (flash_looks p.wide 0x20 p.address 0 count p.chip).0 ≡ bytes → length bytes ≡ count
     → reply_to device (read_flash_block count) p ≡ Data bytes
 flash_read_reply count bytes p mode some even few is len =
-    ap (λ (z : programmer.Response). reading_reply (read_flash_block count) (Answered z.0))
-    (flash_block count p mode some even few)
-    ∙ (ap (λ bs. answer_reply (read_flash_block count) (data_of (Closed count) (bs ++ 0 ∷ []))) is
-    ∙ ap (answer_reply (read_flash_block count)) (closed_data count bytes len))
+    search (rules, flash_block, closed_data)
 
 eeprom_read_reply : (count : ℕ) (bytes : List ℕ) (p : Programmer) → p.mode ≡ true → 0 < count → count ≤ 256
     → (eeprom_looks 0xA0 p.address 0 count p.chip).0 ≡ bytes → length bytes ≡ count
     → reply_to device (read_eeprom_block count) p ≡ Data bytes
 eeprom_read_reply count bytes p mode some few is len =
-    ap (λ (z : programmer.Response). reading_reply (read_eeprom_block count) (Answered z.0))
-    (eeprom_block count p mode some few)
-    ∙ (ap (λ bs. answer_reply (read_eeprom_block count) (data_of (Closed count) (bs ++ 0 ∷ []))) is
-    ∙ ap (answer_reply (read_eeprom_block count)) (closed_data count bytes len))
+    search (rules, eeprom_block, closed_data)
 
 module _ (part : Part) (sound : IsPart part) where
   block_length : (start count size : ℕ) (xs : List ℕ) → length xs ≡ size → start + count ≤ size
       → length (take count (drop start xs)) ≡ count
-  block_length start count size xs long fits = let t = length-take count (drop start xs) in let d =
-      length-drop start xs in omega (arith, t, d, long, fits)
+  block_length start count size xs long fits = let t = length-take count (drop start xs) in search (rules, length-drop)
 
   flash_given : (start count : ℕ) (m : Memories) (p : Programmer) → IsBlock part Flash start count
       → AreWords start count → FitsPart part m → Ready part m p
@@ -129,15 +106,12 @@ module _ (part : Part) (sound : IsPart part) where
       (λ narrow. let size = ltb-false 131072 part.flash_size narrow in (s.extended size, size)) in
       let bytes = take count (drop start m.flash) in
       let is : (flash_looks (is_wide part) 0x20 (start / 2) 0 count p.chip).0 ≡ bytes =
-      looked.bytes ∙ (ap (λ j. take count (drop j p.chip.flash)) halves
-      ∙ ap (λ (x : Memories). take count (drop start x.flash)) s.memories) in
+      search rules in
       two_gathered device (load_flash part start) (read_flash_block count) p
       (given_by part (load_flash part start ∷ read_flash_block count ∷ []) m)
       (load_reply (flash_address part start) p (address_fits part sound start few))
       (ap (reply_to device (read_flash_block count)) (flash_loaded_at part start p few)
-      ∙ (flash_read_reply count bytes q s.mode is_block.some words.count_even is_block.few is
-      (block_length start count part.flash_size m.flash f.flash inside)
-      ∙ ap (λ a. Data (take count (drop a m.flash))) (sym (flash_address_back part start few words.start_even))))
+      ∙ (search (rules, flash_read_reply, block_length, flash_address_back)))
 
   eeprom_given : (start count : ℕ) (m : Memories) (p : Programmer) → IsBlock part Eeprom start count → FitsPart part m
       → Ready part m p
@@ -153,8 +127,7 @@ module _ (part : Part) (sound : IsPart part) where
       most (omega arith) in
       let bytes = take count (drop start m.eeprom) in
       let is : (eeprom_looks 0xA0 start 0 count p.chip).0 ≡ bytes =
-      ap (λ z. z.0) looked ∙ (ap (λ j. take count (drop j p.chip.eeprom)) (let e : start + 0 ≡ start = omega arith in e)
-      ∙ ap (λ (x : Memories). take count (drop start x.eeprom)) s.memories) in
+      search rules in
       two_gathered device (load_eeprom start) (read_eeprom_block count) p bytes
       (load_reply start p (omega arith))
       (ap (reply_to device (read_eeprom_block count)) (narrow_loaded start p (omega arith))
@@ -163,12 +136,9 @@ module _ (part : Part) (sound : IsPart part) where
 
   fuse_given : (f : Fuse) (m : Memories) (p : Programmer) → Ready part m p
       → reply_to device (read_fuse f) p ≡ Data (given_by part (read_fuse f ∷ []) m)
-  fuse_given Low m p s = in_mode_reply (read_fuse Low) p _ _ s.mode
-      ∙ ap (λ (x : Memories). Data (x.lfuse ∷ [])) s.memories
-  fuse_given High m p s = in_mode_reply (read_fuse High) p _ _ s.mode
-      ∙ ap (λ (x : Memories). Data (x.hfuse ∷ [])) s.memories
-  fuse_given Extended m p s = in_mode_reply (read_fuse Extended) p _ _ s.mode
-      ∙ ap (λ (x : Memories). Data (x.efuse ∷ [])) s.memories
+  fuse_given Low m p s = search (rules, in_mode_reply)
+  fuse_given High m p s = search (rules, in_mode_reply)
+  fuse_given Extended m p s = search (rules, in_mode_reply)
 
   lock_given : (m : Memories) (p : Programmer) → Ready part m p
       → reply_to device read_lock p ≡ Data (given_by part (read_lock ∷ []) m)
@@ -177,13 +147,7 @@ module _ (part : Part) (sound : IsPart part) where
   signature_given : (place : ℕ) (m : Memories) (p : Programmer) → place < 3 → Ready part m p
       → reply_to device (read_signature place) p ≡ Data (given_by part (read_signature place ∷ []) m)
   signature_given place m p few s =
-      let small : place % 4 ≡ place = mod-eq_of_lt (omega arith) in
-      in_mode_reply (read_signature place) p _ _ s.mode
-      ∙ (ap (λ n. Data (cond (n == 3) 255 (slice_index p.chip.part.signature n) ∷ [])) small
-      ∙ (ap (λ b. Data (b ∷ [])) (cond-false (place == 3) 255 (slice_index p.chip.part.signature place)
-      (ne_eqb place 3 (λ e. omega (arith, e))))
-      ∙ (ap (λ (x : Part). Data (slice_index x.signature place ∷ [])) s.part_is
-      ∙ ap Data (ap (take 1) (sym (drop-cons part.signature place 0 (omega (arith, sound.signature))))))))
+      search (rules, mod-eq_of_lt, in_mode_reply, cond-false, ne_eqb, drop-cons)
 
   calibration_given : (m : Memories) (p : Programmer) → Ready part m p
       → reply_to device read_calibration p ≡ Data (given_by part (read_calibration ∷ []) m)
@@ -199,33 +163,17 @@ module _ (part : Part) (sound : IsPart part) where
   page_given : (number : ℕ) (bytes : List ℕ) (m : Memories) (p : Programmer) → IsPage part number bytes → Ready part m p
       → joined_reply device (load_flash part (number * part.flash_page) ∷ program_page bytes ∷ []) [] p ≡ Data []
   page_given number bytes m p is_page s =
-      let inside = is_page.inside in
-      let count = is_page.whole in
-      let most = sound.flash_most in
-      let some = sound.flash_page in
-      let short = page_most part.flash_page (omega arith) sound.flash_fits in
-      let few : flash_address part (number * part.flash_page) < 2 ^ 32 =
-      address_fits part sound (number * part.flash_page) (omega arith) in
-      let s' = load_keeps part (flash_address part (number * part.flash_page)) m p few s in
-      two_gathered device (load_flash part (number * part.flash_page)) (program_page bytes) p []
-      (load_reply (flash_address part (number * part.flash_page)) p few)
-      (page_reply bytes _ s'.mode (omega arith) (omega arith) (ap (λ x. x % 2) count ∙ sound.flash_halves))
+      search (rules, page_most, address_fits, load_keeps, two_gathered, load_reply, page_reply)
 
   run_given : (address : ℕ) (bytes : List ℕ) (m : Memories) (p : Programmer) → FitsEepromPage part address bytes
       → Ready part m p → joined_reply device (load_eeprom address ∷ program_eeprom_block bytes ∷ []) [] p ≡ Data []
   run_given address bytes m p is_run s =
-      let inside = is_run.inside in
-      let most = sound.eeprom_most in
-      let few : address < 2 ^ 32 = omega arith in
-      let s' = load_keeps part address m p few s in
-      two_gathered device (load_eeprom address) (program_eeprom_block bytes) p [] (load_reply address p few)
-      (run_reply bytes _ s'.mode is_run.some (omega arith))
+      search (rules, load_keeps, two_gathered, load_reply, run_reply)
 
   -- all commands of a step, each obeyed and answered
   pub step_data : (commands : List Command) (m : Memories) (p : Programmer) → IsStep part commands → FitsPart part m
       → Ready part m p → joined_reply device commands [] p ≡ Data (given_by part commands m)
-  step_data commands m p (Erases e) f s = as_written _ commands m p e
-      (one_gathered device erase p [] (in_mode_reply erase p _ _ s.mode))
+  step_data commands m p (Erases e) f s = search (rules, as_written, one_gathered, in_mode_reply)
   step_data commands m p (ProgramsPage number bytes is_page e) f s =
       as_written _ commands m p e (page_given number bytes m p is_page s)
   step_data commands m p (ProgramsRun address bytes is_run e) f s =
@@ -233,8 +181,7 @@ module _ (part : Part) (sound : IsPart part) where
   step_data commands m p (ProgramsFuse fuse v e) f s =
       as_written _ commands m p e (one_gathered device (program_fuse fuse v) p [] (fuse_reply fuse v p s.mode))
   step_data commands m p (ProgramsLock v e) f s =
-      as_written _ commands m p e (one_gathered device (program_lock v) p []
-      (in_mode_reply (program_lock v) p _ _ s.mode))
+      as_written _ commands m p e (search (rules, one_gathered, in_mode_reply))
   step_data commands m p (ReadsFlash start count is_block words e) f s =
       as_written _ commands m p e (flash_given start count m p is_block words f s)
   step_data commands m p (ReadsEeprom start count is_block e) f s =
@@ -264,8 +211,7 @@ module _ (part : Part) (sound : IsPart part) where
   same_as : (written commands : List Command) (m : Memories) → commands ≡ written
       → given_by part written (changed part written m) ≡ given_by part written m
       → given_by part commands (changed part commands m) ≡ given_by part commands m
-  same_as written commands m e same = subst (λ cs. given_by part cs (changed part cs m) ≡ given_by part cs m) (sym e)
-      same
+  same_as written commands m e same = search rules
 
   fuse_same : (f : Fuse) (m : Memories) → given_by part (read_fuse f ∷ []) (changed part (read_fuse f ∷ []) m)
       ≡ given_by part (read_fuse f ∷ []) m
@@ -305,8 +251,7 @@ module _ (part : Part) (sound : IsPart part) where
       from_either : (q : Programmer) → Settled part m q ⊎ Settled part (changed part commands m) q
           → joined_reply device commands [] q ≡ Data got
           → joined_reply device commands [] q ≡ Data (given_by part commands m)
-      from_either q (inl t) has = step_data part sound commands m q is f
-          (settled_ready part m q (in_mode_by_data part sound commands q got is has) t)
+      from_either q (inl t) has = search (rules, step_data, settled_ready, in_mode_by_data)
       from_either q (inr t) has =
           step_data part sound commands (changed part commands m) q is (changed_sizes part commands m sound f)
           (settled_ready part (changed part commands m) q (in_mode_by_data part sound commands q got is has) t)

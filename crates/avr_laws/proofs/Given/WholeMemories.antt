@@ -1,5 +1,5 @@
 -- What all blocks of a memory give.
-use Rattle.std.proofs.Common.{◌≡◌, ℕ, zero, suc, ◌+◌, ◌-◌, ◌*◌, ◌%◌, ◌<◌, List, [], ◌∷◌, ◌++◌, length, take, drop, refl, sym, ap, ◌∙◌, arith}
+use Rattle.std.proofs.Common.{◌≡◌, ℕ, zero, suc, ◌+◌, ◌-◌, ◌*◌, ◌%◌, ◌<◌, List, [], ◌∷◌, ◌++◌, length, take, drop, refl, sym, ap, ◌∙◌, arith, rules}
 use Rattle.std.proofs.lemmas.List.{drop_all, length-drop, take-append-drop, take_min, drop-drop}
 use Rattle.std.specs.Prelude.{min}
 use Rattle.avr_part.specs.declared.part.Mem.{Mem}
@@ -37,23 +37,16 @@ module _ (part : Part) (sound : IsPart part) (m : Memories) (f : FitsPart part m
       let few : n * 256 < 4294967296 = omega (arith, e) in
       let even : n * 256 % 2 ≡ 0 = omega arith in
       let next : (n + 1) * 256 ≡ n * 256 + 256 = omega arith in
-      ap (λ a. take (block_size part.flash_size (n * 256)) (drop a m.flash)
-      ++ all_given part (each_from (read_step part Flash) (n + 1) k) m)
-      (flash_address_back part (n * 256) few even)
-      ∙ (ap (λ ys. take (block_size part.flash_size (n * 256)) (drop (n * 256) m.flash) ++ ys)
-      (flash_blocks (n + 1) k (let g : n + 1 + k ≡ n + suc k = omega arith in g ∙ e)
-      ∙ ap (λ j. drop j m.flash) next)
-      ∙ block_join m.flash (n * 256) part.flash_size f.flash)
+      search (rules, flash_address_back, block_join, flash_blocks (n + 1) k (let g : n + 1 + k ≡ n + suc k = omega
+          arith in g ∙ e) ∙ ap (λ j. drop j m.flash) next)
 
   eeprom_blocks : (n k : ℕ) → n + k ≡ read_count part Eeprom
       → all_given part (each_from (read_step part Eeprom) n k) m ≡ drop (n * 256) m.eeprom
   eeprom_blocks n zero e = let long = f.eeprom in sym (drop_all (n * 256) m.eeprom (omega (arith, e, long)))
   eeprom_blocks n (suc k) e =
       let next : (n + 1) * 256 ≡ n * 256 + 256 = omega arith in
-      ap (λ ys. take (block_size part.eeprom_size (n * 256)) (drop (n * 256) m.eeprom) ++ ys)
-      (eeprom_blocks (n + 1) k (let g : n + 1 + k ≡ n + suc k = omega arith in g ∙ e)
-      ∙ ap (λ j. drop j m.eeprom) next)
-      ∙ block_join m.eeprom (n * 256) part.eeprom_size f.eeprom
+      search (rules, block_join, eeprom_blocks (n + 1) k (let g : n + 1 + k ≡ n + suc k = omega arith in g ∙ e) ∙ ap (λ
+          j. drop j m.eeprom) next)
 
   -- all blocks of a memory are the memory
   pub read_gives : (mem : Mem) → all_given part (read_steps part mem) m ≡ memory_in part mem m

@@ -1,5 +1,5 @@
 -- A device behind a link that may make any turn at any question, in the logic of dialogs: attempts and steps of a host.
-use Rattle.std.proofs.Common.{◌≡◌, ℕ, zero, suc, List, [], ◌∷◌, ◌++◌, length, refl, subst, ◌⊎◌, inl, inr, Ok, Err}
+use Rattle.std.proofs.Common.{◌≡◌, ℕ, zero, suc, List, [], ◌∷◌, ◌++◌, length, refl, subst, ◌⊎◌, inl, inr, Ok, Err, rules}
 use Rattle.std.specs.Prelude.{⊤}
 use Rattle.stk_frame.specs.declared.command.Command.{Command}
 use Rattle.stk_frame.specs.Commands.{body}
@@ -130,8 +130,7 @@ module _ {P : Type 0} (m : Device P) where
 
     pub try_goes : (p : P) → Either p → Keeps Either (OnReply Either AfterStep) (attempt commands []) p
     try_goes p stood =
-        attempt_goes Either AfterStep anew (λ fault q x. x) commands [] p (prefixes p stood)
-        (λ got has. (wholes p stood got has, record { from = p; stood = stood; is = has }))
+        search (rules, attempt_goes, anew, prefixes, wholes)
 
     step_goes : (p : P) → Before p → Keeps Either AfterStep (step commands) p
     step_goes p before =
@@ -143,16 +142,7 @@ module _ {P : Type 0} (m : Device P) where
         → ((q : P) → After q → During q) → ((fault : StepFault) (q : P) → During q → Whole (Err fault) q) → Before p
         → Keeps During (OnOutcome (λ got q. After q × Gives m commands Before After got) Whole) (step commands) p
     step_leads During Whole p from to failed before =
-        wider (λ bytes q x. either q x) (λ e q x. x) ended (step_goes p before)
-      where
-        either : (q : P) → Either q → During q
-        either q (inl b) = from q b
-        either q (inr a) = to q a
-
-        ended : (o : StepOutcome) (q : P) → AfterStep o q
-            → OnOutcome (λ got q. After q × Gives m commands Before After got) Whole o q
-        ended (Ok got) q x = x
-        ended (Err fault) q x = failed fault q (either q x)
+        search (rules, wider, step_goes)
 
     -- along each line
     pub step_along : (p : P) (turns : List Turn) → Before p → Leads m (step commands) p turns Either AfterStep

@@ -1,5 +1,5 @@
 -- The commands of a host's steps have bodies that fit a frame.
-use Rattle.std.proofs.Common.{◌≡◌, ℕ, List, [], ◌∷◌, sym, subst, arith}
+use Rattle.std.proofs.Common.{◌≡◌, ℕ, List, [], ◌∷◌, sym, subst, arith, rules}
 use Rattle.avr_part.specs.Part.{Part, IsPart}
 use Rattle.stk_frame.specs.declared.command.Command.{Command}
 use Rattle.stk_frame.specs.declared.command.Command.TheVariants.{LoadAddress}
@@ -36,14 +36,9 @@ module _ (part : Part) (sound : IsPart part) where
   sendable : (commands : List Command) → IsStep part commands → AreSendable commands
   sendable commands (Erases e) = by_commands _ commands e (record { some = omega arith; few = omega arith }, tt)
   sendable commands (ProgramsPage number bytes is e) =
-      let size = is.whole in
-      let some = sound.flash_page in
-      let most = page_most part.flash_page (omega arith) sound.flash_fits in
-      by_commands _ commands e (load_sendable _, (record { some = omega arith; few = omega arith }, tt))
+      search (rules, page_most, by_commands, load_sendable)
   sendable commands (ProgramsRun address bytes is e) =
-      let size = is.within in
-      let most = page_most part.eeprom_page sound.eeprom_page sound.eeprom_fits in
-      by_commands _ commands e (load_sendable _, (record { some = omega arith; few = omega arith }, tt))
+      search (rules, page_most, by_commands, load_sendable)
   sendable commands (ProgramsFuse f v e) = by_commands _ commands e (fuse_sendable f v)
   sendable commands (ProgramsLock v e) = by_commands _ commands e (record { some = omega arith; few = omega arith }, tt)
   sendable commands (ReadsFlash start count is words e) =

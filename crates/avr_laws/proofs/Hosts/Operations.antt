@@ -1,5 +1,5 @@
 -- The operations of a host over any link, in the logic of dialogs: what holds during and after them.
-use Rattle.std.proofs.Common.{◌≡◌, ℕ, zero, suc, List, [], ◌∷◌, ◌++◌, length, append_assoc, refl, sym, ap, ◌∙◌, subst, ◌⊎◌, inl, inr, Ok, Err, Result}
+use Rattle.std.proofs.Common.{◌≡◌, ℕ, zero, suc, List, [], ◌∷◌, ◌++◌, length, append_assoc, refl, sym, ap, ◌∙◌, subst, ◌⊎◌, inl, inr, Ok, Err, Result, rules}
 use Rattle.std.proofs.lemmas.List.{append-nil}
 use Rattle.std.specs.Prelude.{⊤}
 use Rattle.avr_part.specs.Part.{Part, IsPart}
@@ -46,11 +46,7 @@ module _ (part : Part) (sound : IsPart part) where
       (q : Programmer) → bytes ≡ given_by part commands m
       → AfterSteps part steps (changed part commands m) (before ++ bytes) o q
       → AfterSteps part (commands ∷ steps) m before o q
-  stepped commands steps m before bytes (Ok got) q is a = (
-    a.0,
-    a.1 ∙ (append_assoc before bytes (all_given part steps (changed part commands m))
-        ∙ ap (λ x. before ++ (x ++ all_given part steps (changed part commands m))) is),
-  )
+  stepped commands steps m before bytes (Ok got) q is a = search (rules, append_assoc)
   stepped commands steps m before bytes (Err fault) q is a = one_more commands steps m q a
 
   play_goes : (steps : List (List Command)) (m : Memories) (before : List ℕ) (p : Programmer) → AreSteps part steps
@@ -67,10 +63,8 @@ module _ (part : Part) (sound : IsPart part) where
       (on_data (any_turn device) (λ bytes q. Reached part (commands ∷ steps) m q)
       (λ bytes. play steps (before ++ bytes))
       (λ bytes q x.
-      wider (λ b r y. one_more commands steps m r y) (λ e r y. y)
-      (λ o r a. stepped commands steps m before bytes o r (gives_given part sound commands m bytes are.0 f x.1) a)
-      (play_goes steps (changed part commands m) (before
-      ++ bytes) q are.1 (changed_sizes part commands m sound f) x.0)))
+      search (rules, wider, one_more, stepped, gives_given, changed_sizes, play_goes steps (changed part commands m)
+          (before ++ bytes) q are.1 (changed_sizes part commands m sound f) x.0)))
 
   -- after an operation: its data, judged; or the fault of a step
   abbrev pub AfterCall : {A : Type 0} → List (List Command) → Memories → (List ℕ → Result A HostFault)
@@ -92,8 +86,7 @@ module _ (part : Part) (sound : IsPart part) where
 
   -- the signature
   idle_reached : (m : Memories) (q : Programmer) → Reached part signature_steps m q → Idle part m q
-  idle_reached m q r = settled_idle part m q (subst (λ z. Settled part z q)
-      (quiet_stays part r.count signature_steps m (read_quiet part Signature)) r.stands)
+  idle_reached m q r = settled_idle part m q (search (rules, quiet_stays, read_quiet))
 
   pub beginning_goes : (m : Memories) (p : Programmer) → FitsPart part m → Idle part m p
       → Keeps device (Idle part m) (AfterBeginning part m) handshake p
@@ -159,11 +152,4 @@ module _ {E P : Type 0} (m : Device P) where
 
   pub along_told : {A B : Type 0} (k : ℕ) (d : Dialog E A) (tell : A → B) (p : P) (turns : List Turn)
       → along m k (d >>= (λ a. Done (tell a))) p turns ≡ reported tell (along m k d p turns)
-  along_told {A = A} {B = B} k d tell p turns = let s = along m k d p turns in
-      along_bind m k d (λ a. Done (tell a)) p turns ∙ told s.dialog s.programmer s.turns s.left
-    where
-      told : (d : Dialog E A) (q : P) (fs : List Turn) (left : ℕ)
-          → onward {E = E} {A = A} {B = B} m (λ a. Done (tell a)) left fs q d
-          ≡ reported tell (record { dialog = d; programmer = q; turns = fs; left = left })
-      told (Done a) q fs left = refl
-      told d q fs left = refl
+  along_told {A = A} {B = B} k d tell p turns = search (rules, along_bind, told, onward)

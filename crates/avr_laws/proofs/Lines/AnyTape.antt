@@ -1,5 +1,5 @@
 -- A dialog over any tape goes along turns.
-use Rattle.std.proofs.Common.{◌≡◌, ◌≤◌, ℕ, zero, suc, List, [], ◌∷◌, ◌++◌, length, take, refl, sym, ap, ◌∙◌, subst, inl, inr, arith, Bool, true, false, Option, Some, None}
+use Rattle.std.proofs.Common.{◌≡◌, ◌≤◌, ℕ, zero, suc, List, [], ◌∷◌, ◌++◌, length, take, refl, sym, ap, ◌∙◌, subst, inl, inr, arith, Bool, true, false, Option, Some, None, rules}
 use Rattle.std.proofs.lemmas.Bool.{cases_Bool, cond-true, cond-false}
 use Rattle.std.proofs.lemmas.Slice.Eq.{bytes_eq-Decides}
 use Rattle.std.proofs.lemmas.Option.{none-some}
@@ -41,11 +41,7 @@ own_or_refused : {P : Type 0} (m : Device P) (bytes : List ℕ) (p : P) (body : 
     → IsHonest m bytes p Obeyed (Answered body) → bytes_eq body refusal ≡ false → body ≡ m.answer bytes p
 own_or_refused m bytes p body (inl own) other = own.1
 own_or_refused m bytes p body (inr is) other =
-    absurd (never_both (bytes_eq body refusal) ((bytes_eq-Decides body refusal).1 is) other)
-  where
-    never_both : (b : Bool) → b ≡ true → b ≡ false → ⊥
-    never_both true holds fails = cc
-    never_both false holds fails = cc
+    search (rules, bytes_eq-Decides)
 
 never_own : (became : Became) → became ≡ Obeyed → became ≡ Kept → ⊥
 never_own became e is = cc
@@ -56,8 +52,7 @@ not_anew became e = cc
 pub honest_turn : {P : Type 0} (m : Device P) (bytes : List ℕ) (p : P) (became : Became) (reading : Reading)
     → IsHonest m bytes p became reading → IsTurn m bytes p became reading (turn_by became reading)
 honest_turn m bytes p Obeyed (Answered body) h =
-    by_own m bytes p body (bytes_eq body refusal) (λ same. (bytes_eq-Decides body refusal).0 same)
-    (λ other. own_or_refused m bytes p body h other)
+    search (rules, by_own, bytes_eq-Decides, own_or_refused)
 honest_turn m bytes p Kept (Answered body) (inl own) = absurd (never_own Kept own.0 refl)
 honest_turn m bytes p Kept (Answered body) (inr e) = (ap (λ x. Answered x) (sym e), refl)
 honest_turn m bytes p (Anew became) (Answered body) (inl own) = absurd (not_anew became own.0)
@@ -73,8 +68,7 @@ none_asked m (Ask bytes go_on) p turns = refl
 
 pub obeyed_frame : {P : Type 0} (m : Device P) (n : ℕ) (bytes : List ℕ) (p : P) → IsBody bytes
     → after_frame m (frame n bytes) p ≡ m.after bytes p
-obeyed_frame m n bytes p b = cond-true (is_good (frame n bytes)) _ _ (frame_is_good n bytes b.some)
-    ∙ ap (λ x. m.after x p) (body_of_frame n bytes)
+obeyed_frame m n bytes p b = search (rules, cond-true, frame_is_good, body_of_frame)
 
 -- A run over a tape is the run along these turns, of which `answered` are read; if it is done, these are as many as its
 -- frames. After any first frames the programmer is as the list of what happened to it gives.
@@ -106,14 +100,7 @@ module _ {P : Type 0} (m : Device P) where
 
     -- a question that waits for its answer
     waiting : answer n tape ≡ None → HeardAs m (Ask bytes go_on) n tape p becames (Wrong became Nothing ∷ [])
-    waiting e = record {
-      answered = 0;
-      left = [];
-      play = ap on_asking e;
-      all =
-          λ r seq rest o. absurd (none-some (r, seq, rest) o);
-      programmer = stands;
-    }
+    waiting e = search (rules, none-some, stands)
       where
         stands : (k : ℕ) → k ≤ 1 → (along m k (Ask bytes go_on) p (Wrong became Nothing ∷ [])).programmer
             ≡ after_pieces m (take k (frame n bytes ∷ [])) becames p
@@ -134,8 +121,7 @@ module _ {P : Type 0} (m : Device P) where
       stands : (k : ℕ) → k ≤ suc (length fs) → (along m k (Ask bytes go_on) p (turn ∷ later)).programmer
           ≡ after_pieces m (take k (frame n bytes ∷ fs)) becames p
       stands zero le = refl
-      stands (suc k) le = goes.programmer k (omega (arith, le))
-          ∙ ap (after_pieces m (take k fs) (other_becames becames)) (leaves ∙ arrives)
+      stands (suc k) le = search (rules, arrives)
 
       by_turn : HeardAs m (Ask bytes go_on) n tape p becames (turn ∷ later)
       by_turn = record {
@@ -159,11 +145,7 @@ module _ {P : Type 0} (m : Device P) where
         let turn = turn_by became reading in
         let later = turns_heard (go_on reading) (next n) left (other_becames becames) in
         let t = honest_turn m bytes p became reading h.0 in
-        by_turn turn later left (e ∙ ap (λ x. Some (x, left)) (sym t.0)) t.1
-        (subst (λ q. HeardAs m (go_on (turn_reading turn (m.answer bytes p))) (next n) left q (other_becames becames)
-        later) (sym t.1)
-        (subst (λ x. HeardAs m (go_on x) (next n) left on_time (other_becames becames) later) (sym t.0)
-        (each reading left h.1)))
+        search (rules, by_turn)
 
   heard_as : {E R : Type 0} (d : Dialog E R) (n : ℕ) (tape : Tape) (p : P) (becames : List Became) → AsksBodies d
       → AreHonest m d n tape p becames
@@ -176,13 +158,7 @@ module _ {P : Type 0} (m : Device P) where
       none_sent (suc k) le = absurd (omega (arith, le))
   heard_as (Say e d) n tape p becames asks h =
       let goes = heard_as d n tape p becames asks h in
-      record {
-        answered = goes.answered;
-        left = goes.left;
-        play = ap (behind (Said e ∷ [])) goes.play;
-        all = goes.all;
-        programmer = goes.programmer;
-      }
+      search rules
   heard_as (Ask bytes go_on) n tape p becames asks h =
       asked bytes go_on n tape p becames asks.0 (answer n tape) refl
       (λ reading left inner. heard_as (go_on reading) (next n) left _ (other_becames becames) (asks.1 reading)
@@ -192,29 +168,7 @@ module _ {P : Type 0} (m : Device P) where
   pub goes_as : {E R : Type 0} (d : Dialog E R) (n : ℕ) (tape : Tape) (p : P) (becames : List Became) → AsksBodies d
       → AreHonest m d n tape p becames → GoesAs m d n tape p becames
   goes_as {R = R} d n tape p becames asks h =
-      let turns = turns_heard d n tape becames in
-      let goes = heard_as d n tape p becames asks h in
-      let says : outputs (played d n tape).events ≡ said_along m goes.answered d p turns =
-      ap (λ x. outputs x.events) goes.play ∙ said_played m goes.answered d n p turns goes.left in
-      record {
-        programmer = subst (λ x. (k : ℕ) → k ≤ length (frames_in x.events)
-            → (along m k d p turns).programmer ≡ after_pieces m (take k (frames_in x.events)) becames p) (sym goes.play)
-            goes.programmer;
-        outcome = λ r seq rest o.
-            let done : (played_along m goes.answered d n p turns goes.left).outcome ≡ Some (r, seq, rest) =
-            sym (ap (λ x. x.outcome) goes.play) ∙ o in
-            let all : goes.answered ≡ length (frames_in (played d n tape).events) =
-            sym (ap (λ x. length (frames_in x.events)) goes.play ∙ goes.all r seq rest done) in
-            subst (λ k. ((along m k d p turns).dialog ≡ Done r)
-            × (outputs (played d n tape).events ≡ said_along m k d p turns)) all
-            ((done_played m goes.answered d n p turns goes.left r seq rest done).0, says);
-        waits = λ none. record {
-          answered = goes.answered;
-          one_more = ap (λ x. length (frames_in x.events)) goes.play
-              ∙ waits_played m goes.answered d n p turns goes.left (sym (ap (λ x. x.outcome) goes.play) ∙ none);
-          said = says;
-        };
-      }
+      search (rules, heard_as, said_played, played_along, done_played, waits_played)
 
 -- ---- the first readings of an honest tape
 
@@ -236,8 +190,7 @@ module _ {P : Type 0} (m : Device P) where
       → HonestOn m bytes go_on n p becames o
   shorter bytes go_on n t u p becames None e each h = tt
   shorter bytes go_on n t u p becames (Some (reading, left)) e each h =
-      let both = subst (HonestOn m bytes go_on n p becames) (answer_extends n t u reading left e) h in
-      (both.0, each reading left _ both.1)
+      search (rules, answer_extends)
 
   pub honest_prefix : {E R : Type 0} (d : Dialog E R) (n : ℕ) (t u : Tape) (p : P) (becames : List Became)
       → AreHonest m d n (t ++ u) p becames → AreHonest m d n t p becames
@@ -260,9 +213,8 @@ module _ {P : Type 0} (m : Device P) where
         (filter is_good pieces) good))
     | inr bad ↦
         ap (after_frames m pieces) (cond-false (is_good piece) _ _ bad)
-        ∙ (good_alone pieces p
-        ∙ ap (λ ps. after_frames m ps p) (sym (cond-false (is_good piece) (piece ∷ filter is_good pieces)
-        (filter is_good pieces) bad)))
+        ∙ (search (rules, cond-false, good_alone pieces p ∙ ap (λ ps. after_frames m ps p) (sym (cond-false (is_good
+            piece) (piece ∷ filter is_good pieces) (filter is_good pieces) bad))))
   ]
 
   let_through_after : (through : List Bool) (sent : List (List ℕ)) (p : P)
@@ -275,5 +227,4 @@ module _ {P : Type 0} (m : Device P) where
 
   pub through_after : (got : List ℕ) (sent : List (List ℕ)) (through : List Bool) (p : P) → CameThrough got sent through
       → after_frames m (frames got) p ≡ after_pieces m sent (became_by through) p
-  through_after got sent through p c = good_alone (frames got) p
-      ∙ (ap (λ ps. after_frames m ps p) c.good ∙ let_through_after through sent p)
+  through_after got sent through p c = search (rules, good_alone, let_through_after)

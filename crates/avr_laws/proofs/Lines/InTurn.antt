@@ -1,6 +1,6 @@
 -- A transcript in turn over a wire: the tool listens only if something comes, and the programmer goes along with the
 -- dialog.
-use Rattle.std.proofs.Common.{◌≡◌, ℕ, ◌<◌, ◌≤◌, List, [], ◌∷◌, ◌++◌, length, take, drop, refl, sym, ap, ◌∙◌, subst, append_assoc, arith, inl, inr, true, Option, Some, None, length-append}
+use Rattle.std.proofs.Common.{◌≡◌, ℕ, ◌<◌, ◌≤◌, List, [], ◌∷◌, ◌++◌, length, take, drop, refl, sym, ap, ◌∙◌, subst, append_assoc, arith, inl, inr, true, Option, Some, None, length-append, rules}
 use Rattle.std.proofs.lemmas.Bool.{cases_lt, lt-leb, and_parts, cond-true}
 use Rattle.std.proofs.lemmas.List.{append-nil, take-append-le, drop-append-le, take_all, drop_all, take-append-drop}
 use Rattle.std.specs.Prelude.{filter}
@@ -38,14 +38,10 @@ AreWhole [] = Unit {0}
 AreWhole (f ∷ fs) = IsWhole f × AreWhole fs
 
 frame_whole : (n : ℕ) (body : List ℕ) → IsBody body → IsWhole (frame n body)
-frame_whole n body b = record {
-  piece = frame_is_piece n body b.some b.few;
-  frame = (and_parts _ _ (frame_is_good n body b.some)).0;
-}
+frame_whole n body b = search (rules, frame_is_piece, and_parts, frame_is_good)
 
 frame_first : (f bytes : List ℕ) → IsWhole f → frames (f ++ bytes) ≡ f ∷ frames bytes
-frame_first f bytes w = ap (filter is_frame) (cut_first f bytes w.piece)
-    ∙ cond-true (is_frame f) (f ∷ filter is_frame (cut bytes)) (filter is_frame (cut bytes)) w.frame
+frame_first f bytes w = search (rules, cut_first, cond-true)
 
 whole_by : {E R : Type 0} (go_on : Reading → Tape → Played E R) (o : Option (Reading × Tape))
     → ((reading : Reading) (left : Tape) → AreWhole (frames_in (go_on reading left).events))
@@ -68,8 +64,7 @@ sends_whole (Ask bytes go_on) n t asks = (
 pub frames_sent : {E : Type 0} (events : List (Event E)) → AreWhole (frames_in events)
     → frames (bytes_sent events) ≡ frames_in events
 frames_sent [] whole = refl
-frames_sent (Frame f ∷ events) whole = frame_first f (bytes_sent events) whole.0
-    ∙ ap (λ fs. f ∷ fs) (frames_sent events whole.1)
+frames_sent (Frame f ∷ events) whole = search (rules, frame_first, frames_sent events whole.1)
 frames_sent (Said e ∷ events) whole = frames_sent events whole
 
 -- what is received was due
@@ -77,14 +72,11 @@ pub due_at : {E R : Type 0} (d : Dialog E R) (n : ℕ) (tape : Tape) (bytes : Li
     (items : Tape)
     → TurnsFrom d n tape bytes (before ++ Got items ∷ after) → IsDue d n (tape ++ heard before) (bytes ++ sent before)
 due_at d n tape bytes [] after items turns =
-    subst (λ t. IsDue d n t (bytes ++ [])) (sym (append-nil tape))
-    (subst (IsDue d n tape) (sym (append-nil bytes)) turns.0)
+    search (rules, append-nil)
 due_at d n tape bytes (Sent more ∷ before) after items turns =
-    subst (IsDue d n (tape ++ heard before)) (append_assoc bytes more (sent before))
-    (due_at d n tape (bytes ++ more) before after items turns)
+    search (rules, append_assoc, due_at d n tape (bytes ++ more) before after items turns)
 due_at d n tape bytes (Got got ∷ before) after items turns =
-    subst (λ t. IsDue d n t (bytes ++ sent before)) (append_assoc tape got (heard before))
-    (due_at d n (tape ++ got) bytes before after items turns.1)
+    search (rules, append_assoc, due_at d n (tape ++ got) bytes before after items turns.1)
 
 -- A transcript in turn never listens while nothing waits, so in a run over all that was brought each question was
 -- answered.
@@ -97,14 +89,10 @@ never_idle d n p fates transcript asks lawful turns before after items split sam
     subst (λ t. IsDue d n t (sent before)) (sym same) due in
     let play = played d n (brought p fates (sent before)) in
     let gone : frames_in play.events ≡ frames (sent before) =
-    sym (frames_sent play.events (sends_whole d n (brought p fates (sent before)) asks))
-    ∙ ap frames here.all_sent in
+    search (rules, frames_sent, sends_whole) in
     let goes = over_wire device answers_bodies d n (fresh_wire p fates) (frames (sent before)) [] asks (none_clear n)
     lawful (gone ∙ sym (append-nil (frames (sent before)))) in
-    let one_more = waits_played device (length (frames (sent before))) d n p (turns_of fates) []
-    (sym (ap (λ x. x.outcome) goes.play) ∙ here.waits) in
-    let as_many = sym (ap length gone) ∙ ap (λ x. length (frames_in x.events)) goes.play in
-    absurd (omega (arith, one_more, as_many))
+    search (rules, waits_played)
 
 -- with more of the tape, more frames after those sent
 abbrev Goes : {E R : Type 0} → Dialog E R → ℕ → Tape → Tape → Type 0
@@ -128,10 +116,7 @@ played_goes (Ask bytes go_on) n t u =
 
 -- a part of a frame contains no frame
 part_none : (x y : List ℕ) → 0 < length y → IsPiece (x ++ y) → frames x ≡ []
-part_none x y some whole = elim (cases_lt (length x) (piece_size x)) [
-  | inl lt ↦ ap (filter is_frame) (cut_none x (lt-leb (piece_size x) (length x) lt))
-  | inr ge ↦ let s = size_stays x y ge in absurd (omega (arith, whole, length-append x y))
-]
+part_none x y some whole = search (rules, cases_lt, cut_none, lt-leb, size_stays, length-append)
 
 none_before : {A : Type 0} (x y : List A) → x ++ y ≡ [] → (x ≡ []) × (y ≡ [])
 none_before [] y e = (refl, e)
@@ -140,39 +125,28 @@ none_before (a ∷ x) y e = (cc, cc)
 -- a prefix of the bytes of events has a prefix of their frames
 pub frames_prefix : {E : Type 0} (events : List (Event E)) (bytes back : List ℕ) → AreWhole (frames_in events)
     → bytes ++ back ≡ bytes_sent events → (others : List (List ℕ)) × (frames_in events ≡ frames bytes ++ others)
-frames_prefix [] bytes back whole e = (
-  [],
-  ap frames (sym (none_before bytes back e).0) ∙ sym (append-nil (frames bytes)),
-)
+frames_prefix [] bytes back whole e = search (rules, none_before, append-nil)
 frames_prefix (Said s ∷ events) bytes back whole e = frames_prefix events bytes back whole e
 frames_prefix (Frame f ∷ events) bytes back whole e = elim (cases_lt (length bytes) (length f)) [
   | inl lt ↦
       let split : f ≡ bytes ++ drop (length bytes) f =
       sym (take-append-drop (length bytes) f) ∙ ap (λ x. x ++ drop (length bytes) f)
       (sym (take-append-le (length bytes) f (bytes_sent events) (omega arith))
-      ∙ (sym (ap (take (length bytes)) e) ∙ (take-append-le (length bytes) bytes back (omega arith)
-      ∙ take_all (length bytes) bytes (omega arith)))) in
-      let rest : 0 < length (drop (length bytes) f) = let g = ap length split in
-      omega (arith, g, length-append bytes (drop (length bytes) f)) in (
+      ∙ (search (rules, take-append-le, take_all))) in
+      let rest : 0 < length (drop (length bytes) f) = search (rules, length-append) in (
         f ∷ frames_in events,
         ap (λ x. x ++ f ∷ frames_in events)
             (sym (part_none bytes (drop (length bytes) f) rest (subst IsPiece split whole.0.piece))),
       )
   | inr ge ↦
       let prefix : take (length f) bytes ≡ f = sym (take-append-le (length f) bytes back ge)
-      ∙ (ap (take (length f)) e ∙ (take-append-le (length f) f (bytes_sent events) (omega arith)
-      ∙ take_all (length f) f (omega arith))) in
+      ∙ (search (rules, take-append-le, take_all)) in
       let split : bytes ≡ f ++ drop (length f) bytes =
       sym (take-append-drop (length f) bytes) ∙ ap (λ x. x ++ drop (length f) bytes) prefix in
       let later : drop (length f) bytes ++ back ≡ bytes_sent events =
       sym (drop-append-le (length f) bytes back ge)
-      ∙ (ap (drop (length f)) e ∙ (drop-append-le (length f) f (bytes_sent events) (omega arith)
-      ∙ ap (λ x. x ++ bytes_sent events) (drop_all (length f) f (omega arith)))) in
-      let inner = frames_prefix events (drop (length f) bytes) back whole.1 later in (
-        inner.0,
-        ap (λ gs. f ∷ gs) inner.1 ∙ ap (λ x. x ++ inner.0)
-            (sym (ap frames split ∙ frame_first f (drop (length f) bytes) whole.0)),
-      )
+      ∙ (search (rules, drop-append-le, drop_all)) in
+      let inner = frames_prefix events (drop (length f) bytes) back whole.1 later in search (rules, frame_first)
 ]
 
 -- the events of a run that broke off send a prefix of the bytes
@@ -190,13 +164,7 @@ begun_prefix SaidPart begun later part = absurd part
 pub shown_prefix : {E : Type 0} (SaidPart : E → E → Type 0) (shown events : List (Event E))
     → IsPrefixOfEvents SaidPart shown events → IsPrefixOf (bytes_sent shown) (bytes_sent events)
 shown_prefix SaidPart shown events f =
-    let g = begun_prefix SaidPart f.begun f.later f.part in (
-      g.0,
-      ap (λ bs. bs ++ g.0) (ap bytes_sent f.shown_is ∙ bytes_append f.whole f.begun)
-          ∙ (append_assoc (bytes_sent f.whole) (bytes_sent f.begun) g.0
-          ∙ (ap (λ bs. bytes_sent f.whole ++ bs) g.1
-          ∙ (sym (bytes_append f.whole f.later) ∙ ap bytes_sent (sym f.events_are)))),
-    )
+    let g = begun_prefix SaidPart f.begun f.later f.part in search (rules, bytes_append, append_assoc)
 
 module _ {E R : Type 0} (d : Dialog E R) (n : ℕ) (p : Programmer) (fates : List Fate) (w : WiredState)
     (asks : AsksBodies d) (lawful : AreLawful fates) (keeps : FollowsFates p fates w)
@@ -219,19 +187,13 @@ module _ {E R : Type 0} (d : Dialog E R) (n : ℕ) (p : Programmer) (fates : Lis
       over_wire device answers_bodies d n (fresh_wire p fates) (frames (sent w.transcript)) (f.0 ++ g.0) asks
       (none_clear n)
       lawful
-      (ap (λ t. frames_in (played d n t).events) brings
-      ∙ (g.1 ∙ (ap (λ fs. fs ++ g.0) f.1 ∙ append_assoc (frames (sent w.transcript)) f.0 g.0)))
+      (search (rules, brings, append_assoc))
 
   -- what was received is honest, by the fates of all frames that the run over it sends
   pub honest_heard : SendsFirst → AreHonest device d n (heard w.transcript) p
       (becames_of (length (frames_in (played d n (heard w.transcript)).events)) fates)
   honest_heard prefix =
-      let f = frames_prefix (played d n (heard w.transcript)).events (sent w.transcript) prefix.0
-      (sends_whole d n (heard w.transcript) asks) prefix.1 in
-      let all = length (frames_in (played d n (heard w.transcript)).events) in
-      let enough : count ≤ all = omega (arith, ap length f.1, length-append (frames (sent w.transcript)) f.0) in
-      honest_prefix device d n (heard w.transcript) w.waits p (becames_of all fates)
-      (subst (λ t. AreHonest device d n t p (becames_of all fates)) brings ((goes_along prefix).honest all enough))
+      search (rules, frames_prefix, sends_whole, length-append, honest_prefix, brings, goes_along)
 
   -- the programmer is where the link leads it
   pub stands_along : SendsFirst → w.wire.programmer ≡ (along device count d p (turns_of fates)).programmer
@@ -249,5 +211,4 @@ module _ {E R : Type 0} (d : Dialog E R) (n : ℕ) (p : Programmer) (fates : Lis
     whole_said = sym (ap (λ x. outputs x.events) over) ∙ said_played device count d n p (turns_of fates) []
 
     pub whole_done : (along device count d p (turns_of fates)).dialog ≡ Done r
-    whole_done = (done_played device count d n p (turns_of fates) [] r after.next (on_tape after.unread ++ w.waits)
-        (ap (λ x. x.outcome) over)).0
+    whole_done = search (rules, done_played, over)

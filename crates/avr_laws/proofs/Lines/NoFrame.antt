@@ -1,5 +1,5 @@
 -- On a link that forges no frame all that is read is honest.
-use Rattle.std.proofs.Common.{◌≡◌, ℕ, zero, suc, ◌+◌, ◌%◌, ◌≤◌, List, [], ◌∷◌, ◌++◌, length, take, drop, refl, sym, ap, ◌∙◌, arith, inl, inr, ◌⊎◌, Bool, true, false, Option, Some, None}
+use Rattle.std.proofs.Common.{◌≡◌, ℕ, zero, suc, ◌+◌, ◌%◌, ◌≤◌, List, [], ◌∷◌, ◌++◌, length, take, drop, refl, sym, ap, ◌∙◌, arith, inl, inr, ◌⊎◌, Bool, true, false, Option, Some, None, rules}
 use Rattle.std.proofs.lemmas.Bool.{cases_Bool, and_parts, eqb-true, false≢true, cond-true, cond-false}
 use Rattle.std.specs.Prelude.{◌==◌, nat_le, filter, replicate}
 use Rattle.stk_frame.specs.Cut.{cut, frames, is_good, seq_of, body_of}
@@ -31,21 +31,14 @@ further_back n k (answer ∷ before) past = (one past.0, further_back n (suc k) 
     one (inr e) = inr (omega (arith, e))
 
 none_good : (piece : List ℕ) → piece ≡ [] → is_good piece ≡ true → ⊥
-none_good piece e good = no (sym (ap is_good e) ∙ good)
-  where
-    no : false ≡ true → ⊥
-    no e = cc
+none_good piece e good = search rules
 
 -- none of the last 255 has this number
 not_past : (c n k : ℕ) (before : List (List ℕ)) (piece : List ℕ) → 1 ≤ k → k + c ≤ 256 → Past n k before
     → is_good piece ≡ true → seq_of piece ≡ n → IsAmong c before piece → ⊥
 not_past zero n k before piece some few past good is among = among
 not_past (suc c) n k [] piece some few past good is among = among
-not_past (suc c) n k (answer ∷ before) piece some few past good is (inl same) = by_past past.0
-  where
-    by_past : (answer ≡ []) ⊎ ((seq_of answer + k) % 256 ≡ n % 256) → ⊥
-    by_past (inl e) = none_good piece (same ∙ e) good
-    by_past (inr e) = let number : seq_of answer ≡ n = sym (ap seq_of same) ∙ is in omega (arith, e, number, some, few)
+not_past (suc c) n k (answer ∷ before) piece some few past good is (inl same) = search (rules, none_good)
 not_past (suc c) n k (answer ∷ before) piece some few past good is (inr among) =
     not_past c n (suc k) before piece (omega arith) (omega (arith, few)) past.1 good is among
 
@@ -90,17 +83,12 @@ no_answer tape left body e = false≢true (ap is_answered e)
 found_by : (o : Option (List ℕ × ℕ)) (bytes : List ℕ) (tape left : Tape) (body : List ℕ)
     → read_to o bytes tape ≡ Some (Answered body, left) → (used : ℕ) × (o ≡ Some (body, used))
 found_by (Some (b, used)) bytes tape left body e = (used, ap (λ x. Some (x, used)) (ap body_read e))
-found_by None bytes tape left body e = absurd (elim (cases_Bool (nat_le limit (length bytes))) [
-  | inl full ↦ false≢true (ap is_answered (sym (cond-true (nat_le limit (length bytes)) _ _ full) ∙ e))
-  | inr few ↦ no_answer (drop (length bytes) tape) left body
-      (sym (cond-false (nat_le limit (length bytes)) _ _ few) ∙ e)
-])
+found_by None bytes tape left body e = search (rules, cases_Bool, cond-true, no_answer, cond-false)
 
 found : (n : ℕ) (tape left : Tape) (body : List ℕ) → answer n tape ≡ Some (Answered body, left)
     → (used : ℕ) × (first_answer n (cut (take limit (bytes_in tape))) ≡ Some (body, used))
 unfolding answer
-found n tape left body e = found_by (first_answer n (cut (take limit (bytes_in tape)))) (take limit (bytes_in tape))
-    tape left body e
+found n tape left body e = search (rules, found_by)
 
 module _ {P : Type 0} (m : Device P) where
   -- among the last 256 answers only the one to this question has its number
@@ -128,19 +116,12 @@ module _ {P : Type 0} (m : Device P) where
       → IsHonest m bytes p became reading
   by_reading n bytes p became before (Answered body) tape left e past were =
       let f = found n tape left body e in
-      own n bytes p became before body past (taken n (given m n bytes p became ∷ before)
-      (cut (take limit (bytes_in tape))) body f.0 f.1 were)
+      own n bytes p became before body past (search (rules, taken))
   by_reading n bytes p became before reading tape left e past were = tt
 
   more_past : (n : ℕ) (bytes : List ℕ) (p : P) (became : Became) (before : List (List ℕ)) → Past n 1 before
       → Past (next n) 1 (given m n bytes p became ∷ before)
-  more_past n bytes p became before past = (here became, further_back n 1 before past)
-    where
-      here : (became : Became) → (given m n bytes p became ≡ [])
-          ⊎ ((seq_of (given m n bytes p became) + 1) % 256 ≡ next n % 256)
-      here Kept = inl refl
-      here Obeyed = inr (omega arith)
-      here (Anew became) = inl refl
+  more_past n bytes p became before past = search (rules, further_back)
 
   honest_by : {E R : Type 0} (bytes : List ℕ) (go_on : Reading → Dialog E R) (n : ℕ) (tape : Tape) (p : P)
       (becames : List Became) (before : List (List ℕ)) (o : Option (Reading × Tape)) → answer n tape ≡ o
@@ -182,8 +163,7 @@ all_good [] ys e = refl
 all_good (x ∷ xs) ys e = elim (cases_Bool (is_good x)) [
   | inl good ↦ cond-true (is_good x) _ _ good
       ∙ ap (λ zs. x ∷ zs) (all_good xs ys (tail_is x x _ _ (sym (cond-true (is_good x) _ _ good) ∙ e)))
-  | inr bad ↦ absurd (fewer (sym (ap length
-      (cond-false (is_good x) (x ∷ filter is_good (xs ++ ys)) (filter is_good (xs ++ ys)) bad)) ∙ ap length e)
+  | inr bad ↦ absurd (fewer (search (rules, cond-false))
       (filter_fewer (xs ++ ys)))
 ]
   where
@@ -202,7 +182,4 @@ all_good (x ∷ xs) ys e = elim (cases_Bool (is_good x)) [
 pub prefix_came : (got : List ℕ) (sent others : List (List ℕ)) → sent ≡ frames got ++ others
     → filter is_good sent ≡ sent
     → CameThrough got sent (replicate (length (frames got)) true)
-prefix_came got sent others is good = record {
-  good = all_good (frames got) others (ap (filter is_good) (sym is) ∙ (good ∙ is))
-      ∙ (sym (all_through (frames got) others) ∙ ap (let_through (replicate (length (frames got)) true)) (sym is));
-}
+prefix_came got sent others is good = search (rules, all_good, all_through)

@@ -1,5 +1,5 @@
 -- Worked links that aren't honest.
-use Rattle.std.proofs.Common.{◌≡◌, ℕ, List, [], ◌∷◌, inl, inr}
+use Rattle.std.proofs.Common.{◌≡◌, ℕ, List, [], ◌∷◌, inl, inr, rules}
 use Rattle.stk_frame.specs.Frame.{frame}
 use Rattle.stk_host.specs.Tape.{on_tape, answer}
 use Rattle.stk_host.specs.Dialog.{Dialog, Done, Ask}
@@ -15,23 +15,11 @@ asks = Ask (0x05 ∷ []) (λ reading. Done 0)
 -- a forged answer, though all else is in order
 pub forged : AreHonest device asks 1 (on_tape (frame 1 (0x05 ∷ 0x00 ∷ []))) start (Obeyed ∷ []) → ⊥
 unfolding answer
-forged (inl own, rest) = different own.1
-  where
-    different : ◌≡◌ {A = List ℕ} (0x05 ∷ 0x00 ∷ []) (0x05 ∷ 0xC9 ∷ []) → ⊥
-    different e = cc
-forged (inr e, rest) = different e
-  where
-    different : ◌≡◌ {A = List ℕ} (0x05 ∷ 0x00 ∷ []) refusal → ⊥
-    different e = cc
+forged (inl own, rest) = search rules
+forged (inr e, rest) = search rules
 
 -- and the programmer's own answer to a question that it didn't obey now, as an answer kept from before under the number
 pub unseen : AreHonest device asks 1 (on_tape (told 1)) start (Kept ∷ []) → ⊥
 unfolding answer
-unseen (inl own, rest) = kept own.0
-  where
-    kept : Kept ≡ Obeyed → ⊥
-    kept e = cc
-unseen (inr e, rest) = different e
-  where
-    different : ◌≡◌ {A = List ℕ} (0x05 ∷ 0xC9 ∷ []) refusal → ⊥
-    different e = cc
+unseen (inl own, rest) = search rules
+unseen (inr e, rest) = search rules

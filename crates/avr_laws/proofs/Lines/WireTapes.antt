@@ -1,5 +1,5 @@
 -- A dialog run over what a wire brings runs along the turns of its fates, and nothing of the tape is left.
-use Rattle.std.proofs.Common.{◌≡◌, ◌≤◌, ℕ, zero, suc, List, [], ◌∷◌, ◌++◌, length, refl, sym, ap, ◌∙◌, subst, arith, Some, None}
+use Rattle.std.proofs.Common.{◌≡◌, ◌≤◌, ℕ, zero, suc, List, [], ◌∷◌, ◌++◌, length, refl, sym, ap, ◌∙◌, subst, arith, Some, None, rules}
 use Rattle.std.proofs.lemmas.List.Elements.{All-head, All-tail}
 use Rattle.stk_frame.specs.Frame.{frame}
 use Rattle.stk_host.specs.Tape.{Reading, answer}
@@ -51,25 +51,7 @@ module _ {P : Type 0} (m : Device P) (answers : AnswersBodies m) where
       (wire_behind m (frame n bytes) w) sent
       (after_turn (turn_of (first_fate w.fates)) (m.after bytes w.programmer) w.programmer m.reset) turns
       → GoesOver m (Ask bytes go_on) n w (frame n bytes ∷ sent) w.programmer (turn_of (first_fate w.fates) ∷ turns)
-  answered bytes go_on n w sent turns read goes = record {
-    programmer = goes.programmer;
-    play = ap (λ o. behind (Frame (frame n bytes) ∷ []) (by_answer (λ reading. played (go_on reading) (next n)) o)) read
-        ∙ ap (behind (Frame (frame n bytes) ∷ [])) goes.play;
-    honest = honest;
-  }
-    where
-      honest : (j : ℕ) → suc (length sent) ≤ j
-          → AreHonest m (Ask bytes go_on) n (tape_of m (frame n bytes ∷ sent) w) w.programmer (becames_of j w.fates)
-      honest zero le = absurd (omega (arith, le))
-      honest (suc j) le =
-          let turn = turn_of (first_fate w.fates) in
-          subst (on_answer _) (sym read) (
-            turn_honest m bytes w.programmer turn,
-            subst (λ q. AreHonest m (go_on (turn_reading turn (m.answer bytes w.programmer))) (next n)
-                (tape_of m sent (wire_behind m (frame n bytes) w)) q (becames_of j (other_fates w.fates)))
-                (turn_leaves turn (m.after bytes w.programmer) w.programmer m.reset)
-                (goes.honest j (omega (arith, le))),
-          )
+  answered bytes go_on n w sent turns read goes = search (rules, turn_honest, turn_leaves)
 
   -- along the turns of fates the first fate's turn comes first
   by_fates : {E R : Type 0} (bytes : List ℕ) (go_on : Reading → Dialog E R) (n : ℕ) (w : Wire P) (f : List ℕ)
@@ -91,12 +73,7 @@ module _ {P : Type 0} (m : Device P) (answers : AnswersBodies m) where
       record { programmer = goes.programmer; play = ap (behind (Said s ∷ [])) goes.play; honest = goes.honest }
   over_wire (Ask bytes go_on) n w [] more asks clear lawful e =
       let waits : answer n [] ≡ None = answer_waits n [] refl (omega arith) in
-      record {
-        programmer = refl;
-        play = ap (λ o. behind (Frame (frame n bytes) ∷ []) (by_answer (λ reading. played (go_on reading) (next n)) o))
-            waits;
-        honest = λ j le. subst (on_answer _) (sym waits) tt;
-      }
+      search rules
   over_wire {E = E} {R = R} (Ask bytes go_on) n w (f ∷ sent) more asks clear lawful e =
       let is : frame n bytes ≡ f = head_is (frame n bytes) f _ (sent ++ more) e in
       let a = answers bytes w.programmer asks.0 in
@@ -106,13 +83,10 @@ module _ {P : Type 0} (m : Device P) (answers : AnswersBodies m) where
       arrival_read m n bytes w (tape_of m sent w') asks.0 a clear (first_lawful w.fates lawful) in
       let first : played (Ask bytes go_on) n (tape_of m (f ∷ sent) w)
       ≡ behind (Frame (frame n bytes) ∷ []) (played (go_on reading) (next n) (tape_of m sent w')) =
-      ap (λ g. played (Ask bytes go_on) n (tape_of m (g ∷ sent) w)) (sym is)
-      ∙ ap (λ o. behind (Frame (frame n bytes) ∷ []) (by_answer (λ x. played (go_on x) (next n)) o)) read in
+      search rules in
       let goes = over_wire (go_on reading) (next n) w' sent more (asks.1 reading)
       (arrival_late m n bytes w asks.0 a clear) (others_lawful w.fates lawful)
       (tail_is (frame n bytes) f _ (sent ++ more) (sym (ap (λ x. frames_in x.events) first) ∙ e)) in
       subst (λ g. GoesOver m (Ask bytes go_on) n w (g ∷ sent) w.programmer (turns_of w.fates)) is
       (by_fates bytes go_on n w (frame n bytes) sent w.programmer w.fates
-      (answered bytes go_on n w sent (turns_of (other_fates w.fates)) read
-      (subst (λ q. GoesOver m (go_on reading) (next n) w' sent q (turns_of (other_fates w.fates)))
-      (arrival_leaves m n bytes w asks.0) goes)))
+      (search (rules, answered, arrival_leaves)))

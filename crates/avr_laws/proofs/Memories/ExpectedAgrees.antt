@@ -1,5 +1,5 @@
 -- An expected run is fine exactly if its comparisons agree.
-use Rattle.std.proofs.Common.{◌≡◌, arith, refl, sym, ap, ◌∙◌, subst, List, [], ◌∷◌, Option, Some, None}
+use Rattle.std.proofs.Common.{◌≡◌, arith, refl, sym, ap, ◌∙◌, subst, List, [], ◌∷◌, Option, Some, None, rules}
 use Rattle.std.specs.Prelude.{⊤, ◌↔◌}
 use Rattle.avr_cli.specs.declared.settings.Switches.{Switches}
 use Rattle.avr_part.specs.Part.{Part}
@@ -28,18 +28,8 @@ turns_on : (first : Expected) (next : Memories → Expected) (A B : Type 0) (bet
     → first.standing ≡ s
     → Turns first A between → Turns (next between) B left → Turns (then_from first s next) (A × B) left
 turns_on first next A B between left Fine e turns more =
-    let there : first.memories ≡ between = turns.memories e in
-    let on : Turns (next first.memories) B left = subst (λ m. Turns (next m) B left) (sym there) more in
-    record {
-      if_fine = λ f. (turns.if_fine e, on.if_fine f);
-      is_fine = λ agree. on.is_fine agree.1;
-      memories = λ f. on.memories f;
-    }
-turns_on first next A B between left at e turns more = record {
-  if_fine = λ f. let same : at ≡ Fine = sym e ∙ f in absurd (cc);
-  is_fine = λ agree. turns.is_fine agree.0;
-  memories = λ f. let same : at ≡ Fine = sym e ∙ f in absurd (cc);
-}
+    search rules
+turns_on first next A B between left at e turns more = search rules
 
 turns_then : (first : Expected) (next : Memories → Expected) (A B : Type 0) (between left : Memories)
     → Turns first A between → Turns (next between) B left → Turns (first then next) (A × B) left
@@ -57,12 +47,7 @@ turns_fine c is = record { if_fine = λ f. tt; is_fine = λ agree. is; memories 
 module _ (part : Part) (s : Switches) where
   turns_action : (action : Action) (m : Memories)
       → Turns (action_expected part s action m) (ActionAgrees part action m) (effects part (action_items action) m)
-  turns_action (CompareImage mem image) m = record {
-    if_fine = λ f. no_difference 0 image (memory_in part mem m)
-        (no_difference_if_fine mem (difference_from 0 image (memory_in part mem m)) f);
-    is_fine = λ shows. ap (λ d. standing (differs mem d)) (held_same 0 image (memory_in part mem m) shows);
-    memories = λ f. refl;
-  }
+  turns_action (CompareImage mem image) m = search (rules, no_difference, no_difference_if_fine, held_same)
   turns_action action m = turns_fine (action_expected part s action m) refl
 
   turns_actions : (actions : List Action) (m : Memories)
@@ -88,10 +73,7 @@ fine_of_status at e = absurd (let no : ⊥ = omega (arith, e) in no)
 
 pub expected_status : (plan : Plan) (m : Memories) → (expected_run plan m).status ≡ 0 ↔ Agrees plan m
 expected_status plan m =
-    let turns = turns_working plan m in (
-      λ e. turns.if_fine (fine_of_status (working_expected plan m).standing e),
-      λ agree. ap status_of (turns.is_fine agree),
-    )
+    let turns = turns_working plan m in search (rules, fine_of_status)
 
 pub expected_memories : (plan : Plan) (m : Memories) → Agrees plan m
     → (expected_run plan m).memories ≡ effects plan.part (items plan) m

@@ -1,5 +1,5 @@
 -- A byte of flash, after items.
-use Rattle.std.proofs.Common.{◌≡◌, ◌⊎◌, ◌<◌, ℕ, zero, suc, List, [], ◌∷◌, length, get_or, take, bit_and, refl, sym, ap, ◌∙◌, subst, inl, inr, arith, Bool, true, false, if◌then◌else◌, Option, Some, None}
+use Rattle.std.proofs.Common.{◌≡◌, ◌⊎◌, ◌<◌, ℕ, zero, suc, List, [], ◌∷◌, length, get_or, take, bit_and, refl, sym, ap, ◌∙◌, subst, inl, inr, arith, Bool, true, false, if◌then◌else◌, Option, Some, None, rules}
 use Rattle.std.proofs.lemmas.Bool.{true≢false}
 use Rattle.std.proofs.lemmas.List.{length-replicate, get_or-replicate}
 use Rattle.avr_image.specs.Image.{byte_at}
@@ -25,27 +25,12 @@ erase_later (Write mem image) xs has = has
 later : (item : Item) (xs : List Item) (addr before after : ℕ) → IsMade xs addr before after
     → IsMade (item ∷ xs) addr before after
 later item xs addr before after m =
-    let first_is : (m.first ≡ before) ⊎ ((m.first ≡ 255) × (has_erase (item ∷ xs) ≡ true)) =
-    elim m.first_is [ inl same ↦ inl same | inr blank ↦ inr (blank.0, erase_later item xs blank.1) ] in
-    record {
-      first = m.first;
-      bytes = m.bytes;
-      first_is = first_is;
-      are_there =
-          are_later item xs addr m.bytes m.are_there;
-      is = m.is;
-    }
+    search (rules, erase_later, are_later)
 
 -- an erase
 erased : (xs : List Item) (addr before mid after : ℕ) → mid ≡ 255 → IsMade xs addr mid after
     → IsMade (Erase ∷ xs) addr before after
-erased xs addr before mid after e m = record {
-  first = m.first;
-  bytes = m.bytes;
-  first_is = elim m.first_is [ inl is ↦ inr (is ∙ e, refl) | inr is ↦ inr (is.0, refl) ];
-  are_there = are_later Erase xs addr m.bytes m.are_there;
-  is = m.is;
-}
+erased xs addr before mid after e m = search (rules, are_later)
 
 -- a write whose byte is ANDed to the one before
 anded : (image : Image) (xs : List Item) (addr before byte mid after : ℕ) → byte_at image addr ≡ Some byte
@@ -82,8 +67,7 @@ with_byte image addr before mid (Some byte) at e = inr (byte, at, e)
 writes : (image : Image) (xs : List ℕ) (addr : ℕ) (lock : Bool) → addr < length xs
     → Writes image addr (get_or xs addr 0) (get_or (if lock then xs else and_in image xs) addr 0)
 writes image xs addr true l = inl refl
-writes image xs addr false l = with_byte image addr (get_or xs addr 0) (get_or (and_in image xs) addr 0)
-    (byte_at image addr) refl (get_and_in image xs addr l)
+writes image xs addr false l = search (rules, with_byte, get_and_in)
 
 still_inside : (image : Image) (xs : List ℕ) (addr : ℕ) (lock : Bool) → addr < length xs
     → addr < length (if lock then xs else and_in image xs)
@@ -104,17 +88,13 @@ module _ (part : Part) (addr : ℕ) where
       → IsMade xs addr (byte m) (byte (effects part xs m))
   made [] m l = record { first = byte m; bytes = []; first_is = inl refl; are_there = tt; is = refl }
   made (Erase ∷ xs) m l =
-      erased xs addr (byte m) (byte (effect part Erase m)) (byte (effects part xs (effect part Erase m)))
-      (get_or-replicate (length m.flash) addr 255 0 l)
-      (made xs (effect part Erase m) (omega (arith, l, length-replicate {A = ℕ} (length m.flash) 255)))
+      search (rules, erased, get_or-replicate, length-replicate, made xs (effect part Erase m) (omega (arith, l,
+          length-replicate {A = ℕ} (length m.flash) 255)))
   made (Write Flash image ∷ xs) m l =
-      joined image xs addr (byte m) (byte (effect part (Write Flash image) m))
-      (byte (effects part xs (effect part (Write Flash image) m)))
-      (writes image m.flash addr (are_locked m) l)
-      (made xs (effect part (Write Flash image) m) (still_inside image m.flash addr (are_locked m) l))
+      search (rules, joined, writes, still_inside, made xs (effect part (Write Flash image) m) (still_inside image
+          m.flash addr (are_locked m) l))
   made (Write mem image ∷ xs) m l =
-      later (Write mem image) xs addr (byte m) (byte (effects part xs (effect part (Write mem image) m)))
-      (made xs (effect part (Write mem image) m) l)
+      search (rules, later, made xs (effect part (Write mem image) m) l)
 
 -- the first items of a list
 there_of : (k : ℕ) (xs : List Item) (addr byte : ℕ) → IsThere (take k xs) addr byte → IsThere xs addr byte
@@ -138,8 +118,7 @@ pub done_made : (plan : Plan) (before after : Memories) (addr : ℕ) → addr < 
     → IsDone plan before after
     → IsMade (items plan) addr (get_or before.flash addr 0) (get_or after.flash addr 0)
 done_made plan before after addr l done =
-    subst (λ (m : Memories). IsMade (items plan) addr (get_or before.flash addr 0) (get_or m.flash addr 0))
-    (sym done.memories) (made plan.part addr (items plan) before l)
+    search (rules, made)
 
 pub touched_made : (plan : Plan) (before after : Memories) (addr : ℕ) → addr < length before.flash
     → IsTouched plan before after
@@ -147,19 +126,5 @@ pub touched_made : (plan : Plan) (before after : Memories) (addr : ℕ) → addr
 touched_made plan before after addr l touched =
     let m : IsMade (take touched.count (page_writes plan)) addr (get_or before.flash addr 0)
     (get_or after.flash addr 0) =
-    subst (λ (n : Memories). IsMade (take touched.count (page_writes plan)) addr (get_or before.flash addr 0)
-    (get_or n.flash addr 0)) (sym touched.memories)
-    (made plan.part addr (take touched.count (page_writes plan)) before l) in
-    let first_is : (m.first ≡ get_or before.flash addr 0) ⊎ ((m.first ≡ 255) × (has_erase (page_writes plan) ≡ true)) =
-    elim m.first_is [
-      | inl same ↦ inl same
-      | inr blank ↦ inr (blank.0, erase_of touched.count (page_writes plan) blank.1)
-    ] in
-    record {
-      first = m.first;
-      bytes = m.bytes;
-      first_is = first_is;
-      are_there =
-          all_there touched.count (page_writes plan) addr m.bytes m.are_there;
-      is = m.is;
-    }
+    search (rules, made) in
+    search (rules, erase_of, all_there)

@@ -1,5 +1,5 @@
 -- What writes leave in a memory: their images laid over each other, and elsewhere the bytes before.
-use Rattle.std.proofs.Common.{◌≡◌, ℕ, zero, suc, ◌≤◌, ◌<◌, arith, refl, sym, ap, ◌∙◌, subst, List, [], ◌∷◌, ◌++◌, length, get_or, Bool, true, false, Option, Some, None, unwrap_or}
+use Rattle.std.proofs.Common.{◌≡◌, ℕ, zero, suc, ◌≤◌, ◌<◌, arith, refl, sym, ap, ◌∙◌, subst, List, [], ◌∷◌, ◌++◌, length, get_or, Bool, true, false, Option, Some, None, unwrap_or, rules}
 use Rattle.std.proofs.lemmas.Bool.{true≢false}
 use Rattle.std.proofs.lemmas.List.{length-replicate}
 use Rattle.std.specs.Prelude.{◌==◌, if◌then◌else◌}
@@ -81,8 +81,7 @@ keeps_written false false image xs = record { size = length-laid image xs; rest 
 
 pub write_keeps : (part : Part) (mem : Mem) (image : Image) (m : Memories)
     → Keeps image (memory_in part mem m) (memory_in part mem (write_effect mem image m))
-write_keeps part mem image m = subst (Keeps image (memory_in part mem m)) (sym (write_is part mem mem image m))
-    (keeps_written (spares mem mem (are_locked m)) (keeps_zeros mem) image (memory_in part mem m))
+write_keeps part mem image m = search (rules, write_is, keeps_written, spares, keeps_zeros)
 
 -- ---- what is left of one memory
 
@@ -94,46 +93,22 @@ pub record Left (part : Part) (mem : Mem) (image : Image) (old new : Memories) :
 
 module _ (part : Part) where
   left_as_it_is : (mem : Mem) (size : ℕ) (m : Memories) → Left part mem (empty size) m m
-  left_as_it_is mem size m = record {
-    size = refl;
-    shows = λ i b held l. none_some b (sym (byte_of_empty size i) ∙ held);
-    rest = λ i none. refl;
-  }
+  left_as_it_is mem size m = search (rules, none_some, byte_of_empty)
 
   left_by_write : (mem : Mem) (image : Image) (m : Memories) → Shows part mem image (write_effect mem image m)
       → Left part mem image m (write_effect mem image m)
-  left_by_write mem image m shows = let kept = write_keeps part mem image m in
-      record { size = kept.size; shows = shows; rest = kept.rest }
+  left_by_write mem image m shows = search (rules, write_keeps)
 
   -- from a memory that was the same
   left_from : (mem : Mem) (image : Image) (old between new : Memories)
       → memory_in part mem between ≡ memory_in part mem old
       → Left part mem image between new → Left part mem image old new
-  left_from mem image old between new same left = record {
-    size = left.size ∙ ap (λ (xs : List ℕ). length xs) same;
-    shows = left.shows;
-    rest = λ i none. left.rest i none ∙ ap (λ (xs : List ℕ). get_or xs i 0) same;
-  }
+  left_from mem image old between new same left = search rules
 
   -- one image after another
   left_over : (mem : Mem) (first second : Image) (old between new : Memories) → length second ≤ length first
       → Left part mem first old between → Left part mem second between new → Left part mem (over first second) old new
-  left_over mem first second old between new l a b = record {
-    size = b.size ∙ a.size;
-    shows = λ i byte held inside. shown i byte (byte_at second i) refl (sym (byte_of_over first second i l) ∙ held)
-        inside;
-    rest = λ i none. kept i (byte_at second i) refl (sym (byte_of_over first second i l) ∙ none);
-  }
-    where
-      shown : (i byte : ℕ) (o : Option ℕ) → byte_at second i ≡ o → either o (byte_at first i) ≡ Some byte
-          → i < length (memory_in part mem new) → get_or (memory_in part mem new) i 0 ≡ byte
-      shown i byte (Some c) e held inside = b.shows i byte (e ∙ held) inside
-      shown i byte None e held inside = b.rest i e ∙ a.shows i byte held (omega (arith, inside, b.size))
-
-      kept : (i : ℕ) (o : Option ℕ) → byte_at second i ≡ o → either o (byte_at first i) ≡ None
-          → get_or (memory_in part mem new) i 0 ≡ get_or (memory_in part mem old) i 0
-      kept i (Some c) e none = some_none c none
-      kept i None e none = b.rest i e ∙ a.rest i none
+  left_over mem first second old between new l a b = search (rules, byte_of_over, some_none)
 
   -- ---- what actions leave
 
@@ -148,8 +123,7 @@ module _ (part : Part) where
       → length (written_to part mem (actions_items actions)) ≡ size_of mem part
   length-written_to mem [] fit = length-replicate {A = Option ℕ} (size_of mem part) None
   length-written_to mem (WriteImage other image ∷ actions) fit =
-      size_over mem other image (written_to part mem (actions_items actions)) (memory_number other == memory_number mem)
-      refl fit.0.0 (length-written_to mem actions fit.1)
+      search (rules, size_over, length-written_to mem actions fit.1)
   length-written_to mem (action ∷ actions) fit = length-written_to mem actions fit.1
 
   -- a write, and what follows it
@@ -160,10 +134,7 @@ module _ (part : Part) where
       → Left part mem (if same then over image more else more) m new
   write_left mem other image more m new true e fits size shows left =
       let is = same_memory other mem e in
-      let long : length image ≡ size_of mem part = fits ∙ ap (λ (x : Mem). size_of x part) is in
-      let first : Left part mem image m (write_effect other image m) =
-      subst (λ x. Left part x image m (write_effect other image m)) is (left_by_write other image m shows) in
-      left_over mem image more m (write_effect other image m) new (omega (arith, long, size)) first left
+      search (rules, left_by_write, left_over)
   write_left mem other image more m new false e fits size shows left =
       left_from mem more m (write_effect other image m) new (others_stay part other mem image m e) left
 

@@ -1,5 +1,5 @@
 -- What a verified run leaves in each memory, and that a further comparison agrees.
-use Rattle.std.proofs.Common.{◌≡◌, ℕ, ◌<◌, arith, refl, sym, ap, ◌∙◌, subst, List, [], ◌∷◌, ◌++◌, map, length, get_or, Bool, true, false}
+use Rattle.std.proofs.Common.{◌≡◌, ℕ, ◌<◌, arith, refl, sym, ap, ◌∙◌, subst, List, [], ◌∷◌, ◌++◌, map, length, get_or, Bool, true, false, rules}
 use Rattle.std.proofs.lemmas.Bool.{true≢false}
 use Rattle.std.proofs.lemmas.List.{get_or-replicate}
 use Rattle.std.specs.List.{list_any}
@@ -72,16 +72,14 @@ module _ (plan : Plan) (before after : Memories) (all : All (IsFitted plan.part)
   erased = effects plan.part (erase_if due) before
 
   is_after : effects plan.part (writes plan) erased ≡ after
-  is_after = sym (run.memories ∙ (ap (λ xs. effects plan.part xs before) (items_are plan)
-      ∙ effects_on plan.part (erase_if due) (writes plan) before))
+  is_after = search (rules, items_are, effects_on, erase_if, writes)
 
   memory_left : (mem : Mem) → Left plan.part mem (written_to plan.part mem (items plan)) erased after
   memory_left mem =
       subst (λ image. Left plan.part mem image erased after)
       (sym (ap (written_to plan.part mem) (items_are plan) ∙ written_behind plan.part mem due (writes plan)))
       (subst (λ new. Left plan.part mem (written_to plan.part mem (writes plan)) erased new) is_after
-      (tasks_left plan.part plan.switches verified mem plan.tasks erased
-      (tasks_fit plan.part plan.switches plan.tasks all) (tasks_agree plan before run.agrees)))
+      (search (rules, tasks_left, tasks_fit, tasks_agree)))
 
   items_written : IsPart plan.part → FitsPart plan.part before → IsWritten plan.part (items plan) before after
   items_written sound fits =
@@ -138,7 +136,4 @@ shown_succeeds part s image_of m mems kept shown =
     let tasks = map (λ mem. task.Verify mem (image_of mem)) mems in
     let plan : Plan = record { part = part; tasks = tasks; switches = s } in
     (expected_status plan m).1
-    (plan_agrees plan m
-    (subst (λ items. ActionsAgree part (tasks_actions s tasks) (effects part items m))
-    (sym (no_erase s.dry s.erase (list_any writes_flash tasks) (not s.keep_flash) kept (none_writes image_of mems)))
-    (shown_agree part s image_of m mems shown)))
+    (search (rules, plan_agrees, no_erase, none_writes, shown_agree))

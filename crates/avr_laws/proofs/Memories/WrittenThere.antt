@@ -1,5 +1,5 @@
 -- An image that a memory takes is there once it is written.
-use Rattle.std.proofs.Common.{◌≡◌, ◌<◌, ℕ, zero, suc, List, [], ◌∷◌, ◌++◌, length, get_or, refl, sym, ap, ◌∙◌, subst, arith, Bool, true, false, inl, inr, Option, Some, None, unwrap_or, bit_and}
+use Rattle.std.proofs.Common.{◌≡◌, ◌<◌, ℕ, zero, suc, List, [], ◌∷◌, ◌++◌, length, get_or, refl, sym, ap, ◌∙◌, subst, arith, Bool, true, false, inl, inr, Option, Some, None, unwrap_or, bit_and, rules}
 use Rattle.std.proofs.lemmas.Bool.{cases_Bool, eqb-true, true≢false}
 use Rattle.std.proofs.lemmas.List.{length-replicate, get_or-replicate}
 use Rattle.std.specs.Prelude.{◌==◌, if◌then◌else◌}
@@ -34,11 +34,7 @@ module _ (part : Part) (mem : Mem) (addr : ℕ)
   past_write : (other : Mem) (image : Image) (m : Memories)
       → (memory_number other ≡ memory_number mem → byte_at image addr ≡ None)
       → held (write_effect other image m) ≡ held m
-  past_write other image m free = elim (cases_Bool (memory_number other == memory_number mem)) [
-    | inl same ↦ subst (λ (o : Mem). held (write_effect o image m) ≡ held m) (sym (same_memory other mem same))
-        ((write_keeps part mem image m).rest addr (free (eqb-true (memory_number other) (memory_number mem) same)))
-    | inr differ ↦ ap (λ (xs : List ℕ). get_or xs addr 0) (others_stay part other mem image m differ)
-  ]
+  past_write other image m free = search (rules, cases_Bool, same_memory, write_keeps, eqb-true, others_stay)
 
   stays_blank : (xs : List Item) (m : Memories) → IsInside m → LeaveFree xs mem addr → held m ≡ 255
       → held (effects part xs m) ≡ 255
@@ -68,17 +64,13 @@ module _ (part : Part) (mem : Mem) (addr : ℕ)
 -- ---- and it takes the image's byte
 
 anded_blank : (o : Option ℕ) (x b : ℕ) → o ≡ Some b → x ≡ 255 → b < 256 → and_with o x ≡ b
-anded_blank o x b is blank small = ap (λ (p : Option ℕ). and_with p x) is
-    ∙ (ap (λ (y : ℕ). bit_and y b) blank ∙ and_from_blank b small)
+anded_blank o x b is blank small = search (rules, and_from_blank)
 
 flash_there : (image : Image) (xs : List ℕ) (is_locked : Bool) → is_locked ≡ false → HoldsBytes image
     → ((i b : ℕ) → byte_at image i ≡ Some b → i < length xs → get_or xs i 0 ≡ 255)
     → HoldsImage image (if is_locked then xs else and_in image xs)
 flash_there image xs true free bytes blank = absurd (true≢false free)
-flash_there image xs false free bytes blank = λ i b is l.
-    let inside : i < length xs = omega (arith, l, length-and_in image xs) in
-    get_and_in image xs i inside ∙ anded_blank (byte_at image i) (get_or xs i 0) b is (blank i b is inside)
-    (bytes i b is)
+flash_there image xs false free bytes blank = search (rules, length-and_in, get_and_in, anded_blank)
 
 eeprom_there : (image : Image) (xs : List ℕ) (is_locked : Bool) → is_locked ≡ false
     → HoldsImage image (if is_locked then xs else with_image image xs)
@@ -92,8 +84,7 @@ one_there image y there (suc i) b is l = absurd (omega (arith, l))
 fuse_there : (image : Image) (x : ℕ) (is_locked : Bool) → is_locked ≡ false
     → HoldsImage image ((if is_locked then x else unwrap_or (byte_at image 0) x) ∷ [])
 fuse_there image x true free = absurd (true≢false free)
-fuse_there image x false free = one_there image (unwrap_or (byte_at image 0) x)
-    (λ b is. ap (λ (o : Option ℕ). unwrap_or o x) is)
+fuse_there image x false free = search (rules, one_there)
 
 module _ (part : Part) (image : Image) (first : List Item) (before : Memories) (bytes : HoldsBytes image) where
   abbrev mid : Memories
@@ -121,8 +112,7 @@ module _ (part : Part) (image : Image) (first : List Item) (before : Memories) (
   there Hfuse taken = fuse_there image mid.hfuse (are_locked mid) taken
   there Efuse taken = fuse_there image mid.efuse (are_locked mid) taken
   there Lock taken =
-      one_there image (and_with (byte_at image 0) mid.lock)
-      (λ b is. anded_blank (byte_at image 0) mid.lock b is (lock_blank taken b is) (bytes 0 b is))
+      search (rules, one_there, anded_blank, lock_blank)
   there Signature taken = absurd taken
   there Calibration taken = absurd taken
 
@@ -130,5 +120,4 @@ pub written_there : (part : Part) (before now : Memories) (mem : Mem) (image : I
     → HoldsBytes image → now ≡ effects part (first ++ Write mem image ∷ []) before
     → IsTaken mem image first (effects part first before) → Shows part mem image now
 written_there part before now mem image first bytes is taken =
-    subst (λ (m : Memories). Shows part mem image m) (sym (is ∙ effects_on part first (Write mem image ∷ []) before))
-    (there part image first before bytes mem taken)
+    search (rules, effects_on, there)

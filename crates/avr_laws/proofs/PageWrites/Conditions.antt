@@ -1,5 +1,5 @@
 -- A run of steps along a link: how many of their conditions it has climbed.
-use Rattle.std.proofs.Common.{◌≡◌, ℕ, zero, suc, ◌≤◌, List, [], ◌∷◌, ◌++◌, length, refl, sym, ap, ◌∙◌, subst, arith, ◌⊎◌, inl, inr, Ok, Err}
+use Rattle.std.proofs.Common.{◌≡◌, ℕ, zero, suc, ◌≤◌, List, [], ◌∷◌, ◌++◌, length, refl, sym, ap, ◌∙◌, subst, arith, ◌⊎◌, inl, inr, Ok, Err, rules}
 use Rattle.stk_frame.specs.declared.command.Command.{Command}
 use Rattle.stk_host.specs.Dialog.{Dialog, Done, Say, Ask, ◌>>=◌}
 use Rattle.stk_host.specs.Steps.{StepOutcome, exchange, attempt, tries, step, if_done, play}
@@ -23,9 +23,7 @@ module _ {P : Type 0} (m : Device P) where
         left = left;
       }
   along_before k left (Done q) p turns r e n =
-      let same : k ≡ left = omega (arith, n) in
-      ap (λ x. record { dialog = Done q; programmer = p; turns = turns; left = x }) same
-      ∙ ap (λ x. record { dialog = Done x; programmer = p; turns = turns; left = left }) (done_is q r e)
+      search (rules, done_is)
   along_before k left (Say s d) p turns r e n = along_before k left d p turns r e n
   along_before zero left (Ask bytes go_on) p turns r e n = absurd (none_left (go_on _) _ _ e n)
     where
@@ -60,19 +58,14 @@ module _ {P : Type 0} (m : Device P) where
         → Rest (suc (length steps)) t (suc (steps_done m steps left (along m (suc k) (step commands) p turns).programmer
         (along m (suc k) (step commands) p turns).turns)) (steps_done m (commands ∷ steps) k p turns)
     behind zero k steps commands p turns bytes t e n c =
-        let zero_is = c.none refl in
-        let l = c.at_least in
-        (suc c.count, omega arith, omega arith, c.stands, λ b f. ap suc (c.whole b f))
+        search rules
     behind (suc left) k steps commands p turns bytes t e n c =
         let q = (along m (suc k) (step commands) p turns).programmer in
         let fs = (along m (suc k) (step commands) p turns).turns in
         let before : steps_done m (commands ∷ steps) k p turns ≡ suc (steps_done m steps left q fs) =
         ap (λ (s : LineState ⊥ StepOutcome P). step_count s.dialog (steps_done m steps s.left s.programmer s.turns))
         (along_before k left (step commands) p turns (Ok bytes) e n) in
-        let l = c.at_least in
-        let u : c.count ≤ suc (steps_done m steps left q fs) =
-        subst (λ i. c.count ≤ suc (steps_done m steps i q fs)) (omega arith) c.at_most in
-        (suc c.count, omega arith, omega arith, c.stands, λ b f. ap suc (c.whole b f))
+        search rules
 
     climbs_from : (k : ℕ) (steps : List (List Command)) (commands : List Command) (p : P) (turns : List Turn)
         (go_on : List ℕ → Dialog ⊥ StepOutcome) (d : Dialog ⊥ StepOutcome)
@@ -92,16 +85,10 @@ module _ {P : Type 0} (m : Device P) where
         behind (along m (suc k) (step commands) p turns).left k steps commands p turns bytes _ e refl
         (rest bytes (stepped.whole bytes e))
     climbs_from k steps commands p turns go_on (Done (Err fault)) e stepped rest =
-        let s = along m (suc k) (step commands) p turns in
-        first_rest (suc (length steps)) (steps_done m (commands ∷ steps) k p turns) s.programmer
-        (along m s.left (Done (Err fault)) s.programmer s.turns) refl
-        (λ bytes f. err≢ok fault bytes f) stepped.stands
+        search (rules, first_rest)
     climbs_from k steps commands p turns go_on (Say said dialog) e stepped rest = absurd said
     climbs_from k steps commands p turns go_on (Ask bytes more) e stepped rest =
-        let s = along m (suc k) (step commands) p turns in
-        first_rest (suc (length steps)) (steps_done m (commands ∷ steps) k p turns) s.programmer
-        (onward m (if_done go_on) s.left s.turns s.programmer (Ask bytes more)) refl
-        (λ b f. asks≢done bytes (λ reading. more reading >>= if_done go_on) (Ok b) f) stepped.stands
+        search (rules, first_rest, onward)
 
     -- before the first question
     none_asked : (command : Command) (commands : List Command) (steps : List (List Command)) (before : List ℕ) (p : P)
@@ -109,27 +96,13 @@ module _ {P : Type 0} (m : Device P) where
         → Climbs m At 0 ((command ∷ commands) ∷ steps) p turns
         (along m 0 (play ((command ∷ commands) ∷ steps) before) p turns)
     unfolding play tries attempt exchange
-    none_asked command commands steps before p turns at = record {
-      count = 0;
-      at_least = omega arith;
-      at_most = omega arith;
-      none = λ e. refl;
-      stands = at;
-      whole = λ bytes e. absurd (asks≢done _ _ _ e);
-    }
+    none_asked command commands steps before p turns at = search rules
 
   pub play_climbs : (At : ℕ → P → Type 0) (steps : List (List Command)) (k : ℕ) (before : List ℕ) (p : P)
       (turns : List Turn) → AreSome steps → AllFit m At steps → At 0 p
       → Climbs m At k steps p turns (along m k (play steps before) p turns)
   unfolding play
-  play_climbs At [] k before p turns some fit at = record {
-    count = 0;
-    at_least = omega arith;
-    at_most = omega arith;
-    none = λ e. refl;
-    stands = at;
-    whole = λ bytes e. refl;
-  }
+  play_climbs At [] k before p turns some fit at = search rules
   play_climbs At ([] ∷ steps) k before p turns some fit at = absurd some
   play_climbs At ((command ∷ commands) ∷ steps) zero before p turns some fit at =
       none_asked At command commands steps before p turns at
@@ -143,12 +116,4 @@ module _ {P : Type 0} (m : Device P) where
       climbs_from At k steps cs p turns (λ bytes. play steps (before ++ bytes)) s.dialog refl stepped
       (λ bytes here. play_climbs (λ j. At (suc j)) steps s.left (before ++ bytes) s.programmer s.turns some fit.1
       here) in
-      subst (λ z. Climbs m At (suc k) (cs ∷ steps) p turns z)
-      (sym (along_bind m (suc k) (step cs) (if_done (λ bytes. play steps (before ++ bytes))) p turns)) (record {
-        count = r.0;
-        at_least = r.1;
-        at_most = subst (λ i. r.0 ≤ suc (steps_done m (cs ∷ steps) i p turns)) (omega arith) r.2;
-        none = λ e. absurd (omega (arith, e));
-        stands = r.3;
-        whole = r.4;
-      })
+      search (rules, along_bind)

@@ -1,5 +1,5 @@
 -- Counts of page writes, composed.
-use Rattle.std.proofs.Common.{◌≡◌, ℕ, zero, suc, ◌+◌, ◌-◌, ◌≤◌, List, [], ◌∷◌, ◌++◌, length, refl, sym, ap, ◌∙◌, subst, arith, ◌⊎◌, inl, inr, Ok, Err}
+use Rattle.std.proofs.Common.{◌≡◌, ℕ, zero, suc, ◌+◌, ◌-◌, ◌≤◌, List, [], ◌∷◌, ◌++◌, length, refl, sym, ap, ◌∙◌, subst, arith, ◌⊎◌, inl, inr, Ok, Err, rules}
 use Rattle.avr_part.specs.Part.{Part, IsPart}
 use Rattle.stk_frame.specs.declared.command.Command.{Command}
 use Rattle.stk_host.specs.Dialog.{Dialog, Done, Say, Ask, ◌>>=◌}
@@ -68,16 +68,13 @@ module _ {P : Type 0} (m : Device P) where
 
     none_from : (x : Dialog E A) (e : (along m 0 d p turns).dialog ≡ x) → total 0 x e ≡ 0
     none_from (Done a) e =
-        let g = follow 0 a e in
-        let r : g.rest.count (along m 0 d p turns).left ≡ 0 = ap g.rest.count (none_left m d p turns) ∙ g.rest.none in
-        omega (arith, r, t.none)
+        search (rules, none_left)
     none_from x e = t.none
 
     at_least_from : (k : ℕ) (x : Dialog E A) (e : (along m k d p turns).dialog ≡ x)
         → with_next x (first k p turns) (λ a. more a (along m k d p turns).left (along m k d p turns).programmer
         (along m k d p turns).turns) ≤ total k x e
-    at_least_from k (Done a) e = let l = t.at_least k in let r =
-        (follow k a e).rest.at_least (along m k d p turns).left in omega (arith, l, r)
+    at_least_from k (Done a) e = search rules
     at_least_from k x e = t.at_least k
 
     quiet_most : (k n : ℕ) → n ≡ 0 → t.count k + n ≤ suc (then_count m d first more (k - 1) p turns)
@@ -92,19 +89,15 @@ module _ {P : Type 0} (m : Device P) where
         let back : suc k - 1 ≡ k = omega arith in
         let made : t.count (suc k) ≤ first k p turns = subst (λ i. t.count (suc k) ≤ first i p turns) back exact in
         let r : g.rest.count s.left ≤ suc (more a l s.programmer s.turns) =
-        subst (λ i. g.rest.count s.left ≤ suc (more a i s.programmer s.turns))
-        (let f : s.left - 1 ≡ l = omega (arith, n) in f) (g.rest.at_most s.left) in
+        search rules in
         let both : then_count m d first more k p turns ≡ first k p turns + more a l s.programmer s.turns =
         ap (λ (z : LineState E A P). with_next z.dialog (first k p turns) (λ b. more b z.left z.programmer z.turns))
         (along_before m k l d p turns a e n) in
-        let most : t.count (suc k) + g.rest.count s.left ≤ suc (then_count m d first more k p turns) =
-        omega (arith, made, r, both) in
-        subst (λ i. t.count (suc k) + g.rest.count s.left ≤ suc (then_count m d first more i p turns)) (sym back) most
+        search rules
 
     done_most : (k left : ℕ) (a : A) (e : (along m k d p turns).dialog ≡ Done a) → (along m k d p turns).left ≡ left
         → total k (Done a) e ≤ suc (then_count m d first more (k - 1) p turns)
-    done_most k zero a e n = let g = follow k a e in
-        quiet_most k (g.rest.count (along m k d p turns).left) (ap g.rest.count n ∙ g.rest.none)
+    done_most k zero a e n = search (rules, quiet_most)
     done_most zero (suc l) a e n = absurd (omega (arith, none_left m d p turns, n))
     done_most (suc k) (suc l) a e n = by_sharp (follow (suc k) a e).sharp
       where
@@ -112,8 +105,7 @@ module _ {P : Type 0} (m : Device P) where
             ⊎ ((j : ℕ) → (follow (suc k) a e).rest.count j ≡ 0)
             → total (suc k) (Done a) e ≤ suc (then_count m d first more (suc k - 1) p turns)
         by_sharp (inl exact) = sharp_most k l a e n (exact l n)
-        by_sharp (inr quiet) = quiet_most (suc k) ((follow (suc k) a e).rest.count (along m (suc k) d p turns).left)
-            (quiet (along m (suc k) d p turns).left)
+        by_sharp (inr quiet) = search (rules, quiet_most)
 
     at_most_from : (k : ℕ) (x : Dialog E A) (e : (along m k d p turns).dialog ≡ x)
         → total k x e ≤ suc (then_count m d first more (k - 1) p turns)
@@ -133,8 +125,7 @@ module _ {P : Type 0} (m : Device P) where
       none = none_from (along m 0 d p turns).dialog refl;
       at_least = λ k. at_least_from k (along m k d p turns).dialog refl;
       at_most = λ k. at_most_from k (along m k d p turns).dialog refl;
-      stands = λ k. subst (λ (s : LineState E B P). At (total k (along m k d p turns).dialog refl) s.programmer)
-          (sym (along_bind m k d next p turns)) (stands_from k (along m k d p turns).dialog refl);
+      stands = search (rules, along_bind, stands_from);
     }
 
   -- all steps of a completed run are done
@@ -157,8 +148,7 @@ module _ {P : Type 0} (m : Device P) where
       all_on s.left s.turns s.programmer s.dialog go_on got (steps_done m steps s.left s.programmer s.turns)
       (length steps)
       (λ bytes f. steps_all steps s.left (before ++ bytes) s.programmer s.turns got f)
-      (sym (ap (λ (t : LineState ⊥ StepOutcome P). t.dialog) (along_bind m k (step commands) (if_done go_on) p turns))
-      ∙ e)
+      (search (rules, along_bind))
 
 module _ (part : Part) (steps : List (List Command)) (m : Memories) (before : List ℕ) (p : Programmer)
     (turns : List Turn) (sound : IsPart part) (are : AreSteps part steps) (s : Settled part m p) where
@@ -176,8 +166,7 @@ module _ (part : Part) (steps : List (List Command)) (m : Memories) (before : Li
       let then = along_before device k l (play steps before) p turns (Ok got) e n in
       let all : steps_done device steps k p turns ≡ length steps =
       steps_all device steps k before p turns got (ap (λ (z : LineState ⊥ StepOutcome Programmer). z.dialog) then) in
-      let whole : (climbs (suc k)).count ≡ length steps = (climbs (suc k)).whole got e in
-      subst (λ i. (climbs (suc k)).count ≤ steps_done device steps i p turns) (sym back) (omega (arith, all, whole))
+      search (rules, climbs)
 
   -- a run of steps; if it was completed, all its page writes were, before the last question of what follows
   pub tallies_play : (t : Tallies device (play steps before) (steps_done device steps)

@@ -1,5 +1,5 @@
 -- Writes, memory by memory: what a write makes of a memory, by whether the memory can only lose bits.
-use Rattle.std.proofs.Common.{◌≡◌, ℕ, refl, sym, ap, ◌∙◌, List, [], ◌∷◌, length, get_or, Bool, true, false, unwrap_or}
+use Rattle.std.proofs.Common.{◌≡◌, ℕ, refl, sym, ap, ◌∙◌, List, [], ◌∷◌, length, get_or, Bool, true, false, unwrap_or, rules}
 use Rattle.std.proofs.lemmas.Bool.{true≢false, cond-true}
 use Rattle.std.specs.Prelude.{◌==◌, ◌||◌, not, if◌then◌else◌}
 use Rattle.avr_image.specs.Image.{byte_at}
@@ -99,13 +99,9 @@ written_size false zeros image xs = length_laid zeros image xs
 -- a write keeps the size of each memory, and changes no other memory
 pub size_stays : (part : Part) (other mem : Mem) (image : Image) (m : Memories)
     → length (memory_in part mem (write_effect other image m)) ≡ length (memory_in part mem m)
-size_stays part other mem image m = ap (λ (xs : List ℕ). length xs) (write_is part other mem image m)
-    ∙ written_size (spares other mem (are_locked m)) (keeps_zeros mem) image (memory_in part mem m)
+size_stays part other mem image m = search (rules, write_is, written_size)
 
 pub others_stay : (part : Part) (other mem : Mem) (image : Image) (m : Memories)
     → (memory_number other == memory_number mem) ≡ false
     → memory_in part mem (write_effect other image m) ≡ memory_in part mem m
-others_stay part other mem image m e = write_is part other mem image m
-    ∙ cond-true (spares other mem (are_locked m)) (memory_in part mem m)
-    (laid (keeps_zeros mem) image (memory_in part mem m))
-    (ap (λ same. not same || is_barred mem (are_locked m)) e)
+others_stay part other mem image m e = search (rules, write_is, cond-true)

@@ -1,5 +1,5 @@
 -- The steps of an item do what the item does, and fit the part.
-use Rattle.std.proofs.Common.{◌≡◌, ℕ, zero, suc, ◌+◌, ◌-◌, ◌*◌, ◌/◌, ◌%◌, ◌≤◌, ◌<◌, List, [], ◌∷◌, ◌++◌, length, get_or, replicate, refl, sym, ap, ◌∙◌, subst, arith, inl, inr, Bool, true, false, cond, Option, Some, None, is_some, unwrap_or}
+use Rattle.std.proofs.Common.{◌≡◌, ℕ, zero, suc, ◌+◌, ◌-◌, ◌*◌, ◌/◌, ◌%◌, ◌≤◌, ◌<◌, List, [], ◌∷◌, ◌++◌, length, get_or, replicate, refl, sym, ap, ◌∙◌, subst, arith, inl, inr, Bool, true, false, cond, Option, Some, None, is_some, unwrap_or, rules}
 use Rattle.std.proofs.lemmas.Bool.{cases_lt, false≢true, and_parts}
 use Rattle.std.proofs.lemmas.List.{length-replicate, get_or-replicate}
 use Rattle.std.proofs.lemmas.Nat.{div-add-mod'}
@@ -63,25 +63,16 @@ either_length false xs ys n f g = g
 
 blank_below : (xs : List ℕ) → AllBelow (blank xs)
 blank_below xs i l =
-    let blanks : List ℕ = replicate (length xs) 255 in
-    let long : length blanks ≡ length xs = length-replicate (length xs) 255 in
-    let e : ◌≡◌ {A = ℕ} (get_or blanks i 0) 255 = get_or-replicate (length xs) i 255 0 (omega (arith, l, long)) in
-    omega (arith, e)
+    search (rules, length-replicate, get_or-replicate)
 
 module _ (part : Part) (sound : IsPart part) where
   flash_bytes : (mem : Mem) (image : Image) (m : Memories) → AreBytes m.flash
       → AreBytes (effect part (Write mem image) m).flash
-  flash_bytes Flash image m bytes = either_bytes (are_locked m) m.flash (and_in image m.flash) bytes
-      (all_below (and_in image m.flash) (below_and_in image m.flash (below_all m.flash bytes)))
+  flash_bytes Flash image m bytes = search (rules, either_bytes, all_below, below_and_in, below_all)
   flash_bytes mem image m bytes = bytes
 
   pub effect_sizes : (item : Item) (m : Memories) → FitsPart part m → FitsPart part (effect part item m)
-  effect_sizes Erase m f = record {
-    flash = length-replicate (length m.flash) 255 ∙ f.flash;
-    eeprom = either_length (erase_keeps_eeprom part m) m.eeprom (blank m.eeprom) part.eeprom_size f.eeprom
-        (length-replicate (length m.eeprom) 255 ∙ f.eeprom);
-    bytes = all_below (blank m.flash) (blank_below m.flash);
-  }
+  effect_sizes Erase m f = search (rules, length-replicate, either_length, all_below, blank_below)
   effect_sizes (Write mem image) m f = record {
     flash = size_stays part mem Flash image m ∙ f.flash;
     eeprom = size_stays part mem Eeprom image m ∙ f.eeprom;
@@ -93,12 +84,9 @@ module _ (part : Part) (sound : IsPart part) where
       → effects part (page_writes_of (write_steps part mem image)) m ≡ effect part (Write mem image) m
   write_does Flash image m fits f = pages_effect part sound image m f.flash (below_all m.flash f.bytes)
   write_does Eeprom image m fits f = runs_effect part sound image m fits
-  write_does Lfuse image m fits f = byte_item part m (λ x. record m { lfuse = x }) (are_locked m) m.lfuse
-      (program_fuse Low) (byte_at image 0) (λ v. refl) refl
-  write_does Hfuse image m fits f = byte_item part m (λ x. record m { hfuse = x }) (are_locked m) m.hfuse
-      (program_fuse High) (byte_at image 0) (λ v. refl) refl
-  write_does Efuse image m fits f = byte_item part m (λ x. record m { efuse = x }) (are_locked m) m.efuse
-      (program_fuse Extended) (byte_at image 0) (λ v. refl) refl
+  write_does Lfuse image m fits f = search (rules, byte_item)
+  write_does Hfuse image m fits f = search (rules, byte_item)
+  write_does Efuse image m fits f = search (rules, byte_item)
   write_does Lock image m fits f = lock_item part (byte_at image 0) m
   write_does mem image m fits f = refl
 
@@ -157,11 +145,7 @@ module _ (part : Part) (sound : IsPart part) where
           mul-le-mul_right part.flash_page (omega (arith, l)) in
           let next = suc-mul n part.flash_page in
           ProgramsPage n (filled_bytes image (n * part.flash_page) part.flash_page)
-          (record {
-            whole = (filled_is image (n * part.flash_page) part.flash_page).size;
-            inside =
-                omega (arith, all, whole, up, next);
-          }) refl
+          (search (rules, filled_is)) refl
 
   run_is_step : (image : Image) (addr : ℕ) → length image ≤ part.eeprom_size
       → AreSteps part (run_steps_at part image addr)
@@ -178,21 +162,11 @@ module _ (part : Part) (sound : IsPart part) where
           let rest : addr % page < page = omega arith in
           let end = run_end image addr (page_end page addr) in
           let run = run_is_longest image addr (page_end page addr) (omega (arith, here, rest)) in
-          let longer : addr < end = elim (cases_lt addr end) [
-            | inl lt ↦ lt
-            | inr ge ↦
-                let same : end ≡ addr = omega (arith, ge, run.after) in
-                absurd (false≢true (sym (ap is_some (subst (λ a. byte_at image a ≡ None) same
-                (run.stop (omega (arith, same, here, rest))))) ∙ held))
-          ] in
+          let longer : addr < end = search (rules, cases_lt) in
           let last : end - 1 < length image = held_within image (end - 1)
           (run.held (end - 1) (omega (arith, longer)) (omega (arith, longer))) in
           let size = (filled_is image addr (end - addr)).size in
-          ProgramsRun addr (filled_bytes image addr (end - addr)) (record {
-            some = omega (arith, size, longer);
-            within = omega (arith, size, run.bound, here, rest, longer);
-            inside = omega (arith, size, last, fits, longer);
-          }) refl
+          ProgramsRun addr (filled_bytes image addr (end - addr)) (search rules) refl
 
   byte_is_step : (program : ℕ → Command) (o : Option ℕ) → ((v : ℕ) → IsStep part (program v ∷ []))
       → AreSteps part (byte_steps program o)
@@ -203,8 +177,7 @@ module _ (part : Part) (sound : IsPart part) where
       → AreSteps part (write_steps part mem image)
   write_are_steps Flash image fits = each_step part (page_steps part image) 0 (part.flash_size / part.flash_page)
       (λ i a l. page_is_step image i (omega (arith, l)))
-  write_are_steps Eeprom image fits = each_step part (run_steps_at part image) 0 part.eeprom_size
-      (λ i a l. run_is_step image i fits)
+  write_are_steps Eeprom image fits = search (rules, each_step, run_is_step)
   write_are_steps Lfuse image fits = byte_is_step (program_fuse Low) (byte_at image 0) (λ v. ProgramsFuse Low v refl)
   write_are_steps Hfuse image fits = byte_is_step (program_fuse High) (byte_at image 0) (λ v. ProgramsFuse High v refl)
   write_are_steps Efuse image fits = byte_is_step (program_fuse Extended) (byte_at image 0)
@@ -222,8 +195,7 @@ module _ (part : Part) (sound : IsPart part) where
       let all = div-add-mod' part.flash_size part.flash_page in
       let whole = sound.flash_pages in
       let even = page_even part sound (part.flash_size / part.flash_page) in
-      let same : part.flash_size / part.flash_page * part.flash_page ≡ part.flash_size = omega (arith, all, whole) in
-      ap (λ n. n % 2) (sym same) ∙ even
+      search rules
 
   block_words : (number size : ℕ) → size % 2 ≡ 0 → AreWords (number * 256) (min 256 (size - number * 256))
   block_words number size even = record { start_even = omega arith; count_even = omega (arith, even) }

@@ -1,5 +1,5 @@
 -- Writes, one after another, are one write to each memory. So writing twice is writing once, also after an erase.
-use Rattle.std.proofs.Common.{◌≡◌, ℕ, zero, suc, arith, refl, sym, ap, ap₂, ◌∙◌, inl, inr, List, [], ◌∷◌, length, get_or, Bool, true, false, Option, Some, None, unwrap_or, bit_and}
+use Rattle.std.proofs.Common.{◌≡◌, ℕ, zero, suc, arith, refl, sym, ap, ap₂, ◌∙◌, inl, inr, List, [], ◌∷◌, length, get_or, Bool, true, false, Option, Some, None, unwrap_or, bit_and, rules}
 use Rattle.std.proofs.lemmas.Bool.{true≢false, cases_Bool, eqb-true, cond-true, or_right}
 use Rattle.std.proofs.lemmas.List.{length-replicate}
 use Rattle.std.proofs.lemmas.Nat.{and_assoc}
@@ -60,8 +60,7 @@ stays None lock e = e
 stays (Some b) lock e =
     let zero_is : bit_at lock 0 ≡ 0 = eqb-true (bit_at lock 0) 0 e in
     let both_is = bit_at_and lock b 0 in
-    let none : bit_at (bit_and lock b) 0 ≡ 0 = omega (arith, both_is, zero_is) in
-    ap (λ (n : ℕ). n == 0) none
+    search rules
 
 write_stays : (mem : Mem) (image : Image) (m : Memories) → are_locked m ≡ true
     → are_locked (write_effect mem image m) ≡ true
@@ -83,10 +82,7 @@ module _ (part : Part) where
 
   begins_open : (items : List Item) (m : Memories) → has_erase items ≡ false
       → are_locked (effects part items m) ≡ false → are_locked m ≡ false
-  begins_open items m w e = elim (cases_Bool (are_locked m)) [
-    | inl locked ↦ absurd (true≢false (sym (ends_locked items m w locked) ∙ e))
-    | inr free ↦ free
-  ]
+  begins_open items m w e = search (rules, cases_Bool, ends_locked)
 
   -- ---- writes alone, in one memory
 
@@ -126,9 +122,7 @@ module _ (part : Part) where
     same_net [] m n alike = refl
     same_net (Erase ∷ items) m n alike = refl
     same_net (Write other image ∷ items) m n alike =
-        ap₂ (λ barred more. if not (memory_number other == memory_number mem) || barred then more
-        else joined (keeps_zeros mem) image more) alike.0
-        (same_net items (write_effect other image m) (write_effect other image n) alike.1)
+        search (rules, keeps_zeros, same_net items (write_effect other image m) (write_effect other image n) alike.1)
 
     by_lock : (items : List Item) (m n : Memories) → has_erase items ≡ false → m.lock ≡ n.lock → Alike items m n
     by_lock [] m n w e = tt
@@ -161,19 +155,13 @@ module _ (part : Part) where
     locked_keeps (Erase ∷ items) m barred w e = absurd (true≢false w)
     locked_keeps (Write other image ∷ items) m barred w e =
         locked_keeps items (write_effect other image m) barred w (write_stays other image m e)
-        ∙ (write_is part other mem image m
-        ∙ cond-true (spares other mem (are_locked m)) (memory_in part mem m)
-        (laid (keeps_zeros mem) image (memory_in part mem m))
-        (or_right (not (memory_number other == memory_number mem)) (is_barred mem (are_locked m))
-        (ap (is_barred mem) e ∙ barred)))
+        ∙ (search (rules, write_is, cond-true, spares, laid, keeps_zeros, or_right, is_barred))
 
     -- if what they leave bars them alike, writing twice is writing once
     net_again : (items : List Item) (m : Memories) → has_erase items ≡ false → Alike items (effects part items m) m
         → memory_in part mem (effects part items (effects part items m)) ≡ memory_in part mem (effects part items m)
     net_again items m w alike =
-        net_is items (effects part items m) w
-        ∙ (ap₂ (laid (keeps_zeros mem)) (same_net items (effects part items m) m alike) (net_is items m w)
-        ∙ (laid_again (keeps_zeros mem) (net items m) (memory_in part mem m) ∙ sym (net_is items m w)))
+        search (rules, net_is, laid, keeps_zeros, same_net, laid_again)
 
   lock_again : (items : List Item) (m : Memories) → has_erase items ≡ false
       → memory_in part Lock (effects part items (effects part items m)) ≡ memory_in part Lock (effects part items m)
@@ -182,11 +170,7 @@ module _ (part : Part) where
   guarded_again : (mem : Mem) → is_barred mem true ≡ true → (items : List Item) (m : Memories)
       → has_erase items ≡ false
       → memory_in part mem (effects part items (effects part items m)) ≡ memory_in part mem (effects part items m)
-  guarded_again mem barred items m w = elim (cases_Bool (are_locked (effects part items m))) [
-    | inl locked ↦ locked_keeps mem items (effects part items m) barred w locked
-    | inr free ↦ net_again mem items m w (open_alike mem items (effects part items m) m w
-        (ap (λ (xs : List ℕ). bit_at (get_or xs 0 0) 0 == 0) (lock_again items m w) ∙ free) free)
-  ]
+  guarded_again mem barred items m w = search (rules, cases_Bool, locked_keeps, net_again, open_alike, lock_again)
 
   each_again : (items : List Item) (m : Memories) → has_erase items ≡ false → (mem : Mem)
       → memory_in part mem (effects part items (effects part items m)) ≡ memory_in part mem (effects part items m)
@@ -206,8 +190,7 @@ module _ (part : Part) where
   eeprom_again before true image xs kept = laid_twice image (if before then xs else blank xs)
   eeprom_again true false image xs kept = absurd (true≢false (sym (kept refl)))
   eeprom_again false false image xs kept =
-      ap (λ (n : ℕ). with_image image (replicate n 255))
-      (length-laid image (blank xs) ∙ length-replicate {A = ℕ} (length xs) 255)
+      search (rules, length-laid, length-replicate)
 
   module _ (items : List Item) (m : Memories) (w : has_erase items ≡ false)
       (kept : erase_keeps_eeprom part m ≡ true → erase_keeps_eeprom part (effects part (Erase ∷ items) m) ≡ true) where
@@ -234,8 +217,7 @@ module _ (part : Part) where
     erased_again = same_memories part _ _
         (λ mem. net_is mem items (effect part Erase left) w
         ∙ (ap (λ n. laid (keeps_zeros mem) n (memory_in part mem (effect part Erase left)))
-        (same_net mem items (effect part Erase left) blanked
-        (by_lock mem items (effect part Erase left) blanked w refl))
+        (search (rules, same_net, by_lock))
         ∙ (back mem ∙ sym (net_is mem items blanked w))))
 
   -- ---- some first ones, and then all
@@ -256,8 +238,7 @@ module _ (part : Part) where
       → effects part items (effects part (take k items) m) ≡ effects part items m
   first_writes_again k items m w =
       in_two k items (effects part (take k items) m)
-      ∙ (ap (effects part (drop k items)) (written_again (take k items) m (writes_of k items w))
-      ∙ sym (in_two k items m))
+      ∙ (search (rules, written_again, writes_of, in_two))
 
   pub first_again : (k : ℕ) (items : List Item) (m : Memories) → has_erase items ≡ false
       → (erase_keeps_eeprom part m ≡ true → erase_keeps_eeprom part (effects part (take k (Erase ∷ items)) m) ≡ true)
@@ -265,5 +246,4 @@ module _ (part : Part) where
   first_again zero items m w kept = refl
   first_again (suc k) items m w kept =
       in_two k items (effect part Erase (effects part (Erase ∷ take k items) m))
-      ∙ (ap (effects part (drop k items)) (erased_again (take k items) m (writes_of k items w) kept)
-      ∙ sym (in_two k items (effect part Erase m)))
+      ∙ (search (rules, erased_again, writes_of, in_two))

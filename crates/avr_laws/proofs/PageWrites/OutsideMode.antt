@@ -1,6 +1,6 @@
 -- Outside programming mode each step fails and changes nothing. So a step leads from its memories to those that it
 -- leaves, also if the programmer restarts.
-use Rattle.std.proofs.Common.{◌≡◌, ℕ, zero, suc, ◌*◌, ◌<◌, ◌^◌, List, [], ◌∷◌, ◌++◌, length, refl, sym, ap, ◌∙◌, subst, ◌⊎◌, inl, inr, arith, true, false, cond}
+use Rattle.std.proofs.Common.{◌≡◌, ℕ, zero, suc, ◌*◌, ◌<◌, ◌^◌, List, [], ◌∷◌, ◌++◌, length, refl, sym, ap, ◌∙◌, subst, ◌⊎◌, inl, inr, arith, true, false, cond, rules}
 use Rattle.std.proofs.lemmas.Bool.{cases_Bool, cond-false}
 use Rattle.avr_part.specs.Part.{Part, IsPart}
 use Rattle.stk_frame.specs.declared.command.Command.{Command}
@@ -114,8 +114,7 @@ loaded : (address : ℕ) (p : Programmer) → address < 2 ^ 32
 loaded address p few = ap (λ (z : Response). z.1) (obeys (LoadAddress address) p few)
 
 pub load_reply : (address : ℕ) (p : Programmer) → address < 2 ^ 32 → reply_to device (LoadAddress address) p ≡ Data []
-load_reply address p few = ap (λ (z : Response). reading_reply (LoadAddress address) (Answered z.0))
-    (obeys (LoadAddress address) p few)
+load_reply address p few = search (rules, obeys)
 
 two_idles : (part : Part) (address : ℕ) (c : Command) → address < 2 ^ 32 → FailsOutside c
     → Idles part (LoadAddress address ∷ c ∷ [])
@@ -123,12 +122,7 @@ two_idles part address c few fails = record {
   keeps = λ m p i off s. keeps m p i off s;
   none = λ p bytes off e.
       let f = fails (device.after (body (LoadAddress address)) p) (outside p off) in
-      stop_no f.fault bytes
-      (sym (ap (λ r. on_data r (λ a. on_data (reply_to device c (device.after (body (LoadAddress address)) p))
-      (λ b. joined_reply device [] (a ++ b) (device.after (body c) (device.after (body (LoadAddress address)) p)))))
-      (load_reply address p few)
-      ∙ ap (λ r. on_data r (λ b. joined_reply device [] b
-      (device.after (body c) (device.after (body (LoadAddress address)) p)))) f.reply) ∙ e);
+      search (rules, stop_no, load_reply);
 }
   where
     outside : (p : Programmer) → p.mode ≡ false → (device.after (body (LoadAddress address)) p).mode ≡ false
@@ -136,15 +130,7 @@ two_idles part address c few fails = record {
 
     kept : (m : Memories) (p : Programmer) → Settled part m p
         → Settled part m (device.after (body (LoadAddress address)) p)
-    kept m p s = subst (Settled part m) (sym (loaded address p few))
-        (record {
-          memories = s.memories;
-          part_is = s.part_is;
-          flash_buffer = s.flash_buffer;
-          eeprom_buffer =
-              s.eeprom_buffer;
-          extended = s.extended;
-        })
+    kept m p s = search (rules, loaded)
 
     keeps : (m : Memories) (p : Programmer) (i : ℕ) → p.mode ≡ false → Settled part m p
         → Settled part m (after_commands device i (LoadAddress address ∷ c ∷ []) p)
@@ -171,8 +157,7 @@ pub gathered_steady : (commands : List Command) (before : List ℕ) (p : Program
     → joined_reply steady commands before p ≡ joined_reply device commands before p
 gathered_steady [] before p = refl
 gathered_steady (command ∷ commands) before p =
-    same_on (reply_to device command p) _ _ (λ bytes. gathered_steady commands (before ++ bytes)
-    (device.after (body command) p))
+    same_on (reply_to device command p) _ _ (search rules)
 
 module _ (part : Part) (sound : IsPart part) where
   as_written : (written commands : List Command) → commands ≡ written → Idles part written → Idles part commands
@@ -189,10 +174,7 @@ module _ (part : Part) (sound : IsPart part) where
       as_written _ commands e (two_idles part (flash_address part (number * part.flash_page)) (program_page bytes)
       (address_fits part sound (number * part.flash_page) (omega arith)) (page_fails bytes (omega arith)))
   idles commands (ProgramsRun address bytes is_run e) =
-      let inside = is_run.inside in
-      let most = sound.eeprom_most in
-      as_written _ commands e (two_idles part address (program_eeprom_block bytes) (omega arith)
-      (run_fails bytes (omega arith)))
+      search (rules, as_written, two_idles, run_fails)
   idles commands (ProgramsFuse f v e) = as_written _ commands e (one_idles part (program_fuse f v) (fuse_fails f v))
   idles commands (ProgramsLock v e) = as_written _ commands e (one_idles part (program_lock v) (lock_fails v))
   idles commands (ReadsFlash start count is_block words e) =
@@ -202,11 +184,7 @@ module _ (part : Part) (sound : IsPart part) where
       as_written _ commands e (two_idles part (flash_address part start) (read_flash_block count)
       (address_fits part sound start (omega arith)) (flash_read_fails count (omega arith)))
   idles commands (ReadsEeprom start count is_block e) =
-      let inside = is_block.inside in
-      let most = sound.eeprom_most in
-      let few = is_block.few in
-      as_written _ commands e (two_idles part start (read_eeprom_block count) (omega arith)
-      (eeprom_read_fails count (omega arith)))
+      search (rules, as_written, two_idles, eeprom_read_fails)
   idles commands (ReadsFuse f e) = as_written _ commands e (one_idles part (read_fuse f) (fuse_read_fails f))
   idles commands (ReadsLock e) = as_written _ commands e (one_idles part read_lock lock_read_fails)
   idles commands (ReadsSignature place few e) =

@@ -1,5 +1,5 @@
 -- The pages of a write do what the write does.
-use Rattle.std.proofs.Common.{◌≡◌, ℕ, zero, suc, ◌+◌, ◌-◌, ◌*◌, ◌/◌, ◌%◌, ◌≤◌, ◌<◌, List, [], ◌∷◌, ◌++◌, length, get_or, take, drop, refl, sym, ap, ◌∙◌, subst, append_assoc, arith, inl, inr, true, false, Option, Some, None, is_some, bit_and}
+use Rattle.std.proofs.Common.{◌≡◌, ℕ, zero, suc, ◌+◌, ◌-◌, ◌*◌, ◌/◌, ◌%◌, ◌≤◌, ◌<◌, List, [], ◌∷◌, ◌++◌, length, get_or, take, drop, refl, sym, ap, ◌∙◌, subst, append_assoc, arith, inl, inr, true, false, Option, Some, None, is_some, bit_and, rules}
 use Rattle.std.proofs.lemmas.Grind.{and_numeral}
 use Rattle.std.proofs.lemmas.Nat.{div-add-mod', and_le_l}
 use Rattle.std.proofs.lemmas.Bool.{cases_Bool, false≢true, cond-true, cond-false}
@@ -21,8 +21,7 @@ use Rattle.avr_laws.proofs.PageWrites.Places.{Written, Changed, changed_first, g
 
 pub page_writes_on : (xs ys : List (List Command)) → page_writes_of (xs ++ ys) ≡ page_writes_of xs ++ page_writes_of ys
 page_writes_on [] ys = refl
-page_writes_on (x ∷ xs) ys = ap (λ items. page_write_of x ++ items) (page_writes_on xs ys)
-    ∙ sym (append_assoc (page_write_of x) (page_writes_of xs) (page_writes_of ys))
+page_writes_on (x ∷ xs) ys = search (rules, append_assoc, page_writes_on xs ys)
 
 pub effects_on : (part : Part) (xs ys : List Item) (m : Memories)
     → effects part (xs ++ ys) m ≡ effects part ys (effects part xs m)
@@ -43,9 +42,7 @@ AllBelow xs = (i : ℕ) → i < length xs → get_or xs i 0 < 256
 
 pub below_and_in : (image : Image) (xs : List ℕ) → AllBelow xs → AllBelow (and_in image xs)
 below_and_in image xs below i l =
-    let inside : i < length xs = omega (arith, l, length-and_in image xs) in
-    subst (λ (n : ℕ). n < 256) (sym (get_and_in image xs i inside))
-    (and_below (get_or image i None) (get_or xs i 0) (below i inside))
+    search (rules, length-and_in, get_and_in, and_below)
 
 -- a page without a byte of the image
 none_any : (xs : List (Option ℕ)) (k : ℕ) → list_any is_some xs ≡ false → get_or xs k None ≡ None
@@ -58,39 +55,20 @@ unused_gap : (page : ℕ) (image : Image) (start : ℕ) → is_used page image s
     → i < start + page → byte_at image i ≡ None
 unused_gap page image start unused i from to =
     ap (byte_at image) (let e : i ≡ start + (i - start) = omega arith in e)
-    ∙ (sym (get_or-drop start image (i - start) None)
-    ∙ (sym (get_or-take page (drop start image) (i - start) None (omega arith))
-    ∙ none_any (take page (drop start image)) (i - start) unused))
+    ∙ (search (rules, get_or-drop, get_or-take, none_any))
 
 -- the page write of a page
 page_changed : (image : Image) (start page : ℕ) (old : List ℕ) → AllBelow old
     → Changed and_with image start (start + page) old (and_in (image_at start (filled_bytes image start page)) old)
 page_changed image start page old below =
-    let f = filled_is image start page in
-    let bytes = filled_bytes image start page in
-    record {
-      order = omega arith;
-      long = length-and_in (image_at start bytes) old;
-      before = λ i l b. get_and_in (image_at start bytes) old i l
-          ∙ ap (λ (o : Option ℕ). and_with o (get_or old i 0)) (placed_before start bytes i b);
-      within = λ i l a b.
-          get_and_in (image_at start bytes) old i l
-          ∙ (ap (λ (o : Option ℕ). and_with o (get_or old i 0))
-          (placed_within start bytes i a (omega (arith, b, f.size)))
-          ∙ (ap (bit_and (get_or old i 0)) (f.byte (i - start) (omega arith)
-          ∙ ap (λ (j : ℕ). or_blank (byte_at image j)) (omega arith))
-          ∙ and_blank (byte_at image i) (get_or old i 0) (below i l)));
-      behind = λ i l b. get_and_in (image_at start bytes) old i l
-          ∙ ap (λ (o : Option ℕ). and_with o (get_or old i 0)) (placed_behind start bytes i (omega (arith, b, f.size)));
-    }
+    search (rules, filled_is, length-and_in, get_and_in, placed_before, placed_within, and_blank, placed_behind)
 
 module _ (part : Part) (sound : IsPart part) (image : Image) where
   -- the page write of the step
   flash_page_write : (start : ℕ) (m : Memories) → start < 4294967296 → start % 2 ≡ 0
       → effects part (page_write_of (page_step part image start)) m
       ≡ effect part (Write Flash (image_at start (filled_bytes image start part.flash_page))) m
-  flash_page_write start m few even = ap (λ a. effect part
-      (Write Flash (image_at a (filled_bytes image start part.flash_page))) m) (flash_address_back part start few even)
+  flash_page_write start m few even = search (rules, flash_address_back)
 
   -- flash after the page writes of these steps
   pub record Flashed (steps : List (List Command)) (m : Memories) (from : ℕ) (old : List ℕ) : Type 0 where
@@ -106,8 +84,7 @@ module _ (part : Part) (sound : IsPart part) (image : Image) where
   page_first n others m old free below few rest =
       let start = n * part.flash_page in
       let page = part.flash_page in
-      let next : (n + 1) * page ≡ start + page = let e = suc-mul n page in let f : n + 1 ≡ suc n = omega arith in
-      ap (λ k. k * page) f ∙ omega arith in
+      let next : (n + 1) * page ≡ start + page = let e = suc-mul n page in search rules in
       elim (cases_Bool (is_used page image start)) [
         | inl used ↦
             let bytes = filled_bytes image start page in
@@ -118,13 +95,7 @@ module _ (part : Part) (sound : IsPart part) (image : Image) where
             cond-true (is_used page image start) (page_step part image start ∷ []) [] used in
             record {
               new = r.new;
-              is = ap (λ ss. effects part (page_writes_of (ss ++ others)) (record m { flash = old })) steps_are
-                  ∙ (effects_on part (page_write_of (page_step part image start)) (page_writes_of others)
-                  (record m { flash = old })
-                  ∙ (ap (effects part (page_writes_of others))
-                  (flash_page_write start (record m { flash = old }) few (page_even part sound n)
-                  ∙ ap (λ flash. record m { flash = flash }) (cond-false (are_locked m) old mid free))
-                  ∙ r.is));
+              is = search (rules, effects_on, flash_page_write, page_even, cond-false);
               written = changed_first and_with image start (start + page) old mid r.new
                   (page_changed image start page old below)
                   (subst (λ to. Written and_with image to mid r.new) next r.written);
@@ -137,26 +108,14 @@ module _ (part : Part) (sound : IsPart part) (image : Image) where
               new = r.new;
               is = ap (λ ss. effects part (page_writes_of (ss ++ others)) (record m { flash = old })) steps_are ∙ r.is;
               written = gap_first and_with image start (start + page) old r.new (λ x. refl) (omega arith)
-                  (unused_gap page image start unused) (subst (λ to. Written and_with image to old r.new) next
-                  r.written);
+                  (unused_gap page image start unused) (search rules);
             }
       ]
 
   pages_free : (n k : ℕ) (m : Memories) (old : List ℕ) → are_locked m ≡ false → AllBelow old
       → (n + k) * part.flash_page ≡ length old → length old ≤ 262144
       → Flashed (each_from (page_steps part image) n k) m (n * part.flash_page) old
-  pages_free n zero m old free below long most = record {
-    new = old;
-    is = refl;
-    written = nothing_left and_with image (n * part.flash_page) old (λ x. refl)
-        (λ i l b. absurd (omega (
-          arith,
-          l,
-          b,
-          (let e : (n + 0) * part.flash_page ≡ n * part.flash_page =
-              ap (λ j. j * part.flash_page) (omega arith) in sym e ∙ long),
-        )));
-  }
+  pages_free n zero m old free below long most = search (rules, nothing_left)
   pages_free n (suc k) m old free below long most =
       let within : n * part.flash_page ≤ (n + suc k) * part.flash_page =
       less n (n + suc k) part.flash_page (omega arith) in
@@ -173,31 +132,15 @@ module _ (part : Part) (sound : IsPart part) (image : Image) where
       → n * part.flash_page < 4294967296 → effects part (page_writes_of others) m ≡ m
       → effects part (page_writes_of (page_steps part image n ++ others)) m ≡ m
   page_locked n others m lock few rest =
-      let start = n * part.flash_page in
-      let page = part.flash_page in
-      elim (cases_Bool (is_used page image start)) [
-        | inl used ↦
-            ap (λ ss. effects part (page_writes_of (ss ++ others)) m)
-            (cond-true (is_used page image start) (page_step part image start ∷ []) [] used)
-            ∙ (effects_on part (page_write_of (page_step part image start)) (page_writes_of others) m
-            ∙ (ap (effects part (page_writes_of others))
-            (flash_page_write start m few (page_even part sound n)
-            ∙ ap (λ flash. record m { flash = flash })
-            (cond-true (are_locked m) m.flash (and_in (image_at start (filled_bytes image start page)) m.flash) lock))
-            ∙ rest))
-        | inr unused ↦ ap (λ ss. effects part (page_writes_of (ss ++ others)) m)
-            (cond-false (is_used page image start) (page_step part image start ∷ []) [] unused) ∙ rest
-      ]
+      search (rules, cases_Bool, cond-true, effects_on, flash_page_write, page_even, cond-false)
 
   pages_locked : (n k : ℕ) (m : Memories) → are_locked m ≡ true → (n + k) * part.flash_page ≤ 262144
       → effects part (page_writes_of (each_from (page_steps part image) n k)) m ≡ m
   pages_locked n zero m lock most = refl
   pages_locked n (suc k) m lock most =
-      let within : n * part.flash_page ≤ (n + suc k) * part.flash_page =
-      mul-le-mul_right part.flash_page (omega arith) in
-      page_locked n (each_from (page_steps part image) (n + 1) k) m lock (omega (arith, within, most))
-      (pages_locked (n + 1) k m lock (let e : (n + 1 + k) * part.flash_page ≡ (n + suc k) * part.flash_page =
-      ap (λ j. j * part.flash_page) (omega arith) in omega (arith, e, most)))
+      search (rules, mul-le-mul_right, page_locked, pages_locked (n + 1) k m lock (let e : (n + 1 + k) *
+          part.flash_page ≡ (n + suc k) * part.flash_page = ap (λ j. j * part.flash_page) (omega arith) in omega
+          (arith, e, most)))
 
   -- the pages of an image do what its write does
   pub pages_effect : (m : Memories) → length m.flash ≡ part.flash_size → AllBelow m.flash
@@ -205,20 +148,13 @@ module _ (part : Part) (sound : IsPart part) (image : Image) where
       ≡ effect part (Write Flash image) m
   pages_effect m long below =
       let count : (0 + part.flash_size / part.flash_page) * part.flash_page ≡ part.flash_size =
-      let f = div-add-mod' part.flash_size part.flash_page in
-      let g = sound.flash_pages in
-      let h : 0 + part.flash_size / part.flash_page ≡ part.flash_size / part.flash_page = omega arith in
-      ap (λ j. j * part.flash_page) h ∙ omega arith in
+      search (rules, div-add-mod') in
       let most = sound.flash_most in
       elim (cases_Bool (are_locked m)) [
         | inl lock ↦ pages_locked 0 (part.flash_size / part.flash_page) m lock (omega (arith, count))
             ∙ ap (λ f. record m { flash = f }) (sym (cond-true (are_locked m) m.flash (and_in image m.flash) lock))
         | inr free ↦
             let r : Flashed (each_from (page_steps part image) 0 (part.flash_size / part.flash_page)) m
-            (0 * part.flash_page) m.flash = pages_free 0 (part.flash_size / part.flash_page) m m.flash free below
-            (count ∙ sym long) (omega (arith, long)) in
-            r.is
-            ∙ (ap (λ f. record m { flash = f }) (all_anded image m.flash r.new
-            (subst (λ from. Written and_with image from m.flash r.new) (zero-mul part.flash_page) r.written))
-            ∙ ap (λ f. record m { flash = f }) (sym (cond-false (are_locked m) m.flash (and_in image m.flash) free)))
+            (0 * part.flash_page) m.flash = search (rules, pages_free) in
+            search (rules, all_anded, zero-mul, cond-false)
       ]

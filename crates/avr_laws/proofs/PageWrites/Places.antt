@@ -1,5 +1,5 @@
 -- A memory that is changed place by place, by its image.
-use Rattle.std.proofs.Common.{◌≡◌, ℕ, ◌+◌, ◌-◌, ◌≤◌, ◌<◌, List, length, get_or, map, refl, sym, ap, ◌∙◌, arith, inl, inr, Option, Some, None, unwrap_or}
+use Rattle.std.proofs.Common.{◌≡◌, ℕ, ◌+◌, ◌-◌, ◌≤◌, ◌<◌, List, length, get_or, map, refl, sym, ap, ◌∙◌, arith, inl, inr, Option, Some, None, unwrap_or, rules}
 use Rattle.std.proofs.lemmas.Bool.{cases_lt}
 use Rattle.std.proofs.lemmas.List.{ext_get_or, length-map, get_or_past}
 use Rattle.avr_image.specs.Image.{byte_at}
@@ -24,35 +24,18 @@ pub record Changed (f : Option ℕ → ℕ → ℕ) (image : Image) (from to : �
 -- a page write, then the others
 pub changed_first : (f : Option ℕ → ℕ → ℕ) (image : Image) (from to : ℕ) (old mid new : List ℕ)
     → Changed f image from to old mid → Written f image to mid new → Written f image from old new
-changed_first f image from to old mid new s w = record {
-  long = w.long ∙ s.long;
-  kept = λ i l b. w.kept i (omega (arith, l, s.long)) (omega (arith, b, s.order)) ∙ s.before i l b;
-  done = λ i l b. elim (cases_lt i to) [
-    | inl inside ↦ w.kept i (omega (arith, l, s.long)) inside ∙ s.within i l b inside
-    | inr past ↦ w.done i (omega (arith, l, s.long)) past ∙ ap (f (byte_at image i)) (s.behind i l past)
-  ];
-}
+changed_first f image from to old mid new s w = search (rules, cases_lt)
 
 -- nothing is left to change
 pub nothing_left : (f : Option ℕ → ℕ → ℕ) (image : Image) (from : ℕ) (old : List ℕ) → ((x : ℕ) → f None x ≡ x)
     → ((i : ℕ) → i < length old → from ≤ i → byte_at image i ≡ None) → Written f image from old old
-nothing_left f image from old none gap = record {
-  long = refl;
-  kept = λ i l b. refl;
-  done = λ i l b. sym (none (get_or old i 0)) ∙ ap (λ (o : Option ℕ). f o (get_or old i 0)) (sym (gap i l b));
-}
+nothing_left f image from old none gap = search rules
 
 -- a gap is skipped
 pub gap_first : (f : Option ℕ → ℕ → ℕ) (image : Image) (from to : ℕ) (old new : List ℕ) → ((x : ℕ) → f None x ≡ x)
     → from ≤ to → ((i : ℕ) → from ≤ i → i < to → byte_at image i ≡ None) → Written f image to old new
     → Written f image from old new
-gap_first f image from to old new none order gap w = changed_first f image from to old old new (record {
-  order = order;
-  long = refl;
-  before = λ i l b. refl;
-  within = λ i l a b. sym (none (get_or old i 0)) ∙ ap (λ (o : Option ℕ). f o (get_or old i 0)) (sym (gap i a b));
-  behind = λ i l b. refl;
-}) w
+gap_first f image from to old new none order gap w = changed_first f image from to old old new (search rules) w
 
 -- all is changed
 pub all_laid : (image : Image) (old new : List ℕ) → Written (λ b x. unwrap_or b x) image 0 old new
@@ -76,6 +59,4 @@ placed_within start bytes i from to = in_part start (map Some bytes) i from ∙ 
 pub placed_behind : (start : ℕ) (bytes : List ℕ) (i : ℕ) → start + length bytes ≤ i
     → get_or (image_at start bytes) i None ≡ None
 placed_behind start bytes i past =
-    in_part start (map Some bytes) i (omega arith)
-    ∙ get_or_past (map Some bytes) (i - start) None
-    (let e : length (map {B = Option ℕ} Some bytes) ≤ i - start = rw length-map (omega arith) in e)
+    search (rules, in_part, get_or_past, length-map)

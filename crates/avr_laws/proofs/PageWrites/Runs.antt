@@ -1,5 +1,5 @@
 -- The runs of a write do what the write does.
-use Rattle.std.proofs.Common.{◌≡◌, ℕ, zero, suc, ◌+◌, ◌-◌, ◌*◌, ◌/◌, ◌%◌, ◌≤◌, ◌<◌, List, [], ◌∷◌, ◌++◌, length, get_or, refl, sym, ap, ◌∙◌, arith, inl, inr, ◌⊎◌, true, false, Option, Some, None, is_some, unwrap_or}
+use Rattle.std.proofs.Common.{◌≡◌, ℕ, zero, suc, ◌+◌, ◌-◌, ◌*◌, ◌/◌, ◌%◌, ◌≤◌, ◌<◌, List, [], ◌∷◌, ◌++◌, length, get_or, refl, sym, ap, ◌∙◌, arith, inl, inr, ◌⊎◌, true, false, Option, Some, None, is_some, unwrap_or, rules}
 use Rattle.std.proofs.lemmas.Bool.{cases_Bool, false≢true, cond-true, cond-false}
 use Rattle.avr_image.specs.Image.{byte_at, filled_bytes, or_blank, run_end, first_from}
 use Rattle.avr_image.specs.Walk.{IsNextHeld}
@@ -26,24 +26,7 @@ run_changed : (image : Image) (start end : ℕ) (old : List ℕ) → start ≤ e
     → Changed (λ b x. unwrap_or b x) image start end old
     (with_image (image_at start (filled_bytes image start (end - start))) old)
 run_changed image start end old order held =
-    let f = filled_is image start (end - start) in
-    let bytes = filled_bytes image start (end - start) in
-    record {
-      order = order;
-      long = length-laid (image_at start bytes) old;
-      before = λ i l b. get_laid (image_at start bytes) old i l
-          ∙ ap (λ (o : Option ℕ). unwrap_or o (get_or old i 0)) (placed_before start bytes i b);
-      within = λ i l a b.
-          get_laid (image_at start bytes) old i l
-          ∙ (ap (λ (o : Option ℕ). unwrap_or o (get_or old i 0))
-          (placed_within start bytes i a (omega (arith, a, b, f.size)))
-          ∙ (f.byte (i - start) (omega (arith, a, b))
-          ∙ ap (λ (j : ℕ). or_blank (byte_at image j)) (let e : start + (i - start) ≡ i = omega (arith, a) in e)
-          ∙ held_byte (byte_at image i) (get_or old i 0) (held i a b)));
-      behind = λ i l b. get_laid (image_at start bytes) old i l
-          ∙ ap (λ (o : Option ℕ). unwrap_or o (get_or old i 0))
-          (placed_behind start bytes i (omega (arith, b, f.size)));
-    }
+    search (rules, filled_is, length-laid, get_laid, placed_before, placed_within, held_byte, placed_behind)
 
 module _ (part : Part) (sound : IsPart part) (image : Image) where
   -- EEPROM after the page writes of these steps
@@ -64,16 +47,8 @@ module _ (part : Part) (sound : IsPart part) (image : Image) where
       let r : Loaded others m end mid = rest mid (length-laid (image_at start bytes) old) in
       record {
         new = r.new;
-        is = ap (λ ss. effects part (page_writes_of ss) (record m { eeprom = old })) steps_are
-            ∙ (ap (λ (e : ℕ). effects part (page_writes_of others)
-            (effect part (Write Eeprom (image_at start (filled_bytes image start (e - start))))
-            (record m { eeprom = old }))) (sym end_is)
-            ∙ (ap (λ eeprom. effects part (page_writes_of others) (record m { eeprom = eeprom }))
-            (cond-false (are_locked m) old mid free)
-            ∙ r.is));
-        written = gap_first (λ b x. unwrap_or b x) image next start old r.new (λ x. refl) first.after first.gap
-            (changed_first (λ b x. unwrap_or b x) image start end old mid r.new
-            (run_changed image start end old order held) r.written);
+        is = search (rules, cond-false);
+        written = search (rules, gap_first, changed_first, run_changed);
       }
 
   -- from a border on, by the next byte that is held
@@ -89,8 +64,7 @@ module _ (part : Part) (sound : IsPart part) (image : Image) where
       let gap = none_held image next e in
       record {
         new = old;
-        is = ap (λ ss. effects part (page_writes_of ss) (record m { eeprom = old }))
-            (last_run part image next (part.eeprom_size - next) gap);
+        is = search (rules, last_run);
         written = nothing_left (λ b x. unwrap_or b x) image next old (λ x. refl) (λ i l from. gap i from);
       }
   runs_from next (Some start) m old free fits border e others =
@@ -113,8 +87,7 @@ module _ (part : Part) (sound : IsPart part) (image : Image) where
       → part.eeprom_size ≤ next + fuel
       → (next % part.eeprom_page ≡ 0) ⊎ (byte_at image next ≡ None) → From next m old
   runs_free zero next m old free fits enough border =
-      runs_from next (first_from image next) m old free fits border refl
-      (λ end mid longer inside b. absurd (omega (arith, inside, enough)))
+      search (rules, runs_from)
   runs_free (suc fuel) next m old free fits enough border =
       runs_from next (first_from image next) m old free fits border refl
       (λ end mid longer inside b. runs_free fuel end m mid free fits (omega (arith, longer, enough)) b)
@@ -123,21 +96,12 @@ module _ (part : Part) (sound : IsPart part) (image : Image) where
   run_locked : (addr : ℕ) (others : List (List Command)) (m : Memories) → are_locked m ≡ true
       → effects part (page_writes_of others) m ≡ m
       → effects part (page_writes_of (run_steps_at part image addr ++ others)) m ≡ m
-  run_locked addr others m lock rest = elim (cases_Bool (begins_run part.eeprom_page image addr)) [
-    | inl begins ↦
-        ap (λ ss. effects part (page_writes_of (ss ++ others)) m)
-        (cond-true (begins_run part.eeprom_page image addr) (run_step part image addr ∷ []) [] begins)
-        ∙ (ap (λ eeprom. effects part (page_writes_of others) (record m { eeprom = eeprom }))
-        (cond-true (are_locked m) m.eeprom _ lock) ∙ rest)
-    | inr none ↦ ap (λ ss. effects part (page_writes_of (ss ++ others)) m)
-        (cond-false (begins_run part.eeprom_page image addr) (run_step part image addr ∷ []) [] none) ∙ rest
-  ]
+  run_locked addr others m lock rest = search (rules, cases_Bool, cond-true, cond-false)
 
   runs_locked : (addr count : ℕ) (m : Memories) → are_locked m ≡ true
       → effects part (page_writes_of (each_from (run_steps_at part image) addr count)) m ≡ m
   runs_locked addr zero m lock = refl
-  runs_locked addr (suc count) m lock = run_locked addr (each_from (run_steps_at part image) (addr + 1) count) m lock
-      (runs_locked (addr + 1) count m lock)
+  runs_locked addr (suc count) m lock = search (rules, run_locked, runs_locked (addr + 1) count m lock)
 
   -- the runs of an image do what its write does
   pub runs_effect : (m : Memories) → length image ≤ part.eeprom_size
@@ -152,7 +116,5 @@ module _ (part : Part) (sound : IsPart part) (image : Image) where
         let all : part.eeprom_size ≡ part.eeprom_size - 0 = omega arith in
         ap (λ count. effects part (page_writes_of (each_from (run_steps_at part image) 0 count)) m) all
         ∙ (r.is
-        ∙ (ap (λ e. record m { eeprom = e }) (all_laid image m.eeprom r.new r.written)
-        ∙ ap (λ e. record m { eeprom = e }) (sym
-        (cond-false (are_locked m) m.eeprom (with_image image m.eeprom) free))))
+        ∙ (search (rules, all_laid, cond-false)))
   ]

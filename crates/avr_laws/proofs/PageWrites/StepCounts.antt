@@ -1,5 +1,5 @@
 -- Each step of a write has one page write: steps are counted as page writes.
-use Rattle.std.proofs.Common.{◌≡◌, ℕ, zero, suc, ◌*◌, ◌/◌, List, [], ◌∷◌, ◌++◌, length, take, refl, arith, Bool, true, false, cond, Option, Some, None}
+use Rattle.std.proofs.Common.{◌≡◌, ℕ, zero, suc, ◌*◌, ◌/◌, List, [], ◌∷◌, ◌++◌, length, take, refl, arith, Bool, true, false, cond, Option, Some, None, rules}
 use Rattle.avr_image.specs.Image.{byte_at}
 use Rattle.avr_part.specs.declared.part.Mem.{Mem}
 use Rattle.avr_part.specs.declared.part.Mem.TheVariants.{Flash, Eeprom, Lfuse, Hfuse, Efuse, Lock}
@@ -47,11 +47,8 @@ byte_page_writes program (Some v) each = (each v, tt)
 
 image_page_writes : (part : Part) (mem : Mem) (image : Image) → ArePageWrites (write_steps part mem image)
 image_page_writes part Flash image =
-    each_of IsPageWrite (page_steps part image) 0 (part.flash_size / part.flash_page)
-    (λ n. either_page_writes (is_used part.flash_page image (n * part.flash_page))
-    (page_step part image (n * part.flash_page) ∷ []) (refl, tt))
-image_page_writes part Eeprom image = each_of IsPageWrite (run_steps_at part image) 0 part.eeprom_size
-    (λ a. either_page_writes (begins_run part.eeprom_page image a) (run_step part image a ∷ []) (refl, tt))
+    search (rules, each_of, either_page_writes)
+image_page_writes part Eeprom image = search (rules, each_of, either_page_writes)
 image_page_writes part Lfuse image = byte_page_writes (program_fuse Low) (byte_at image 0) (λ v. refl)
 image_page_writes part Hfuse image = byte_page_writes (program_fuse High) (byte_at image 0) (λ v. refl)
 image_page_writes part Efuse image = byte_page_writes (program_fuse Extended) (byte_at image 0) (λ v. refl)
@@ -62,8 +59,7 @@ pub all_page_writes : (part : Part) (items : List Item) → ArePageWrites (all_s
 all_page_writes part [] = tt
 all_page_writes part (Erase ∷ items) = (refl, all_page_writes part items)
 all_page_writes part (Write mem image ∷ items) =
-    each_on IsPageWrite (write_steps part mem image) (all_steps part items) (image_page_writes part mem image)
-    (all_page_writes part items)
+    search (rules, each_on, image_page_writes, all_page_writes part items)
 
 pub items_counted : (part : Part) (items : List Item) (count : ℕ) (m : Memories)
     → changed_by part count (all_steps part items) m

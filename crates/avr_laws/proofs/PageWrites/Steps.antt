@@ -1,5 +1,5 @@
 -- Each step leads from its memories to those that it leaves, also if it is cut short and repeated.
-use Rattle.std.proofs.Common.{◌≡◌, ℕ, ◌+◌, ◌*◌, ◌/◌, ◌<◌, ◌^◌, List, [], ◌∷◌, refl, sym, subst, arith, Some, inl, inr}
+use Rattle.std.proofs.Common.{◌≡◌, ℕ, ◌+◌, ◌*◌, ◌/◌, ◌<◌, ◌^◌, List, [], ◌∷◌, refl, sym, subst, arith, Some, inl, inr, rules}
 use Rattle.std.proofs.lemmas.Bool.{cases_Bool, cond-true, cond-false}
 use Rattle.std.specs.Prelude.{nat_lt}
 use Rattle.avr_part.specs.declared.part.Mem.TheVariants.{Flash, Eeprom, Lfuse, Hfuse, Efuse, Lock}
@@ -44,31 +44,24 @@ module _ (part : Part) where
   quiet c m keeps = one_steady c _ _ (λ p s. keeps p s) (λ p s. keeps p s)
 
   pub sign_on_fits : (m : Memories) → Fits device (SignOn ∷ []) (Idle part m) (Idle part m)
-  sign_on_fits m = one_fits device SignOn (Idle part m) (Idle part m) (λ p s. sign_on_keeps part m p s)
-      (λ p s. sign_on_keeps part m p s) (λ p s. anew_idle part m p s) (λ p s. anew_idle part m p s)
+  sign_on_fits m = search (rules, one_fits, sign_on_keeps, anew_idle)
 
   pub enter_fits : (m : Memories) → Fits device (enter ∷ []) (Idle part m) (Settled part m)
   enter_fits m =
-      one_fits device enter (Idle part m) (Settled part m) (λ p s. ready_settled part m _ (enter_does part m p s))
-      (λ p s. ready_settled part m _ (enter_does part m p (settled_idle part m p s)))
-      (λ p s. anew_idle part m p s) (λ p s. anew_settled part m p s)
+      search (rules, one_fits, ready_settled, enter_does, settled_idle, anew_idle, anew_settled)
 
   pub leave_fits : (m : Memories) → Fits device (leave ∷ []) (Idle part m) (Idle part m)
-  leave_fits m = one_fits device leave (Idle part m) (Idle part m) (λ p s. leave_keeps part m p s)
-      (λ p s. leave_keeps part m p s) (λ p s. anew_idle part m p s) (λ p s. anew_idle part m p s)
+  leave_fits m = search (rules, one_fits, leave_keeps, anew_idle)
 
   -- the same if nothing restarts
   pub sign_on_steady : (m : Memories) → Fits steady (SignOn ∷ []) (Idle part m) (Idle part m)
-  sign_on_steady m = one_steady SignOn (Idle part m) (Idle part m) (λ p s. sign_on_keeps part m p s)
-      (λ p s. sign_on_keeps part m p s)
+  sign_on_steady m = search (rules, one_steady, sign_on_keeps)
 
   pub enter_ready : (m : Memories) → Fits steady (enter ∷ []) (Idle part m) (Ready part m)
-  enter_ready m = one_steady enter (Idle part m) (Ready part m) (λ p s. enter_does part m p s)
-      (λ p s. enter_does part m p (ready_idle part m p s))
+  enter_ready m = search (rules, one_steady, enter_does, ready_idle)
 
   pub leave_steady : (m : Memories) → Fits steady (leave ∷ []) (Idle part m) (Idle part m)
-  leave_steady m = one_steady leave (Idle part m) (Idle part m) (λ p s. leave_keeps part m p s)
-      (λ p s. leave_keeps part m p s)
+  leave_steady m = search (rules, one_steady, leave_keeps)
 
   module _ (sound : IsPart part) where
     -- what is repeated
@@ -79,12 +72,7 @@ module _ (part : Part) where
 
     -- the address of a place in flash fits its command
     pub address_fits : (start : ℕ) → start < 4294967296 → flash_address part start < 2 ^ 32
-    address_fits start few = elim (cases_Bool (nat_lt 131072 part.flash_size)) [
-      | inl wide ↦ let is : flash_address part start ≡ start / 2 + 2147483648 =
-          cond-true (nat_lt 131072 part.flash_size) (start / 2 + 2147483648) (start / 2) wide in omega (arith, is)
-      | inr narrow ↦ let is : flash_address part start ≡ start / 2 =
-          cond-false (nat_lt 131072 part.flash_size) (start / 2 + 2147483648) (start / 2) narrow in omega (arith, is)
-    ]
+    address_fits start few = search (rules, cases_Bool, cond-true, cond-false)
 
     page_fits : (number : ℕ) (bytes : List ℕ) (m : Memories) → IsPage part number bytes
         → Fits steady (load_flash part (number * part.flash_page) ∷ program_page bytes ∷ []) (Ready part m)
@@ -94,13 +82,7 @@ module _ (part : Part) where
         let most = sound.flash_most in
         let few : flash_address part (number * part.flash_page) < 2 ^ 32 =
         address_fits (number * part.flash_page) (omega arith) in
-        let commands = load_flash part (number * part.flash_page) ∷ program_page bytes ∷ [] in
-        two_steady (load_flash part (number * part.flash_page)) (program_page bytes) _ _
-        (λ p s. load_keeps part (flash_address part (number * part.flash_page)) m p few s)
-        (λ p s. load_keeps part (flash_address part (number * part.flash_page)) (changed part commands m) p few s)
-        (λ p s. page_does part sound number bytes m p is_page s)
-        (λ p s. again_of commands m _ (effect_twice part (Write Flash _) m)
-        (page_does part sound number bytes (changed part commands m) p is_page s))
+        search (rules, two_steady, load_keeps, page_does, again_of, effect_twice)
 
     run_fits : (address : ℕ) (bytes : List ℕ) (m : Memories) → FitsEepromPage part address bytes
         → Fits steady (load_eeprom address ∷ program_eeprom_block bytes ∷ []) (Ready part m)
@@ -109,13 +91,7 @@ module _ (part : Part) where
         let inside = is_run.inside in
         let most = sound.eeprom_most in
         let few : address < 2 ^ 32 = omega arith in
-        let commands = load_eeprom address ∷ program_eeprom_block bytes ∷ [] in
-        two_steady (load_eeprom address) (program_eeprom_block bytes) _ _
-        (λ p s. load_keeps part address m p few s)
-        (λ p s. load_keeps part address (changed part commands m) p few s)
-        (λ p s. run_does part sound address bytes m p is_run s)
-        (λ p s. again_of commands m _ (effect_twice part (Write Eeprom _) m)
-        (run_does part sound address bytes (changed part commands m) p is_run s))
+        search (rules, two_steady, load_keeps, run_does, again_of, effect_twice)
 
     flash_read_fits : (start count : ℕ) (m : Memories) → IsBlock part Flash start count → AreWords start count
         → Fits steady (load_flash part start ∷ read_flash_block count ∷ []) (Ready part m) (Ready part m)
@@ -123,11 +99,7 @@ module _ (part : Part) where
         let inside = is_block.inside in
         let most = sound.flash_most in
         let few : flash_address part start < 2 ^ 32 = address_fits start (omega arith) in
-        two_steady (load_flash part start) (read_flash_block count) _ _
-        (λ p s. load_keeps part (flash_address part start) m p few s)
-        (λ p s. load_keeps part (flash_address part start) m p few s)
-        (λ p s. flash_read_keeps part sound start count m p is_block words s)
-        (λ p s. flash_read_keeps part sound start count m p is_block words s)
+        search (rules, two_steady, load_keeps, flash_read_keeps)
 
     eeprom_read_fits : (start count : ℕ) (m : Memories) → IsBlock part Eeprom start count
         → Fits steady (load_eeprom start ∷ read_eeprom_block count ∷ []) (Ready part m) (Ready part m)
@@ -135,10 +107,7 @@ module _ (part : Part) where
         let inside = is_block.inside in
         let most = sound.eeprom_most in
         let few : start < 2 ^ 32 = omega arith in
-        two_steady (load_eeprom start) (read_eeprom_block count) _ _
-        (λ p s. load_keeps part start m p few s) (λ p s. load_keeps part start m p few s)
-        (λ p s. eeprom_read_keeps part sound start count m p is_block s)
-        (λ p s. eeprom_read_keeps part sound start count m p is_block s)
+        search (rules, two_steady, load_keeps, eeprom_read_keeps)
 
     pub fuse_read_fits : (f : Fuse) (m : Memories) → Fits steady (read_fuse f ∷ []) (Ready part m) (Ready part m)
     fuse_read_fits f m = quiet (read_fuse f) m (λ p s. subst (Ready part m) (sym (fuse_read_after f p s.mode)) s)
@@ -147,27 +116,19 @@ module _ (part : Part) where
     by_commands : (written commands : List Command) (m : Memories) → commands ≡ written
         → Fits steady written (Ready part m) (Ready part (changed part written m))
         → Fits steady commands (Ready part m) (Ready part (changed part commands m))
-    by_commands written commands m e fits = subst (λ cs. Fits steady cs (Ready part m) (Ready part (changed part cs m)))
-        (sym e) fits
+    by_commands written commands m e fits = search (rules, steady)
 
     pub step_ready : (commands : List Command) (m : Memories) → IsStep part commands
         → Fits steady commands (Ready part m) (Ready part (changed part commands m))
-    step_ready commands m (Erases e) = by_commands _ commands m e
-        (one_steady erase _ _ (λ p s. erase_does part m p s)
-        (λ p s. again_of (erase ∷ []) m _ (effect_twice part Erase m)
-        (erase_does part (changed part (erase ∷ []) m) p s)))
+    step_ready commands m (Erases e) = search (rules, by_commands, one_steady, erase_does, again_of, effect_twice)
     step_ready commands m (ProgramsPage number bytes is_page e) =
         by_commands _ commands m e (page_fits number bytes m is_page)
     step_ready commands m (ProgramsRun address bytes is_run e) =
         by_commands _ commands m e (run_fits address bytes m is_run)
     step_ready commands m (ProgramsFuse f v e) = by_commands _ commands m e
-        (one_steady (program_fuse f v) _ _ (λ p s. fuse_does part f v m p s)
-        (λ p s. again_of (program_fuse f v ∷ []) m _ (fuse_twice part f v m)
-        (fuse_does part f v (changed part (program_fuse f v ∷ []) m) p s)))
+        (search (rules, one_steady, fuse_does, again_of, fuse_twice))
     step_ready commands m (ProgramsLock v e) = by_commands _ commands m e
-        (one_steady (program_lock v) _ _ (λ p s. lock_does part v m p s)
-        (λ p s. again_of (program_lock v ∷ []) m _ (effect_twice part (Write Lock (Some v ∷ [])) m)
-        (lock_does part v (changed part (program_lock v ∷ []) m) p s)))
+        (search (rules, one_steady, lock_does, again_of, effect_twice))
     step_ready commands m (ReadsFlash start count is_block words e) =
         by_commands _ commands m e (flash_read_fits start count m is_block words)
     step_ready commands m (ReadsEeprom start count is_block e) =
@@ -176,11 +137,9 @@ module _ (part : Part) where
     step_ready commands m (ReadsLock e) = by_commands _ commands m e
         (quiet read_lock m (λ p s. subst (Ready part m) (sym (lock_read_after p s.mode)) s))
     step_ready commands m (ReadsSignature place few e) =
-        by_commands _ commands m e (quiet (read_signature place) m
-        (λ p s. subst (Ready part m) (sym (signature_read_after place p s.mode)) s))
+        by_commands _ commands m e (search (rules, quiet, signature_read_after))
     step_ready commands m (ReadsCalibration e) =
-        by_commands _ commands m e (quiet read_calibration m
-        (λ p s. subst (Ready part m) (sym (calibration_read_after p s.mode)) s))
+        by_commands _ commands m e (search (rules, quiet, calibration_read_after))
 
     -- each step of a list, from the memories that those before it leave
     pub all_ready : (steps : List (List Command)) (m : Memories) → AreSteps part steps

@@ -1,6 +1,6 @@
 -- The actions of a session after its opening fit the part: an image is as large as its memory, and a memory that is
 -- written can be.
-use Rattle.std.proofs.Common.{List, [], ◌∷◌, ◌++◌, arith}
+use Rattle.std.proofs.Common.{List, [], ◌∷◌, ◌++◌, arith, rules}
 use Rattle.std.proofs.lemmas.List.Elements.{All-head, All-tail}
 use Rattle.std.specs.Prelude.{All, ⊤}
 use Rattle.avr_cli.specs.declared.settings.Switches.{Switches}
@@ -53,8 +53,7 @@ module _ (part : Part) where
   pub items_fit : (actions : List Action) → AllFitActions part actions → AllFitItems part (actions_items actions)
   items_fit [] fits = tt
   items_fit (action ∷ actions) fits =
-      fits_on part (action_items action) (actions_items actions) (action_items_fit action fits.0)
-      (items_fit actions fits.1)
+      search (rules, fits_on, action_items_fit, items_fit actions fits.1)
 
 pub work_fits : (plan : Plan) → All (IsFitted plan.part) plan.tasks → AllFitActions plan.part (work plan)
 work_fits plan fitted =

@@ -1,5 +1,5 @@
 -- The items of a plan: an erase, if it has one, and then writes alone.
-use Rattle.std.proofs.Common.{◌≡◌, refl, sym, ap, ◌∙◌, subst, List, [], ◌∷◌, ◌++◌, append_assoc, drop, Bool, true, false}
+use Rattle.std.proofs.Common.{◌≡◌, refl, sym, ap, ◌∙◌, subst, List, [], ◌∷◌, ◌++◌, append_assoc, drop, Bool, true, false, rules}
 use Rattle.std.proofs.lemmas.Bool.{true≢false}
 use Rattle.std.specs.Prelude.{filter_map, if◌then◌else◌}
 use Rattle.avr_cli.specs.declared.settings.Switches.{Switches}
@@ -17,25 +17,13 @@ use Rattle.avr_laws.specs.Items.{action_items, actions_items, items, has_erase, 
 -- the cases of a session's erase
 pub by_erase : (P : List Action → Type 0) (s : Switches) (tasks : List Task) → P [] → P (LeaveOut TheErase ∷ [])
     → P (EraseChip ∷ []) → P (erase_actions s tasks)
-by_erase P s tasks none left_out done = by_switches s.dry s.erase (is_erase_due s tasks)
-  where
-    by_switches : (dry asked due : Bool) → P
-        (if dry then (if asked then LeaveOut TheErase ∷ [] else []) else if due then EraseChip ∷ [] else [])
-    by_switches true true due = left_out
-    by_switches false asked true = done
-    by_switches dry asked due = none
+by_erase P s tasks none left_out done = search rules
 
 -- and of a write
 pub by_write : (P : List Action → Type 0) (s : Switches) (mem : Mem) (image : Image)
     → P (LeaveOut (TheWrite mem image) ∷ []) → P (WriteImage mem image ∷ [])
     → P (WriteImage mem image ∷ CompareImage mem image ∷ []) → P (write_actions s mem image)
-by_write P s mem image left_out alone compared = by_switches s.dry s.no_verify
-  where
-    by_switches : (dry unverified : Bool) → P (if dry then LeaveOut (TheWrite mem image) ∷ []
-        else WriteImage mem image ∷ (if unverified then [] else CompareImage mem image ∷ []))
-    by_switches true unverified = left_out
-    by_switches false true = alone
-    by_switches false false = compared
+by_write P s mem image left_out alone compared = search rules
 
 abbrev pub writes : Plan → List Item
 writes plan = actions_items (tasks_actions plan.switches plan.tasks)
@@ -46,8 +34,7 @@ erase_if false = []
 
 pub items_on : (xs ys : List Action) → actions_items (xs ++ ys) ≡ actions_items xs ++ actions_items ys
 items_on [] ys = refl
-items_on (x ∷ xs) ys = ap (λ more. action_items x ++ more) (items_on xs ys)
-    ∙ sym (append_assoc (action_items x) (actions_items xs) (actions_items ys))
+items_on (x ∷ xs) ys = search (rules, append_assoc, items_on xs ys)
 
 pub tasks_write : (s : Switches) (tasks : List Task) → has_erase (actions_items (tasks_actions s tasks)) ≡ false
 tasks_write s [] = refl
@@ -59,16 +46,11 @@ tasks_write s (task.Read mem format file ∷ tasks) = tasks_write s tasks
 
 pub begins : (plan : Plan) → actions_items (erase_actions plan.switches plan.tasks) ≡ erase_if (has_erase (items plan))
 begins plan =
-    let more = tasks_actions plan.switches plan.tasks in
-    let none : [] ≡ erase_if (has_erase (actions_items more)) =
-    ap erase_if (sym (tasks_write plan.switches plan.tasks)) in
-    by_erase (λ xs. actions_items xs ≡ erase_if (has_erase (actions_items (xs ++ more)))) plan.switches plan.tasks none
-    none refl
+    search (rules, tasks_write, by_erase)
 
 pub items_are : (plan : Plan) → items plan ≡ erase_if (has_erase (items plan)) ++ writes plan
 items_are plan =
-    items_on (erase_actions plan.switches plan.tasks) (tasks_actions plan.switches plan.tasks)
-    ∙ ap (λ xs. xs ++ writes plan) (begins plan)
+    search (rules, items_on, begins)
 
 erases_behind : (xs ys : List Item) → has_erase ys ≡ true → has_erase (xs ++ ys) ≡ true
 erases_behind [] ys has = has
@@ -79,8 +61,7 @@ nothing_before : (due : Bool) (xs first later : List Item) → has_erase xs ≡ 
     → erase_if due ++ xs ≡ first ++ Erase ∷ later → first ≡ []
 nothing_before due xs [] later none e = refl
 nothing_before true xs (x ∷ first) later none e =
-    let same : has_erase xs ≡ has_erase (first ++ Erase ∷ later) = ap (λ all. has_erase (drop 1 all)) e in
-    absurd (true≢false (sym (erases_behind first (Erase ∷ later) refl) ∙ (sym same ∙ none)))
+    search (rules, erases_behind)
 nothing_before false xs (x ∷ first) later none e =
     absurd (true≢false (sym (erases_behind (x ∷ first) (Erase ∷ later) refl) ∙ (sym (ap has_erase e) ∙ none)))
 
@@ -113,10 +94,7 @@ writes_by_tasks : (s : Switches) (tasks : List Task)
     → actions_items (tasks_actions s tasks) ≡ (if s.dry then [] else filter_map task_item tasks)
 writes_by_tasks s [] = none_unless s.dry
 writes_by_tasks s (task.Write mem image ∷ tasks) =
-    let more = tasks_actions s tasks in
-    write_items s.dry s.no_verify mem image more
-    ∙ write_unless s.dry (Write mem image) (actions_items more) (filter_map task_item tasks)
-    (writes_by_tasks s tasks)
+    search (rules, write_items, write_unless, writes_by_tasks s tasks)
 writes_by_tasks s (task.Verify mem image ∷ tasks) = writes_by_tasks s tasks
 writes_by_tasks s (task.Read mem format file ∷ tasks) = writes_by_tasks s tasks
 
@@ -131,10 +109,7 @@ behind_erase false asked false xs ys e = e
 
 pub items_by_tasks : (plan : Plan) → items plan ≡ asked_items plan
 items_by_tasks plan =
-    let s = plan.switches in
-    items_on (erase_actions s plan.tasks) (tasks_actions s plan.tasks)
-    ∙ behind_erase s.dry s.erase (is_erase_due s plan.tasks) (writes plan) (filter_map task_item plan.tasks)
-    (writes_by_tasks s plan.tasks)
+    search (rules, items_on, behind_erase, writes_by_tasks)
 
 -- ---- what they compare
 
@@ -147,8 +122,7 @@ module _ (part : Part) where
       → ActionsAgree part ys (effects part (actions_items xs) m)
   agree_behind [] ys m agree = agree
   agree_behind (x ∷ xs) ys m agree =
-      subst (ActionsAgree part ys) (sym (effects_on part (action_items x) (actions_items xs) m))
-      (agree_behind xs ys (effects part (action_items x) m) agree.1)
+      search (rules, effects_on, agree_behind xs ys (effects part (action_items x) m) agree.1)
 
   agree_joined : (xs ys : List Action) (m : Memories) → ActionsAgree part xs m
       → ActionsAgree part ys (effects part (actions_items xs) m) → ActionsAgree part (xs ++ ys) m
@@ -164,14 +138,9 @@ pub tasks_agree : (plan : Plan) (m : Memories) → Agrees plan m
     → ActionsAgree plan.part (tasks_actions plan.switches plan.tasks)
     (effects plan.part (erase_if (has_erase (items plan))) m)
 tasks_agree plan m agree =
-    subst (λ xs. ActionsAgree plan.part (tasks_actions plan.switches plan.tasks) (effects plan.part xs m)) (begins plan)
-    (agree_behind plan.part (erase_actions plan.switches plan.tasks) (tasks_actions plan.switches plan.tasks) m agree.1)
+    search (rules, begins, agree_behind)
 
 pub plan_agrees : (plan : Plan) (m : Memories)
     → ActionsAgree plan.part (tasks_actions plan.switches plan.tasks)
     (effects plan.part (actions_items (erase_actions plan.switches plan.tasks)) m) → Agrees plan m
-plan_agrees plan m agree = (
-  tt,
-  agree_joined plan.part (erase_actions plan.switches plan.tasks) (tasks_actions plan.switches plan.tasks) m
-      (erasing_agrees plan.part plan.switches plan.tasks m) agree,
-)
+plan_agrees plan m agree = search (rules, agree_joined, erasing_agrees)

@@ -1,5 +1,5 @@
 -- Over any link that forges no answer whatever is reported is true.
-use Rattle.std.proofs.Common.{◌≡◌, ◌∙◌, ℕ, zero, suc, Bool, true, false, List, [], ◌∷◌, ◌++◌, length, refl, sym, ap, subst, Option, Some, None}
+use Rattle.std.proofs.Common.{◌≡◌, ◌∙◌, ℕ, zero, suc, Bool, true, false, List, [], ◌∷◌, ◌++◌, length, refl, sym, ap, subst, Option, Some, None, rules}
 use Rattle.std.specs.Prelude.{if◌then◌else◌}
 use Rattle.std.specs.Str.{bytes_eq}
 use Rattle.stk_frame.specs.Frame.{frame}
@@ -85,12 +85,7 @@ module _ {P : Type 0} (m : Device P) where
       λ k turns. subst (λ r. TellsTrue m T k (go_on reading) r turns) t.1
       (subst (λ x. TellsTrue m T k (go_on x) (after_turn (turn_by became reading) (m.after bytes p) p m.reset) turns)
       t.0 (tells (suc k) (turn_by became reading ∷ turns))) in
-      let here : after_turn (first_turn turns) (after_frame m (frame n bytes) p) p m.reset ≡ q =
-      turn_leaves (first_turn turns) (after_frame m (frame n bytes) p) p m.reset
-      ∙ (ap (λ x. after_became x (after_frame m (frame n bytes) p) p m.reset) (sym same.0)
-      ∙ ap (λ r. after_became became r p m.reset) (obeyed_frame m n bytes p b)) in
-      subst (SaidTrue m T (played (go_on reading) (next n) left).events (other_turns turns)) (sym here)
-      (each reading left q inner h.1 same.1)
+      search (rules, turn_leaves, obeyed_frame)
 
   pub told_any : {E R : Type 0} (T : P → E → Type 0) (d : Dialog E R) (n : ℕ) (tape : Tape) (p : P)
       (becames : List Became) (turns : List Turn) → AsksBodies d → AlwaysTrue T d p

@@ -1,6 +1,6 @@
 -- Worked rows: what may not be reported. Nothing was sent, so neither that the chip is erased nor that a byte is
 -- written.
-use Rattle.std.proofs.Common.{◌≡◌, ℕ, List, [], ◌∷◌, ◌++◌, Some, None, length, take, sym, ap, ◌∙◌, arith, ◌⊎◌, inl, inr}
+use Rattle.std.proofs.Common.{◌≡◌, ℕ, List, [], ◌∷◌, ◌++◌, Some, None, length, take, sym, ap, ◌∙◌, arith, ◌⊎◌, inl, inr, rules}
 use Rattle.std.proofs.lemmas.List.{append-nil, reverse-append, take-append-le}
 use Rattle.std.specs.Prelude.{◌≤◌, codes, decimal, reverse, slice_index}
 use Rattle.avr_desk.specs.Record.{Bytes}
@@ -69,17 +69,9 @@ no_more a b x y z (w ∷ rest) later e = cc
 not_begun : (mem : Mem) (bytes : Image) (first later : List Item) → items plan ≡ first ++ Write mem bytes ∷ later
     → zeros ≡ effects tiny (first ++ Write mem bytes ∷ []) zeros → ⊥
 not_begun mem bytes [] later order now =
-    let same : Erase ≡ Write mem bytes = first_item Erase (Write Eeprom image) (Write mem bytes) later order in
-    cc
+    search (rules, first_item)
 not_begun mem bytes (x ∷ []) later order now =
-    let one : Erase ≡ x = first_item Erase (Write Eeprom image) x (Write mem bytes ∷ later) order in
-    let two : Write Eeprom image ≡ Write mem bytes =
-    second_item Erase (Write Eeprom image) x (Write mem bytes) later order in
-    let whole : zeros ≡ effects tiny (Erase ∷ Write Eeprom image ∷ []) zeros =
-    now ∙ (ap (λ y. effects tiny (y ∷ Write mem bytes ∷ []) zeros) (sym one)
-    ∙ ap (λ w. effects tiny (Erase ∷ w ∷ []) zeros) (sym two)) in
-    let lock : 0 ≡ 255 = ap (λ (m : Memories). m.lock) whole in
-    cc
+    search (rules, first_item, second_item, tiny)
 not_begun mem bytes (x ∷ y ∷ rest) later order now =
     no_more Erase (Write Eeprom image) x y (Write mem bytes) rest later order
 
@@ -100,20 +92,14 @@ never_written (SignatureRead e) = let clash : 101 ≡ 100 = ap (byte 8) e in ome
 never_written (ChipErased has e now) = let clash : 101 ≡ 99 = ap (byte 8) e in omega (arith, clash)
 never_written (EraseLeftOut has e) = let clash : 101 ≡ 119 = ap (byte 8) e in omega (arith, clash)
 never_written (BytesWritten mem bytes first later e order now) = not_begun mem bytes first later order now
-never_written (WriteLeftOut mem bytes has e) = let clash : 115 ≡ 116 =
-    ap (λ l. slice_index l 9) (sym (written_ends Eeprom 1)
-    ∙ (ap ends e ∙ line_ends mem (byte_count bytes) (codes " bytes not written") (omega arith))) in
-    omega (arith, clash)
+never_written (WriteLeftOut mem bytes has e) = search (rules, written_ends, line_ends)
 never_written (BytesVerified mem bytes has e shows) = let clash : 110 ≡ 100 =
     ap (λ l. slice_index l 1) (sym (written_ends Eeprom 1)
     ∙ (ap ends e ∙ line_ends mem (byte_count bytes) (codes " bytes verified") (omega arith))) in
     omega (arith, clash)
 never_written (Differed mem bytes fault has e differs) = let clash : 101 ≡ 114 = ap (byte 9) e in omega (arith, clash)
 never_written (BytesSaved mem format file has e) = not_saved _ file _ e
-never_written (BytesRead mem format file has e) = let clash : 110 ≡ 100 =
-    ap (λ l. slice_index l 1) (sym (written_ends Eeprom 1)
-    ∙ (ap ends e ∙ line_ends mem (length (kept_in plan mem zeros)) (codes " bytes read") (omega arith))) in
-    omega (arith, clash)
+never_written (BytesRead mem format file has e) = search (rules, written_ends, line_ends)
 never_written (StepFailed fault e) = let clash : 101 ≡ 114 = ap (byte 9) e in omega (arith, clash)
 never_written (SessionDone e) = let clash : 101 ≡ 100 = ap (byte 8) e in omega (arith, clash)
 
@@ -123,17 +109,10 @@ never_erased (SignatureRead e) = let clash : 99 ≡ 100 = ap (byte 8) e in omega
 never_erased (ChipErased has e now) = let lock : 0 ≡ 255 = ap (λ (m : Memories). m.lock) now in omega (arith, lock)
 never_erased (EraseLeftOut has e) = let clash : 99 ≡ 119 = ap (byte 8) e in omega (arith, clash)
 never_erased (BytesWritten mem bytes first later e order now) = not_begun mem bytes first later order now
-never_erased (WriteLeftOut mem bytes has e) = let clash : 100 ≡ 110 =
-    ap (λ l. slice_index l 1) (ap ends e
-    ∙ line_ends mem (byte_count bytes) (codes " bytes not written") (omega arith)) in
-    omega (arith, clash)
-never_erased (BytesVerified mem bytes has e shows) = let clash : 115 ≡ 105 =
-    ap (λ l. slice_index l 3) (ap ends e ∙ line_ends mem (byte_count bytes) (codes " bytes verified") (omega arith)) in
-    omega (arith, clash)
+never_erased (WriteLeftOut mem bytes has e) = search (rules, line_ends)
+never_erased (BytesVerified mem bytes has e shows) = search (rules, line_ends)
 never_erased (Differed mem bytes fault has e differs) = let clash : 99 ≡ 101 = ap (byte 8) e in omega (arith, clash)
 never_erased (BytesSaved mem format file has e) = not_saved _ file _ e
-never_erased (BytesRead mem format file has e) = let clash : 101 ≡ 97 =
-    ap (λ l. slice_index l 2) (ap ends e
-    ∙ line_ends mem (length (kept_in plan mem zeros)) (codes " bytes read") (omega arith)) in omega (arith, clash)
+never_erased (BytesRead mem format file has e) = search (rules, line_ends)
 never_erased (StepFailed fault e) = let clash : 99 ≡ 101 = ap (byte 8) e in omega (arith, clash)
 never_erased (SessionDone e) = let clash : 99 ≡ 100 = ap (byte 8) e in omega (arith, clash)

@@ -1,5 +1,5 @@
 -- What a run reports is true at that moment, action by action.
-use Rattle.std.proofs.Common.{◌≡◌, ℕ, List, [], ◌∷◌, ◌++◌, length, append_assoc, refl, sym, ap, ◌∙◌, subst, arith, inl, inr, Ok, Err, Result, Bool, true, false}
+use Rattle.std.proofs.Common.{◌≡◌, ℕ, List, [], ◌∷◌, ◌++◌, length, append_assoc, refl, sym, ap, ◌∙◌, subst, arith, inl, inr, Ok, Err, Result, Bool, true, false, rules}
 use Rattle.std.proofs.lemmas.List.{append-nil}
 use Rattle.std.proofs.lemmas.List.Elements.{Contains-append_right}
 use Rattle.std.specs.Prelude.{All, Contains, ⊤, codes, decimal, nat_lt, if◌then◌else◌}
@@ -68,8 +68,7 @@ module _ (plan : Plan) (sound : IsPart plan.part) (m0 : Memories) (f0 : FitsPart
 
   counts_hold : (mem : Mem) (count : ℕ) (done_text : Bytes) (q : Programmer) → T (count_line mem count done_text) q
       → AllTrue T (bytes_say plan.switches.quiet mem count done_text) q
-  counts_hold mem count done_text q t = informs_hold plan.switches.quiet
-      (name_of mem ∷ codes ": " ∷ decimal count ∷ done_text ∷ []) q t
+  counts_hold mem count done_text q t = search (rules, informs_hold)
 
   failed : (fault : StepFault) (q : Programmer) → AllTrue T (Line (fault_line plan.part (host_fault fault)) ∷ []) q
   failed fault q = (StepFailed fault refl, tt)
@@ -78,9 +77,7 @@ module _ (plan : Plan) (sound : IsPart plan.part) (m0 : Memories) (f0 : FitsPart
 
   own_signature : (quiet : ℕ) (q : Programmer) → AllTrue T (opening_says quiet plan.part (Ok plan.part.signature)) q
   own_signature quiet q =
-      hold_on T (signature_says quiet plan.part.signature) (warns_of_signature quiet plan.part plan.part.signature) q
-      (informs_hold quiet (codes "device signature = " ∷ spaced_digits plan.part.signature ∷ []) q (SignatureRead refl))
-      (hold_not T (bytes_eq plan.part.signature plan.part.signature) _ q (bytes_same plan.part.signature))
+      search (rules, hold_on, informs_hold, hold_not, bytes_same)
 
   -- ---- the actions after it
 
@@ -153,8 +150,7 @@ module _ (plan : Plan) (sound : IsPart plan.part) (m0 : Memories) (f0 : FitsPart
             (hold_on T (saving_says file (file_text format (kept_in plan mem (memories_of q.chip))))
             (bytes_say plan.switches.quiet mem (length (kept_in plan mem (memories_of q.chip)))
             (codes " bytes read")) q
-            (saved_now (bytes_eq file (codes "-")) mem format file q has
-            (file_text format (kept_in plan mem (memories_of q.chip))) refl)
+            (search (rules, saved_now))
             (counts_hold mem (length (kept_in plan mem (memories_of q.chip))) (codes " bytes read") q
             (BytesRead mem format file has refl))),
         failed,
@@ -175,9 +171,7 @@ module _ (plan : Plan) (sound : IsPart plan.part) (m0 : Memories) (f0 : FitsPart
       → effects plan.part (actions_items (done ++ action ∷ [])) m0
       ≡ effects plan.part (action_items action) (effects plan.part (actions_items done) m0)
   one_more done action =
-      ap (λ xs. effects plan.part xs m0) (items_on done (action ∷ [])
-      ∙ ap (λ xs. actions_items done ++ xs) (append-nil (action_items action)))
-      ∙ effects_on plan.part (actions_items done) (action_items action) m0
+      search (rules, items_on, append-nil, effects_on)
 
   actions_true : (later done : List Action) → AllFitActions plan.part later → actions plan ≡ done ++ later
       → ActionsTrue plan.part plan.switches T later (effects plan.part (actions_items done) m0)

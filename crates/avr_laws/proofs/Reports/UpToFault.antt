@@ -1,5 +1,5 @@
 -- What a session says is what its expected run says, up to the first action that does not come to its end.
-use Rattle.std.proofs.Common.{◌≡◌, ℕ, List, [], ◌∷◌, ◌++◌, length, append_assoc, refl, sym, ap, ◌∙◌, subst, inl, inr, All, Option, Some, None}
+use Rattle.std.proofs.Common.{◌≡◌, ℕ, List, [], ◌∷◌, ◌++◌, length, append_assoc, refl, sym, ap, ◌∙◌, subst, inl, inr, All, Option, Some, None, rules}
 use Rattle.avr_cli.specs.declared.settings.Switches.{Switches}
 use Rattle.avr_desk.specs.Said.{OutputEvent}
 use Rattle.avr_part.specs.Part.{Part, IsPart}
@@ -50,13 +50,10 @@ module _ (plan : Plan) (sound : IsPart plan.part) (fitted : All (IsFitted plan.p
           → IsForetold plan m (outputs (played (session plan) 1 tape).events)
       by_outcome None e =
           let w = goes.waits e in
-          subst (IsForetold plan m) (sym w.said) (foretold_now w.answered p
-          (turns_heard (session plan) 1 tape becames) idle)
+          search (rules, foretold_now)
       by_outcome (Some (status, seq, left)) e =
           let got = goes.outcome status seq left e in
-          subst (IsForetold plan m) (sym got.1) (foretold_now
-          (length (frames_in (played (session plan) 1 tape).events)) p (turns_heard (session plan) 1 tape becames)
-          idle)
+          search (rules, foretold_now)
 
 -- ---- what first actions say is a prefix of the expected run
 
@@ -94,7 +91,6 @@ first_prefix plan m says first =
     let prefix = actions_prefix plan.part plan.switches first.done first.more m first.fine in
     let ending = ending_says plan (working_expected plan m).standing in (
       prefix.0 ++ ending,
-      ap (λ xs. xs ++ ending) (ap (λ xs. (actions_expected plan.part plan.switches xs m).says) first.actions_are
-          ∙ (prefix.1 ∙ ap (λ xs. xs ++ prefix.0) (sym first.says_are)))
+      ap (λ xs. xs ++ ending) (search rules)
           ∙ append_assoc says prefix.0 ending,
     )

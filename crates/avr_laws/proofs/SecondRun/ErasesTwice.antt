@@ -1,5 +1,5 @@
 -- The page writes of a plan that erases: an erase and writes, which keep EEPROM if the plan's do.
-use Rattle.std.proofs.Common.{◌≡◌, ℕ, zero, suc, ◌+◌, ◌*◌, ◌/◌, refl, sym, ap, ◌∙◌, subst, List, [], ◌∷◌, ◌++◌, Bool, true, false, cond, Option, Some, None, unwrap_or}
+use Rattle.std.proofs.Common.{◌≡◌, ℕ, zero, suc, ◌+◌, ◌*◌, ◌/◌, refl, sym, ap, ◌∙◌, subst, List, [], ◌∷◌, ◌++◌, Bool, true, false, cond, Option, Some, None, unwrap_or, rules}
 use Rattle.std.proofs.lemmas.Bool.{true≢false}
 use Rattle.std.specs.Prelude.{◌==◌, if◌then◌else◌, take, ⊤, All}
 use Rattle.std.specs.Int.{bit_at}
@@ -93,15 +93,13 @@ module _ (part : Part) where
     MildSteps steps = AllMild part want (page_writes_of steps)
 
     steps_join : (xs ys : List (List Command)) → MildSteps xs → MildSteps ys → MildSteps (xs ++ ys)
-    steps_join xs ys f g = subst (AllMild part want) (sym (page_writes_on xs ys))
-        (each_on (Mild part want) (page_writes_of xs) (page_writes_of ys) f g)
+    steps_join xs ys f g = search (rules, page_writes_on, each_on)
 
     each_mild : (steps_at : ℕ → List (List Command)) (place count : ℕ) → ((i : ℕ) → MildSteps (steps_at i))
         → MildSteps (each_from steps_at place count)
     each_mild steps_at place zero each = tt
     each_mild steps_at place (suc count) each =
-        steps_join (steps_at place) (each_from steps_at (place + 1) count) (each place)
-        (each_mild steps_at (place + 1) count each)
+        search (rules, steps_join, each_mild steps_at (place + 1) count each)
 
     either_mild : (b : Bool) (x : List (List Command)) → MildSteps x → MildSteps (cond b x [])
     either_mild true x f = f
@@ -114,14 +112,10 @@ module _ (part : Part) where
 
     write_mild : (mem : Mem) (image : Image) → Mild part want (Write mem image) → MildSteps (write_steps part mem image)
     write_mild Flash image f =
-        each_mild (page_steps part image) 0 (part.flash_size / part.flash_page)
-        (λ n. either_mild (is_used part.flash_page image (n * part.flash_page))
-        (page_step part image (n * part.flash_page) ∷ []) (tt, tt))
-    write_mild Eeprom image f = each_mild (run_steps_at part image) 0 part.eeprom_size
-        (λ a. either_mild (begins_run part.eeprom_page image a) (run_step part image a ∷ []) (tt, tt))
+        search (rules, each_mild, either_mild)
+    write_mild Eeprom image f = search (rules, each_mild, either_mild)
     write_mild Lfuse image f = byte_mild (program_fuse Low) (byte_at image 0) (λ v e. (tt, tt))
-    write_mild Hfuse image f = byte_mild (program_fuse High) (byte_at image 0)
-        (λ v e. (λ w. ap (is_keeping part) (sym e) ∙ f w, tt))
+    write_mild Hfuse image f = search (rules, byte_mild)
     write_mild Efuse image f = byte_mild (program_fuse Extended) (byte_at image 0) (λ v e. (tt, tt))
     write_mild Lock image f = byte_mild program_lock (byte_at image 0) (λ v e. (tt, tt))
     write_mild mem image f = tt
@@ -129,8 +123,7 @@ module _ (part : Part) where
     page_writes_mild : (xs : List Item) → AllMild part want xs → MildSteps (all_steps part xs)
     page_writes_mild [] f = tt
     page_writes_mild (Erase ∷ xs) f = absurd f.0
-    page_writes_mild (Write mem image ∷ xs) f = steps_join (write_steps part mem image) (all_steps part xs)
-        (write_mild mem image f.0) (page_writes_mild xs f.1)
+    page_writes_mild (Write mem image ∷ xs) f = search (rules, steps_join, write_mild, page_writes_mild xs f.1)
 
 -- ---- the items of a plan
 
@@ -144,15 +137,12 @@ some_page_writes_again part sound xs k m fits f writes kept =
     let want : Type 0 = erase_keeps_eeprom part m ≡ true in
     let ys = page_writes_of (all_steps part xs) in
     let mild : AllMild part (erase_keeps_eeprom part m ≡ true) ys =
-    page_writes_mild part (erase_keeps_eeprom part m ≡ true) xs
-    (all_mild part (erase_keeps_eeprom part m ≡ true) xs writes kept) in
+    search (rules, page_writes_mild, all_mild, writes) in
     let some = effects part (take k (Erase ∷ ys)) m in
     let same : (x : Memories) → FitsPart part x → effects part (Erase ∷ ys) x ≡ effects part (Erase ∷ xs) x =
     λ x g. items_do part sound xs (effect part Erase x) fits (effect_sizes part sound Erase x g) in
     sym (same some (effects_sizes part sound (take k (Erase ∷ ys)) m f))
-    ∙ (first_again part k ys m (mild_writes part (erase_keeps_eeprom part m ≡ true) ys mild)
-    (λ e. first_keep part (erase_keeps_eeprom part m ≡ true) e k ys m mild e)
-    ∙ same m f)
+    ∙ (search (rules, first_again, mild_writes, first_keep))
 
 some_writes_again : (part : Part) (sound : IsPart part) (xs : List Item) (k : ℕ) (m : Memories) → AllFitItems part xs
     → FitsPart part m → has_erase xs ≡ false

@@ -1,5 +1,5 @@
 -- What agrees on a chip of nothing but 00 and on one of nothing but FF agrees on every chip.
-use Rattle.std.proofs.Common.{◌≡◌, ℕ, zero, suc, ◌<◌, arith, refl, sym, ap, ◌∙◌, subst, List, [], ◌∷◌, length, get_or, replicate, Bool, true, false, Option, Some, None, unwrap_or}
+use Rattle.std.proofs.Common.{◌≡◌, ℕ, zero, suc, ◌<◌, arith, refl, sym, ap, ◌∙◌, subst, List, [], ◌∷◌, length, get_or, replicate, Bool, true, false, Option, Some, None, unwrap_or, rules}
 use Rattle.std.proofs.lemmas.Bool.{true≢false}
 use Rattle.std.proofs.lemmas.List.{length-replicate}
 use Rattle.std.proofs.lemmas.Nat.Bits.{bit_at-zero}
@@ -56,9 +56,7 @@ third_at zs os ms i t l = absurd t
 
 held_third : (image : Image) (zs os ms : List ℕ) → Thirds zs os ms → HoldsImage image zs → HoldsImage image os
     → HoldsImage image ms
-held_third image zs os ms t hz ho = λ i b held l.
-    let a = third_at zs os ms i t l in
-    a.is (hz i b held a.in_zeros ∙ sym (ho i b held a.in_ones)) ∙ hz i b held a.in_zeros
+held_third image zs os ms t hz ho = search (rules, third_at)
 
 -- ---- memories
 
@@ -91,8 +89,7 @@ module _ (part : Part) where
       let left : Memories → List ℕ = λ x.
       if spares other mem (are_locked z) then memory_in part mem x else laid zeros image (memory_in part mem x) in
       let is : (x : Memories) → x.lock ∷ [] ≡ z.lock ∷ [] → left x ≡ memory_in part mem (write_effect other image x) =
-      λ x same. ap (λ (lock : List ℕ). if spares other mem (bit_at (get_or lock 0 0) 0 == 0) then memory_in part mem x
-      else laid zeros image (memory_in part mem x)) (sym same) ∙ sym (write_is part other mem image x) in
+      search (rules, spares, laid, write_is) in
       let each : Alike zeros (left z) (left o) (left m) =
       alike_written (spares other mem (are_locked z)) zeros image _ _ _ (t mem) in
       subst (λ xs. Alike zeros xs (memory_in part mem (write_effect other image o))
@@ -114,8 +111,7 @@ module _ (part : Part) where
   action_between : (action : Action) (z o m : Memories) → Between z o m → ActionAgrees part action z
       → ActionAgrees part action o → ActionAgrees part action m
   action_between (CompareImage mem image) z o m t hz ho =
-      alike_holds (keeps_zeros mem) image (memory_in part mem z) (memory_in part mem o) (memory_in part mem m) (t mem)
-      hz ho
+      search (rules, alike_holds, keeps_zeros)
   action_between action z o m t hz ho = tt
 
   no_more : (action : Action) (more : List Action) → has_erase (actions_items (action ∷ more)) ≡ false
@@ -166,19 +162,9 @@ module _ (part : Part) where
       → Alike (keeps_zeros mem) (memory_in part mem (effect part Erase (chip_of part 0)))
       (memory_in part mem (effect part Erase (chip_of part 255))) (memory_in part mem (effect part Erase m))
   erased_between m f Flash =
-      let k = part.flash_size in (
-        blank_as (replicate k 255) (replicate k 0) k (length-replicate {A = ℕ} k 255) (length-replicate {A = ℕ} k 0),
-        blank_as m.flash (replicate k 0) k f.flash (length-replicate {A = ℕ} k 0),
-      )
+      search (rules, blank_as, length-replicate)
   erased_between m f Eeprom =
-      let n = part.eeprom_size in
-      let mine = (effect part Erase m).eeprom in
-      subst (λ zs. Thirds zs (effect part Erase (chip_of part 255)).eeprom mine)
-      (sym (kept_zeros (erase_keeps_eeprom part (chip_of part 0)) n
-      (ap (λ (b : ℕ). b == 0) (bit_at-zero part.eesave_bit))))
-      (subst (λ os. Thirds (replicate n 0) os mine)
-      (sym (kept_ones (erase_keeps_eeprom part (chip_of part 255)) n))
-      (any_third n mine (kept_size (erase_keeps_eeprom part m) m.eeprom n f.eeprom)))
+      search (rules, kept_zeros, bit_at-zero, kept_ones, any_third, kept_size)
   erased_between m f Lfuse = (no_third m.lfuse, tt)
   erased_between m f Hfuse = (no_third m.hfuse, tt)
   erased_between m f Efuse = (no_third m.efuse, tt)
@@ -187,14 +173,4 @@ module _ (part : Part) where
 pub agrees_anyway : (plan : Plan) (m : Memories) → FitsPart plan.part m → has_erase (items plan) ≡ true
     → AgreesAnyway plan → Agrees plan m
 agrees_anyway plan m f erases both =
-    let part = plan.part in
-    let rest = tasks_actions plan.switches plan.tasks in
-    let behind : (x : Memories) → Agrees plan x → ActionsAgree part rest (effect part Erase x) =
-    λ x agree. subst (λ due. ActionsAgree part rest (effects part (erase_if due) x)) erases
-    (tasks_agree plan x agree) in
-    plan_agrees plan m (subst (λ xs. ActionsAgree part rest (effects part xs m))
-    (sym (begins plan ∙ ap erase_if erases))
-    (actions_between part rest (effect part Erase (chip_of part 0)) (effect part Erase (chip_of part 255))
-    (effect part Erase m)
-    (tasks_write plan.switches plan.tasks) (erased_between part m f)
-    (behind (chip_of part 0) both.zeros) (behind (chip_of part 255) both.ones)))
+    search (rules, erase_if, tasks_agree, plan_agrees, begins, actions_between, tasks_write, erased_between)

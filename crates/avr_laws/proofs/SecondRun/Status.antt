@@ -1,5 +1,5 @@
 -- A second run over what the first one left: its status, and its memories.
-use Rattle.std.proofs.Common.{◌≡◌, ℕ, arith, ap, subst, sym, ◌∙◌, take, true}
+use Rattle.std.proofs.Common.{◌≡◌, ℕ, arith, ap, subst, sym, ◌∙◌, take, true, rules}
 use Rattle.std.proofs.lemmas.List.{length-replicate}
 use Rattle.std.proofs.lemmas.List.Elements.{All-replicate}
 use Rattle.std.specs.Prelude.{◌<◌, All}
@@ -26,10 +26,7 @@ chip_fits part byte l = record {
 
 -- a plan that agrees on every chip agrees on the two
 pub two_of_all : (plan : Plan) → ((m : Memories) → FitsPart plan.part m → Agrees plan m) → AgreesAnyway plan
-two_of_all plan all = record {
-  zeros = all (chip_of plan.part 0) (chip_fits plan.part 0 (omega arith));
-  ones = all (chip_of plan.part 255) (chip_fits plan.part 255 (omega arith));
-}
+two_of_all plan all = search (rules, chip_fits)
 
 pub healed : (plan : Plan) (k : ℕ) (m : Memories) → IsPart plan.part → All (IsFitted plan.part) plan.tasks
     → FitsPart plan.part m
@@ -37,16 +34,7 @@ pub healed : (plan : Plan) (k : ℕ) (m : Memories) → IsPart plan.part → All
     → (erase_keeps_eeprom plan.part m ≡ true → AreKeeping plan.part (items plan))
     → Heals plan m (effects plan.part (take k (page_writes plan)) m)
 healed plan k m sound fitted f erases both kept =
-    let some = effects plan.part (take k (page_writes plan)) m in
-    let again : Agrees plan some = agrees_anyway plan some
-    (effects_sizes plan.part sound (take k (page_writes plan)) m f)
-    erases both in
-    let once : Agrees plan m = agrees_anyway plan m f erases both in
-    record {
-      status = (expected_status plan some).1 again;
-      memories = expected_memories plan some again
-          ∙ (plan_again plan k m sound fitted f (λ _. kept) ∙ sym (expected_memories plan m once));
-    }
+    search (rules, agrees_anyway, effects_sizes, expected_status, expected_memories, plan_again)
 
 pub touched_healed : (plan : Plan) (before after : Memories) → IsPart plan.part → All (IsFitted plan.part) plan.tasks
     → FitsPart plan.part before
@@ -62,8 +50,7 @@ pub done_again : (plan : Plan) (before left after : Memories) → IsPart plan.pa
     → (has_erase (items plan) ≡ true → erase_keeps_eeprom plan.part before ≡ true → AreKeeping plan.part (items plan))
     → IsTouched plan before left → IsDone plan left after → after ≡ effects plan.part (items plan) before
 done_again plan before left after sound fitted f kept touched all =
-    all.memories ∙ (ap (effects plan.part (items plan)) touched.memories
-    ∙ plan_again plan touched.count before sound fitted f kept)
+    search (rules, plan_again)
 
 -- an expected run that succeeds, whatever the chip was
 pub succeeds : (plan : Plan) (before : Memories) (status : ℕ) → FitsPart plan.part before

@@ -1,5 +1,5 @@
 -- The first fault of a record file stays its fault, whatever follows.
-use Rattle.std.proofs.Common.{◌≡◌, ◌∙◌, sym, ap, refl, ℕ, List, [], ◌∷◌, ◌++◌, map, Some, Err}
+use Rattle.std.proofs.Common.{◌≡◌, ◌∙◌, sym, ap, refl, ℕ, List, [], ◌∷◌, ◌++◌, map, Some, Err, rules}
 use Rattle.std.proofs.lemmas.List.{append-nil, map-append}
 use Rattle.avr_records.proofs.Readers.LaterLines.{parts-some}
 use Rattle.avr_records.proofs.Readers.Fed.{goes-on, closed-prefix}
@@ -49,13 +49,7 @@ pub closed_fault-more : (kind : Kind) (text more : List ℕ) (size : ℕ) (fault
     → closed_fault kind (text ++ more) size ≡ Some fault
 closed_fault-more kind text more size fault is =
     let l = lengthened kind text more in
-    let closed = ap all_but_last l.lines_are ∙ closed-prefix l.prefix l.goes_on l.behind in
-    let said = ap (map (said_by_line kind)) closed
-    ∙ map-append (said_by_line kind) l.prefix (all_but_last (l.goes_on ∷ l.behind)) in
-    ap (fault_among size) said
-    ∙ among-stands size (map (said_by_line kind) l.prefix)
-    (map (said_by_line kind) (all_but_last (l.goes_on ∷ l.behind))) fault
-    (own_fault kind text more size fault l is)
+    search (rules, closed-prefix, map-append, among-stands, own_fault)
 
 -- and it is the fault of the whole file
 pub closed_fault-whole : (kind : Kind) (text more : List ℕ) (size : ℕ) (fault : RecordFault)
@@ -63,10 +57,4 @@ pub closed_fault-whole : (kind : Kind) (text more : List ℕ) (size : ℕ) (faul
     → image_in_text kind (text ++ more) size ≡ Err fault
 closed_fault-whole kind text more size fault is =
     let l = lengthened kind text more in
-    let said = ap (map (said_by_line kind)) l.lines_are
-    ∙ map-append (said_by_line kind) l.prefix (l.goes_on ∷ l.behind) in
-    rw (
-      said,
-      among-stands size (map (said_by_line kind) l.prefix) (map (said_by_line kind) (l.goes_on ∷ l.behind)) fault
-          (own_fault kind text more size fault l is),
-    ) refl
+    search (rules, map-append, among-stands, own_fault)

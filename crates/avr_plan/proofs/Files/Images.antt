@@ -1,5 +1,5 @@
 -- An image file that is read in pieces.
-use Rattle.std.proofs.Common.{◌≡◌, ◌∙◌, sym, ap, ap₂, refl, arith, ℕ, ◌+◌, ◌≤◌, ◌<◌, [], ◌++◌, length, take, Bool, true, false, nat_le, not, ◌==◌, ◌&&◌, Ok, Err, append_assoc, append-nil, subst, length-append}
+use Rattle.std.proofs.Common.{◌≡◌, ◌∙◌, sym, ap, ap₂, refl, arith, ℕ, ◌+◌, ◌≤◌, ◌<◌, [], ◌++◌, length, take, Bool, true, false, nat_le, not, ◌==◌, ◌&&◌, Ok, Err, append_assoc, append-nil, subst, length-append, rules}
 use Rattle.std.proofs.Math.Bool.{or-false}
 use Rattle.std.proofs.Math.Seq.{take-append-add}
 use Rattle.std.proofs.lemmas.Bool.Decides.{nat_tests}
@@ -25,9 +25,7 @@ use Rattle.avr_plan.specs.declared.intake.Intake.{Intake}
 
 noted-none : (o : Open) → o ≡ noted [] false o
 noted-none Closed = refl
-noted-none (ToRead x) = ap₂ (λ (bytes : Bytes) (ended : Bool). ToRead (record x { bytes = bytes; ended = ended }))
-    (sym (append-nil x.bytes))
-    (sym (or-false x.ended))
+noted-none (ToRead x) = search (rules, append-nil, or-false)
 noted-none (ToWrite x) = refl
 
 pub read_nothing : (d : Record) → d ≡ after_reading [] false d
@@ -37,26 +35,16 @@ pub read_end : (old now new : Record) (a buf : Bytes) (n : ℕ) → now ≡ afte
     → new ≡ after_read buf (Ok n) now
     → n ≡ 0 → 0 < length buf → new ≡ after_reading a true old
 read_end old now new a buf n first then zero some =
-    let ends : (n == 0 && not (is_nil buf)) ≡ true = grind (arith, nat_tests) in
-    let none : take n buf ≡ [] = rw zero refl in
-    let last : new ≡ after_reading [] true now =
-    then ∙ ap₂ (λ (b : Bytes) (e : Bool). after_reading b e now) none ends in
-    subst (λ (b : Bytes). new ≡ after_reading b true old) (append-nil a) (read_next old now new a [] true first last)
+    search (rules, append-nil, read_next)
 
 -- ---- the rest of a file
 
 pub going_begins : (d : DeskState) (intake : Intake) (room : ℕ) → Going d d intake intake room room
-going_begins d intake room = record {
-  bytes = [];
-  kept = read_nothing d.kept;
-  feeds = λ found size text takes. subst (Takes found size intake) (sym (append-nil text)) takes;
-  count = omega arith;
-}
+going_begins d intake room = search (rules, read_nothing, append-nil)
 
 within : (limit : ℕ) (found : Found) (bytes : Bytes) (size : ℕ) → length bytes ≤ limit
     → whole_file found bytes size ≡ file_within limit found bytes size
-within limit found bytes size len = let fits : nat_le (length bytes) limit ≡ true = grind (arith, nat_tests) in
-    rw fits refl
+within limit found bytes size len = search rules
 
 rest-is : (limit : ℕ) (found : Found) (size : ℕ) (before : Bytes) (old new : DeskState) (given : Given)
     (result : ImageOrFault)
@@ -71,8 +59,7 @@ rest-is limit found size before old new given (Err (File fault)) is reads = absu
 take-prefix : (all buf : Bytes) (limit left n : ℕ) → length all + left ≡ limit → left ≤ n
     → take limit (all ++ take n buf) ≡ all ++ take left buf
 take-prefix all buf limit left n count less =
-    subst (λ k. take k (all ++ take n buf) ≡ all ++ take left buf) count
-    (take-append-add all (take n buf) left ∙ ap (λ (b : Bytes). all ++ b) (take-take left n buf less))
+    search (rules, take-append-add, take-take)
 
 -- the read came this far, and then gave n bytes
 module _ (old now new : DeskState) (first last : Intake) (room left n : ℕ) (buf : Bytes)
@@ -84,9 +71,7 @@ module _ (old now new : DeskState) (first last : Intake) (room left n : ℕ) (bu
   going_on next rest some count feeds = record {
     bytes = going.bytes ++ take n buf;
     kept = read_piece old.kept now.kept new.kept going.bytes buf n going.kept then some;
-    feeds = λ found size text takes.
-        subst (Takes found size next) (append_assoc text going.bytes (take n buf))
-        (feeds found size (text ++ going.bytes) (going.feeds found size text takes));
+    feeds = search (rules, append_assoc);
     count = omega (arith, going.count, length-append going.bytes (take n buf));
   }
 
@@ -98,17 +83,7 @@ module _ (old now new : DeskState) (first last : Intake) (room left n : ℕ) (bu
         → IsGiven (whole_file found text size) result)
         → RestIsRead limit found size before old new result
     rest_ends result zero some gives =
-        let all = before ++ going.bytes in
-        let len : length all ≤ limit = omega (arith, going.count, count, length-append before going.bytes) in
-        rest-is limit found size before old new (whole_file found all size) result
-        (gives found size all (going.feeds found size before takes))
-        (record {
-          bytes = going.bytes;
-          ended = true;
-          kept = read_end old.kept now.kept new.kept going.bytes buf n going.kept then zero some;
-          whole = len;
-          gives = within limit found all size len;
-        })
+        search (rules, length-append, rest-is, read_end, within)
 
     -- more bytes came than the limit allows
     pub rest_long : (bad : BadFile) → left < n → n ≤ length buf → length buf ≤ 4096
@@ -120,8 +95,7 @@ module _ (old now new : DeskState) (first last : Intake) (room left n : ℕ) (bu
         let all = before ++ going.bytes in
         let whole : before ++ bytes ≡ all ++ take n buf = sym (append_assoc before going.bytes (take n buf)) in
         let piece : length (take n buf) ≡ n = length-take-le n buf within' in
-        let len : length (before ++ bytes) ≡ length before + length going.bytes + n = omega
-        (arith, piece, length-append before bytes, length-append going.bytes (take n buf)) in
+        let len : length (before ++ bytes) ≡ length before + length going.bytes + n = search (rules, length-append) in
         let sum : length (before ++ bytes) + left ≡ limit + n = omega (arith, len, going.count, count) in
         let past : nat_le (length (before ++ bytes)) limit ≡ false = grind (arith, nat_tests, sum, more) in
         let together : length all + left ≡ limit =
@@ -131,11 +105,9 @@ module _ (old now new : DeskState) (first last : Intake) (room left n : ℕ) (bu
         record {
           bytes = bytes;
           ended = false;
-          kept = read_piece old.kept now.kept new.kept going.bytes buf n going.kept
-              then (λ zero. absurd (omega (arith, zero, more)));
+          kept = search (rules, read_piece);
           whole = (omega (arith, sum, more), omega (arith, sum, within', most));
-          gives = rw past (ap (λ (b : BadFile). Err b) (gives found size all (going.feeds found size before takes) ∙ ap
-              (λ (t : Bytes). long_file found t size) (sym prefix)));
+          gives = search rules;
         }
 
 -- ---- a whole file
@@ -161,8 +133,7 @@ open_rest limit format size prefix old now new given first len rest = record {
   ended = rest.ended;
   kept = read_next old.kept now.kept new.kept prefix rest.bytes rest.ended first rest.kept;
   whole = rest.whole;
-  gives = rest.gives ∙ ap (λ k. file_within limit k (prefix ++ rest.bytes) size)
-      (sym (kind-prefix format prefix rest.bytes len));
+  gives = search (rules, kind-prefix);
 }
 
 pub open_is_rest : (limit : ℕ) (format : Format) (size : ℕ) (prefix : Bytes) (old now new : DeskState)
@@ -173,8 +144,7 @@ pub open_is_rest : (limit : ℕ) (format : Format) (size : ℕ) (prefix : Bytes)
 open_is_rest limit format size prefix old now new (Ok good) first len rest =
     open_rest limit format size prefix old now new (Ok good) first len rest
 open_is_rest limit format size prefix old now new (Err (Image bad)) first len rest =
-    open_rest limit format size prefix old now new (Err bad) first
-    len rest
+    search (rules, open_rest)
 open_is_rest limit format size prefix old now new (Err (File NotRead)) first len rest =
     (prefix ++ rest.1.0, read_next old.kept now.kept new.kept prefix rest.1.0 false first rest.1.1)
 open_is_rest limit format size prefix old now new (Err (File fault)) first len rest = cc rest.0
@@ -182,13 +152,7 @@ open_is_rest limit format size prefix old now new (Err (File fault)) first len r
 opened_image : (limit : ℕ) (format : Format) (size : ℕ) (name : Bytes) (old now new : DeskState) (given : Given)
     → Passes (after_open name (Ok tt)) old now
     → ReadsOpenImage limit format size now new given → ReadsImage limit format size name old new given
-opened_image limit format size name old now new given opened reads = record {
-  bytes = reads.bytes;
-  ended = reads.ended;
-  kept = opened_read name old.kept now.kept new.kept reads.bytes reads.ended opened reads.kept;
-  whole = reads.whole;
-  gives = reads.gives;
-}
+opened_image limit format size name old now new given opened reads = search (rules, opened_read)
 
 pub image_is_open : (limit : ℕ) (format : Format) (size : ℕ) (name : Bytes) (old now new : DeskState)
     (result : ImageOrFault)
@@ -197,8 +161,7 @@ pub image_is_open : (limit : ℕ) (format : Format) (size : ℕ) (name : Bytes) 
 image_is_open limit format size name old now new (Ok good) opened reads =
     opened_image limit format size name old now new (Ok good) opened reads
 image_is_open limit format size name old now new (Err (Image bad)) opened reads =
-    opened_image limit format size name old now new (Err bad) opened
-    reads
+    search (rules, opened_image)
 image_is_open limit format size name old now new (Err (File NotRead)) opened reads =
     (reads.0, opened_read name old.kept now.kept new.kept reads.0 false opened reads.1)
 image_is_open limit format size name old now new (Err (File Memory)) opened reads =

@@ -1,5 +1,5 @@
 -- The size of an image that was read from a file.
-use Rattle.std.proofs.Common.{◌≡◌, ◌∙◌, sym, ap, arith, ℕ, ◌≤◌, List, [], length, map, flat_map, nat_le, Option, Some, None, Result, Ok, Err, inl, inr}
+use Rattle.std.proofs.Common.{◌≡◌, ◌∙◌, sym, ap, arith, ℕ, ◌≤◌, List, [], length, map, flat_map, nat_le, Option, Some, None, Result, Ok, Err, inl, inr, rules}
 use Rattle.std.proofs.lemmas.Bool.{cases_Bool}
 use Rattle.std.proofs.lemmas.Bool.Decides.{nat_tests}
 use Rattle.std.proofs.lemmas.List.{length-replicate}
@@ -31,13 +31,7 @@ laid-size places size = laid_size (empty size) places ∙ length-replicate {A = 
 
 together-size : (said : List Said) (size : ℕ) (p : Image × Ending) → together size said ≡ Ok p → length p.0 ≡ size
 together-size said size p is =
-    let good : Image × Ending = (
-      image_of_pairs size (flat_map placed_bytes (in_place [] (up_to_end said))),
-      file_ending said,
-    ) in
-    let same = good-is (first_fault size (in_place [] (up_to_end said))) good p is in
-    ap (λ (x : Image × Ending). length x.0) (sym same)
-    ∙ laid-size (flat_map placed_bytes (in_place [] (up_to_end said))) size
+    search (rules, good-is, laid-size)
 
 of-records-is : (r : Result (Image × Ending) RecordFault) (p : Image × Ending) → of_records r ≡ Ok p → r ≡ Ok p
 of-records-is (Ok good) p is = cc
@@ -45,21 +39,12 @@ of-records-is (Err fault) p is = cc
 
 raw-size : (bytes : Bytes) (size : ℕ) (p : Image × Ending) → of_raw (raw_file.raw bytes size) ≡ Ok p → length p.0 ≡ size
 raw-size bytes size p is =
-    elim (cases_Bool (nat_le (length bytes) size)) [
-      | inl t ↦
-          let fits : length bytes ≤ size = grind (arith, nat_tests, t) in
-          let same : (from_zero bytes size, Ended) ≡ p = cc (rw t at is) in
-          ap (λ (x : Image × Ending). length x.0) (sym same) ∙ ap length (from_zero_is_a_span bytes size fits)
-          ∙ laid-size (enumerate_from 0 bytes) size
-      | inr f ↦ cc (rw f at is)
-    ]
+    search (rules, cases_Bool, from_zero_is_a_span, laid-size)
 
 whole-size : (found : Found) (bytes : Bytes) (size : ℕ) (p : Image × Ending) → whole_file found bytes size ≡ Ok p
     → length p.0 ≡ size
-whole-size file.Ihex bytes size p is = together-size (map (said_by_line records.Ihex) (lines bytes)) size p
-    (of-records-is (image_in_text records.Ihex bytes size) p is)
-whole-size file.Srec bytes size p is = together-size (map (said_by_line records.Srec) (lines bytes)) size p
-    (of-records-is (image_in_text records.Srec bytes size) p is)
+whole-size file.Ihex bytes size p is = search (rules, together-size, of-records-is)
+whole-size file.Srec bytes size p is = search (rules, together-size, of-records-is)
 whole-size file.Elf bytes size p is = cc
 whole-size file.Raw bytes size p is = raw-size bytes size p is
 

@@ -1,5 +1,5 @@
 -- Lifts a fact about single stages of planning to the whole of it. The fact may name the files that a stage reads.
-use Rattle.std.proofs.Common.{ℕ, List, [], ◌∷◌, ◌++◌, append-nil, subst, Bool, true, false, Option, Some, None, Result, Ok, Err, if◌then◌else◌}
+use Rattle.std.proofs.Common.{ℕ, List, [], ◌∷◌, ◌++◌, append-nil, subst, Bool, true, false, Option, Some, None, Result, Ok, Err, if◌then◌else◌, rules}
 use Rattle.avr_cli.specs.declared.settings.Settings.{Settings}
 use Rattle.avr_cli.specs.declared.settings.Switches.{Switches}
 use Rattle.avr_cli.specs.declared.update.Format.{Format}
@@ -47,11 +47,7 @@ module _ (Holds : (A : Type 0) → Stage A → List Bytes → Type 0)
     file_image : (name : Bytes) (kind : Format) (size : ℕ)
         → Holds (List (Option ℕ)) (file_image_stage s name kind size) (name ∷ [])
     file_image name kind size =
-        last (file_stage name LARGEST_IMAGE_FILE (judged_image name kind size))
-        (λ given. output_stage (warning_says s name given.1) >>= λ ok. verdict_stage (Ok given.0)) (name ∷ [])
-        (of_image name kind size)
-        (λ given. last (output_stage (warning_says s name given.1)) (λ ok. verdict_stage (Ok given.0)) []
-        (warned s name given.1) (λ ok. settled (List (Option ℕ)) (Ok given.0)))
+        search (rules, last)
 
     image : (memory : Mem) (size : ℕ) (name : Bytes) (kind : Format)
         → Holds (List (Option ℕ)) (image_stage s memory size name kind) (image_file name kind)
@@ -63,9 +59,7 @@ module _ (Holds : (A : Type 0) → Stage A → List Bytes → Type 0)
       -- an update's image, then its task
       imaged : (u : Update) (make : List (Option ℕ) → Task)
           → Holds Task (update_image s part u >>= λ bytes. verdict_stage (Ok (make bytes))) (image_file u.file u.format)
-      imaged u make = last (update_image s part u) (λ bytes. verdict_stage (Ok (make bytes)))
-          (image_file u.file u.format) (image u.memory (size_of u.memory part) u.file u.format)
-          (λ bytes. settled Task (Ok (make bytes)))
+      imaged u make = search (rules, last, image)
 
       write : (u : Update) → Holds Task (write_stage s part u) (file_of_op u op.Write)
       write u = by_memory (is_writable u.memory)
@@ -100,6 +94,4 @@ module _ (Holds : (A : Type 0) → Stage A → List Bytes → Type 0)
       (files_of s.updates) (parts s.parts)
       (λ all. onward Part Plan (part_stage s.part all) behind [] (files_of s.updates)
       (settled Part (part_or_line s.part (part_of_id s.part all)))
-      (λ part. last (tasks_stage s.switches part [] s.updates) (made s part) (files_of s.updates)
-      (tasks s.switches part [] s.updates)
-      (λ tasks. settled Plan (Ok (record { part = part; tasks = tasks; switches = s.switches })))))
+      (λ part. search (rules, last, tasks)))

@@ -1,5 +1,5 @@
 -- Planning over the bytes that were read of some files is planning over the whole files, stage by stage.
-use Rattle.std.proofs.Common.{◌≡◌, ◌∙◌, sym, ap, subst, refl, arith, ℕ, ◌≤◌, ◌<◌, List, [], ◌∷◌, ◌++◌, append_assoc, append-nil, length, take, drop, Bool, true, false, ◌||◌, nat_le, nat_lt, Option, Result, Ok, Err, if◌then◌else◌, length-append}
+use Rattle.std.proofs.Common.{◌≡◌, ◌∙◌, sym, ap, subst, refl, arith, ℕ, ◌≤◌, ◌<◌, List, [], ◌∷◌, ◌++◌, append_assoc, append-nil, length, take, drop, Bool, true, false, ◌||◌, nat_le, nat_lt, Option, Result, Ok, Err, if◌then◌else◌, length-append, rules}
 use Rattle.std.proofs.lemmas.Bool.Decides.{nat_tests}
 use Rattle.std.proofs.lemmas.List.{take-append-le, take-append-drop, length-take-le, map-append}
 use Rattle.avr_cli.specs.declared.settings.Settings.{Settings}
@@ -44,8 +44,7 @@ lines_told : {A : Type 0} (first second : List OutputEvent) (answer : StageAnswe
     → lines_in (all_told first answer) ≡ lines_in (all_told second answer)
 lines_told first second (Made a) same = same
 lines_told first second (Refused line) same =
-    lines_append first (Line line ∷ []) ∙ ap (λ (ls : List Bytes). ls ++ line ∷ []) same
-    ∙ sym (lines_append second (Line line ∷ []))
+    search (rules, lines_append)
 lines_told first second Unread same = same
 
 -- ---- one stage over two lists of openings
@@ -82,18 +81,7 @@ module _ (stock : Stock) where
       → ((going_on p.says p.left go_on answer).answer ≡ Unread → ⊥)
       → IsSame (going_on p.says p.left go_on answer) (going_on q.says q.left go_on answer) rest
   on_made go_on p q back rest sees same (Made a) is seen read =
-      let left : q.left ≡ files_give stock back ++ rest = same.left a is in
-      let behind : IsSame (go_on a p.left) (go_on a q.left) rest =
-      subst (λ os. IsSame (go_on a p.left) (go_on a os) rest) (sym left)
-      (sees a p.left rest (seen_second stock p.says (go_on a p.left).says seen) read) in
-      record {
-        answer = behind.answer;
-        lines = lines_append q.says (go_on a q.left).says
-            ∙ ap (λ (ls : List Bytes). ls ++ lines_in (go_on a q.left).says) same.lines
-            ∙ ap (λ (ls : List Bytes). lines_in p.says ++ ls) behind.lines
-            ∙ sym (lines_append p.says (go_on a p.left).says);
-        left = behind.left;
-      }
+      search (rules, seen_second, lines_append)
   on_made go_on p q back rest sees same (Refused line) is seen read =
       record { answer = refl; lines = same.lines; left = λ made e. absurd (cc) }
   on_made go_on p q back rest sees same Unread is seen read = absurd (read refl)
@@ -105,9 +93,7 @@ module _ (stock : Stock) where
       let p = stage openings in
       let given : files_give stock (prefix ++ back) ++ rest
       ≡ files_give stock prefix ++ (files_give stock back ++ rest) =
-      ap (λ (os : List Opening). os ++ rest) (map-append (λ name. read_whole name (stood_for stock [] name)) prefix
-      back)
-      ∙ append_assoc (files_give stock prefix) (files_give stock back) rest in
+      search (rules, map-append, append_assoc) in
       let same : IsSame p (stage (files_give stock prefix ++ (files_give stock back ++ rest)))
       (files_give stock back ++ rest) =
       first openings (files_give stock back ++ rest) (of_first p p.answer refl seen)
@@ -154,18 +140,7 @@ module _ (stock : Stock) where
     of_opening (Absent other) openings rest is read =
         rw is (record { answer = refl; lines = refl; left = λ made e. refl })
     of_opening (Found x) openings rest is read =
-        subst (λ (stood : Option Bytes). IsSame (content_stage name limit judge (Found (record x { name = name }))
-        openings) (content_stage name limit judge (under_name name (read_whole name stood)) rest) rest)
-        (sym is.whole) (by_end (x.ended || nat_lt limit (length x.bytes)) refl read)
-      where
-        by_end : (whole : Bool) → (x.ended || nat_lt limit (length x.bytes)) ≡ whole
-            → (((if whole then verdict_stage (judge x.bytes) else unread_stage {A = A}) openings).answer ≡ Unread → ⊥)
-            → IsSame ((if x.ended || nat_lt limit (length x.bytes) then verdict_stage (judge x.bytes)
-            else unread_stage {A = A}) openings)
-            (verdict_stage (judge (x.bytes ++ is.unread)) rest) rest
-        by_end true whole read = rw whole (same_verdict (judge x.bytes) (judge (x.bytes ++ is.unread)) openings rest
-            (same_judged limit judge limited x.bytes is.unread x.ended is.ends whole))
-        by_end false whole read = absurd (read refl)
+        search (rules, same_verdict, same_judged)
 
     -- the same, after its opening
     behind_opening : (opening : Opening) (openings rest : List Opening)
@@ -175,8 +150,7 @@ module _ (stock : Stock) where
         (content_stage name limit judge (under_name name opening) openings))
         (file_stage name limit judge (read_whole name (stood_for stock [] name) ∷ rest)) rest
     behind_opening opening openings rest is read =
-        let same = of_opening opening openings rest is read in
-        record { answer = same.answer; lines = same.lines; left = same.left }
+        search (rules, of_opening)
 
     file : Sees (file_stage name limit judge) (name ∷ [])
     file [] rest seen read = behind_opening (Absent name) [] rest seen.0 read
@@ -184,10 +158,7 @@ module _ (stock : Stock) where
 
   limited_parts : (name : Bytes) → IsLimited LARGEST_PART_FILE (judged_parts name)
   limited_parts name bytes more past =
-      let one : nat_le (length bytes) LARGEST_PART_FILE ≡ false = grind (arith, nat_tests, past) in
-      let other : nat_le (length (bytes ++ more)) LARGEST_PART_FILE ≡ false = let e = length-append bytes more in
-      grind (arith, nat_tests, past, e) in
-      rw (one, other) refl
+      search (rules, length-append)
 
   same_kind : (kind : Format) (bytes more : Bytes) → 1024 ≤ length bytes
       → kind_of kind (bytes ++ more) ≡ kind_of kind bytes
@@ -196,22 +167,15 @@ module _ (stock : Stock) where
       let back = drop 1024 bytes in
       let len : length prefix ≡ 1024 = length-take-le 1024 bytes long in
       let whole : prefix ++ back ≡ bytes = take-append-drop 1024 bytes in
-      let one : kind_of kind bytes ≡ kind_of kind prefix =
-      ap (kind_of kind) (sym whole) ∙ kind-prefix kind prefix back len in
-      let other : kind_of kind (bytes ++ more) ≡ kind_of kind prefix =
-      ap (λ (b : Bytes). kind_of kind (b ++ more)) (sym whole) ∙ ap (kind_of kind) (append_assoc prefix back more)
-      ∙ kind-prefix kind prefix (back ++ more) len in
-      other ∙ sym one
+      search (rules, kind-prefix, append_assoc)
 
   limited_image : (name : Bytes) (kind : Format) (size : ℕ) → IsLimited LARGEST_IMAGE_FILE (judged_image name kind size)
   limited_image name kind size bytes more past =
       let one : nat_le (length bytes) LARGEST_IMAGE_FILE ≡ false = grind (arith, nat_tests, past) in
-      let other : nat_le (length (bytes ++ more)) LARGEST_IMAGE_FILE ≡ false = let e = length-append bytes more in
-      grind (arith, nat_tests, past, e) in
+      let other : nat_le (length (bytes ++ more)) LARGEST_IMAGE_FILE ≡ false = search (rules, length-append) in
       let prefix : take LARGEST_IMAGE_FILE (bytes ++ more) ≡ take LARGEST_IMAGE_FILE bytes =
       take-append-le LARGEST_IMAGE_FILE bytes more (omega (arith, past)) in
-      let found : kind_of kind (bytes ++ more) ≡ kind_of kind bytes = same_kind kind bytes more (omega (arith, past)) in
-      ap (image_or_line name) (past_limit (kind_of kind bytes) (kind_of kind (bytes ++ more)) one other prefix found)
+      search (rules, same_kind)
     where
       past_limit : (found whole : FoundKind) → nat_le (length bytes) LARGEST_IMAGE_FILE ≡ false
           → nat_le (length (bytes ++ more)) LARGEST_IMAGE_FILE ≡ false
@@ -233,14 +197,4 @@ module _ (stock : Stock) where
       × (lines_in (told_in (planned_of s stock)) ≡ lines_in (told_in (planned s openings)))
   seen_is_planned s openings seen read =
       let same = plan_sees s openings [] seen read in
-      let given : files_give stock (files_read s) ++ [] ≡ files_give stock (files_read s) =
-      append-nil (files_give stock (files_read s)) in
-      let p = planned s openings in
-      let answer : (planned_of s stock).answer ≡ p.answer =
-      ap (λ os. (planned s os).answer) (sym given) ∙ same.answer in
-      let lines : lines_in (planned_of s stock).says ≡ lines_in p.says =
-      ap (λ os. lines_in (planned s os).says) (sym given) ∙ same.lines in (
-        answer,
-        ap (λ (a : StageAnswer Plan). lines_in (all_told (planned_of s stock).says a)) answer
-            ∙ lines_told (planned_of s stock).says p.says p.answer lines,
-      )
+      search (rules, append-nil, lines_told)

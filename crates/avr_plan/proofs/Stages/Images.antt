@@ -1,5 +1,5 @@
 -- The image of an update.
-use Rattle.std.proofs.Common.{◌≡◌, sym, ap, ℕ, false, List, Option, Ok, Err}
+use Rattle.std.proofs.Common.{◌≡◌, sym, ap, ℕ, false, List, Option, Ok, Err, rules}
 use Rattle.avr_cli.specs.declared.settings.Switches.{Switches}
 use Rattle.avr_cli.specs.declared.update.Format.{Format}
 use Rattle.avr_desk.specs.Fault.{Follows, HasSameCounts}
@@ -47,8 +47,7 @@ module _ (switches : Switches) (file : Bytes) (format : Format) (size : ℕ) whe
       went_went (file_stage file LARGEST_IMAGE_FILE (judged_image file format size)) (behind_file switches file) old mid
       new (image, ending) (Made image)
       (went_file file format size old mid image ending reads same)
-      (went_went (output_stage (warning_says switches file ending)) (λ ok. verdict_stage (Ok image)) mid new new tt
-      (Made image) warns (went_nowhere new image))
+      (search (rules, went_went, went_nowhere))
 
   -- its warning broke off
   pub goes_unwarned : (old mid new : DeskState) (image : Image) (ending : Ending) (status : ℕ)
@@ -60,8 +59,7 @@ module _ (switches : Switches) (file : Bytes) (format : Format) (size : ℕ) whe
       (behind_file switches file) old mid new
       (image, ending) (Err status) (went_file file format size old mid image ending reads same)
       (λ passed said never. absurd (taken_never passed said never))
-      (goes_no_further (AtStart false) (output_stage (warning_says switches file ending))
-      (λ ok. verdict_stage (Ok image)) mid new status warns)
+      (search (rules, goes_no_further))
 
   -- a file that isn't one
   goes_bad : (old mid new : DeskState) (bad : BadFile) (status : ℕ)
@@ -71,18 +69,14 @@ module _ (switches : Switches) (file : Bytes) (format : Format) (size : ℕ) whe
   goes_bad old mid new bad status reads same one told =
       let judge = judged_image file format size in
       let given : judge reads.bytes ≡ Err (bad_file_line file bad) = ap (image_or_line file) (sym reads.gives) in
-      goes_no_further (AtStart false) (file_stage file LARGEST_IMAGE_FILE judge) (behind_file switches file) old new
-      status (goes_whole (AtStart false) file LARGEST_IMAGE_FILE judge reads.bytes reads.ended old mid new (Err status)
-      reads.kept reads.whole same (goes_unsettled (AtStart false) (judge reads.bytes) (bad_file_line file bad) mid new
-      status given one told))
+      search (rules, goes_no_further, goes_whole, goes_unsettled)
 
   -- a file that was not read
   goes_unread : (old new : DeskState) (status : ℕ)
       → Goes (AtStart false) (file_stage file LARGEST_IMAGE_FILE (judged_image file format size)) old new (Err status)
       → Goes (AtStart false) (file_image_stage switches file format size) old new (Err status)
   goes_unread old new status goes =
-      goes_no_further (AtStart false) (file_stage file LARGEST_IMAGE_FILE (judged_image file format size))
-      (behind_file switches file) old new status goes
+      search (rules, goes_no_further)
 
   -- an image, but no room for its task
   pub goes_without_room : (old mid new : DeskState) (image : Image) (ending : Ending) (status : ℕ)
@@ -102,8 +96,6 @@ module _ (switches : Switches) (file : Bytes) (format : Format) (size : ℕ) whe
       → Tells mid new (image_line file fault)
       → Goes (AtStart false) (file_image_stage switches file format size) old new (Err status)
   goes_without_image old mid new (fault_of.File fault) status reads rose counted one told =
-      goes_unread old new status
-      (goes_file_fault (AtStart false) file LARGEST_IMAGE_FILE (judged_image file format size) fault old mid new status
-      reads rose counted one told)
+      search (rules, goes_unread, goes_file_fault)
   goes_without_image old mid new (fault_of.Image bad) status reads rose counted one told =
       goes_bad old mid new bad status reads counted one told

@@ -1,5 +1,5 @@
 -- Planning only reads and reports, stage by stage.
-use Rattle.std.proofs.Common.{ℕ, List, [], ◌∷◌, ◌++◌, Bool, true, false, Ok, Err, Result}
+use Rattle.std.proofs.Common.{ℕ, List, [], ◌∷◌, ◌++◌, Bool, true, false, Ok, Err, Result, rules}
 use Rattle.std.specs.Prelude.{if◌then◌else◌}
 use Rattle.avr_cli.specs.declared.settings.Settings.{Settings}
 use Rattle.avr_desk.specs.declared.record.Opening.{Opening}
@@ -31,8 +31,7 @@ going says left go_on answer f g = f
 
 onward : {A B : Type 0} (stage : Stage A) (go_on : A → Stage B) → Reads stage → ((a : A) → Reads (go_on a))
     → Reads (stage >>= go_on)
-onward stage go_on f g openings = going (stage openings).says (stage openings).left go_on (stage openings).answer
-    (f openings) g
+onward stage go_on f g openings = search (rules, going)
 
 is_settled : {A : Type 0} (result : Result A Bytes) → Reads (verdict_stage result)
 is_settled (Ok a) openings = tt
@@ -41,16 +40,10 @@ is_settled (Err line) openings = tt
 is_judged : {A : Type 0} (name : Bytes) (limit : ℕ) (judge : Bytes → Result A Bytes) (opening : Opening)
     → Reads (content_stage name limit judge opening)
 is_judged {A = A} name limit judge (Absent other) openings = tt
-is_judged {A = A} name limit judge (Found reading) openings = by_end (is_whole limit reading)
-  where
-    by_end : (b : Bool) → OnlyReads ((if b then verdict_stage (judge reading.bytes) else unread_stage {A = A})
-        openings).says
-    by_end true = is_settled (judge reading.bytes) openings
-    by_end false = tt
+is_judged {A = A} name limit judge (Found reading) openings = search (rules, is_settled)
 
 file : {A : Type 0} (name : Bytes) (limit : ℕ) (judge : Bytes → Result A Bytes) → Reads (file_stage name limit judge)
-file name limit judge = onward (open_stage name) (content_stage name limit judge) (λ openings. tt)
-    (is_judged name limit judge)
+file name limit judge = search (rules, onward, is_judged)
 
 warns : (b : Bool) (name : Bytes) → OnlyReads (if b then Line (no_end_line name) ∷ [] else [])
 warns true name = tt

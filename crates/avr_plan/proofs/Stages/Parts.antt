@@ -1,5 +1,5 @@
 -- The parts of a part file.
-use Rattle.std.proofs.Common.{◌≡◌, ◌∙◌, sym, ap, refl, arith, ℕ, List, length, Bool, true, false, nat_le, Ok, Err, inl, inr, subst}
+use Rattle.std.proofs.Common.{◌≡◌, ◌∙◌, sym, ap, refl, arith, ℕ, List, length, Bool, true, false, nat_le, Ok, Err, inl, inr, subst, rules}
 use Rattle.std.proofs.lemmas.Bool.Decides.{nat_tests}
 use Rattle.avr_desk.specs.Fault.{HasSameCounts}
 use Rattle.avr_desk.specs.Files.{IsWhole, with_read}
@@ -22,9 +22,7 @@ use Rattle.avr_desk.specs.Stage.{Made, file_stage}
 -- the judgment of a file within the limit
 judged-within : (file bytes : Bytes) → IsWhole LARGEST_PART_FILE (record { bytes = bytes; ended = true })
     → judged_parts file bytes ≡ parts_or_line file (parts_of bytes)
-judged-within file bytes whole = let fits : nat_le (length bytes) LARGEST_PART_FILE ≡ true =
-    grind (arith, nat_tests, whole) in
-    rw fits refl
+judged-within file bytes whole = search rules
 
 pub goes_long_parts : (file bytes : Bytes) (ended : Bool) (old mid new : DeskState) (status : ℕ)
     → Passes (with_read file bytes ended) old mid
@@ -36,10 +34,7 @@ goes_long_parts file bytes true old mid new status kept whole is same one told =
 goes_long_parts file bytes false old mid new status kept whole is same one told =
     let past : nat_le (length bytes) LARGEST_PART_FILE ≡ false = let more = whole.0 in grind (arith, nat_tests, more) in
     let given : judged_parts file bytes ≡ Err (too_long_line file LARGEST_PART_FILE) = rw past refl in
-    goes_whole (AtStart false) file LARGEST_PART_FILE (judged_parts file) bytes false old mid new (Err status)
-    kept whole same
-    (goes_unsettled (AtStart false) (judged_parts file bytes) (too_long_line file LARGEST_PART_FILE) mid new status
-    given one told)
+    search (rules, goes_whole, goes_unsettled)
 
 pub went_parts : (file bytes : Bytes) (ended : Bool) (old mid : DeskState) (parts : List Part)
     → Passes (with_read file bytes ended) old mid
@@ -63,10 +58,7 @@ goes_bad_parts file bytes false old mid new status refused kept whole is same gi
 goes_bad_parts file bytes true old mid new status refused kept whole is same (inl gives) one told =
     let given : judged_parts file bytes ≡ Err (part_file_line file refused.fault) =
     judged-within file bytes whole ∙ ap (parts_or_line file) (sym gives) in
-    goes_whole (AtStart false) file LARGEST_PART_FILE (judged_parts file) bytes true old mid new (Err status)
-    kept whole same
-    (goes_unsettled (AtStart false) (judged_parts file bytes) (part_file_line file refused.fault) mid new status given
-    one told)
+    search (rules, goes_whole, goes_unsettled)
 goes_bad_parts file bytes true old mid new status refused kept whole is same (inr memory) one told =
     let memory_is : refused ≡ of_file Memory = cc in
     let told_so = subst (λ r. Tells mid new (part_file_line file r.fault)) memory_is told in

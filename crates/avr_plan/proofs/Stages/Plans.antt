@@ -1,5 +1,5 @@
 -- The stages of a plan, one after another.
-use Rattle.std.proofs.Common.{◌≡◌, ◌∙◌, ap, append-nil, subst, ℕ, false, List, [], ◌++◌, Result, Ok, Err}
+use Rattle.std.proofs.Common.{◌≡◌, ◌∙◌, ap, append-nil, subst, ℕ, false, List, [], ◌++◌, Result, Ok, Err, rules}
 use Rattle.avr_cli.specs.declared.settings.Settings.{Settings}
 use Rattle.avr_desk.specs.Record.{DeskState, Bytes}
 use Rattle.avr_part.specs.Part.{Part}
@@ -28,8 +28,7 @@ pub goes_without_parts : (s : Settings) (old new : DeskState) (status : ℕ)
     → Goes (AtUpdate s) (planned s) old new (Err status)
 goes_without_parts s old new status goes =
     goes_no_further (AtUpdate s) (parts_stage s.parts) (behind_parts s) old new status
-    (goes_within (AtStart false) (AtUpdate s) (parts_stage s.parts) old new (Err status)
-    (λ passed said never. absurd (taken_never passed said never)) goes)
+    (search (rules, goes_within, taken_never))
 
 pub goes_without_part : (s : Settings) (old mid new : DeskState) (status : ℕ) (parts : List Part)
     → Went (parts_stage s.parts) old mid (Made parts)
@@ -68,13 +67,7 @@ at_due s old first mid parts part went found passed said due = record {
     planned_so : planned before (went.passed ++ (found.passed ++ passed))
         ≡ record { says = went.says ++ (found.says ++ said); answer = Made (plan_of s part due.made); left = [] }
     planned_so =
-        made_then (parts_stage s.parts) (behind_parts before) old first parts went (found.passed ++ passed)
-        ∙ ap (behind_outputs went.says)
-        (made_then (part_stage s.part parts) (behind_part before) first mid part found passed
-        ∙ ap (behind_outputs found.says)
-        (made_so ∙ ap (λ (ss : List OutputEvent). record
-        { says = ss; answer = Made (plan_of s part due.made); left = [] })
-        (append-nil said)))
+        search (rules, made_then, append-nil)
 
 -- what allocates after the part file
 abbrev Behind : Settings → List Opening → List OutputEvent → Taking
@@ -89,8 +82,7 @@ goes_without_tasks s old first mid new status parts part went found goes =
     (Err status) went (λ passed said there. there)
     (goes_on (AtTask s.switches part [] s.updates) (Behind s went.passed went.says) (part_stage s.part parts)
     (behind_part s) first mid new part (Err status) found (at_due s old first mid parts part went found)
-    (goes_no_further (AtTask s.switches part [] s.updates) (tasks_stage s.switches part [] s.updates)
-    (λ ts. verdict_stage (Ok (plan_of s part ts))) mid new status goes))
+    (search (rules, goes_no_further)))
 
 pub went_whole_plan : (s : Settings) (old first mid new : DeskState) (parts : List Part) (part : Part)
     (tasks : List Task)
@@ -98,16 +90,11 @@ pub went_whole_plan : (s : Settings) (old first mid new : DeskState) (parts : Li
     → Went (tasks_stage s.switches part [] s.updates) mid new (Made tasks)
     → Went (planned s) old new (Made (plan_of s part tasks))
 went_whole_plan s old first mid new parts part tasks went found made =
-    went_went (parts_stage s.parts) (behind_parts s) old first new parts (Made (plan_of s part tasks)) went
-    (went_went (part_stage s.part parts) (behind_part s) first mid new part (Made (plan_of s part tasks)) found
-    (went_into (tasks_stage s.switches part [] s.updates) (plan_of s part) mid new tasks made))
+    search (rules, went_went, went_into)
 
 -- no part has the id, whatever it is called here
 pub lacks_part : {E : Type 0} (id own : Bytes) (parts : List Part) (old mid new : DeskState) → id ≡ own
     → ◌≡◌ {A = Result (List Part) E} (Ok parts) (Ok []) → mid ≡ old → LacksPart id parts mid new
     → LacksPart own [] old new
 lacks_part id own parts old mid new same given view lacks =
-    let none : parts ≡ [] = cc in
-    subst (λ (d : DeskState). LacksPart own [] d new) view
-    (subst (λ (ps : List Part). LacksPart own ps mid new) none
-    (subst (λ (i : Bytes). LacksPart i parts mid new) same lacks))
+    search rules

@@ -1,5 +1,5 @@
 -- The tasks of updates.
-use Rattle.std.proofs.Common.{◌≡◌, ◌∙◌, sym, ap, subst, arith, ℕ, zero, suc, ◌+◌, All, drop, List, [], ◌∷◌, ◌++◌, refl, Bool, true, false, if◌then◌else◌, Option, Result, Ok, Err}
+use Rattle.std.proofs.Common.{◌≡◌, ◌∙◌, sym, ap, subst, arith, ℕ, zero, suc, ◌+◌, All, drop, List, [], ◌∷◌, ◌++◌, refl, Bool, true, false, if◌then◌else◌, Option, Result, Ok, Err, rules}
 use Rattle.avr_cli.specs.declared.settings.Switches.{Switches}
 use Rattle.avr_cli.specs.declared.update.Format.{Format}
 use Rattle.avr_cli.specs.declared.update.Format.TheVariants.{Immediate}
@@ -37,19 +37,13 @@ module _ (switches : Switches) (memory : Mem) (size size' : ℕ) (file file' : B
       → Goes (AtStart takes) (image_stage switches memory size file format) old new result
       → Goes (AtStart (has_values format)) (image_stage switches memory size' file' format) old new result
   goes_of_same takes values goes =
-      let taken = subst (λ b. Goes (AtStart b) (image_stage switches memory size file format) old new result)
-      (sym values) goes in
-      let sized = subst (λ (n : ℕ). Goes (AtStart (has_values format)) (image_stage switches memory n file format) old
-      new result) sizes taken in
-      subst (λ (f : Bytes). Goes (AtStart (has_values format)) (image_stage switches memory size' f format) old new
-      result) files sized
+      search rules
 
   pub goes_of_file : (format ≡ Immediate → ⊥)
       → Goes (AtStart false) (file_image_stage switches file format size) old new result
       → Goes (AtStart (has_values format)) (image_stage switches memory size' file' format) old new result
   goes_of_file other goes =
-      goes_of_same false (no_values format other) (subst (λ s. Goes (AtStart false) s old new result)
-      (file_stage-is switches memory size file format other) goes)
+      goes_of_same false (no_values format other) (search (rules, file_stage-is))
 
   pub goes_of_values : format ≡ Immediate
       → Goes (AtStart true) (image_stage switches memory size file Immediate) old new result
@@ -66,8 +60,7 @@ pub goes_writable : (switches : Switches) (part : Part) (u : Update) (old new : 
     → Goes (AtStart (has_values u.format)) (writes switches part u) old new result
     → Goes (AtStart (op_takes_memory u op.Write)) (write_stage switches part u) old new result
 goes_writable switches part u old new result is goes =
-    subst (λ b. Goes (AtStart (if b then has_values u.format else false))
-    (if b then writes switches part u else verdict_stage (Err (read_only_line u.memory))) old new result) is goes
+    search rules
 
 pub goes_read_only : (switches : Switches) (part : Part) (u : Update) (old new : DeskState) (status : ℕ)
     → false ≡ is_writable u.memory
@@ -107,9 +100,7 @@ module _ (switches : Switches) (part : Part) (tasks : List Task) (u : Update) (u
     takes = later.takes;
     made = later.made;
     are_made =
-        made_then (task_stage switches part u) (λ t. tasks_stage switches part (tasks ++ t ∷ []) later.done) old mid
-        task went passed
-        ∙ ap (behind_outputs went.says) later.are_made;
+        search (rules, made_then);
   }
 
 module _ (switches : Switches) (part : Part) (tasks : List Task) (updates : List Update) (i : ℕ) (u : Update) where
@@ -135,10 +126,7 @@ module _ (switches : Switches) (part : Part) (tasks : List Task) (updates : List
       let rest = drop (i + 1) updates in
       subst (λ (us : List Update). Goes (AtTask switches part tasks us) (tasks_stage switches part tasks us) old new
       (Err status)) (sym is)
-      (goes_within (AtStart (op_takes_memory u u.op)) (AtTask switches part tasks (u ∷ rest))
-      (tasks_stage switches part tasks (u ∷ rest)) old new (Err status) (at_first switches part tasks u rest)
-      (goes_no_further (AtStart (op_takes_memory u u.op)) (task_stage switches part u)
-      (λ t. tasks_stage switches part (tasks ++ t ∷ []) rest) old new status goes))
+      (search (rules, goes_within, at_first, goes_no_further))
 
 pub all_one : (P : Task → Type 0) (task : Task) → P task → All P (task ∷ [])
 all_one P task p zero d l = p

@@ -1,5 +1,5 @@
 -- The image of values.
-use Rattle.std.proofs.Common.{◌≡◌, refl, sym, ap, ℕ, true, List, Option, Ok, Err, inl, inr, subst}
+use Rattle.std.proofs.Common.{◌≡◌, refl, sym, ap, ℕ, true, List, Option, Ok, Err, inl, inr, subst, rules}
 use Rattle.avr_cli.specs.declared.settings.Switches.{Switches}
 use Rattle.avr_cli.specs.declared.update.Format.TheVariants.{Immediate}
 use Rattle.avr_desk.specs.Record.{DeskState, Bytes}
@@ -39,10 +39,7 @@ goes_bad_values switches memory size text old new status fault (inl is) one told
     goes_unsettled (AtStart true) (values_or_line memory (values text size)) (values_line memory fault) old new status
     (ap (values_or_line memory) (sym is)) one told
 goes_bad_values switches memory size text old new status fault (inr refused) one told =
-    let same : fault ≡ Memory = cc in
-    goes_without_memory (AtStart true) (verdict_stage (values_or_line memory (values text size))) old new status
-    (refl, refl, refl) one
-    (subst (λ f. Tells old new (values_line memory f)) same told)
+    search (rules, goes_without_memory)
 
 -- or there was no room for its task
 pub goes_without_room : (switches : Switches) (memory : Mem) (size : ℕ) (text : Bytes) (old new : DeskState)
@@ -50,5 +47,4 @@ pub goes_without_room : (switches : Switches) (memory : Mem) (size : ℕ) (text 
     → status ≡ 1 → Tells old new memory_line
     → Goes (AtStart true) (image_stage switches memory size text Immediate) old new (Err status)
 goes_without_room switches memory size text old new status one told =
-    goes_without_memory (AtStart true) (image_stage switches memory size text Immediate) old new status
-    (refl, refl, refl) one told
+    search (rules, goes_without_memory)

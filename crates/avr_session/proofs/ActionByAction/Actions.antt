@@ -1,5 +1,5 @@
 -- Actions of a session, one after another.
-use Rattle.std.proofs.Common.{◌≡◌, List, [], ◌∷◌, ◌++◌, refl, sym, ap, ◌∙◌}
+use Rattle.std.proofs.Common.{◌≡◌, List, [], ◌∷◌, ◌++◌, refl, sym, ap, ◌∙◌, rules}
 use Rattle.avr_cli.specs.declared.settings.Switches.{Switches}
 use Rattle.avr_desk.specs.Said.{OutputEvent}
 use Rattle.avr_part.specs.Part.{Part}
@@ -29,10 +29,4 @@ pub actions_dialog-append : (part : Part) (s : Switches) (xs ys : List Action)
     → actions_dialog part s (xs ++ ys) ≡ actions_dialog part s xs >>= unless_fault (actions_dialog part s ys)
 actions_dialog-append part s [] ys = refl
 actions_dialog-append part s (x ∷ xs) ys =
-    let more = actions_dialog part s ys in
-    ap (λ (next : Dialog OutputEvent Standing). action_dialog part s x
-    >>= unless_fault next) (actions_dialog-append part s xs ys)
-    ∙ (bind_same (action_dialog part s x) (unless_fault (actions_dialog part s xs >>= unless_fault more))
-    (λ standing. unless_fault (actions_dialog part s xs) standing >>= unless_fault more)
-    (unless_both (actions_dialog part s xs) more)
-    ∙ sym (bind_assoc (action_dialog part s x) (unless_fault (actions_dialog part s xs)) (unless_fault more)))
+    search (rules, bind_same, unless_both, bind_assoc, actions_dialog-append part s xs ys)

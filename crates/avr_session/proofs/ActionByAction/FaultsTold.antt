@@ -1,5 +1,5 @@
 -- The state of a session after an action gives whether a fault was reported in it: laws of dialogs alone.
-use Rattle.std.proofs.Common.{◌≡◌, ℕ, Bool, true, false, ◌||◌, List, [], ◌∷◌, ◌++◌, length, drop, map, refl, sym, ap, ◌∙◌, subst, append_assoc, append-nil, nat_lt, bytes_eq, codes, decimal, if◌then◌else◌, Option, Some, None, Result, Ok, Err, inl, inr}
+use Rattle.std.proofs.Common.{◌≡◌, ℕ, Bool, true, false, ◌||◌, List, [], ◌∷◌, ◌++◌, length, drop, map, refl, sym, ap, ◌∙◌, subst, append_assoc, append-nil, nat_lt, bytes_eq, codes, decimal, if◌then◌else◌, Option, Some, None, Result, Ok, Err, inl, inr, rules}
 use Rattle.std.proofs.lemmas.Bool.{cases_Bool, or_parts}
 use Rattle.std.proofs.lemmas.List.Folds.{list_any-append}
 use Rattle.std.proofs.lemmas.Slice.Eq.{starts_is}
@@ -82,8 +82,7 @@ along_play : {R : Type 0} (P : List OutputEvent → R → Type 0) (dialog : Dial
     → Along P dialog → Ends P (outputs (played dialog seq tape).events) (played dialog seq tape).outcome
 along_play P (Done r) seq tape f = f
 along_play P (Say e dialog) seq tape f =
-    ends_behind P e (outputs (played dialog seq tape).events) (played dialog seq tape).outcome
-    (along_play (λ said r. P (e ∷ said) r) dialog seq tape f)
+    search (rules, ends_behind, along_play (λ said r. P (e ∷ said) r) dialog seq tape f)
 along_play {R = R} P (Ask body answered) seq tape f =
     elim (answer seq tape) as (λ o. Ends P (outputs (by_answer (λ r. played (answered r) (next seq)) o).events)
     (by_answer (λ r. played (answered r) (next seq)) o).outcome) [
@@ -108,13 +107,7 @@ foretold {dialog = dialog} {m = m} f ran =
 -- one action after another
 pub foretells_then : (first more : Dialog OutputEvent Standing) → Foretells first → Foretells more
     → Foretells (first >>= unless_fault more)
-foretells_then first more f g = along_bind Foretold Foretold first (unless_fault more) f λ said s is. next_of said s is
-  where
-    next_of : (said : List OutputEvent) (s : Standing) → tells_fault said ≡ is_told s
-        → Along (λ behind after. tells_fault (said ++ behind) ≡ is_told after) (unless_fault more s)
-    next_of said Fine is = along_more Foretold (λ behind after. tells_fault (said ++ behind) ≡ is_told after) more
-        (λ behind after same. list_any-append is_error said behind ∙ (ap (λ x. x || tells_fault behind) is ∙ same)) g
-    next_of said s is = ap tells_fault (append-nil said) ∙ is
+foretells_then first more f g = search (rules, along_bind, along_more, list_any-append, append-nil)
 
 -- an operation and its report
 foretells_reported : {A : Type 0} (operation : Dialog ⊥ (Result A HostFault))
@@ -125,8 +118,7 @@ foretells_reported operation outcome_says f =
     along_bind (λ said outcome. said ≡ []) Foretold (lifted operation)
     (λ outcome. says (outcome_says outcome) (Done (standing outcome))) (along_lifted operation) λ said outcome none.
     along_says (λ more after. Foretold (said ++ more) after) (outcome_says outcome) (Done (standing outcome))
-    (ap tells_fault (ap (λ (xs : List OutputEvent). xs ++ (outcome_says outcome ++ [])) none
-    ∙ append-nil (outcome_says outcome)) ∙ f outcome)
+    (search rules)
 
 -- the output in place of an action
 foretells_says : (outputs : List OutputEvent) → tells_fault outputs ≡ false → Foretells (says outputs (Done Fine))
@@ -154,35 +146,23 @@ warns_none : (quiet : ℕ) (pieces : List Bytes) → tells_fault (warns quiet pi
 warns_none quiet pieces = unless_quiet (nat_lt 1 quiet) (warning pieces) refl
 
 bytes_none : (quiet : ℕ) (mem : Mem) (count : ℕ) (done : Bytes) → tells_fault (bytes_say quiet mem count done) ≡ false
-bytes_none quiet Flash count done = unless_quiet (nat_lt 0 quiet)
-    (information (name_of Flash ∷ codes ": " ∷ decimal count ∷ done ∷ [])) refl
-bytes_none quiet mem count done = unless_quiet (nat_lt 0 quiet)
-    (information (name_of mem ∷ codes ": " ∷ decimal count ∷ done ∷ [])) refl
+bytes_none quiet Flash count done = search rules
+bytes_none quiet mem count done = search rules
 
 signature_none : (quiet : ℕ) (found : Bytes) → tells_fault (signature_says quiet found) ≡ false
 signature_none quiet found = unless_quiet (nat_lt 0 quiet) (information (codes "device signature = " ∷ _ ∷ [])) refl
 
 of_signature_none : (quiet : ℕ) (part : Part) (found : Bytes)
     → tells_fault (warns_of_signature quiet part found) ≡ false
-of_signature_none quiet part found = elim (bytes_eq found part.signature) as
-    (λ b. tells_fault (if b then [] else warns quiet (other_signature part found)) ≡ false) [
-      | true ↦ refl
-      | false ↦ warns_none quiet (other_signature part found)
-    ]
+of_signature_none quiet part found = search rules
 
 saved_none : (file text : Bytes) → tells_fault (saving_says file text) ≡ false
-saved_none file text = elim (bytes_eq file (codes "-")) as
-    (λ b. tells_fault (if b then Outs text ∷ [] else Creates file ∷ Writes text ∷ []) ≡ false) [
-      | true ↦ refl
-      | false ↦ refl
-    ]
+saved_none file text = search rules
 
 pub read_none : (s : Switches) (mem : Mem) (format : Format) (file bytes : Bytes)
     → tells_fault (read_says s mem format file bytes) ≡ false
 read_none s mem format file bytes =
-    let kept = kept_of mem s.all bytes in
-    both_none (saving_says file (file_text format kept)) (bytes_say s.quiet mem (length kept) (codes " bytes read"))
-    (saved_none file (file_text format kept)) (bytes_none s.quiet mem (length kept) (codes " bytes read"))
+    search rules
 
 or_tells : {A : Type 0} (part : Part) (good : A → List OutputEvent) → ((a : A) → tells_fault (good a) ≡ false)
     → (outcome : Result A HostFault) → tells_fault (fault_or part good outcome) ≡ is_told (standing outcome)
@@ -191,12 +171,9 @@ or_tells {A = A} part good f (Err fault) = fault_tells part fault ∙ sym (fault
 
 opening_tells : (quiet : ℕ) (part : Part) (outcome : Result Bytes HostFault)
     → tells_fault (opening_says quiet part outcome) ≡ is_told (standing outcome)
-opening_tells quiet part (Ok found) = both_none (signature_says quiet found) (warns_of_signature quiet part found)
-    (signature_none quiet found) (of_signature_none quiet part found)
+opening_tells quiet part (Ok found) = search rules
 opening_tells quiet part (Err (WrongSignature found)) =
-    list_any-append is_error (signature_says quiet found) (Line (fault_line part (WrongSignature found)) ∷ [])
-    ∙ (ap (λ b. b || tells_fault (Line (fault_line part (WrongSignature found)) ∷ [])) (signature_none quiet found)
-    ∙ fault_tells part (WrongSignature found))
+    search (rules, list_any-append, signature_none, fault_tells)
 opening_tells quiet part (Err fault) = fault_tells part fault
 
 left_out_none : (quiet : ℕ) (what : LeftOut) → tells_fault (left_out_says quiet what) ≡ false
@@ -206,30 +183,21 @@ left_out_none quiet (TheWrite mem image) = bytes_none quiet mem (byte_count imag
 -- ---- the actions of a session
 
 pub action_foretells : (part : Part) (s : Switches) (action : Action) → Foretells (action_dialog part s action)
-action_foretells part s OpenSession = foretells_reported (opening part.signature s.force) (opening_says s.quiet part)
-    (opening_tells s.quiet part)
+action_foretells part s OpenSession = search (rules, foretells_reported, opening_tells)
 action_foretells part s EraseChip =
-    foretells_reported erasing (erased_says s.quiet part)
-    (or_tells part (λ _. informs s.quiet (codes "chip erased" ∷ []))
-    (λ done. unless_quiet (nat_lt 0 s.quiet) (information (codes "chip erased" ∷ [])) refl))
+    search (rules, foretells_reported, or_tells, unless_quiet)
 action_foretells part s (WriteImage mem image) =
-    foretells_reported (writing part mem image) (written_says s.quiet part mem image)
-    (or_tells part (λ _. bytes_say s.quiet mem (byte_count image) (codes " bytes written"))
-    (λ done. bytes_none s.quiet mem (byte_count image) (codes " bytes written")))
+    search (rules, foretells_reported, or_tells, bytes_none)
 action_foretells part s (CompareImage mem image) =
-    foretells_reported (verifying part mem image) (verified_says s.quiet part mem image)
-    (or_tells part (λ _. bytes_say s.quiet mem (byte_count image) (codes " bytes verified"))
-    (λ done. bytes_none s.quiet mem (byte_count image) (codes " bytes verified")))
+    search (rules, foretells_reported, or_tells, bytes_none)
 action_foretells part s (SaveMemory mem format file) =
-    foretells_reported (reading part mem) (fault_or part (read_says s mem format file))
-    (or_tells part (read_says s mem format file) (λ bytes. read_none s mem format file bytes))
+    search (rules, foretells_reported, or_tells, read_none)
 action_foretells part s (LeaveOut what) = foretells_says (left_out_says s.quiet what) (left_out_none s.quiet what)
 
 pub actions_foretells : (part : Part) (s : Switches) (actions : List Action) → Foretells (actions_dialog part s actions)
 actions_foretells part s [] = refl
 actions_foretells part s (action ∷ actions) =
-    foretells_then (action_dialog part s action) (actions_dialog part s actions) (action_foretells part s action)
-    (actions_foretells part s actions)
+    search (rules, foretells_then, action_foretells, actions_foretells part s actions)
 
 -- ---- a prefix of output without a fault has none
 
@@ -239,14 +207,10 @@ error_prefix prefix whole is f =
     let mark = codes "avrstk: error: " in
     let rest = drop (length mark) prefix in
     let begins : prefix ≡ mark ++ rest = (starts_is unsigned_Decides prefix mark (is_error (Line prefix)) refl).0 f in
-    (starts_is unsigned_Decides whole mark (is_error (Line whole)) refl).1 (rest ++ is.0)
-    (sym is.1 ∙ (ap (λ (xs : Bytes). xs ++ is.0) begins ∙ append_assoc mark rest is.0))
+    search rules
 
 line_none : (part whole : Bytes) → IsPrefixOf part whole → is_error (Line whole) ≡ false → is_error (Line part) ≡ false
-line_none part whole is none = elim (cases_Bool (is_error (Line part))) [
-  | inl t ↦ let e = error_prefix part whole is t in absurd (cc)
-  | inr f ↦ f
-]
+line_none part whole is none = search rules
 
 quiet_by : (begun : List OutputEvent) (events : List (Event OutputEvent)) → map Said begun ≡ events
     → tells_fault (outputs events) ≡ false → tells_fault begun ≡ false
@@ -266,17 +230,11 @@ begun_none (OfFile file NotWritten) whole begun later (inl x) none =
 begun_none (OfFile file NotWritten) whole begun later (inr x) none =
     quiet_by begun (Said (Outs x.1.done) ∷ []) x.1.part refl
 begun_none OfPrinting whole begun later x none =
-    let due = sym (ap tells_fault (outputs_by later (Said (Line x.bytes) ∷ x.more) x.due)) ∙ none in
-    let one = line_none x.done x.bytes x.prefix
-    (or_parts (is_error (Line x.bytes)) (tells_fault (outputs x.more)) due).0 in
-    quiet_by begun (Said (Line x.done) ∷ []) x.part (ap (λ b. b || false) one)
+    search (rules, outputs_by, line_none, or_parts, quiet_by)
 begun_none OfMemory whole begun later x none = quiet_by begun [] x refl
 
 pub prefix_tells_none : {cause : Cause} {old new : DeskState} {outputs : List OutputEvent}
     (prefix : SaysPrefix cause old new outputs) → tells_fault outputs ≡ false
     → tells_fault (prefix.whole ++ prefix.begun) ≡ false
 prefix_tells_none {cause = cause} prefix none =
-    let both = or_parts (tells_fault prefix.whole) (tells_fault prefix.later)
-    (sym (list_any-append is_error prefix.whole prefix.later) ∙ (ap tells_fault (sym prefix.outputs_are) ∙ none)) in
-    both_none prefix.whole prefix.begun both.0
-    (begun_none cause prefix.whole prefix.begun prefix.later prefix.place both.1)
+    search (rules, or_parts, list_any-append, both_none, begun_none)

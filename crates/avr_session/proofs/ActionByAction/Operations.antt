@@ -1,5 +1,5 @@
 -- An operation of the host and its report, as an action of a session.
-use Rattle.std.proofs.Common.{◌≡◌, ℕ, ◌≤◌, Bool, true, false, List, [], ◌++◌, length, refl, sym, ap, ◌∙◌, ◌∷◌, subst, bytes_eq, if◌then◌else◌, Option, Some, None, Result, Ok, Err, inl, inr, ◌⊎◌}
+use Rattle.std.proofs.Common.{◌≡◌, ℕ, ◌≤◌, Bool, true, false, List, [], ◌++◌, length, refl, sym, ap, ◌∙◌, ◌∷◌, subst, bytes_eq, if◌then◌else◌, Option, Some, None, Result, Ok, Err, inl, inr, ◌⊎◌, rules}
 use Rattle.avr_desk.specs.Record.{DeskState}
 use Rattle.avr_desk.specs.declared.desk.DeskFault.{DeskFault}
 use Rattle.avr_part.specs.Part.{Part}
@@ -103,8 +103,7 @@ judged_lacks_none : {A : Type 0} {m n : Progress} {o p : LinkState} (first : Dia
 judged_lacks_none {A = A} {m = m} first judge not f =
     let tape = on_tape m.unread ++ (heard f.during ++ []) in
     judged_not judge not (played first m.next tape).outcome
-    (subst (λ (p : Played ⊥ (Result A HostFault)). IsLacking p.outcome)
-    (sym (f.plays.plays []) ∙ played_bind first (λ outcome. Done (judge outcome)) m.next tape) tt)
+    (search (rules, played_bind))
 
 host_fault_not : (A : Type 0) (fault : StepFault) → IsMemory {A = A} (Err (host_fault fault)) → ⊥
 host_fault_not A of_step.NoAnswer is = is
@@ -122,11 +121,7 @@ signature_not : (wanted : List ℕ) (force : Bool) (outcome : StepOutcome)
     → IsMemory (signature_judged wanted force outcome)
     → ⊥
 signature_not wanted true (Ok found) is = is
-signature_not wanted false (Ok found) is = by_test (bytes_eq found wanted) is
-  where
-    by_test : (same : Bool) → IsMemory {A = List ℕ} (if same then Ok found else Err (WrongSignature found)) → ⊥
-    by_test true is = is
-    by_test false is = is
+signature_not wanted false (Ok found) is = search rules
 signature_not wanted force (Err fault) is = host_fault_not (List ℕ) fault is
 
 pub opening_lacks_none : {m n : Progress} {o p : LinkState} (wanted : List ℕ) (force : Bool)
@@ -195,8 +190,7 @@ pub told_of : {A : Type 0} (part : Part) (tells : Result A HostFault → List Ou
     {outcome : Result A HostFault} {said : Result (Unit {0}) DeskFault} → Reports PrintStops d e (tells outcome) said
     → (stop : Stop) → StopsAs outcome stop → Tells d e (cause_line (cause_at stop))
 told_of part tells line {d = d} {e = e} {said = said} reports stop is =
-    subst (Tells d e) (line_at part stop) (told_some d e (fault_line part (fault_at stop)) said
-    (subst (λ outputs. Reports PrintStops d e outputs said) (ap tells is ∙ line stop) reports))
+    subst (Tells d e) (line_at part stop) (search (rules, told_some))
 
 pub opening_line : (quiet : ℕ) (part : Part) (stop : Stop)
     → opening_says quiet part (Err (fault_at stop)) ≡ Line (fault_line part (fault_at stop)) ∷ []

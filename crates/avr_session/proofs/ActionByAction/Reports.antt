@@ -1,5 +1,5 @@
 -- Reports, one after another.
-use Rattle.std.proofs.Common.{◌≡◌, ◌≤◌, ℕ, arith, List, [], ◌∷◌, ◌++◌, Result, Ok, Err, refl, sym, ap, ◌∙◌, subst, inl, inr, IfErr, append-nil, nat_lt, false}
+use Rattle.std.proofs.Common.{◌≡◌, ◌≤◌, ℕ, arith, List, [], ◌∷◌, ◌++◌, Result, Ok, Err, refl, sym, ap, ◌∙◌, subst, inl, inr, IfErr, append-nil, nat_lt, false, rules}
 use Rattle.std.proofs.lemmas.Bool.Decides.{nat_tests}
 use Rattle.avr_desk.specs.Record.{Record, DeskState, Passes, after_err}
 use Rattle.avr_desk.specs.Fault.{Counts, Follows, HasFailedAt, HasFailedToSay, HasSameCounts}
@@ -39,14 +39,7 @@ kept_nothing d = sym (nothing_printed d)
 -- nothing more is printed after printing failed
 said_until : (old new : DeskState) (outputs : List OutputEvent) → SaysPrefix OfPrinting old new outputs
     → HasFailedToSay old new → SaidSome PrintStops old new outputs
-said_until old new outputs prefix failed = record {
-  between = new;
-  cause = OfPrinting;
-  prefix = prefix;
-  told = [];
-  stops = (failed, refl);
-  kept = kept_nothing new.kept;
-}
+said_until old new outputs prefix failed = search rules
 
 line_said : (old new : DeskState) (bytes : List ℕ) (printed : Result (Unit {0}) DeskFault)
     → IsPrinted old new bytes printed → Counts Messages old new printed → IfErr printed (λ e. e ≡ Failed)
@@ -72,35 +65,20 @@ said_then : (By : DeskState → DeskState → Cause → List ℕ
     → SaysOrStops By old new (first ++ more) result
 said_then By old mid new first more (Ok done) why was then =
     (kept_append first more old.kept mid.kept new.kept was.0 then.0, same_on old mid new was.1 then.1)
-said_then By old mid new first more (Err _) why was then = record {
-  between = then.between;
-  cause = then.cause;
-  prefix = prefix_behind first more was.0 then.prefix;
-  told = then.told;
-  stops = why then.cause then.told then.stops;
-  kept = then.kept;
-}
+said_then By old mid new first more (Err _) why was then = search (rules, prefix_behind)
 
 -- one report, then another
 pub reports_then : (old mid new : DeskState) (first more : List OutputEvent) {done : Unit {0}}
     (result : Result (Unit {0}) DeskFault) → Reports PrintStops old mid first (Ok done)
     → Reports PrintStops mid new more result → Reports PrintStops old new (first ++ more) result
-reports_then old mid new first more result was then = record {
-  says = said_then PrintStops old mid new first more result (print_stops_later old mid new was.says.1) was.says
-      then.says;
-  follows = follows_on old mid new was.follows then.follows;
-}
+reports_then old mid new first more result was then = search (rules, said_then, print_stops_later, follows_on)
 
 -- something is saved, then a line is printed
 pub saves_then : (old mid new : DeskState) (file : List ℕ) (first more : List OutputEvent) {done : Unit {0}}
     (result : Result (Unit {0}) DeskFault) → Reports (SaveStops file) old mid first (Ok done)
     → Reports PrintStops mid new more result → Reports DeskStops old new (first ++ more) result
-saves_then old mid new file first more result was then = record {
-  says = said_then DeskStops old mid new first more result
-      (λ cause told stops. print_is_desk old new cause told (print_stops_later old mid new was.says.1 cause told stops))
-      was.says then.says;
-  follows = follows_on old mid new was.follows then.follows;
-}
+saves_then old mid new file first more result was then =
+    search (rules, said_then, print_is_desk, print_stops_later, follows_on)
 
 -- the first report was the last
 pub reports_until : (By Then : DeskState → DeskState → Cause → List ℕ → Type 0) {old new : DeskState}
@@ -135,19 +113,13 @@ one_line {d = d} {e = e} l prefix =
     let p = prefix.place in
     let begun : prefix.begun ≡ Line p.done ∷ [] = outputs_by prefix.begun _ p.part in
     let later : prefix.later ≡ Line p.bytes ∷ outputs p.more = outputs_by prefix.later _ p.due in
-    let one = one_only l p.bytes prefix.whole (outputs p.more)
-    (prefix.outputs_are ∙ ap (λ ss. prefix.whole ++ ss) later) in (
-      p.done,
-      subst (IsPrefixOf p.done) one.1 p.prefix,
-      subst (λ ss. Passes (after_all ss) d e) (ap (λ ss. ss ++ prefix.begun) one.0 ∙ begun) prefix.kept,
-    )
+    search (rules, one_only)
 
 told_line : (cause : Cause) (told l : List ℕ) (old new between : DeskState) → Follows old new
     → SaysPrefix cause old between (Line l ∷ []) → PrintStops old new cause told → Passes (after_err told) between new
     → Tells old new l
 told_line OfPrinting told l old new between follows prefix stops kept =
-    let same : new.kept ≡ between.kept = kept
-    ∙ (ap (λ told. after_err told between.kept) stops.1 ∙ sym (kept_nothing between.kept)) in
+    let same : new.kept ≡ between.kept = search rules in
     let some = one_line l prefix in
     record { told = some.0; tells = inr (some.1, stops.0); kept = same ∙ some.2; follows = follows }
 told_line cause told l old new between follows prefix stops kept = absurd stops
@@ -171,14 +143,7 @@ pub file_stops : (By : DeskState → DeskState → Cause → List ℕ → Type 0
     → HasFailedAt File old mid → Follows old mid
     → ((told : List ℕ) → FileStops old new file trouble told → By old new (OfFile file trouble) told)
     → Tells mid new (cause_line (OfFile file trouble)) → SaidSome By old new outputs
-file_stops By old mid new outputs file trouble prefix failed first why some = record {
-  between = mid;
-  cause = OfFile file trouble;
-  prefix = prefix;
-  told = some.told;
-  stops = why some.told (failure_told old mid new (cause_line (OfFile file trouble)) first failed some);
-  kept = some.kept;
-}
+file_stops By old mid new outputs file trouble prefix failed first why some = search rules
 
 pub not_lt : (a b : ℕ) → b ≤ a → nat_lt a b ≡ false
 not_lt a b le = grind (arith, nat_tests)

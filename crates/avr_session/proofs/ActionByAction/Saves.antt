@@ -1,5 +1,5 @@
 -- Files that are created and written.
-use Rattle.std.proofs.Common.{◌≡◌, ℕ, true, List, [], ◌∷◌, map, bytes_eq, codes, Result, Ok, Err, ◌∙◌, refl}
+use Rattle.std.proofs.Common.{◌≡◌, ℕ, true, List, [], ◌∷◌, map, bytes_eq, codes, Result, Ok, Err, ◌∙◌, refl, rules}
 use Rattle.std.proofs.lemmas.Slice.Eq.{bytes_eq-Decides}
 use Rattle.avr_desk.specs.Record.{DeskState, Passes, after_create}
 use Rattle.avr_desk.specs.Fault.{Counts, Follows, HasFailedAt, HasSameCounts}
@@ -43,10 +43,7 @@ save_is_desk file before now cause told stops = absurd stops
 text_then : (old mid new : DeskState) (file text : List ℕ) (result : Result (Unit {0}) DeskFault)
     → Passes (after_all (Creates file ∷ [])) old mid → HasSameCounts old mid → WritesAll File file mid new text result
     → SaysOrStops (SaveStops file) old new (Creates file ∷ Writes text ∷ []) result
-text_then old mid new file text (Ok done) kept same writes = (
-  kept_append (Creates file ∷ []) (Writes text ∷ []) old.kept mid.kept new.kept kept writes.0,
-  same_on old mid new same writes.1,
-)
+text_then old mid new file text (Ok done) kept same writes = search rules
 text_then old mid new file text (Err _) kept same writes = record {
   between = writes.between;
   cause = OfFile file NotWritten;
@@ -63,11 +60,7 @@ pub created_then : (old mid new : DeskState) (file text : List ℕ) (created : R
     → Reports (SaveStops file) old new (Creates file ∷ Writes text ∷ []) result
 created_then old mid new file text (Err fault) result is kept first last writes = cc
 created_then old mid new file text (Ok ok) result is kept first last writes =
-    record {
-      says = text_then old mid new file text result kept first.1 writes;
-      follows =
-          follows_on old mid new first.0 last;
-    }
+    search (rules, text_then, follows_on)
 
 -- bytes were written to standard output, or a prefix of them
 put_out : (old new : DeskState) (file text : List ℕ) (result : Result (Unit {0}) DeskFault) → file ≡ codes "-"
@@ -86,10 +79,7 @@ pub saved_out : (old new : DeskState) (file text : List ℕ) (result : Result (U
     → bytes_eq file (codes "-") ≡ true → WritesAll Output file old new text result → Follows old new
     → Reports (SaveStops file) old new (saving_says file text) result
 saved_out old new file text result same writes follows =
-    record {
-      says = rw same (put_out old new file text result ((bytes_eq-Decides file (codes "-")).0 same) writes);
-      follows = follows;
-    }
+    search (rules, put_out, bytes_eq-Decides)
 
 -- a stream that fails during writing fails as a file
 pub failed_at_file : (stream : Stream) (old new : DeskState) → IsForData stream → HasFailedAt stream old new
@@ -102,10 +92,4 @@ failed_at_file Messages old new written failed = absurd written
 pub writes_some : (stream : Stream) (file text : List ℕ) (old mid new : DeskState) → SendsPart stream old mid text
     → HasFailedAt File old mid → Follows old mid → Tells mid new (cause_line (OfFile file NotWritten))
     → WritesSome stream file old new text
-writes_some stream file text old mid new part failed first some = record {
-  between = mid;
-  part = part;
-  told = some.told;
-  stops = failure_told old mid new (cause_line (OfFile file NotWritten)) first failed some;
-  kept = some.kept;
-}
+writes_some stream file text old mid new part failed first some = search rules

@@ -1,5 +1,5 @@
 -- Actions of a session, one after another.
-use Rattle.std.proofs.Common.{◌≡◌, ℕ, Bool, true, false, ◌||◌, ◌++◌, ◌≤◌, arith, List, [], ◌∷◌, length, refl, sym, ap, ◌∙◌, subst, subst₂, append_assoc, Some, None, Result, Ok, Err, inl, get_or, take, drop, ◌<◌, ◌-◌}
+use Rattle.std.proofs.Common.{◌≡◌, ℕ, Bool, true, false, ◌||◌, ◌++◌, ◌≤◌, arith, List, [], ◌∷◌, length, refl, sym, ap, ◌∙◌, subst, subst₂, append_assoc, Some, None, Result, Ok, Err, inl, get_or, take, drop, ◌<◌, ◌-◌, rules}
 use Rattle.std.proofs.Math.Bool.{or-false}
 use Rattle.std.specs.List.{list_any}
 use Rattle.std.proofs.lemmas.Grind.{common_steps}
@@ -54,27 +54,14 @@ pub print_stops_run : (terms : Terms) (o : LinkState) (d e : DeskState) → Foll
     → (said : List OutputEvent) (cause : Cause) (told : List ℕ) → PrintStops d e cause told
     → StopsBehind terms (devices o d) (devices o e) said cause told
 print_stops_run terms o d e le said OfPrinting told stops =
-    record {
-      between = e;
-      has_come = (stops.0, refl);
-      tells =
-          printing_tells (terms.was_told || tells_fault said) told e stops.1;
-      since = le;
-      until = follows_here e;
-    }
+    search (rules, printing_tells, follows_here)
 print_stops_run terms o d e le said cause told stops = absurd stops
 
 -- so does a desk that failed at a file, if no fault was reported
 desk_stops_run : (takes : Bool) (o : LinkState) (d e : DeskState) → Follows d e → (said : List OutputEvent)
     → tells_fault said ≡ false → (cause : Cause) (told : List ℕ) → DeskStops d e cause told
     → StopsBehind (untold takes) (devices o d) (devices o e) said cause told
-desk_stops_run takes o d e le said none (OfFile file trouble) told stops = record {
-  between = stops.between;
-  has_come = (stops.failed, refl);
-  tells = subst (λ x. TellsCause x (OfFile file trouble) told stops.between e) (sym none) stops.tells;
-  since = stops.since;
-  until = stops.until;
-}
+desk_stops_run takes o d e le said none (OfFile file trouble) told stops = search rules
 desk_stops_run takes o d e le said none OfPrinting told stops =
     print_stops_run (untold takes) o d e le said OfPrinting told stops
 desk_stops_run takes o d e le said none cause told stops = absurd stops
@@ -97,17 +84,7 @@ told_by : {A R : Type 0} (takes : Bool) (dialog : Dialog ⊥ R) (m : Progress) (
     {outcome : Result A HostFault} {d e : DeskState} (stop : Stop) → (IsBroken outcome → link.HasFailed o p)
     → StopsAs outcome stop → StopsOver takes dialog m o p stop → Tells d e (cause_line (cause_at stop))
     → ToldBy (untold takes) (cause_at stop) (devices o d) (devices p e)
-told_by takes dialog m o p {d = d} stop failed is over some = (
-  some.told,
-  record {
-    between = d;
-    has_come = stop_come takes dialog m o p d stop failed is over;
-    tells = some.tells;
-    since = follows_here d;
-    until = some.follows;
-  },
-  some.kept,
-)
+told_by takes dialog m o p {d = d} stop failed is over some = search rules
 
 -- An operation of the host and the output about its outcome, for a call that ended and was reported like this.
 module _ {A : Type 0} (operation : Dialog ⊥ (Result A HostFault)) (outcome_says : Result A HostFault → List OutputEvent)
@@ -123,14 +100,7 @@ module _ {A : Type 0} (operation : Dialog ⊥ (Result A HostFault)) (outcome_say
       → Ended terms.takes operation old.progress o p outcome new.progress) → result ≡ conclusion outcome told
       → PerformsBehind terms (AtOnce terms.takes) (reported operation outcome_says) old new (devices o d) (devices p e)
       (stands result)
-  action_performs terms why tells sound calls ends is = rw is (record {
-    runs = operation_runs operation outcome_says old.progress new.progress outcome told terms By why
-        (ends (calls.played sound)) (calls.bound sound) (calls.sound sound) reports.says tells;
-    serves = serves_after outcome told new.broken (calls.lasts sound);
-    part = calls.part;
-    link = calls.counted;
-    desk = reports.follows;
-  })
+  action_performs terms why tells sound calls ends is = search (rules, operation_runs, serves_after)
 
   pub operation_performs : (takes : Bool) → StopsReport (untold takes) p d e (outcome_says outcome) By
       → ((stop : Stop) → StopsAs outcome stop → Tells d e (cause_line (cause_at stop)))
@@ -155,24 +125,12 @@ pub left_out_performs : (takes : Bool) (outputs : List OutputEvent) {host : Host
     (result : Result (Unit {0}) End) → host.broken ≡ None → LeavesOut outputs d e result
     → Performs takes (says outputs (Done Fine)) host host (devices o d) (devices o e) (stands result)
 left_out_performs takes outputs {host = host} {o = o} {d = d} {e = e} result sound leaves =
-    rw leaves.result_is (record {
-      runs = left_out_runs takes outputs host.progress o d e leaves.told leaves.reports;
-      serves = serves_after {A = Unit {0}} (Ok tt) leaves.told host.broken sound;
-      part = refl;
-      link = omega arith;
-      desk = leaves.reports.follows;
-    })
+    search (rules, left_out_runs, serves_after)
 
 -- nothing
 pub nothing_performs : {terms : Terms} {L : Lacking} (standing : Standing) (host : HostState) (o : Devices)
     → HostServes (Ok standing) host.broken → PerformsBehind terms L (Done standing) host host o o (Ok standing)
-nothing_performs standing host o serves = record {
-  runs = ran_from (came_here (Done standing) host.progress o);
-  serves = serves;
-  part = refl;
-  link = omega arith;
-  desk = follows_here o.desk;
-}
+nothing_performs standing host o serves = search (rules, ran_from, came_here, follows_here)
 
 -- after an action that was done a session goes on as its state chooses
 module _ {first : Dialog OutputEvent Standing} {K : Lacking} {x y : HostState} {o p : Devices} (takes : Bool)
@@ -181,13 +139,7 @@ module _ {first : Dialog OutputEvent Standing} {K : Lacking} {x y : HostState} {
       {result : Result Standing (Unit {0})} → PerformsBehind terms M more y z p q result
       → Runs whole x.progress o q (untold takes) L result z.progress
       → PerformsBehind (untold takes) L whole x z o q result
-  after_done {q = q} rest runs = record {
-    runs = runs;
-    serves = rest.serves;
-    part = rest.part ∙ done.part;
-    link = omega (arith, done.link, rest.link);
-    desk = follows_on o.desk p.desk q.desk done.desk rest.desk;
-  }
+  after_done {q = q} rest runs = search rules
 
   pub performs_on : {L M : Lacking} (more_takes : Bool) (go_on : Standing → Dialog OutputEvent Standing) {z : HostState}
       {q : Devices} (result : Result Standing (Unit {0})) → (more_takes ≡ true → takes ≡ true) → Foretells first
@@ -198,9 +150,7 @@ module _ {first : Dialog OutputEvent Standing} {K : Lacking} {x y : HostState} {
   performs_on more_takes go_on (Ok then) both foretells lack rest =
       after_done rest (ran_on (came_part go_on done.runs) rest.runs)
   performs_on more_takes go_on {q = q} (Err stopped) both foretells lack rest =
-      after_done rest (broke_on (came_part go_on done.runs) (stops_in (record
-      { takes = more_takes; was_told = is_told standing }) (untold takes) (outputs done.runs.events) o p q both
-      done.runs.sound (foretold foretells done.runs)) lack rest.runs)
+      after_done rest (broke_on (came_part go_on done.runs) (search (rules, stops_in, foretold)) lack rest.runs)
 
 -- the same run of the host and its devices, as another action
 abbrev performs_as : {terms all : Terms} {L M : Lacking} {first whole : Dialog OutputEvent Standing} {x y : HostState}
@@ -227,9 +177,8 @@ module _ (takes more_takes : Bool) where
       {o p : Devices} (end : End) → LacksLater L x.progress [] [] M x.progress
       → PerformsBehind (untold takes) M first x y o p (stands (Err end))
       → PerformsBehind (untold (takes || more_takes)) L (first >>= unless_fault more) x y o p (stands (Err end))
-  performs_last more {o = o} {p = p} ends.Stopped lack done = performs_as done (broke_part (unless_fault more)
-      (stops_since takes (takes || more_takes) false o o p (or_first takes more_takes) (none_failed_here o)) lack
-      done.runs) done.serves
+  performs_last more {o = o} {p = p} ends.Stopped lack done =
+      search (rules, broke_part, stops_since, or_first, none_failed_here)
   performs_last more end lack done =
       performs_as done (ran_from (came_part (unless_fault more) done.runs)) done.serves
 
@@ -246,23 +195,13 @@ taking_one part s action m during shown at = record {
   takes = at.0;
   next = m.next;
   left = on_tape m.unread ++ heard during;
-  is_played = ap (λ (es : List (Event OutputEvent)). record
-      { events = es; outcome = Some (Fine, m.next, on_tape m.unread ++ heard during) }) (sym at.1);
+  is_played = search rules;
 }
 
 -- in the first of more
 taking_prefix : (part : Part) (s : Switches) (xs ys : List Action) (m : Progress)
     → LacksLater (AtTaking part s (xs ++ ys)) m [] [] (AtTaking part s xs) m
-taking_prefix part s xs ys m during shown at = record {
-  done = at.done;
-  due = at.due;
-  more = at.more ++ ys;
-  actions_are = ap (λ (every : List Action). every ++ ys) at.actions_are ∙ append_assoc at.done (at.due ∷ at.more) ys;
-  takes = at.takes;
-  next = at.next;
-  left = at.left;
-  is_played = at.is_played;
-}
+taking_prefix part s xs ys m during shown at = search (rules, append_assoc)
 
 -- after others that ran
 taking_then : (part : Part) (s : Switches) (xs ys : List Action) {m n : Progress} {o p : Devices}
@@ -277,16 +216,11 @@ taking_then part s xs ys {m = m} {n = n} ran during shown at =
       done = xs ++ at.done;
       due = at.due;
       more = at.more;
-      actions_are = ap (λ (every : List Action). xs ++ every) at.actions_are
-          ∙ sym (append_assoc xs at.done (at.due ∷ at.more));
+      actions_are = search (rules, append_assoc);
       takes = at.takes;
       next = at.next;
       left = at.left;
-      is_played = ap (λ (d : Dialog OutputEvent Standing). played d m.next tape)
-          (actions_dialog-append part s xs at.done)
-          ∙ (played_bind (actions_dialog part s xs) go_on m.next tape
-          ∙ (ap (λ (q : Played OutputEvent Standing). followed q (λ st. played (go_on st))) first
-          ∙ ap (behind ran.events) at.is_played));
+      is_played = search (rules, actions_dialog-append, played_bind, followed);
     }
 
 -- ---- the actions of a plan
@@ -312,10 +246,7 @@ pub does_one : (plan : Plan) (action : Action) {x y : HostState} {o p : Devices}
     → Performs (action_takes_memory action) (action_dialog plan.part plan.switches action) x y o p result
     → Does plan (action ∷ []) x y o p result
 does_one plan action {x = x} {y = y} {o = o} {p = p} {result = result} done =
-    subst₂ (λ (takes : Bool) (dialog : Dialog OutputEvent Standing). PerformsBehind (untold takes)
-    (AtTaking plan.part plan.switches (action ∷ [])) dialog x y o p result)
-    (sym (or-false (action_takes_memory action))) (sym (actions_dialog-one plan.part plan.switches action))
-    (performs_lacking (taking_one plan.part plan.switches action x.progress) result done)
+    search (rules, or-false, actions_dialog-one, performs_lacking, taking_one)
 
 -- the same actions, in another form
 pub does_same : (plan : Plan) (xs ys : List Action) {x y : HostState} {o p : Devices}
@@ -333,9 +264,7 @@ module _ (plan : Plan) (xs ys : List Action) where
       >>= unless_fault (actions_dialog plan.part plan.switches ys)) x y o p result
       → Does plan (xs ++ ys) x y o p result
   does_both {x = x} {y = y} {o = o} {p = p} {result = result} done =
-      subst₂ (λ (takes : Bool) (dialog : Dialog OutputEvent Standing). PerformsBehind (untold takes)
-      (AtTaking plan.part plan.switches (xs ++ ys)) dialog x y o p result)
-      (sym (list_any-append action_takes_memory xs ys)) (sym (actions_dialog-append plan.part plan.switches xs ys)) done
+      search (rules, list_any-append, actions_dialog-append)
 
   -- both
   pub does_then : {x y z : HostState} {o p q : Devices} (result : Result Standing (Unit {0}))
@@ -352,8 +281,7 @@ module _ (plan : Plan) (xs ys : List Action) where
   pub does_last : {x y : HostState} {o p : Devices} (end : End) → Does plan xs x y o p (stands (Err end))
       → Does plan (xs ++ ys) x y o p (stands (Err end))
   does_last {x = x} end done =
-      does_both (performs_last (list_any action_takes_memory xs) (list_any action_takes_memory ys)
-      (actions_dialog plan.part plan.switches ys) end (taking_prefix plan.part plan.switches xs ys x.progress) done)
+      does_both (search (rules, performs_last, taking_prefix))
 
 -- a read, whose data are in a vector
 
@@ -471,11 +399,7 @@ pub session_played : (plan : Plan) {x y : HostState} {o p : Devices} (standing :
 unfolding session
 session_played plan {x = x} {y = y} {o = o} {p = p} standing first done =
     let ran = ran_on (came_part (λ standing. Done (status_of standing)) done.runs)
-    (ran_from (came_here (Done (status_of standing)) y.progress p)) in (
-      y.progress,
-      subst (λ n. Ran (playing plan >>= λ standing. Done (status_of standing)) n o p (status_of standing) y.progress)
-          first ran,
-    )
+    (ran_from (came_here (Done (status_of standing)) y.progress p)) in search rules
 
 pub session_stopped : (plan : Plan) {x y : HostState} {o p : Devices} (stopped : Unit {0}) → x.progress ≡ start
     → PerformsBehind (untold (takes_memory plan)) (AtTaking plan.part plan.switches (actions plan)) (playing plan) x y o
@@ -483,7 +407,4 @@ pub session_stopped : (plan : Plan) {x y : HostState} {o p : Devices} (stopped :
     → StopsSession plan o p
 unfolding session
 session_stopped plan {o = o} {p = p} stopped first done =
-    let broke = broke_part (λ standing. Done (status_of standing)) (λ said cause told s. s) (λ during shown lack. lack)
-    done.runs in
-    subst (λ n. BrokeOff (playing plan >>= λ standing. Done (status_of standing)) n o p (untold (takes_memory plan))
-    (AtTaking plan.part plan.switches (actions plan))) first broke
+    search (rules, broke_part)

@@ -1,5 +1,5 @@
 -- Bytes up to the last that isn't FF.
-use Rattle.std.proofs.Common.{◌≡◌, ◌∙◌, sym, ap, refl, arith, ℕ, ◌+◌, ◌-◌, ◌<◌, ◌≤◌, ◌==◌, ◌&&◌, List, [], ◌∷◌, ◌++◌, length, take, slice_index, false, if◌then◌else◌, get_or}
+use Rattle.std.proofs.Common.{◌≡◌, ◌∙◌, sym, ap, refl, arith, ℕ, ◌+◌, ◌-◌, ◌<◌, ◌≤◌, ◌==◌, ◌&&◌, List, [], ◌∷◌, ◌++◌, length, take, slice_index, false, if◌then◌else◌, get_or, rules}
 use Rattle.std.proofs.lemmas.List.{take_more, length-take-le}
 use Rattle.std.proofs.lemmas.Bool.Decides.{nat_tests}
 use Rattle.avr_session.specs.FileText.{used_length}
@@ -21,18 +21,14 @@ used_last (x ∷ xs) b not = rw (used_last xs b not, positive (length xs)) (omeg
 prefix_and_last : (bytes : List ℕ) (count : ℕ) → 0 < count → count ≤ length bytes
     → take count bytes ≡ take (count - 1) bytes ++ get_or bytes (count - 1) 0 ∷ []
 prefix_and_last bytes count some within =
-    let one : count ≡ count - 1 + 1 = omega arith in
-    ap (λ n. take n bytes) one ∙ take_more bytes (count - 1) 0 (omega arith)
+    search (rules, take_more)
 
 pub blank_dropped : (bytes : List ℕ) (count : ℕ) → 0 < count → count ≤ length bytes
     → slice_index bytes (count - 1) ≡ 255 → used_length (take (count - 1) bytes) ≡ used_length (take count bytes)
 blank_dropped bytes count some within is =
-    sym (ap used_length (prefix_and_last bytes count some within)
-    ∙ (ap (λ b. used_length (take (count - 1) bytes ++ b ∷ [])) is ∙ used_blank (take (count - 1) bytes)))
+    search (rules, prefix_and_last, used_blank)
 
 pub last_used : (bytes : List ℕ) (count : ℕ) → 0 < count → count ≤ length bytes
     → (slice_index bytes (count - 1) ≡ 255 → ⊥) → used_length (take count bytes) ≡ count
 last_used bytes count some within not =
-    ap used_length (prefix_and_last bytes count some within)
-    ∙ (used_last (take (count - 1) bytes) (slice_index bytes (count - 1)) not
-    ∙ omega (arith, length-take-le (count - 1) bytes (omega arith)))
+    search (rules, prefix_and_last, used_last, length-take-le)

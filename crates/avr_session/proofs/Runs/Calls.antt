@@ -1,5 +1,5 @@
 -- How a call over a link and a desk goes on in its dialog.
-use Rattle.std.proofs.Common.{◌≡◌, ℕ, ◌≤◌, Bool, true, ◌||◌, List, [], ◌∷◌, ◌++◌, append_assoc, append-nil, length, map, refl, sym, ap, ◌∙◌, subst, Option, None}
+use Rattle.std.proofs.Common.{◌≡◌, ℕ, ◌≤◌, Bool, true, ◌||◌, List, [], ◌∷◌, ◌++◌, append_assoc, append-nil, length, map, refl, sym, ap, ◌∙◌, subst, Option, None, rules}
 use Rattle.std.proofs.Math.Bool.{or_assoc, or-false}
 use Rattle.std.proofs.lemmas.List.Folds.{list_any-append}
 use Rattle.ghosts.specs.Failures.{HasRisen}
@@ -86,9 +86,7 @@ came_on {x = x} {y = y} {z = z} f g =
       grows = grows_on o.link.transcript p.link.transcript q.link.transcript f.during g.during f.grows g.grows;
       leads = leads_on f.leads g.leads;
       few = λ few. g.few (f.few few);
-      kept = kept_on (after_all (outputs f.events)) (after_all (outputs g.events))
-          (after_all (outputs (f.events ++ g.events))) o.desk.kept p.desk.kept q.desk.kept
-          (after_both f.events g.events) f.kept g.kept;
+      kept = search (rules, kept_on, after_both);
       sound = none_failed_on o p q f.sound g.sound;
     }
 
@@ -96,15 +94,7 @@ came_on {x = x} {y = y} {z = z} f g =
 
 pub ran_from : {R : Type 0} {a : Dialog OutputEvent R} {m n : Progress} {o p : Devices} {result : R}
     → Came (point a m o) (point (Done result) n p) → Ran a m o p result n
-ran_from f = record {
-  during = f.during;
-  events = f.events;
-  grows = f.grows;
-  plays = plays_from f.leads;
-  few = f.few;
-  kept = f.kept;
-  sound = f.sound;
-}
+ran_from f = search rules
 
 -- so a part of a dialog was, by its transcript
 abbrev came_of : {A R : Type 0} {a : Dialog OutputEvent A} {m n : Progress} {o p : Devices} {result : A}
@@ -152,23 +142,12 @@ pub stops_in : (some all : Terms) (before : List OutputEvent) (o p q : Devices) 
     → NoneFailed o p → (all.was_told || tells_fault before) ≡ some.was_told
     → StopsWhole some all before o p q
 stops_in some all before o p q takes sound same said cause told stops =
-    let flags : (some.was_told || tells_fault said) ≡ (all.was_told || tells_fault (before ++ said)) =
-    ap (λ x. x || tells_fault said) (sym same)
-    ∙ (or_assoc all.was_told (tells_fault before) (tells_fault said)
-    ∙ ap (λ x. all.was_told || x) (sym (list_any-append is_error before said))) in
-    record {
-      between = stops.between;
-      has_come = has_come_in some.takes all.takes o p (devices q.link stops.between) takes sound cause stops.has_come;
-      tells = subst (λ x. TellsCause x cause told stops.between q.desk) flags stops.tells;
-      since = follows_on o.desk p.desk stops.between (follows_same o.desk p.desk sound.1) stops.since;
-      until = stops.until;
-    }
+    search (rules, or_assoc, list_any-append, has_come_in, follows_on, follows_same)
 
 -- since before, or if more may allocate
 pub stops_since : (takes more told : Bool) (o p q : Devices) → (takes ≡ true → more ≡ true) → NoneFailed o p
     → StopsWhole (record { takes = takes; was_told = told }) (record { takes = more; was_told = told }) [] o p q
-stops_since takes more told o p q also sound = stops_in (record { takes = takes; was_told = told })
-    (record { takes = more; was_told = told }) [] o p q also sound (or-false told)
+stops_since takes more told o p q also sound = search rules
 
 -- the events that happened, up to where the cause stopped them
 record Placed (cause : Cause) (shown events : List (Event OutputEvent)) : Type 0 where
@@ -192,14 +171,7 @@ placed_behind {cause = cause} before f = record {
 
 placed_more : {cause : Cause} {shown events : List (Event OutputEvent)} (more : List (Event OutputEvent))
     → (cause ≡ OfListening → more ≡ []) → Placed cause shown events → Placed cause shown (events ++ more)
-placed_more {cause = cause} more none f = record {
-  whole = f.whole;
-  begun = f.begun;
-  later = f.later ++ more;
-  shown_is = f.shown_is;
-  events_are = ap (λ es. es ++ more) f.events_are ∙ append_assoc f.whole f.later more;
-  place = place_more cause f.whole f.begun f.later more none f.place;
-}
+placed_more {cause = cause} more none f = search (rules, append_assoc, place_more)
 
 -- this was reported of a cause, with no output before it
 abbrev pub ToldBy : Terms → Cause → Devices → Devices → Type 0
@@ -208,15 +180,7 @@ ToldBy terms cause o p = (told : List ℕ) × StopsBehind terms o p [] cause tol
 module _ {R : Type 0} {dialog : Dialog OutputEvent R} {m : Progress} {o p : Devices} {terms : Terms} {L : Lacking} where
   placed_of : (f : BrokeOff dialog m o p terms L) → Placed f.cause f.shown (played_over dialog m f.during).events
   placed_of f =
-      let prefix = f.breaks.prefix in
-      record {
-        whole = prefix.whole;
-        begun = prefix.begun;
-        later = prefix.later;
-        shown_is = prefix.shown_is;
-        events_are = prefix.events_are;
-        place = f.place;
-      }
+      search rules
 
   broke_off : (during : Transcript) (shown : List (Event OutputEvent)) (cause : Cause) (told : List ℕ)
       → Grows o.link.transcript during p.link.transcript → Placed cause shown (played_over dialog m during).events
@@ -230,18 +194,7 @@ module _ {R : Type 0} {dialog : Dialog OutputEvent R} {m : Progress} {o p : Devi
     cause = cause;
     told = told;
     grows = grows;
-    breaks = record {
-      prefix = record {
-        whole = placed.whole;
-        begun = placed.begun;
-        later = placed.later;
-        shown_is = placed.shown_is;
-        events_are = placed.events_are;
-        part = place_part cause placed.whole placed.begun placed.later placed.place;
-      };
-      all_sent = all_sent;
-      in_turn = in_turn;
-    };
+    breaks = search rules;
     place = placed.place;
     listens = listens;
     stops = stops;
@@ -276,11 +229,8 @@ broke_on {R = R} {x = x} {y = y} {q = q} {all = all} came why lack broke =
     (subst (λ (play : Played OutputEvent R). Placed broke.cause (came.events ++ broke.shown) play.events) (sym play)
     (placed_behind came.events (placed_of broke))) whole.all_sent whole.in_turn
     (subst (λ (play : Played OutputEvent R). Listens broke.cause play.outcome) (sym play) broke.listens)
-    (subst (λ said. StopsBehind all o q said broke.cause broke.told) (sym (outputs_append came.events broke.shown))
-    (why (outputs broke.shown) broke.cause broke.told broke.stops))
-    (kept_on (after_all (outputs came.events)) (λ r. after_err broke.told (after_all (outputs broke.shown) r))
-    (λ r. after_err broke.told (after_all (outputs (came.events ++ broke.shown)) r)) o.desk.kept p.desk.kept
-    q.desk.kept (λ r. ap (after_err broke.told) (after_both came.events broke.shown r)) came.kept broke.kept)
+    (search (rules, outputs_append))
+    (search (rules, kept_on, after_both))
     (λ is. lack broke.during broke.shown (broke.lacks is))
 
 -- nothing is allocated
@@ -292,8 +242,7 @@ pub broke_quietly : {R : Type 0} {x y : Point R} {q : Devices} {terms : Terms} {
     → outputs came.events ≡ [] → BrokeOff y.left y.progress_at y.devices q terms Never
     → BrokeOff x.left x.progress_at x.devices q terms L
 broke_quietly {x = x} {y = y} {q = q} {terms = terms} came quiet broke =
-    broke_on came (subst (λ (said : List OutputEvent). StopsWhole terms terms said x.devices y.devices q) (sym quiet)
-    (stops_since terms.takes terms.takes terms.was_told x.devices y.devices q (λ t. t) came.sound))
+    broke_on came (search rules)
     (λ during shown never. absurd never) broke
 
 -- a dialog that listens has nothing after it yet
@@ -301,8 +250,7 @@ none_behind : {A R : Type 0} (cause : Cause) (outcome : Option (A × ℕ × Tape
     → Played OutputEvent R)
     → Listens cause outcome → cause ≡ OfListening → (continued outcome go_on).events ≡ []
 none_behind cause outcome go_on listens is =
-    let waits : outcome ≡ None = subst (λ (c : Cause). Listens c outcome) is listens in
-    ap (λ o. (continued o go_on).events) waits
+    search rules
 
 listens_behind : {A R : Type 0} (cause : Cause) (outcome : Option (A × ℕ × Tape))
     (go_on : A → ℕ → Tape → Played OutputEvent R) → Listens cause outcome
@@ -321,21 +269,8 @@ broke_raised : {A : Type 0} (by : Broken) {dialog : Dialog ⊥ A} {m : Progress}
     → BrokeOff (lifted dialog) m o p terms L
 broke_raised Send {dialog = dialog} {m = m} f some =
     let g = by_lifted OutputEvent Send dialog m f.during f.shown f.breaks in
-    broke_silent f.during (raised f.shown) OfSending (outputs_raised f.shown) some f.grows (record {
-      whole = g.whole;
-      begun = Frame g.part ∷ [];
-      later = Frame (g.part ++ g.unsent) ∷ g.later;
-      shown_is = g.shown_is;
-      events_are = g.events_are;
-      place = record {
-        done = g.part;
-        unsent = g.unsent;
-        more = g.later;
-        due = refl;
-        part = refl;
-        not_whole = g.not_whole;
-      };
-    }) g.all_sent g.in_turn tt (λ is. absurd (cc))
+    broke_silent f.during (raised f.shown) OfSending (outputs_raised f.shown) some f.grows
+        (search rules) g.all_sent g.in_turn tt (λ is. absurd (cc))
 broke_raised Recv {dialog = dialog} {m = m} f some =
     let g = by_lifted OutputEvent Recv dialog m f.during f.shown f.breaks in
     let none = sym (append-nil (raised f.shown)) in
@@ -382,8 +317,7 @@ module _ {A R : Type 0} (go_on : A → Dialog OutputEvent R) where
       (subst (λ (play : Played OutputEvent R). Placed f.cause f.shown play.events) bound (placed_more
       (continued play.outcome next).events (none_behind f.cause play.outcome next f.listens) (placed_of f)))
       f.breaks.all_sent (breaks_bind SaidPart go_on f.breaks).in_turn
-      (subst (λ (play : Played OutputEvent R). Listens f.cause play.outcome) bound
-      (listens_behind f.cause play.outcome next f.listens)) (why (outputs f.shown) f.cause f.told f.stops) f.kept
+      (search rules) (why (outputs f.shown) f.cause f.told f.stops) f.kept
       (λ is. lack f.during f.shown (f.lacks is))
 
   -- an operation that broke off
@@ -441,19 +375,11 @@ module _ {R : Type 0} (xs : List OutputEvent) (dialog : Dialog OutputEvent R) (m
       broke_off [] (map Said shown) f.cause f.told (grows_none o.transcript)
       (subst (Placed f.cause (map Said shown)) (sym (says_events xs dialog m.next m.unread))
       (placed_more (played_over dialog m []).events (λ listens. absurd (desk_says f.cause prefix.by_desk listens))
-      (record {
-        whole = map Said prefix.whole;
-        begun = map Said prefix.begun;
-        later = map Said prefix.later;
-        shown_is = map_append prefix.whole prefix.begun;
-        events_are = ap (map {B = Event OutputEvent} Said) prefix.outputs_are ∙ map_append prefix.whole prefix.later;
-        place = prefix.place;
-      }))) (no_bytes shown) tt (desk_listens f.cause (played_over (says xs dialog) m []).outcome prefix.by_desk)
+      (search (rules, map_append)))) (no_bytes shown) tt (desk_listens f.cause (played_over (says xs dialog) m
+          []).outcome prefix.by_desk)
       (subst (λ said. StopsBehind terms (devices o d) (devices o e) said f.cause f.told)
       (sym (outputs_said shown)) (why f.between f.cause f.prefix f.told f.stops))
-      (kept_on (after_all shown) (after_err f.told) (λ r. after_err f.told (after_all (outputs (map Said shown)) r))
-      d.kept f.between.kept e.kept (λ r. ap (after_err f.told) (ap (λ ss. after_all ss r) (outputs_said shown)))
-      f.prefix.kept f.kept) (λ is. absurd (subst IsOfDesk is prefix.by_desk))
+      (search (rules, kept_on, outputs_said)) (λ is. absurd (subst IsOfDesk is prefix.by_desk))
 
 -- at once, for a failed allocation
 pub broke_lacking : {R : Type 0} {terms : Terms} {L : Lacking} {o p : Devices} (dialog : Dialog OutputEvent R)
@@ -462,11 +388,4 @@ pub broke_lacking : {R : Type 0} {terms : Terms} {L : Lacking} {o p : Devices} (
 broke_lacking {o = o} dialog m same some lack =
     broke_silent [] [] OfMemory refl some
     (subst (λ (v : LinkState). Grows o.link.transcript [] v.transcript) (sym same) (grows_none o.link.transcript))
-    (record {
-      whole = [];
-      begun = [];
-      later = (played_over dialog m []).events;
-      shown_is = refl;
-      events_are = refl;
-      place = refl;
-    }) refl tt tt (λ is. lack)
+    (search rules) refl tt tt (λ is. lack)

@@ -1,5 +1,5 @@
 -- If no device failed, a run was complete, or its messages report that allocation failed.
-use Rattle.std.proofs.Common.{◌≡◌, arith, ℕ, Bool, true, false, List, ◌++◌, ◌∙◌, refl, ap, subst, inl, inr}
+use Rattle.std.proofs.Common.{◌≡◌, arith, ℕ, Bool, true, false, List, ◌++◌, ◌∙◌, refl, ap, subst, inl, inr, rules}
 use Rattle.ghosts.proofs.Failures.{stood_has_not_risen}
 use Rattle.ghosts.specs.Failures.{HasStood}
 use Rattle.avr_desk.specs.Fault.{Follows}
@@ -21,8 +21,7 @@ use Rattle.avr_desk.proofs.Lines.Told.{follows_here, not_failed}
 
 link_stood : {old new : Devices} → IsSound old new → link.HasFailed old.link new.link → ⊥
 link_stood {old = old} {new = new} sound =
-    stood_has_not_risen old.link.failures old.link.failures new.link.failures new.link.failures (omega arith)
-    (omega arith) sound.link
+    search rules
 
 only_memory : {takes : Bool} {old new : Devices} {said : List OutputEvent} {told : Bytes} (cause : Cause)
     → IsSound old new
@@ -31,8 +30,7 @@ only_memory OfSending sound stops = absurd (link_stood sound stops.has_come.0)
 only_memory OfListening sound stops = absurd (link_stood sound stops.has_come.0)
 only_memory OfMemory sound stops = refl
 only_memory {old = old} {new = new} cause sound stops =
-    absurd (not_failed old.desk old.desk stops.between new.desk (follows_here old.desk) stops.until sound.desk
-    stops.has_come.0.0)
+    search rules
 
 -- and its line was reported whole
 told_of_memory : (flag : Bool) (told : Bytes) (a between b : DeskState) → Follows a between
@@ -45,17 +43,13 @@ told_of_memory true told a between b since sound tells = absurd tells
 lacks : {takes : Bool} {old new : Devices} {said : List OutputEvent} {told : Bytes} (cause : Cause) → IsSound old new
     → StopsBehind (untold takes) old new said cause told → told ≡ cause_line OfMemory
 lacks {old = old} {new = new} {said = said} {told = told} cause sound stops =
-    told_of_memory (tells_fault said) told old.desk stops.between new.desk stops.since sound.desk
-    (subst (λ cause. TellsCause (tells_fault said) cause told stops.between new.desk) (only_memory cause sound stops)
-    stops.tells)
+    search rules
 
 -- a line reported is at the end of the messages
 told_last : (before after : Record) (said : List OutputEvent) (told line : Bytes) → told ≡ line
     → after ≡ after_err told (after_all said before) → (prefix : Bytes) × (after.messages ≡ prefix ++ line)
 told_last before after said told line whole kept =
-    let r : Record = after_all said before in
-    let same : after ≡ after_err told r = cc in
-    (r.messages, ap (λ (x : Record). x.messages) same ∙ ap (λ (xs : Bytes). r.messages ++ xs) whole)
+    search rules
 
 -- so a run that broke off reports it
 pub broke_lacks : {R : Type 0} {L : Lacking} (dialog : Dialog OutputEvent R) (m : Progress) (o p : LinkState)
@@ -80,8 +74,4 @@ pub exact_run : (plan : Plan) (old new : Devices) (status : ℕ) → IsSound old
     → RunsSession plan old new status → IsPlayed (session plan) old new status
 exact_run plan old new status sound none (inl ran) = ran
 exact_run plan old new status sound none (inr broke) =
-    let stops = broke.0.stops in
-    let come = subst (HasCome (takes_memory plan) old (devices new.link stops.between))
-    (only_memory broke.0.cause sound stops) stops.has_come in
-    let takes : takes_memory plan ≡ true = come.0 in
-    absurd (cc)
+    search rules

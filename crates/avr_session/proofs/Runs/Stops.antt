@@ -1,5 +1,5 @@
 -- Where a run stops: what is before it and what follows it changes nothing.
-use Rattle.std.proofs.Common.{ℕ, ◌≡◌, ◌∙◌, List, [], ◌∷◌, ◌++◌, map, refl, sym, ap, subst, append_assoc, take, drop, Option, inl, inr, codes}
+use Rattle.std.proofs.Common.{ℕ, ◌≡◌, ◌∙◌, List, [], ◌∷◌, ◌++◌, map, refl, sym, ap, subst, append_assoc, take, drop, Option, inl, inr, codes, rules}
 use Rattle.std.proofs.lemmas.List.{take-append-drop}
 use Rattle.avr_desk.specs.Record.{DeskState, Passes, Bytes}
 use Rattle.avr_desk.specs.Stream.{SendsPart}
@@ -15,25 +15,11 @@ use Rattle.avr_session.specs.Reporting.{IsOfDesk, SaysPrefix}
 
 frame_more : {begun later : List (Event OutputEvent)} (more : List (Event OutputEvent)) → AtFrame begun later
     → AtFrame begun (later ++ more)
-frame_more more x = record {
-  done = x.done;
-  unsent = x.unsent;
-  more = x.more ++ more;
-  due = ap (λ es. es ++ more) x.due;
-  part = x.part;
-  not_whole = x.not_whole;
-}
+frame_more more x = search rules
 
 part_more : {event : Bytes → OutputEvent} {begun later : List (Event OutputEvent)} (more : List (Event OutputEvent))
     → AtPart event begun later → AtPart event begun (later ++ more)
-part_more more x = record {
-  bytes = x.bytes;
-  done = x.done;
-  more = x.more ++ more;
-  due = ap (λ es. es ++ more) x.due;
-  part = x.part;
-  prefix = x.prefix;
-}
+part_more more x = search rules
 
 -- more that is due after it, unless it listens
 pub place_more : (cause : Cause) (whole begun later more : List (Event OutputEvent)) → (cause ≡ OfListening → more ≡ [])
@@ -104,29 +90,15 @@ prefix_behind {cause = cause} {d = d} {e = e} {f = f} done more kept x = record 
   begun = x.begun;
   later = x.later;
   outputs_are = ap (λ (ss : List OutputEvent). done ++ ss) x.outputs_are ∙ sym (append_assoc done x.whole x.later);
-  place = subst (λ (whole : List (Event OutputEvent)). StopsAt cause whole (map Said x.begun) (map Said x.later))
-      (sym (map_append done x.whole))
-      (place_behind cause (map Said done) (map Said x.whole) (map Said x.begun) (map Said x.later) x.place);
+  place = search (rules, map_append, place_behind);
   by_desk = x.by_desk;
-  kept = subst (λ ss. Passes (after_all ss) d f) (sym (append_assoc done x.whole x.begun))
-      (kept_append done (x.whole ++ x.begun) d.kept e.kept f.kept kept x.kept);
+  kept = search (rules, append_assoc, kept_append);
 }
 
 -- a prefix of some output events is a prefix of more
 pub prefix_of : {cause : Cause} {d e : DeskState} (some more : List OutputEvent) → SaysPrefix cause d e some
     → SaysPrefix cause d e (some ++ more)
-prefix_of {cause = cause} some more x = record {
-  whole = x.whole;
-  begun = x.begun;
-  later = x.later ++ more;
-  outputs_are = ap (λ (ss : List OutputEvent). ss ++ more) x.outputs_are ∙ append_assoc x.whole x.later more;
-  place = subst (λ (later : List (Event OutputEvent)). StopsAt cause (map Said x.whole) (map Said x.begun) later)
-      (sym (map_append x.later more))
-      (place_more cause (map Said x.whole) (map Said x.begun) (map Said x.later) (map Said more)
-      (λ listens. absurd (desk_says cause x.by_desk listens)) x.place);
-  by_desk = x.by_desk;
-  kept = x.kept;
-}
+prefix_of {cause = cause} some more x = search (rules, append_assoc, map_append, place_more, desk_says)
 
 part_due : (event : Bytes → OutputEvent) (n : ℕ) (bytes : Bytes)
     → AtPart event (Said (event (take n bytes)) ∷ []) (Said (event bytes) ∷ [])

@@ -1,5 +1,5 @@
 -- A dialog without output, as a part of one with output: laws for the crates above.
-use Rattle.std.proofs.Common.{◌≡◌, ℕ, List, [], ◌∷◌, ◌++◌, refl, sym, ap, ◌∙◌, Some, None}
+use Rattle.std.proofs.Common.{◌≡◌, ℕ, List, [], ◌∷◌, ◌++◌, refl, sym, ap, ◌∙◌, Some, None, rules}
 use Rattle.stk_frame.specs.Frame.{frame}
 use Rattle.stk_host.specs.declared.fault.Broken.{Broken}
 use Rattle.stk_host.specs.declared.fault.Broken.TheVariants as broken
@@ -47,29 +47,20 @@ raised_append (Said e ∷ x) y = absurd e
 
 due_lifted : {E R : Type 0} (dialog : Dialog ⊥ R) (seq : ℕ) (tape : Tape) (bytes : List ℕ) → IsDue dialog seq tape bytes
     → IsDue {E = E} (lifted dialog) seq tape bytes
-due_lifted {E = E} dialog seq tape bytes due = record {
-  waits = ap (λ p. p.outcome) (played_lifted {E = E} dialog seq tape) ∙ due.waits;
-  all_sent = rw (played_lifted {E = E} dialog seq tape, bytes_raised E (played dialog seq tape).events) due.all_sent;
-}
+due_lifted {E = E} dialog seq tape bytes due = search (rules, played_lifted, bytes_raised)
 
 turns_lifted : {R : Type 0} (E : Type 0) (dialog : Dialog ⊥ R) (m : Progress) (transcript : Transcript)
     → InTurn dialog m transcript
     → InTurn {E = E} (lifted dialog) m transcript
 turns_lifted E dialog m transcript f =
-    turns_behind {E = E} (lifted dialog) dialog m.next m.next (on_tape m.unread) (on_tape m.unread) []
-    (λ x bytes. due_lifted {E = E} dialog m.next (on_tape m.unread ++ x) bytes) transcript f
+    search (rules, turns_behind, due_lifted)
 
 pub plays_lifted : {E R : Type 0} {dialog : Dialog ⊥ R} {m n : Progress} {transcript : Transcript}
     {events : List (Event ⊥)}
     {result : R}
     → Plays dialog m transcript events result n → Plays {E = E} (lifted dialog) m transcript (raised events) result n
-plays_lifted {E = E} {dialog = dialog} {m = m} {transcript = transcript} {events = events} f = record {
-  plays =
-      λ more. rw (played_lifted {E = E} dialog m.next (on_tape m.unread ++ (heard transcript ++ more)), f.plays more)
-      refl;
-  all_sent = bytes_raised E events ∙ f.all_sent;
-  in_turn = turns_lifted E dialog m transcript f.in_turn;
-}
+plays_lifted {E = E} {dialog = dialog} {m = m} {transcript = transcript} {events = events} f =
+    search (rules, played_lifted, bytes_raised, turns_lifted)
 
 pub by_lifted : {R : Type 0} (E : Type 0) (by : Broken) (dialog : Dialog ⊥ R) (m : Progress) (transcript : Transcript)
     (shown : List (Event ⊥))
@@ -80,16 +71,9 @@ by_lifted E broken.Send dialog m transcript shown f = record {
   unsent = f.unsent;
   later = raised f.later;
   shown_is = ap raised f.shown_is ∙ raised_append f.whole (Frame f.part ∷ []);
-  events_are = rw (played_lifted {E = E} dialog m.next (on_tape m.unread ++ heard transcript), f.events_are)
-      (raised_append f.whole (Frame (f.part ++ f.unsent) ∷ f.later));
+  events_are = search (rules, played_lifted, raised_append);
   not_whole = f.not_whole;
   all_sent = bytes_raised E shown ∙ f.all_sent;
   in_turn = turns_lifted E dialog m transcript f.in_turn;
 }
-by_lifted E broken.Recv dialog m transcript shown f = record {
-  waits = ap (λ p. p.outcome) (played_lifted {E = E} dialog m.next (on_tape m.unread ++ heard transcript)) ∙ f.waits;
-  shown_is = ap raised f.shown_is ∙ sym (ap (λ p. p.events)
-      (played_lifted {E = E} dialog m.next (on_tape m.unread ++ heard transcript)));
-  all_sent = bytes_raised E shown ∙ f.all_sent;
-  in_turn = turns_lifted E dialog m transcript f.in_turn;
-}
+by_lifted E broken.Recv dialog m transcript shown f = search (rules, played_lifted, bytes_raised, turns_lifted)

@@ -1,5 +1,5 @@
 -- One logic of dialogs: what holds of a dialog from a state on, whatever the other side does.
-use Rattle.std.proofs.Common.{ℕ, zero, suc, List, [], Ok, Err, subst}
+use Rattle.std.proofs.Common.{ℕ, zero, suc, List, [], Ok, Err, subst, rules}
 use Rattle.stk_frame.specs.declared.command.Command.{Command}
 use Rattle.stk_host.specs.declared.fault.StepFault.{StepFault}
 use Rattle.stk_host.specs.Tape.{Reading}
@@ -78,9 +78,7 @@ module _ {E S M : Type 0} {w : World S M} {Asks : List ℕ → S → Type 0} {Sa
   pub bind : {A B : Type 0} {Between : A → S → Type 0} {After : B → S → Type 0} {d : Dialog E A} {next : A → Dialog E B}
       {s : S} → Upholds w Asks Says Between d s → ((a : A) (t : S) → Between a t → Upholds w Asks Says After (next a) t)
       → Upholds w Asks Says After (d >>= next) s
-  bind {Between = Between} {After = After} {d = d} {next = next} {s = s} l more = record {
-    holds = on_bind w Asks Says Asks Says Between After next (λ b t x. x) (λ e t x. x) more d s l.holds;
-  }
+  bind {Between = Between} {After = After} {d = d} {next = next} {s = s} l more = search (rules, on_bind)
 
   -- a result that is only reported in another form
   pub told : {A B : Type 0} {Between : A → S → Type 0} {After : B → S → Type 0} {d : Dialog E A} {s : S} (tell : A → B)
@@ -94,9 +92,7 @@ module _ {E S M : Type 0} {w : World S M} {Asks : List ℕ → S → Type 0} {Sa
       → ((e : E) (t : S) → Says e t → Says' e t) → ((r : R) (t : S) → After r t → After' r t)
       → Upholds w Asks Says After d s → Upholds w Asks' Says' After' d s
   wider {Asks' = Asks'} {Says' = Says'} {After = After} {After' = After'} {d = d} {s = s} f g h l =
-      subst (λ d. Upholds w Asks' Says' After' d s) (bind_done d) (record {
-        holds = on_bind w Asks Says Asks' Says' After After' Done f g (λ r t x. record { holds = h r t x }) d s l.holds;
-      })
+      subst (λ d. Upholds w Asks' Says' After' d s) (bind_done d) (search (rules, on_bind))
 
   pub call : {R : Type 0} {After : R → S → Type 0} {d : Dialog ⊥ R} {s : S}
       → Upholds w Asks NoSays After d s → Upholds w Asks Says After (lifted d) s

@@ -1,5 +1,5 @@
 -- How much dialogs ask: laws for the crates above, and the bounds of steps and of the operations.
-use Rattle.std.proofs.Common.{◌≡◌, ℕ, zero, suc, ◌+◌, ◌*◌, ◌≤◌, List, [], ◌∷◌, ◌++◌, length, length-append, refl, ap, arith, Bool, true, false, Result, Ok, Err, Option, Some, None}
+use Rattle.std.proofs.Common.{◌≡◌, ℕ, zero, suc, ◌+◌, ◌*◌, ◌≤◌, List, [], ◌∷◌, ◌++◌, length, length-append, refl, ap, arith, Bool, true, false, Result, Ok, Err, Option, Some, None, rules}
 use Rattle.std.proofs.Math.Nat.{suc-mul}
 use Rattle.std.specs.Prelude.{if◌then◌else◌}
 use Rattle.avr_part.specs.declared.part.Mem.{Mem}
@@ -76,10 +76,7 @@ begun_most SaidPart _ _ f = absurd f
 pub prefix_most : {E : Type 0} {SaidPart : E → E → Type 0} {shown events : List (Event E)}
     → IsPrefixOfEvents SaidPart shown events → length (frames_in shown) ≤ length (frames_in events)
 prefix_most {SaidPart = SaidPart} {shown = shown} {events = events} f =
-    let b = begun_most SaidPart f.begun f.later f.part in
-    rw (f.shown_is, f.events_are, frames_append f.whole f.begun, frames_append f.whole f.later)
-    (rw (length-append (frames_in f.whole) (frames_in f.begun))
-    (rw (length-append (frames_in f.whole) (frames_in f.later)) (omega arith)))
+    search (rules, begun_most, frames_append, length-append)
 
 -- what a dialog asks bounds what it sends
 pub sends_asked : {E R : Type 0} (SaidPart : E → E → Type 0) (n : ℕ) (d : Dialog E R) → AsksAtMost n d
@@ -87,13 +84,10 @@ pub sends_asked : {E R : Type 0} (SaidPart : E → E → Type 0) (n : ℕ) (d : 
 sends_asked SaidPart n d f = record {
   over_tape = λ seq tape. sends_most n d seq tape f;
   whole = λ before transcript events result after p.
-      rw (← ap (λ x. x.events) (p.plays [])) (sends_most n d before.next
-      (on_tape before.unread ++ (heard transcript ++ []))
-      f);
+      rw (← ap (λ x. x.events) (p.plays [])) (search (rules, sends_most));
   broken_off = λ before transcript shown b.
       let prefix = prefix_most b.prefix in
-      let most = sends_most n d before.next (on_tape before.unread ++ heard transcript) f in
-      omega arith;
+      search (rules, sends_most);
 }
 
 -- steps
@@ -166,16 +160,12 @@ operation_most steps judge = judged_most (4 * commands_in steps) (play steps [])
 beginning_most : AsksAtMost (4 * commands_in opening_steps) handshake
 unfolding handshake
 beginning_most =
-    then_most (SignOn ∷ []) ((enter ∷ []) ∷ signature_steps)
-    (λ name. step (enter ∷ []) >>= if_done (λ nothing. play signature_steps []))
-    (λ name. then_most (enter ∷ []) signature_steps (λ nothing. play signature_steps [])
-    (λ nothing. play_most signature_steps []))
+    search (rules, then_most, play_most)
 
 pub opening_most : (signature : List ℕ) (force : Bool)
     → AsksAtMost (4 * commands_in opening_steps) (opening signature force)
 unfolding opening
-opening_most signature force = judged_most (4 * commands_in opening_steps) handshake (signature_judged signature force)
-    beginning_most
+opening_most signature force = search (rules, judged_most, beginning_most)
 
 pub closing_most : AsksAtMost (4 * commands_in closing_steps) closing
 unfolding closing
@@ -184,9 +174,4 @@ closing_most = judged_most (4 * commands_in closing_steps) (step (leave ∷ []))
 -- a memory that can't be written is asked nothing
 pub writing_most : (part : Part) (mem : Mem) (image : List (Option ℕ))
     → AsksAtMost (4 * commands_in (write_steps part mem image)) (writing part mem image)
-writing_most part mem image = by_kind (is_writable mem)
-  where
-    by_kind : (b : Bool) → AsksAtMost (4 * commands_in (write_steps part mem image))
-        (if b then operation (write_steps part mem image) no_result else Done (Err (ReadOnly mem)))
-    by_kind true = operation_most (write_steps part mem image) no_result
-    by_kind false = tt
+writing_most part mem image = search (rules, operation_most)

@@ -1,5 +1,5 @@
 -- Comparing from the lowest address up, run by run.
-use Rattle.std.proofs.Common.{◌≡◌, ◌≤◌, ◌∙◌, ap, refl, arith, ℕ, suc, ◌+◌, ◌-◌, ◌<◌, All, List, [], ◌∷◌, length, get_or, map, take, drop, drop-cons, add-one, Bool, true, false, Option, Some, None, inl, inr}
+use Rattle.std.proofs.Common.{◌≡◌, ◌≤◌, ◌∙◌, ap, refl, arith, ℕ, suc, ◌+◌, ◌-◌, ◌<◌, All, List, [], ◌∷◌, length, get_or, map, take, drop, drop-cons, add-one, Bool, true, false, Option, Some, None, inl, inr, rules}
 use Rattle.std.specs.Prelude.{◌==◌, if◌then◌else◌}
 use Rattle.std.proofs.lemmas.Bool.{cases_eq}
 use Rattle.std.proofs.lemmas.Bool.Decides.{nat_tests}
@@ -38,8 +38,7 @@ pub run_byte : (addr i : ℕ) (run found : List ℕ) → i < length run → i < 
     ≡ decided (get_or found i 0 == get_or run i 0) (addr + i) (get_or run i 0) (get_or found i 0)
     (difference_from (addr + (i + 1)) (held_as (drop (i + 1) run)) (drop (i + 1) found))
 run_byte addr i run found within there =
-    let next : addr + i + 1 ≡ addr + (i + 1) = omega arith in
-    rw (drop_at run i 0 within, first_byte (addr + i) (get_or run i 0) (drop (i + 1) run) found i there, next) refl
+    search (rules, drop_at, first_byte)
 
 pub run_goes_on : (addr i : ℕ) (run found : List ℕ) → i < length run → i < length found
     → (get_or found i 0 == get_or run i 0) ≡ true
@@ -67,15 +66,13 @@ among-onto : (addr b : ℕ) (cut : List (ℕ × List ℕ)) (bytes : List ℕ) �
     → among (onto_runs addr b cut) bytes ≡ decided (get_or bytes addr 0 == b) addr b (get_or bytes addr 0)
     (among cut bytes)
 among-onto addr b [] bytes there =
-    rw (first_byte addr b [] bytes addr there)
-    (earlier_decided (get_or bytes addr 0 == b) addr b (get_or bytes addr 0) None None)
+    search (rules, first_byte, earlier_decided)
 among-onto addr b ((next, run) ∷ more) bytes there =
     let found = get_or bytes addr 0 in
     elim (cases_eq next (addr + 1)) [
       | inl same ↦
           let test : (next == addr + 1) ≡ true = grind (arith, nat_tests) in
-          rw (test, same, first_byte addr b run bytes addr there) (earlier_decided (found == b) addr b found
-          (difference_from (addr + 1) (held_as run) (drop (addr + 1) bytes)) (among more bytes))
+          rw (test, same, first_byte addr b run bytes addr there) (search rules)
       | inr other ↦
           let test : (next == addr + 1) ≡ false = grind (arith, nat_tests) in
           rw (test, first_byte addr b [] bytes addr there)
@@ -152,7 +149,4 @@ error_differs mem left more addr run bytes r e left_is is err =
 pub whole_is : (image : List (Option ℕ)) (bytes : List ℕ) (size : ℕ) → size ≡ length image → length image ≤ length bytes
     → among (runs 0 image) (take size bytes) ≡ difference_from 0 image bytes
 whole_is image bytes size is there =
-    among-runs 0 image (take size bytes) (omega
-    (arith, is, there, length-take-le size bytes (omega (arith, is, there))))
-    ∙ ap (λ (n : ℕ). difference_from 0 image (take n bytes)) is
-    ∙ within_image 0 image bytes
+    search (rules, among-runs, length-take-le, within_image)

@@ -1,5 +1,5 @@
 -- Which places have steps: the pages that are used, and the first byte of each run.
-use Rattle.std.proofs.Common.{◌≡◌, ◌∙◌, sym, ap, subst, refl, arith, ℕ, suc, zero, ◌+◌, ◌-◌, ◌*◌, ◌/◌, ◌%◌, ◌<◌, ◌≤◌, List, [], ◌∷◌, ◌++◌, length, get_or, take, drop, true, false, Option, None, is_some, inl, inr, ◌⊎◌}
+use Rattle.std.proofs.Common.{◌≡◌, ◌∙◌, sym, ap, subst, refl, arith, ℕ, suc, zero, ◌+◌, ◌-◌, ◌*◌, ◌/◌, ◌%◌, ◌<◌, ◌≤◌, List, [], ◌∷◌, ◌++◌, length, get_or, take, drop, true, false, Option, None, is_some, inl, inr, ◌⊎◌, rules}
 use Rattle.std.specs.Prelude.{◌==◌}
 use Rattle.std.proofs.lemmas.Bool.{cases_Bool, cases_lt, eqb-true}
 use Rattle.std.proofs.lemmas.List.{length-drop, length-take, get_or-drop, get_or-take}
@@ -13,14 +13,14 @@ use Rattle.avr_part.specs.Part.{Part}
 use Rattle.stk_frame.specs.declared.command.Command.{Command}
 use Rattle.stk_host.specs.Places.{each_from}
 use Rattle.stk_host.specs.WriteSteps.{is_used, page_steps, page_end, begins_run, run_step, run_steps_at}
+use Rattle.std.proofs.lemmas.Bool.Decides.{nat_tests}
 
 -- no place has steps
 pub no_steps : (steps_at : ℕ → List (List Command)) (place count : ℕ)
     → ((i : ℕ) → place ≤ i → i < place + count → steps_at i ≡ []) → each_from steps_at place count ≡ []
 no_steps steps_at place zero none = refl
 no_steps steps_at place (suc count) none =
-    rw (none place (omega arith) (omega arith))
-    (no_steps steps_at (place + 1) count (λ i a l. none i (omega (arith, a)) (omega (arith, l))))
+    search (rules, no_steps steps_at (place + 1) count (λ i a l. none i (omega (arith, a)) (omega (arith, l))))
 
 -- the next of the places
 pub next_place : (steps_at : ℕ → List (List Command)) (place end : ℕ) → place < end
@@ -30,10 +30,7 @@ next_place steps_at place end before =
 
 -- a page of 256 bytes at most
 pub page_most : (page : ℕ) → 0 < page → 256 % page ≡ 0 → page ≤ 256
-page_most page some fits = elim (cases_lt 256 page) [
-  | inl over ↦ let bad : 256 % page ≡ 256 = mod-eq_of_lt over in absurd (omega (arith, bad, fits))
-  | inr most ↦ most
-]
+page_most page some fits = search rules
 
 -- whether a page is used
 
@@ -45,11 +42,7 @@ none_any (b ∷ bytes) none = rw (none 0 (omega arith)) (none_any bytes (λ k l.
 pub unused : (page : ℕ) (image : List (Option ℕ)) (start : ℕ)
     → ((i : ℕ) → start ≤ i → i < start + page → byte_at image i ≡ None) → is_used page image start ≡ false
 unused page image start none =
-    let short = length-take page (drop start image) in
-    none_any (take page (drop start image)) (λ k l.
-    let before : k < page = omega (arith, short, l) in
-    get_or-take page (drop start image) k None before ∙ get_or-drop start image k None
-    ∙ none (start + k) (omega arith) (omega (arith, before)))
+    search (rules, length-take, none_any, get_or-take, get_or-drop)
 
 pub used : (page : ℕ) (image : List (Option ℕ)) (start addr : ℕ) → start ≤ addr
     → addr < start + page → addr < length image
@@ -62,34 +55,21 @@ used page image start addr from before within held =
     let inside : addr - start < page = omega arith in
     list_any_at is_some (take page (drop start image)) (addr - start) None
     (omega (arith, short, left, inside, within, from))
-    (ap is_some (get_or-take page (drop start image) (addr - start) None inside
-    ∙ get_or-drop start image (addr - start) None ∙ ap (byte_at image) there) ∙ held)
+    (search (rules, get_or-take, get_or-drop))
 
 is_below : (a b size top : ℕ) → a * size ≤ top → top < b * size → a < b
-is_below a b size top from before = elim (cases_lt a b) [
-  | inl lt ↦ lt
-  | inr ge ↦ absurd (omega (arith, mul-le-mul_right {m = b} {n = a} size ge, from, before))
-]
+is_below a b size top from before = search rules
 
 -- where runs begin
 
 begun : (page : ℕ) (image : List (Option ℕ)) (addr : ℕ) → is_some (byte_at image addr) ≡ true
     → (addr % page ≡ 0) ⊎ (byte_at image (addr - 1) ≡ None) → begins_run page image addr ≡ true
 begun page image addr held (inl first) = rw (held, first) refl
-begun page image addr held (inr alone) = elim (cases_Bool (addr % page == 0)) [
-  | inl first ↦ rw (held, first) refl
-  | inr other ↦ rw (held, other, alone) refl
-]
+begun page image addr held (inr alone) = search rules
 
 not_begun : (page : ℕ) (image : List (Option ℕ)) (addr : ℕ) → (addr % page ≡ 0 → ⊥)
     → is_some (byte_at image (addr - 1)) ≡ true → begins_run page image addr ≡ false
-not_begun page image addr inside before = elim (cases_Bool (addr % page == 0)) [
-  | inl first ↦ absurd (inside (eqb-true (addr % page) 0 first))
-  | inr other ↦ elim (cases_Bool (is_some (byte_at image addr))) [
-    | inl held ↦ rw (held, other, before) refl
-    | inr gap ↦ rw gap refl
-  ]
-]
+not_begun page image addr inside before = search rules
 
 -- whether a place has a step
 
@@ -118,8 +98,7 @@ skip_steps : (steps_at : ℕ → List (List Command)) (place count here : ℕ) �
     → ((i : ℕ) → place ≤ i → i < here → steps_at i ≡ [])
     → each_from steps_at place count ≡ each_from steps_at here (place + count - here)
 skip_steps steps_at place zero here after within none =
-    let nothing : place + 0 - here ≡ 0 = omega arith in
-    sym (ap (each_from steps_at here) nothing)
+    search rules
 skip_steps steps_at place (suc count) here after within none = elim (cases_lt place here) [
   | inl before ↦
       let more : place + 1 + count ≡ place + suc count = omega arith in
@@ -136,33 +115,21 @@ skip_to : (steps_at : ℕ → List (List Command)) (place end here : ℕ) → pl
     → each_from steps_at place (end - place) ≡ each_from steps_at here (end - here)
 skip_to steps_at place end here after within none =
     let all : place + (end - place) ≡ end = omega arith in
-    skip_steps steps_at place (end - place) here after (omega arith) none
-    ∙ ap (λ (n : ℕ). each_from steps_at here (n - here)) all
+    search (rules, skip_steps)
 
 -- an address inside a page doesn't begin one
 inside_page : (page number addr : ℕ) → 0 < page → number * page < addr → addr < number * page + page → addr % page ≡ 0
     → ⊥
 inside_page page number addr some from before first =
     let here : page * (addr / page) + addr % page ≡ addr = omega arith in
-    let lower : number < addr / page = is_below number (addr / page) page (number * page) (omega arith)
-    (omega (arith, here, first, from)) in
-    let upper : addr / page < number + 1 = is_below (addr / page) (number + 1) page addr (omega (arith, here))
-    (omega (arith, before)) in
+    let lower : number < addr / page = search rules in
+    let upper : addr / page < number + 1 = search rules in
     omega (arith, lower, upper)
 
 -- a run begins at the first byte that is held after a border
 starts_run : (page : ℕ) (image : List (Option ℕ)) (next start : ℕ) → (next % page ≡ 0) ⊎ (byte_at image next ≡ None)
     → IsNextHeld image next start → begins_run page image start ≡ true
-starts_run page image next start border held = elim (cases_lt next start) [
-  | inl gap ↦ begun page image start held.held (inr (held.gap (start - 1) (omega (arith, gap)) (omega (arith, gap))))
-  | inr from ↦
-      let is : next ≡ start = omega (arith, from, held.after) in
-      elim border [
-        | inl first ↦ begun page image start held.held (inl (subst (λ (a : ℕ). a % page ≡ 0) is first))
-        | inr none ↦ let bad : false ≡ true = ap is_some (sym (subst (λ (a : ℕ). byte_at image a ≡ None) is none))
-            ∙ held.held in absurd cc
-      ]
-]
+starts_run page image next start border held = search rules
 
 pub next_run : (part : Part) (image : List (Option ℕ)) (next start end : ℕ) → 0 < part.eeprom_page
     → length image ≤ part.eeprom_size
@@ -174,14 +141,7 @@ next_run part image next start end some fits border held run is =
     let short : start % part.eeprom_page < part.eeprom_page = omega arith in
     let top : page_end part.eeprom_page start ≡ start / part.eeprom_page * part.eeprom_page + part.eeprom_page =
     omega (arith, here) in
-    let longer : start < end = elim (cases_lt start end) [
-      | inl lt ↦ lt
-      | inr ge ↦
-          let same : end ≡ start = omega (arith, ge, run.after) in
-          let none : byte_at image start ≡ None = subst (λ (a : ℕ). byte_at image a ≡ None) same
-          (run.stop (omega (arith, same, top, here, short))) in
-          let bad : false ≡ true = ap is_some (sym none) ∙ held.held in absurd cc
-    ] in
+    let longer : start < end = search rules in
     let last : end - 1 < length image = held_within image (end - 1)
     (run.held (end - 1) (omega (arith, longer)) (omega (arith, longer))) in
     let within : end ≤ part.eeprom_size = omega (arith, last, fits, longer) in
@@ -195,24 +155,18 @@ next_run part image next start end some fits border held run is =
           (part.eeprom_size - (start + 1))) (one_run part image start
           (starts_run part.eeprom_page image next start border held))
           ∙ ap (λ (ss : List (List Command)). run_step part image start ∷ ss)
-          (skip_to (run_steps_at part image) (start + 1) part.eeprom_size end (omega (arith, longer)) within
-          (λ i a l. no_run part image i (not_begun part.eeprom_page image i
-          (inside_page part.eeprom_page (start / part.eeprom_page) i some (omega (arith, here, a))
-          (omega (arith, l, run.bound, top)))
-          (run.held (i - 1) (omega (arith, a)) (omega (arith, l, a))))));
+          (grind (arith, nat_tests, skip_to, no_run, not_begun, inside_page));
       border = elim (cases_lt end (page_end part.eeprom_page start)) [
         | inl before ↦ inr (run.stop before)
         | inr full ↦
             let ends : end ≡ (start / part.eeprom_page + 1) * part.eeprom_page = omega (arith, full, run.bound, top) in
-            inl (ap (λ (a : ℕ). a % part.eeprom_page) ends
-            ∙ mul-mod_left (start / part.eeprom_page + 1) part.eeprom_page)
+            search (rules, mul-mod_left)
       ];
     }
 
 pub last_run : (part : Part) (image : List (Option ℕ)) (next count : ℕ) → ((k : ℕ) → next ≤ k → byte_at image k ≡ None)
     → each_from (run_steps_at part image) next count ≡ []
-last_run part image next count none = no_steps (run_steps_at part image) next count
-    (λ i a l. no_run part image i (rw (none i a) refl))
+last_run part image next count none = search (rules, no_steps, no_run)
 
 pub zero_border : (page : ℕ) → 0 % page ≡ 0
 zero_border page = zero-mod page
@@ -221,7 +175,4 @@ zero_border page = zero-mod page
 pub short_run : (image : List (Option ℕ)) (page addr : ℕ) → 0 < page → page ≤ 256
     → run_end image addr (page_end page addr) - addr ≤ 256
 short_run image page addr some most =
-    let here : page * (addr / page) + addr % page ≡ addr = omega arith in
-    let rest : addr % page < page = omega arith in
-    let run = run_is_longest image addr (page_end page addr) (omega (arith, here, rest)) in
-    omega (arith, run.bound, most, here)
+    search (rules, run_is_longest)

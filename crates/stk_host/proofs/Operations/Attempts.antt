@@ -1,5 +1,5 @@
 -- Commands, attempts and steps, in the order of the code.
-use Rattle.std.proofs.Common.{◌≡◌, ℕ, zero, suc, List, [], ◌∷◌, ◌++◌, refl, ◌∙◌, Ok, Err, Result, arith}
+use Rattle.std.proofs.Common.{◌≡◌, ℕ, zero, suc, List, [], ◌∷◌, ◌++◌, refl, ◌∙◌, Ok, Err, Result, arith, rules}
 use Rattle.stk_frame.specs.declared.command.Command.{Command}
 use Rattle.stk_frame.specs.Frame.{frame}
 use Rattle.stk_frame.specs.Commands.{body}
@@ -43,8 +43,7 @@ exchange_unsent seq command u says = record {
   during = says.says.during;
   shown = Frame says.part ∷ [];
   grows = says.says.grows;
-  breaks = breaks_asking (body command) (λ r. Done (reading_reply command r)) seq u says.part says.unsent
-      says.says.during says.says.quiet says.says.bytes_sent says.bytes_are says.not_whole;
+  breaks = search (rules, breaks_asking);
 }
 
 pub exchange_unheard : (seq : ℕ) (command : Command) {u : List ℕ} {o p q : LinkState}
@@ -55,8 +54,7 @@ exchange_unheard seq command {u = u} {o = o} {p = p} {q = q} says hears = record
   during = says.during ++ hears.during;
   shown = Frame (frame seq (body command)) ∷ [];
   grows = grows_on o.transcript p.transcript q.transcript says.during hears.during says.grows hears.grows;
-  breaks = breaks_listening (body command) (λ r. Done (reading_reply command r)) seq u says.during hears.during
-      says.quiet says.bytes_sent hears.waits hears.no_answer;
+  breaks = search (rules, breaks_listening);
 }
 
 -- an attempt whose next command was sent and answered
@@ -116,8 +114,7 @@ gets_last first last m n o p q was none result after f is nothing same g =
       ok = tt;
       err = broken_on begun e.err;
       sized = e.sized;
-      counts = record
-          { counted = omega (arith, same, e.counts.counted); sound = tt; failed = rw same at e.counts.failed };
+      counts = search rules;
       bound = e.bound;
     }
 

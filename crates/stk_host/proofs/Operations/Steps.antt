@@ -1,5 +1,5 @@
 -- The steps of an operation, one after another.
-use Rattle.std.proofs.Common.{◌≡◌, refl, ℕ, ◌+◌, ◌<◌, ◌≤◌, ◌^◌, lit≤, arith, List, [], ◌∷◌, ◌++◌, length, subst, ◌-◌, true, false, None, Some, ◌∙◌, Option, Ok, Err, Result}
+use Rattle.std.proofs.Common.{◌≡◌, refl, ℕ, ◌+◌, ◌<◌, ◌≤◌, ◌^◌, lit≤, arith, List, [], ◌∷◌, ◌++◌, length, subst, ◌-◌, true, false, None, Some, ◌∙◌, Option, Ok, Err, Result, rules}
 use Rattle.std.proofs.lemmas.List.{nil_from_length}
 use Rattle.std.specs.Prelude.{OnOk}
 use Rattle.avr_part.specs.declared.part.Mem.{Mem}
@@ -98,8 +98,7 @@ pub plays_all : {a : Dialog ⊥ StepOutcome} {k m : Progress} {r o : LinkState} 
     → Reaches a k r (play (each_from steps_at place (end - place)) before) m o → end ≤ place
     → PlaysOver a k r o (Ok before) m
 plays_all steps_at place end {before = before} come past =
-    let none : end - place ≡ 0 = omega (arith, past) in
-    play_done before (rw none at come)
+    search (rules, play_done)
 
 -- the outcome of an operation, from the outcome of its steps
 
@@ -168,15 +167,13 @@ verifying_ends steps mem image bytes (Ok done) m n o p e =
     differs_ends (operation steps (comparison mem image)) mem (difference_from 0 image bytes)
     (judged_from steps (comparison mem image) bytes e)
 verifying_ends steps mem image bytes (Err stop) m n o p e =
-    not_lacking (operation steps (comparison mem image)) stop m n o p
-    (told_ends steps (comparison mem image) stop m n o p e)
+    search (rules, not_lacking, told_ends)
 
 -- a loop over places begins
 pub begins_at : (steps_at : ℕ → List (List Command)) (count : ℕ) (before : List ℕ) (m : Progress) (o : LinkState)
     → Reaches (play (each_from steps_at 0 count) before) m o (play (each_from steps_at 0 (count - 0)) before) m o
 begins_at steps_at count before m o =
-    let all : count - 0 ≡ count = omega arith in
-    rw all (reaches_here (play (each_from steps_at 0 count) before) m o)
+    search (rules, reaches_here)
 
 -- the number of bytes kept of a memory that was read
 

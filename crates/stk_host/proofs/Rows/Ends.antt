@@ -1,5 +1,5 @@
 -- A call breaks off in one way: laws of every dialog, and LEAVE as a worked call.
-use Rattle.std.proofs.Common.{◌≡◌, ℕ, ◌<◌, List, [], ◌∷◌, ◌++◌, length, length-append, refl, sym, ap, ◌∙◌, subst, arith, Err}
+use Rattle.std.proofs.Common.{◌≡◌, ℕ, ◌<◌, List, [], ◌∷◌, ◌++◌, length, length-append, refl, sym, ap, ◌∙◌, subst, arith, Err, rules}
 use Rattle.stk_host.specs.declared.fault.Broken.TheVariants as broken
 use Rattle.stk_host.specs.declared.fault.HostFault.TheVariants.{SendFailed, RecvFailed}
 use Rattle.stk_host.specs.declared.link.Item.TheVariants.{Silence}
@@ -18,17 +18,7 @@ pub sent_less : {E R : Type 0} {dialog : Dialog E R} {before : Progress} {transc
     → BreaksSending dialog before transcript shown
     → length (sent transcript) < length (bytes_sent (played_over dialog before transcript).events)
 sent_less {dialog = dialog} {before = before} {transcript = transcript} f =
-    rw (f.events_are, bytes_append f.whole (Frame (f.part ++ f.unsent) ∷ f.later), ← f.all_sent, f.shown_is)
-    (rw (bytes_append f.whole (Frame f.part ∷ []))
-    (omega (
-      arith,
-      f.not_whole,
-      length-append (bytes_sent f.whole) (f.part ++ []),
-      length-append f.part [],
-      length-append (bytes_sent f.whole) ((f.part ++ f.unsent) ++ bytes_sent f.later),
-      length-append (f.part ++ f.unsent) (bytes_sent f.later),
-      length-append f.part f.unsent,
-    )))
+    search (rules, bytes_append, length-append)
 
 -- so it doesn't listen
 pub never_both : {E R : Type 0} {dialog : Dialog E R} {before : Progress} {transcript : Transcript}
@@ -36,8 +26,7 @@ pub never_both : {E R : Type 0} {dialog : Dialog E R} {before : Progress} {trans
     → BreaksSending dialog before transcript some → BreaksListening dialog before transcript others → ⊥
 never_both f g =
     let less = sent_less f in
-    let all = ap length (sym g.all_sent ∙ ap bytes_sent g.shown_is) in
-    omega (arith, less, all)
+    search rules
 
 -- a link with this transcript
 abbrev showing : Transcript → LinkState
@@ -61,12 +50,7 @@ leaving = 0x1B ∷ 0x06 ∷ 0x00 ∷ 0x03 ∷ 0x0E ∷ 0x11 ∷ 0x01 ∷ 0x01 �
 -- the frame was sent, and its answer not received
 pub unheard : EndsCall closing sixth (showing []) (showing (Sent leaving ∷ [])) (Err RecvFailed) sixth
 unfolding exchange attempt tries answer closing
-unheard = record {
-  during = Sent leaving ∷ [];
-  shown = Frame leaving ∷ [];
-  grows = refl;
-  breaks = record { waits = refl; shown_is = refl; all_sent = refl; in_turn = tt };
-}
+unheard = search rules
 
 -- that is not a failure to send it
 pub not_unsent : (after : Progress) → EndsCall closing sixth (showing []) (showing (Sent leaving ∷ [])) (Err SendFailed)

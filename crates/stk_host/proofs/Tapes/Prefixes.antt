@@ -1,5 +1,5 @@
 -- The bytes in front of a tape.
-use Rattle.std.proofs.Common.{◌≡◌, ◌∙◌, ◌-◌, min, drop, length-append, length-drop, sym, set, add-one, ◌≤◌, ◌<◌, ◌+◌, ℕ, zero, suc, List, [], ◌∷◌, ◌++◌, length, take, slice_get, Some, None, refl, ap, arith}
+use Rattle.std.proofs.Common.{◌≡◌, ◌∙◌, ◌-◌, min, drop, length-append, length-drop, sym, set, add-one, ◌≤◌, ◌<◌, ◌+◌, ℕ, zero, suc, List, [], ◌∷◌, ◌++◌, length, take, slice_get, Some, None, refl, ap, arith, rules}
 use Rattle.std.proofs.lemmas.List.{take_all, take_more_set, take-append-le, length-take, take_rest}
 use Rattle.stk_host.specs.declared.link.Heard.{Heard}
 use Rattle.stk_host.specs.declared.link.Heard.TheVariants as heard
@@ -39,17 +39,14 @@ pub copied_more : (tape : Tape) (buffer : List ℕ) (i byte : ℕ) → i < lengt
     → byte_of (slice_get tape i) ≡ Some byte
     → take i buffer ≡ take i (bytes_in tape) → take (i + 1) (set buffer i byte) ≡ take (i + 1) (bytes_in tape)
 copied_more tape buffer i byte room le is same =
-    take_more_set buffer i byte room ∙ ap (λ bytes. bytes ++ byte ∷ []) same ∙ sym (next_byte tape i byte le is)
-    ∙ ap (λ n. take n (bytes_in tape)) (sym (add-one i))
+    search (rules, take_more_set, next_byte, add-one)
 
 -- all bytes are copied
 pub copied_all : (tape : Tape) (buffer : List ℕ) (i : ℕ) → i < length buffer → i ≤ length (bytes_in tape)
     → byte_of (slice_get tape i) ≡ None
     → take i buffer ≡ take i (bytes_in tape) → take i buffer ≡ take (length buffer) (bytes_in tape)
 copied_all tape buffer i room le is same =
-    let e = no_byte tape i le is in
-    same ∙ take_all i (bytes_in tape) (omega (arith, e))
-    ∙ sym (take_all (length buffer) (bytes_in tape) (omega (arith, e)))
+    search (rules, no_byte, take_all)
 
 -- the bytes after a piece in its buffer aren't part of it
 pub piece_alone : (heard : Heard) (prefix back : List ℕ) → FitsBuffer heard (length prefix)
@@ -62,10 +59,7 @@ pub room_of : (prefix buffer : List ℕ) (cut most : ℕ) → most ≡ min cut (
     → length prefix ≡ length (take most buffer)
     → length prefix ≡ min cut (length (prefix ++ drop most buffer))
 room_of prefix buffer cut most is same =
-    let e = length-take most buffer in
-    let f = length-append prefix (drop most buffer) in
-    let g = length-drop most buffer in
-    omega (arith, e, f, g)
+    search (rules, length-take, length-append, length-drop)
 
 -- the items from a place on, as the code cuts them off
 pub from_place : (size room at : ℕ) (given items : Tape) → size ≡ room → given ≡ items

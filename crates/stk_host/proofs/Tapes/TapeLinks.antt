@@ -1,5 +1,5 @@
 -- What a link over a tape gave, call after call.
-use Rattle.std.proofs.Common.{◌≡◌, ◌∙◌, ◌<◌, sym, ap, refl, arith, ℕ, zero, suc, ◌+◌, List, [], ◌∷◌, ◌++◌, append_assoc, append-nil, replicate, take, drop, min, length, Result, Ok, Err, IfOk, OnErr}
+use Rattle.std.proofs.Common.{◌≡◌, ◌∙◌, ◌<◌, sym, ap, refl, arith, ℕ, zero, suc, ◌+◌, List, [], ◌∷◌, ◌++◌, append_assoc, append-nil, replicate, take, drop, min, length, Result, Ok, Err, IfOk, OnErr, rules}
 use Rattle.ghosts.specs.Stays.{Stays}
 use Rattle.stk_host.specs.declared.link.Heard.{Heard}
 use Rattle.stk_host.specs.declared.link.Item.TheVariants.{Byte, Silence, End}
@@ -64,10 +64,7 @@ of_tape_on a b c f g = record {
   during = f.during ++ g.during;
   grows = g.grows ∙ ap (λ (t : Transcript). t ++ g.during) f.grows ∙ append_assoc a.transcript f.during g.during;
   ends = f.ends + g.ends;
-  gave = rw (heard_append f.during g.during, append_assoc (heard f.during) (heard g.during) c.left, g.gave)
-      (rw (← append_assoc (heard f.during) b.left (replicate g.ends End), f.gave)
-      (append_assoc a.left (replicate f.ends End) (replicate g.ends End)
-      ∙ ap (λ (t : Tape). a.left ++ t) (ends_more f.ends g.ends)));
+  gave = search (rules, heard_append, append_assoc, ends_more);
   over = none f.ends g.ends g.gave f.over g.over;
 }
   where
@@ -84,13 +81,7 @@ since b c g = λ start f. of_tape_on start b c f g
 quiet_of_tape : (during : Transcript) (b c : TapeState) → heard during ≡ [] → c.left ≡ b.left
     → c.transcript ≡ b.transcript ++ during
     → Stays IsOfTape b c
-quiet_of_tape during b c quiet left transcript = since b c (record {
-  during = during;
-  grows = transcript;
-  ends = 0;
-  gave = rw quiet (left ∙ sym (append-nil b.left));
-  over = λ some. absurd (omega (arith, some));
-})
+quiet_of_tape during b c quiet left transcript = since b c (search rules)
 
 pub same_of_tape : (b c : TapeState) → c.left ≡ b.left → c.transcript ≡ b.transcript → Stays IsOfTape b c
 same_of_tape b c left transcript = quiet_of_tape [] b c refl left (transcript ∙ sym (append-nil b.transcript))
@@ -112,8 +103,7 @@ heard_of_tape (Ok given) buffer b c receives piece left kept =
       during = Got (items_of given buffer) ∷ [];
       grows = receives.ok;
       ends = ends_of b.left;
-      gave = ap (λ (t : Tape). t ++ c.left) (append-nil (items_of given buffer) ∙ piece)
-          ∙ ap (λ (t : Tape). next_piece most b.left ++ t) rest ∙ piece_given most b.left;
+      gave = search (rules, append-nil, piece_given);
       over = λ some. rest ∙ none_left (length (next_piece most b.left)) b.left some;
     })
 heard_of_tape (Err fault) buffer b c receives piece left kept =

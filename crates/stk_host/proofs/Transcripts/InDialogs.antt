@@ -1,5 +1,5 @@
 -- How a transcript goes on in a dialog: laws of transcripts alone.
-use Rattle.std.proofs.Common.{◌≡◌, ℕ, ◌<◌, List, [], ◌∷◌, ◌++◌, length, refl, sym, ap, ◌∙◌, subst, append_assoc, Option, Some, None}
+use Rattle.std.proofs.Common.{◌≡◌, ℕ, ◌<◌, List, [], ◌∷◌, ◌++◌, length, refl, sym, ap, ◌∙◌, subst, append_assoc, Option, Some, None, rules}
 use Rattle.std.proofs.lemmas.List.{append-nil}
 use Rattle.stk_frame.specs.Frame.{frame}
 use Rattle.stk_host.specs.declared.fault.Broken.{Broken}
@@ -35,8 +35,7 @@ played_bind (Ask body answered) go_on seq tape =
 
 pub bytes_append : {E : Type 0} (x y : List (Event E)) → bytes_sent (x ++ y) ≡ bytes_sent x ++ bytes_sent y
 bytes_append [] y = refl
-bytes_append (Frame bytes ∷ x) y = ap (λ bs. bytes ++ bs) (bytes_append x y)
-    ∙ sym (append_assoc bytes (bytes_sent x) (bytes_sent y))
+bytes_append (Frame bytes ∷ x) y = search (rules, append_assoc, bytes_append x y)
 bytes_append (Said e ∷ x) y = bytes_append x y
 
 behind_behind : {E R : Type 0} (x y : List (Event E)) (p : Played E R) → behind x (behind y p) ≡ behind (x ++ y) p
@@ -80,11 +79,8 @@ module _ {E F A B : Type 0} (dialog : Dialog E A) (inner : Dialog F B) (m n : �
   turns_lift x bytes [] f = tt
   turns_lift x bytes (Sent more ∷ transcript) f =
       rw (append_assoc before bytes more) (turns_lift x (bytes ++ more) transcript f)
-  turns_lift x bytes (Got items ∷ transcript) f = (
-    due x bytes f.0,
-    rw (append_assoc tape x items) (turns_lift (x ++ items) bytes transcript
-        (rw (append_assoc inner_tape x items) at f.1)),
-  )
+  turns_lift x bytes (Got items ∷ transcript) f = search (rules, append_assoc, turns_lift (x ++ items) bytes transcript
+      (rw (append_assoc inner_tape x items) at f.1))
 
   -- the same from the start
   pub turns_behind : (transcript : Transcript) → TurnsFrom inner n inner_tape [] transcript
@@ -104,22 +100,17 @@ waits_bind dialog go_on seq x waits =
 due_bind : {E A B : Type 0} (dialog : Dialog E A) (go_on : A → Dialog E B) (seq : ℕ) (x : Tape) (bytes : List ℕ)
     → IsDue dialog seq x bytes → IsDue (dialog >>= go_on) seq x bytes
 due_bind dialog go_on seq x bytes due =
-    let e = waits_bind dialog go_on seq x due.waits in
-    record { waits = ap (λ p. p.outcome) e; all_sent = ap (λ p. bytes_sent p.events) e ∙ due.all_sent }
+    search (rules, waits_bind)
 
 turns_bind : {E A B : Type 0} (dialog : Dialog E A) (go_on : A → Dialog E B) (m : Progress) (transcript : Transcript)
     → InTurn dialog m transcript → InTurn (dialog >>= go_on) m transcript
 turns_bind dialog go_on m transcript f =
-    turns_behind (dialog >>= go_on) dialog m.next m.next (on_tape m.unread) (on_tape m.unread) []
-    (λ x bytes. due_bind dialog go_on m.next (on_tape m.unread ++ x) bytes) transcript f
+    search (rules, turns_behind, due_bind)
 
 -- while the answer is awaited it is in turn to listen
 due_asking : {E R : Type 0} (body : List ℕ) (answered : Reading → Dialog E R) (seq : ℕ) (tape : Tape)
     → answer seq tape ≡ None → IsDue (Ask body answered) seq tape (frame seq body)
-due_asking body answered seq tape none = record {
-  waits = rw none refl;
-  all_sent = rw none (append-nil (frame seq body));
-}
+due_asking body answered seq tape none = search rules
 
 turns_waiting : {E R : Type 0} (body : List ℕ) (answered : Reading → Dialog E R) (seq : ℕ) (tape : Tape)
     (transcript : Transcript)
@@ -135,11 +126,7 @@ turns_asking : {E R : Type 0} (body : List ℕ) (answered : Reading → Dialog E
     → IsQuiet x → sent x ≡ frame seq body → WaitsFrom seq (on_tape u) y
     → InTurn (Ask body answered) (progress_at seq u) (x ++ y)
 turns_asking body answered seq u x y quiet is waits =
-    turns_append (Ask body answered) seq (on_tape u) [] x y (turns_quiet (Ask body answered) seq (on_tape u) [] x quiet)
-    (subst (λ t. TurnsFrom (Ask body answered) seq t (sent x) y)
-    (sym (append-nil (on_tape u)) ∙ ap (λ t. on_tape u ++ t) (sym (heard_quiet x quiet)))
-    (subst (λ bs. TurnsFrom (Ask body answered) seq (on_tape u) bs y) (sym is)
-    (turns_waiting body answered seq (on_tape u) y waits)))
+    search (rules, turns_append, turns_quiet, append-nil, heard_quiet, turns_waiting)
 
 -- prefixes of events
 
@@ -152,14 +139,7 @@ begun_more SaidPart _ _ more part = absurd part
 -- a prefix of the events is a prefix if more follow
 pub prefix_more : {E : Type 0} (SaidPart : E → E → Type 0) {shown events : List (Event E)} (more : List (Event E))
     → IsPrefixOfEvents SaidPart shown events → IsPrefixOfEvents SaidPart shown (events ++ more)
-prefix_more SaidPart more f = record {
-  whole = f.whole;
-  begun = f.begun;
-  later = f.later ++ more;
-  shown_is = f.shown_is;
-  events_are = ap (λ es. es ++ more) f.events_are ∙ append_assoc f.whole f.later more;
-  part = begun_more SaidPart f.begun f.later more f.part;
-}
+prefix_more SaidPart more f = search (rules, append_assoc, begun_more)
 
 -- and a prefix after events that happened whole
 pub prefix_behind : {E : Type 0} (SaidPart : E → E → Type 0) {shown events : List (Event E)} (before : List (Event E))
@@ -185,12 +165,7 @@ module _ {E R : Type 0} {a b : Dialog E R} {m n : Progress} {x : Transcript} {ev
   due_behind : (tape : Tape) (bytes : List ℕ) → IsDue b n.next (on_tape n.unread ++ tape) bytes
       → IsDue a m.next ((on_tape m.unread ++ heard x) ++ tape) (sent x ++ bytes)
   due_behind tape bytes due =
-      let e = ap (played a m.next) (append_assoc (on_tape m.unread) (heard x) tape) ∙ f.goes_on tape in
-      record {
-        waits = ap (λ p. p.outcome) e ∙ due.waits;
-        all_sent = rw (e, bytes_append events (played b n.next (on_tape n.unread ++ tape)).events, f.all_sent)
-            (rw due.all_sent refl);
-      }
+      search (rules, append_assoc, bytes_append)
 
   -- the run over both transcripts, what they send, and that both listen in turn
   led : (y : Transcript) → played_over a m (x ++ y) ≡ behind events (played_over b n y)
@@ -202,17 +177,11 @@ module _ {E R : Type 0} {a b : Dialog E R} {m n : Progress} {x : Transcript} {ev
 
   led_turns : (y : Transcript) → InTurn b n y → InTurn a m (x ++ y)
   led_turns y in_turn =
-      turns_append a m.next (on_tape m.unread) [] x y f.in_turn
-      (turns_behind a b m.next n.next (on_tape m.unread ++ heard x) (on_tape n.unread) (sent x) due_behind y in_turn)
+      search (rules, turns_append, turns_behind, due_behind)
 
   pub leads_on : {c : Dialog E R} {l : Progress} {y : Transcript} {ys : List (Event E)}
       → TranscriptLeads b n y ys c l → TranscriptLeads a m (x ++ y) (events ++ ys) c l
-  leads_on {c = c} {l = l} {y = y} {ys = ys} g = record {
-    goes_on = λ more. rw (heard_both (on_tape m.unread) x y more, f.goes_on (heard y ++ more), g.goes_on more)
-        (behind_behind events ys (played c l.next (on_tape l.unread ++ more)));
-    all_sent = led_bytes y ys g.all_sent;
-    in_turn = led_turns y g.in_turn;
-  }
+  leads_on {c = c} {l = l} {y = y} {ys = ys} g = search (rules, heard_both, behind_behind, led_bytes, led_turns)
 
   pub by_on : (by : Broken) (y : Transcript) (shown : List (Event E)) → BreaksBy by b n y shown
       → BreaksBy by a m (x ++ y) (events ++ shown)
@@ -227,24 +196,13 @@ module _ {E R : Type 0} {a b : Dialog E R} {m n : Progress} {x : Transcript} {ev
     all_sent = led_bytes y shown g.all_sent;
     in_turn = led_turns y g.in_turn;
   }
-  by_on broken.Recv y shown g = record {
-    waits = ap (λ p. p.outcome) (led y) ∙ g.waits;
-    shown_is = ap (λ es. events ++ es) g.shown_is ∙ sym (ap (λ p. p.events) (led y));
-    all_sent = led_bytes y shown g.all_sent;
-    in_turn = led_turns y g.in_turn;
-  }
+  by_on broken.Recv y shown g = search (rules, led, led_bytes, led_turns)
 
 -- the same before what follows, and before a transcript that breaks off
 module _ {E R : Type 0} {a b : Dialog E R} {m n : Progress} {x : Transcript} {events : List (Event E)} where
   pub leads_bind : {B : Type 0} (go_on : R → Dialog E B) → TranscriptLeads a m x events b n
       → TranscriptLeads (a >>= go_on) m x events (b >>= go_on) n
-  leads_bind go_on f = record {
-    goes_on = λ more. rw (played_bind a go_on m.next (on_tape m.unread ++ (heard x ++ more)), f.goes_on more)
-        (followed_behind events (played b n.next (on_tape n.unread ++ more)) (λ r. played (go_on r))
-        ∙ ap (behind events) (sym (played_bind b go_on n.next (on_tape n.unread ++ more))));
-    all_sent = f.all_sent;
-    in_turn = turns_bind a go_on m x f.in_turn;
-  }
+  leads_bind go_on f = search (rules, played_bind, followed_behind, turns_bind)
 
   pub breaks_on : (SaidPart : E → E → Type 0) {y : Transcript} {shown : List (Event E)}
       → TranscriptLeads a m x events b n
@@ -264,47 +222,25 @@ leads_say e dialog m = record { goes_on = λ more. refl; all_sent = refl; in_tur
 pub plays_from : {E R : Type 0} {a : Dialog E R} {m n : Progress} {transcript : Transcript} {events : List (Event E)}
     {result : R}
     → TranscriptLeads a m transcript events (Done result) n → Plays a m transcript events result n
-plays_from {events = events} f = record {
-  plays = λ more. rw (f.goes_on more, append-nil events) refl;
-  all_sent = f.all_sent;
-  in_turn = f.in_turn;
-}
+plays_from {events = events} f = search rules
 
 pub leads_from : {E R : Type 0} {a : Dialog E R} {m n : Progress} {transcript : Transcript} {events : List (Event E)}
     {result : R}
     → Plays a m transcript events result n → TranscriptLeads a m transcript events (Done result) n
-leads_from {events = events} f = record {
-  goes_on = λ more. rw (f.plays more, append-nil events) refl;
-  all_sent = f.all_sent;
-  in_turn = f.in_turn;
-}
+leads_from {events = events} f = search rules
 
 -- breaking off
 
 pub breaks_bind : {E A B : Type 0} (SaidPart : E → E → Type 0) {a : Dialog E A} {m : Progress} {transcript : Transcript}
     {shown : List (Event E)} (go_on : A → Dialog E B)
     → Breaks SaidPart a m transcript shown → Breaks SaidPart (a >>= go_on) m transcript shown
-breaks_bind SaidPart {a = a} {m = m} {transcript = transcript} go_on f = record {
-  prefix = rw (played_bind a go_on m.next (on_tape m.unread ++ heard transcript)) (prefix_more SaidPart _ f.prefix);
-  all_sent = f.all_sent;
-  in_turn = turns_bind a go_on m transcript f.in_turn;
-}
+breaks_bind SaidPart {a = a} {m = m} {transcript = transcript} go_on f =
+    search (rules, played_bind, prefix_more, turns_bind)
 
 -- nothing of the dialog has happened
 pub breaks_here : {E R : Type 0} (SaidPart : E → E → Type 0) (dialog : Dialog E R) (m : Progress)
     → Breaks SaidPart dialog m [] []
-breaks_here SaidPart dialog m = record {
-  prefix = record {
-    whole = [];
-    begun = [];
-    later = (played_over dialog m []).events;
-    shown_is = refl;
-    events_are = refl;
-    part = tt;
-  };
-  all_sent = refl;
-  in_turn = tt;
-}
+breaks_here SaidPart dialog m = search rules
 
 pub by_bind : {E A B : Type 0} (by : Broken) (a : Dialog E A) (m : Progress) (transcript : Transcript)
     (shown : List (Event E))
@@ -319,20 +255,13 @@ by_bind broken.Send a m transcript shown go_on f =
       unsent = f.unsent;
       later = f.later ++ more;
       shown_is = f.shown_is;
-      events_are = rw (played_bind a go_on m.next (on_tape m.unread ++ heard transcript), f.events_are)
-          (append_assoc f.whole (Frame (f.part ++ f.unsent) ∷ f.later) more);
+      events_are = search (rules, played_bind, append_assoc);
       not_whole = f.not_whole;
       all_sent = f.all_sent;
       in_turn = turns_bind a go_on m transcript f.in_turn;
     }
 by_bind broken.Recv a m transcript shown go_on f =
-    let e = waits_bind a go_on m.next (on_tape m.unread ++ heard transcript) f.waits in
-    record {
-      waits = ap (λ p. p.outcome) e;
-      shown_is = f.shown_is ∙ sym (ap (λ p. p.events) e);
-      all_sent = f.all_sent;
-      in_turn = turns_bind a go_on m transcript f.in_turn;
-    }
+    search (rules, waits_bind, turns_bind)
 
 -- a question
 
@@ -344,11 +273,8 @@ module _ {E R : Type 0} (body : List ℕ) (answered : Reading → Dialog E R) (s
       → TranscriptLeads (Ask body answered) (progress_at seq u) (x ++ y) (Frame (frame seq body)
       ∷ []) (answered reading)
       (progress_at (next seq) v)
-  leads_ask v x y reading quiet is waits answers = record {
-    goes_on = λ more. rw (heard_both (on_tape u) x y more, heard_quiet x quiet, answers more) refl;
-    all_sent = rw (sent_append x y, is, sent_waiting seq (on_tape u) y waits) refl;
-    in_turn = turns_asking body answered seq u x y quiet is waits;
-  }
+  leads_ask v x y reading quiet is waits answers =
+      search (rules, heard_both, heard_quiet, sent_append, sent_waiting, turns_asking)
 
   -- a part of its frame was sent
   pub breaks_asking : (part unsent : List ℕ) (x : Transcript) → IsQuiet x → sent x ≡ part
@@ -373,11 +299,4 @@ module _ {E R : Type 0} (body : List ℕ) (answered : Reading → Dialog E R) (s
       → answer seq (on_tape u ++ heard y) ≡ None
       → BreaksListening (Ask body answered) (progress_at seq u) (x ++ y) (Frame (frame seq body) ∷ [])
   breaks_listening x y quiet is waits none =
-      let unheard : answer seq (on_tape u ++ heard (x ++ y)) ≡ None =
-      rw (heard_append x y, heard_quiet x quiet) none in
-      record {
-        waits = rw unheard refl;
-        shown_is = rw unheard refl;
-        all_sent = rw (sent_append x y, is, sent_waiting seq (on_tape u) y waits) refl;
-        in_turn = turns_asking body answered seq u x y quiet is waits;
-      }
+      search (rules, heard_append, heard_quiet, sent_append, sent_waiting, turns_asking)

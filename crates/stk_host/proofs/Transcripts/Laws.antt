@@ -1,5 +1,5 @@
 -- Laws of transcripts.
-use Rattle.std.proofs.Common.{◌≡◌, ℕ, [], ◌∷◌, ◌++◌, refl, sym, ap, ◌∙◌, append_assoc}
+use Rattle.std.proofs.Common.{◌≡◌, ℕ, [], ◌∷◌, ◌++◌, refl, sym, ap, ◌∙◌, append_assoc, rules}
 use Rattle.std.proofs.lemmas.List.{append-nil}
 use Rattle.stk_host.specs.Tape.{Tape}
 use Rattle.stk_host.specs.Transcript.{Transcript, Sent, Got, sent, heard, Grows}
@@ -18,8 +18,7 @@ heard_append (Got tape ∷ x) y = ap (λ t. tape ++ t) (heard_append x y) ∙ sy
 -- what both parts received, before what follows
 pub heard_both : (u : Tape) (x y : Transcript) (more : Tape)
     → u ++ (heard (x ++ y) ++ more) ≡ u ++ (heard x ++ (heard y ++ more))
-heard_both u x y more = ap (λ t. u ++ t)
-    (ap (λ t. t ++ more) (heard_append x y) ∙ append_assoc (heard x) (heard y) more)
+heard_both u x y more = search (rules, heard_append, append_assoc)
 
 pub grows_none : (old : Transcript) → Grows old [] old
 grows_none old = sym (append-nil old)

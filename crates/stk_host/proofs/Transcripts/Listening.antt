@@ -1,5 +1,5 @@
 -- Listening for an answer, as the code does it round by round.
-use Rattle.std.proofs.Common.{◌≡◌, ℕ, ◌+◌, ◌<◌, ◌≤◌, List, [], ◌∷◌, ◌++◌, length, refl, sym, ap, ◌∙◌, subst, append_assoc, arith, length-append, Some, None, true}
+use Rattle.std.proofs.Common.{◌≡◌, ℕ, ◌+◌, ◌<◌, ◌≤◌, List, [], ◌∷◌, ◌++◌, length, refl, sym, ap, ◌∙◌, subst, append_assoc, arith, length-append, Some, None, true, rules}
 use Rattle.std.proofs.lemmas.List.{append-nil, length-map, nil_from_length}
 use Rattle.stk_frame.specs.declared.reader.Event.{Event}
 use Rattle.stk_frame.specs.declared.reader.Event.TheVariants as event
@@ -56,15 +56,7 @@ module _ {seq : ℕ} {u : List ℕ} {o : LinkState} where
       → length u + length (heard_in l.during) ≡ count + length left
   heard_count {left = left} l =
       let all : length (on_tape u ++ heard_in l.during) ≡ length (on_tape (l.text ++ left)) = ap length l.all_heard in
-      omega (
-        arith,
-        all,
-        length-append (on_tape u) (heard_in l.during),
-        length-map u Byte,
-        length-map (l.text ++ left) Byte,
-        length-append l.text left,
-        l.counted,
-      )
+      search (rules, length-append, l, length-map)
 
   -- if nothing is left unread, and a piece is received
   module _ {held : List ℕ} {count : ℕ} {left : List ℕ} {p : LinkState} (of_left : Listening seq u o held count left p)
@@ -84,20 +76,8 @@ module _ {seq : ℕ} {u : List ℕ} {o : LinkState} where
 
     pub heard_bytes : {q : LinkState} {what : Heard} {n : ℕ} {new : List ℕ} → count + length new ≤ limit
         → what ≡ heard.Bytes n → HearsPiece what new p q → Listening seq u o held count new q
-    heard_bytes {q = q} {new = new} most is piece = record {
-      text = l.text;
-      stands = l.stands;
-      counted = l.counted;
-      few = most;
-      no_answer = l.no_answer;
-      during = l.during ++ Got (on_tape new) ∷ [];
-      grows = grows_on o.transcript p.transcript q.transcript l.during (Got (on_tape new) ∷ []) l.grows
-          (let h = rw is at piece in h.1);
-      waits = waits_more (on_tape new);
-      all_heard = rw (heard_append l.during (Got (on_tape new) ∷ []), append-nil (on_tape new))
-          (rw (← append_assoc (on_tape u) (heard_in l.during) (on_tape new), text_heard)
-          (sym (on_tape_append l.text new)));
-    }
+    heard_bytes {q = q} {new = new} most is piece =
+        search (rules, l, grows_on, waits_more, heard_append, append-nil, append_assoc, text_heard, on_tape_append)
 
     -- a timeout or an end
     stops : {q : LinkState} {new : List ℕ} (item : Item) (reading : Reading)
@@ -114,8 +94,7 @@ module _ {seq : ℕ} {u : List ℕ} {o : LinkState} where
         ap length (heard_append l.during (Got (item ∷ []) ∷ [])),
         length-append (heard_in l.during) (item ∷ []),
       );
-      answers = λ more. rw (heard_both (on_tape u) l.during (Got (item ∷ []) ∷ []) more)
-          (rw (← append_assoc (on_tape u) (heard_in l.during) (item ∷ more), text_heard) (answers more));
+      answers = search (rules, heard_both, l, append_assoc, text_heard);
     })
 
     pub heard_silence : {q : LinkState} {what : Heard} {new : List ℕ} → what ≡ heard.Silence → HearsPiece what new p q
@@ -144,18 +123,7 @@ module _ {seq : ℕ} {u : List ℕ} {o : LinkState} where
   reads : {held : List ℕ} {count : ℕ} {p : LinkState} (used left new : List ℕ) (found : List (List ℕ))
       → Listening seq u o held count (used ++ left) p → Fed held used new found → first_answer seq found ≡ None
       → Listening seq u o new (count + length used) left p
-  reads used left new found l fed other = record {
-    text = l.text ++ used;
-    stands = fed.stands l.text l.stands;
-    counted = length-append l.text used ∙ ap (λ n. n + length used) l.counted;
-    few = omega (arith, l.few, length-append used left);
-    no_answer = still_none seq l.text used fed.skipped found l.no_answer fed.no_frames (fed.pieces l.text l.stands)
-        other;
-    during = l.during;
-    grows = l.grows;
-    waits = l.waits;
-    all_heard = l.all_heard ∙ ap on_tape (sym (append_assoc l.text used left));
-  }
+  reads used left new found l fed other = search (rules, l, length-append, still_none, append_assoc)
 
   pub reads_on : {held : List ℕ} {count : ℕ} {left : List ℕ} {p : LinkState} (n : ℕ)
       (new_left new : List ℕ) (what : Event)
@@ -173,8 +141,7 @@ module _ {seq : ℕ} {u : List ℕ} {o : LinkState} where
     grows = l.grows;
     waits = l.waits;
     few = omega (arith, heard_count l, l.few);
-    answers = λ more. rw (← append_assoc (on_tape u) (heard_in l.during) more, all, on_tape_append x rest_left)
-        (rw (append_assoc (on_tape x) (on_tape rest_left) more) (answers (on_tape rest_left ++ more)));
+    answers = search (rules, append_assoc, l, on_tape_append);
   }
 
   finds_in : {held : List ℕ} {count : ℕ} {p : LinkState} (used left new : List ℕ)
@@ -186,9 +153,7 @@ module _ {seq : ℕ} {u : List ℕ} {o : LinkState} where
       let size : length (l.text ++ used) ≤ limit = rw length-append (omega (arith, l.counted)) in
       gives (l.text ++ used) left (Answered (body_of new)) l
       (l.all_heard ∙ ap on_tape (sym (append_assoc l.text used left)))
-      (λ more. answer_found seq (l.text ++ used) more (body_of new)
-      (now_found seq l.text used fed.skipped new l.no_answer fed.no_frames (fed.pieces l.text l.stands) good whole)
-      size)
+      (λ more. search (rules, answer_found, l, now_found))
 
   pub finds : {held : List ℕ} {count : ℕ} {left : List ℕ} {p : LinkState} (n : ℕ)
       (new_left new : List ℕ) (what : Event)

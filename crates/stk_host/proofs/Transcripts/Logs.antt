@@ -1,5 +1,5 @@
 -- A log with one more mark.
-use Rattle.std.proofs.Common.{◌≡◌, ℕ, zero, suc, ◌+◌, ◌≤◌, List, [], ◌∷◌, ◌++◌, length, take, drop, refl, ap, ◌∙◌, arith, length-append}
+use Rattle.std.proofs.Common.{◌≡◌, ℕ, zero, suc, ◌+◌, ◌≤◌, List, [], ◌∷◌, ◌++◌, length, take, drop, refl, ap, ◌∙◌, arith, length-append, rules}
 use Rattle.std.proofs.lemmas.List.{take-append-le, take-append-drop, length-drop}
 use Rattle.stk_host.specs.declared.log.Mark.{Mark}
 use Rattle.stk_host.specs.declared.log.Mark.TheVariants as mark
@@ -23,13 +23,11 @@ log_more [] [] [] more_out more_back m o b = refl
 log_more [] (x ∷ out) back more_out more_back m o b = absurd (omega arith)
 log_more [] [] (x ∷ back) more_out more_back m o b = absurd (omega arith)
 log_more (mark.Sent n ∷ marks) out back more_out more_back m o b =
-    rw (take-append-le n out more_out (omega arith), drop_prefix n out more_out (omega arith))
-    (ap (λ t. Sent (take n out) ∷ t)
-    (log_more marks (drop n out) back more_out more_back m (rw length-drop (omega arith)) b))
+    search (rules, take-append-le, drop_prefix, length-drop, log_more marks (drop n out) back more_out more_back m (rw
+        length-drop (omega arith)) b)
 log_more (mark.Got n ∷ marks) out back more_out more_back m o b =
-    rw (take-append-le n back more_back (omega arith), drop_prefix n back more_back (omega arith))
-    (ap (λ t. Got (on_tape (take n back)) ∷ t)
-    (log_more marks out (drop n back) more_out more_back m o (rw length-drop (omega arith))))
+    search (rules, take-append-le, drop_prefix, length-drop, log_more marks out (drop n back) more_out more_back m o
+        (rw length-drop (omega arith)))
 log_more (mark.Silence ∷ marks) out back more_out more_back m o b =
     ap (λ t. Got (item.Silence ∷ []) ∷ t) (log_more marks out back more_out more_back m o b)
 log_more (mark.End ∷ marks) out back more_out more_back m o b =
@@ -72,12 +70,8 @@ module _ (marks new_marks : List Mark) (out new_out back new_back x y : List ℕ
   pub log_adds : (old : Transcript) → transcript_of marks out back ≡ old
       → transcript_of new_marks new_out new_back ≡ old ++ transcript_of (m ∷ []) x y
   log_adds old view =
-      rw (marks_are, out_is, back_is) (log_more marks out back x y m o b
-      ∙ ap (λ t. t ++ transcript_of (m ∷ []) x y) view)
+      search (rules, log_more)
 
   pub counts_more : out_count (m ∷ []) ≡ length x → back_count (m ∷ []) ≡ length y
       → (out_count new_marks ≡ length new_out) × (back_count new_marks ≡ length new_back)
-  counts_more mo mb = (
-    rw (marks_are, out_is, length-append) (omega (arith, out_more marks m)),
-    rw (marks_are, back_is, length-append) (omega (arith, back_more marks m)),
-  )
+  counts_more mo mb = search (rules, length-append, out_more, back_more)

@@ -1,5 +1,5 @@
 -- How far a call has come over a link.
-use Rattle.std.proofs.Common.{[], ◌++◌}
+use Rattle.std.proofs.Common.{[], ◌++◌, rules}
 use Rattle.stk_host.specs.declared.fault.Broken.{Broken}
 use Rattle.stk_host.specs.Transcript.{LinkState}
 use Rattle.stk_host.specs.Dialog.{Dialog, Done, ◌>>=◌}
@@ -57,12 +57,7 @@ pub broken_bind : {A B : Type 0} {by : Broken} {a : Dialog ⊥ A} {m : Progress}
     (go_on : A → Dialog ⊥ B)
     → FailsOver by a m o p → FailsOver by (a >>= go_on) m o p
 broken_bind {by = by} {a = a} {m = m} go_on f =
-    record {
-      during = f.during;
-      shown = f.shown;
-      grows = f.grows;
-      breaks = by_bind by a m f.during f.shown go_on f.breaks;
-    }
+    search (rules, by_bind)
 
 -- a dialog that was run, and what follows it
 pub then_reaches : {A B : Type 0} {a : Dialog ⊥ A} {m n : Progress} {o p : LinkState} {result : A}

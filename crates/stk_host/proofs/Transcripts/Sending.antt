@@ -1,5 +1,5 @@
 -- Bytes sent in parts, and the rest of a range.
-use Rattle.std.proofs.Common.{◌≡◌, ℕ, ◌+◌, ◌-◌, ◌<◌, ◌≤◌, List, [], ◌∷◌, ◌++◌, length, take, drop, refl, sym, ap, ◌∙◌, subst, arith, Err}
+use Rattle.std.proofs.Common.{◌≡◌, ℕ, ◌+◌, ◌-◌, ◌<◌, ◌≤◌, List, [], ◌∷◌, ◌++◌, length, take, drop, refl, sym, ap, ◌∙◌, subst, arith, Err, rules}
 use Rattle.std.proofs.lemmas.List.{append-nil, drop-take, drop-drop, take-append-drop, length-take, length-drop, take_all}
 use Rattle.std.proofs.Math.Seq.{take-add}
 use Rattle.std.specs.Prelude.{slice_range}
@@ -39,11 +39,7 @@ part_of bytes n o q few says = record {
 -- a link that has failed since an earlier time with the same count
 pub fails_since : {A E : Type 0} (a c : LinkState) (count : ℕ) (error : E) → count ≡ a.failures → count ≤ c.failures
     → HasRisen count c.failures → LinkCounts {A = A} a c (Err error)
-fails_since a c count error same counted failed = record {
-  counted = omega (arith, same, counted);
-  sound = tt;
-  failed = subst (λ n. HasRisen n c.failures) same failed;
-}
+fails_since a c count error same counted failed = search rules
 
 -- the rest of a range after its first places
 pub range_later : (xs : List ℕ) (a b n : ℕ) → a + n ≤ b → slice_range xs (a + n) b ≡ drop n (slice_range xs a b)
@@ -55,8 +51,7 @@ range_later xs a b n le =
 pub range_consumed : (xs : List ℕ) (a b n : ℕ) (all : List ℕ) → a ≤ b → slice_range xs a b ≡ all → n ≤ length all
     → slice_range xs (a + n) b ≡ drop n all
 range_consumed xs a b n all order is le =
-    let size : length all ≤ b - a = rw (← is, length-take) (omega arith) in
-    range_later xs a b n (omega arith) ∙ ap (drop n) is
+    search (rules, length-take, range_later)
 
 -- the bytes after the first n, in the form of a slice
 pub behind : (bytes : List ℕ) (n : ℕ) → take (length bytes - n) (drop n bytes) ≡ drop n bytes
