@@ -1,5 +1,5 @@
 -- Each answer of the programmer is a body that fits a frame.
-use Rattle.std.proofs.Common.{◌≡◌, ℕ, zero, suc, ◌+◌, ◌%◌, ◌≤◌, List, [], ◌∷◌, ◌++◌, length, refl, ap, arith, Bool, true, false, if◌then◌else◌, Option, Some, None, length-append, take, drop}
+use Rattle.std.proofs.Common.{◌≡◌, ℕ, zero, suc, ◌+◌, ◌%◌, ◌≤◌, List, [], ◌∷◌, ◌++◌, length, refl, ap, arith, Bool, true, false, if◌then◌else◌, Option, Some, None, length-append, take, drop, rules}
 use Rattle.std.proofs.lemmas.Bool.{leb-true, and_parts}
 use Rattle.std.proofs.lemmas.List.{length-take}
 use Rattle.std.specs.Prelude.{◌==◌, ◌&&◌, not, nat_le}
@@ -39,9 +39,8 @@ flash_length : (wide : Bool) (cmd address i n : ℕ) (chip : ChipState)
     → length (flash_looks wide cmd address i n chip).0 ≡ n
 flash_length wide cmd address i zero chip = refl
 flash_length wide cmd address i (suc n) chip =
-    ap suc (flash_length wide cmd address (suc i) n
-    (spi_of (at_address (for_half cmd i) (word_at address i) 0)
-    (sent_to (extension wide (word_at address i)) chip)).1)
+    search (rules, flash_length wide cmd address (suc i) n (spi_of (at_address (for_half cmd i) (word_at address i) 0)
+        (sent_to (extension wide (word_at address i)) chip)).1)
 
 eeprom_length : (cmd address i n : ℕ) (chip : ChipState) → length (eeprom_looks cmd address i n chip).0 ≡ n
 eeprom_length cmd address i zero chip = refl
@@ -57,8 +56,7 @@ flash_body f p =
     (when (not (f.count == 0) && f.count % 2 == 0 && nat_le f.count LARGEST_READ) _ _
     (λ fits.
     let few : f.count ≤ LARGEST_READ = leb-true f.count LARGEST_READ (and_parts _ _ fits).1 in
-    between 0x14 0 (flash_looks p.wide f.cmd1 p.address 0 f.count p.chip).0
-    (rw (flash_length p.wide f.cmd1 p.address 0 f.count p.chip) few))
+    search (rules, between, flash_length))
     (two _ _))
     (two _ _)
 
@@ -68,8 +66,7 @@ eeprom_body f p =
     (when (not (f.count == 0) && nat_le f.count LARGEST_READ) _ _
     (λ fits.
     let few : f.count ≤ LARGEST_READ = leb-true f.count LARGEST_READ (and_parts _ _ fits).1 in
-    between 0x16 0 (eeprom_looks f.cmd1 p.address 0 f.count p.chip).0
-    (rw (eeprom_length f.cmd1 p.address 0 f.count p.chip) few))
+    search (rules, between, eeprom_length))
     (two _ _))
     (two _ _)
 

@@ -1,5 +1,5 @@
 -- The programmer's state after each command of a host.
-use Rattle.std.proofs.Common.{◌≡◌, ℕ, zero, suc, ◌<◌, ◌^◌, [], ◌∷◌, length, refl, sym, ap, ◌∙◌, subst, ◌⊎◌, inl, inr, true, cond, replicate, None, Option}
+use Rattle.std.proofs.Common.{◌≡◌, ℕ, zero, suc, ◌<◌, ◌^◌, [], ◌∷◌, length, refl, sym, ap, ◌∙◌, subst, ◌⊎◌, inl, inr, true, cond, replicate, None, Option, rules}
 use Rattle.std.proofs.lemmas.List.{length-replicate}
 use Rattle.std.proofs.lemmas.Bool.{cond-true}
 use Rattle.avr_part.specs.Part.{Part}
@@ -32,22 +32,7 @@ module _ {P : Type 0} (m : Device P) where
       → ((p : P) → After p → After (m.after (body c) p))
       → ((p : P) → Before p → Before (m.reset p)) → ((p : P) → After p → After (m.reset p))
       → Fits m (c ∷ []) Before After
-  one_fits c Before After does again anew anew_again = record {
-    prefix = prefixes;
-    again = agains;
-    whole = λ p bytes has b. does p b;
-    anew = anew;
-    anew_again = anew_again;
-  }
-    where
-      prefixes : (p : P) (i : ℕ) → Before p → Before (after_commands m i (c ∷ []) p)
-          ⊎ After (after_commands m i (c ∷ []) p)
-      prefixes p zero b = inl b
-      prefixes p (suc i) b = inr (subst After (sym (obeyed_none i (m.after (body c) p))) (does p b))
-
-      agains : (p : P) (i : ℕ) → After p → After (after_commands m i (c ∷ []) p)
-      agains p zero a = a
-      agains p (suc i) a = subst After (sym (obeyed_none i (m.after (body c) p))) (again p a)
+  one_fits c Before After does again anew anew_again = search (rules, obeyed_none)
 
   -- a step of two commands
   pub two_fits : (c d : Command) (Before After : P → Type 0) → ((p : P) → Before p → Before (m.after (body c) p))
@@ -68,8 +53,7 @@ module _ {P : Type 0} (m : Device P) where
           ⊎ After (after_commands m i (c ∷ d ∷ []) p)
       prefixes p zero b = inl b
       prefixes p (suc zero) b = inl (first p b)
-      prefixes p (suc (suc i)) b = inr (subst After (sym (obeyed_none i (m.after (body d) (m.after (body c) p))))
-          (does p b))
+      prefixes p (suc (suc i)) b = search (rules, obeyed_none)
 
       agains : (p : P) (i : ℕ) → After p → After (after_commands m i (c ∷ d ∷ []) p)
       agains p zero a = a
@@ -102,115 +86,60 @@ in_mode_is p x y e = ap (λ z. z.1) (cond-true p.mode x y e)
 module _ (part : Part) where
   -- a settled programmer is idle
   pub settled_idle : (m : Memories) (p : Programmer) → Settled part m p → Idle part m p
-  settled_idle m p s = record {
-    memories = s.memories;
-    part_is = s.part_is;
-    flash_buffer = ap length s.flash_buffer ∙ length-replicate part.flash_page 255;
-    eeprom_buffer = ap length s.eeprom_buffer ∙ length-replicate {A = Option ℕ} part.eeprom_page None;
-  }
+  settled_idle m p s = search (rules, length-replicate)
 
   -- a ready programmer is settled, and a settled one is ready in programming mode
   pub ready_settled : (m : Memories) (p : Programmer) → Ready part m p → Settled part m p
-  ready_settled m p s = record {
-    memories = s.memories;
-    part_is = s.part_is;
-    flash_buffer = s.flash_buffer;
-    eeprom_buffer = s.eeprom_buffer;
-    extended = s.extended;
-  }
+  ready_settled m p s = search rules
 
   pub settled_ready : (m : Memories) (p : Programmer) → p.mode ≡ true → Settled part m p → Ready part m p
-  settled_ready m p mode s = record {
-    memories = s.memories;
-    part_is = s.part_is;
-    mode = mode;
-    flash_buffer = s.flash_buffer;
-    eeprom_buffer = s.eeprom_buffer;
-    extended = s.extended;
-  }
+  settled_ready m p mode s = search rules
 
   pub ready_idle : (m : Memories) (p : Programmer) → Ready part m p → Idle part m p
   ready_idle m p s = settled_idle m p (ready_settled m p s)
 
   -- after a restart the memories are the same, and nothing is loaded
   pub anew_idle : (m : Memories) (p : Programmer) → Idle part m p → Idle part m (device.reset p)
-  anew_idle m p s = record {
-    memories = s.memories;
-    part_is = s.part_is;
-    flash_buffer = length-replicate (length p.chip.flash_buffer) 255 ∙ s.flash_buffer;
-    eeprom_buffer = length-replicate {A = Option ℕ} (length p.chip.eeprom_buffer) None ∙ s.eeprom_buffer;
-  }
+  anew_idle m p s = search (rules, length-replicate)
 
   pub anew_settled : (m : Memories) (p : Programmer) → Settled part m p → Settled part m (device.reset p)
   anew_settled m p s =
-      let idle = settled_idle m p s in
-      record {
-        memories = s.memories;
-        part_is = s.part_is;
-        flash_buffer = ap (λ n. replicate n 255) idle.flash_buffer;
-        eeprom_buffer = ap (λ n. replicate {A = Option ℕ} n None) idle.eeprom_buffer;
-        extended = λ narrow. refl;
-      }
+      search (rules, settled_idle)
 
   pub sign_on_keeps : (m : Memories) (p : Programmer) → Idle part m p → Idle part m (device.after (body SignOn) p)
   sign_on_keeps m p s = s
 
   -- ENTER puts the mode on, and empties the buffers
   pub enter_does : (m : Memories) (p : Programmer) → Idle part m p → Ready part m (device.after (body enter) p)
-  enter_does m p s = record {
-    memories = s.memories;
-    part_is = s.part_is;
-    mode = refl;
-    flash_buffer = ap (λ n. replicate n 255) s.flash_buffer;
-    eeprom_buffer = ap (λ n. replicate {A = Option ℕ} n None) s.eeprom_buffer;
-    extended = λ narrow. refl;
-  }
+  enter_does m p s = search rules
 
   pub leave_keeps : (m : Memories) (p : Programmer) → Idle part m p → Idle part m (device.after (body leave) p)
-  leave_keeps m p s = record {
-    memories = s.memories;
-    part_is = s.part_is;
-    flash_buffer = s.flash_buffer;
-    eeprom_buffer = s.eeprom_buffer;
-  }
+  leave_keeps m p s = search rules
 
   -- A programmer that is ready, and then has these memories, and all else unchanged.
   ready_with : (m n : Memories) (p q : Programmer) → Ready part m p → memories_of q.chip ≡ n
       → q.chip.part ≡ p.chip.part → q.mode ≡ p.mode → q.chip.flash_buffer ≡ p.chip.flash_buffer
       → q.chip.eeprom_buffer ≡ p.chip.eeprom_buffer → q.chip.extended ≡ p.chip.extended → Ready part n q
-  ready_with m n p q s memories part_is mode flash eeprom extended = record {
-    memories = memories;
-    part_is = part_is ∙ s.part_is;
-    mode = mode ∙ s.mode;
-    flash_buffer = flash ∙ s.flash_buffer;
-    eeprom_buffer = eeprom ∙ s.eeprom_buffer;
-    extended = λ narrow. extended ∙ s.extended narrow;
-  }
+  ready_with m n p q s memories part_is mode flash eeprom extended = search rules
 
   pub load_keeps : (address : ℕ) (m : Memories) (p : Programmer) → address < 2 ^ 32 → Ready part m p
       → Ready part m (device.after (body (LoadAddress address)) p)
-  load_keeps address m p fits s = subst (λ z. Ready part m z) (sym (ap (λ z. z.1) (obeys (LoadAddress address) p fits)))
-      (ready_with m m p _ s s.memories refl refl refl refl refl)
+  load_keeps address m p fits s = search (rules, obeys, ready_with)
 
   -- the fuses
   pub fuse_does : (f : Fuse) (v : ℕ) (m : Memories) (p : Programmer) → Ready part m p
       → Ready part (changed part (program_fuse f v ∷ []) m) (device.after (body (program_fuse f v)) p)
-  fuse_does Low v m p s = subst (Ready part (changed part (program_fuse Low v ∷ []) m)) (sym (in_mode_is p _ _ s.mode))
-      (ready_with m _ p _ s (ap (changed part (program_fuse Low v ∷ [])) s.memories) refl refl refl refl refl)
-  fuse_does f v m p s = subst (Ready part (changed part (program_fuse f v ∷ []) m)) (sym (in_mode_is p _ _ s.mode))
-      (ready_with m _ p _ s (ap (changed part (program_fuse f v ∷ [])) s.memories) refl refl refl refl refl)
+  fuse_does Low v m p s = search (rules, in_mode_is, ready_with)
+  fuse_does f v m p s = search (rules, in_mode_is, ready_with)
 
   pub lock_does : (v : ℕ) (m : Memories) (p : Programmer) → Ready part m p
       → Ready part (changed part (program_lock v ∷ []) m) (device.after (body (program_lock v)) p)
-  lock_does v m p s = subst (Ready part (changed part (program_lock v ∷ []) m)) (sym (in_mode_is p _ _ s.mode))
-      (ready_with m _ p _ s (ap (changed part (program_lock v ∷ [])) s.memories) refl refl refl refl refl)
+  lock_does v m p s = search (rules, in_mode_is, ready_with)
 
   -- the EESAVE bit is the part's
   pub erase_does : (m : Memories) (p : Programmer) → Ready part m p
       → Ready part (changed part (erase ∷ []) m) (device.after (body erase) p)
-  erase_does m p s = subst (Ready part (changed part (erase ∷ []) m)) (sym (in_mode_is p _ _ s.mode))
-      (ready_with m _ p _ s (ap (λ (q : Part). changed q (erase ∷ []) (memories_of p.chip)) s.part_is
-      ∙ ap (changed part (erase ∷ [])) s.memories) refl refl refl refl refl)
+  erase_does m p s = search (rules, in_mode_is, ready_with)
 
 -- reading a byte changes nothing
 pub fuse_read_after : (f : Fuse) (p : Programmer) → p.mode ≡ true → device.after (body (read_fuse f)) p ≡ p

@@ -1,5 +1,5 @@
 -- Answers to texts, piece by piece.
-use Rattle.std.proofs.Common.{◌≡◌, ℕ, ◌+◌, List, [], ◌∷◌, ◌++◌, ◌<◌, ◌≤◌, length, take, drop, refl, ap, sym, ◌∙◌, subst, append_assoc, arith, length-drop}
+use Rattle.std.proofs.Common.{◌≡◌, ℕ, ◌+◌, List, [], ◌∷◌, ◌++◌, ◌<◌, ◌≤◌, length, take, drop, refl, ap, sym, ◌∙◌, subst, append_assoc, arith, length-drop, rules}
 use Rattle.std.specs.Prelude.{filter}
 use Rattle.std.proofs.lemmas.List.{append-nil, take-append-drop}
 use Rattle.std.proofs.lemmas.List.Elements.{filter-append}
@@ -44,8 +44,7 @@ answer_ends _ held out p tells e some = tells.0
 pub frames_fed : (old used new : List ℕ) (fs : List (List ℕ)) (text : List ℕ) → Fed old used new fs
     → filter is_frame fs ≡ fs → MayHold old text → frames (text ++ used) ≡ frames text ++ fs
 frames_fed old used new fs text fed are stands =
-    rw (fed.pieces text stands, filter-append is_frame (cut text) (fed.skipped ++ fs))
-    (rw (filter-append is_frame fed.skipped fs, fed.no_frames, are) refl)
+    search (rules, filter-append)
 
 -- without an answer no frame ended
 pub none_found : (event : Event) (held : List ℕ) (p : Programmer) → answers device (frames_of_event event held) p ≡ []
@@ -55,13 +54,7 @@ none_found _ held p e = absurd (cc)
 
 -- no bytes bring no answers
 pub appends_none : (machine : Machine) (before : List ℕ) → AppendsAnswers machine [] machine before before
-appends_none machine before = record {
-  found = [];
-  ends = λ text stands. ap frames (append-nil text) ∙ sym (append-nil (frames text));
-  stands = λ text stands. subst (λ t. MayHold machine.held t) (sym (append-nil text)) stands;
-  appended = sym (append-nil before);
-  obeyed = refl;
-}
+appends_none machine before = search (rules, append-nil)
 
 -- the answers of one call, appended
 pub appends_one : (old new : Machine) (used out before after : List ℕ) → Answers old used new out
@@ -76,18 +69,7 @@ appends_one old new used out before after a is = record {
 
 pub appends_both : (old mid new : Machine) (x y a b c : List ℕ) → AppendsAnswers old x mid a b
     → AppendsAnswers mid y new b c → AppendsAnswers old (x ++ y) new a c
-appends_both old mid new x y a b c first then = record {
-  found = first.found ++ then.found;
-  ends = λ text stands.
-      rw (← append_assoc text x y, then.ends (text ++ x) (first.stands text stands), first.ends text stands)
-      (append_assoc (frames text) first.found then.found);
-  stands = λ text stands. subst (λ t. MayHold new.held t) (append_assoc text x y)
-      (then.stands (text ++ x) (first.stands text stands));
-  appended =
-      rw (then.appended, first.appended, first.obeyed, answers_more device first.found then.found old.programmer)
-      (append_assoc a (answers device first.found old.programmer) _);
-  obeyed = rw (then.obeyed, first.obeyed, after_more device first.found then.found old.programmer) refl;
-}
+appends_both old mid new x y a b c first then = search (rules, append_assoc, answers_more, after_more)
 
 -- after the first `n` bytes, `used` more
 pub appends_on : (bytes : List ℕ) (n used : ℕ) (old mid new : Machine) (a b c : List ℕ)
@@ -110,19 +92,14 @@ appends_prefix bytes n old new a b appends some = record {
 -- it stays an emulator that was fed a text
 pub appends_fed : (old new : Machine) (bytes a b : List ℕ) (p : Programmer) (text : List ℕ)
     → AppendsAnswers old bytes new a b → IsFed p text old → IsFed p (text ++ bytes) new
-appends_fed old new bytes a b p text appends f = record {
-  stands = appends.stands text f.stands;
-  obeyed = rw (appends.obeyed, f.obeyed, appends.ends text f.stands, after_more device (frames text) appends.found p)
-      refl;
-}
+appends_fed old new bytes a b p text appends f = search (rules, after_more)
 
 -- and a list of all answers stays one
 pub appends_all : (old new : Machine) (bytes a b : List ℕ) (p : Programmer) (text given : List ℕ)
     → AppendsAnswers old bytes new a b → IsFed p text old → given ++ a ≡ emulate p text
     → given ++ b ≡ emulate p (text ++ bytes)
 appends_all old new bytes a b p text given appends f all =
-    rw (appends.appended, ← append_assoc given a (answers device appends.found old.programmer), all, f.obeyed)
-    (rw (appends.ends text f.stands, answers_more device (frames text) appends.found p) refl)
+    search (rules, append_assoc, answers_more)
 
 -- the same of one call
 pub is_fed : (old new : Machine) (used out : List ℕ) (p : Programmer) (text : List ℕ) → Answers old used new out

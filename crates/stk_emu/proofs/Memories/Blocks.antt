@@ -1,5 +1,5 @@
 -- Blocks, byte by byte.
-use Rattle.std.proofs.Common.{true, if◌then◌else◌, ◌≡◌, ℕ, suc, ◌+◌, ◌<◌, Bool, List, [], ◌∷◌, ◌++◌, length, get_or, drop, refl, ap, ap₂, sym, ◌∙◌, add-one, drop-cons, append_assoc}
+use Rattle.std.proofs.Common.{true, if◌then◌else◌, ◌≡◌, ℕ, suc, ◌+◌, ◌<◌, Bool, List, [], ◌∷◌, ◌++◌, length, get_or, drop, refl, ap, ap₂, sym, ◌∙◌, add-one, drop-cons, append_assoc, rules}
 use Rattle.std.proofs.lemmas.Bool.{cond-true}
 use Rattle.avr_part.specs.State.{ChipState, spi_of}
 use Rattle.stk_emu.specs.Programmer.{Programmer, in_mode, fail, with_address_moved, with_instructions, sent_to, flash_loads, flash_looks, eeprom_looks, extension, look, at_address, for_half, word_at, byte_address}
@@ -16,13 +16,7 @@ module _ (wide : Bool) (cmd address i : ℕ) where
       (sent_to (extension wide (word_at address i)) chip)
       → sent_to (flash_loads wide cmd address (i + 1) (drop (i + 1) bytes)) after ≡ whole
   flash_load bytes out chip after whole h so_far spi =
-      let x = at_address (for_half cmd i) (word_at address i) (get_or bytes i 0) in
-      let left = flash_loads wide cmd address (suc i) (drop (suc i) bytes) in
-      let was : sent_to (extension wide (word_at address i) ++ (x ∷ left)) chip ≡ whole =
-      rw (drop-cons bytes i 0 h) at so_far in
-      rw add-one (
-      ap (λ s. sent_to left s) (ap (λ p. p.1) spi)
-      ∙ (sym (sent-append (extension wide (word_at address i)) (x ∷ left) chip) ∙ was))
+      search (rules, drop-cons, add-one, sent-append)
 
   -- the instruction as the code makes and sends it
   pub flash_sent : (word half byte : ℕ) (x : List ℕ) (chip extended : ChipState) → word ≡ word_at address i
@@ -30,9 +24,7 @@ module _ (wide : Bool) (cmd address i : ℕ) where
       → spi_of x extended ≡ spi_of (at_address (for_half cmd i) (word_at address i) byte)
       (sent_to (extension wide (word_at address i)) chip)
   flash_sent word half byte x chip extended w h is ext =
-      ap₂ (λ y s. spi_of y s)
-      (is ∙ (ap (λ k. at_address k word byte) h ∙ ap (λ a. at_address (for_half cmd i) a byte) w))
-      (ext ∙ ap (λ a. sent_to (extension wide a) chip) w)
+      search rules
 
 pub record LooksOn (before : List ℕ) (whole : List ℕ × ChipState) (out : List ℕ) (more : List ℕ × ChipState) : Type
     0 where
@@ -50,9 +42,7 @@ looked_on : (before : List ℕ) (whole : List ℕ × ChipState) (x : List ℕ) (
     → PutsLook x chip after out new
     → LooksOn before whole new (more after)
 looked_on before whole x chip after out new more on p =
-    let out_is : p.answer ≡ (spi_of x chip).0 = ap (λ q. q.0) p.obeyed in
-    let after_is : after ≡ (spi_of x chip).1 = ap (λ q. q.1) p.obeyed in
-    rw (p.put, out_is, after_is) (record { bytes = append_assoc out _ _ ∙ on.bytes; chip = on.chip })
+    search (rules, append_assoc)
 
 module _ (before : List ℕ) (whole : List ℕ × ChipState) (cmd address i : ℕ) where
   -- the byte i is read
@@ -82,10 +72,4 @@ pub block_done : (code moved : ℕ) (fits : Bool) (p new : Programmer) (loads wr
     → (out, new) ≡ in_mode code p
     (if fits then (code ∷ 0 ∷ [], with_address_moved moved (with_instructions (loads ++ writes) p)) else fail code p)
 block_done code moved fits p new loads writes loaded written out mode fit load write is answer =
-    let chip_is : written ≡ sent_to (loads ++ writes) p.chip =
-    write ∙ (ap (λ s. sent_to writes s) load ∙ sym (sent-append loads writes p.chip)) in
-    let new_is : new ≡ with_address_moved moved (with_instructions (loads ++ writes) p) =
-    is ∙ ap (λ s. with_address_moved moved (record p { chip = s })) chip_is in
-    let pair_is : (out, new) ≡ (code ∷ 0 ∷ [], with_address_moved moved (with_instructions (loads ++ writes) p)) =
-    rw (answer, new_is) refl in
-    pair_is ∙ sym (cond-true p.mode _ _ mode ∙ cond-true fits _ _ fit)
+    search (rules, sent-append, cond-true)

@@ -1,5 +1,5 @@
 -- Blocks of flash at once are blocks instruction by instruction.
-use Rattle.std.proofs.Common.{◌≡◌, ℕ, zero, suc, ◌+◌, ◌-◌, ◌*◌, ◌/◌, ◌%◌, ◌≤◌, ◌<◌, List, [], ◌∷◌, length, get_or, refl, sym, ap, ap₂, ◌∙◌, arith, Bool, true, false, cond, Some, None}
+use Rattle.std.proofs.Common.{◌≡◌, ℕ, zero, suc, ◌+◌, ◌-◌, ◌*◌, ◌/◌, ◌%◌, ◌≤◌, ◌<◌, List, [], ◌∷◌, length, get_or, refl, sym, ap, ap₂, ◌∙◌, arith, Bool, true, false, cond, Some, None, rules}
 use Rattle.std.specs.Prelude.{nat_le}
 use Rattle.std.proofs.lemmas.Bool.{leb-true, false≢true, and_parts}
 use Rattle.avr_part.specs.State as chip
@@ -41,19 +41,15 @@ one_load wide a i d ds s =
     let s₁ : chip.ChipState = record s { extended = x } in
     let place : low (word_at a i) % (s.part.flash_page / 2) * 2 + i % 2
     ≡ (a % 256 + i / 2) % 256 % (s.part.flash_page / 2) * 2 + half_offset (half_at i) =
-    ap₂ (λ w o. w % (s.part.flash_page / 2) * 2 + o)
-    (let e : (a + i / 2) % 2147483648 % 256 ≡ (a % 256 + i / 2) % 256 = omega arith in e) (sym (offset_at i)) in
-    sent-append (extension wide (word_at a i)) _ s ∙ rw (extended_is wide (word_at a i) s)
-    (rw (load_byte i (high (word_at a i)) (low (word_at a i)) d s₁, place) refl)
+    search (rules, offset_at) in
+    search (rules, sent-append, extended_is, load_byte)
 
 all_loads : (wide : Bool) (a i d : ℕ) (ds : List ℕ) (s : chip.ChipState)
     → sent_to (flash_loads wide 0x40 a i (d ∷ ds)) s
     ≡ record (loaded_in_turn (a % 256) i (d ∷ ds) s)
     { extended = cond wide (word_at a (i + length ds) / 65536 % 256) s.extended }
 all_loads wide a i d [] s =
-    one_load wide a i d [] s
-    ∙ ap (λ k. record (chip.after_instruction (LoadFlash (half_at i) ((a % 256 + i / 2) % 256) d) s)
-    { extended = cond wide (word_at a k / 65536 % 256) s.extended }) (let e : i ≡ i + 0 = omega arith in e)
+    search (rules, one_load)
 all_loads wide a i d (b ∷ bs) s =
     let x = cond wide (word_at a i / 65536 % 256) s.extended in
     let s₁ : chip.ChipState = chip.after_instruction (LoadFlash (half_at i) ((a % 256 + i / 2) % 256) d) s in
@@ -63,9 +59,7 @@ all_loads wide a i d (b ∷ bs) s =
     ∙ (all_loads wide a (suc i) b bs s₂
     ∙ (loads_apart (a % 256) (suc i) x y (b ∷ bs) s₁
     ∙ ap (λ e. record (loaded_in_turn (a % 256) (suc i) (b ∷ bs) s₁) { extended = e })
-    (cond_twice wide (word_at a (suc i + length bs) / 65536 % 256) (word_at a i / 65536 % 256) s.extended
-    ∙ ap (λ k. cond wide (word_at a k / 65536 % 256) s.extended)
-    (let e : suc i + length bs ≡ i + suc (length bs) = omega arith in e))))
+    (search (rules, cond_twice))))
 
 -- a chip that loaded a block
 load_answer : (test : Bool) (whole s : chip.ChipState) (answer : Bool × chip.ChipState)
@@ -81,14 +75,7 @@ pub block_is_loads : (wide : Bool) (cmd a last : ℕ) (bytes : List ℕ) (s load
     → new ≡ sent_to (flash_loads wide cmd a 0 bytes) s
 block_is_loads wide cmd a last [] s loaded new done c some l answer is ext = absurd (omega arith)
 block_is_loads wide cmd a last (d ∷ ds) s loaded new done c some l answer is ext =
-    let bytes = d ∷ ds in
-    let loaded_is : loaded ≡ loaded_in_turn (a % 256) 0 bytes s =
-    load_answer (is_in_page (a % 256) (length bytes) s) (loaded_in_turn (a % 256) 0 bytes s) s (done, loaded) answer
-    is in
-    let place : last ≡ word_at a (0 + length ds) =
-    l ∙ ap (word_at a) (let e : length bytes - 1 ≡ 0 + length ds = omega arith in e) in
-    rw (ext, extended_is wide last loaded, loaded_is, place, keeps_extended (a % 256) 0 bytes s)
-    (sym (all_loads wide a 0 d ds s) ∙ ap (λ k. sent_to (flash_loads wide k a 0 bytes) s) (sym c))
+    search (rules, load_answer, extended_is, keeps_extended, all_loads)
 
 -- if the extended address is right already, reading changes nothing
 all_looks : (wide : Bool) (a i n : ℕ) (s : chip.ChipState) → cond wide (a / 65536 % 256) s.extended ≡ s.extended
@@ -99,17 +86,8 @@ all_looks wide a i (suc n) s right few inside =
     let w = word_at a i in
     let whole : w ≡ a + i / 2 = let e : (a + i / 2) % 2147483648 ≡ a + i / 2 = omega arith in e in
     let page : w / 65536 % 256 ≡ a / 65536 % 256 = omega arith in
-    let inner : high w * 256 + low w ≡ a % 65536 + i / 2 = let e : w / 256 % 256 * 256 + w % 256 ≡ a % 65536 + i / 2 =
-    omega arith in e in
-    let same : sent_to (extension wide w) s ≡ s =
-    extended_is wide w s ∙ ap (λ e. record s { extended = e }) (ap (λ k. cond wide k s.extended) page ∙ right) in
-    let byte = get_or s.flash ((s.extended * 65536 + (a % 65536 + i / 2)) % (s.part.flash_size / 2) * 2 + half_offset
-    (half_at i)) 0 in
-    let spi : chip.spi_of (at_address (for_half 0x20 i) w 0) (sent_to (extension wide w) s)
-    ≡ (0 ∷ for_half 0x20 i ∷ high w ∷ byte ∷ [], s) =
-    rw (same, look_byte i (high w) (low w) s, inner, offset_at i) refl in
-    look_by (at_address (for_half 0x20 i) w 0) (sent_to (extension wide w) s) (flash_looks wide 0x20 a (suc i) n) spi
-    ∙ rw (all_looks wide a (suc i) n s right few (omega arith)) refl
+    let inner : high w * 256 + low w ≡ a % 65536 + i / 2 = search rules in
+    search (rules, extended_is, look_byte, offset_at, look_by, all_looks wide a (suc i) n s right few (omega arith))
 
 -- an extended address that is sent twice
 extended_twice : (wide : Bool) (a b : ℕ) (s : chip.ChipState) → a / 65536 % 256 ≡ b / 65536 % 256
@@ -122,12 +100,7 @@ looks_again : (wide : Bool) (cmd a n : ℕ) (s new : chip.ChipState) → a < 214
     → flash_looks wide cmd a 0 n new ≡ flash_looks wide cmd a 0 n s
 looks_again wide cmd a zero s new few some ext = absurd (omega arith)
 looks_again wide cmd a (suc n) s new few some ext =
-    let w = word_at a 0 in
-    let page : a / 65536 % 256 ≡ w / 65536 % 256 = let e : (a + 0 / 2) % 2147483648 ≡ a = omega arith in
-    ap (λ k. k / 65536 % 256) (sym e) in
-    let same : sent_to (extension wide w) new ≡ sent_to (extension wide w) s =
-    ap (sent_to (extension wide w)) ext ∙ extended_twice wide a w s page in
-    rw same refl
+    search (rules, extended_twice)
 
 in_flash : (test : Bool) (bytes whole : List ℕ) → Some bytes ≡ cond test (Some whole) None
     → (test ≡ true) × (bytes ≡ whole)
@@ -140,17 +113,14 @@ pub block_is_looks : (wide : Bool) (cmd a word n : ℕ) (bytes : List ℕ) (s ne
     → flash_looks wide cmd a 0 n s ≡ (bytes, new)
 block_is_looks wide cmd a word n bytes s new c few some w ext given =
     let got = in_flash (is_in_flash word n new) bytes (read_in_turn word 0 n new) given in
-    let fits : word * 2 + n ≤ 131072 = leb-true (word * 2 + n) 131072
-    (and_parts (nat_le (word * 2 + n) 131072) _ got.0).0 in
+    let fits : word * 2 + n ≤ 131072 = search (rules, leb-true, and_parts) in
     let extended : new.extended ≡ cond wide (a / 65536 % 256) s.extended =
     ap (λ (t : chip.ChipState). t.extended) (ext ∙ extended_is wide a s) in
     let right : cond wide (a / 65536 % 256) new.extended ≡ new.extended =
-    ap (cond wide (a / 65536 % 256)) extended
-    ∙ (cond_twice wide (a / 65536 % 256) (a / 65536 % 256) s.extended ∙ sym extended) in
+    search (rules, cond_twice) in
     ap (λ k. flash_looks wide k a 0 n s) c
     ∙ (sym (looks_again wide 0x20 a n s new few some ext)
-    ∙ (all_looks wide a 0 n new right few (omega arith)
-    ∙ ap (λ bs. (bs, new)) (ap (λ k. read_in_turn k 0 n new) (sym w) ∙ sym got.1)))
+    ∙ (search (rules, all_looks)))
 
 reads_length : (word i n : ℕ) (s : chip.ChipState) → length (read_in_turn word i n s) ≡ n
 reads_length word i zero s = refl
@@ -159,5 +129,4 @@ reads_length word i (suc n) s = ap suc (reads_length word (suc i) n s)
 pub block_length : (word n : ℕ) (bytes : List ℕ) (s : chip.ChipState) → Some bytes ≡ flash_block word n s
     → length bytes ≡ n
 block_length word n bytes s given =
-    let got = in_flash (is_in_flash word n s) bytes (read_in_turn word 0 n s) given in
-    ap length got.1 ∙ reads_length word 0 n s
+    search (rules, in_flash, reads_length)

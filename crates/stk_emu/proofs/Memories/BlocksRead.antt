@@ -1,5 +1,5 @@
 -- Blocks that are read: the bytes, and the chip after them.
-use Rattle.std.proofs.Common.{◌≡◌, ℕ, zero, suc, ◌+◌, ◌*◌, ◌/◌, ◌%◌, ◌≤◌, ◌<◌, List, [], ◌∷◌, length, get_or, take, drop, refl, sym, ap, ◌∙◌, arith, Bool, false, cond, drop-cons}
+use Rattle.std.proofs.Common.{◌≡◌, ℕ, zero, suc, ◌+◌, ◌*◌, ◌/◌, ◌%◌, ◌≤◌, ◌<◌, List, [], ◌∷◌, length, get_or, take, drop, refl, sym, ap, ◌∙◌, arith, Bool, false, cond, drop-cons, rules}
 use Rattle.std.proofs.Math.Nat.{mod-eq_of_lt}
 use Rattle.std.proofs.lemmas.Bool.{cond-false}
 use Rattle.std.specs.Prelude.{slice_index}
@@ -25,11 +25,7 @@ pub look_byte : (i h lo : ℕ) (s : chip.ChipState) → chip.spi_of (for_half 0x
       s,
     )
 look_byte i h lo s =
-    by_half 0x20 i (λ c half. chip.spi_of (c ∷ h ∷ lo ∷ 0 ∷ []) s
-    ≡ (
-      0 ∷ c ∷ h ∷ get_or s.flash ((s.extended * 65536 + (h * 256 + lo)) % (s.part.flash_size / 2) * 2 + half) 0 ∷ [],
-      s,
-    )) refl refl
+    search (rules, by_half)
 
 -- the bytes of a block, and the chip with some extended address
 pub record Looked (wide : Bool) (j n : ℕ) (s : chip.ChipState) (looked : List ℕ × chip.ChipState) : Type 0 where
@@ -66,8 +62,7 @@ flash_looked wide a i (suc n) size s is long most even fits narrow =
     (λ e. (cond-false wide (word_at a i / 65536 % 256) s.extended e ∙ (narrow e).0, (narrow e).1)) in
     let looks : flash_looks wide 0x20 a i (suc n) s
     ≡ (byte ∷ (flash_looks wide 0x20 a (suc i) n s₁).0, (flash_looks wide 0x20 a (suc i) n s₁).1) =
-    look_by (at_address (for_half 0x20 i) (word_at a i) 0) (sent_to (extension wide (word_at a i)) s)
-    (flash_looks wide 0x20 a (suc i) n) spi in
+    search (rules, look_by) in
     record {
       bytes = ap (λ z. z.0) looks ∙ (ap (λ bs. byte ∷ bs)
           (more.bytes ∙ ap (λ j. take n (drop j s.flash)) (let e : a * 2 + suc i ≡ suc (a * 2 + i) = omega arith in e))
@@ -80,9 +75,7 @@ flash_looked wide a i (suc n) size s is long most even fits narrow =
 eeprom_place : (a i size : ℕ) (s : chip.ChipState) → s.part.eeprom_size ≡ size → a + i < size → size ≤ 4096
     → (high (byte_address a i) * 256 + low (byte_address a i)) % s.part.eeprom_size ≡ a + i
 eeprom_place a i size s is inside most =
-    let few : (a + i) % 2147483648 ≡ a + i = mod-eq_of_lt (omega arith) in
-    let joined : (a + i) / 256 % 256 * 256 + (a + i) % 256 ≡ a + i = omega arith in
-    rw (few, joined, is) (mod-eq_of_lt inside)
+    search (rules, mod-eq_of_lt)
 
 pub eeprom_looked : (a i n size : ℕ) (s : chip.ChipState) → s.part.eeprom_size ≡ size → length s.eeprom ≡ size
     → size ≤ 4096 → a + i + n ≤ size → eeprom_looks 0xA0 a i n s ≡ (take n (drop (a + i) s.eeprom), s)
@@ -113,11 +106,7 @@ flash_left wide a i (suc n) s =
     (sent_to (extension wide (word_at a i)) s)).1 ≡ s₁ =
     rw (extended_is wide (word_at a i) s) (ap (λ z. z.1) (look_byte i (high (word_at a i)) (low (word_at a i)) s₁)) in
     let more : Left wide s₁ (flash_looks wide 0x20 a (suc i) n s₁).1 = flash_left wide a (suc i) n s₁ in
-    record {
-      value = more.value;
-      kept = λ e. more.kept e ∙ cond-false wide (word_at a i / 65536 % 256) s.extended e;
-      is = ap (λ t. (flash_looks wide 0x20 a (suc i) n t).1) after ∙ more.is;
-    }
+    search (rules, cond-false)
 
 pub eeprom_left : (a i n : ℕ) (s : chip.ChipState) → (eeprom_looks 0xA0 a i n s).1 ≡ s
 eeprom_left a i zero s = refl

@@ -1,5 +1,5 @@
 -- Images laid over memories, and buffers that are loaded byte by byte.
-use Rattle.std.proofs.Common.{◌≡◌, ℕ, zero, suc, ◌+◌, ◌-◌, ◌≤◌, ◌<◌, List, [], ◌∷◌, ◌++◌, length, get_or, set, map, refl, sym, ap, ap₂, ◌∙◌, append_assoc, arith, replicate, Option, Some, None, unwrap_or, bit_and, length-append}
+use Rattle.std.proofs.Common.{◌≡◌, ℕ, zero, suc, ◌+◌, ◌-◌, ◌≤◌, ◌<◌, List, [], ◌∷◌, ◌++◌, length, get_or, set, map, refl, sym, ap, ap₂, ◌∙◌, append_assoc, arith, replicate, Option, Some, None, unwrap_or, bit_and, length-append, rules}
 use Rattle.std.proofs.lemmas.List.{length-replicate, length-map, length-set, get_or-replicate, get_or_append_left, get_or-append_right, get_or_past, set_at, replicate-append-replicate}
 use Rattle.std.proofs.lemmas.Nat.{and_assoc}
 use Rattle.std.specs.Int.Bits.{and_self}
@@ -65,9 +65,7 @@ laid_nothing (b ∷ image) k (x ∷ xs) = ap (λ ys. unwrap_or b x ∷ ys) (laid
 -- the bytes loaded for a page, laid over a memory
 pub before_part : (start : ℕ) (loads : Image) (i : ℕ) → i < start → get_or (replicate start None ++ loads) i None ≡ None
 before_part start loads i l =
-    get_or_append_left (replicate start None) loads None i
-    (let n = length-replicate {A = Option ℕ} start None in omega arith)
-    ∙ get_or-replicate start i None None l
+    search (rules, get_or_append_left, length-replicate, get_or-replicate)
 
 pub in_part : (start : ℕ) (loads : Image) (i : ℕ) → start ≤ i
     → get_or (replicate start None ++ loads) i None ≡ get_or loads (i - start) None
@@ -79,11 +77,7 @@ pub overlaid_laid : (start : ℕ) (loads : Image) (xs : List ℕ)
 overlaid_laid start loads xs =
     sym (changed_is (overlaid start loads) xs (with_image (replicate start None ++ loads) xs)
     (length-laid (replicate start None ++ loads) xs)
-    (λ i l. overlaid_is start loads i (get_or xs i 0) _
-    (λ before. rw (get_laid (replicate start None ++ loads) xs i l, before_part start loads i before) refl)
-    (λ from to. rw (get_laid (replicate start None ++ loads) xs i l, in_part start loads i from) refl)
-    (λ after. rw (get_laid (replicate start None ++ loads) xs i l, in_part start loads i (omega arith))
-    (rw (get_or_past loads (i - start) None (omega arith)) refl))))
+    (λ i l. search (rules, overlaid_is, get_laid, before_part, in_part, get_or_past)))
 
 pub some_at : (page : List ℕ) (j : ℕ) → j < length page → get_or (map Some page) j None ≡ Some (get_or page j 0)
 some_at [] j l = absurd (omega arith)
@@ -95,12 +89,7 @@ pub anded_in : (start : ℕ) (page xs : List ℕ)
 anded_in start page xs =
     sym (changed_is (byte_and_page start page) xs (and_in (image_at start page) xs)
     (length-and_in (image_at start page) xs)
-    (λ i l. anded_is start page i (get_or xs i 0) _
-    (λ before. rw (get_and_in (image_at start page) xs i l, before_part start (map Some page) i before) refl)
-    (λ from to. rw (get_and_in (image_at start page) xs i l, in_part start (map Some page) i from)
-    (rw (some_at page (i - start) (omega arith)) refl))
-    (λ after. rw (get_and_in (image_at start page) xs i l, in_part start (map Some page) i (omega arith))
-    (rw (get_or_past (map Some page) (i - start) None (rw length-map (omega arith))) refl))))
+    (λ i l. search (rules, anded_is, get_and_in, before_part, in_part, some_at, get_or_past, length-map)))
 
 -- a buffer into which bytes are loaded from one place on
 abbrev pub put : {A : Type 0} → (ℕ → A) → ℕ → List ℕ → List A → List A
@@ -116,11 +105,8 @@ pub put_is : {A : Type 0} (f : ℕ → A) (e : A) (ds : List ℕ) (prefix : List
 put_is f e [] prefix place k at = ap (λ n. prefix ++ replicate n e) (omega arith)
 put_is f e (d ∷ ds) prefix place k at =
     let count : suc (length ds) + k ≡ suc (length ds + k) = omega arith in
-    ap (λ n. put f (suc place) ds (set (prefix ++ replicate n e) place (f d))) count
-    ∙ (ap (put f (suc place) ds) (set_at prefix e (replicate (length ds + k) e) (f d) place at
-    ∙ sym (append_assoc prefix (f d ∷ []) (replicate (length ds + k) e)))
-    ∙ (put_is f e ds (prefix ++ f d ∷ []) (suc place) k (at_end prefix (f d) place at)
-    ∙ append_assoc prefix (f d ∷ []) (map f ds ++ replicate k e)))
+    search (rules, set_at, append_assoc, at_end, put_is f e ds (prefix ++ f d ∷ []) (suc place) k (at_end prefix (f d)
+        place at) ∙ append_assoc prefix (f d ∷ []) (map f ds ++ replicate k e))
 
 -- the bytes loaded for a run within a page, laid over a memory
 pub run_laid : (start off : ℕ) (run : List ℕ) (page : ℕ) (xs : List ℕ) → off + length run ≤ page
@@ -130,8 +116,7 @@ run_laid start off run page xs fits =
     let split : page ≡ off + (length run + (page - (off + length run))) = omega arith in
     let buffer : put Some off run (replicate page None)
     ≡ replicate off None ++ (map Some run ++ replicate (page - (off + length run)) None) =
-    ap (put Some off run) (ap (λ n. replicate {A = Option ℕ} n None) split
-    ∙ sym (replicate-append-replicate {A = Option ℕ} off (length run + (page - (off + length run))) None))
+    ap (put Some off run) (search (rules, replicate-append-replicate))
     ∙ put_is Some None run (replicate off None) off (page - (off + length run))
     (length-replicate {A = Option ℕ} off None) in
     ap (λ b. map_indexed (overlaid start b) xs) buffer

@@ -1,5 +1,5 @@
 -- What a frame brings over the wire, as it is read.
-use Rattle.std.proofs.Common.{◌≡◌, ℕ, suc, ◌*◌, ◌≤◌, ◌<◌, ◌≢◌, List, [], ◌∷◌, ◌++◌, length, refl, sym, ap, ◌∙◌, subst, append_assoc, arith, true, false, inl, inr, Some, None, length-append}
+use Rattle.std.proofs.Common.{◌≡◌, ℕ, suc, ◌*◌, ◌≤◌, ◌<◌, ◌≢◌, List, [], ◌∷◌, ◌++◌, length, refl, sym, ap, ◌∙◌, subst, append_assoc, arith, true, false, inl, inr, Some, None, length-append, rules}
 use Rattle.std.proofs.lemmas.Bool.{cases_Bool, ne_eqb, eq-eqb, and_from, and_right, cond-true, cond-false}
 use Rattle.std.specs.Prelude.{filter, ◌==◌}
 use Rattle.stk_frame.specs.declared.protocol.TheConstants.{LARGEST_FRAME}
@@ -45,10 +45,7 @@ pub none_skipped : (n : ℕ) → Skipped n []
 none_skipped n = record { first = λ more. further_zero (first_answer n (cut more)) }
 
 pub frame_skipped : (n seq : ℕ) (bytes : List ℕ) → seq ≢ n → IsBody bytes → Skipped n (frame seq bytes)
-frame_skipped n seq bytes other carried = record {
-  first = λ more. ap (first_answer n) (frame_cut seq bytes more carried)
-      ∙ cond-false (is_answer n (frame seq bytes)) _ _ (other_frame n seq bytes other);
-}
+frame_skipped n seq bytes other carried = search (rules, frame_cut, cond-false, other_frame)
 
 pub both_skipped : (n : ℕ) (x y : List ℕ) → Skipped n x → Skipped n y → Skipped n (x ++ y)
 both_skipped n x y f g = record {
@@ -75,18 +72,14 @@ clear_skipped n late c =
 
 clear_length : (n : ℕ) (late : Late) → IsClear n late → length (waiting late) ≤ 3 * LARGEST_FRAME
 clear_length n late c =
-    let x = late_length 3 n late.first c.first in
-    let y = late_length 2 n late.second c.second in
-    let z = late_length 1 n late.third c.third in
-    rw (length-append late.first (late.second ++ late.third), length-append late.second late.third) (omega arith)
+    search (rules, late_length, length-append)
 
 -- the answer itself
 pub found_frame : (n : ℕ) (bytes : List ℕ) → IsBody bytes
     → first_answer n (cut (frame n bytes)) ≡ Some (bytes, length (frame n bytes))
 found_frame n bytes b =
     ap (first_answer n) (cut_whole (frame n bytes) (frame_is_piece n bytes b.some b.few))
-    ∙ (cond-true (is_answer n (frame n bytes)) _ _ (own_frame n bytes b)
-    ∙ ap (λ x. Some (x, length (frame n bytes))) (body_of_frame n bytes))
+    ∙ (search (rules, cond-true, own_frame, body_of_frame))
 
 reads_frame : (n : ℕ) (prefix bytes : List ℕ) (more : Tape) → Skipped n prefix → length prefix ≤ 3 * LARGEST_FRAME
     → IsBody bytes
@@ -95,8 +88,7 @@ reads_frame n prefix bytes more skipped short b =
     let found : first_answer n (cut (prefix ++ frame n bytes)) ≡ Some (bytes, length (prefix ++ frame n bytes)) =
     rw (skipped.first (frame n bytes), found_frame n bytes b, length-append prefix (frame n bytes)) refl in
     let few : length (prefix ++ frame n bytes) ≤ limit =
-    let f = b.few in
-    rw (length-append prefix (frame n bytes), length_frame n bytes) (omega arith) in
+    search (rules, length-append, length_frame) in
     ap (λ t. answer n (t ++ more)) (sym (on_tape_append prefix (frame n bytes)))
     ∙ answer_found n (prefix ++ frame n bytes) more bytes found few
 
@@ -107,8 +99,7 @@ reads_silence n prefix noise more skipped short lawful =
     let none : first_answer n (cut (prefix ++ noise)) ≡ None =
     skipped.first noise ∙ ap (further (length prefix)) (none_good n (cut noise) lawful.no_frame) in
     let few : length (prefix ++ noise) < limit =
-    let f = lawful.few in
-    rw (length-append prefix noise) (omega arith) in
+    search (rules, length-append) in
     rw (append_assoc (on_tape prefix) (on_tape noise ++ Silence ∷ []) more)
     (rw (append_assoc (on_tape noise) (Silence ∷ []) more)
     (rw (← append_assoc (on_tape prefix) (on_tape noise) (Silence ∷ more), ← on_tape_append prefix noise)
@@ -165,17 +156,12 @@ none_clear n = record { first = inl refl; second = inl refl; third = inl refl }
 -- for the next frame an answer is one more back
 more_past : (k n : ℕ) (late : List ℕ) → IsPast k n late → IsPast (suc k) (next n) late
 more_past k n late (inl e) = inl e
-more_past k n late (inr l) = inr (record
-    { seq = l.seq; before = ap next l.before; bytes = l.bytes; carried = l.carried; is = l.is })
+more_past k n late (inr l) = search rules
 
 -- one more waits after them
 behind_clear : (n : ℕ) (late : Late) (bytes : List ℕ) → IsBody bytes → IsClear n late
     → IsClear (next n) (behind_late late (frame n bytes))
-behind_clear n late bytes b c = record {
-  first = more_past 2 n late.second c.second;
-  second = more_past 1 n late.third c.third;
-  third = inr (record { seq = n; before = refl; bytes = bytes; carried = b; is = refl });
-}
+behind_clear n late bytes b c = search (rules, more_past)
 
 -- what comes late has the sequence of its frame
 late_is : (n : ℕ) (fate : Fate) (bytes : List ℕ) (late : Late) → IsBody bytes → IsClear n late
@@ -187,6 +173,4 @@ late_is n _ bytes late b c = none_clear (next n)
 pub arrival_late : {P : Type 0} (m : Device P) (n : ℕ) (bytes : List ℕ) (w : Wire P) → IsBody bytes
     → IsBody (m.answer bytes w.programmer) → IsClear n w.late → IsClear (next n) (wire_behind m (frame n bytes) w).late
 arrival_late m n bytes w b a clear =
-    subst (λ x. IsClear (next n) (late_of (first_fate w.fates) (frame n x) w.late))
-    (sym (answered_body m n bytes w.programmer b))
-    (late_is n (first_fate w.fates) (m.answer bytes w.programmer) w.late a clear)
+    search (rules, answered_body, late_is)

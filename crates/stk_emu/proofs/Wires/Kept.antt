@@ -1,5 +1,5 @@
 -- What a wire keeps, as frames pass and items are received.
-use Rattle.std.proofs.Common.{◌≡◌, ℕ, List, [], ◌∷◌, ◌++◌, length, drop, refl, ap, sym, ◌∙◌, subst, append_assoc}
+use Rattle.std.proofs.Common.{◌≡◌, ℕ, List, [], ◌∷◌, ◌++◌, length, drop, refl, ap, sym, ◌∙◌, subst, append_assoc, rules}
 use Rattle.std.proofs.lemmas.List.{append-nil, take-append-drop}
 use Rattle.stk_frame.specs.Cut.{frames}
 use Rattle.stk_frame.specs.Reader.{MayHold}
@@ -35,25 +35,14 @@ pub keeps_passing : (old new : WiredState) (used : List ℕ) (p : Programmer) (f
     → PassesBytes old new used → FollowsFates p fates old → FollowsFates p fates new
 keeps_passing old new used p fates passes keeps =
     let sent_is : sent new.transcript ≡ sent old.transcript ++ used =
-    ap sent passes.transcript ∙ (sent_append old.transcript (Sent used ∷ [])
-    ∙ ap (λ bs. sent old.transcript ++ bs) (append-nil used)) in
+    search (rules, sent_append, append-nil) in
     let heard_is : heard new.transcript ≡ heard old.transcript =
     ap heard passes.transcript ∙ (heard_append old.transcript (Sent used ∷ []) ∙ append-nil (heard old.transcript)) in
     let frames_are : frames (sent new.transcript) ≡ frames (sent old.transcript) ++ passes.found =
     ap frames sent_is ∙ frames_fed old.held used new.held passes.found
     (sent old.transcript) passes.fed passes.are_frames
     keeps.held in
-    record {
-      held = subst (MayHold new.held) (sym sent_is) (passes.fed.stands (sent old.transcript) keeps.held);
-      stands = rw (passes.wire, keeps.stands, frames_are)
-          (rw (wire_more device (frames (sent old.transcript)) passes.found (fresh_wire p fates)) refl);
-      brings = λ never.
-          let brought_before = keeps.brings (never_before p fates old.transcript (Sent used ∷ [])
-          (subst (NeverIdle p fates) passes.transcript never)) in
-          rw (frames_are, tape_more device (frames (sent old.transcript)) passes.found (fresh_wire p fates))
-          (rw (brought_before, ← keeps.stands, heard_is, passes.waits)
-          (append_assoc (heard old.transcript) old.waits (tape_of device passes.found old.wire)));
-    }
+    search (rules, wire_more, never_before, tape_more, append_assoc)
 
 -- the items received next were the first of those that waited, unless nothing waited
 heard_then : (p : Programmer) (fates : List Fate) (old : WiredState) (items : Tape) (waits : Tape) → old.waits ≡ waits
@@ -69,18 +58,7 @@ heard_then p fates old items (item ∷ waits) e next keeps never =
 pub keeps_hearing : (old : WiredState) (items : Tape) (p : Programmer) (fates : List Fate) → IsNext items old.waits
     → FollowsFates p fates old → FollowsFates p fates (after_hearing items old)
 keeps_hearing old items p fates next keeps =
-    let sent_is : sent (old.transcript ++ Got items ∷ []) ≡ sent old.transcript =
-    sent_append old.transcript (Got items ∷ []) ∙ append-nil (sent old.transcript) in
-    let heard_is : heard (old.transcript ++ Got items ∷ []) ≡ heard old.transcript ++ items =
-    heard_append old.transcript (Got items ∷ []) ∙ ap (λ t. heard old.transcript ++ t) (append-nil items) in
-    record {
-      held = subst (MayHold old.held) (sym sent_is) keeps.held;
-      stands = keeps.stands ∙ ap (λ bs. wire_after device (frames bs) (fresh_wire p fates)) (sym sent_is);
-      brings = λ never.
-          rw (sent_is, keeps.brings (never_before p fates old.transcript (Got items ∷ []) never), heard_is)
-          (rw (append_assoc (heard old.transcript) items (drop (length items) old.waits))
-          (rw (heard_then p fates old items old.waits refl next keeps never) refl));
-    }
+    search (rules, sent_append, append-nil, heard_append, never_before, append_assoc, heard_then)
 
 -- a state with the items received, part by part
 pub heard_state : (w : WiredState) (transcript : Transcript) (waits items : Tape)
@@ -88,5 +66,4 @@ pub heard_state : (w : WiredState) (transcript : Transcript) (waits items : Tape
     → waits ≡ drop (length items) w.waits
     → record w { transcript = transcript; waits = waits } ≡ after_hearing items w
 heard_state w transcript waits items t a =
-    ap (λ x. record w { transcript = x; waits = waits }) t
-    ∙ ap (λ x. record w { transcript = w.transcript ++ Got items ∷ []; waits = x }) a
+    search rules

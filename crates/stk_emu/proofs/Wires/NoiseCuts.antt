@@ -1,5 +1,5 @@
 -- Noise, cut piece by piece.
-use Rattle.std.proofs.Common.{◌≡◌, ◌≢◌, ℕ, ◌+◌, ◌-◌, subst, arith, length-drop, List, [], ◌∷◌, ◌++◌, length, take, drop, refl, ap, sym, ◌∙◌, true, inl, inr}
+use Rattle.std.proofs.Common.{◌≡◌, ◌≢◌, ℕ, ◌+◌, ◌-◌, subst, arith, length-drop, List, [], ◌∷◌, ◌++◌, length, take, drop, refl, ap, sym, ◌∙◌, true, inl, inr, rules}
 use Rattle.std.specs.Prelude.{filter}
 use Rattle.std.proofs.lemmas.Bool.{cases_Bool, cond-true}
 use Rattle.std.proofs.lemmas.List.{take-append-drop, take_all}
@@ -20,15 +20,13 @@ no_good (piece ∷ pieces) e = elim (cases_Bool (is_frame piece)) [
 good_fed : (old used new : List ℕ) (fs : List (List ℕ)) (text : List ℕ) → Fed old used new fs → MayHold old text
     → filter is_good (cut text) ≡ [] → filter is_good (cut (text ++ used)) ≡ filter is_good fs
 good_fed old used new fs text fed stands none =
-    rw (fed.pieces text stands, filter-append is_good (cut text) (fed.skipped ++ fs), none)
-    (rw (filter-append is_good fed.skipped fs, no_good fed.skipped fed.no_frames) refl)
+    search (rules, filter-append, no_good)
 
 -- the rest of the noise, as the code cuts it
 fed_rest : (old new noise : List ℕ) (at used : ℕ) (fs : List (List ℕ))
     → Fed old (take used (take (length noise - at) (drop at noise))) new fs → Fed old (take used (drop at noise)) new fs
 fed_rest old new noise at used fs fed =
-    subst (λ rest. Fed old (take used rest) new fs)
-    (take_all (length noise - at) (drop at noise) (omega (arith, length-drop at noise))) fed
+    search (rules, take_all, length-drop)
 
 -- no good frame was found
 pub noise_next : (old new noise : List ℕ) (at used : ℕ) (fs : List (List ℕ))
@@ -54,10 +52,4 @@ good_next old new noise at used fs part good stands none e =
     ∙ (ap (filter is_good) good.0 ∙ cond-true (is_good new) (new ∷ []) [] good.1) in
     let all : prefix ++ drop (at + used) noise ≡ noise =
     ap (λ x. x ++ drop (at + used) noise) (sym (take-add at used noise)) ∙ take-append-drop (at + used) noise in
-    let cuts : cut noise ≡ cut prefix ++ cut (rest prefix ++ drop (at + used) noise) =
-    ap cut (sym all) ∙ cut_append prefix (drop (at + used) noise) in
-    let kept : new ∷ filter is_good (cut (rest prefix ++ drop (at + used) noise)) ≡ [] =
-    ap (λ x. x ++ filter is_good (cut (rest prefix ++ drop (at + used) noise))) (sym here)
-    ∙ (sym (filter-append is_good (cut prefix) (cut (rest prefix ++ drop (at + used) noise)))
-    ∙ (ap (filter is_good) (sym cuts) ∙ e)) in
-    cc
+    search (rules, cut_append, filter-append)

@@ -1,5 +1,5 @@
 -- What passes a port.
-use Rattle.std.proofs.Common.{ℕ, List, ◌++◌}
+use Rattle.std.proofs.Common.{ℕ, List, ◌++◌, rules}
 use Rattle.stk_emu.specs.Programmer.{Programmer}
 use Rattle.stk_emu.specs.Emulator.{AppendsAnswers}
 use Rattle.stk_emu.specs.Port.{PortState, IsPassed}
@@ -9,8 +9,4 @@ use Rattle.stk_emu.proofs.Answers.Texts.{appends_fed, appends_all}
 pub passed_in : (old new : PortState) (bytes : List ℕ) (p : Programmer) (written given : List ℕ)
     → AppendsAnswers old.machine bytes new.machine old.waits new.waits → IsPassed p written given old
     → IsPassed p (written ++ bytes) given new
-passed_in old new bytes p written given appends passed = record {
-  fed = appends_fed old.machine new.machine bytes old.waits new.waits p written appends passed.fed;
-  answers = appends_all old.machine new.machine bytes old.waits new.waits p written given appends passed.fed
-      passed.answers;
-}
+passed_in old new bytes p written given appends passed = search (rules, appends_fed, appends_all)
