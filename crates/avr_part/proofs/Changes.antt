@@ -3,10 +3,6 @@ use Rattle.std.proofs.Common.{◌≡◌, ◌∙◌, ap, ap₂, refl, arith, ℕ,
 use Rattle.std.proofs.lemmas.Bool.Decides.{nat_tests}
 use Rattle.avr_part.specs.Memory.{map_indexed, map_indexed_from, byte_and_page, overlaid}
 
-pub length-changed_from : (k : ℕ) (f : ℕ → ℕ → ℕ) (xs : List ℕ) → length (map_indexed_from k f xs) ≡ length xs
-length-changed_from k f [] = refl
-length-changed_from k f (x ∷ xs) = ap suc (length-changed_from (suc k) f xs)
-
 -- the list is the changed one if each of its bytes is
 pub changed_from_is : (k : ℕ) (f : ℕ → ℕ → ℕ) (xs ys : List ℕ) → length ys ≡ length xs
     → ((i : ℕ) → i < length xs → get_or ys i 0 ≡ f (k + i) (get_or xs i 0)) → ys ≡ map_indexed_from k f xs
@@ -35,11 +31,3 @@ pub overlaid_is : (start : ℕ) (loads : List (Option ℕ)) (i x y : ℕ) → (i
     → (start ≤ i → i < start + length loads → y ≡ unwrap_or (get_or loads (i - start) None) x)
     → (start + length loads ≤ i → y ≡ x) → y ≡ overlaid start loads i x
 overlaid_is start loads i x y before within after = grind (arith, nat_tests)
-
--- a list with one value at each place
-pub all_same : (xs : List (Option ℕ)) (v : Option ℕ) → ((i : ℕ) (d : Option ℕ) → i < length xs → get_or xs i d ≡ v)
-    → xs ≡ replicate (length xs) v
-all_same [] v each = refl
-all_same (x ∷ xs) v each =
-    ap₂ (λ (z : Option ℕ) (zs : List (Option ℕ)). z ∷ zs) (each 0 v (omega arith))
-    (all_same xs v (λ i d l. each (suc i) d (omega arith)))

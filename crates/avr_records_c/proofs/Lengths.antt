@@ -72,10 +72,6 @@ abbrev held : List (ℕ × List ℕ) → ℕ
 held [] = 0
 held (run ∷ more) = length run.1 + held more
 
-onto-held : (addr b : ℕ) (cut : List (ℕ × List ℕ)) → held (onto_runs addr b cut) ≡ suc (held cut)
-onto-held addr b [] = refl
-onto-held addr b ((next, bytes) ∷ more) = grind (arith, nat_tests)
-
 runs-held : (addr : ℕ) (image : List (Option ℕ)) → held (runs addr image) ≤ length image
 runs-held addr [] = omega arith
 runs-held addr (None ∷ image) = let more = runs-held (addr + 1) image in omega (arith, more)

@@ -22,21 +22,9 @@ bitmap_is image n xs len each = grind (arith, nat_tests, octets_are)
 
 -- ---- octets that are all gap, or have none
 
-eight_same : (pick : ℕ → ℕ) (first b : ℕ) → pick 0 ≡ first → ((i : ℕ) → i < 8 → pick i ≡ b)
-    → first + 2 * pick 1 + 4 * pick 2 + 8 * pick 3 + 16 * pick 4 + 32 * pick 5 + 64 * pick 6 + 128 * pick 7 ≡ 255 * b
-eight_same pick first b is each = grind (arith, nat_tests)
-
-octet_same : (image : List (Option ℕ)) (addr b : ℕ) → ((i : ℕ) → i < 8 → bit image (addr + i) ≡ b)
-    → octet image addr ≡ 255 * b
-octet_same image addr b each = grind (arith, nat_tests)
-
 gap_octet : (image : List (Option ℕ)) (addr : ℕ) → ((k : ℕ) → addr ≤ k → k < addr + 8 → byte_at image k ≡ None)
     → octet image addr ≡ 0
 gap_octet image addr none = grind (arith, nat_tests)
-
-held_octet : (image : List (Option ℕ)) (addr : ℕ)
-    → ((k : ℕ) → addr ≤ k → k < addr + 8 → is_some (byte_at image k) ≡ true) → octet image addr ≡ 255
-held_octet image addr held = grind (arith, nat_tests)
 
 -- the octets before that of the next byte, and those after the last byte
 pub gap_before : (image : List (Option ℕ)) (from place : ℕ) → first_from image (from * 8) ≡ Some place

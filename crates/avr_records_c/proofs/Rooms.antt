@@ -14,9 +14,6 @@ pub record IsPut (text rest room : List ℕ) (put : ℕ) (now : List ℕ) : Type
   pub left : rest ≡ drop put text
   pub stands : now ≡ take put text ++ drop put room
 
-pub none-put : (text room : List ℕ) → IsPut text text room 0 room
-none-put text room = record { fits = omega arith; most = omega arith; left = refl; stands = refl }
-
 pub room-length : {text rest room : List ℕ} {put : ℕ} {now : List ℕ} → IsPut text rest room put now
     → length now ≡ length room
 room-length {text} {rest} {room} {put} {now} is = grind (arith, nat_tests, length-append, length-take-le, length-drop)
@@ -94,13 +91,3 @@ line-out text whole room now put gone left next is past left_is =
 pub all-put : (text left room now : List ℕ) (put : ℕ) → IsPut text left room put now
     → put ≡ min (length room) (length text) → PutsOn text left room put now
 all-put text left room now put is far = record { count = far; left = is.left; stands = is.stands }
-
-pub is-full : (text left room now : List ℕ) (put : ℕ) → IsPut text left room put now → length now ≤ put
-    → PutsOn text left room put now
-is-full text left room now put is full =
-    all-put text left room now put is (omega (arith, full, room-length is, is.fits, is.most))
-
-pub is-over : (text whole room now : List ℕ) (put gone : ℕ) (some : Bool)
-    → IsPut text (drop gone whole) room put now → IsTrue some ↔ (0 < length whole) → some ≡ false
-    → PutsOn text (drop gone whole) room put now
-is-over text whole room now put gone some is ends none = grind (arith, nat_tests, cases_lt, length-drop, all-put)

@@ -143,11 +143,6 @@ pub begins_file : {A : Type 0} (name : Bytes) (limit : ℕ) (judge : Bytes → R
     → Begins name (file_stage name limit judge)
 begins_file name limit judge openings = grind (arith, nat_tests)
 
--- the opening after all of them has this name too
-same_name : (name other : Bytes) (passed : List Opening) → next_opening name (passed ++ []) ≡ Absent other
-    → name ≡ other
-same_name name other y is = grind (arith, nat_tests)
-
 -- the line of a refusal comes after the first output
 told_first : {A : Type 0} (first : OutputEvent) (says : List OutputEvent) (answer : StageAnswer A)
     → all_told (first ∷ says) answer ≡ first ∷ all_told says answer

@@ -40,11 +40,6 @@ goes_opened inner taking name next opening old mid new result is kept same behin
       sound = same;
     }) behind goes
 
-whole-is : (limit : ℕ) (bytes : Bytes) (ended : Bool) → IsWhole limit (record { bytes = bytes; ended = ended })
-    → (ended || nat_lt limit (length bytes)) ≡ true
-whole-is limit bytes true whole = refl
-whole-is limit bytes false whole = let past = whole.0 in grind (arith, nat_tests, past)
-
 -- it was read to its end or past the limit, and judged
 pub goes_judged : {A : Type 0} (taking : Taking) (name : Bytes) (limit : ℕ) (judge : Bytes → Result A Bytes)
     (reading : Reading)

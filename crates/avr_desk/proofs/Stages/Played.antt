@@ -91,12 +91,6 @@ went_went stage go_on old mid new a answer first then = record {
   sound = same_on old mid new first.sound then.sound;
 }
 
--- an allocation of the inner stage is one of the whole
-taken_there : (inner taking : Taking) (break : Break) (passed all : List Opening) (said told : List OutputEvent)
-    → (inner passed said → taking all told) → TakesThere inner break passed said → TakesThere taking break all told
-taken_there inner taking NoMemory passed all said told there is = there is
-taken_there inner taking x passed all said told there is = tt
-
 -- what allocates after a stage that succeeded
 abbrev pub TakesBehind : {A : Type 0} (inner taking : Taking) (stage : Stage A) (old mid : DeskState) (a : A)
     → Went stage old mid (Made a) → Type 0
@@ -118,11 +112,6 @@ went_broke inner taking stage go_on old mid new a first behind then = record {
   kept = grind (arith, nat_tests, subst, append_assoc, kept_append);
   follows = follows_on old mid new (follows_same old mid first.sound) then.follows;
 }
-
-refused_then : {A B : Type 0} (stage : Stage A) (go_on : A → Stage B) (old new : DeskState) (line : List ℕ)
-    → Went stage old new (Refused line)
-    → Went (stage >>= go_on) old new (Refused line)
-refused_then stage go_on old new line first = grind (arith, nat_tests)
 
 broke_then : {A B : Type 0} (taking : Taking) (stage : Stage A) (go_on : A → Stage B) (old new : DeskState)
     → StageBrokeOff taking stage old new → StageBrokeOff taking (stage >>= go_on) old new

@@ -127,9 +127,6 @@ pub spans_join : (from at stop k : ℕ) (b : Bool) → from ≤ at → at ≤ st
     → (is_within at stop k || (is_within from at k || b)) ≡ (is_within from stop k || b)
 spans_join from at stop k b le more = grind (arith, nat_tests)
 
-pub no_span : (from k : ℕ) (b : Bool) → (is_within from from k || b) ≡ b
-no_span from k b = grind (arith, nat_tests)
-
 pub same_place : (words words' : List ℕ) (wanted : Bool) (from from' end end' place place' : ℕ) → words ≡ words'
     → from ≡ from' → end ≡ end' → place ≡ place'
     → FirstPlace words wanted from end place → FirstPlace words' wanted from' end' place'

@@ -68,10 +68,6 @@ shown_from-zeros k zero m b = refl
 shown_from-zeros k (suc n) m b =
     grind (arith, nat_tests, shown_from-zeros (suc k) n m b, replicate, get_or-zeros, bit_at-zero)
 
-pub count-none : (n : ℕ) → count_by is_some (replicate {A = Option ℕ} n None) ≡ 0
-count-none zero = refl
-count-none (suc n) = count-none n
-
 pub present-same : (words : List ℕ) (a : ℕ) → a / 64 < length words → is_present (with_mark words a) a ≡ true
 present-same words a within =
     let here = get_or-set_same words (a / 64) (bit_or (get_or words (a / 64) 0) (1 * 2 ^ (a % 64) % 2 ^ 64)) 0 within in

@@ -80,9 +80,6 @@ all_written radix byte rest at next glyph buffer before step l here last =
 pub lt_test : (a b : ℕ) → a < b → nat_lt a b ≡ true
 lt_test a b l = grind (arith, nat_tests, l)
 
-pub eq_test : (a b : ℕ) → a ≡ b → eqb a b ≡ true
-eq_test a b e = grind (arith, nat_tests, e)
-
 pub ne_test : (a b : ℕ) → a ≢ b → eqb a b ≡ false
 ne_test a b n = grind (arith, nat_tests, n)
 

@@ -37,10 +37,6 @@ onto-apart : (addr b : ℕ) (cut : List (ℕ × List ℕ)) → Begins (addr + 1 
 onto-apart addr b [] at = refl
 onto-apart addr b ((next, bytes) ∷ more) at = grind (arith, nat_tests)
 
-onto-joins : (addr b : ℕ) (bytes : List ℕ) (more : List (ℕ × List ℕ))
-    → onto_runs addr b ((addr + 1, bytes) ∷ more) ≡ (addr, b ∷ bytes) ∷ more
-onto-joins addr b bytes more = grind (arith, nat_tests)
-
 abbrev after : List (Option ℕ) → List (Option ℕ)
 after image = drop (length (lead image)) image
 
@@ -168,11 +164,6 @@ laid-image image = laid-held [] image 0 refl
 
 -- ---- its runs hold them
 
-onto-holds : (addr b : ℕ) (more : List (ℕ × List ℕ))
-    → flat_map places_of (onto_runs addr b more) ≡ (addr, b) ∷ flat_map places_of more
-onto-holds addr b [] = refl
-onto-holds addr b ((next, bytes) ∷ more) = grind (arith, nat_tests)
-
 runs-hold : (addr : ℕ) (image : List (Option ℕ)) → flat_map places_of (runs addr image) ≡ held_places addr image
 runs-hold addr [] = refl
 runs-hold addr (None ∷ image) = runs-hold (addr + 1) image
@@ -245,11 +236,6 @@ next_run addr place end image found is =
 abbrev pub EndBy : ℕ → List (ℕ × List ℕ) → Type 0
 EndBy size [] = Unit {0}
 EndBy size (run ∷ more) = (run.0 + length run.1 ≤ size) × EndBy size more
-
-onto-end : (size addr b : ℕ) (more : List (ℕ × List ℕ)) → addr < size → EndBy size more
-    → EndBy size (onto_runs addr b more)
-onto-end size addr b [] inside all = (omega (arith, inside), tt)
-onto-end size addr b ((next, bytes) ∷ more) inside all = grind (arith, nat_tests)
 
 pub runs-end : (size addr : ℕ) (image : List (Option ℕ)) → addr + length image ≤ size → EndBy size (runs addr image)
 runs-end size addr [] room = tt
@@ -393,10 +379,6 @@ held_is_counted = is_count_by held_in is_some refl first_counted
 abbrev pub held_by : List (ℕ × List ℕ) → ℕ
 held_by [] = 0
 held_by (run ∷ more) = length run.1 + held_by more
-
-held_by-onto : (addr b : ℕ) (cut : List (ℕ × List ℕ)) → held_by (onto_runs addr b cut) ≡ suc (held_by cut)
-held_by-onto addr b [] = refl
-held_by-onto addr b ((next, bytes) ∷ more) = grind (arith, nat_tests)
 
 held_by-each : (addr : ℕ) (image : List (Option ℕ)) → held_by (runs addr image) ≡ held_in image
 held_by-each addr [] = refl

@@ -52,9 +52,6 @@ all_on part [] ys = refl
 all_on part (item ∷ xs) ys = search (rules, append_assoc, all_on part xs ys)
 
 module _ (part : Part) where
-  pub reached_rests : (steps : List (List Command)) (m : Memories) (q : Programmer) → Reached part steps m q
-      → Rests part steps m q
-  reached_rests steps m q r = search (rules, settled_idle)
 
   pub rests_here : (steps : List (List Command)) (m : Memories) (q : Programmer) → Idle part m q → Rests part steps m q
   rests_here steps m q idle = record { count = 0; stands = idle }

@@ -53,12 +53,6 @@ module _ {P : Type 0} (m : Device P) where
     after = λ k. (led J Says A A' at_end d k p turns l.holds).1;
   }
 
-  -- its result, whatever holds meanwhile
-  pub leads_to : {E R : Type 0} {During : P → Type 0} {Says : E → P → Type 0} {After : R → P → Type 0} {d : Dialog E R}
-      {p : P} {turns : List Turn} → Upholds (any_turn m) (λ bytes q. During q) Says After d p
-      → Leads m d p turns (λ q. ⊤) After
-  leads_to l = leads (λ r q a. (tt, a)) (wider (λ bytes q x. tt) (λ e q x. x) (λ r q a. a) l)
-
   -- what a call upholds if one condition holds throughout
   abbrev pub Keeps : {R : Type 0} → (P → Type 0) → (R → P → Type 0) → Dialog ⊥ R → P → Type 0
   Keeps During After d p = Upholds (any_turn m) (λ bytes q. During q) NoSays After d p

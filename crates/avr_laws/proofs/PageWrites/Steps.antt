@@ -140,9 +140,3 @@ module _ (part : Part) where
         by_commands _ commands m e (search (rules, quiet, signature_read_after))
     step_ready commands m (ReadsCalibration e) =
         by_commands _ commands m e (search (rules, quiet, calibration_read_after))
-
-    -- each step of a list, from the memories that those before it leave
-    pub all_ready : (steps : List (List Command)) (m : Memories) → AreSteps part steps
-        → AllFit steady (λ j. Ready part (changed_by part j steps m)) steps
-    all_ready [] m are = tt
-    all_ready (commands ∷ steps) m are = (step_ready commands m are.0, all_ready steps (changed part commands m) are.1)

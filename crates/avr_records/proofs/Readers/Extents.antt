@@ -1,6 +1,6 @@
 -- How far the bytes of a whole text reach.
 use Rattle.std.proofs.lemmas.Bool.Decides.{nat_tests}
-use Rattle.std.proofs.Common.{arith, ◌≡◌, ◌∙◌, sym, ap, refl, ℕ, ◌+◌, List, [], ◌∷◌, ◌++◌, length, map, true, false, Some, Ok, Err}
+use Rattle.std.proofs.Common.{arith, ◌≡◌, ◌∙◌, sym, ap, refl, ℕ, ◌+◌, List, [], ◌∷◌, ◌++◌, length, map, true, false, Some, Ok, Err, rules}
 use Rattle.std.proofs.lemmas.List.{append-nil, append_assoc, map-append, nil_from_length}
 use Rattle.avr_records.specs.Closed.{fault_among}
 use Rattle.avr_records.specs.Lines.{lines}
@@ -20,9 +20,6 @@ pub record Walked (kind : Kind) (e : Extent) (text : List ℕ) (left : List (Lis
   pub cut : lines text ≡ prefix ++ left
   pub extent : IsExtentOf largest e (up_to_end (map (said_by_line kind) prefix))
 
-pub walk-start : (kind : Kind) (text : List ℕ) → Walked kind no_lines text (lines text)
-walk-start kind text = grind (arith, nat_tests)
-
 said-all : (kind : Kind) (prefix left : List (List ℕ)) (text : List ℕ) → lines text ≡ prefix ++ left
     → map (said_by_line kind) (lines text) ≡ map (said_by_line kind) prefix ++ map (said_by_line kind) left
 said-all kind prefix left text cut = grind (arith, nat_tests, map-append)
@@ -38,8 +35,7 @@ pub walk-next : (kind : Kind) (e new : Extent) (text line : List ℕ) (left more
 walk-next kind e new text line left more is on w step = record {
   prefix = w.prefix ++ line ∷ [];
   cut = w.cut ∙ ap (λ (ls : List (List ℕ)). w.prefix ++ ls) is ∙ sym (append_assoc w.prefix (line ∷ []) more);
-  extent = rw (said-prefix kind w.prefix line)
-      (counts-next largest e new (map (said_by_line kind) w.prefix) (said_by_line kind line) on w.extent step);
+  extent = search (rules, said-prefix, counts-next);
 }
 
 needed-is : (e : Extent) (said : List Said) → IsExtentOf largest e (up_to_end said) → Ok e.end ≡ needed_by said

@@ -1,5 +1,5 @@
 -- How a reader's state changes with the lines of a text that it was fed.
-use Rattle.std.proofs.Common.{◌≡◌, ◌∙◌, sym, ap, refl, arith, ℕ, suc, ◌+◌, List, [], ◌∷◌, ◌++◌, length, map, take, true, false, nat_lt, Some, None, Ok, Err, subst, inl, inr}
+use Rattle.std.proofs.Common.{◌≡◌, ◌∙◌, sym, ap, refl, arith, ℕ, suc, ◌+◌, List, [], ◌∷◌, ◌++◌, length, map, take, true, false, nat_lt, Some, None, Ok, Err, subst, inl, inr, rules}
 use Rattle.std.proofs.lemmas.Bool.{cases_Bool}
 use Rattle.std.proofs.lemmas.Bool.Decides.{nat_tests}
 use Rattle.std.proofs.Math.Seq.{take-append-add}
@@ -103,11 +103,8 @@ keeps-done kind p part new text more done r =
       prefix = r.prefix ++ closed;
       last = cut.0;
       cut =
-          goes-on text more r.prefix r.last some.0 some.1 r.cut some.2
-          ∙ ap (λ (zs : List (List ℕ)). r.prefix ++ zs) cut.1
-          ∙ sym (append_assoc r.prefix closed (cut.0 ∷ []));
-      holds = rw (map-append (said_by_line kind) r.prefix closed)
-          (holds-more p _ (map (said_by_line kind) closed) done r.holds);
+          search (rules, goes-on, append_assoc);
+      holds = search (rules, map-append, holds-more);
       keeps = λ on. cc (done, on);
     }
 
@@ -137,8 +134,7 @@ ends-good kind p new part next text rest one is clear r = record {
   prefix = r.prefix ++ (r.last ++ rest) ∷ [];
   last = [];
   cut = ends text rest [] r.prefix r.last one r.cut ∙ sym (append_assoc r.prefix ((r.last ++ rest) ∷ []) ([] ∷ []));
-  holds = rw (said-prefix kind r.prefix (r.last ++ rest))
-      (holds-next p new _ (said_by_line kind (r.last ++ rest)) r.holds (line-step kind p part text rest r ∙ is));
+  holds = search (rules, said-prefix, holds-next, line-step);
   keeps = λ _. clear;
 }
 
@@ -251,10 +247,8 @@ pub carries-fault : (kind : Kind) (old now : LineState) (piece left line more : 
     → closed_fault kind (text ++ piece) (image_size old.progress) ≡ Some fault
 carries-fault kind old now piece left line more fault carries one end is same text r =
     let parts : text ++ piece ≡ (text ++ carries.used) ++ (line ++ 10 ∷ more) =
-    ap (λ (zs : List ℕ). text ++ zs) (carries.cut ∙ ap (λ (zs : List ℕ). carries.used ++ zs) end)
-    ∙ sym (append_assoc text carries.used _) in
-    rw (parts, ← same)
-    (ends-bad kind now.progress now.part (text ++ carries.used) line more fault one is (carries.reads text r))
+    search (rules, append_assoc) in
+    search (rules, ends-bad)
 
 pub carries-last : (kind : Kind) (old now new : LineState) (piece left : List ℕ)
     → Carries kind old now piece left → (now.progress.extent.ended ≡ false → lines left ≡ left ∷ [])
@@ -286,10 +280,7 @@ begins kind size p part is empty' =
         prefix = [];
         last = [];
         cut = refl;
-        holds = record {
-          extent = record { no_fault = refl; end = refl; base = refl; data_records = refl; lines = refl; ended = refl };
-          image = is.1 ∙ ap empty (sym sized);
-        };
+        holds = search rules;
         keeps = λ _. empty';
       };
     })

@@ -8,12 +8,6 @@ use Rattle.avr_records.specs.Detect.{kind_of_line}
 use Rattle.avr_records.specs.Lines.{lines, is_blank}
 use Rattle.avr_records.specs.declared.kind.Found.{Found}
 
-le-both : (n a : ℕ) → nat_le n a ≡ nat_le (suc n) (1 + a)
-le-both n a = grind (arith, nat_tests)
-
-not-le-zero : (n : ℕ) → false ≡ nat_le (suc n) 0
-not-le-zero n = grind (arith, nat_tests)
-
 pub too-few : (p : ℕ → Bool) (n : ℕ) (xs : List ℕ) → length xs < n → false ≡ nat_le n (prefix_len p xs)
 too-few p n xs len = let bound = prefix_len-le-length p xs in grind (arith, nat_tests, len, bound)
 

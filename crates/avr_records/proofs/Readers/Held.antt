@@ -1,6 +1,6 @@
 -- How a line changes a reader's state.
 use Rattle.std.proofs.lemmas.Bool.Decides.{nat_tests}
-use Rattle.std.proofs.Common.{◌≡◌, ◌∙◌, sym, ap, ap₂, refl, arith, ℕ, ◌+◌, List, [], ◌∷◌, ◌++◌, length, true, false, Result, Ok, Err, subst, Option, Some, None, count_by, inl, inr}
+use Rattle.std.proofs.Common.{◌≡◌, ◌∙◌, sym, ap, ap₂, refl, arith, ℕ, ◌+◌, List, [], ◌∷◌, ◌++◌, length, true, false, Result, Ok, Err, subst, Option, Some, None, count_by, inl, inr, rules}
 use Rattle.std.proofs.lemmas.Bool.{cases_Bool, cond-true, cond-false}
 use Rattle.std.proofs.lemmas.Grind.{flat_map-append}
 use Rattle.std.proofs.lemmas.List.{append-nil, length-append, length-set}
@@ -68,15 +68,7 @@ fault-same size e said line m = rw (m.base, m.data_records) refl
 extent-next : (size : ℕ) (e new : Extent) (said : List Said) (line : Said) → IsExtentOf size e said
     → next_extent size e line ≡ Ok new → IsExtentOf size new (said ++ line ∷ [])
 extent-next size e new said line m is =
-    let parts = unless-good (fault_under size e.base e.data_records line) (e.lines + 1) _ new is in
-    subst (λ (x : Extent). IsExtentOf size x (said ++ line ∷ [])) parts.1 (record {
-      no_fault = fault-last size said line m.no_fault (fault-same size e said line m ∙ parts.0);
-      end = rw (m.end, m.base) (sym (end-last said line));
-      base = rw m.base (sym (fold-append next_base (Linear 0) said (line ∷ [])));
-      data_records = rw m.data_records (sym (count-last said line));
-      lines = rw m.lines (sym (length-append said (line ∷ [])));
-      ended = rw m.ended (any_end-last said line);
-    })
+    search (rules, unless-good, fault-last, fault-same, end-last, fold-append, count-last, length-append, any_end-last)
 
 extent-bad : (size : ℕ) (e : Extent) (said more : List Said) (line : Said) (fault : RecordFault)
     → IsExtentOf size e said
@@ -134,13 +126,7 @@ holds-on p new said line on h is =
     let size : image_size new ≡ image_size p =
     ap length parts.1 ∙ length-laid_over (placed_under p.extent.base line) p.image in
     let extent = counts-next (image_size p) p.extent new.extent said line on h.extent parts.0 in
-    record {
-      extent = rw size extent;
-      image = parts.1
-          ∙ ap₂ (λ (i : List (Option ℕ)) (b : Base). laid_over i (placed_under b line)) h.image h.extent.base
-          ∙ rw (size, upto-last said line (sym h.extent.ended ∙ on))
-          (sym (image-last (image_size p) (up_to_end said) line));
-    }
+    search (rules, upto-last, image-last)
 
 done-step : (p : Progress) (line : Said) (out : Result Progress RecordFault) → p.extent.ended ≡ true
     → next_progress p line ≡ out → Ok p ≡ out

@@ -1,6 +1,6 @@
 -- How later lines change the meaning of the lines before them.
 use Rattle.std.proofs.lemmas.Bool.Decides.{nat_tests}
-use Rattle.std.proofs.Common.{◌≡◌, ◌∙◌, sym, ap, refl, arith, ℕ, ◌+◌, List, [], ◌∷◌, ◌++◌, length, Bool, true, false, Option, Some, None, inl, inr}
+use Rattle.std.proofs.Common.{◌≡◌, ◌∙◌, sym, ap, refl, arith, ℕ, ◌+◌, List, [], ◌∷◌, ◌++◌, length, Bool, true, false, Option, Some, None, inl, inr, rules}
 use Rattle.std.proofs.lemmas.Bool.{cases_Bool}
 use Rattle.std.proofs.lemmas.List.{append-nil, append_assoc}
 use Rattle.std.proofs.lemmas.List.Splits.{slice_split-cons_yes, slice_split-cons_no}
@@ -91,18 +91,8 @@ pub slice_split-append : (p : ℕ → Bool) (xs ys : List ℕ)
 slice_split-append p [] ys = let some = parts-some p ys in sym (pasted-nil (slice_split p ys) some.0 some.1 some.2)
 slice_split-append p (x ∷ xs) ys =
     let some = parts-some p xs in
-    elim (cases_Bool (p x)) [
-      | inl t ↦
-          slice_split-cons_yes p x (xs ++ ys) t
-          ∙ ap (λ (zs : List (List ℕ)). [] ∷ zs) (slice_split-append p xs ys)
-          ∙ sym (nil-pasted (slice_split p xs) (slice_split p ys) some.0 some.1 some.2)
-          ∙ ap (λ (zs : List (List ℕ)). pasted zs (slice_split p ys)) (sym (slice_split-cons_yes p x xs t))
-      | inr f ↦
-          slice_split-cons_no p x (xs ++ ys) f
-          ∙ ap (onto_first x) (slice_split-append p xs ys)
-          ∙ rw some.2 (onto-pasted x some.0 some.1 (slice_split p ys))
-          ∙ ap (λ (zs : List (List ℕ)). pasted zs (slice_split p ys)) (sym (slice_split-cons_no p x xs f))
-    ]
+    search (rules, cases_Bool, slice_split-cons_yes, nil-pasted, slice_split-cons_no, onto-pasted, slice_split-append p
+        xs ys)
 
 pub pasted-last : (prefix : List (List ℕ)) (last first : List ℕ) (more : List (List ℕ))
     → pasted (prefix ++ last ∷ []) (first ∷ more) ≡ prefix ++ (last ++ first) ∷ more

@@ -1,5 +1,5 @@
 -- The size that a file needs is the least memory into which it reads.
-use Rattle.std.proofs.Common.{◌≡◌, ◌∙◌, ap, refl, arith, ℕ, ◌+◌, ◌<◌, ◌≤◌, List, [], ◌∷◌, length, map, max, flat_map, count_by, Option, Some, None, option_map, Ok, Err, nat_lt, inl, inr}
+use Rattle.std.proofs.Common.{◌≡◌, ◌∙◌, ap, refl, arith, ℕ, ◌+◌, ◌<◌, ◌≤◌, List, [], ◌∷◌, length, map, max, flat_map, count_by, Option, Some, None, option_map, Ok, Err, nat_lt, inl, inr, rules}
 use Rattle.std.proofs.lemmas.Bool.{cases_Bool}
 use Rattle.std.proofs.lemmas.Bool.Decides.{nat_tests}
 use Rattle.avr_records.specs.Lines.{lines}
@@ -55,8 +55,7 @@ all-good size other [] none lies' = refl
 all-good size other (p ∷ ps) none lies' =
     let parts = or_later-none (length p.0 + 1) (fault_in size p) (first_fault size ps) none in
     let both = beyond-parts other (placed_bytes p) (flat_map placed_bytes ps) lies' in
-    rw (good size other (base_after p.0) (count_by is_data p.0) p.1 parts.0 both.0)
-    (all-good size other ps parts.1 both.1)
+    search (rules, good, all-good size other ps parts.1 both.1)
 
 all-lie : (size : ℕ) (taken : List (List Said × Said)) → first_fault size taken ≡ None
     → beyond size (flat_map placed_bytes taken) ≡ None

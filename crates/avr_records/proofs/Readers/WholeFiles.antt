@@ -1,5 +1,5 @@
 -- A fault of the closed lines is that of the whole file.
-use Rattle.std.proofs.Common.{◌+◌}
+use Rattle.std.proofs.Common.{◌+◌, rules}
 use Rattle.std.proofs.Common.{length}
 use Rattle.std.proofs.Common.{inl}
 use Rattle.std.proofs.Common.{inr}
@@ -21,11 +21,6 @@ use Rattle.avr_records.specs.declared.fault.LineFault.{LineFault}
 use Rattle.avr_records.specs.declared.fault.RecordFault.{RecordFault}
 use Rattle.avr_records.proofs.Readers.Fed.{but_last}
 use Rattle.avr_records.proofs.Readers.LaterLines.{in_place-append, up_to_end-open, up_to_end-done, parts-some}
-
-later-stands : (n : ℕ) (fault : Option LineFault) (first more : Option RecordFault) (told : RecordFault)
-    → (first ≡ Some told → more ≡ Some told) → or_later n fault first ≡ Some told → or_later n fault more ≡ Some told
-later-stands n (Some f) first more told on is = is
-later-stands n None first more told on is = on is
 
 first_fault-stands : (size : ℕ) (ps qs : List (List Said × Said)) (told : RecordFault) → first_fault size ps ≡ Some told
     → first_fault size (ps ++ qs) ≡ Some told
@@ -65,7 +60,4 @@ pub new-told : (kind : Kind) (size : ℕ) (s : ReaderState) (text : List ℕ) (t
 new-told kind size s text told new is =
     let of_s : closed_fault s.kind text (memory_size s) ≡ Some told =
     none-or (closed_fault s.kind text (memory_size s)) told (is [] new.nothing_fed) in
-    let kind_is : s.kind ≡ kind = new.of_kind in
-    let size_is : memory_size s ≡ size = new.of_size in
-    sym (closed-told kind size text told
-    (ap (λ (k : Kind). closed_fault k text size) (sym kind_is) ∙ ap (closed_fault s.kind text) (sym size_is) ∙ of_s))
+    search (rules, closed-told)

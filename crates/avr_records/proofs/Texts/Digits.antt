@@ -1,6 +1,6 @@
 -- What decoding returns for an even number of digits.
 use Rattle.std.proofs.lemmas.Bool.Decides.{nat_tests}
-use Rattle.std.proofs.Common.{◌≡◌, refl, arith, ℕ, ◌*◌, ◌%◌, List, length, true, false, Result, Ok, Err, MatchResult}
+use Rattle.std.proofs.Common.{◌≡◌, refl, arith, ℕ, ◌*◌, ◌%◌, List, length, true, false, Result, Ok, Err, MatchResult, rules}
 use Rattle.std.proofs.lemmas.Bool.{cases_Bool}
 use Rattle.std.proofs.lemmas.List.Sums.{AllPass-from_list_all, list_all-from_AllPass}
 use Rattle.std.specs.List.{list_all}
@@ -19,8 +19,7 @@ all_digits : (digits out : List ℕ) (answer : Result Unit FromHexError) → len
     → Decoded digits out answer (decode_of digits) → (answer ≡ Ok tt) × (bytes_of_digits digits ≡ Ok out)
 all_digits digits out answer even all is =
     let found = decode_of-digits digits even (AllPass-from_list_all is_hex_digit digits all) in
-    let facts = rw found.1 at is in
-    (facts.0, rw (all, found.1, facts.1) refl)
+    search rules
 
 no_digit : (digits out : List ℕ) (answer : Result Unit FromHexError) (of : Result (List ℕ) FromHexError)
     → decode_of digits ≡ of → list_all is_hex_digit digits ≡ false

@@ -1,5 +1,5 @@
 -- Records of Intel HEX, as they are written and read again.
-use Rattle.std.proofs.Common.{◌≡◌, ◌∙◌, sym, ap, refl, arith, ℕ, ◌+◌, ◌-◌, ◌*◌, ◌/◌, ◌%◌, ◌^◌, ◌<◌, ◌≤◌, ◌==◌, Bool, true, false, List, [], ◌∷◌, ◌++◌, length, take, sum, map, Result, Ok, inl, inr}
+use Rattle.std.proofs.Common.{◌≡◌, ◌∙◌, sym, ap, refl, arith, ℕ, ◌+◌, ◌-◌, ◌*◌, ◌/◌, ◌%◌, ◌^◌, ◌<◌, ◌≤◌, ◌==◌, Bool, true, false, List, [], ◌∷◌, ◌++◌, length, take, sum, map, Result, Ok, inl, inr, rules}
 use Rattle.std.specs.Prelude.{if◌then◌else◌}
 use Rattle.std.specs.List.{list_all, flat_map}
 use Rattle.std.proofs.lemmas.Bool.{cases_eq}
@@ -50,11 +50,7 @@ fields-summed type offset bytes below =
     let prefix : List ℕ = unsummed type offset bytes in
     let check : ℕ = (256 - sum prefix % 256) % 256 in
     let before : sum (prefix ++ check ∷ []) ≡ sum prefix + check = sum-push prefix 0 check in
-    let place : offset / 256 % 256 * 256 + offset % 256 ≡ offset = omega arith in
-    checked-good (length bytes) (offset / 256 % 256 * 256 + offset % 256) type (sum (prefix ++ check ∷ []) % 256)
-    (bytes ++ check ∷ []) bytes (length-append bytes (check ∷ [])) (omega (arith, before))
-    (take_at bytes (check ∷ []) (length bytes) refl)
-    ∙ ap (λ (o : ℕ). typed_ihex type o bytes) place
+    search (rules, checked-good, length-append, take_at)
 
 says-line : (type offset : ℕ) (bytes : List ℕ) → type < 256 → offset < 65536 → length bytes ≤ 32 → IsBytes bytes
     → said_by_line Ihex (line_of type offset bytes) ≡ record_meaning Ihex (typed_ihex type offset bytes)
@@ -63,10 +59,7 @@ says-line type offset bytes known below short all =
     let check : ℕ = (256 - sum prefix % 256) % 256 in
     let width : length (line_of type offset bytes) ≤ 600 =
     omega (arith, length-encode_with upper_digits (with_sum_checksum prefix), length-append bytes (check ∷ [])) in
-    says-plain Ihex 58 (encode_upper (with_sum_checksum prefix)) (plain-line type offset bytes known short all) width
-    ∙ ap (λ (bytes : Result (List ℕ) LineFault). record_meaning Ihex (bytes and_then ihex_from_fields))
-    (bytes_of-encode (with_sum_checksum prefix) (IsBytes-summed type offset bytes known short all))
-    ∙ ap (record_meaning Ihex) (fields-summed type offset bytes below)
+    search (rules, says-plain, plain-line, bytes_of-encode, IsBytes-summed, fields-summed)
 
 -- a record that sets the upper half of the address
 typed-upper : (upper : ℕ) → upper < 65536
@@ -96,38 +89,18 @@ upper-lines old new rest below =
           let plain = plain-line 4 0 (two new) (omega arith) (omega arith) bytes in
           let said : said_by_line Ihex (line_of 4 0 (two new)) ≡ Ok (Rebase (Linear new)) =
           says-line 4 0 (two new) (omega arith) (omega arith) (omega arith) bytes ∙ typed-upper new below in
-          rw test
-          (ap (map (said_by_line Ihex)) (lines-written (line_of 4 0 (two new)) rest plain)
-          ∙ ap (λ (s : Said). s ∷ map (said_by_line Ihex) (lines rest)) said)
+          search (rules, lines-written)
     ]
 
 -- the lines of the rows, and of the end record
 pub lines-said : (upper end : ℕ) (rows : List (ℕ × List ℕ)) → end ≤ 2 ^ 32 → Every (IsRow ihex_row_size end) rows
     → map (said_by_line Ihex) (lines (ihex_rows upper rows)) ≡ rows_said upper rows ++ Ok End ∷ Ok Nothing ∷ []
 lines-said upper end [] fits all =
-    let plain = plain-line 1 0 [] (omega arith) (omega arith) IsBytes-nil in
-    ap (map (said_by_line Ihex)) (lines-plain (line_of 1 0 []) [] plain)
-    ∙ ap (λ (said : Said). said ∷ Ok Nothing ∷ [])
-    (says-line 1 0 [] (omega arith) (omega arith) (omega arith) IsBytes-nil)
+    search (rules, plain-line, lines-plain, says-line)
 lines-said upper end (row ∷ rows) fits all =
     let is = all.0 in
     let high : ℕ = row.0 / 65536 in
-    let short : length row.1 ≤ 32 = omega (arith, is.few) in
-    let below : high < 65536 = omega (arith, fits, is.some, is.below) in
-    let plain = plain-line 0 (row.0 % 65536) row.1 (omega arith) short is.bytes in
-    let said : said_by_line Ihex (line_of 0 (row.0 % 65536) row.1) ≡ Ok (Data (row.0 % 65536) row.1) =
-    says-line 0 (row.0 % 65536) row.1 (omega arith) (omega arith) short is.bytes in
-    let record_of_row : List ℕ = ihex_record 0 (row.0 % 65536) row.1 in
-    ap (λ (text : List ℕ). map (said_by_line Ihex) (lines text))
-    (append_assoc (upper_record upper high) record_of_row (ihex_rows high rows))
-    ∙ upper-lines upper high (record_of_row ++ ihex_rows high rows) below
-    ∙ ap (λ (ls : List (List ℕ)). upper_said upper high ++ map (said_by_line Ihex) ls)
-    (lines-written (line_of 0 (row.0 % 65536) row.1) (ihex_rows high rows) plain)
-    ∙ ap (λ (s : Said). upper_said upper high ++ s ∷ map (said_by_line Ihex) (lines (ihex_rows high rows))) said
-    ∙ ap (λ (more : List Said). upper_said upper high ++ Ok (Data (row.0 % 65536) row.1) ∷ more)
-    (lines-said high end rows fits all.1)
-    ∙ sym (append_assoc (upper_said upper high) (Ok (Data (row.0 % 65536) row.1) ∷ rows_said high rows)
-    (Ok End ∷ Ok Nothing ∷ []))
+    search (rules, plain-line, says-line, append_assoc, upper-lines, lines-written, lines-said high end rows fits all.1)
 
 upper-goes_on : (same : Bool) (new : ℕ) (more : List Said) → AllGoOn more
     → AllGoOn ((if same then [] else Ok (Rebase (Linear new)) ∷ []) ++ more)
@@ -150,10 +123,4 @@ pub rows-threaded : (upper : ℕ) (rows : List (ℕ × List ℕ))
 rows-threaded upper [] = refl
 rows-threaded upper (row ∷ rows) =
     let high : ℕ = row.0 / 65536 in
-    let place : high * 65536 + row.0 % 65536 ≡ row.0 = omega arith in
-    ap (threaded (Linear upper)) (append_assoc (upper_said upper high)
-    (Ok (Data (row.0 % 65536) row.1) ∷ rows_said high rows) (Ok End ∷ []))
-    ∙ upper-threaded upper high (Ok (Data (row.0 % 65536) row.1) ∷ then_end (rows_said high rows))
-    ∙ ap (λ (prefix : List (ℕ × ℕ)). prefix ++ threaded (Linear high) (then_end (rows_said high rows)))
-    (places-linear high (row.0 % 65536) row.0 row.1 place)
-    ∙ ap (λ (more : List (ℕ × ℕ)). places_of row ++ more) (rows-threaded high rows)
+    search (rules, threaded, append_assoc, upper-threaded, then_end, places-linear, rows-threaded high rows)

@@ -1,5 +1,5 @@
 -- How a written line is read.
-use Rattle.std.proofs.Common.{◌≡◌, ◌∙◌, sym, ap, refl, arith, ℕ, ◌+◌, ◌-◌, ◌≤◌, nat_lt, Bool, true, false, not, ◌&&◌, List, [], ◌∷◌, ◌++◌, length, take, get_or, fold, Ok, Err}
+use Rattle.std.proofs.Common.{◌≡◌, ◌∙◌, sym, ap, refl, arith, ℕ, ◌+◌, ◌-◌, ◌≤◌, nat_lt, Bool, true, false, not, ◌&&◌, List, [], ◌∷◌, ◌++◌, length, take, get_or, fold, Ok, Err, rules}
 use Rattle.std.specs.Prelude.{if◌then◌else◌}
 use Rattle.std.specs.List.{list_all, onto_first, suffix_len}
 use Rattle.std.proofs.lemmas.Bool.{and_parts}
@@ -46,10 +46,7 @@ not-blank c plain = grind (arith, (and_parts (not (is_line_end c)) (not (is_blan
 trimmed-plain : (line : List ℕ) → list_all is_plain line ≡ true → trimmed_line line ≡ line
 trimmed-plain line plain =
     let all = AllPass-from_list_all is_plain line plain in
-    let none : suffix_len is_blank line ≡ length line - length line =
-    suffix_len_is is_blank line (length line) 0 (omega arith) (λ k from below. absurd (omega arith))
-    (λ some. not-blank (get_or line (length line - 1) 0) (all (length line - 1) 0 (omega arith))) in
-    take_all (length line - suffix_len is_blank line) line (omega (arith, none))
+    search (rules, suffix_len_is, not-blank, take_all)
 
 says-bare : (kind : Kind) (line : List ℕ) → said_by_line kind line ≡ unless_long (bare_says kind) line
 says-bare x line = grind (arith, nat_tests)
@@ -69,8 +66,7 @@ pub lines-plain : (line rest : List ℕ) → list_all is_plain line ≡ true →
 lines-plain [] rest plain = refl
 lines-plain (c ∷ cs) rest plain =
     let parts = and_parts (is_plain c) (list_all is_plain cs) plain in
-    let goes_on : is_line_end c ≡ false = grind (arith, parts.0) in
-    slice_split-cons_no is_line_end c (cs ++ 10 ∷ rest) goes_on ∙ ap (onto_first c) (lines-plain cs rest parts.1)
+    search (rules, slice_split-cons_no, lines-plain cs rest parts.1)
 
 pub lines-written : (line rest : List ℕ) → list_all is_plain line ≡ true
     → lines ((line ++ 10 ∷ []) ++ rest) ≡ line ∷ lines rest
@@ -83,8 +79,7 @@ open-lines : (line : List ℕ) → list_all (λ c. not (is_line_end c)) line ≡
 open-lines [] all = refl
 open-lines (c ∷ cs) all =
     let parts = and_parts (not (is_line_end c)) (list_all (λ c. not (is_line_end c)) cs) all in
-    let goes_on : is_line_end c ≡ false = grind (arith, parts.0) in
-    slice_split-cons_no is_line_end c (cs ++ 10 ∷ []) goes_on ∙ ap (onto_first c) (open-lines cs parts.1)
+    search (rules, slice_split-cons_no, open-lines cs parts.1)
 
 open-plain : (cs : List ℕ) → list_all is_plain cs ≡ true → list_all (λ c. not (is_line_end c)) cs ≡ true
 open-plain [] all = refl
@@ -103,14 +98,7 @@ open-append (c ∷ cs) back all more =
 pub is-line : (marks bytes text : List ℕ) → list_all (λ c. not (is_line_end c)) marks ≡ true → IsBytes bytes
     → text ≡ (marks ++ encode_upper bytes) ++ 10 ∷ [] → IsLine text
 is-line marks bytes text plain all is =
-    let line : List ℕ = marks ++ encode_upper bytes in
-    let whole : lines (line ++ 10 ∷ []) ≡ line ∷ [] ∷ [] =
-    open-lines line (open-append marks (encode_upper bytes) plain
-    (open-plain (encode_upper bytes) (plain-digits (encode_upper bytes) (encode-digits bytes all)))) in
-    let prefix : take (length (line ++ 10 ∷ []) - 1) (line ++ 10 ∷ []) ≡ line =
-    ap (λ (n : ℕ). take n (line ++ 10 ∷ [])) (omega (arith, length-append line (10 ∷ [])))
-    ∙ take_at line (10 ∷ []) (length line) refl in
-    rw is (whole ∙ ap (λ (first : List ℕ). first ∷ [] ∷ []) (sym prefix))
+    search (rules, open-lines, open-append, open-plain, plain-digits, encode-digits, length-append, take_at)
 
 -- the sum with one more byte
 pub sum-push : (xs : List ℕ) (n x : ℕ) → fold (λ (a b : ℕ). a + b) n (xs ++ x ∷ []) ≡ fold (λ (a b : ℕ). a + b) n xs + x

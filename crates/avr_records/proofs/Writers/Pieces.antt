@@ -68,12 +68,6 @@ rows-next size addr n [] some wide is = absurd (omega arith)
 rows-next size addr n (b ∷ bs) some wide is =
     grind (arith, nat_tests, take_min, rows_behind-drop, drop-one_less, rows-min)
 
-pub low_bytes_is : (size : AddressSize) (n : ℕ)
-    → drop (4 - width_of size) (to_be_bytes w32 n) ≡ low_bytes (width_of size) n
-low_bytes_is Two n = refl
-low_bytes_is Three n = let top : n / 65536 ≡ n / 256 / 256 = omega arith in rw top refl
-low_bytes_is Four n = grind (arith, nat_tests)
-
 pub length_low_bytes : (size n : ℕ) → length (low_bytes size n) ≡ size
 length_low_bytes zero n = refl
 length_low_bytes (suc size) n = grind (arith, nat_tests, length_low_bytes size (n / 256), length-append)

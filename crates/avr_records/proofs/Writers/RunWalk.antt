@@ -1,6 +1,6 @@
 -- A walk over bytes that follow each other in a memory.
 use Rattle.std.proofs.lemmas.Bool.Decides.{nat_tests}
-use Rattle.std.proofs.Common.{◌≡◌, ◌∙◌, sym, ap, refl, arith, ℕ, zero, suc, ◌+◌, ◌-◌, ◌^◌, ◌<◌, ◌≤◌, List, [], ◌∷◌, ◌++◌, length, take, drop, min, map, Option, Some, None, is_some}
+use Rattle.std.proofs.Common.{◌≡◌, ◌∙◌, sym, ap, refl, arith, ℕ, zero, suc, ◌+◌, ◌-◌, ◌^◌, ◌<◌, ◌≤◌, List, [], ◌∷◌, ◌++◌, length, take, drop, min, map, Option, Some, None, is_some, rules}
 use Rattle.std.specs.List.{position_from}
 use Rattle.std.proofs.Math.Seq.{drop-nil, take-nil}
 use Rattle.std.proofs.lemmas.List.{drop_min, length-append, length-map, length-replicate, take_min, take_rest}
@@ -66,13 +66,4 @@ bytes-held x y all z byte is = absurd (cc is)
 pub is-memory : (base : ℕ) (bytes : List ℕ) → base + length bytes ≤ 2 ^ 32 → IsBytes bytes
     → IsMemory (run_at base bytes)
 is-memory base [] below all = record { short = omega arith; bytes = λ addr byte is. absurd (cc is) }
-is-memory base (b ∷ bytes) below all = record {
-  short = omega (
-    arith,
-    below,
-    length-append (empty base) (map (λ byte. Some byte) (b ∷ bytes)),
-    length-replicate {A = Option ℕ} base None,
-    length-map (b ∷ bytes) (λ byte. Some byte),
-  );
-  bytes = bytes-held base (b ∷ bytes) all;
-}
+is-memory base (b ∷ bytes) below all = search (rules, length-append, length-replicate, length-map, bytes-held)

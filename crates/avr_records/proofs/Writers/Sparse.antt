@@ -1,5 +1,5 @@
 -- A written image with gaps reads back as it was.
-use Rattle.std.proofs.Common.{◌≡◌, ◌∙◌, sym, ap, ap₂, refl, arith, ℕ, zero, suc, add-zero, ◌+◌, ◌^◌, ◌<◌, ◌≤◌, All, List, [], ◌∷◌, ◌++◌, length, map, Option, Some, None, Ok}
+use Rattle.std.proofs.Common.{◌≡◌, ◌∙◌, sym, ap, ap₂, refl, arith, ℕ, zero, suc, add-zero, ◌+◌, ◌^◌, ◌<◌, ◌≤◌, All, List, [], ◌∷◌, ◌++◌, length, map, Option, Some, None, Ok, rules}
 use Rattle.std.specs.List.{flat_map, enumerate_from}
 use Rattle.std.proofs.lemmas.Bool.Decides.{nat_tests}
 use Rattle.std.proofs.lemmas.Grind.{flat_map-append}
@@ -109,9 +109,7 @@ laid-padded image more =
     let whole : List (Option ℕ) = image ++ empty more in
     let size : length whole ≡ length image + more =
     length-append image (empty more) ∙ ap (λ (n : ℕ). length image + n) (length-replicate more None) in
-    ap₂ (λ (n : ℕ) (cut : List (ℕ × List ℕ)). image_of_pairs n (flat_map places_of cut)) (sym size)
-    (sym (runs-padded 0 more image))
-    ∙ runs_are_whole whole
+    search (rules, runs-padded, runs_are_whole)
 
 -- ---- the two formats
 

@@ -1,6 +1,6 @@
 -- How the text of a memory with gaps begins, by the walk over it.
 use Rattle.std.proofs.lemmas.Bool.Decides.{nat_tests}
-use Rattle.std.proofs.Common.{◌≡◌, ◌∙◌, sym, ap, ap₂, refl, arith, ℕ, zero, suc, ◌+◌, ◌-◌, ◌<◌, ◌≤◌, List, [], ◌∷◌, ◌++◌, length, take, drop, min, Option, Some, None, is_some, add-zero}
+use Rattle.std.proofs.Common.{◌≡◌, ◌∙◌, sym, ap, ap₂, refl, arith, ℕ, zero, suc, ◌+◌, ◌-◌, ◌<◌, ◌≤◌, List, [], ◌∷◌, ◌++◌, length, take, drop, min, Option, Some, None, is_some, add-zero, rules}
 use Rattle.std.specs.List.{position_from, slice_range}
 use Rattle.std.proofs.lemmas.List.{drop-drop, length-append, length-drop, length-take, take_min}
 use Rattle.avr_image.specs.Image.{first_from, run_end, filled_bytes}
@@ -93,9 +93,7 @@ text-upper kind upper new size addr place image found is =
     let more : List (ℕ × List ℕ) =
     rows_of (row_size kind) (runs (place + length row) (drop (place + length row) image)) in
     let cut = rows-walk (row_size kind) addr place row image found (wide_row kind place) refl in
-    ap (file_rows kind upper size) cut
-    ∙ rows-upper kind upper new place size row more is
-    ∙ ap (λ (rows : List (ℕ × List ℕ)). ihex_record 4 0 (two new) ++ file_rows kind new size rows) (sym cut)
+    search (rules, rows-upper)
 
 pub text-row : (kind : Kind) (upper : ℕ) (size : AddressSize) (addr place : ℕ) (row : List ℕ)
     (image : List (Option ℕ)) → first_from image addr ≡ Some place → new_upper kind upper place ≡ None

@@ -1,5 +1,5 @@
 -- S-records, as they are written and read again.
-use Rattle.std.proofs.Common.{◌≡◌, ◌∙◌, ap, refl, arith, ℕ, zero, suc, ◌+◌, ◌-◌, ◌*◌, ◌/◌, ◌%◌, ◌^◌, ◌<◌, ◌≤◌, nat_le, Bool, true, List, [], ◌∷◌, ◌++◌, length, take, sum, map, fold, Result, Ok, Err}
+use Rattle.std.proofs.Common.{◌≡◌, ◌∙◌, ap, refl, arith, ℕ, zero, suc, ◌+◌, ◌-◌, ◌*◌, ◌/◌, ◌%◌, ◌^◌, ◌<◌, ◌≤◌, nat_le, Bool, true, List, [], ◌∷◌, ◌++◌, length, take, sum, map, fold, Result, Ok, Err, rules}
 use Rattle.std.specs.Prelude.{if◌then◌else◌}
 use Rattle.std.specs.Char.{is_ascii_digit}
 use Rattle.std.specs.List.{list_all, flat_map}
@@ -37,9 +37,7 @@ number-low_bytes : (size n : ℕ) → n < 256 ^ size → number (low_bytes size 
 number-low_bytes zero n fits = omega arith
 number-low_bytes (suc size) n fits =
     let high : n / 256 < 256 ^ size = div_below n 256 (256 ^ size) (omega arith) (rw (← pow-suc 256 size) fits) in
-    fold-append (λ (m byte : ℕ). m * 256 + byte) 0 (low_bytes size (n / 256)) ((n % 256) ∷ [])
-    ∙ ap (λ (m : ℕ). m * 256 + n % 256) (number-low_bytes size (n / 256) high)
-    ∙ omega arith
+    search (rules, fold-append, number-low_bytes size (n / 256) high)
 
 -- the line of an S-record, without its end
 abbrev line_of : ℕ → List ℕ → List ℕ
@@ -75,11 +73,7 @@ says-line : (type : ℕ) (body : List ℕ) → type ≤ 9 → length body ≤ 36
     → said_by_line Srec (line_of type body) ≡ record_meaning Srec (typed_srec (48 + type) body)
 says-line type body digit short all =
     let width : length (line_of type body) ≤ 600 =
-    omega (
-      arith,
-      length-encode_with upper_digits (with_count_and_checksum body),
-      length-append body ((255 - sum ((length body + 1) ∷ body) % 256) ∷ []),
-    ) in
+    search (rules, length-encode_with, length-append) in
     let mark : is_ascii_digit (48 + type) ≡ true = grind (arith, nat_tests) in
     says-plain Srec 83 ((48 + type) ∷ encode_upper (with_count_and_checksum body))
     (plain-line type body digit short all) width
@@ -148,9 +142,7 @@ lines-said size end ((addr, row) ∷ rows) fits all =
     says-line type body digit short bytes
     ∙ ap (record_meaning Srec) (typed-data size body ∙ addressed-low type (width_of size) addr row low)
     ∙ meant-data size addr row in
-    ap (map (said_by_line Srec)) (lines-written (line_of type body) (srec_rows size rows) plain)
-    ∙ ap (λ (s : Said). s ∷ map (said_by_line Srec) (lines (srec_rows size rows))) said
-    ∙ ap (λ (more : List Said). said_of (addr, row) ∷ more) (lines-said size end rows fits all.1)
+    search (rules, lines-written, lines-said size end rows fits all.1)
 
 pub rows-go_on : (rows : List (ℕ × List ℕ)) → AllGoOn (map said_of rows)
 rows-go_on [] = tt

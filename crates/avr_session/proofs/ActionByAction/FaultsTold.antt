@@ -152,13 +152,6 @@ bytes_none quiet mem count done = search rules
 signature_none : (quiet : ℕ) (found : Bytes) → tells_fault (signature_says quiet found) ≡ false
 signature_none quiet found = unless_quiet (nat_lt 0 quiet) (information (codes "device signature = " ∷ _ ∷ [])) refl
 
-of_signature_none : (quiet : ℕ) (part : Part) (found : Bytes)
-    → tells_fault (warns_of_signature quiet part found) ≡ false
-of_signature_none quiet part found = search rules
-
-saved_none : (file text : Bytes) → tells_fault (saving_says file text) ≡ false
-saved_none file text = search rules
-
 pub read_none : (s : Switches) (mem : Mem) (format : Format) (file bytes : Bytes)
     → tells_fault (read_says s mem format file bytes) ≡ false
 read_none s mem format file bytes =
@@ -200,14 +193,6 @@ actions_foretells part s (action ∷ actions) =
     search (rules, foretells_then, action_foretells, actions_foretells part s actions)
 
 -- ---- a prefix of output without a fault has none
-
-error_prefix : (prefix whole : Bytes) → IsPrefixOf prefix whole → is_error (Line prefix) ≡ true
-    → is_error (Line whole) ≡ true
-error_prefix prefix whole is f =
-    let mark = codes "avrstk: error: " in
-    let rest = drop (length mark) prefix in
-    let begins : prefix ≡ mark ++ rest = (starts_is unsigned_Decides prefix mark (is_error (Line prefix)) refl).0 f in
-    search rules
 
 line_none : (part whole : Bytes) → IsPrefixOf part whole → is_error (Line whole) ≡ false → is_error (Line part) ≡ false
 line_none part whole is none = search rules

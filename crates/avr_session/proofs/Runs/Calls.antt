@@ -22,7 +22,7 @@ use Rattle.avr_desk.proofs.Lines.Told.{failed_since, follows_on, follows_same, s
 use Rattle.avr_session.specs.Session.{says}
 use Rattle.avr_session.specs.Runs.{Devices, devices, NoneFailed, Cause, OfSending, OfListening, OfFile, OfPrinting, OfMemory, is_error, tells_fault, HasCome, TellsCause, StopsAt, Listens, Lacking, Terms, StopsBehind, Ran, BrokeOff}
 use Rattle.avr_session.specs.Reporting.{IsOfDesk, SaysPrefix, SaidSome}
-use Rattle.avr_session.proofs.Runs.Stops.{place_more, place_behind, place_part, desk_says, desk_listens, outputs_said, map_append}
+use Rattle.avr_session.proofs.Runs.Stops.{place_more, place_behind, desk_says, desk_listens, outputs_said, map_append}
 
 -- a point of a call: the rest of its dialog, the progress of its conversation, and the devices' states
 pub record Point (R : Type 0) : Type 0 where
@@ -251,12 +251,6 @@ none_behind : {A R : Type 0} (cause : Cause) (outcome : Option (A × ℕ × Tape
     → Listens cause outcome → cause ≡ OfListening → (continued outcome go_on).events ≡ []
 none_behind cause outcome go_on listens is =
     search rules
-
-listens_behind : {A R : Type 0} (cause : Cause) (outcome : Option (A × ℕ × Tape))
-    (go_on : A → ℕ → Tape → Played OutputEvent R) → Listens cause outcome
-    → Listens cause (continued outcome go_on).outcome
-listens_behind OfListening outcome go_on listens = ap (λ o. (continued o go_on).outcome) listens
-listens_behind cause outcome go_on listens = tt
 
 -- in an operation of the host; its report follows it
 

@@ -19,27 +19,6 @@ use Rattle.avr_desk.proofs.Lines.Told.{follows_here, not_failed}
 
 -- sound devices leave only allocation as a cause
 
-link_stood : {old new : Devices} → IsSound old new → link.HasFailed old.link new.link → ⊥
-link_stood {old = old} {new = new} sound =
-    search rules
-
-only_memory : {takes : Bool} {old new : Devices} {said : List OutputEvent} {told : Bytes} (cause : Cause)
-    → IsSound old new
-    → StopsBehind (untold takes) old new said cause told → cause ≡ OfMemory
-only_memory OfSending sound stops = absurd (link_stood sound stops.has_come.0)
-only_memory OfListening sound stops = absurd (link_stood sound stops.has_come.0)
-only_memory OfMemory sound stops = refl
-only_memory {old = old} {new = new} cause sound stops =
-    search rules
-
--- and its line was reported whole
-told_of_memory : (flag : Bool) (told : Bytes) (a between b : DeskState) → Follows a between
-    → HasStood a.failures b.failures → TellsCause flag OfMemory told between b → told ≡ cause_line OfMemory
-told_of_memory false told a between b since sound (inl whole) = whole.0
-told_of_memory false told a between b since sound (inr part) =
-    absurd (not_failed a between b b since (follows_here b) sound part.1.0)
-told_of_memory true told a between b since sound tells = absurd tells
-
 lacks : {takes : Bool} {old new : Devices} {said : List OutputEvent} {told : Bytes} (cause : Cause) → IsSound old new
     → StopsBehind (untold takes) old new said cause told → told ≡ cause_line OfMemory
 lacks {old = old} {new = new} {said = said} {told = told} cause sound stops =

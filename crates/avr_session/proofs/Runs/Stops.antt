@@ -43,20 +43,6 @@ place_behind (OfFile file NotWritten) before whole begun later (inl x) =
 place_behind (OfFile file NotWritten) before whole begun later (inr x) = inr x
 place_behind cause before whole begun later x = x
 
--- what was done in part is a part of what was due
-frame_part : (begun later : List (Event OutputEvent)) → AtFrame begun later → play.IsBegun SaidPart begun later
-frame_part begun later x = rw (x.part, x.due) (x.unsent, refl)
-
-pub place_part : (cause : Cause) (whole begun later : List (Event OutputEvent)) → StopsAt cause whole begun later
-    → play.IsBegun SaidPart begun later
-place_part OfSending whole begun later x = frame_part begun later x
-place_part OfListening whole begun later x = rw (x.0) tt
-place_part (OfFile file NotCreated) whole begun later x = rw (x.none) tt
-place_part (OfFile file NotWritten) whole begun later (inl x) = rw (x.1.part, x.1.due) x.1.prefix
-place_part (OfFile file NotWritten) whole begun later (inr x) = rw (x.1.part, x.1.due) x.1.prefix
-place_part OfPrinting whole begun later x = rw (x.part, x.due) x.prefix
-place_part OfMemory whole begun later none = rw none tt
-
 -- a desk doesn't listen
 
 pub desk_says : (cause : Cause) → IsOfDesk cause → cause ≡ OfListening → ⊥

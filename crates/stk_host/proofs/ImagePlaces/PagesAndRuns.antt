@@ -57,9 +57,6 @@ used page image start addr from before within held =
     (omega (arith, short, left, inside, within, from))
     (search (rules, get_or-take, get_or-drop))
 
-is_below : (a b size top : ℕ) → a * size ≤ top → top < b * size → a < b
-is_below a b size top from before = search rules
-
 -- where runs begin
 
 begun : (page : ℕ) (image : List (Option ℕ)) (addr : ℕ) → is_some (byte_at image addr) ≡ true
