@@ -11,8 +11,6 @@ use Rattle.stk_emu.specs.Effect.{Memories, Item, effect, effects}
 use Rattle.stk_emu.specs.Settled.{Idle, FitsPart}
 use Rattle.stk_emu.specs.PageWrites.{changed, changed_by, page_write_of, steps_of, all_steps, AllFitItems}
 use Rattle.avr_laws.proofs.Each.{Each, each_of}
-use Rattle.avr_laws.proofs.Leads.{Reached}
-use Rattle.stk_emu.proofs.Answers.Commands.{settled_idle}
 use Rattle.avr_laws.proofs.PageWrites.Items.{items_do, changed_all, effect_sizes}
 
 -- the memories of the first so many of these steps, in any mode
@@ -54,14 +52,6 @@ all_on part (item ∷ xs) ys = ap (λ steps. steps_of part item ++ steps) (all_o
     ∙ sym (append_assoc (steps_of part item) (all_steps part xs) (all_steps part ys))
 
 module _ (part : Part) where
-  pub reached_rests : (steps : List (List Command)) (m : Memories) (q : Programmer) → Reached part steps m q
-      → Rests part steps m q
-  reached_rests steps m q r = record {
-    count = r.count;
-    stands =
-        settled_idle part (changed_by part r.count steps m) q r.stands;
-  }
-
   pub rests_here : (steps : List (List Command)) (m : Memories) (q : Programmer) → Idle part m q → Rests part steps m q
   rests_here steps m q idle = record { count = 0; stands = idle }
 

@@ -1,6 +1,5 @@
 -- A device behind a line that may make any turn at any question, in the logic of dialogs: attempts and steps of a host.
 use Rattle.std.proofs.Common.{◌≡◌, ℕ, zero, suc, List, [], ◌∷◌, ◌++◌, length, refl, subst, ◌⊎◌, inl, inr, Ok, Err}
-use Rattle.std.specs.Prelude.{⊤}
 use Rattle.stk_frame.specs.declared.command.Command.{Command}
 use Rattle.stk_frame.specs.Commands.{body}
 use Rattle.stk_host.specs.declared.fault.StepFault.{StepFault}
@@ -52,12 +51,6 @@ module _ {P : Type 0} (m : Device P) where
     during = λ k. (led J Says A A' at_end d k p turns l.holds).0;
     after = λ k. (led J Says A A' at_end d k p turns l.holds).1;
   }
-
-  -- what it comes to, whatever holds meanwhile
-  pub leads_to : {E R : Type 0} {During : P → Type 0} {Says : E → P → Type 0} {After : R → P → Type 0} {d : Dialog E R}
-      {p : P} {turns : List Turn} → Upholds (any_turn m) (λ bytes q. During q) Says After d p
-      → Leads m d p turns (λ q. ⊤) After
-  leads_to l = leads (λ r q a. (tt, a)) (wider (λ bytes q x. tt) (λ e q x. x) (λ r q a. a) l)
 
   -- what a call upholds where one condition holds throughout
   abbrev pub Keeps : {R : Type 0} → (P → Type 0) → (R → P → Type 0) → Dialog ⊥ R → P → Type 0
