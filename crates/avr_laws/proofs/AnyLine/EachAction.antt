@@ -92,10 +92,7 @@ module _ (part : Part) (s : Switches) (At : Memories → Spot → Type 0) (Fails
 module _ (part : Part) (sound : IsPart part) (s : Switches) where
   -- what may come of a call on any line
   abbrev AnyOutcome : (action : Action) → Memories → Result (Outcome action) HostFault → Programmer → Type 0
-  AnyOutcome action m got q =
-      ((got ≡ outcome_of part action m) × Settled part (effects part (action_items action) m) q)
-      ⊎ (⊤ × ((fault : StepFault) × (got ≡ Err (host_fault fault))
-      × Rests part (all_steps part (action_items action)) m q))
+  AnyOutcome action m got q = Came part s (λ m z. Settled part m z.0) ⊤ action m got (q, [])
 
   abbrev pub ComesAnyhow : Action → Memories → Programmer → Type 0
   ComesAnyhow action m p = Keeps device (Rests part (all_steps part (action_items action)) m) (AnyOutcome action m)

@@ -11,8 +11,6 @@ use Rattle.stk_emu.specs.Effect.{Memories, Item, effect, effects}
 use Rattle.stk_emu.specs.Settled.{Idle, FitsPart}
 use Rattle.stk_emu.specs.PageWrites.{changed, changed_by, page_write_of, steps_of, all_steps, AllFitItems}
 use Rattle.avr_laws.proofs.Each.{Each, each_of}
-use Rattle.avr_laws.proofs.Leads.{Reached}
-use Rattle.stk_emu.proofs.Answers.Commands.{settled_idle}
 use Rattle.avr_laws.proofs.PageWrites.Items.{items_do, changed_all, effect_sizes}
 
 -- the memories after some number of first steps, in any mode
@@ -52,7 +50,6 @@ all_on part [] ys = refl
 all_on part (item ∷ xs) ys = search (rules, append_assoc, all_on part xs ys)
 
 module _ (part : Part) where
-
   pub rests_here : (steps : List (List Command)) (m : Memories) (q : Programmer) → Idle part m q → Rests part steps m q
   rests_here steps m q idle = record { count = 0; stands = idle }
 

@@ -1,33 +1,30 @@
 -- A session makes the page writes of its plan in their order.
-use Rattle.std.proofs.Common.{◌≡◌, ℕ, ◌+◌, ◌-◌, List, [], ◌∷◌, ◌++◌, take, refl, sym, ap, ◌∙◌, subst, arith, inl, inr, Err, Result, rules}
-use Rattle.std.proofs.lemmas.Bool.{cond-true}
+use Rattle.std.proofs.Common.{◌≡◌, ℕ, ◌+◌, ◌-◌, List, [], ◌∷◌, take, refl, sym, ap, ◌∙◌, subst, arith, inl, inr, Result}
 use Rattle.std.proofs.lemmas.List.{append-nil}
 use Rattle.std.specs.Prelude.{All, ⊤}
 use Rattle.avr_cli.specs.declared.settings.Switches.{Switches}
 use Rattle.avr_desk.specs.Said.{OutputEvent}
-use Rattle.avr_part.specs.Mem.{is_writable}
 use Rattle.avr_part.specs.Part.{Part, IsPart}
 use Rattle.avr_plan.specs.Plan.{Plan, IsFitted}
-use Rattle.stk_host.specs.declared.fault.HostFault.TheVariants.{ReadOnly}
 use Rattle.stk_host.specs.declared.fault.HostFault.{HostFault}
 use Rattle.stk_host.specs.Dialog.{Dialog, Done, ◌>>=◌}
 use Rattle.stk_host.specs.WriteSteps.{write_steps}
-use Rattle.stk_host.specs.Operations.{no_result, operation, closing}
+use Rattle.stk_host.specs.Operations.{operation, closing}
 use Rattle.stk_emu.specs.Turn.{Turn}
 use Rattle.stk_emu.specs.Programmer.{Programmer}
 use Rattle.stk_emu.specs.Device.{device}
 use Rattle.stk_emu.specs.Along.{along}
-use Rattle.stk_emu.specs.Effect.{Memories, Item, Erase, Write, effects, memories_of}
+use Rattle.stk_emu.specs.Effect.{Memories, Item, effects, memories_of}
 use Rattle.stk_emu.specs.Settled.{Idle, Settled, FitsPart}
 use Rattle.stk_emu.specs.PageWrites.{changed_by, all_steps, AreSteps, AllFitItems}
 use Rattle.avr_laws.proofs.Leads.{Leads, GoesOn}
 use Rattle.avr_laws.specs.Tallies.{Count, with_next, then_count, Tallies}
 use Rattle.avr_laws.proofs.PageWrites.StepCounts.{items_counted}
-use Rattle.avr_laws.proofs.PageWrites.Items.{write_are_steps, item_are_steps}
 use Rattle.avr_laws.proofs.PageWrites.Counts.{tallies_none, tallies_as, tallies_bind}
 use Rattle.avr_session.specs.Standing.{Standing, Fine, Faulty, Over}
 use Rattle.avr_session.specs.Actions.{Action, OpenSession, EraseChip, WriteImage, actions}
-use Rattle.avr_session.specs.Session.{reported, erased_says, written_says, closed_says, action_dialog, actions_dialog, ending, playing, status_of, session}
+use Rattle.avr_session.specs.PlanSteps.{action_steps}
+use Rattle.avr_session.specs.Session.{reported, closed_says, action_dialog, actions_dialog, ending, playing, status_of, session}
 use Rattle.avr_laws.specs.Items.{action_items, actions_items, items}
 use Rattle.avr_laws.specs.Made.{none_made, action_made, actions_made, made_by}
 use Rattle.avr_laws.specs.Outcome.{page_writes}
@@ -39,7 +36,7 @@ use Rattle.avr_laws.proofs.Hosts.Operations.{along_told, closing_goes}
 use Rattle.avr_laws.proofs.Hosts.OneLine.{Spot, on_line}
 use Rattle.avr_laws.proofs.Hosts.Outputs.{AllTrue, Prints, stops, at_moment, prints_reported, prints_then, prints_wider}
 use Rattle.avr_laws.proofs.PageWrites.Steps.{leave_fits}
-use Rattle.avr_laws.proofs.Plans.Calls.{outcome_of, outcome_says}
+use Rattle.avr_laws.proofs.Plans.Calls.{outcome_of, outcome_says, dialog_is, is_operation}
 use Rattle.stk_emu.proofs.Answers.Commands.{settled_idle}
 use Rattle.avr_laws.proofs.AnyLine.PageWrites.{Changed, Makes, makes_none, makes_items, makes_then}
 
@@ -84,19 +81,22 @@ module _ (part : Part) (sound : IsPart part) (s : Switches) where
           )
           (on_line device comes))
 
+  makes_written : (action : Action) (m : Memories) → FitsAction part action → FitsPart part m
+      → action_steps part action ≡ all_steps part (action_items action)
+      → Strikes part m (action_items action) (action_made part action) (action_dialog part s action)
+  makes_written action m fits f same p turns settled =
+      let o = is_operation part s sound m f action fits in
+      subst (λ d. Makes part m (action_items action) d (action_made part action) p turns)
+      (ap (λ steps. reported (operation steps o.judge) (outcome_says part s action)) (sym same)
+      ∙ (ap (λ call. reported call (outcome_says part s action)) o.call_is ∙ dialog_is part s action))
+      (makes_items part sound m (action_items action) o.judge (outcome_says part s action) p turns
+      (subst (AreSteps part) same o.are) settled)
+
   makes_action : (action : Action) (m : Memories) → FitsAction part action → FitsPart part m
       → Strikes part m (action_items action) (action_made part action) (action_dialog part s action)
-  makes_action EraseChip m fits f = λ p turns settled.
-      makes_items part sound m (Erase ∷ []) no_result (erased_says s.quiet part) p turns
-      (item_are_steps part sound Erase tt) settled
-  makes_action (WriteImage mem image) m fits f = λ p turns settled.
-      let steps = write_steps part mem image in
-      let only : steps ++ [] ≡ steps = append-nil steps in
-      subst (λ call. Makes part m (Write mem image ∷ []) (reported call (written_says s.quiet part mem image))
-      (action_made part (WriteImage mem image)) p turns)
-      (search (rules, cond-true))
-      (makes_items part sound m (Write mem image ∷ []) no_result (written_says s.quiet part mem image) p turns
-      (search (rules, write_are_steps)) settled)
+  makes_action EraseChip m fits f = makes_written EraseChip m fits f refl
+  makes_action (WriteImage mem image) m fits f =
+      makes_written (WriteImage mem image) m fits f (sym (append-nil (write_steps part mem image)))
   makes_action action m fits f = λ p turns settled.
       makes_none part m (action_dialog part s action) p turns
       (λ at q. at ≡ Fine → Settled part (effects part (action_items action) m) q)

@@ -1,7 +1,7 @@
 -- The actions of a session, by the page writes that they make one after another.
 use Rattle.std.proofs.Common.{◌≡◌, ℕ, zero, suc, ◌+◌, ◌-◌, ◌≤◌, List, [], ◌∷◌, ◌++◌, length, refl, sym, ap, ◌∙◌, subst, arith, inl, inr, Ok, Result, rules}
 use Rattle.std.proofs.lemmas.List.{length-append}
-use Rattle.std.specs.Prelude.{⊤, min}
+use Rattle.std.specs.Prelude.{min}
 use Rattle.avr_desk.specs.Said.{OutputEvent}
 use Rattle.avr_part.specs.Part.{Part, IsPart}
 use Rattle.stk_frame.specs.declared.command.Command.{Command}
@@ -71,8 +71,8 @@ steps_most (commands ∷ steps) k p turns =
 
 module _ (part : Part) (sound : IsPart part) where
   -- the steps of items
-  module _ (m : Memories) (items : List Item) (judge : List ℕ → Result ⊤ HostFault)
-      (outcome_says : Result ⊤ HostFault → List OutputEvent) (p : Programmer) (turns : List Turn)
+  module _ {A : Type 0} (m : Memories) (items : List Item) (judge : List ℕ → Result A HostFault)
+      (outcome_says : Result A HostFault → List OutputEvent) (p : Programmer) (turns : List Turn)
       (are : AreSteps part (all_steps part items)) (settled : Settled part m p) where
     abbrev steps : List (List Command)
     steps = all_steps part items

@@ -1,6 +1,5 @@
--- A device behind a link that may make any turn at any question, in the logic of dialogs: attempts and steps of a host.
-use Rattle.std.proofs.Common.{◌≡◌, ℕ, zero, suc, List, [], ◌∷◌, ◌++◌, length, refl, subst, ◌⊎◌, inl, inr, Ok, Err, rules}
-use Rattle.std.specs.Prelude.{⊤}
+-- A device behind a line that may make any turn at any question, in the logic of dialogs: attempts and steps of a host.
+use Rattle.std.proofs.Common.{◌≡◌, ℕ, zero, suc, List, [], ◌∷◌, ◌++◌, length, refl, subst, ◌⊎◌, inl, inr, Ok, Err}
 use Rattle.stk_frame.specs.declared.command.Command.{Command}
 use Rattle.stk_frame.specs.Commands.{body}
 use Rattle.stk_host.specs.declared.fault.StepFault.{StepFault}
@@ -53,7 +52,7 @@ module _ {P : Type 0} (m : Device P) where
     after = λ k. (led J Says A A' at_end d k p turns l.holds).1;
   }
 
-  -- what a call upholds if one condition holds throughout
+  -- what a call upholds where one condition holds throughout
   abbrev pub Keeps : {R : Type 0} → (P → Type 0) → (R → P → Type 0) → Dialog ⊥ R → P → Type 0
   Keeps During After d p = Upholds (any_turn m) (λ bytes q. During q) NoSays After d p
 

@@ -1,5 +1,5 @@
--- The operations of a host over any link, in the logic of dialogs: what holds during and after them.
-use Rattle.std.proofs.Common.{◌≡◌, ℕ, zero, suc, List, [], ◌∷◌, ◌++◌, length, append_assoc, refl, sym, ap, ◌∙◌, subst, ◌⊎◌, inl, inr, Ok, Err, Result, rules}
+-- The operations of a host over any line, in the logic of dialogs: what holds during and after them.
+use Rattle.std.proofs.Common.{◌≡◌, ℕ, suc, List, [], ◌∷◌, ◌++◌, length, append_assoc, refl, sym, ap, ◌∙◌, subst, ◌⊎◌, inl, inr, Ok, Err, Result}
 use Rattle.std.proofs.lemmas.List.{append-nil}
 use Rattle.std.specs.Prelude.{⊤}
 use Rattle.avr_part.specs.Part.{Part, IsPart}
@@ -8,12 +8,12 @@ use Rattle.stk_frame.specs.declared.command.Command.TheVariants.{SignOn}
 use Rattle.stk_frame.specs.HostCommands.{enter, leave}
 use Rattle.stk_host.specs.declared.fault.HostFault.{HostFault}
 use Rattle.stk_host.specs.declared.fault.StepFault.{StepFault}
-use Rattle.stk_host.specs.Dialog.{Dialog, Done, Say, Ask, ◌>>=◌, lifted}
+use Rattle.stk_host.specs.Dialog.{Dialog, Done, ◌>>=◌}
 use Rattle.stk_host.specs.Steps.{StepOutcome, step, if_done, play}
 use Rattle.stk_host.specs.ReadSteps.{signature_steps}
 use Rattle.stk_host.specs.Operations.{host_fault, handshake, without_bytes, closing, judged_by, operation}
 use Rattle.stk_host.proofs.Dialogs.Logic.{OnOutcome, done, bind, told, wider, on_data}
-use Rattle.stk_emu.specs.Turn.{Turn, other_turns}
+use Rattle.stk_emu.specs.Turn.{Turn}
 use Rattle.stk_emu.specs.Programmer.{Programmer}
 use Rattle.stk_emu.specs.Device.{Device, device}
 use Rattle.stk_emu.specs.Along.{LineState, along}
@@ -128,11 +128,7 @@ closing_goes Stands fits p stands =
 
 -- ---- along a link
 
--- a dialog without output, as a part of one with output
-abbrev raised : {E R P : Type 0} → LineState ⊥ R P → LineState E R P
-raised s = record { dialog = lifted s.dialog; programmer = s.programmer; turns = s.turns; left = s.left }
-
--- a dialog whose result is reported in another form
+-- a dialog whose result is only reported otherwise
 abbrev reported : {E A B P : Type 0} → (A → B) → LineState E A P → LineState E B P
 reported tell s = record {
   dialog = s.dialog >>= (λ a. Done (tell a));
@@ -141,15 +137,8 @@ reported tell s = record {
   left = s.left;
 }
 
--- both go along as the dialog itself does
+-- it goes along as the dialog itself does
 module _ {E P : Type 0} (m : Device P) where
-  pub along_lifted : {R : Type 0} (k : ℕ) (d : Dialog ⊥ R) (p : P) (turns : List Turn)
-      → along {E = E} m k (lifted d) p turns ≡ raised (along m k d p turns)
-  along_lifted k (Done r) p turns = refl
-  along_lifted k (Say e d) p turns = absurd e
-  along_lifted zero (Ask bytes go_on) p turns = refl
-  along_lifted (suc k) (Ask bytes go_on) p turns = along_lifted k (go_on _) _ (other_turns turns)
-
   pub along_told : {A B : Type 0} (k : ℕ) (d : Dialog E A) (tell : A → B) (p : P) (turns : List Turn)
       → along m k (d >>= (λ a. Done (tell a))) p turns ≡ reported tell (along m k d p turns)
   along_told {A = A} {B = B} k d tell p turns = search (rules, along_bind, told, onward)

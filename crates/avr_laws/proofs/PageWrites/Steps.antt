@@ -16,8 +16,7 @@ use Rattle.stk_emu.specs.Device.{device}
 use Rattle.stk_emu.specs.Effect.{Memories, Item, Erase, Write, effect}
 use Rattle.stk_emu.specs.Settled.{Idle, Settled, Ready}
 use Rattle.stk_emu.specs.Fits.{Fits}
-use Rattle.avr_laws.proofs.Leads.{AllFit}
-use Rattle.stk_emu.specs.PageWrites.{changed, changed_by, IsStep, Erases, ProgramsPage, ProgramsRun, ProgramsFuse, ProgramsLock, ReadsFlash, ReadsEeprom, ReadsFuse, ReadsLock, ReadsSignature, ReadsCalibration, AreSteps, IsPage, FitsEepromPage, IsBlock, AreWords}
+use Rattle.stk_emu.specs.PageWrites.{changed, IsStep, Erases, ProgramsPage, ProgramsRun, ProgramsFuse, ProgramsLock, ReadsFlash, ReadsEeprom, ReadsFuse, ReadsLock, ReadsSignature, ReadsCalibration, IsPage, FitsEepromPage, IsBlock, AreWords}
 use Rattle.avr_laws.proofs.PageWrites.NetWrites.{written_again, erased_again}
 use Rattle.stk_emu.proofs.Answers.Commands.{one_fits, steady, one_steady, two_steady, settled_idle, ready_settled, ready_idle, anew_idle, anew_settled, sign_on_keeps, enter_does, leave_keeps, load_keeps, fuse_does, lock_does, erase_does, fuse_read_after, lock_read_after, signature_read_after, calibration_read_after}
 use Rattle.stk_emu.proofs.Memories.Runs.{run_does}
@@ -139,4 +138,5 @@ module _ (part : Part) where
     step_ready commands m (ReadsSignature place few e) =
         by_commands _ commands m e (search (rules, quiet, signature_read_after))
     step_ready commands m (ReadsCalibration e) =
-        by_commands _ commands m e (search (rules, quiet, calibration_read_after))
+        by_commands _ commands m e (quiet read_calibration m
+        (λ p s. subst (Ready part m) (sym (calibration_read_after p s.mode)) s))
