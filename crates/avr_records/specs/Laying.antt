@@ -3,8 +3,8 @@ use Rattle.std.specs.Prelude.{ℕ, ◌≡◌, ◌<◌, ◌⊎◌, List, ◌++◌
 use Rattle.std.specs.List.{enumerate_from}
 use Rattle.avr_records.specs.Needed.{end_past}
 use Rattle.avr_records.specs.Reading.{beyond}
-use Rattle.avr_records.specs.declared.kind.Base.{Base}
-use Rattle.avr_records.specs.declared.kind.Base.TheVariants.{Linear, Segment}
+use Rattle.avr_records.specs.declared.kind.AddressBase.{AddressBase}
+use Rattle.avr_records.specs.declared.kind.AddressBase.TheVariants.{Linear, Segment}
 use Rattle.avr_records.specs.declared.spans.Spans.{Spans}
 
 abbrev pub spans_places : Spans → List (ℕ × ℕ)
@@ -17,6 +17,6 @@ Extends limit end places result =
     (λ addr. beyond limit places ≡ Some addr)
 
 -- the first byte of a record at this offset has an address below 2 ^ 32
-abbrev pub Near : Base → ℕ → Type 0
+abbrev pub Near : AddressBase → ℕ → Type 0
 Near (Linear upper) offset = (offset < 65536) ⊎ (upper ≡ 0)
 Near (Segment paragraph) offset = Unit {0}

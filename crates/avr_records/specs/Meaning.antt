@@ -3,20 +3,20 @@ use Rattle.std.specs.Prelude.{ℕ, ◌+◌, ◌*◌, ◌==◌, nat_le, List, [],
 use Rattle.avr_records.specs.Record.{RecordFields}
 use Rattle.avr_records.specs.declared.kind.Kind.{Kind}
 use Rattle.avr_records.specs.declared.kind.Kind.TheVariants.{Ihex, Srec}
-use Rattle.avr_records.specs.declared.kind.Base.{Base}
-use Rattle.avr_records.specs.declared.kind.Base.TheVariants.{Linear, Segment}
+use Rattle.avr_records.specs.declared.kind.AddressBase.{AddressBase}
+use Rattle.avr_records.specs.declared.kind.AddressBase.TheVariants.{Linear, Segment}
 
 -- Nothing that counts, such as a header or a start address; bytes at an offset; a new base; how many data records
 -- came before; the end.
 pub data Meaning : Type 0 where
   Nothing : Meaning
   Data : ℕ → List ℕ → Meaning
-  Rebase : Base → Meaning
+  Rebase : AddressBase → Meaning
   Counted : ℕ → Meaning
   End : Meaning
 
 -- a base from the two bytes of its record, high byte first
-abbrev pub rebase : (ℕ → Base) → List ℕ → Meaning
+abbrev pub rebase : (ℕ → AddressBase) → List ℕ → Meaning
 rebase base (high ∷ low ∷ []) = Rebase (base (high * 256 + low))
 rebase base bytes = Nothing
 

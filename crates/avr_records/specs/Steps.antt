@@ -11,8 +11,8 @@ use Rattle.avr_records.specs.declared.kind.Kind.{Kind}
 use Rattle.avr_records.specs.declared.kind.Kind.TheVariants.{Ihex, Srec}
 use Rattle.avr_records.specs.declared.kind.Ending.{Ending}
 use Rattle.avr_records.specs.declared.kind.Ending.TheVariants.{Ended, NoEnd}
-use Rattle.avr_records.specs.declared.kind.Base.{Base}
-use Rattle.avr_records.specs.declared.kind.Base.TheVariants.{Linear}
+use Rattle.avr_records.specs.declared.kind.AddressBase.{AddressBase}
+use Rattle.avr_records.specs.declared.kind.AddressBase.TheVariants.{Linear}
 use Rattle.avr_records.specs.declared.fault.LineFault.{LineFault}
 use Rattle.avr_records.specs.declared.fault.RecordFault.{RecordFault}
 use Rattle.avr_records.specs.declared.progress.Progress.{Progress}
@@ -49,7 +49,7 @@ abbrev pub ending_of : Extent → Ending
 ending_of e = if e.ended then Ended else NoEnd
 
 -- S-records have no base
-abbrev pub HasBase : Kind → Base → Type 0
+abbrev pub HasBase : Kind → AddressBase → Type 0
 HasBase Ihex base = Unit {0}
 HasBase Srec base = base ≡ Linear 0
 

@@ -8,14 +8,14 @@ ghost use Rattle.avr_records.specs.Steps.{ending_of, no_lines, after_line, next_
 
 use crate::bytes::ROOM;
 use crate::fault::RecordFault;
-use crate::kind::{Base, Ending, Kind};
+use crate::kind::{AddressBase, Ending, Kind};
 use crate::line::{Line, line_says};
 use crate::spans::Spans;
 
 #[derive(Clone, Copy)]
 pub struct Extent {
     /// The base of the addresses of data records.
-    pub(crate) base: Base,
+    pub(crate) base: AddressBase,
     pub(crate) data_records: u32,
     pub(crate) lines: u32,
     /// The address after the highest byte.
@@ -29,7 +29,7 @@ impl Extent {
         ensures { result ≡ no_lines }
     {
         Extent {
-            base: Base::Linear(0),
+            base: AddressBase::Linear(0),
             data_records: 0,
             lines: 0,
             end: 0,

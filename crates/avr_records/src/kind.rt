@@ -76,7 +76,7 @@ pub(crate) const SEGMENT: u32 = 65_536;
 
 /// The base of the addresses of data records.
 #[derive(Clone, Copy)]
-pub enum Base {
+pub enum AddressBase {
     /// The upper 16 bits of the address.
     Linear(u16),
     /// A paragraph of 16 bytes; an offset wraps within 65,536 bytes.

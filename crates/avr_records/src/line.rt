@@ -15,7 +15,7 @@ use crate::fault::LineFault;
 use crate::ihex::{
     DATA, END_OF_FILE, EXTENDED_LINEAR_ADDRESS, EXTENDED_SEGMENT_ADDRESS, ihex_fields,
 };
-use crate::kind::{Base, Kind};
+use crate::kind::{AddressBase, Kind};
 use crate::record::LineRecord;
 use crate::srec::srec_fields;
 use memchr::memchr;
@@ -42,7 +42,7 @@ pub enum Line<'a> {
     Nothing,
     /// Bytes at an offset.
     Data(u32, &'a [u8]),
-    Rebase(Base),
+    Rebase(AddressBase),
     /// How many data records came before.
     Counted(u32),
     End,
@@ -171,21 +171,21 @@ pub(crate) fn line_says<'b>(
 }
 
 fn linear_base(bytes: &[u8]) -> Line<'_>
-    ensures means { meaning_of result ≡ rebase Base.Linear bytes.now }
+    ensures means { meaning_of result ≡ rebase AddressBase.Linear bytes.now }
     ensures fits { FitsKind Kind.Ihex result }
 {
     match bytes {
-        [high, low] => Line::Rebase(Base::Linear(u16::from_be_bytes([*high, *low]))),
+        [high, low] => Line::Rebase(AddressBase::Linear(u16::from_be_bytes([*high, *low]))),
         _ => Line::Nothing,
     }
 }
 
 fn segment_base(bytes: &[u8]) -> Line<'_>
-    ensures means { meaning_of result ≡ rebase Base.Segment bytes.now }
+    ensures means { meaning_of result ≡ rebase AddressBase.Segment bytes.now }
     ensures fits { FitsKind Kind.Ihex result }
 {
     match bytes {
-        [high, low] => Line::Rebase(Base::Segment(u16::from_be_bytes([*high, *low]))),
+        [high, low] => Line::Rebase(AddressBase::Segment(u16::from_be_bytes([*high, *low]))),
         _ => Line::Nothing,
     }
 }

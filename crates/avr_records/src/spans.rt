@@ -5,7 +5,7 @@ ghost use Rattle.avr_image.specs.Image.{laid_over};
 ghost use Rattle.avr_records.specs.Laying.{Extends, Near, spans_places};
 ghost use Rattle.avr_records.specs.Reading.{beyond, places};
 
-use crate::kind::{Base, SEGMENT};
+use crate::kind::{AddressBase, SEGMENT};
 use avr_image::Image;
 
 /// Returns the end of all bytes once these are added, or their first address that isn't below `limit`.
@@ -58,7 +58,7 @@ impl<'a> Spans<'a> {
 
     fn in_segment(paragraph: u16, offset: u32, bytes: &'a [u8]) -> Spans<'a>
         requires { length bytes.now ≤ 255 }
-        ensures { spans_places result ≡ places (Base.Segment paragraph) offset bytes.now }
+        ensures { spans_places result ≡ places (AddressBase.Segment paragraph) offset bytes.now }
     {
         let start = paragraph as u32 * 16;
         let offset = offset % SEGMENT;
@@ -74,14 +74,14 @@ impl<'a> Spans<'a> {
         }
     }
 
-    pub(crate) fn of_record(base: Base, offset: u32, bytes: &'a [u8]) -> Spans<'a>
+    pub(crate) fn of_record(base: AddressBase, offset: u32, bytes: &'a [u8]) -> Spans<'a>
         requires short { length bytes.now ≤ 255 }
         requires near { Near base offset }
         ensures { spans_places result ≡ places base offset bytes.now }
     {
         match base {
-            Base::Linear(upper) => Spans::one(upper as u32 * SEGMENT + offset, bytes),
-            Base::Segment(paragraph) => Spans::in_segment(paragraph, offset, bytes),
+            AddressBase::Linear(upper) => Spans::one(upper as u32 * SEGMENT + offset, bytes),
+            AddressBase::Segment(paragraph) => Spans::in_segment(paragraph, offset, bytes),
         }
     }
 

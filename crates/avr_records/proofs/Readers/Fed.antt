@@ -17,7 +17,7 @@ use Rattle.avr_records.specs.Record.{longest}
 use Rattle.avr_records.specs.Steps.{next_progress, ending_of, HasBase, HasNoLines, Begins}
 use Rattle.avr_records.specs.declared.kind.Kind.{Kind}
 use Rattle.avr_records.specs.declared.kind.Kind.TheVariants.{Ihex, Srec}
-use Rattle.avr_records.specs.declared.kind.Base.TheVariants.{Linear}
+use Rattle.avr_records.specs.declared.kind.AddressBase.TheVariants.{Linear}
 use Rattle.avr_records.specs.declared.fault.LineFault.TheVariants.{TooLong}
 use Rattle.avr_records.specs.declared.fault.RecordFault.{RecordFault}
 use Rattle.avr_records.specs.declared.progress.Progress.{Progress}

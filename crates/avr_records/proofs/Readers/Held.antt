@@ -17,8 +17,8 @@ use Rattle.avr_records.specs.Steps.{extent_unless, next_extent, with_extent, nex
 use Rattle.avr_records.specs.declared.extent.Extent.{Extent}
 use Rattle.avr_records.specs.declared.fault.LineFault.{LineFault}
 use Rattle.avr_records.specs.declared.fault.RecordFault.{RecordFault}
-use Rattle.avr_records.specs.declared.kind.Base.{Base}
-use Rattle.avr_records.specs.declared.kind.Base.TheVariants.{Linear}
+use Rattle.avr_records.specs.declared.kind.AddressBase.{AddressBase}
+use Rattle.avr_records.specs.declared.kind.AddressBase.TheVariants.{Linear}
 use Rattle.avr_records.specs.declared.progress.Progress.{Progress}
 use Rattle.avr_records.proofs.Readers.LaterLines.{in_place-append, first_fault-append, up_to_end-open, up_to_end-done, up_to_end-any}
 
@@ -126,7 +126,13 @@ holds-on p new said line on h is =
     let size : image_size new ≡ image_size p =
     ap length parts.1 ∙ length-laid_over (placed_under p.extent.base line) p.image in
     let extent = counts-next (image_size p) p.extent new.extent said line on h.extent parts.0 in
-    search (rules, upto-last, image-last)
+    record {
+      extent = rw size extent;
+      image = parts.1
+          ∙ ap₂ (λ (i : List (Option ℕ)) (b : AddressBase). laid_over i (placed_under b line)) h.image h.extent.base
+          ∙ rw (size, upto-last said line (sym h.extent.ended ∙ on))
+          (sym (image-last (image_size p) (up_to_end said) line));
+    }
 
 done-step : (p : Progress) (line : Said) (out : Result Progress RecordFault) → p.extent.ended ≡ true
     → next_progress p line ≡ out → Ok p ≡ out

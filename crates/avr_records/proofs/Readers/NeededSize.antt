@@ -11,7 +11,7 @@ use Rattle.avr_records.specs.declared.kind.Kind.{Kind}
 use Rattle.avr_records.specs.declared.kind.Ending.{Ending}
 use Rattle.avr_records.specs.declared.fault.LineFault.{LineFault}
 use Rattle.avr_records.specs.declared.fault.LineFault.TheVariants.{Range}
-use Rattle.avr_records.specs.declared.kind.Base.{Base}
+use Rattle.avr_records.specs.declared.kind.AddressBase.{AddressBase}
 use Rattle.avr_records.specs.declared.fault.RecordFault.{RecordFault}
 use Rattle.avr_records.proofs.Readers.LaterLines.{or_later-none}
 use Rattle.avr_records.proofs.Texts.Places.{beyond-append, beyond-parts}
@@ -35,16 +35,16 @@ none-mapped : (f : ℕ → LineFault) (found : Option ℕ) → option_map f foun
 none-mapped f None is = refl
 none-mapped f (Some n) is = cc is
 
--- a line that is good for one memory is good for each memory that contains its bytes
-good : (size other : ℕ) (base : Base) (count : ℕ) (line : Said) → fault_under size base count line ≡ None
+-- a line that is good for one memory is good for each that its bytes lie in
+good : (size other : ℕ) (base : AddressBase) (count : ℕ) (line : Said) → fault_under size base count line ≡ None
     → beyond other (placed_under base line) ≡ None → fault_under other base count line ≡ None
 good size other base count (Err fault) none lies' = none
 good size other base count (Ok (Data offset bytes)) none lies' = ap (option_map Range) lies'
 good size other base count (Ok (Counted n)) none lies' = none
 good size other base count x none lies' = refl
 
--- and its bytes are in that memory
-lies : (size : ℕ) (base : Base) (count : ℕ) (line : Said) → fault_under size base count line ≡ None
+-- and its bytes lie in that one
+lies : (size : ℕ) (base : AddressBase) (count : ℕ) (line : Said) → fault_under size base count line ≡ None
     → beyond size (placed_under base line) ≡ None
 lies size base count (Ok (Data offset bytes)) none = none-mapped _ _ none
 lies size base count x none = refl

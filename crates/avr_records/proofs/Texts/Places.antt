@@ -14,13 +14,13 @@ use Rattle.avr_records.specs.Judging.{FitsKind}
 use Rattle.avr_records.specs.Laying.{Extends, Near}
 use Rattle.avr_records.specs.Needed.{end_past}
 use Rattle.avr_records.specs.Steps.{HasBase}
-use Rattle.avr_records.specs.declared.kind.Base.{Base}
-use Rattle.avr_records.specs.declared.kind.Base.TheVariants.{Linear, Segment}
+use Rattle.avr_records.specs.declared.kind.AddressBase.{AddressBase}
+use Rattle.avr_records.specs.declared.kind.AddressBase.TheVariants.{Linear, Segment}
 use Rattle.avr_records.specs.declared.kind.Kind.{Kind}
 use Rattle.avr_records.specs.declared.kind.Kind.TheVariants.{Ihex, Srec}
 use Rattle.avr_records.specs.declared.line.Line.TheVariants.{Data}
 
-abbrev places_from : Base → ℕ → ℕ → List ℕ → List (ℕ × ℕ)
+abbrev places_from : AddressBase → ℕ → ℕ → List ℕ → List (ℕ × ℕ)
 places_from base offset i bytes = map (λ p. (address base offset p.0, p.1)) (enumerate_from i bytes)
 
 -- ---- the addresses
@@ -51,7 +51,7 @@ pub places-segment : (paragraph offset : ℕ) (bytes : List ℕ) → offset % 65
     → places (Segment paragraph) offset bytes ≡ enumerate_from (paragraph * 16 + offset % 65536) bytes
 places-segment paragraph offset bytes room = grind (arith, nat_tests, segment-from)
 
-places_from-append : (base : Base) (offset i : ℕ) (xs ys : List ℕ)
+places_from-append : (base : AddressBase) (offset i : ℕ) (xs ys : List ℕ)
     → places_from base offset i (xs ++ ys) ≡ places_from base offset i xs ++ places_from base offset (i + length xs) ys
 places_from-append base offset i [] ys = ap (λ (n : ℕ). places_from base offset n ys) (omega arith)
 places_from-append base offset i (x ∷ xs) ys = grind (arith, nat_tests, places_from-append base offset (i + 1) xs ys)
@@ -172,7 +172,8 @@ lays-span old new addr bytes result none is laid = grind (arith, nat_tests, case
 -- ---- addresses in range
 
 -- the offset of Intel HEX is small, and S-records have no base
-pub near : (kind : Kind) (base : Base) (offset : ℕ) (bytes : _) → FitsKind kind (Data offset bytes) → HasBase kind base
+pub near : (kind : Kind) (base : AddressBase) (offset : ℕ) (bytes : _) → FitsKind kind (Data offset bytes)
+    → HasBase kind base
     → Near base offset
 near Ihex (Linear upper) offset bytes fits' has = inl fits'.0
 near Srec (Linear upper) offset bytes fits' has = inr (cc has)

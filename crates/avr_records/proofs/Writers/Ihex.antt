@@ -15,7 +15,7 @@ use Rattle.avr_records.specs.Ihex.{ihex_from_fields, checked_ihex, typed_ihex}
 use Rattle.avr_records.specs.Reading.{Said, said_by_line, record_meaning}
 use Rattle.avr_records.specs.Text.{two, with_sum_checksum, ihex_record, ihex_row_size, upper_record, ihex_rows}
 use Rattle.avr_records.specs.declared.kind.Kind.TheVariants.{Ihex}
-use Rattle.avr_records.specs.declared.kind.Base.TheVariants.{Linear}
+use Rattle.avr_records.specs.declared.kind.AddressBase.TheVariants.{Linear}
 use Rattle.avr_records.specs.declared.fault.LineFault.{LineFault}
 use Rattle.avr_records.proofs.Rows.Cuts.{IsBytes-nil, IsBytes-cons, IsBytes-append, IsRow, Every}
 use Rattle.avr_records.proofs.Writers.Lines.{is_plain, plain-digits, encode-digits, bytes_of-encode, says-plain, lines-plain, lines-written, sum-push}

@@ -8,8 +8,8 @@ use Rattle.std.proofs.lemmas.List.Sums.{fold-append}
 use Rattle.avr_image.specs.Image.{image_of_pairs}
 use Rattle.avr_records.specs.Meaning.{Nothing, Data, Rebase, Counted, End}
 use Rattle.avr_records.specs.Reading.{Said, is_end, up_to_end, in_place, next_base, base_after, address, places, placed_bytes, beyond, fault_in, or_later, first_fault, file_ending, together}
-use Rattle.avr_records.specs.declared.kind.Base.{Base}
-use Rattle.avr_records.specs.declared.kind.Base.TheVariants.{Linear}
+use Rattle.avr_records.specs.declared.kind.AddressBase.{AddressBase}
+use Rattle.avr_records.specs.declared.kind.AddressBase.TheVariants.{Linear}
 use Rattle.avr_records.specs.declared.kind.Ending.TheVariants.{Ended, NoEnd}
 use Rattle.avr_records.specs.declared.fault.LineFault.{LineFault}
 use Rattle.avr_records.specs.declared.fault.LineFault.TheVariants as line
@@ -25,13 +25,13 @@ beyond-parts size (p ∷ xs) ys none =
 
 -- ---- lines, one after another
 
--- the bytes of a line while this base is in force
-abbrev pub under : Base → Said → List (ℕ × ℕ)
+-- the bytes of a line where this base is in force
+abbrev pub under : AddressBase → Said → List (ℕ × ℕ)
 under base (Ok (Data offset bytes)) = places base offset bytes
 under base said = []
 
 -- the bytes of lines, from a base on
-abbrev pub threaded : Base → List Said → List (ℕ × ℕ)
+abbrev pub threaded : AddressBase → List Said → List (ℕ × ℕ)
 threaded base [] = []
 threaded base (said ∷ more) = under base said ++ threaded (next_base base said) more
 

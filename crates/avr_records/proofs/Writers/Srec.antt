@@ -20,7 +20,7 @@ use Rattle.avr_records.specs.Text.{width_of, low_bytes, with_count_and_checksum,
 use Rattle.avr_records.specs.declared.address_size.AddressSize.{AddressSize}
 use Rattle.avr_records.specs.declared.address_size.AddressSize.TheVariants.{Two, Three, Four}
 use Rattle.avr_records.specs.declared.kind.Kind.TheVariants.{Srec}
-use Rattle.avr_records.specs.declared.kind.Base.TheVariants.{Linear}
+use Rattle.avr_records.specs.declared.kind.AddressBase.TheVariants.{Linear}
 use Rattle.avr_records.specs.declared.fault.LineFault.{LineFault}
 use Rattle.avr_records.specs.declared.fault.LineFault.TheVariants.{Mark}
 use Rattle.avr_records.proofs.Writers.Pieces.{few_bytes, length_low_bytes}
