@@ -86,12 +86,17 @@ flash_loaded wide a i half (d ∷ ds) s e each =
     ∙ (ap (λ j. word_at a j % 256 % half * 2 + j % 2) (omega arith) ∙ (each 0 (omega arith) ∙ omega arith)) in
     let s₂ : chip.ChipState = record s { flash_buffer = set s.flash_buffer i d; extended = x } in
     let one : sent_to (flash_loads wide 0x40 a i (d ∷ ds)) s ≡ sent_to (flash_loads wide 0x40 a (suc i) ds) s₂ =
-    search (rules, sent-append, extended_is, load_byte) in
+    sent-append (extension wide (word_at a i)) _ s ∙ rw (extended_is wide (word_at a i) s)
+    (rw (load_byte i (high (word_at a i)) (low (word_at a i)) d s₁, here) refl) in
     let more : Loaded wide (suc i) ds s₂ (sent_to (flash_loads wide 0x40 a (suc i) ds) s₂) =
     flash_loaded wide a (suc i) half ds s₂ e
     (λ k l. ap (λ j. word_at a j % 256 % half * 2 + j % 2) (omega arith)
     ∙ (each (suc k) (omega arith) ∙ omega arith)) in
-    search (rules, cond-false)
+    record {
+      value = more.value;
+      kept = λ n. more.kept n ∙ cond-false wide (word_at a i / 65536 % 256) s.extended n;
+      is = one ∙ more.is;
+    }
 
 -- the place of byte j of a page
 word_place : (n half j : ℕ) → 256 % (half * 2) ≡ 0 → j < half * 2 → n * half + j / 2 < 2147483648
