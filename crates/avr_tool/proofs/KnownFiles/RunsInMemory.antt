@@ -124,7 +124,7 @@ only_told [] messages output reads = ap (λ (m : Bytes). told_left m output) (sy
 only_told (Opens opening ∷ says) messages output reads = only_told says messages output reads
 only_told (Line bytes ∷ says) messages output reads = only_told says (messages ++ bytes) output reads
     ∙ ap (λ (m : Bytes). told_left m output) (append_assoc messages bytes (joined (lines_in says)))
-only_told (output ∷ says) messages output reads = absurd reads
+only_told (event ∷ says) messages output reads = absurd reads
 
 -- so what planning leaves is the lines that it tells
 planning_left : (says : List OutputEvent) → OnlyReads says
