@@ -1,4 +1,4 @@
--- A call of the host, and what is said of it: where it stands on a line.
+-- A call of the host and the output about it: where both are along a link.
 use Rattle.std.proofs.Common.{◌≡◌, ℕ, List, [], ◌∷◌, refl, sym, ap, ◌∙◌, Ok, Err, Result}
 use Rattle.avr_desk.specs.Said.{OutputEvent}
 use Rattle.stk_frame.specs.declared.command.Command.{Command}
@@ -40,7 +40,7 @@ module _ {P : Type 0} (m : Device P) where
     on_programmer left turns p (Done outcome) = says_programmer left (outcome_says outcome) (standing outcome) p turns
     on_programmer left turns p d = refl
 
-    -- what is said moves nothing
+    -- output moves nothing
     pub reported_programmer : (k : ℕ) (p : P) (turns : List Turn)
         → (along m k (reported call outcome_says) p turns).programmer ≡ (along m k call p turns).programmer
     reported_programmer k p turns =
@@ -58,7 +58,7 @@ module _ {P : Type 0} (m : Device P) where
     on_fine left turns p (Say s d) e = absurd s
     on_fine left turns p (Ask bytes go_on) e = absurd (asks≢done _ _ _ e)
 
-    -- where it is fine the call has succeeded
+    -- if the session is fine, the call succeeded
     pub reported_fine : (k : ℕ) (p : P) (turns : List Turn)
         → (along m k (reported call outcome_says) p turns).dialog ≡ Done Fine
         → (a : A) × ((along m k call p turns).dialog ≡ Done (Ok a))
@@ -87,7 +87,7 @@ module _ {P : Type 0} (m : Device P) where
     judged_ok (Say s d) a e = absurd s
     judged_ok (Ask bytes go_on) a e = absurd (asks≢done _ _ _ e)
 
-    -- where it succeeds they were completed
+    -- if it succeeds, its steps were completed
     pub operation_ok : (k : ℕ) (p : P) (turns : List Turn) (a : A)
         → (along m k (operation steps judge) p turns).dialog ≡ Done (Ok a)
         → (got : List ℕ) × ((along m k (play steps []) p turns).dialog ≡ Done (Ok got))

@@ -1,4 +1,4 @@
--- The actions of a session over any line: what they leave, where all that they say is true.
+-- The actions of a session over any link: what they leave, if all their output is true.
 use Rattle.std.proofs.Common.{◌≡◌, ℕ, ◌≤◌, List, [], ◌∷◌, ◌++◌, length, refl, sym, ap, ◌∙◌, subst, arith, inl, inr, ◌⊎◌, Ok, Err, Result, Bool, Option, Some, None}
 use Rattle.std.proofs.lemmas.Bool.{cond-true}
 use Rattle.std.proofs.lemmas.List.{append-nil}
@@ -48,7 +48,7 @@ abbrev pub AllTrue : (OutputEvent → Programmer → Type 0) → List OutputEven
 AllTrue True [] q = ⊤
 AllTrue True (output ∷ outputs) q = True output q × AllTrue True outputs q
 
--- After an action of a session that does these items: if it is fine, it has done them all, and the check holds; after a
+-- After an action of a session that does these items. If it is fine, it did them all, and the check holds; after a
 -- fault the memories are those of some first steps.
 abbrev pub Comes : Part → Memories → List Item → Type 0 → Standing → Programmer → Type 0
 Comes part m items Check Fine q = Settled part (effects part items m) q × Check
@@ -61,7 +61,7 @@ pub none_differs : (mem : Mem) (d : Option Difference) (a : ⊤) → differs mem
 none_differs mem None a e = refl
 none_differs mem (Some d) a e = absurd (ok_is a (Differs mem d.addr d.want d.found) (sym e))
 
--- a session that is opened with the part's own signature, or a step's fault
+-- either opened with the part's own signature, or a step's fault
 module _ (part : Part) (sound : IsPart part) where
   abbrev pub Opened : Memories → Result (List ℕ) HostFault → Programmer → Type 0
   Opened m r q = (Settled part m q × (r ≡ Ok part.signature))
@@ -84,7 +84,7 @@ module _ (part : Part) (sound : IsPart part) where
       came (Err fault) q i = inr (fault, refl, i)
 
 module _ (part : Part) (sound : IsPart part) (True : OutputEvent → Programmer → Type 0) where
-  -- a dialog of a session, under one condition throughout, in which all that is said is true
+  -- a dialog of a session that keeps one condition throughout, and whose output is true
   abbrev pub Tells : {R : Type 0} → (Programmer → Type 0) → (R → Programmer → Type 0) → Dialog OutputEvent R
       → Programmer
       → Type 0
@@ -101,7 +101,7 @@ module _ (part : Part) (sound : IsPart part) (True : OutputEvent → Programmer 
   tells_says r [] p all a = done a
   tells_says r (output ∷ outputs) p all a = say all.0 (tells_says r outputs p all.1 a)
 
-  -- a call, and what is said of its outcome
+  -- a call and the output about its outcome
   pub tells_reported : {A : Type 0} {During : Programmer → Type 0} {After : Result A HostFault → Programmer → Type 0}
       {Then : Standing → Programmer → Type 0} {operation : Dialog ⊥ (Result A HostFault)}
       (outcome_says : Result A HostFault → List OutputEvent) (p : Programmer) → Keeps device During After operation p
@@ -110,7 +110,7 @@ module _ (part : Part) (sound : IsPart part) (True : OutputEvent → Programmer 
   tells_reported outcome_says p l each = bind (call l)
       (λ r q a. let x = each r q a in tells_says (standing r) (outcome_says r) q x.0 x.1)
 
-  -- what is said of an operation that does these items is true, of its one result and of a step's fault
+  -- the output of an operation that does these items is true, both for its one result and for a step's fault
   abbrev pub SaysTrue : {A : Type 0} → (Result A HostFault → List OutputEvent) → List Item → Result A HostFault
       → Memories
       → Type 0
@@ -118,7 +118,7 @@ module _ (part : Part) (sound : IsPart part) (True : OutputEvent → Programmer 
       ((q : Programmer) → Settled part (effects part items m) q → AllTrue True (outcome_says r) q)
       × ((fault : StepFault) (q : Programmer) → AllTrue True (outcome_says (Err (host_fault fault))) q)
 
-  -- after an operation: all of its items and its one result, or a step's fault
+  -- after an operation: all its items and its one result, or a step's fault
   abbrev Came : {A : Type 0} → List Item → Result A HostFault → Memories → Result A HostFault → Programmer → Type 0
   Came items r m got q =
       (Settled part (effects part items m) q × (got ≡ r))
@@ -166,7 +166,7 @@ module _ (part : Part) (sound : IsPart part) (True : OutputEvent → Programmer 
       came got q (inl made) = inl (subst (λ z. Settled part z q) whole made.0, made.1 ∙ same)
       came got q (inr broke) = inr (broke.0, broke.1, rests q broke.2)
 
-  -- along each line
+  -- the same along each link
   came_rests : (m : Memories) (items : List Item) (Check : Type 0) → AllFitItems part items → FitsPart part m
       → (s : Standing) (q : Programmer) → Comes part m items Check s q
       → Rests part (all_steps part items) m q × Comes part m items Check s q
@@ -180,7 +180,7 @@ module _ (part : Part) (sound : IsPart part) (True : OutputEvent → Programmer 
       (Comes part m items Check)
   goes_leads m items Check d p turns fits f goes from = leads device (came_rests m items Check fits f) (goes p from)
 
-  -- one action, and the next one unless there was a fault
+  -- one action, then the next unless there was a fault
   pub goes_then : (From : Programmer → Type 0) (m : Memories) (xs ys : List Item) (Check More : Type 0)
       (d next : Dialog OutputEvent Standing) → AllFitItems part xs → FitsPart part m
       → Goes From m xs Check d → Goes (Settled part (effects part xs m)) (effects part xs m) ys More next
@@ -200,13 +200,13 @@ module _ (part : Part) (sound : IsPart part) (True : OutputEvent → Programmer 
           (more q came.0)
       on at q rests = done (rests_before part xs ys m q rests)
 
-  -- nothing but what is said
+  -- output alone
   pub goes_output : (m : Memories) (outputs : List OutputEvent)
       → ((q : Programmer) → Settled part m q → AllTrue True outputs q)
       → Goes (Settled part m) m [] ⊤ (says outputs (Done Fine))
   goes_output m outputs holds p s = tells_says Fine outputs p (holds p s) (s, tt)
 
-  -- a memory is read, and what it holds is judged
+  -- a memory is read, and the bytes are judged
   goes_reading : {A : Type 0} (m : Memories) (Check : Type 0) (mem : Mem) (judge : List ℕ → Result A HostFault)
       (outcome_says : Result A HostFault → List OutputEvent)
       → FitsPart part m → SaysTrue outcome_says [] (judge (memory_in part mem m)) m
@@ -244,7 +244,7 @@ module _ (part : Part) (sound : IsPart part) (True : OutputEvent → Programmer 
         came r q (inl found) = inl found
         came r q (inr broke) = inr (broke.0, broke.1, rests_here part [] m q broke.2)
 
-    -- what an action says is true
+    -- the output of an action is true
     abbrev pub ActionTrue : Action → Memories → Type 0
     ActionTrue OpenSession m = ⊤
     ActionTrue EraseChip m = SaysTrue (erased_says s.quiet part) (Erase ∷ []) (Ok tt) m
@@ -294,7 +294,7 @@ module _ (part : Part) (sound : IsPart part) (True : OutputEvent → Programmer 
         (action_items_fit part action fits.0) f (goes_action action m fits.0 f holds.0)
         (goes_actions actions left fits.1 (effects_sizes part sound items m f) holds.1)
 
--- where nothing is asked of what is said
+-- no condition on the output
 abbrev pub Anything : OutputEvent → Programmer → Type 0
 Anything output q = ⊤
 

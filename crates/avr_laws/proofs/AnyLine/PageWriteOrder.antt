@@ -1,4 +1,4 @@
--- A session makes the page writes of its plan in their order.
+-- A session makes the page writes of its plan in order.
 use Rattle.std.proofs.Common.{◌≡◌, ℕ, ◌+◌, ◌-◌, List, [], ◌∷◌, ◌++◌, take, refl, sym, ap, ◌∙◌, subst, arith, inr, Ok, Err}
 use Rattle.std.proofs.lemmas.Bool.{cond-true}
 use Rattle.std.proofs.lemmas.List.{append-nil}
@@ -48,7 +48,7 @@ nothing_after : (x : Dialog OutputEvent Standing) (n : ℕ) → with_next x n (�
 nothing_after (Done s) n = omega arith
 nothing_after d n = refl
 
--- nothing is made where there are no items
+-- without items, nothing is made
 makes_quiet : (part : Part) (sound : IsPart part) (m : Memories) (Check : Type 0) (d : Dialog OutputEvent Standing)
     → FitsPart part m → Goes part sound Anything (Settled part m) m [] Check d → Strikes part m [] none_made d
 makes_quiet part sound m Check d f goes p turns settled =
@@ -138,7 +138,7 @@ module _ (plan : Plan) (sound : IsPart plan.part) (fitted : All (IsFitted plan.p
         sharp = inr (λ l. refl);
       }
 
-  -- so many page writes of the plan, in their order
+  -- the first page writes of the plan, in order, counted
   pub session_makes : Tallies device (session plan) (made_by plan)
       (λ j q. memories_of q.chip ≡ effects plan.part (take j (page_writes plan)) m) p turns
   unfolding session

@@ -1,4 +1,4 @@
--- A session from its opening to its end, over any line: what it leaves, and that what it says is true.
+-- A session from its opening to its end, over any link: what it leaves, and that its output is true.
 use Rattle.std.proofs.Common.{◌≡◌, ℕ, List, [], ◌∙◌, arith, Ok, Result, zero, suc, refl}
 use Rattle.std.specs.Prelude.{All, ⊤}
 use Rattle.avr_desk.specs.Said.{OutputEvent}
@@ -34,7 +34,7 @@ use Rattle.avr_laws.proofs.AnyLine.EachAction.{AllTrue, Comes, Tells, SaysTrue, 
 module _ (part : Part) (sound : IsPart part) (True : OutputEvent → Programmer → Type 0) (s : Switches)
     (closed_true : (r : Result ⊤ HostFault) (q : Programmer) → IsClosed r
     → AllTrue True (closed_says s.quiet part r) q) where
-  -- to end keeps the memories, and makes nothing fine
+  -- the end keeps the memories, and turns no fault into success
   pub goes_ending : (before : Memories) (at : Standing) (p : Programmer) → Idle part before p
       → Tells part sound True (Idle part before) (λ t q. Idle part before q × (t ≡ Fine → at ≡ Fine)) (ending part s at)
       p
@@ -103,7 +103,7 @@ module _ (plan : Plan) (sound : IsPart plan.part) (fitted : All (IsFitted plan.p
       left Fine q x = (touched q x.0, λ e. let a = x.1 refl in record { memories = a.0.memories; agrees = a.1 })
       left at q x = (touched q x.0, λ e. absurd (omega (arith, e)))
 
--- along each line
+-- along each link
 module _ {P : Type 0} (m : Device P) {E R : Type 0} (Asks : List ℕ → P → Type 0) (T : P → E → Type 0)
     (After : R → P → Type 0) where
   pub true_along : (k : ℕ) (d : Dialog E R) (p : P) (turns : List Turn)

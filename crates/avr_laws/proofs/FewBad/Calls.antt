@@ -1,5 +1,5 @@
--- The calls of a host over a line on which few frames go wrong: each has all its data, and no fault but of what they
--- are.
+-- The calls of a host over a link on which few frames go wrong. Each has all its data, and only the faults that these
+-- data give.
 use Rattle.std.proofs.Common.{◌≡◌, ℕ, List, [], ◌∷◌, length, refl, sym, ap, ◌∙◌, subst, arith, ◌⊎◌, Bool, true, false, Result, Ok, Err}
 use Rattle.std.proofs.lemmas.Bool.{eq-eqb, cond-true}
 use Rattle.std.specs.Prelude.{◌==◌, ◌&&◌, ◌≤◌}
@@ -37,12 +37,12 @@ use Rattle.avr_laws.proofs.PageWrites.Steps.{sign_on_steady, enter_ready, leave_
 use Rattle.avr_laws.proofs.AnyLine.FirstSteps.{quiet_stays, read_quiet}
 use Rattle.avr_laws.proofs.FewBad.DialogEnds.{Ends, nothing_said, ends_done, ends_wider, ends_bind}
 
--- the programmer in programming mode, with memories of the part's sizes
+-- the programmer is in programming mode, with memories of the part's sizes
 pub record Stands (part : Part) (m : Memories) (q : Programmer) : Type 0 where
   pub ready : Ready part m q
   pub sizes : FitsPart part m
 
--- over such a line, from each programmer under the one condition to one under the other
+-- over such a link, from each programmer under the first condition to one under the second
 abbrev pub Few : {R : Type 0} → (Programmer → Type 0) → Dialog ⊥ R → R → (Programmer → Type 0) → Type 0
 Few Before d r After = (p : Programmer) (turns : List Turn) → Before p → Ends AreFew d r [] After p turns
 
@@ -51,7 +51,7 @@ few_bind : {A B : Type 0} (next : A → Dialog ⊥ B) (a : A) (b : B) (Before Be
 few_bind next a b Before Between After d first more p turns before =
     ends_bind AreFew others_few next a b [] [] Between After d p turns (first p turns before) more
 
--- a step of at most two commands, which have these data from under the one condition and the other
+-- a step of at most two commands, which have these data under either condition
 ends_step : (commands : List Command) (got : List ℕ) (Before After : Programmer → Type 0)
     → Fits steady commands Before After → length commands ≤ 2
     → ((q : Programmer) → Before q ⊎ After q → joined_reply device commands [] q ≡ Data got)
@@ -67,7 +67,7 @@ ends_step commands got Before After fits short has p turns before = record {
       };
 }
 
--- what a call answers, reported otherwise
+-- the result of a call, reported in another form
 ends_told : {A B : Type 0} (d : Dialog ⊥ A) (tell : A → B) (a : A) (Before After : Programmer → Type 0)
     → Few Before d a After → Few Before (d >>= (λ answer. Done (tell answer))) (tell a) After
 ends_told d tell a Before After l =
@@ -82,7 +82,7 @@ bytes_same (x ∷ xs) = both (x == x) (bytes_eq xs xs) (eq-eqb x x refl) (bytes_
     both true b e f = f
     both false b e f = e
 
--- the part's signature is taken, whether or not any is
+-- the part's own signature is accepted, with `force` or without
 pub signature_taken : (signature : List ℕ) (force : Bool)
     → signature_judged signature force (Ok signature) ≡ Ok signature
 signature_taken signature true = refl

@@ -1,4 +1,4 @@
--- Dialogs along a line, by what they come to, what they say and where they leave the programmer.
+-- Dialogs along a link, by their results, their output and the programmer after them.
 use Rattle.std.proofs.Common.{◌≡◌, ℕ, List, [], ◌∷◌, ◌++◌, refl, sym, ap, ap₂, ◌∙◌, subst}
 use Rattle.avr_desk.specs.Said.{OutputEvent}
 use Rattle.stk_host.specs.Dialog.{Dialog, Done, Say, Ask, ◌>>=◌, lifted}
@@ -15,13 +15,13 @@ use Rattle.avr_laws.proofs.Lines.Outputs.{said_on, said_bind, said_lifted}
 use Rattle.avr_session.specs.Session.{says}
 use Rattle.avr_laws.proofs.AnyLine.Calls.{says≢done}
 
--- a dialog that is done has this result, has said just this, and leaves the programmer so
+-- a dialog that is done has this result and exactly this output, and leaves the programmer like this
 pub record Came {E R : Type 0} (got want : R) (said wanted : List E) (After : Type 0) : Type 0 where
   pub result : got ≡ want
   pub outputs : said ≡ wanted
   pub after : After
 
--- wherever a dialog is done along such a line
+-- whenever a dialog is done along such a link
 pub record Ends {E R : Type 0} (Line : List Turn → Type 0) (d : Dialog E R) (r : R) (said : List E)
     (After : Programmer → Type 0) (p : Programmer) (turns : List Turn) : Type 0 where
   pub ends : Line turns → (k : ℕ) (got : R) → (along device k d p turns).dialog ≡ Done got
@@ -73,7 +73,7 @@ module _ (Line : List Turn → Type 0) where
         };
   }
 
-  -- as a part of a dialog that says something
+  -- as a part of a dialog with output
   pub ends_lifted : {E R : Type 0} (d : Dialog ⊥ R) (r : R) (After : Programmer → Type 0) (p : Programmer)
       (turns : List Turn) → Ends Line d r [] After p turns
       → Ends {E = E} Line (lifted d) r [] After p turns
@@ -111,7 +111,7 @@ module _ (Line : List Turn → Type 0) (others : (turns : List Turn) → Line tu
   on said left turns q (Ask bytes go_on) good first more got e =
       absurd (asks≢done bytes (λ reading. go_on reading >>= next) got e)
 
-  -- One dialog, and the next one from where it leaves the programmer.
+  -- One dialog, then the next one from the programmer that it leaves.
   pub ends_bind : (d : Dialog E A) (p : Programmer) (turns : List Turn) → Ends Line d a x Between p turns
       → ((q : Programmer) (fs : List Turn) → Between q → Ends Line (next a) b y After q fs)
       → Ends Line (d >>= next) b (x ++ y) After p turns

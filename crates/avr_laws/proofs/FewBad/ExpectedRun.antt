@@ -1,4 +1,4 @@
--- A session goes as its expected run, action by action, over a line on which few frames go wrong.
+-- A session goes as its expected run, action by action, over a link on which few frames go wrong.
 use Rattle.std.proofs.Common.{◌≡◌, List, [], ◌∷◌, ◌++◌, refl, sym, ap, ◌∙◌, subst, arith, Result, Ok, All}
 use Rattle.std.proofs.lemmas.List.{append-nil}
 use Rattle.avr_cli.specs.declared.settings.Switches.{Switches}
@@ -28,13 +28,13 @@ use Rattle.avr_laws.proofs.FewBad.DialogEnds.{Ends, ends_done, ends_says, ends_w
 use Rattle.avr_laws.proofs.Plans.Fits.{FitsAction, AllFitActions, work, work_fits}
 use Rattle.avr_laws.proofs.Plans.Standings.{at_end, status_is}
 
--- a session, by how it stands
+-- a session, by its state
 abbrev OneAction : Dialog OutputEvent Standing → Standing → List OutputEvent → (Programmer → Type 0) → Programmer
     → List Turn
     → Type 0
 OneAction d at said After p turns = Ends AreFew d at said After p turns
 
--- a call, and what is said of its outcome
+-- a call and the output about its outcome
 ends_reported : {A : Type 0} (call : Dialog ⊥ (Result A HostFault)) (tells : Result A HostFault → List OutputEvent)
     (outcome : Result A HostFault)
     (After : Programmer → Type 0) (p : Programmer) (turns : List Turn) → Ends AreFew call outcome [] After p turns
@@ -50,11 +50,11 @@ module _ (part : Part) (sound : IsPart part) where
   abbrev Follows : Dialog OutputEvent Standing → Expected → Programmer → List Turn → Type 0
   Follows d c p turns = OneAction d c.standing c.says (Stands part c.memories) p turns
 
-  -- from a programmer that stands in programming mode with these memories
+  -- from a programmer in programming mode with these memories
   abbrev Goes : Dialog OutputEvent Standing → Memories → Expected → Type 0
   Goes d m c = (p : Programmer) (turns : List Turn) → Stands part m p → Follows d c p turns
 
-  -- after a fault nothing more is done or said
+  -- after a fault nothing more is done or printed
   left_out : (c : Expected) (d next : Dialog OutputEvent Standing) (p : Programmer) (turns : List Turn)
       → unless_fault next c.standing ≡ Done c.standing → Follows d c p turns
       → Follows (d >>= unless_fault next) c p turns
@@ -77,7 +77,7 @@ module _ (part : Part) (sound : IsPart part) where
   follows_from c at more d next p turns is first rest =
       left_out c d next p turns (ap (unless_fault next) is ∙ ap (λ at. Done at) (sym is)) first
 
-  -- an action, and the next one unless a fault came
+  -- an action, then the next one unless a fault came
   follows_then : (c : Expected) (more : Memories → Expected) (d next : Dialog OutputEvent Standing) (p : Programmer)
       (turns : List Turn)
       → Follows d c p turns → Goes next c.memories (more c.memories)
@@ -134,7 +134,7 @@ module _ (plan : Plan) (sound : IsPart plan.part) (fitted : All (IsFitted plan.p
       (opening_follows part sound s m p turns sizes idle)
       (actions_go part sound s (work plan) m (work_fits plan fitted))
 
-  -- programming mode is left, unless the line has ended; of a fault after a fault nothing is said
+  -- the end leaves programming mode unless the link has ended; a fault after a fault is not reported
   ending_ends : (at : Standing) (m : Memories) (p : Programmer) (turns : List Turn) → Idle plan.part m p
       → OneAction (ending plan.part plan.switches at) (at_end at) (ending_says plan at) (Idle plan.part m) p turns
   ending_ends Fine m p turns idle =

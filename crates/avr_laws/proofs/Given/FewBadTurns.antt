@@ -1,4 +1,4 @@
--- Over few bad turns each step comes to its data, and a play of steps to all that they give.
+-- Over few bad turns each step gives its data, and a run of steps all that they give.
 use Rattle.std.proofs.Common.{◌≡◌, ℕ, zero, suc, ◌+◌, ◌*◌, ◌≤◌, List, [], ◌∷◌, ◌++◌, length, refl, sym, ap, ◌∙◌, subst, arith, append_assoc, inl, inr, ◌⊎◌, Ok, Err}
 use Rattle.std.proofs.lemmas.List.{append-nil}
 use Rattle.avr_part.specs.Part.{Part, IsPart}
@@ -53,13 +53,13 @@ none_bad (suc n) [] good = let none = none_bad n [] good in omega (arith, none)
 none_bad (suc n) (turn ∷ turns) good = let none = none_bad n turns good.1 in let well : bad turn ≡ 0 = ap bad good.0 in
     omega (arith, none, well)
 
--- a good line is the simplest case
+-- a good link is the simplest case
 pub good_few : (turns : List Turn) → AreGood turns → AreFew turns
 good_few [] good = tt
 good_few (turn ∷ turns) good = (let none = none_bad 7 (turn ∷ turns) good in omega (arith, none), good_few turns good.1)
 
 module _ {E R P : Type 0} (m : Device P) where
-  -- what holds of turns to come holds of those that are left
+  -- what holds of the turns to come holds of those that are left
   pub turns_along : (Line : List Turn → Type 0) → ((turns : List Turn) → Line turns → Line (other_turns turns))
       → (k : ℕ) (d : Dialog E R) (p : P) (turns : List Turn) → Line turns → Line (along m k d p turns).turns
   turns_along Line kept k (Done r) p turns line = line
@@ -68,7 +68,7 @@ module _ {E R P : Type 0} (m : Device P) where
   turns_along Line kept (suc k) (Ask bytes go_on) p turns line =
       turns_along Line kept k (go_on _) _ (other_turns turns) (kept turns line)
 
-  -- a dialog that asks at most so many questions is done after them
+  -- a dialog that asks at most `n` questions is done after `n`
   pub done_within : (n k : ℕ) (d : Dialog E R) (p : P) (turns : List Turn) → AsksAtMost n d → n ≤ k
       → (r : R) × ((along m k d p turns).dialog ≡ Done r)
   done_within n k (Done r) p turns asks le = (r, refl)
@@ -81,7 +81,7 @@ module _ {E R P : Type 0} (m : Device P) where
       done_within n k (go_on reading) (after_turn turn (m.after bytes p) p m.reset) (other_turns turns) (asks reading)
       (omega (arith, le))
 
--- the turns after so many
+-- the turns after the first `n`
 abbrev behind : ℕ → List Turn → List Turn
 behind zero turns = turns
 behind (suc n) turns = behind n (other_turns turns)
@@ -107,7 +107,7 @@ stop_again a b e = cc
 same_data : (a b : List ℕ) → Data a ≡ Data b → a ≡ b
 same_data a b e = cc
 
--- a frame in front that went well
+-- the first frame went well
 well : (size : ℕ) (turns : List Turn) (got : List ℕ) (then : Reply) (rest : List Turn)
     → Tried size (other_turns turns) got then rest → Tried (suc size) turns got then rest
 well size turns got then rest (inl brings) = inl brings
@@ -134,7 +134,7 @@ wrong size turns got then fault is e = inr
       behind_it = refl;
     })
 
--- enough frames go well for one attempt and so many more: one frame goes well between two that go wrong, at most
+-- Enough frames go well for one attempt and `more` others: at most one frame goes well between two that go wrong.
 record Clear (more : ℕ) (turns : List Turn) : Type 0 where
   here : bad_in (suc (more + more)) turns ≤ more
   next : bad_in (suc (more + more)) (other_turns turns) ≤ more
@@ -162,7 +162,7 @@ none_wrong zero turns le wrong c = let h = c.here in omega (arith, h, wrong)
 none_wrong (suc zero) turns le wrong c = let h = c.next in omega (arith, h, wrong)
 none_wrong (suc (suc place)) turns le wrong c = omega (arith, le)
 
--- ---- lines on which nothing begins anew, and which don't end
+-- ---- links that don't end, and over which the programmer never restarts
 
 abbrev Stands : Became → Type 0
 Stands (Anew became) = ⊥
@@ -207,13 +207,13 @@ not_four (Wrong became instead) le = (
   few_goes_on instead (let some = some_bad became in omega (arith, le, some)),
 )
 
--- where few turns go wrong, none lets the programmer begin anew
+-- if few turns go wrong, none restarts the programmer
 few_steady : (turns : List Turn) → AreFew turns → AreSteady turns
 few_steady [] few = tt
 few_steady (turn ∷ turns) few = (not_four turn (let le = few.0 in omega (arith, le)), few_steady turns few.1)
 
 module _ {P : Type 0} (m : Device P) where
-  -- wherever the dialog comes to this reply, an attempt of so many frames was tried
+  -- if the dialog ends with this reply, an attempt of `size` frames was tried
   abbrev TriesTo : ℕ → Reply → List Turn → List ℕ → ℕ → List Turn → Dialog ⊥ Reply → P → Type 0
   TriesTo k then rest got size turns d q = (along m k d q rest).dialog ≡ Done then
       → Tried size turns got then (along m k d q rest).turns
@@ -243,7 +243,7 @@ module _ {P : Type 0} (m : Device P) where
     by_turn (Wrong became instead) command p is calm each has e =
         wrong size turns got then _ (let some = some_bad became in omega (arith, is, some)) e
 
-  -- an attempt whose commands would all have data: they come, or a frame went wrong
+  -- an attempt whose commands would all have data: the data come, or a frame went wrong
   attempt_tried : (k : ℕ) (commands : List Command) (before : List ℕ) (p : P) (turns : List Turn) (got : List ℕ)
       (then : Reply) → AreSteady turns → joined_reply m commands before p ≡ Data got
       → (along m k (attempt commands before) p turns).dialog ≡ Done then
@@ -262,7 +262,7 @@ module _ {P : Type 0} (m : Device P) where
       (has : (q : P) → Before q ⊎ After q → joined_reply m commands [] q ≡ Data got) where
     module _ (again : StepFault → Dialog ⊥ StepOutcome) (left : ℕ) (first turns : List Turn) (q : P)
         (o : StepOutcome) where
-      -- after an attempt that was spent all data come
+      -- all data come after an attempt that was spent
       abbrev ComesLater : Reply → Type 0
       ComesLater then = (fault : StepFault) → Spent (length commands) first then turns
           → (along m left (again fault) q turns).dialog ≡ Done o → o ≡ Ok got
@@ -332,7 +332,7 @@ along_steady (suc k) (Ask bytes go_on) p turns s =
     (same_after turn (device.after bytes p) p device.reset (λ q. q) (first_steady turns s))
     ∙ along_steady k d (after_turn turn (device.after bytes p) p (λ q. q)) (other_turns turns) (others_steady turns s)
 
--- a step of at most two commands, which have these data from under the one condition and the other
+-- a step of at most two commands, which have these data under either condition
 pub step_steady : (Before After : Programmer → Type 0) (commands : List Command) (got : List ℕ)
     → Fits steady commands Before After → ((q : Programmer) → Before q ⊎ After q
     → joined_reply device commands [] q ≡ Data got)
@@ -369,7 +369,7 @@ module _ (part : Part) (sound : IsPart part) where
   step_short commands (ReadsSignature place few e) = short_as _ commands e (omega arith)
   step_short commands (ReadsCalibration e) = short_as _ commands e (omega arith)
 
-  -- whether or not the step was already done, all of one attempt's commands have its data
+  -- all commands of one attempt have their data, whether or not the step was already done
   data_either : (commands : List Command) (m : Memories) → IsStep part commands → FitsPart part m → (q : Programmer)
       → Ready part m q ⊎ Ready part (changed part commands m) q
       → joined_reply device commands [] q ≡ Data (given_by part commands m)
@@ -382,7 +382,7 @@ module _ (part : Part) (sound : IsPart part) where
       → joined_reply steady commands [] q ≡ Data (given_by part commands m)
   data_steady commands m is f q stood = gathered_steady commands [] q ∙ data_either commands m is f q stood
 
-  -- a step comes to what it gives, in at most eight questions
+  -- a step gives its data, in at most eight questions
   pub step_comes : (commands : List Command) (m : Memories) (k : ℕ) (p : Programmer) (turns : List Turn)
       → IsStep part commands → FitsPart part m → Ready part m p → AreFew turns → 8 ≤ k
       → (along device k (step commands) p turns).dialog ≡ Done (Ok (given_by part commands m))
@@ -415,7 +415,7 @@ module _ (part : Part) (sound : IsPart part) where
   few_on left turns q (Say s dialog) go_on bytes o want first more e = absurd s
   few_on left turns q (Ask x answered) go_on bytes o want first more e = absurd (asks≢done _ _ _ e)
 
-  -- a play of steps comes to all that they give
+  -- a run of steps gives all that they give
   play_steady : (steps : List (List Command)) (m : Memories) (k : ℕ) (before : List ℕ) (p : Programmer)
       (turns : List Turn) (o : StepOutcome) → AreSteps part steps → FitsPart part m → Ready part m p → AreFew turns
       → (along steady k (play steps before) p turns).dialog ≡ Done o → o ≡ Ok (before ++ all_given part steps m)
@@ -449,7 +449,7 @@ module _ (part : Part) (sound : IsPart part) where
       (sym (ap (λ (z : LineState ⊥ StepOutcome Programmer). z.dialog)
       (along_steady k (play steps before) p turns (few_steady turns few))) ∙ e)
 
-  -- and is ready after them
+  -- and the programmer is ready after them
   pub play_ready : (steps : List (List Command)) (m : Memories) (k : ℕ) (before got : List ℕ) (p : Programmer)
       (turns : List Turn) → AreSteps part steps → Ready part m p → AreFew turns
       → (along device k (play steps before) p turns).dialog ≡ Done (Ok got)
@@ -468,7 +468,7 @@ module _ (part : Part) (sound : IsPart part) where
       (subst (λ count. Ready part (changed_by part count steps m)
       (along steady k (play steps before) p turns).programmer) whole climbs.stands)
 
--- four bad frames of seven are too many, in a row and where each second one is bad
+-- four bad frames of seven are too many, both in a row and if each second one is bad
 pub four_too_many : (command : Command) (commands : List Command) (p : Programmer)
     → (along device 4 (step (command ∷ commands)) p (lost ∷ lost ∷ lost ∷ lost ∷ [])).dialog ≡ Done (Err NoAnswer)
 unfolding tries attempt exchange

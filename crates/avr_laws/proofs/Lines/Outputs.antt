@@ -1,17 +1,17 @@
--- What a dialog says along a line, part by part.
+-- The output of a dialog along a link, part by part.
 use Rattle.std.proofs.Common.{◌≡◌, ℕ, zero, suc, List, [], ◌∷◌, ◌++◌, refl, ap}
 use Rattle.stk_host.specs.Dialog.{Dialog, Done, Say, Ask, ◌>>=◌, lifted}
 use Rattle.stk_emu.specs.Device.{Device}
 use Rattle.stk_emu.specs.Along.{along, said_along}
 use Rattle.stk_emu.specs.Turn.{Turn, after_turn, turn_reading, first_turn, other_turns}
 
--- what the next dialog says from where one stands
+-- the output of the next dialog, from where this one is
 abbrev pub said_on : {E A B P : Type 0} → Device P → (A → Dialog E B) → ℕ → List Turn → P → Dialog E A → List E
 said_on m next left turns p (Done a) = said_along m left (next a) p turns
 said_on m next left turns p d = []
 
 module _ {E P : Type 0} (m : Device P) where
-  -- a dialog and the next one say what the one says, and the other from there
+  -- the output of a dialog and the next one: that of the first, then that of the second from there
   pub said_bind : {A B : Type 0} (k : ℕ) (d : Dialog E A) (next : A → Dialog E B) (p : P) (turns : List Turn)
       → said_along m k (d >>= next) p turns
       ≡ said_along m k d p turns ++ said_on m next (along m k d p turns).left (along m k d p turns).turns
@@ -23,7 +23,7 @@ module _ {E P : Type 0} (m : Device P) where
       said_bind k (go_on (turn_reading (first_turn turns) (m.answer bytes p))) next
       (after_turn (first_turn turns) (m.after bytes p) p m.reset) (other_turns turns)
 
-  -- a dialog that can say nothing says nothing
+  -- a dialog of no possible output has none
   pub said_lifted : {R : Type 0} (k : ℕ) (d : Dialog ⊥ R) (p : P) (turns : List Turn)
       → said_along {E = E} m k (lifted d) p turns ≡ []
   said_lifted k (Done r) p turns = refl

@@ -1,4 +1,4 @@
--- Each step leads from its memories to those that it leaves, also where it is cut short and begun again.
+-- Each step leads from its memories to those that it leaves, also if it is cut short and repeated.
 use Rattle.std.proofs.Common.{◌≡◌, ℕ, ◌+◌, ◌*◌, ◌/◌, ◌<◌, ◌^◌, List, [], ◌∷◌, refl, sym, subst, arith, Some, inl, inr}
 use Rattle.std.proofs.lemmas.Bool.{cases_Bool, cond-true, cond-false}
 use Rattle.std.specs.Prelude.{nat_lt}
@@ -57,7 +57,7 @@ module _ (part : Part) where
   leave_fits m = one_fits device leave (Idle part m) (Idle part m) (λ p s. leave_keeps part m p s)
       (λ p s. leave_keeps part m p s) (λ p s. anew_idle part m p s) (λ p s. anew_idle part m p s)
 
-  -- and where nothing begins anew
+  -- the same if nothing restarts
   pub sign_on_steady : (m : Memories) → Fits steady (SignOn ∷ []) (Idle part m) (Idle part m)
   sign_on_steady m = one_steady SignOn (Idle part m) (Idle part m) (λ p s. sign_on_keeps part m p s)
       (λ p s. sign_on_keeps part m p s)
@@ -71,7 +71,7 @@ module _ (part : Part) where
       (λ p s. leave_keeps part m p s)
 
   module _ (sound : IsPart part) where
-    -- what is done again
+    -- what is repeated
     again_of : (commands : List Command) (m : Memories) (q : Programmer)
         → changed part commands (changed part commands m) ≡ changed part commands m
         → Ready part (changed part commands (changed part commands m)) q → Ready part (changed part commands m) q
@@ -182,7 +182,7 @@ module _ (part : Part) where
         by_commands _ commands m e (quiet read_calibration m
         (λ p s. subst (Ready part m) (sym (calibration_read_after p s.mode)) s))
 
-    -- each step of many, from the memories that those before it leave
+    -- each step of a list, from the memories that those before it leave
     pub all_ready : (steps : List (List Command)) (m : Memories) → AreSteps part steps
         → AllFit steady (λ j. Ready part (changed_by part j steps m)) steps
     all_ready [] m are = tt

@@ -1,4 +1,4 @@
--- What a session says is what its expected run says, up to the first action that does not come to its end.
+-- The output of a session is that of its expected run, up to the first action that doesn't complete.
 use Rattle.std.proofs.Common.{◌≡◌, ℕ, List, [], ◌∷◌, ◌++◌, length, append_assoc, refl, sym, ap, ap₂, ◌∙◌, subst, inl, inr, ◌⊎◌, Ok, Err, Result, arith, All, Option, Some, None}
 use Rattle.std.proofs.lemmas.Bool.{cond-true}
 use Rattle.std.proofs.lemmas.List.{append-nil}
@@ -55,7 +55,7 @@ use Rattle.avr_laws.proofs.Plans.Fits.{FitsAction, AllFitActions, work, work_fit
 use Rattle.avr_laws.proofs.Plans.Standings.{after_fault}
 use Rattle.avr_laws.proofs.AnyLine.EachAction.{opening_comes}
 
--- ---- dialogs along a line, by what they have said at each moment, and where they are done
+-- ---- dialogs along a link, by their output at each moment, and when they are done
 
 record Tells {E R : Type 0} (d : Dialog E R) (p : Programmer) (turns : List Turn) (Now : List E → Type 0)
     (After : R → List E → Programmer → Type 0) : Type 0 where
@@ -139,13 +139,13 @@ module _ {E A B : Type 0} (Now : List E → Type 0) (Between : A → List E → 
         (sym (ap (λ z. z.dialog) (along_bind device k d next p turns)) ∙ e)));
   }
 
--- whatever a call comes to, what is said of it is so
+-- the output of a call, whatever its outcome
 abbrev SaysEach : {A : Type 0} → (Result A HostFault → Programmer → Type 0) → (Result A HostFault → List OutputEvent)
     → (List OutputEvent → Type 0) → (Standing → List OutputEvent → Programmer → Type 0) → Type 0
 SaysEach {A} Came outcome_says Now After = (r : Result A HostFault) (q : Programmer) → Came r q
     → Now (outcome_says r) × After (standing r) (outcome_says r) q
 
--- a call, and what is said of its outcome
+-- a call and the output about its outcome
 tells_reported : {A : Type 0} {During : Programmer → Type 0} {Came : Result A HostFault → Programmer → Type 0}
     (call : Dialog ⊥ (Result A HostFault)) (outcome_says : Result A HostFault → List OutputEvent)
     (p : Programmer) (turns : List Turn) (Now : List OutputEvent → Type 0)
@@ -164,7 +164,7 @@ tells_reported {Came = Came} operation outcome_says p turns Now After l none eac
     (tells_wider (lifted operation) p turns (λ said. said ≡ []) Now (λ r said q. (said ≡ []) × Came r q)
     (λ said e. subst Now (sym e) none) (tells_lifted operation p turns l))
 
--- commands that are asked nothing of
+-- commands without a condition
 any_fits : {commands : List Command} → Fits device commands (λ q. ⊤) (λ q. ⊤)
 any_fits = record {
   prefix = λ q i x. inl x;
@@ -192,7 +192,7 @@ module _ (plan : Plan) (sound : IsPart plan.part) where
 
   -- ---- one action
 
-  -- nothing is said yet, or all that its expected run says, or the line of a step that failed
+  -- no output yet, or all of the expected run's, or the line of a step that failed
   abbrev NowAction : Expected → List OutputEvent → Type 0
   NowAction c said = (said ≡ []) ⊎ ((said ≡ c.says) ⊎ ((fault : StepFault) × (said ≡ fault_told fault)))
 
@@ -225,7 +225,7 @@ module _ (plan : Plan) (sound : IsPart plan.part) where
       let c : Expected = record { says = outputs; standing = Fine; memories = m } in
       tells_says outputs Fine p turns (NowAction c) (AfterAction c) (inr (inl refl)) (refl, (refl, settled))
 
-  -- a call that comes to this result, or to a step's fault
+  -- a call with this result, or with a step's fault
   came_tells : {A : Type 0} {During : Programmer → Type 0} {Came : Result A HostFault → Programmer → Type 0}
       (call : Dialog ⊥ (Result A HostFault)) (outcome_says : Result A HostFault → List OutputEvent) (c : Expected)
       (result : Result A HostFault) (p : Programmer) (turns : List Turn) → Keeps device During Came call p
@@ -250,7 +250,7 @@ module _ (plan : Plan) (sound : IsPart plan.part) where
             (failed_action A c broke.0 (outcome_says (Err (host_fault broke.0))) q (faults broke.0)),
       )
 
-  -- an operation, by its steps and what it judges of their data
+  -- an operation, by its steps and its judgement of their data
   call_tells : {A : Type 0} (steps : List (List Command)) (judge : List ℕ → Result A HostFault)
       (outcome_says : Result A HostFault → List OutputEvent) (m : Memories) (c : Expected)
       → AreSteps part steps → FitsPart part m → changed_by part (length steps) steps m ≡ c.memories
@@ -307,7 +307,7 @@ module _ (plan : Plan) (sound : IsPart plan.part) where
       (action_expected part s OpenSession m) (Ok part.signature) p turns (opening_comes part sound s.force m f p idle)
       (λ r q came. elim came [ inl found ↦ inl found | inr broke ↦ inr (broke.0, broke.1) ]) refl refl no_opening
 
-  -- ---- the actions of actions
+  -- ---- lists of actions
 
   abbrev NowActions : List Action → Memories → List OutputEvent → Type 0
   NowActions actions m said = (said ≡ (actions_expected part s actions m).says)
@@ -336,7 +336,7 @@ module _ (plan : Plan) (sound : IsPart plan.part) where
     abbrev c : Expected
     c = action_expected part s action m
 
-    -- of one action all is said
+    -- one action has all its output
     one_done : (said : List OutputEvent) → said ≡ c.says → (at : Standing) → c.standing ≡ at
         → NowActions (action ∷ rest) m said
     one_done said is Fine stands =
@@ -409,7 +409,7 @@ module _ (plan : Plan) (sound : IsPart plan.part) where
           )
       after_behind at x q failed = failed_behind at x failed
 
-    -- after a fault nothing more is said
+    -- after a fault nothing more is printed
     failed_end : (at : Standing) (said : List OutputEvent) → (then_from c at (actions_expected part s rest) ≡ c)
         → Failed c at said → FailedIn (action ∷ rest) m at (said ++ [])
     failed_end at said over (inl own) =
@@ -489,7 +489,7 @@ module _ (plan : Plan) (sound : IsPart plan.part) where
       says_are = is;
     }
 
-    -- where the expected run has a fault, nothing is said after it
+    -- if the expected run has a fault, it has no output after it
     expected_says : (at : Standing) → w.standing ≡ at → ending_says plan at ≡ [] → w.says ≡ (expected_run plan m).says
     expected_says at stands none = sym (ap (λ t. w.says ++ ending_says plan t) stands
         ∙ (ap (λ xs. w.says ++ xs) none ∙ append-nil w.says))
@@ -548,7 +548,7 @@ module _ (plan : Plan) (sound : IsPart plan.part) where
                   (inr failed) (inr failed),
             )
 
-    -- of what comes after a fault nothing is said
+    -- what comes after a fault is not reported
     silent_tells : (said : List OutputEvent) (q : Programmer) (fs : List Turn) → Ended said
         → Tells (ending part s Faulty) q fs (λ x. IsForetold plan m (said ++ x)) (λ b x z. AfterEnd b (said ++ x) z)
     silent_tells said q fs ended =
@@ -585,7 +585,7 @@ module _ (plan : Plan) (sound : IsPart plan.part) where
         (tells_wider (actions_dialog part s (actions plan)) p turns (NowActions (actions plan) m) (IsForetold plan m)
         (AfterActions (actions plan) m) working_now (each_action_tells p turns idle))
 
-    -- with a status: as foretold, and with status 0 the memories are its expected run's
+    -- with a status: as foretold; with status 0 the memories are its expected run's
     abbrev AfterAll : ℕ → List OutputEvent → Programmer → Type 0
     AfterAll status said q = EndsAsForetold plan m said status × (status ≡ 0 → memories_of q.chip ≡ w.memories)
 
@@ -640,7 +640,7 @@ module _ (plan : Plan) (sound : IsPart plan.part) where
         by_end (inl own) left = record { result = own.1; outputs = own.0; after = left }
         by_end (inr broke) left = absurd (let one = broke.1 in omega (arith, zero, one))
 
-    -- and in a play over any tape that is honest
+    -- and in a run over any honest tape
     pub foretold_on_tape : (p : Programmer) (tape : Tape) (becames : List Became) → Idle plan.part m p
         → AreHonest device (session plan) 1 tape p becames
         → IsForetold plan m (outputs (played (session plan) 1 tape).events)
@@ -661,7 +661,7 @@ module _ (plan : Plan) (sound : IsPart plan.part) where
             (length (frames_in (played (session plan) 1 tape).events)) p (turns_heard (session plan) 1 tape becames)
             idle)
 
--- ---- what first actions say is a prefix of the expected run
+-- ---- the output of first actions is a prefix of the expected run's
 
 actions_prefix : (part : Part) (s : Switches) (done more : List Action) (m : Memories)
     → (actions_expected part s done m).standing ≡ Fine
