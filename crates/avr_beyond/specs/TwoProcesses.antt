@@ -20,21 +20,21 @@ use Rattle.avr_emulator.specs.Serving.{HasNoEnd}
 -- ---- 1. Both ends in one order
 
 -- One call of one end: it sent bytes, or received a piece.
-pub data Call : Type 0 where
-  HostSays : List ℕ → Call
-  HostHears : Tape → Call
-  ServerSays : List ℕ → Call
-  ServerHears : Tape → Call
+pub data EndCall : Type 0 where
+  HostSays : List ℕ → EndCall
+  HostHears : Tape → EndCall
+  ServerSays : List ℕ → EndCall
+  ServerHears : Tape → EndCall
 
 -- The transcript of each end.
-abbrev pub of_host : List Call → Transcript
+abbrev pub of_host : List EndCall → Transcript
 of_host [] = []
 of_host (HostSays bytes ∷ calls) = Sent bytes ∷ of_host calls
 of_host (HostHears items ∷ calls) = Got items ∷ of_host calls
 of_host (ServerSays bytes ∷ calls) = of_host calls
 of_host (ServerHears items ∷ calls) = of_host calls
 
-abbrev pub of_server : List Call → Transcript
+abbrev pub of_server : List EndCall → Transcript
 of_server [] = []
 of_server (HostSays bytes ∷ calls) = of_server calls
 of_server (HostHears items ∷ calls) = of_server calls
@@ -49,8 +49,8 @@ pub record IsJoined (host server : Transcript) : Type 0 where
 -- THE LINK. At each moment what an end has received is a prefix of what the other has sent so far. So nothing is
 -- lost, repeated, changed or received before it was sent. Pieces may be cut, and timeouts may occur, anywhere. The
 -- host never meets the end of the link; the server may, at any time.
-pub record IsOrdered (calls : List Call) : Type 0 where
-  pub joined : (first later : List Call) → calls ≡ first ++ later → IsJoined (of_host first) (of_server first)
+pub record IsOrdered (calls : List EndCall) : Type 0 where
+  pub joined : (first later : List EndCall) → calls ≡ first ++ later → IsJoined (of_host first) (of_server first)
   pub endless : HasNoEnd (heard (of_host calls))
 
 -- Timeouts occur only between answers: at each timeout the host has received no part of an answer.
@@ -92,7 +92,7 @@ passed transcript = record { transcript = transcript; failures = 0 }
 -- A session of this plan that ran whole, and a server of status 0 with this chip, at the ends of an ordered link
 -- without timeouts. Nothing had passed before.
 pub record HasRun (plan : Plan) (chip : Chip) (file : Bytes) : Type 0 where
-  pub calls : List Call
+  pub calls : List EndCall
   pub ordered : IsOrdered calls
   pub prompt : IsPrompt (heard (of_host calls))
   pub most : ℕ

@@ -17,7 +17,7 @@ ghost use Rattle.avr_part.specs.ChipFile.{chip_file};
 ghost use Rattle.avr_emulator.specs.ServedRun.{ServesChip};
 ghost use Rattle.avr_emulator.specs.Serving.{HasNoEnd, AnswersAll, AnswersInTurn, ServingLeaves};
 ghost use Rattle.avr_emulator.specs.declared.serving.Served.{Served};
-ghost use Rattle.avr_beyond.specs.TwoProcesses.{Call, HostSays, ServerHears, of_host, of_server, IsJoined, IsOrdered, IsPrompt, StallsBetweenAnswers, HasRun, HasServed, obeyed};
+ghost use Rattle.avr_beyond.specs.TwoProcesses.{EndCall, HostSays, ServerHears, of_host, of_server, IsJoined, IsOrdered, IsPrompt, StallsBetweenAnswers, HasRun, HasServed, obeyed};
 ghost use Rattle.stk_emu.specs.Emulator.{Machine};
 ghost use Rattle.stk_emu.specs.Effect.{memories_of};
 ghost use Rattle.stk_emu.specs.Programmer.{Programmer, fresh_programmer};
@@ -63,7 +63,7 @@ pub fn what_a_host_hears_of_a_server_is_honest()
 
 /// States that there is no deadlock: a session and a server never both listen when everything sent was received.
 pub fn two_processes_never_both_wait()
-    ensures { (plan : Plan) (s : Chip) (first : List Call) (host_items server_items : Tape)
+    ensures { (plan : Plan) (s : Chip) (first : List EndCall) (host_items server_items : Tape)
         → IsSoundChip s → s.part ≡ plan.part → All (IsFitted plan.part) plan.tasks
         → HasNoEnd (heard (of_host first)) → StallsBetweenAnswers (heard (of_host first))
         → InTurn (session plan) start (of_host first ++ Got host_items ∷ [])
@@ -76,7 +76,8 @@ pub fn two_processes_never_both_wait()
 /// status means for the server's chip what the page says for one behind a wire, and that chip is the one saved. If
 /// timeouts occur within answers too, this holds as long as they forge no frame.
 pub fn a_session_and_a_server_are_one_run()
-    ensures between { (plan : Plan) (s : Chip) (calls : List Call) (old new : Devices) (server_old server_new : Devices)
+    ensures between { (plan : Plan) (s : Chip) (calls : List EndCall) (old new : Devices)
+        (server_old server_new : Devices)
         (file : Bytes) (most status served_status : ℕ) (after : Progress)
         → IsSoundChip s → s.part ≡ plan.part → All (IsFitted plan.part) plan.tasks
         → IsOrdered calls → StallsBetweenAnswers (heard (of_host calls))
@@ -112,7 +113,7 @@ pub fn two_processes_have_a_run()
 /// States that a session and a server make the expected run of the plan if the host never has a timeout, however the
 /// link cuts. The status, the output and the memories in the saved chip are those of the expected run.
 pub fn a_prompt_line_brings_the_expected_run()
-    ensures { (plan : Plan) (s : Chip) (calls : List Call) (old new : Devices) (server_old server_new : Devices)
+    ensures { (plan : Plan) (s : Chip) (calls : List EndCall) (old new : Devices) (server_old server_new : Devices)
         (file : Bytes) (most status served_status : ℕ) (after : Progress)
         → IsSoundChip s → s.part ≡ plan.part → All (IsFitted plan.part) plan.tasks
         → IsOrdered calls → IsPrompt (heard (of_host calls))
@@ -128,7 +129,7 @@ pub fn a_prompt_line_brings_the_expected_run()
 /// States what the saved chip holds, whether the session ran whole or broke off, and however serving ended. It has
 /// the first writes of the plan: as many as were completed by what was received, and at most one more.
 pub fn whatever_becomes_of_both_some_page_writes_were_made()
-    ensures { (plan : Plan) (s : Chip) (calls : List Call) (old new : Devices) (server_old server_new : Devices)
+    ensures { (plan : Plan) (s : Chip) (calls : List EndCall) (old new : Devices) (server_old server_new : Devices)
         (file : Bytes) (most status served_status : ℕ)
         → IsSoundChip s → s.part ≡ plan.part → All (IsFitted plan.part) plan.tasks
         → IsOrdered calls → StallsBetweenAnswers (heard (of_host calls))

@@ -187,7 +187,7 @@ impl MemDesk {
     fn fail_to_say(&mut self) -> DeskFault
         ensures fault { result ≡ DeskFault.Failed }
         ensures same { self.new ≡ record self.old { failures = self.new.failures; unsaid = self.new.unsaid } }
-        ensures rises { Follows (memory_state self.old) (memory_state self.new) }
+        ensures follows { Follows (memory_state self.old) (memory_state self.new) }
         ensures counts { HasFailedToSay (memory_state self.old) (memory_state self.new) }
     {
         self.unsaid = self.unsaid.saturating_add(1);

@@ -13,6 +13,7 @@ use Rattle.avr_part.specs.State as chips
 use Rattle.avr_plan.specs.Planning.{LacksPart, parts_stage, part_stage}
 use Rattle.avr_desk.specs.Playing.{AtStart, Goes, Went}
 use Rattle.avr_desk.specs.Stage.{Stage, Made, ◌>>=◌}
+use Rattle.avr_session.specs.Lines.{unheard_pieces, unsent_pieces}
 use Rattle.avr_session.specs.Runs.{Devices, devices}
 use Rattle.stk_emu.specs.Programmer.{fresh_programmer}
 use Rattle.stk_emu.specs.Emulator.{Machine}
@@ -62,8 +63,8 @@ fresh_machine chip = record { held = []; programmer = fresh_programmer chip }
 -- The message for how serving ended; the end of the link has none.
 abbrev pub end_pieces : Served → Option (List Bytes)
 end_pieces Ended = None
-end_pieces RecvFailed = Some (codes "link cannot be read" ∷ [])
-end_pieces SendFailed = Some (codes "link cannot be written" ∷ [])
+end_pieces RecvFailed = Some unheard_pieces
+end_pieces SendFailed = Some unsent_pieces
 end_pieces TooManyReads = Some (codes "too many reads" ∷ [])
 
 -- If there is a message, its line was printed; or a write to the messages failed after a prefix of it.

@@ -10,6 +10,7 @@ use crate::saving::save_chip;
 use crate::serving::Served;
 use avr_desk::{Desk, Message, refuse};
 use avr_part::Chip;
+use avr_session::{unheard_message, unsent_message};
 use std::alloc::Global;
 
 /// Returns the message for how serving ended; the end of the link has none.
@@ -18,8 +19,8 @@ fn end_message(served: Served) -> Option<Message<'static>>
 {
     match served {
         Served::Ended => None,
-        Served::RecvFailed => Some(Message::text("link cannot be read")),
-        Served::SendFailed => Some(Message::text("link cannot be written")),
+        Served::RecvFailed => Some(unheard_message()),
+        Served::SendFailed => Some(unsent_message()),
         Served::TooManyReads => Some(Message::text("too many reads")),
     }
 }

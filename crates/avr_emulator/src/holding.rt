@@ -12,7 +12,7 @@ use std::alloc::Global;
 
 fn hold_file<D: Desk>(file: &str, desk: &mut D) -> Result<(), u8>
     ensures holds { HoldsFile (D.view desk.old) (D.view desk.new) file.now result }
-    ensures rises { Follows (D.view desk.old) (D.view desk.new) }
+    ensures follows { Follows (D.view desk.old) (D.view desk.new) }
     ensures stays { Stays D.comes_of desk.old desk.new }
 {
     match desk.hold(file) {
@@ -33,7 +33,7 @@ fn hold_file<D: Desk>(file: &str, desk: &mut D) -> Result<(), u8>
 pub fn hold_chip<D: Desk>(alloc: Global, part: &Part, file: &str, desk: &mut D) -> Result<Chip, u8>
     ensures loads { HoldsAndLoads part.now file.now (D.view desk.old) (D.view desk.new) result }
     ensures part { IfOk result (λ c. c.part ≡ part.now) }
-    ensures rises { Follows (D.view desk.old) (D.view desk.new) }
+    ensures follows { Follows (D.view desk.old) (D.view desk.new) }
     ensures stays { Stays D.comes_of desk.old desk.new }
 {
     if let Err(status) = hold_file(file, desk) {

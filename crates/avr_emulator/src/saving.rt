@@ -11,7 +11,7 @@ use std::alloc::Global;
 /// Replaces the file by these bytes.
 fn save_bytes<D: Desk>(file: &str, bytes: &[u8], desk: &mut D) -> Result<(), u8>
     ensures saves { Saves (D.view desk.old) (D.view desk.new) file.now bytes.now result }
-    ensures rises { Follows (D.view desk.old) (D.view desk.new) }
+    ensures follows { Follows (D.view desk.old) (D.view desk.new) }
     ensures stays { Stays D.comes_of desk.old desk.new }
 {
     match desk.replace(file, bytes) {
@@ -32,7 +32,7 @@ fn save_bytes<D: Desk>(file: &str, bytes: &[u8], desk: &mut D) -> Result<(), u8>
 /// desk takes it, and the file is as it was.
 pub fn save_chip<D: Desk>(alloc: Global, chip: &Chip, file: &str, desk: &mut D) -> Result<(), u8>
     ensures saves { Saves (D.view desk.old) (D.view desk.new) file.now (chip_file chip.now) result }
-    ensures rises { Follows (D.view desk.old) (D.view desk.new) }
+    ensures follows { Follows (D.view desk.old) (D.view desk.new) }
     ensures stays { Stays D.comes_of desk.old desk.new }
 {
     match chip.to_bytes(alloc) {

@@ -8,7 +8,7 @@ use Rattle.toml.specs.declared.value.Value.{Value}
 use Rattle.avr_part.specs.Part.{Part}
 use Rattle.avr_part.specs.PartFile.{Bytes, NamedFault, ◌>>=◌, in_part, part_of, parts_in, utf8_text}
 
--- these parts, and then those of the result
+-- these parts, then those of the result
 abbrev pub onto : List Part → Result (List Part) NamedFault → Result (List Part) NamedFault
 onto ps (Ok qs) = Ok (ps ++ qs)
 onto ps (Err e) = Err e

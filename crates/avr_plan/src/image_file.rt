@@ -70,7 +70,7 @@ fn file_kind(format: Format, prefix: &[u8]) -> Found
 
 fn read_first_bytes<D: Desk>(desk: &mut D) -> Result<FirstBytes, FileFault>
     ensures kept { FirstBytesAreRead (D.view desk.old) (D.view desk.new) result }
-    ensures rises { Follows (D.view desk.old) (D.view desk.new) }
+    ensures follows { Follows (D.view desk.old) (D.view desk.new) }
     ensures counted { IfErr result (IsCounted (D.view desk.old) (D.view desk.new)) }
     ensures sound { OnOk result (HasSameCounts (D.view desk.old) (D.view desk.new)) }
     ensures stays { Stays D.comes_of desk.old desk.new }
@@ -115,7 +115,7 @@ fn read_rest<D: Desk>(
     ensures read { (limit : ℕ) (found : AnyFound) (size : ℕ) (before : Bytes) → Takes found size intake before
         → length before + left ≡ limit
         → RestIsRead limit found size before (D.view desk.old) (D.view desk.new) result }
-    ensures rises { Follows (D.view desk.old) (D.view desk.new) }
+    ensures follows { Follows (D.view desk.old) (D.view desk.new) }
     ensures counted { IfErr result (IsCountedRead (D.view desk.old) (D.view desk.new)) }
     ensures sound { OnOk result (HasSameCounts (D.view desk.old) (D.view desk.new)) }
     ensures stays { Stays D.comes_of desk.old desk.new }
@@ -147,7 +147,7 @@ fn read_open<D: Desk>(
     requires prefix { FIRST_BYTES ≤ limit }
     requires most { limit < 2 ^ 31 }
     ensures read { OpenIsRead limit format size (D.view desk.old) (D.view desk.new) result }
-    ensures rises { Follows (D.view desk.old) (D.view desk.new) }
+    ensures follows { Follows (D.view desk.old) (D.view desk.new) }
     ensures counted { IfErr result (IsCountedRead (D.view desk.old) (D.view desk.new)) }
     ensures sound { OnOk result (HasSameCounts (D.view desk.old) (D.view desk.new)) }
     ensures stays { Stays D.comes_of desk.old desk.new }
@@ -191,7 +191,7 @@ pub fn read_image<D: Desk>(
     size: u32,
 ) -> Result<(Image, Ending), ReadFault>
     ensures read { ImageIsRead LARGEST_IMAGE_FILE format size name.now (D.view desk.old) (D.view desk.new) result }
-    ensures rises { Follows (D.view desk.old) (D.view desk.new) }
+    ensures follows { Follows (D.view desk.old) (D.view desk.new) }
     ensures counted { IfErr result (IsCountedRead (D.view desk.old) (D.view desk.new)) }
     ensures sound { OnOk result (HasSameCounts (D.view desk.old) (D.view desk.new)) }
     ensures stays { Stays D.comes_of desk.old desk.new }

@@ -1,7 +1,7 @@
 //! The messages of faults: those of the host, and those of the settings.
 ghost use Rattle.std.specs.Prelude.{◌≡◌};
 ghost use Rattle.avr_desk.specs.Said.{Tells};
-ghost use Rattle.avr_session.specs.Lines.{bad_answer_pieces, differs_pieces, fault_pieces, other_signature, refused_pieces};
+ghost use Rattle.avr_session.specs.Lines.{bad_answer_pieces, differs_pieces, fault_pieces, other_signature, refused_pieces, unheard_pieces, unsent_pieces};
 ghost use Rattle.avr_session.specs.Refusal.{in_update_pieces, port_pieces, refusal_line, refusal_pieces, unknown_pieces, update_pieces};
 ghost use Rattle.ghosts.specs.Stays.{Stays};
 
@@ -60,13 +60,27 @@ fn differs_message<'a>(mem: Mem, address: u32, want: u8, found: u8) -> Message<'
     ])
 }
 
+/// Returns the message for a link that failed at sending: `link cannot be written`.
+pub fn unsent_message<'a>() -> Message<'a>
+    ensures { result ≡ unsent_pieces }
+{
+    Message::text("link cannot be written")
+}
+
+/// Returns the message for a link that failed at receiving: `link cannot be read`.
+pub fn unheard_message<'a>() -> Message<'a>
+    ensures { result ≡ unheard_pieces }
+{
+    Message::text("link cannot be read")
+}
+
 pub(crate) fn fault_message<'a>(part: &'a Part, fault: HostFault) -> Message<'a>
     ensures { result ≡ fault_pieces part.now fault }
 {
     match fault {
         HostFault::NoAnswer => Message::text("no answer"),
         HostFault::LinkEnded => Message::text("link ended"),
-        HostFault::SendFailed => Message::text("link cannot be written"),
+        HostFault::SendFailed => unsent_message(),
         HostFault::Babble => Message::text("no answer in 4096 bytes"),
         HostFault::Refused { command, status } => refused_message(command, status),
         HostFault::BadAnswer(command) => bad_answer_message(command),
@@ -79,7 +93,7 @@ pub(crate) fn fault_message<'a>(part: &'a Part, fault: HostFault) -> Message<'a>
         } => differs_message(mem, addr, want, found),
         HostFault::ReadOnly(mem) => read_only_message(mem),
         HostFault::Memory => memory_message(),
-        HostFault::RecvFailed => Message::text("link cannot be read"),
+        HostFault::RecvFailed => unheard_message(),
     }
 }
 

@@ -13,12 +13,12 @@ const ROOM: usize = 512;
 
 /// The bytes of a text after the first `skip`, as far as there is room. It accepts the whole text.
 #[derive(Drop)]
-struct Part {
+struct Window {
     skip: usize,
     bytes: ArrayVec<u8, ROOM>,
 }
 
-impl Write for Part {
+impl Write for Window {
     fn write_str(&mut self, text: &str) -> fmt::Result {
         for byte in text.as_bytes() {
             if self.skip > 0 {
@@ -33,12 +33,12 @@ impl Write for Part {
 
 /// Returns some bytes of a text after the first `skip`, or none at its end.
 fn part_of<T: Display>(text: &T, skip: usize) -> ArrayVec<u8, ROOM> {
-    let mut part = Part {
+    let mut window = Window {
         skip,
         bytes: ArrayVec::new(),
     };
-    let _ = part.write(text);
-    let Part { bytes, .. } = part;
+    let _ = window.write(text);
+    let Window { bytes, .. } = window;
     bytes
 }
 

@@ -33,14 +33,14 @@ use Rattle.avr_emulator.specs.Serving.{AnswersAll, AnswersInTurn, HasNoEnd, read
 use Rattle.avr_emulator.specs.ServedRun.{ServesChip, fresh_machine}
 use Rattle.avr_emulator.specs.declared.serving.Served.TheVariants.{Ended}
 use Rattle.avr_beyond.proofs.TwoProcesses.InOrder.{after_is, answer_is}
-use Rattle.avr_beyond.specs.TwoProcesses.{Call, HostSays, HostHears, ServerSays, ServerHears, HasRun, IsOrdered, IsPrompt, of_host, of_server}
+use Rattle.avr_beyond.specs.TwoProcesses.{EndCall, HostSays, HostHears, ServerSays, ServerHears, HasRun, IsOrdered, IsPrompt, of_host, of_server}
 
 -- each frame is received and answered at once, and at last the server receives the end of the link
-abbrev asking : List ℕ → List ℕ → List Call → List Call
+abbrev asking : List ℕ → List ℕ → List EndCall → List EndCall
 asking question reply later = HostSays question ∷ ServerHears (on_tape question) ∷ ServerSays reply
     ∷ HostHears (on_tape reply) ∷ later
 
-abbrev pub calls_of : {E R : Type 0} → Dialog E R → ℕ → Programmer → List Call
+abbrev pub calls_of : {E R : Type 0} → Dialog E R → ℕ → Programmer → List EndCall
 calls_of (Done r) n p = ServerHears (End ∷ []) ∷ []
 calls_of (Say e d) n p = calls_of d n p
 calls_of (Ask bytes go_on) n p =
@@ -53,7 +53,7 @@ calls_of (Ask bytes go_on) n p =
 abbrev Joined : List ℕ → List ℕ → List ℕ → List ℕ → Type 0
 Joined said_up heard_up said_down heard_down = IsPrefixOf heard_up said_up × IsPrefixOf heard_down said_down
 
-abbrev JoinedFrom : List ℕ → List ℕ → List ℕ → List ℕ → List Call → Type 0
+abbrev JoinedFrom : List ℕ → List ℕ → List ℕ → List ℕ → List EndCall → Type 0
 JoinedFrom said_up heard_up said_down heard_down [] = Joined said_up heard_up said_down heard_down
 JoinedFrom said_up heard_up said_down heard_down (HostSays bytes ∷ calls) =
     Joined said_up heard_up said_down heard_down × JoinedFrom (said_up ++ bytes) heard_up said_down heard_down calls
@@ -66,7 +66,7 @@ JoinedFrom said_up heard_up said_down heard_down (ServerHears items ∷ calls) =
     Joined said_up heard_up said_down heard_down
     × JoinedFrom said_up (heard_up ++ bytes_of items) said_down heard_down calls
 
-joined_now : (a b c d : List ℕ) (calls : List Call) → JoinedFrom a b c d calls → Joined a b c d
+joined_now : (a b c d : List ℕ) (calls : List EndCall) → JoinedFrom a b c d calls → Joined a b c d
 joined_now a b c d [] j = j
 joined_now a b c d (HostSays bytes ∷ calls) j = j.0
 joined_now a b c d (HostHears items ∷ calls) j = j.0
@@ -74,7 +74,7 @@ joined_now a b c d (ServerSays bytes ∷ calls) j = j.0
 joined_now a b c d (ServerHears items ∷ calls) j = j.0
 
 -- after some first calls
-joined_behind : (a b c d : List ℕ) (first later : List Call) → JoinedFrom a b c d (first ++ later)
+joined_behind : (a b c d : List ℕ) (first later : List EndCall) → JoinedFrom a b c d (first ++ later)
     → Joined (a ++ sent (of_host first)) (b ++ bytes_of (heard (of_server first))) (c ++ sent (of_server first))
     (d ++ bytes_of (heard (of_host first)))
 joined_behind a b c d [] later j = rw (append-nil a, append-nil b, append-nil c, append-nil d)
@@ -107,7 +107,7 @@ even a = ([], append-nil a)
 more : (a bytes : List ℕ) → IsPrefixOf a (a ++ bytes)
 more a bytes = (bytes, refl)
 
-asking_joined : (a c question reply : List ℕ) (later : List Call)
+asking_joined : (a c question reply : List ℕ) (later : List EndCall)
     → JoinedFrom (a ++ question) (a ++ question) (c ++ reply) (c ++ reply) later
     → JoinedFrom a a c c (asking question reply later)
 asking_joined a c question reply later j =
@@ -374,7 +374,7 @@ ends (Ask bytes go_on) n p =
 -- ---- both
 
 module _ (plan : Plan) (s : chips.ChipState) (file : Bytes) (asks : AsksBodies (session plan)) where
-  abbrev calls : List Call
+  abbrev calls : List EndCall
   calls = calls_of (session plan) 1 (fresh_programmer s)
 
   abbrev host : Transcript

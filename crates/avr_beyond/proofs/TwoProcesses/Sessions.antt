@@ -35,7 +35,7 @@ use Rattle.avr_emulator.specs.ServedRun.{ServesChip, status_of_end}
 use Rattle.avr_emulator.specs.Saving.{Saves, SavesAfter}
 use Rattle.avr_part.specs.ChipFile.{chip_file}
 use Rattle.avr_laws.specs.AnyLine.{OverTurns, WholeOverTurns}
-use Rattle.avr_beyond.specs.TwoProcesses.{Call, of_host, of_server, IsJoined, IsOrdered, IsPrompt, StallsBetweenAnswers, HasServed, obeyed}
+use Rattle.avr_beyond.specs.TwoProcesses.{EndCall, of_host, of_server, IsJoined, IsOrdered, IsPrompt, StallsBetweenAnswers, HasServed, obeyed}
 use Rattle.avr_beyond.proofs.TwoProcesses.Meeting.{meet_honest, meet_leaves, meet_sent, meet_ends, meet_straight, has_served}
 use Rattle.avr_beyond.proofs.TwoProcesses.NeverSilent.{prompt_stalls}
 use Rattle.avr_beyond.proofs.TwoProcesses.Misses.{session_few}
@@ -204,7 +204,7 @@ module _ (plan : Plan) (s : chips.ChipState) (is_sound : IsSoundChip s) (part_is
       events status after.next over plays.all_sent)
 
   -- whatever happens to both
-  module _ (calls : List Call) (ordered : IsOrdered calls) (stalls : StallsBetweenAnswers (heard (of_host calls)))
+  module _ (calls : List EndCall) (ordered : IsOrdered calls) (stalls : StallsBetweenAnswers (heard (of_host calls)))
       (left : Programmer) (serves : HasServed (fresh_programmer s) (of_server calls) left) where
     abbrev Ended : Type 0
     Ended = OverTurns plan (fresh_programmer s) left
@@ -220,7 +220,7 @@ module _ (plan : Plan) (s : chips.ChipState) (is_sound : IsSoundChip s) (part_is
         (subst (IsFirst plan) host_new (sent_first plan old new status host_old runs)).1
 
   -- THE TWO PROCESSES, from these devices to those
-  module _ (calls : List Call) (old new : Devices) (server_old server_new : Devices) (file : Bytes)
+  module _ (calls : List EndCall) (old new : Devices) (server_old server_new : Devices) (file : Bytes)
       (most status served_status : ℕ) where
     -- with an empty transcript before, what passed since is the whole transcript, at the server's end and at the host's
     served_all : server_old.link.transcript ≡ [] → server_new.link.transcript ≡ of_server calls

@@ -186,7 +186,7 @@ module _ {S F H I O E : Type 0} (system : Ghosts S F H) (reads : Reads F) (write
   pub true_now : (a : Desk) → Since a a
   true_now a = quiet refl refl (λ none. none) (λ none was. was) (λ are. are)
 
-  -- all is as it was but the uses, and what is open
+  -- only the uses and the open file change
   files_now : {o p : OpenFile F I} {h : Option H} {r : Record} {uses : List FileUse} {current : Open} → Files o h r
       → All TrueUse uses → TrueOpen p current → Files p h (record r { uses = uses; current = current })
   files_now are uses current = record { uses = uses; current = current; denied = are.denied; held = are.held }
@@ -261,7 +261,7 @@ module _ {S F H I O E : Type 0} (system : Ghosts S F H) (reads : Reads F) (write
       quiet refl refl (λ none. none) (λ none was. was)
       (λ are. search rules)
 
-  -- bytes were read of what is open
+  -- bytes of the open file were read
   read_on_open : (old new : OpenFile F I) (buf : Bytes) (n : ℕ) (o : Open) → FileGives reads input old new buf n
       → TrueOpen old o → TrueOpen new (read_on buf n o)
   read_on_open (open_file.Input i) new buf n o (now, is, gives) (x, same, (dash, first, given)) =

@@ -25,7 +25,7 @@ beyond-parts size (p ∷ xs) ys none =
 
 -- ---- lines, one after another
 
--- the bytes of a line where this base is in force
+-- the bytes of a line while this base is in force
 abbrev pub under : AddressBase → Said → List (ℕ × ℕ)
 under base (Ok (Data offset bytes)) = places base offset bytes
 under base said = []

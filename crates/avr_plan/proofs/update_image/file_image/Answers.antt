@@ -33,7 +33,7 @@ pub returns-in-Err-clause-goes : goal.returns-in-Err-clause-goes
 returns-in-Err-clause-goes g c =
     goes_without_image c.args.switches c.args.file.now c.args.format c.args.size _ _ _ c.in-Err.fault _
     c.in-Err.ensures.read
-    c.in-Err.ensures.rises
+    c.in-Err.ensures.follows
     c.in-Err.ensures.counted refl
     (rw c.image_message.ensures at c.refuse-in-Err.ensures.told)
 
