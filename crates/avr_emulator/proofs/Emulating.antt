@@ -49,12 +49,12 @@ module _ (settings : Settings) (file : Bytes) (plan : Plan) (chip : Chip) (w v :
 
   pub runs_over_emulator : (old planned_desk loaded_desk played_desk now : DeskState) (ran status : ℕ)
       → Went (planned settings) old planned_desk (Made plan) → Loaded plan.part file planned_desk loaded_desk chip
-      → Follows loaded_desk played_desk → Follows played_desk now
+      → Follows played_desk now
       → RunsSession plan (devices (wired_link w) loaded_desk) (devices (wired_link v) played_desk) ran
       → Stays ComesOf w v → (w.wire.programmer.chip.part ≡ plan.part → OverAnyLine plan w v loaded_desk played_desk ran)
       → IsSaved (sent v.transcript) played_desk now file (chip_file v.wire.programmer.chip) ran status
       → RunsOverEmulator settings file old now status
-  runs_over_emulator old planned_desk loaded_desk played_desk now ran status made is_loaded by_playing by_saving runs
+  runs_over_emulator old planned_desk loaded_desk played_desk now ran status made is_loaded by_saving runs
       comes line saved = record {
         plan = plan;
         chip = chip;
@@ -74,5 +74,5 @@ module _ (settings : Settings) (file : Bytes) (plan : Plan) (chip : Chip) (w v :
         line = subst (λ (x : WiredState). OverAnyLine plan x v loaded_desk played_desk ran) is_new
             (line (ap (λ x. x.programmer.chip.part) begun ∙ part_is));
         saved = saved;
-        in_order = (by_playing, by_saving);
+        follows = by_saving;
       }

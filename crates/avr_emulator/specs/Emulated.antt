@@ -1,7 +1,7 @@
--- Section 6 of the page (avr_tool's specs/Headline): a run over the emulator, whose chip has a file.
-use Rattle.std.specs.Prelude.{◌≡◌, ◌⊎◌, ℕ, List, [], ◌∷◌, All, None, Ok, Err}
+-- A run over the emulator, whose chip has a file.
+use Rattle.std.specs.Prelude.{◌≡◌, ◌⊎◌, ℕ, List, [], ◌∷◌, All, Err}
 use Rattle.avr_emulator.specs.Holding.{HoldsAndLoads, Loaded}
-use Rattle.avr_emulator.specs.Saving.{Saves}
+use Rattle.avr_emulator.specs.Saving.{SavesAfter}
 use Rattle.avr_cli.specs.declared.settings.Settings.{Settings}
 use Rattle.avr_desk.specs.Fault.{Follows}
 use Rattle.avr_desk.specs.Record.{DeskState, Bytes, released}
@@ -9,27 +9,22 @@ use Rattle.avr_part.specs.ChipFile.{chip_file}
 use Rattle.avr_part.specs.Sound.{IsSoundChip}
 use Rattle.avr_part.specs.State.{ChipState as Chip}
 use Rattle.avr_plan.specs.Plan.{Plan, IsFitted}
-use Rattle.avr_plan.specs.Planning.{LacksPart, planned}
-use Rattle.avr_plan.specs.Taking.{AtUpdate}
-use Rattle.avr_desk.specs.Playing.{Goes, Went}
+use Rattle.avr_plan.specs.Planning.{planned}
+use Rattle.avr_desk.specs.Playing.{Went}
 use Rattle.avr_desk.specs.Stage.{Made}
 use Rattle.ghosts.specs.Stays.{Stays}
 use Rattle.stk_host.specs.Transcript.{sent}
 use Rattle.stk_emu.specs.Programmer.{fresh_programmer}
 use Rattle.stk_emu.specs.Wire.{fresh_wire}
-use Rattle.stk_emu.specs.Wired.{WiredState, ComesOf, wired_link}
+use Rattle.stk_emu.specs.Wired.{WiredState, ComesOf}
 use Rattle.stk_emu.specs.declared.fate.Fate.{Fate}
-use Rattle.avr_session.specs.Run.{RunsSession}
-use Rattle.avr_session.specs.Runs.{devices}
-use Rattle.avr_laws.specs.AnyLine.{OverAnyLine}
+use Rattle.avr_session.specs.Run.{LacksPlan, RunsSession, WithPlan}
+use Rattle.avr_laws.specs.AnyLine.{OverAnyLine, wire_and_desk}
 
--- The chip's file is replaced if anything was sent, otherwise only unlocked. If it can't be replaced, the status is
--- 1.
+-- The chip's file is replaced if anything was sent, otherwise only unlocked. If it can't be replaced, the status is 1.
 abbrev pub IsSaved : List ℕ → DeskState → DeskState → Bytes → Bytes → ℕ → ℕ → Type 0
 IsSaved [] old now file bytes ran status = (now ≡ released old) × (status ≡ ran)
-IsSaved (byte ∷ sent) old now file bytes ran status =
-    (Saves old now file bytes (Ok tt) × (status ≡ ran))
-    ⊎ ((fault : ℕ) × Saves old now file bytes (Err fault) × (status ≡ 1))
+IsSaved (byte ∷ sent) old now file bytes ran status = SavesAfter ran old now file bytes status
 
 -- A fresh wire to a chip, with these fates.
 abbrev pub new_wire : Chip → List Fate → WiredState
@@ -39,7 +34,7 @@ new_wire chip fates =
 -- A plan was made, whose images have the sizes of their memories. The file was locked, and a chip of the plan's part,
 -- with memories of its sizes, was loaded from it. The session ran to a status over a new wire to that chip, on which
 -- no frame goes wrong. Unless it stopped, it is the expected run. If anything was sent, the chip as the wire left it
--- was saved to the file, which was then unlocked. A failure of the desk in a stage is one since the stage before it.
+-- was saved to the file, which was then unlocked.
 pub record RunsOverEmulator (settings : Settings) (file : Bytes) (old now : DeskState) (status : ℕ) : Type 0 where
   pub plan : Plan
   pub chip : Chip
@@ -53,27 +48,15 @@ pub record RunsOverEmulator (settings : Settings) (file : Bytes) (old now : Desk
   pub loaded : Loaded plan.part file planned_desk loaded_desk chip
   pub part : chip.part ≡ plan.part
   pub sound : IsSoundChip chip
-  pub runs : RunsSession plan (devices (wired_link (new_wire chip [])) loaded_desk)
-      (devices (wired_link after) played_desk) ran
+  pub runs : RunsSession plan (wire_and_desk (new_wire chip []) loaded_desk) (wire_and_desk after played_desk) ran
   pub comes : Stays ComesOf (new_wire chip []) after
   pub line : OverAnyLine plan (new_wire chip []) after loaded_desk played_desk ran
   pub saved : IsSaved (sent after.transcript) played_desk now file (chip_file after.wire.programmer.chip) ran status
-  pub in_order : Follows loaded_desk played_desk × Follows played_desk now
+  pub follows : Follows played_desk now
 
--- There is a plan but no chip: nothing was sent.
-pub record LacksChip (settings : Settings) (file : Bytes) (old now : DeskState) (status : ℕ) : Type 0 where
-  pub plan : Plan
-  pub between : DeskState
-  pub made : Went (planned settings) old between (Made plan)
-  pub refused : HoldsAndLoads plan.part file between now (Err status)
-
--- There is no plan: nothing was sent. Without a part file and updates the only fault is an unknown part.
-abbrev pub LacksPlan : Settings → DeskState → DeskState → ℕ → Type 0
-LacksPlan settings old now status =
-    Goes (AtUpdate settings) (planned settings) old now (Err status)
-    × (settings.parts ≡ None → settings.updates ≡ [] → LacksPart settings.part [] old now)
-
+-- Or there is a plan but no chip, or no plan: nothing was sent.
 abbrev pub RunsEmulator : Settings → Bytes → DeskState → DeskState → ℕ → Type 0
 RunsEmulator settings file old now status =
     RunsOverEmulator settings file old now status
-    ⊎ (LacksChip settings file old now status ⊎ LacksPlan settings old now status)
+    ⊎ (WithPlan settings old (λ plan desk. HoldsAndLoads plan.part file desk now (Err status))
+    ⊎ LacksPlan settings old now status)

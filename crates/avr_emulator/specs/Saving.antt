@@ -1,5 +1,5 @@
 -- Saving a chip file: it is replaced whole, or it is as it was.
-use Rattle.std.specs.Prelude.{◌≡◌, ℕ, Result, Ok, Err, ⊤}
+use Rattle.std.specs.Prelude.{◌≡◌, ◌⊎◌, ℕ, Result, Ok, Err, ⊤}
 use Rattle.avr_desk.specs.Fault.{HasSameCounts}
 use Rattle.avr_desk.specs.Record.{DeskState, Passes, Bytes, after_err, released, with_replaced}
 use Rattle.avr_desk.specs.Lines.{memory_line, not_written_line}
@@ -26,3 +26,9 @@ pub record Unsaved (old new : DeskState) (file : Bytes) : Type 0 where
 abbrev pub Saves : DeskState → DeskState → Bytes → Bytes → Result ⊤ ℕ → Type 0
 Saves old new file bytes (Ok done) = Passes (with_replaced file bytes) old new × HasSameCounts old new
 Saves old new file bytes (Err status) = (status ≡ 1) × Unsaved old new file
+
+-- It was saved, and the status is this; or it could not be saved, and the status is 1.
+abbrev pub SavesAfter : ℕ → DeskState → DeskState → Bytes → Bytes → ℕ → Type 0
+SavesAfter ran old new file bytes status =
+    (Saves old new file bytes (Ok tt) × (status ≡ ran))
+    ⊎ ((fault : ℕ) × Saves old new file bytes (Err fault) × (status ≡ 1))

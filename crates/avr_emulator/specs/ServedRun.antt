@@ -1,7 +1,7 @@
 -- Serving an emulated programmer, from settings to status.
 use Rattle.std.specs.Prelude.{◌≡◌, ◌⊎◌, ℕ, false, List, [], ◌∷◌, Option, Some, None, Result, Ok, Err, codes}
 use Rattle.avr_emulator.specs.Holding.{HoldsAndLoads, Loaded}
-use Rattle.avr_emulator.specs.Saving.{Saves}
+use Rattle.avr_emulator.specs.Saving.{SavesAfter}
 use Rattle.avr_cli.specs.declared.settings.Settings.{Settings}
 use Rattle.avr_desk.specs.Fault.{Follows}
 use Rattle.avr_desk.specs.Record.{DeskState, Bytes, released}
@@ -80,13 +80,6 @@ status_of_end RecvFailed = 1
 status_of_end SendFailed = 1
 status_of_end TooManyReads = 1
 
--- The chip's file was written, and the status is that of how serving ended; or it could not be written, and the
--- status is 1.
-abbrev pub SavesAfterServing : Served → DeskState → DeskState → Bytes → Bytes → ℕ → Type 0
-SavesAfterServing served old new file bytes status =
-    (Saves old new file bytes (Ok tt) × (status ≡ status_of_end served))
-    ⊎ ((fault : ℕ) × Saves old new file bytes (Err fault) × (status ≡ 1))
-
 -- A fresh emulator with this chip served a link in at most `turns` reads. It sent its answers to what was received,
 -- all of them before the next read, unless a send failed. How serving ended was reported. In each case the chip was
 -- saved as the frames received have left it.
@@ -101,7 +94,7 @@ pub record ServesChip (chip : chips.ChipState) (file : Bytes) (turns : ℕ) (old
   pub fails : FailsBy served old.link new.link
   pub told : TellsEnd served old.desk told_desk
   pub rises : Follows old.desk told_desk
-  pub saved : SavesAfterServing served told_desk new.desk file (chip_file left.programmer.chip) status
+  pub saved : SavesAfter (status_of_end served) told_desk new.desk file (chip_file left.programmer.chip) status
   pub follows : Follows told_desk new.desk
 
 -- The file was locked, the chip of this part was loaded from it, and it was served.

@@ -2,7 +2,8 @@
 ghost use Rattle.std.specs.Prelude.{◌≡◌};
 ghost use Rattle.avr_desk.specs.Fault.{Follows};
 ghost use Rattle.avr_part.specs.ChipFile.{chip_file};
-ghost use Rattle.avr_emulator.specs.ServedRun.{TellsEnd, SavesAfterServing, end_pieces, status_of_end};
+ghost use Rattle.avr_emulator.specs.Saving.{SavesAfter};
+ghost use Rattle.avr_emulator.specs.ServedRun.{TellsEnd, end_pieces, status_of_end};
 ghost use Rattle.ghosts.specs.Stays.{Stays};
 
 use crate::saving::save_chip;
@@ -51,7 +52,8 @@ pub(crate) fn save_served<D: Desk>(
     desk: &mut D,
     served: Served,
 ) -> u8
-    ensures saved { SavesAfterServing served (D.view desk.old) (D.view desk.new) file.now (chip_file chip.now) result }
+    ensures saved { SavesAfter (status_of_end served) (D.view desk.old) (D.view desk.new) file.now (chip_file chip.now)
+        result }
     ensures follows { Follows (D.view desk.old) (D.view desk.new) }
     ensures stays { Stays D.comes_of desk.old desk.new }
 {

@@ -1,10 +1,12 @@
 -- A session that ran over a wire went along the turns of its fates.
-use Rattle.std.proofs.Common.{◌≡◌, ℕ, [], List, All, length, take, refl, sym, ap, ◌∙◌, subst, inl, inr}
+use Rattle.std.proofs.Common.{◌≡◌, ℕ, [], List, ◌++◌, All, length, take, refl, sym, ap, ◌∙◌, subst, inl, inr}
 use Rattle.std.proofs.lemmas.List.{append-nil}
 use Rattle.avr_desk.specs.Said.{OutputEvent, after_all}
 use Rattle.avr_part.specs.Sound.{IsSoundChip}
 use Rattle.avr_plan.specs.Plan.{Plan, IsFitted}
 use Rattle.avr_desk.specs.Record.{DeskState, Passes}
+use Rattle.stk_frame.specs.Cut.{frames}
+use Rattle.stk_frame.specs.Reader.{MayHold}
 use Rattle.stk_host.specs.Dialog.{Event, played, outputs, frames_in}
 use Rattle.stk_host.specs.Play.{Plays}
 use Rattle.ghosts.specs.Stays.{Stays}
@@ -18,15 +20,26 @@ use Rattle.stk_emu.specs.Device.{device}
 use Rattle.stk_emu.specs.Effect.{effects, memories_of}
 use Rattle.stk_emu.specs.Programmer.{Programmer, fresh_programmer}
 use Rattle.stk_emu.specs.Turn.{Turn}
-use Rattle.stk_emu.specs.Wire.{turns_of, becames_of}
+use Rattle.stk_emu.specs.Wire.{Wire, turns_of, becames_of, fresh_wire, tape_of, wire_after}
 use Rattle.stk_emu.specs.Wired.{WiredState, FollowsFates, ComesOf, IsFresh, wired_link}
-use Rattle.avr_laws.specs.AnyLine.{memories, frames_over, events_over, Stopped, WereTrue, OverTurns, ComesOverTurns, OverAnyLine}
+use Rattle.avr_laws.specs.AnyLine.{memories, events_over, Stopped, WereTrue, OverTurns, ComesOverTurns, OverAnyLine}
 use Rattle.avr_laws.specs.Outcome.{page_writes}
 use Rattle.avr_laws.specs.Told.{IsTrue}
 use Rattle.avr_laws.proofs.Lines.InTurn.{stands_along, whole_said, whole_done, honest_heard}
 use Rattle.avr_laws.proofs.AnyLink.{since_none, IsFirst, sent_first}
 use Rattle.avr_laws.proofs.OverTurns.{asks, over_turns, comes_over_turns}
 use Rattle.avr_laws.proofs.Reports.OverTape.{by_fates, said_prefix}
+
+-- a fresh wire follows its fates
+fresh_follows : (w : WiredState) → IsFresh w → FollowsFates (fresh_programmer w.wire.programmer.chip) w.wire.fates w
+fresh_follows w fresh =
+    let begun : Wire Programmer = fresh_wire (fresh_programmer w.wire.programmer.chip) w.wire.fates in
+    record {
+      held = subst (λ transcript. MayHold w.held (sent transcript)) (sym fresh.silent) fresh.held;
+      stands = fresh.wire ∙ ap (λ transcript. wire_after device (frames (sent transcript)) begun) (sym fresh.silent);
+      brings = λ never. ap (λ transcript. tape_of device (frames (sent transcript)) begun) fresh.silent
+          ∙ sym (ap (λ transcript. heard transcript ++ w.waits) fresh.silent ∙ fresh.waits);
+    }
 
 module _ (plan : Plan) (w v : WiredState) (fresh : IsFresh w) (stays : Stays ComesOf w v)
     (is_sound : IsSoundChip w.wire.programmer.chip)
@@ -42,7 +55,7 @@ module _ (plan : Plan) (w v : WiredState) (fresh : IsFresh w) (stays : Stays Com
   asks_bodies = asks plan w.wire.programmer.chip is_sound part_is fitted
 
   keeps : FollowsFates begun w.wire.fates v
-  keeps = stays (record { programmer = begun; fates = w.wire.fates }) fresh.begins
+  keeps = stays (record { programmer = begun; fates = w.wire.fates }) (fresh_follows w fresh)
 
   abbrev Runs : Type 0
   Runs = RunsSession plan (devices (wired_link w) old) (devices (wired_link v) now) status
@@ -50,7 +63,8 @@ module _ (plan : Plan) (w v : WiredState) (fresh : IsFresh w) (stays : Stays Com
   first : Runs → IsFirst plan v.transcript
   first runs = sent_first plan (devices (wired_link w) old) (devices (wired_link v) now) status fresh.silent runs
 
-  stands : Runs → v.wire.programmer ≡ (along device (length (frames_over v)) (session plan) begun turns).programmer
+  stands : Runs → v.wire.programmer
+      ≡ (along device (length (frames (sent v.transcript))) (session plan) begun turns).programmer
   stands runs = stands_along (session plan) 1 begun w.wire.fates v asks_bodies fresh.lawful keeps (first runs).0
       (first runs).1
 
@@ -99,7 +113,7 @@ module _ (plan : Plan) (w v : WiredState) (d e : DeskState) (status : ℕ) (over
       × Passes (after_all said) d e
   came_to zero = elim over.end [ inl came ↦ came | inr broke ↦ absurd (one_no (sym broke.1 ∙ zero)) ]
 
-  pub untouched : frames_over v ≡ [] → memories v ≡ memories w
+  pub untouched : frames (sent v.transcript) ≡ [] → memories v ≡ memories w
   untouched none = over.line.page_writes.memories
       ∙ ap (λ k. effects plan.part (take k (page_writes plan)) (memories w))
       (over.line.page_writes.none (ap length none))

@@ -1,11 +1,11 @@
--- Section 4 of the page (avr_tool's specs/Headline): what the session of a plan did over a link, whatever the link
--- loses, delays and spoils. By the turns of its frames, and over a wire to the emulated programmer by their fates.
+-- What the session of a plan did over a link, whatever the link loses, delays and spoils. By the turns of its frames,
+-- and over a wire to the emulated programmer by their fates.
 use Rattle.std.specs.Prelude.{ℕ, ◌+◌, ◌*◌, ◌≡◌, ◌≤◌, ◌⊎◌, true, false, List, [], ◌∷◌, ◌++◌, map, length}
 use Rattle.avr_desk.specs.Record.{DeskState, Passes}
 use Rattle.avr_desk.specs.Said.{OutputEvent, after_all}
 use Rattle.avr_plan.specs.Plan.{Plan}
 use Rattle.avr_session.specs.Run.{StopsSession}
-use Rattle.avr_session.specs.Runs.{devices}
+use Rattle.avr_session.specs.Runs.{Devices, devices}
 use Rattle.avr_session.specs.Session.{session}
 use Rattle.stk_emu.specs.Device.{device}
 use Rattle.stk_emu.specs.Effect.{Memories, memories_of}
@@ -85,21 +85,19 @@ WholeOverTurns plan p q turns bytes events status =
 
 -- ---- over a wire
 
--- The memories of its chip; below, the frames sent, and all events over what was received.
+-- The memories of its chip; below, all events over what was received.
 abbrev pub memories : WiredState → Memories
 memories w = memories_of w.wire.programmer.chip
-
-abbrev pub frames_over : WiredState → List (List ℕ)
-frames_over w = frames (sent w.transcript)
 
 abbrev pub events_over : Plan → WiredState → List (Event OutputEvent)
 events_over plan w = (played (session plan) 1 (heard w.transcript)).events
 
--- The session stopped: a device failed, by its count of failures and as the first, or allocation failed at an action
--- that allocates.
+abbrev pub wire_and_desk : WiredState → DeskState → Devices
+wire_and_desk w desk = devices (wired_link w) desk
+
+-- The session stopped: a device failed, as the first, or allocation failed at an action that allocates.
 abbrev pub Stopped : Plan → WiredState → WiredState → DeskState → DeskState → Type 0
-Stopped plan before after old now =
-    StopsSession plan (devices (wired_link before) old) (devices (wired_link after) now)
+Stopped plan before after old now = StopsSession plan (wire_and_desk before old) (wire_and_desk after now)
 
 -- What a session of this plan did between these states of a wire, whatever the fates of its frames. It ran to its
 -- status, and all its output was done at the desk; or it stopped with status 1.

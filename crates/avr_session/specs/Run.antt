@@ -1,12 +1,11 @@
 -- A run, from settings to status.
-use Rattle.std.specs.Prelude.{ℕ, ◌≡◌, ◌⊎◌, [], None}
+use Rattle.std.specs.Prelude.{ℕ, ◌≡◌, ◌⊎◌, [], None, Err}
 use Rattle.avr_cli.specs.declared.settings.Settings.{Settings}
 use Rattle.avr_desk.specs.Record.{DeskState}
 use Rattle.avr_plan.specs.Plan.{Plan}
 use Rattle.avr_plan.specs.Planning.{LacksPart, planned}
 use Rattle.avr_plan.specs.Taking.{AtUpdate}
-use Rattle.avr_desk.specs.Playing as planning
-use Rattle.avr_desk.specs.Playing.{Went, WentRefused}
+use Rattle.avr_desk.specs.Playing.{Goes, Went}
 use Rattle.avr_desk.specs.Stage.{Made}
 use Rattle.avr_session.specs.Actions.{actions, takes_memory}
 use Rattle.avr_session.specs.Runs.{Devices, devices, start, untold, BrokeOff, RunsTo}
@@ -26,6 +25,20 @@ StopsSession plan old new =
     BrokeOff (session plan) start old new (untold (takes_memory plan))
     (AtTaking plan.part plan.switches (actions plan))
 
+-- A plan was made from what the files gave, up to `between`, and then this holds.
+pub record WithPlan (settings : Settings) (old : DeskState) (Then : Plan → DeskState → Type 0) : Type 0 where
+  pub plan : Plan
+  pub between : DeskState
+  pub made : Went (planned settings) old between (Made plan)
+  pub then_is : Then plan between
+
+-- There is no plan: the refusal was reported, or planning broke off, and the status is 1. Allocation failed only for
+-- the next file, or at an update that allocates without a file. Without a part file and updates the only fault is an
+-- unknown part, which was reported.
+pub record LacksPlan (settings : Settings) (old new : DeskState) (status : ℕ) : Type 0 where
+  pub goes : Goes (AtUpdate settings) (planned settings) old new (Err status)
+  pub bare : settings.parts ≡ None → settings.updates ≡ [] → LacksPart settings.part [] old new
+
 -- The plan was made from what the files gave, up to `between`, and its session was run from there.
 pub record RunsPlan (settings : Settings) (old : Devices) (between : DeskState) (new : Devices)
     (status : ℕ) : Type 0 where
@@ -33,19 +46,11 @@ pub record RunsPlan (settings : Settings) (old : Devices) (between : DeskState) 
   pub made : Went (planned settings) old.desk between (Made plan)
   pub runs : RunsSession plan (devices old.link between) new status
 
--- There is no plan, or planning broke off. Nothing was sent or received, and the status is 1. Allocation failed only
--- for the next file, or at an update that allocates without a file. Without a part file and updates the only fault is
--- an unknown part, which was reported.
-pub record RunsNone (settings : Settings) (old new : Devices) (status : ℕ) : Type 0 where
-  pub refused : WentRefused (planned settings) old.desk new.desk
-      ⊎ planning.StageBrokeOff (AtUpdate settings) (planned settings) old.desk new.desk
-  pub bare : settings.parts ≡ None → settings.updates ≡ [] → LacksPart settings.part [] old.desk new.desk
-  pub same : new.link ≡ old.link
-  pub status_is : status ≡ 1
-
+-- That, or there is no plan, and nothing was sent or received.
 abbrev pub RunsSettings : Settings → Devices → DeskState → Devices → ℕ → Type 0
 RunsSettings settings old between new status =
-    RunsPlan settings old between new status ⊎ RunsNone settings old new status
+    RunsPlan settings old between new status
+    ⊎ (LacksPlan settings old.desk new.desk status × (new.link ≡ old.link))
 
 -- The same for a link and a desk, with the desk `between`, which stays what it came from.
 pub record RunsBetween {D Start : Type 0} (view : D → DeskState) (ComesOf : Start → D → Type 0) (settings : Settings)

@@ -1,3 +1,2 @@
--- A run over any link, and over a wire to the emulated programmer.
-pub mod Wires
+-- A link that forges a frame.
 pub mod MadeFrame

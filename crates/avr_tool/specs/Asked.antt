@@ -1,11 +1,13 @@
 -- What a command line asks for.
-use Rattle.std.specs.Prelude.{◌≡◌, ℕ, true, List, [], Result, Ok, Err}
+use Rattle.std.specs.Prelude.{◌≡◌, ◌≢◌, ℕ, true, List, [], Result, Ok, Err}
 use Rattle.clap.specs.Words.{takes, fault_of, kind_of, HasKind}
+use Rattle.clap.specs.declared.error.Error.{Error}
 use Rattle.clap.specs.declared.error.kind.ErrorKind.TheVariants.{OutOfMemory}
 use Rattle.avr_cli.specs.Command.{avrstk, asked_by}
 use Rattle.avr_cli.specs.Settings.{GivesOrMemory, TellsAnyway}
 use Rattle.avr_cli.specs.declared.settings.Settings.{Settings}
 use Rattle.avr_cli.specs.declared.settings.SettingsFault.{SettingsFault}
+use Rattle.avr_cli.specs.declared.settings.SettingsFault.TheVariants.{Memory}
 use Rattle.avr_desk.specs.Record.{DeskState, Bytes}
 use Rattle.avr_desk.specs.Said.{Tells}
 use Rattle.avr_session.specs.Refusal.{refusal_line}
@@ -28,6 +30,12 @@ Asks words old new (Ok settings) = (Ok settings ≡ asked_by words) × (fault_of
 Asks words old new (Err (Refused status)) = IsRefused words old new status
 Asks words old new (Err (Words error)) =
     HasKind (fault_of avrstk words) error × (takes avrstk words ≡ true → kind_of error ≡ OutOfMemory) × (new ≡ old)
+
+-- An error of `clap`: a failed allocation is reported, any other error is left.
+abbrev pub LeavesWords : Error → DeskState → DeskState → Result ℕ Error → Type 0
+LeavesWords error old new (Ok status) =
+    (kind_of error ≡ OutOfMemory) × Tells old new (refusal_line Memory) × (status ≡ 1)
+LeavesWords error old new (Err left) = (kind_of error ≢ OutOfMemory) × (left ≡ error) × (new ≡ old)
 
 abbrev pub not_asked_number : NotAsked → ℕ
 not_asked_number (Words error) = 1

@@ -1,16 +1,16 @@
 -- FROM BYTES TO BYTES. What a run leaves is a function of its settings, files, standard input and answers, if these
 -- are known. No device is in it.
 use Rattle.std.specs.Io.KnownBytes.{Appends, Consumes}
-use Rattle.std.specs.Prelude.{◌≡◌, ℕ, List, [], ◌++◌, replicate, Option, Some, None}
+use Rattle.std.specs.Prelude.{◌≡◌, ℕ, List, [], ◌++◌, replicate, Option, Some, option_map}
 use Rattle.avr_cli.specs.declared.settings.Settings.{Settings}
 use Rattle.avr_desk.specs.Memory.{MemDeskState, Stock}
 use Rattle.avr_desk.specs.Record.{Bytes, Record, all_files, nothing_kept}
 use Rattle.avr_desk.specs.Said.{OutputEvent, after_all}
 use Rattle.avr_desk.specs.declared.record.Writing.{Writing}
 use Rattle.avr_plan.specs.FilesRead.{files_give, files_read}
-use Rattle.stk_host.specs.Dialog.{Event, Played, bytes_sent, outputs}
+use Rattle.stk_host.specs.Dialog.{Played, bytes_sent, outputs}
 use Rattle.stk_host.specs.Links.{StreamState}
-use Rattle.stk_host.specs.Transcript.{LinkState, Transcript, sent}
+use Rattle.stk_host.specs.Transcript.{LinkState}
 use Rattle.stk_host.specs.Tape.{Tape, bytes_of}
 use Rattle.stk_host.specs.declared.link.Item.TheVariants.{End}
 use Rattle.avr_tool.specs.Headline.{run}
@@ -24,28 +24,23 @@ pub record RunOutcome : Type 0 where
   pub output : Bytes
   pub files : List Writing
 
--- THE RUN over some files and a tape: each file that the settings name is read whole, as it was before.
-abbrev pub run_of : Settings → Stock → Tape → Played OutputEvent ℕ
-run_of settings stock tape = run settings (files_give stock (files_read settings)) tape
-
-abbrev pub left_by : List (Event OutputEvent) → ℕ → RunOutcome
-left_by events status =
-    let made = after_all (outputs events) nothing_kept in
-    record {
-      status = status;
-      sent = bytes_sent events;
-      messages = made.messages;
-      output = made.output;
-      files = all_files made;
-    }
-
-abbrev pub left_at : List (Event OutputEvent) → Option (ℕ × ℕ × Tape) → Option RunOutcome
-left_at events None = None
-left_at events (Some end) = Some (left_by events end.0)
+abbrev pub shown_by : ℕ → Bytes → Record → RunOutcome
+shown_by status sent kept = record {
+  status = status;
+  sent = sent;
+  messages = kept.messages;
+  output = kept.output;
+  files = all_files kept;
+}
 
 -- What a run leaves, if it ends.
 abbrev pub run_outcome : Played OutputEvent ℕ → Option RunOutcome
-run_outcome p = left_at p.events p.outcome
+run_outcome p =
+    option_map (λ end. shown_by end.0 (bytes_sent p.events) (after_all (outputs p.events) nothing_kept)) p.outcome
+
+-- THE RUN over some files and a tape: each file that the settings name is read whole, as it was before.
+abbrev pub run_of : Settings → Stock → Tape → Played OutputEvent ℕ
+run_of settings stock tape = run settings (files_give stock (files_read settings)) tape
 
 -- The run of these files over this tape leaves this outcome, whatever follows on the tape.
 abbrev pub IsLeft : Settings → Stock → Tape → RunOutcome → Type 0
@@ -69,12 +64,3 @@ pub record LeavesStreams {R W : Type 0} (remaining : R → Option Bytes) (conten
 pub record AreUnused (desk : MemDeskState) (link : LinkState) : Type 0 where
   pub desk_is : desk.kept ≡ nothing_kept
   pub link_is : link ≡ record { transcript = []; failures = 0 }
-
-abbrev pub shown_by : ℕ → Record → Transcript → RunOutcome
-shown_by status kept transcript = record {
-  status = status;
-  sent = sent transcript;
-  messages = kept.messages;
-  output = kept.output;
-  files = all_files kept;
-}

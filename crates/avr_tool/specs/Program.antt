@@ -10,11 +10,11 @@ use Rattle.avr_cli.specs.declared.settings.Port.{Port}
 use Rattle.avr_cli.specs.declared.settings.Port.TheVariants.{Stdio, Emulated, Network, Served}
 use Rattle.avr_cli.specs.declared.settings.Settings.{Settings}
 use Rattle.avr_cli.specs.declared.settings.SettingsFault.TheVariants.{Memory}
-use Rattle.avr_desk.specs.Record.{DeskState, Bytes}
+use Rattle.avr_desk.specs.Record.{Bytes}
 use Rattle.avr_desk.specs.Said.{Tells}
 use Rattle.avr_emulator.specs.Emulated.{RunsEmulator}
 use Rattle.avr_session.specs.Refusal.{refusal_line}
-use Rattle.avr_session.specs.Runs.{Devices, devices}
+use Rattle.avr_session.specs.Runs.{Devices}
 use Rattle.avr_desk.specs.declared.stream.Stream.{Stream}
 use Rattle.avr_desk.specs.declared.stream.Stream.TheVariants.{Output, Messages}
 use Rattle.avr_tool.specs.Asked.{IsRefused}
@@ -23,7 +23,6 @@ use Rattle.avr_tool.specs.OverNet.{RunsOverNet}
 use Rattle.avr_tool.specs.ServedNet.{ServesNet}
 use Rattle.avr_tool.specs.Sockets.{Peers}
 use Rattle.avr_tool.specs.Texts.{PrintsText, ReportsText}
-use Rattle.stk_host.specs.Transcript.{LinkState}
 
 -- The port of the settings decides. It is standard input and output, which is the link; the emulator over a chip
 -- file; a connection to the address; or a service at the port. A service uses only the chip file, the port and the
@@ -38,40 +37,29 @@ ActsAtPort peers (Served port chip) settings old new status =
     ServesNet (peers.at_port (port_number port)) settings port chip old.desk new.desk status × (new.link ≡ old.link)
 
 -- The command takes the command line, which asks for these settings, and they were run.
-pub record TakesWords (peers : Peers) (words : List Bytes) (before after : LinkState) (old new : DeskState) (status : ℕ)
-    : Type 0 where
+pub record TakesWords (peers : Peers) (words : List Bytes) (old new : Devices) (status : ℕ) : Type 0 where
   pub settings : Settings
   pub asked : Ok settings ≡ asked_by words
   pub taken : fault_of avrstk words ≡ []
-  pub runs : ActsAtPort peers settings.port settings (devices before old) (devices after new) status
+  pub runs : ActsAtPort peers settings.port settings old new status
 
 -- The settings have a fault, or allocation failed. This was reported, and nothing else was done.
-pub record RefusesWords (words : List Bytes) (before after : LinkState) (old new : DeskState)
-    (status : ℕ) : Type 0 where
-  pub why : IsRefused words old new status ⊎ Tells old new (refusal_line Memory)
-  pub untouched : after ≡ before
+pub record RefusesWords (words : List Bytes) (old new : Devices) (status : ℕ) : Type 0 where
+  pub why : IsRefused words old.desk new.desk status ⊎ Tells old.desk new.desk (refusal_line Memory)
+  pub untouched : new.link ≡ old.link
   pub status_is : status ≡ 1
 
--- The command refuses the command line, or this asks for help. The error is of a kind that it calls for and is left
--- to be printed; nothing was done.
-pub record LeavesError (words : List Bytes) (before after : LinkState) (old new : DeskState) (error : Error)
-    : Type 0 where
+-- The command refuses the command line, or this asks for help. The error is of a kind that it calls for.
+pub record LeavesError (words : List Bytes) (error : Error) : Type 0 where
   pub kind : HasKind (fault_of avrstk words) error
   pub not_memory : kind_of error ≢ OutOfMemory
   pub not_taken : takes avrstk words ≢ true
-  pub untold : new ≡ old
-  pub untouched : after ≡ before
 
-abbrev pub ActsOnWords : Peers → List Bytes → LinkState → LinkState → DeskState → DeskState → Result ℕ Error → Type 0
-ActsOnWords peers words before after old new (Ok status) =
-    TakesWords peers words before after old new status ⊎ RefusesWords words before after old new status
-ActsOnWords peers words before after old new (Err error) = LeavesError words before after old new error
-
--- An error of `clap`: a failed allocation is reported, any other error is left.
-abbrev pub LeavesWords : Error → DeskState → DeskState → Result ℕ Error → Type 0
-LeavesWords error old new (Ok status) =
-    (kind_of error ≡ OutOfMemory) × Tells old new (refusal_line Memory) × (status ≡ 1)
-LeavesWords error old new (Err left) = (kind_of error ≢ OutOfMemory) × (left ≡ error) × (new ≡ old)
+-- An error is left to be printed, and nothing was done.
+abbrev pub ActsOnWords : Peers → List Bytes → Devices → Devices → Result ℕ Error → Type 0
+ActsOnWords peers words old new (Ok status) = TakesWords peers words old new status ⊎ RefusesWords words old new status
+ActsOnWords peers words old new (Err error) =
+    LeavesError words error × (new.desk ≡ old.desk) × (new.link ≡ old.link)
 
 -- Help and the version are no mistake if they were printed.
 abbrev pub usage_status : ErrorKind → Bool → ℕ
@@ -84,23 +72,23 @@ usage_stream DisplayHelp = Output
 usage_stream DisplayVersion = Output
 usage_stream kind = Messages
 
--- The text of the error was printed there, or printing failed, and nothing else was done. The status follows from the
--- error. No clause knows the text.
-pub record TellsUsage (words : List Bytes) (before after : LinkState) (old new : DeskState) (status : ℕ) : Type 0 where
+-- The text of the error was printed there, or printing failed, and nothing else was done. No clause knows the text.
+pub record TellsUsage (words : List Bytes) (old new : Devices) (status : ℕ) : Type 0 where
   pub error : Error
-  pub leaves : LeavesError words before after old old error
+  pub leaves : LeavesError words error
   pub printed : Bool
-  pub prints : PrintsText (usage_stream (kind_of error)) old new printed
+  pub prints : PrintsText (usage_stream (kind_of error)) old.desk new.desk printed
+  pub untouched : new.link ≡ old.link
   pub status_is : status ≡ usage_status (kind_of error) printed
 
 -- From a command line to a status.
-abbrev pub RunsProgram : Peers → List Bytes → LinkState → LinkState → DeskState → DeskState → ℕ → Type 0
-RunsProgram peers words before after old new status =
-    ActsOnWords peers words before after old new (Ok status) ⊎ TellsUsage words before after old new status
+abbrev pub RunsProgram : Peers → List Bytes → Devices → Devices → ℕ → Type 0
+RunsProgram peers words old new status =
+    ActsOnWords peers words old new (Ok status) ⊎ TellsUsage words old new status
 
 -- From the start of a process: its command line, which no clause knows, was read and run. Or it could not be read,
 -- this was reported, and the status is 1.
-abbrev pub StartsProgram : Peers → LinkState → LinkState → DeskState → DeskState → ℕ → Type 0
-StartsProgram peers before after old new status =
-    ((words : List Bytes) × RunsProgram peers words before after old new status)
-    ⊎ ((status ≡ 1) × ReportsText old new × (after ≡ before))
+abbrev pub StartsProgram : Peers → Devices → Devices → ℕ → Type 0
+StartsProgram peers old new status =
+    ((words : List Bytes) × RunsProgram peers words old new status)
+    ⊎ ((status ≡ 1) × ReportsText old.desk new.desk × (new.link ≡ old.link))

@@ -8,28 +8,17 @@ use Rattle.avr_emulator.specs.declared.served_run.TheConstants.{READS}
 use Rattle.avr_part.specs.Part.{Part}
 use Rattle.avr_session.specs.Runs.{devices}
 use Rattle.avr_tool.specs.Lines.{unopened_line}
-use Rattle.avr_tool.specs.OverNet.{connection}
-use Rattle.stk_host.specs.Transcript.{Transcript, LinkState}
+use Rattle.avr_tool.specs.OverNet.{new_link}
+use Rattle.stk_host.specs.Transcript.{LinkState}
 
 -- A connection was accepted. Then the chip file was locked and its chip loaded and served over it, or the chip was
--- refused.
-pub record ServesCaller (part : Part) (file : Bytes) (old new : DeskState) (status : ℕ) : Type 0 where
-  pub transcript : Transcript
-  pub link_failures : ℕ
-  pub serves : ServesPart part file READS (devices (connection [] 0) old)
-      (devices (connection transcript link_failures) new) status
-
--- No connection could be accepted. This was reported, nothing else was done at the desk, and the status is 1.
-pub record LacksCaller (port : Bytes) (old new : DeskState) (status : ℕ) : Type 0 where
-  pub told : Tells old new (unopened_line [] port)
-  pub status_is : status ≡ 1
-
--- A client was served or none was accepted, and `over` states what happened to the socket, as `IsOverCaller` and
--- `IsOverPort` do.
+-- refused. Or no connection could be accepted: this was reported, nothing else was done at the desk, and the status is
+-- 1. `over` states what happened to the socket, as `IsOverCaller` and `IsOverPort` do.
 abbrev pub ServesOn : (Option LinkState → Type 0) → Part → Bytes → Bytes → DeskState → DeskState → ℕ → Type 0
 ServesOn over part port file old new status =
-    ((serves : ServesCaller part file old new status) × over (Some (connection serves.transcript serves.link_failures)))
-    ⊎ (LacksCaller port old new status × over None)
+    ((link : LinkState) × over (Some link)
+    × ServesPart part file READS (devices new_link old) (devices link new) status)
+    ⊎ (over None × Tells old new (unopened_line [] port) × (status ≡ 1))
 
 -- The part and the chip file of the settings were judged; then a client was served, or none could be accepted.
 pub record ServesJudged (Over : Option LinkState → Type 0) (settings : Settings) (port file : Bytes)

@@ -2,12 +2,15 @@
 
 ghost use Rattle.std.specs.Prelude.{◌≡◌, ◌<◌, ◌*◌, ◌⊎◌, ℕ, Bool, true, false, List, [], All, Some, map};
 ghost use Rattle.avr_cli.specs.declared.settings.Settings.{Settings as AnySettings};
+ghost use Rattle.avr_desk.specs.Fault.{Follows};
 ghost use Rattle.avr_desk.specs.Memory.{MemDeskState, Stock, memory_state};
 ghost use Rattle.avr_desk.specs.Named.{is_dash};
+ghost use Rattle.avr_desk.specs.Playing.{Went};
+ghost use Rattle.avr_desk.specs.Stage.{Made};
 ghost use Rattle.avr_desk.specs.Truth.{HoldsTrue};
 ghost use Rattle.avr_desk.specs.Record.{DeskState, Passes, Record, Bytes};
 ghost use Rattle.avr_laws.specs.Again.{AgreesAnyway, AreKeeping};
-ghost use Rattle.avr_laws.specs.AnyLine.{Stopped, OverAnyLine, OverTurns, WholeOverTurns, Weight, weighed, bodies_in, memories, events_over, frames_over};
+ghost use Rattle.avr_laws.specs.AnyLine.{Stopped, OverAnyLine, OverTurns, WholeOverTurns, Weight, weighed, bodies_in, memories, events_over, wire_and_desk};
 ghost use Rattle.avr_session.specs.PlanSteps.{run_steps};
 ghost use Rattle.avr_laws.specs.ExpectedRun.{expected_run};
 ghost use Rattle.avr_emulator.specs.Emulated.{RunsOverEmulator, new_wire};
@@ -19,13 +22,14 @@ ghost use Rattle.avr_part.specs.Part.{IsPart};
 ghost use Rattle.avr_part.specs.Sound.{IsSoundChip};
 ghost use Rattle.avr_part.specs.State.{ChipState as Chip};
 ghost use Rattle.avr_plan.specs.Plan.{Plan, IsFitted};
-ghost use Rattle.avr_session.specs.Run.{RunsSettings};
+ghost use Rattle.avr_plan.specs.Planning.{planned};
+ghost use Rattle.avr_session.specs.Run.{RunsSession, RunsSettings, StopsSession};
 ghost use Rattle.avr_session.specs.Runs.{Devices, devices};
 ghost use Rattle.avr_session.specs.Session.{session};
 ghost use Rattle.avr_session.specs.Stopping.{IsSound, LacksMemory, keeping, link_state};
 ghost use Rattle.ghosts.specs.Stays.{Stays};
 ghost use Rattle.avr_tool.specs.ChipFound.{IsChipOf, file_held};
-ghost use Rattle.avr_tool.specs.Headline.{IsRun, IsStopped, StoppedPlaying, IsPrefixOfRun, wire_and_desk};
+ghost use Rattle.avr_tool.specs.Headline.{IsRun, IsStopped, StoppedPlaying, IsPrefixOfRun};
 ghost use Rattle.avr_tool.specs.InMemory.{Leaves, RunOutcome};
 ghost use Rattle.avr_tool.specs.Worked.{absent_outcome, absent_settings, frames_due, fuse_plan, lines_due, made_answers, no_stock, worked_answers, worked_outcome, worked_settings};
 ghost use Rattle.stk_emu.specs.Device.{device};
@@ -44,17 +48,20 @@ ghost use Rattle.stk_host.specs.Dialog.{Event, played, bytes_sent, outputs};
 ghost use Rattle.stk_host.specs.Transcript.{Transcript, heard, sent};
 ghost use Rattle.stk_host.specs.Tape.{Tape};
 
-/// States that a run of settings is the one function `run`, or that it stopped.
-#[tactic(auto, using(crate::proofs::Runs::Joined::is_run))]
+/// States that a run of settings is the one function `run`, or that it stopped. So is the session of a plan that was
+/// made, over the same openings; the counts of the desk's failures never fall.
 pub fn a_run_is_one_function()
-    ensures { (s : AnySettings) (x : Devices) (between : DeskState) (y : Devices) (status : ℕ)
+    ensures run { (s : AnySettings) (x : Devices) (between : DeskState) (y : Devices) (status : ℕ)
         → RunsSettings s x between y status → IsRun s x y status ⊎ IsStopped s x y status }
+    ensures session { (s : AnySettings) (plan : Plan) (x : Devices) (between : DeskState) (y : Devices) (status : ℕ)
+        (made : Went (planned s) x.desk between (Made plan)) → RunsSession plan (devices x.link between) y status
+        → Follows between y.desk × (((r : IsRun s x y status) × (r.openings ≡ made.passed))
+        ⊎ (StopsSession plan (devices x.link between) y × (status ≡ 1))) }
 {}
 
 /// States that a run which stopped did a prefix of the whole run, and that a run has one status.
 pub fn a_stop_is_a_prefix()
-    ensures prefix { (s : AnySettings) (x y : Devices) (status : ℕ) → StoppedPlaying s x y status
-        → IsPrefixOfRun s x y }
+    ensures prefix { (s : AnySettings) (x y : Devices) → StoppedPlaying s x y → IsPrefixOfRun s x y }
     ensures one { (s : AnySettings) (h i j k : Devices) (m n : ℕ) (x : IsRun s h i m) (y : IsRun s j k n)
         → x.openings ≡ y.openings → heard x.during ≡ heard y.during → m ≡ n }
 {}
@@ -69,9 +76,9 @@ pub fn a_wrong_outcome_is_refused()
         → (Passes (after_all (expected_run plan (memories w)).says) d e → ⊥)
         → OverAnyLine plan w v d e 0 → ⊥ }
     ensures silence { (plan : Plan) (w v : WiredState) (d e : DeskState) (status : ℕ)
-        → frames_over v ≡ [] → (memories v ≡ memories w → ⊥) → OverAnyLine plan w v d e status → ⊥ }
+        → frames (sent v.transcript) ≡ [] → (memories v ≡ memories w → ⊥) → OverAnyLine plan w v d e status → ⊥ }
     ensures frames { (plan : Plan) (w v : WiredState) (d e : DeskState) (status : ℕ) (weight : Weight)
-        → 4 * weighed weight (bodies_in (run_steps plan)) < weighed weight (map body_of (frames_over v))
+        → 4 * weighed weight (bodies_in (run_steps plan)) < weighed weight (map body_of (frames (sent v.transcript)))
         → OverAnyLine plan w v d e status → ⊥ }
 {}
 

@@ -1,7 +1,8 @@
 //! The program: from a command line to a status.
 ghost use Rattle.std.specs.Prelude.{◌≡◌, map, string_bytes};
 ghost use Rattle.clap.specs.Words.{kind_of};
-ghost use Rattle.avr_tool.specs.Program.{LeavesWords, ActsAtPort, RunsProgram, ActsOnWords, usage_status, usage_stream};
+ghost use Rattle.avr_tool.specs.Asked.{LeavesWords};
+ghost use Rattle.avr_tool.specs.Program.{ActsAtPort, RunsProgram, ActsOnWords, usage_status, usage_stream};
 ghost use Rattle.avr_session.specs.Runs.{devices};
 ghost use Rattle.avr_tool.specs.Sockets.{peers_of};
 ghost use Rattle.stk_host.specs.Links.{IsTrueSince, stream_state};
@@ -87,8 +88,8 @@ pub fn run_words<N: Network + Drop, D: Desk, R: Read + Drop, W: Write + Drop>(
     link: &mut StreamLink<R, W>,
 ) -> Result<u8, Error>
     ensures runs { ActsOnWords (peers_of N.Network N.Listener.Callers N.Stream.Read N.Stream.Write)
-        (map string_bytes words.now) (stream_state link.old) (stream_state link.new) (D.view desk.old)
-        (D.view desk.new) result }
+        (map string_bytes words.now) (devices (stream_state link.old) (D.view desk.old))
+        (devices (stream_state link.new) (D.view desk.new)) result }
     ensures tells { IsTrueSince R.remaining W.contents link.old link.new }
     ensures stays { Stays D.comes_of desk.old desk.new }
 {
@@ -140,8 +141,8 @@ pub fn run_program<N: Network + Drop, D: Desk, R: Read + Drop, W: Write + Drop>(
     link: &mut StreamLink<R, W>,
 ) -> u8
     ensures runs { RunsProgram (peers_of N.Network N.Listener.Callers N.Stream.Read N.Stream.Write)
-        (map string_bytes words.now) (stream_state link.old) (stream_state link.new) (D.view desk.old)
-        (D.view desk.new) result }
+        (map string_bytes words.now) (devices (stream_state link.old) (D.view desk.old))
+        (devices (stream_state link.new) (D.view desk.new)) result }
     ensures tells { IsTrueSince R.remaining W.contents link.old link.new }
     ensures stays { Stays D.comes_of desk.old desk.new }
 {

@@ -5,9 +5,11 @@ ghost use Rattle.avr_desk.specs.Fault.{Follows};
 ghost use Rattle.avr_desk.specs.Memory.{memory_state, stock_of};
 ghost use Rattle.avr_desk.specs.Truth.{HoldsTrue};
 ghost use Rattle.avr_session.specs.Runs.{devices};
-ghost use Rattle.avr_tool.specs.Headline.{IsNew, IsRun, IsStopped, RunsWired};
+ghost use Rattle.avr_tool.specs.Headline.{IsRun, IsStopped, RunsWired};
 ghost use Rattle.avr_tool.specs.InMemory.{AreUnused, Leaves, LeavesStreams, shown_by};
+ghost use Rattle.stk_emu.specs.Wired.{IsFresh};
 ghost use Rattle.stk_host.specs.Links.{IsOfTape, IsTrueSince, stream_state, tape_state};
+ghost use Rattle.stk_host.specs.Transcript.{sent};
 ghost use Rattle.ghosts.specs.Stays.{Stays};
 
 use avr_cli::Settings;
@@ -95,7 +97,7 @@ pub fn run_in_memory(
 ) -> u8
     requires unused { AreUnused desk.old (tape_state tape.old) }
     ensures leaves { Leaves settings.now (stock_of desk.old) tape.old.left
-        (shown_by result desk.new.kept tape.new.transcript)
+        (shown_by result (sent tape.new.transcript) desk.new.kept)
         ⊎ IsStopped settings.now (devices (tape_state tape.old) (memory_state desk.old))
         (devices (tape_state tape.new) (memory_state desk.new)) result }
     ensures comes { Stays IsOfTape tape.old tape.new }
@@ -123,7 +125,7 @@ pub fn run_streams_in_memory<R: Read + Drop, W: Write + Drop>(
 ) -> u8
     requires unused { AreUnused desk.old (stream_state streams.old) }
     ensures leaves { LeavesStreams R.remaining W.contents settings.now (stock_of desk.old) streams.old streams.new
-        (shown_by result desk.new.kept streams.new.transcript)
+        (shown_by result (sent streams.new.transcript) desk.new.kept)
         ⊎ IsStopped settings.now (devices (stream_state streams.old) (memory_state desk.old))
         (devices (stream_state streams.new) (memory_state desk.new)) result }
     ensures tells { IsTrueSince R.remaining W.contents streams.old streams.new }
@@ -149,7 +151,7 @@ pub fn run_streams_in_memory<R: Read + Drop, W: Write + Drop>(
 /// assert_eq!(rt; wire.failures(), 0);
 /// ```
 pub fn run_wired<D: Desk>(alloc: Global, settings: &Settings, desk: &mut D, wire: &mut Wired) -> u8
-    requires new { IsNew wire.old }
+    requires fresh { IsFresh wire.old }
     ensures runs { RunsWired settings.now wire.old wire.new (D.view desk.old) (D.view desk.new) result }
     ensures stays { Stays D.comes_of desk.old desk.new }
 {

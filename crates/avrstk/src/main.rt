@@ -4,6 +4,7 @@
 ghost use Rattle.std.specs.Prelude.{◌≡◌};
 ghost use Rattle.avr_tool.specs.Links.{stream_state};
 ghost use Rattle.avr_tool.specs.Program.{StartsProgram};
+ghost use Rattle.avr_tool.specs.Runs.{devices};
 ghost use Rattle.avr_tool.specs.Sockets.{peers_of};
 
 use avr_tool::{Bounded, Desk, Network, StreamLink, SystemDesk, refuse_text, run_program};
@@ -49,8 +50,8 @@ fn run<E: Env + Alloc<A = Global>, N: Network + Drop, D: Desk, R: Read + Drop, W
     desk: &mut D,
     link: &mut StreamLink<R, W>,
 ) -> u8
-    ensures { StartsProgram (peers_of N.Network N.Listener.Callers N.Stream.Read N.Stream.Write) (stream_state link.old)
-        (stream_state link.new) (D.view desk.old) (D.view desk.new) result }
+    ensures { StartsProgram (peers_of N.Network N.Listener.Callers N.Stream.Read N.Stream.Write)
+        (devices (stream_state link.old) (D.view desk.old)) (devices (stream_state link.new) (D.view desk.new)) result }
 {
     match read_arguments(rt) {
         Ok(words) => run_program(network, rt.alloc(), words.as_slice(), desk, link),

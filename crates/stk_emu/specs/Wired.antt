@@ -46,10 +46,13 @@ pub record Start : Type 0 where
 abbrev pub ComesOf : Start → WiredState → Type 0
 ComesOf start w = FollowsFates start.programmer start.fates w
 
--- Nothing has passed over the wire, its programmer has done nothing yet, and its fates are lawful.
+-- Nothing has passed over the wire: no part of a frame is held, and nothing waits to be received or is late. Its
+-- programmer has done nothing yet, and noise in place of an answer has no good frame.
 pub record IsFresh (w : WiredState) : Type 0 where
   pub silent : w.transcript ≡ []
-  pub begins : FollowsFates (fresh_programmer w.wire.programmer.chip) w.wire.fates w
+  pub held : MayHold w.held []
+  pub waits : w.waits ≡ []
+  pub wire : w.wire ≡ fresh_wire (fresh_programmer w.wire.programmer.chip) w.wire.fates
   pub lawful : AreLawful w.wire.fates
 
 -- Bytes were sent, in which these frames ended. What they bring waits behind what waited.

@@ -31,8 +31,8 @@ use Rattle.avr_laws.proofs.Lines.NoFrame.{no_frame_honest}
 use Rattle.avr_laws.proofs.Lines.InTurn.{due_at, sends_whole, frames_sent}
 use Rattle.avr_laws.proofs.AnyLine.FrameSizes.{session_asks}
 use Rattle.avr_emulator.specs.Serving.{HasNoEnd, AnswersInTurn}
-use Rattle.avr_emulator.specs.ServedRun.{ServesChip, SavesAfterServing}
-use Rattle.avr_emulator.specs.Saving.{Saves}
+use Rattle.avr_emulator.specs.ServedRun.{ServesChip, status_of_end}
+use Rattle.avr_emulator.specs.Saving.{Saves, SavesAfter}
 use Rattle.avr_part.specs.ChipFile.{chip_file}
 use Rattle.avr_laws.specs.AnyLine.{OverTurns, WholeOverTurns}
 use Rattle.avr_beyond.specs.TwoProcesses.{Call, of_host, of_server, IsJoined, IsOrdered, IsPrompt, StallsBetweenAnswers, HasServed, obeyed}
@@ -60,7 +60,8 @@ pub saved_chip : (s : chips.ChipState) (file : Bytes) (most : ℕ) (old new : De
     → Saves serves.told_desk new.desk file (chip_file serves.left.programmer.chip) (Ok tt)
 saved_chip s file most old new status serves zero = by serves.saved
   where
-    by : SavesAfterServing serves.served serves.told_desk new.desk file (chip_file serves.left.programmer.chip) status
+    by : SavesAfter (status_of_end serves.served) serves.told_desk new.desk file
+        (chip_file serves.left.programmer.chip) status
         → Saves serves.told_desk new.desk file (chip_file serves.left.programmer.chip) (Ok tt)
     by (inl saved) = saved.0
     by (inr failed) = let one = failed.2 in absurd (omega (arith, one, zero))

@@ -18,13 +18,12 @@ use Rattle.stk_emu.specs.Settled.{FitsPart}
 use Rattle.stk_emu.specs.Turn.{Turn}
 use Rattle.stk_emu.specs.Wired.{WiredState, wired_link}
 use Rattle.avr_laws.specs.Again.{AreKeeping, AgreesAnyway}
-use Rattle.avr_laws.specs.AnyLine.{Stopped, OverAnyLine, OverTurns, WholeOverTurns, memories, events_over}
+use Rattle.avr_laws.specs.AnyLine.{Stopped, OverAnyLine, OverTurns, WholeOverTurns, memories, events_over, wire_and_desk}
 use Rattle.avr_laws.specs.Items.{items, asked_items, has_erase}
 use Rattle.avr_laws.specs.Outcome.{IsTouched, IsDone, IsExpectedRun}
 use Rattle.avr_laws.specs.Written.{IsWritten}
 use Rattle.avr_laws.proofs.SecondRun.EveryChip.{agrees_anyway}
 use Rattle.avr_laws.proofs.SecondRun.Status.{done_again}
-use Rattle.avr_tool.specs.Headline.{wire_and_desk}
 
 module _ (plan : Plan) (w v : WiredState) (d e : Record) (a b : ℕ × ℕ) (status : ℕ)
     (few : AreFew (turns_of w.wire.fates)) (sound : IsSound (wire_and_desk w (keeping d a))

@@ -17,7 +17,8 @@ use Rattle.stk_host.specs.Tape.{Tape, Reading, answer}
 use Rattle.stk_host.specs.declared.link.Item.TheVariants.{End}
 use Rattle.avr_tool.proofs.Runs.Refused.{answered_due, sent_due, said_due}
 use Rattle.avr_tool.specs.Headline.{after_answer, run}
-use Rattle.avr_tool.specs.InMemory.{RunOutcome, left_by, run_outcome, run_of, Leaves}
+use Rattle.avr_tool.proofs.KnownFiles.RunsInMemory.{left_by}
+use Rattle.avr_tool.specs.InMemory.{RunOutcome, run_outcome, run_of, Leaves}
 use Rattle.avr_tool.specs.Worked.{absent_outcome, absent_settings, frames_due, lines_due, no_stock, worked_answers, worked_outcome, worked_settings}
 
 some_is : (a b : RunOutcome) → ◌≡◌ {A = Option RunOutcome} (Some a) (Some b) → a ≡ b

@@ -38,7 +38,7 @@ use Rattle.stk_host.specs.Tape.{Tape, bytes_of}
 use Rattle.stk_host.specs.declared.link.Item.TheVariants.{End}
 use Rattle.avr_tool.proofs.Runs.Joined.{said_outputs, said_bytes}
 use Rattle.avr_tool.specs.Headline.{after_answer, IsStopped}
-use Rattle.avr_tool.specs.InMemory.{RunOutcome, left_by, run_outcome, run_of, shown_by, AreUnused, IsLeft, Leaves, LeavesStreams}
+use Rattle.avr_tool.specs.InMemory.{RunOutcome, run_outcome, run_of, shown_by, AreUnused, IsLeft, Leaves, LeavesStreams}
 
 -- ---- the files were seen as they were before the run
 
@@ -194,12 +194,15 @@ abbrev outcome_of : ℕ → Bytes → Left → RunOutcome
 outcome_of status sent v =
     record { status = status; sent = sent; messages = v.messages; output = v.output; files = all_left v }
 
+abbrev pub left_by : List (Event OutputEvent) → ℕ → RunOutcome
+left_by events status = shown_by status (bytes_sent events) (after_all (outputs events) nothing_kept)
+
 -- planning's output events, then these events, leave what the desk shows
 left_is : (status : ℕ) (says : List OutputEvent) (events : List (Event OutputEvent)) (between kept : Record)
     (transcript : Transcript)
     → left_in (after_all says nothing_kept) ≡ left_in between → kept ≡ after_all (outputs events) between
     → bytes_sent events ≡ sent transcript
-    → left_by (map Said says ++ events) status ≡ shown_by status kept transcript
+    → left_by (map Said says ++ events) status ≡ shown_by status (sent transcript) kept
 left_is status says events between kept transcript alike then frames =
     let same : left_in (after_all (outputs (map Said says ++ events)) nothing_kept) ≡ left_in kept =
     ap (λ (ss : List OutputEvent). left_in (after_all ss nothing_kept)) (said_outputs says events)
@@ -220,7 +223,7 @@ module _ (settings : Settings) (old new : MemDeskState) (before after : LinkStat
   whole : (between : MemDeskState) (plan : Plan) → HoldsTrue stock between
       → Went (planned settings) (memory_state old) (memory_state between) (Made plan)
       → IsPlayed (session plan) (devices before (memory_state between)) (devices after (memory_state new)) status
-      → IsLeft settings stock (heard after.transcript) (shown_by status new.kept after.transcript)
+      → IsLeft settings stock (heard after.transcript) (shown_by status (sent after.transcript) new.kept)
   whole between plan holds went played_whole more =
       let ran = played_whole.1 in
       let p = planned_of settings stock in
@@ -230,7 +233,7 @@ module _ (settings : Settings) (old new : MemDeskState) (before after : LinkStat
       let alike = same_left settings stock old between (Made plan) unused.desk_is holds judged went in
       let during : after.transcript ≡ ran.during =
       ran.grows ∙ ap (λ transcript. transcript ++ ran.during) silent_before in
-      let left : left_by (map Said p.says ++ ran.events) status ≡ shown_by status new.kept after.transcript =
+      let left : left_by (map Said p.says ++ ran.events) status ≡ shown_by status (sent after.transcript) new.kept =
       left_is status p.says ran.events between.kept new.kept after.transcript alike ran.kept
       (ran.plays.all_sent ∙ ap sent (sym during)) in
       ap (λ transcript. run_outcome (run_of settings stock (heard transcript ++ more))) during
@@ -240,7 +243,7 @@ module _ (settings : Settings) (old new : MemDeskState) (before after : LinkStat
   -- it was refused
   refused : HoldsTrue stock new → after.transcript ≡ before.transcript
       → WentRefused (planned settings) (memory_state old) (memory_state new)
-      → IsLeft settings stock (heard after.transcript) (shown_by 1 new.kept after.transcript)
+      → IsLeft settings stock (heard after.transcript) (shown_by 1 (sent after.transcript) new.kept)
   refused holds silent (line, went) more =
       let p = planned_of settings stock in
       let judged : ◌≡◌ {A = StageAnswer Plan} (Refused line) Unread → ⊥ = λ e. cc in
@@ -249,7 +252,7 @@ module _ (settings : Settings) (old new : MemDeskState) (before after : LinkStat
       let alike = same_left settings stock old new (Refused line) unused.desk_is holds judged went in
       let events : map Said (p.says ++ Line line ∷ []) ++ [] ≡ map Said p.says ++ Said (Line line) ∷ [] =
       append-nil (map Said (p.says ++ Line line ∷ [])) ∙ map-append Said p.says (Line line ∷ []) in
-      let left : left_by (map Said p.says ++ Said (Line line) ∷ []) 1 ≡ shown_by 1 new.kept after.transcript =
+      let left : left_by (map Said p.says ++ Said (Line line) ∷ []) 1 ≡ shown_by 1 (sent after.transcript) new.kept =
       ap (λ (es : List (Event OutputEvent)). left_by es 1) (sym events)
       ∙ left_is 1 (p.says ++ Line line ∷ []) [] new.kept new.kept after.transcript alike refl
       (ap sent (sym (silent ∙ silent_before))) in
@@ -258,7 +261,7 @@ module _ (settings : Settings) (old new : MemDeskState) (before after : LinkStat
 
   -- over what was received it leaves what is shown, and the link has not failed
   pub record LeavesShown : Type 0 where
-    pub is : IsLeft settings stock (heard after.transcript) (shown_by status new.kept after.transcript)
+    pub is : IsLeft settings stock (heard after.transcript) (shown_by status (sent after.transcript) new.kept)
     pub sound : after.failures ≡ 0
 
   -- that, or it stopped
@@ -272,30 +275,27 @@ module _ (settings : Settings) (old new : MemDeskState) (before after : LinkStat
       is = whole between runs.plan (first stock (begins_true old unused.desk_is)) runs.made played_whole;
       sound = played_whole.1.sound.0 ∙ ap (λ (l : LinkState). l.failures) unused.link_is;
     })
-    | inr broke ↦ inr (inl (record {
-      plan = runs.plan;
-      between = memory_state between;
-      made = runs.made;
-      broke = broke.0;
-      status_is = broke.1;
-    }))
+    | inr broke ↦ inr (
+      inl (record { plan = runs.plan; between = memory_state between; made = runs.made; then_is = broke.0 }),
+      broke.1,
+    )
   ]
-  run_is between first all (inr none) = elim none.refused [
+  run_is between first all (inr (lacks, same)) = elim lacks.goes.1 [
     | inl went ↦ inl (record {
-      is = subst (λ s. IsLeft settings stock (heard after.transcript) (shown_by s new.kept after.transcript))
-          (sym none.status_is)
-          (refused (all stock (begins_true old unused.desk_is)) (ap (λ (l : LinkState). l.transcript) none.same) went);
-      sound = ap (λ (l : LinkState). l.failures) (none.same ∙ unused.link_is);
+      is = subst (λ s. IsLeft settings stock (heard after.transcript) (shown_by s (sent after.transcript) new.kept))
+          (sym lacks.goes.0)
+          (refused (all stock (begins_true old unused.desk_is)) (ap (λ (l : LinkState). l.transcript) same) went);
+      sound = ap (λ (l : LinkState). l.failures) (same ∙ unused.link_is);
     })
-    | inr broke ↦ inr (inr (record { broke = broke; bare = none.bare; same = none.same; status_is = none.status_is }))
+    | inr broke ↦ inr (inr (record { broke = broke; bare = lacks.bare; same = same }), lacks.goes.0)
   ]
 
 -- ---- over a tape, and over streams
 
 module _ (settings : Settings) (old new : MemDeskState) (status : ℕ) where
   over_tape : (before after : TapeState) → before.transcript ≡ [] → IsOfTape before after
-      → IsLeft settings (stock_of old) (heard after.transcript) (shown_by status new.kept after.transcript)
-      → Leaves settings (stock_of old) before.left (shown_by status new.kept after.transcript)
+      → IsLeft settings (stock_of old) (heard after.transcript) (shown_by status (sent after.transcript) new.kept)
+      → Leaves settings (stock_of old) before.left (shown_by status (sent after.transcript) new.kept)
   over_tape before after silent of_tape left =
       let transcript_is : after.transcript ≡ of_tape.during =
       of_tape.grows ∙ ap (λ transcript. transcript ++ of_tape.during) silent in
@@ -315,7 +315,7 @@ module _ (settings : Settings) (old new : MemDeskState) (status : ℕ) where
       → Stays HoldsTrue old between → Stays HoldsTrue old new
       → RunsSettings settings (devices (tape_state before) (memory_state old)) (memory_state between)
       (devices (tape_state after) (memory_state new)) status
-      → Leaves settings (stock_of old) before.left (shown_by status new.kept after.transcript)
+      → Leaves settings (stock_of old) before.left (shown_by status (sent after.transcript) new.kept)
       ⊎ IsStopped settings (devices (tape_state before) (memory_state old))
       (devices (tape_state after) (memory_state new))
       status
@@ -332,7 +332,7 @@ module _ (settings : Settings) (old new : MemDeskState) (status : ℕ) where
       → RunsSettings settings (devices (stream_state before) (memory_state old)) (memory_state between)
       (devices (stream_state after) (memory_state new)) status
       → LeavesStreams remaining contents settings (stock_of old) before after
-      (shown_by status new.kept after.transcript)
+      (shown_by status (sent after.transcript) new.kept)
       ⊎ IsStopped settings (devices (stream_state before) (memory_state old))
       (devices (stream_state after) (memory_state new)) status
   run_is_over_streams remaining contents before after between unused true_since first all runs =

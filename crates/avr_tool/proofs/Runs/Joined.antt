@@ -1,24 +1,25 @@
 -- Planning and session as one run.
 use Rattle.std.proofs.Common.{◌≡◌, ℕ, ◌⊎◌, inl, inr, List, [], ◌∷◌, ◌++◌, map, Some, refl, sym, ap, ◌∙◌, subst, arith, append_assoc}
 use Rattle.avr_cli.specs.declared.settings.Settings.{Settings}
+use Rattle.avr_desk.specs.Fault.{Follows}
 use Rattle.avr_desk.specs.Record.{DeskState}
 use Rattle.avr_desk.specs.Said.{OutputEvent, Line, SaidPart, after_all}
 use Rattle.avr_desk.proofs.Stages.Outputs.{kept_append}
-use Rattle.avr_desk.proofs.Lines.Told.{same_on}
+use Rattle.avr_desk.proofs.Lines.Told.{follows_on, follows_same, same_on}
 use Rattle.avr_plan.specs.Plan.{Plan}
 use Rattle.avr_plan.specs.Planning.{planned}
 use Rattle.avr_desk.specs.Playing.{Went, WentRefused}
 use Rattle.avr_desk.specs.Stage.{Made, StageResult}
-use Rattle.stk_host.specs.Dialog.{Event, Said, behind, bytes_sent, outputs}
+use Rattle.stk_host.specs.Dialog.{Event, Played, Said, behind, bytes_sent, outputs}
 use Rattle.stk_host.specs.Transcript.{LinkState, heard, Grows}
-use Rattle.stk_host.specs.Tape.{on_tape}
+use Rattle.stk_host.specs.Tape.{Tape, on_tape}
 use Rattle.stk_host.specs.Play.{IsPrefixOfEvents}
 use Rattle.stk_host.proofs.Transcripts.Laws.{grows_none}
-use Rattle.avr_session.specs.Run.{RunsSettings}
+use Rattle.avr_session.specs.Run.{RunsSession, RunsSettings, StopsSession}
 use Rattle.avr_session.specs.Runs.{Devices, devices}
 use Rattle.avr_session.specs.Session.{session}
 use Rattle.avr_session.specs.Stopping.{IsPlayed}
-use Rattle.avr_tool.specs.Headline.{run, after_planning, IsInTurn, IsRun, IsPrefixOfRun, StoppedPlaying, IsStopped}
+use Rattle.avr_tool.specs.Headline.{run, after_answer, IsInTurn, IsRun, IsPrefixOfRun, StoppedPlaying, IsStopped}
 
 pub said_outputs : (says : List OutputEvent) (events : List (Event OutputEvent))
     → outputs (map Said says ++ events) ≡ says ++ outputs events
@@ -29,6 +30,10 @@ pub said_bytes : (says : List OutputEvent) (events : List (Event OutputEvent))
     → bytes_sent (map Said says ++ events) ≡ bytes_sent events
 said_bytes [] events = refl
 said_bytes (output ∷ says) events = said_bytes says events
+
+-- the run of what planning gave
+abbrev after_planning : StageResult Plan → Tape → Played OutputEvent ℕ
+after_planning p tape = behind (map Said p.says) (after_answer p.answer tape)
 
 answered : {p q : StageResult Plan} → p ≡ q → p.answer ≡ q.answer
 answered e = ap (λ (p : StageResult Plan). p.answer) e
@@ -81,23 +86,40 @@ refused_whole settings x y same (line, went) = record {
   sound = (ap (λ (l : LinkState). l.failures) same, went.sound);
 }
 
+session_follows : (plan : Plan) (x y : Devices) (status : ℕ) → RunsSession plan x y status → Follows x.desk y.desk
+session_follows plan x y status (inl whole) = follows_same x.desk y.desk whole.1.sound.1
+session_follows plan x y status (inr broke) =
+    follows_on x.desk broke.0.stops.between y.desk broke.0.stops.since broke.0.stops.until
+
+pub session_is_run : (settings : Settings) (plan : Plan) (x : Devices) (between : DeskState) (y : Devices) (status : ℕ)
+    (made : Went (planned settings) x.desk between (Made plan)) → RunsSession plan (devices x.link between) y status
+    → Follows between y.desk × (((r : IsRun settings x y status) × (r.openings ≡ made.passed))
+    ⊎ (StopsSession plan (devices x.link between) y × (status ≡ 1)))
+session_is_run settings plan x between y status made runs =
+    (session_follows plan (devices x.link between) y status runs, either runs)
+  where
+    either : RunsSession plan (devices x.link between) y status
+        → ((r : IsRun settings x y status) × (r.openings ≡ made.passed))
+        ⊎ (StopsSession plan (devices x.link between) y × (status ≡ 1))
+    either (inl whole) = inl (
+      ran_whole settings plan x y between status made whole,
+      ran_openings settings plan x y between status made whole,
+    )
+    either (inr broke) = inr broke
+
 pub is_run : (settings : Settings) (x : Devices) (between : DeskState) (y : Devices) (status : ℕ)
     → RunsSettings settings x between y status
     → IsRun settings x y status ⊎ IsStopped settings x y status
 is_run settings x between y status (inl runs) = elim runs.runs [
   | inl whole ↦ inl (ran_whole settings runs.plan x y between status runs.made whole)
-  | inr broke ↦ inr (inl (record {
-    plan = runs.plan;
-    between = between;
-    made = runs.made;
-    broke = broke.0;
-    status_is =
-        broke.1;
-  }))
+  | inr broke ↦ inr (
+    inl (record { plan = runs.plan; between = between; made = runs.made; then_is = broke.0 }),
+    broke.1,
+  )
 ]
-is_run settings x between y status (inr none) = elim none.refused [
-  | inl went ↦ inl (subst (IsRun settings x y) (sym none.status_is) (refused_whole settings x y none.same went))
-  | inr broke ↦ inr (inr (record { broke = broke; bare = none.bare; same = none.same; status_is = none.status_is }))
+is_run settings x between y status (inr (lacks, same)) = elim lacks.goes.1 [
+  | inl went ↦ inl (subst (IsRun settings x y) (sym lacks.goes.0) (refused_whole settings x y same went))
+  | inr broke ↦ inr (inr (record { broke = broke; bare = lacks.bare; same = same }), lacks.goes.0)
 ]
 
 behind_prefix : (says : List OutputEvent) {shown events : List (Event OutputEvent)}
@@ -112,19 +134,19 @@ behind_prefix says f = record {
   part = f.part;
 }
 
-pub stopped_prefix : (settings : Settings) (x y : Devices) (status : ℕ) → StoppedPlaying settings x y status
-    → IsPrefixOfRun settings x y
-stopped_prefix settings x y status stopped = record {
+pub stopped_prefix : (settings : Settings) (x y : Devices) → StoppedPlaying settings x y → IsPrefixOfRun settings x y
+stopped_prefix settings x y stopped = record {
   openings = stopped.made.passed;
-  during = stopped.broke.during;
-  shown = map Said stopped.made.says ++ stopped.broke.shown;
-  prefix = λ later. subst (λ q. IsPrefixOfEvents SaidPart (map Said stopped.made.says ++ stopped.broke.shown) q.events)
-      (sym (ap (λ q. after_planning q (heard stopped.broke.during)) (stopped.made.comes later)))
-      (behind_prefix stopped.made.says stopped.broke.breaks.prefix);
-  in_turn = λ later. subst (λ answer. IsInTurn answer stopped.broke.during)
-      (sym (answered (stopped.made.comes later))) stopped.broke.breaks.in_turn;
-  all_sent = said_bytes stopped.made.says stopped.broke.shown ∙ stopped.broke.breaks.all_sent;
-  grows = stopped.broke.grows;
+  during = stopped.then_is.during;
+  shown = map Said stopped.made.says ++ stopped.then_is.shown;
+  prefix = λ later. subst
+      (λ q. IsPrefixOfEvents SaidPart (map Said stopped.made.says ++ stopped.then_is.shown) q.events)
+      (sym (ap (λ q. after_planning q (heard stopped.then_is.during)) (stopped.made.comes later)))
+      (behind_prefix stopped.made.says stopped.then_is.breaks.prefix);
+  in_turn = λ later. subst (λ answer. IsInTurn answer stopped.then_is.during)
+      (sym (answered (stopped.made.comes later))) stopped.then_is.breaks.in_turn;
+  all_sent = said_bytes stopped.made.says stopped.then_is.shown ∙ stopped.then_is.breaks.all_sent;
+  grows = stopped.then_is.grows;
 }
 
 some_is : {A : Type 0} (a b : A) → Some a ≡ Some b → a ≡ b

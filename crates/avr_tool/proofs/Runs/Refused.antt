@@ -7,7 +7,7 @@ use Rattle.avr_plan.specs.Plan.{Plan}
 use Rattle.avr_session.specs.Runs.{devices}
 use Rattle.avr_session.specs.Session.{session}
 use Rattle.avr_session.specs.Stopping.{link_state}
-use Rattle.stk_frame.specs.Cut.{body_of}
+use Rattle.stk_frame.specs.Cut.{body_of, frames}
 use Rattle.stk_host.specs.Dialog.{bytes_sent, outputs}
 use Rattle.stk_host.specs.Operations.{handshake, opening, closing, operation}
 use Rattle.stk_host.specs.Steps.{exchange, attempt, tries, play}
@@ -15,7 +15,7 @@ use Rattle.stk_host.specs.Transcript.{Transcript, sent, heard}
 use Rattle.stk_host.specs.Tape.{answer, on_tape}
 use Rattle.stk_emu.specs.Effect.{effects}
 use Rattle.stk_emu.specs.Wired.{WiredState}
-use Rattle.avr_laws.specs.AnyLine.{OverAnyLine, Weight, weighed, bodies_in, memories, frames_over}
+use Rattle.avr_laws.specs.AnyLine.{OverAnyLine, Weight, weighed, bodies_in, memories}
 use Rattle.avr_session.specs.PlanSteps.{run_steps}
 use Rattle.avr_laws.specs.ExpectedRun.{expected_run}
 use Rattle.avr_laws.specs.Items.{items}
@@ -27,7 +27,7 @@ some_is : {A : Type 0} (a b : A) → ◌≡◌ {A = Option A} (Some a) (Some b) 
 some_is a b e = cc
 
 pub too_much : (plan : Plan) (w v : WiredState) (d e : DeskState) (status : ℕ) (weight : Weight)
-    → 4 * weighed weight (bodies_in (run_steps plan)) < weighed weight (map body_of (frames_over v))
+    → 4 * weighed weight (bodies_in (run_steps plan)) < weighed weight (map body_of (frames (sent v.transcript)))
     → OverAnyLine plan w v d e status → ⊥
 too_much plan w v d e status weight more over = let most = over.line.four weight in absurd (omega (arith, more, most))
 
@@ -41,7 +41,8 @@ said_otherwise plan w v d e other over =
     let came = came_to plan w v d e 0 over refl in
     other (came.1 ∙ ap (λ said. after_all said d.kept) (came.0.success refl).said)
 
-pub touched_in_silence : (plan : Plan) (w v : WiredState) (d e : DeskState) (status : ℕ) → frames_over v ≡ []
+pub touched_in_silence : (plan : Plan) (w v : WiredState) (d e : DeskState) (status : ℕ)
+    → frames (sent v.transcript) ≡ []
     → (memories v ≡ memories w → ⊥) → OverAnyLine plan w v d e status → ⊥
 touched_in_silence plan w v d e status none other over = other (untouched plan w v d e status over none)
 

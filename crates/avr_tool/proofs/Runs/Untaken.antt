@@ -9,24 +9,27 @@ use Rattle.avr_desk.specs.Record.{DeskState, Bytes}
 use Rattle.avr_desk.specs.Said.{Tells}
 use Rattle.avr_tool.specs.Sockets.{Peers}
 use Rattle.avr_session.specs.Refusal.{refusal_line}
-use Rattle.avr_tool.specs.Asked.{Asks}
-use Rattle.avr_tool.specs.Program.{LeavesWords, ActsOnWords}
+use Rattle.avr_session.specs.Runs.{devices}
+use Rattle.avr_tool.specs.Asked.{Asks, LeavesWords}
+use Rattle.avr_tool.specs.Program.{ActsOnWords}
 use Rattle.avr_tool.specs.declared.asking.NotAsked.TheVariants.{Words}
 use Rattle.stk_host.specs.Transcript.{LinkState}
 
 pub untaken : (peers : Peers) (words : List Bytes)
     (link : LinkState) (old mid new : DeskState) (error : Error) (result : Result ℕ Error)
     → Asks words old mid (Err (Words error)) → LeavesWords error mid new result
-    → ActsOnWords peers words link link old new result
+    → ActsOnWords peers words (devices link old) (devices link new) result
 untaken peers words link old mid new error (Ok status) asks leaves = inr (record {
   why = inr (subst (λ (d : DeskState). Tells d new (refusal_line Memory)) asks.2 leaves.1);
   untouched = refl;
   status_is = leaves.2;
 })
-untaken peers words link old mid new error (Err left) asks leaves = record {
-  kind = subst (λ (e : Error). HasKind (fault_of avrstk words) e) (sym leaves.1) asks.0;
-  not_memory = subst (λ (e : Error). kind_of e ≡ OutOfMemory → ⊥) (sym leaves.1) leaves.0;
-  not_taken = λ taken. leaves.0 (asks.1 taken);
-  untold = leaves.2 ∙ asks.2;
-  untouched = refl;
-}
+untaken peers words link old mid new error (Err left) asks leaves = (
+  record {
+    kind = subst (λ (e : Error). HasKind (fault_of avrstk words) e) (sym leaves.1) asks.0;
+    not_memory = subst (λ (e : Error). kind_of e ≡ OutOfMemory → ⊥) (sym leaves.1) leaves.0;
+    not_taken = λ taken. leaves.0 (asks.1 taken);
+  },
+  leaves.2 ∙ asks.2,
+  refl,
+)

@@ -6,14 +6,14 @@ use Rattle.avr_emulator.proofs.run.run_emu.Goals as goal
 
 pub returns-in-Err-clause-runs : goal.returns-in-Err-clause-runs
 returns-in-Err-clause-runs g c = inr (inr
-    (rw c.in-Err.is at c.plan.ensures.goes, rw c.in-Err.is at c.plan.ensures.bare))
+    (record { goes = rw c.in-Err.is at c.plan.ensures.goes; bare = rw c.in-Err.is at c.plan.ensures.bare }))
 
 pub returns-in-Err-hold_chip-clause-runs : goal.returns-in-Err-hold_chip-clause-runs
 returns-in-Err-hold_chip-clause-runs g c = inr (inl (record {
   plan = c.in-Ok.plan;
   between = g.D.Desk.view c.plan.new.desk;
   made = rw c.in-Ok.is at c.plan.ensures.goes;
-  refused = rw (c.part.ensures, c.in-Err-hold_chip.is) at c.hold_chip.ensures.loads;
+  then_is = rw (c.part.ensures, c.in-Err-hold_chip.is) at c.hold_chip.ensures.loads;
 }))
 
 pub returns-clause-runs : goal.returns-clause-runs
@@ -24,7 +24,7 @@ returns-clause-runs g c = inl (runs_over_emulator c.args.settings.now c.args.fil
     c.tasks-tasks.ensures.fitted (rw (c.part.ensures, c.in-Ok-hold_chip.is) at c.hold_chip.ensures.part)
     c.part-part.ensures.sound
     _ _ _ _ _ _ _ (rw c.in-Ok.is at c.plan.ensures.goes)
-    (rw (c.part.ensures, c.in-Ok-hold_chip.is) at c.hold_chip.ensures.loads) c.drive_wired-status.ensures.follows
+    (rw (c.part.ensures, c.in-Ok-hold_chip.is) at c.hold_chip.ensures.loads)
     c.save_if_sent.ensures.follows
     c.drive_wired-status.ensures.runs c.drive_wired-status.ensures.comes c.drive_wired-status.ensures.line
     c.save_if_sent.ensures.saved)

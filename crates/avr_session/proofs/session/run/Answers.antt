@@ -13,19 +13,14 @@ returns-in-Ok-clause-runs g c = record {
 }
 
 pub returns-in-Err-clause-runs : goal.returns-in-Err-clause-runs
-returns-in-Err-clause-runs g c =
-    let goes = rw c.in-Err.is at c.plan.ensures.goes in
-    record {
-      between = c.plan.new.desk;
-      stays = c.plan.ensures.stays;
-      runs = inr (record {
-        refused = goes.1;
-        bare = rw c.in-Err.is at c.plan.ensures.bare;
-        same = refl;
-        status_is =
-            goes.0;
-      });
-    }
+returns-in-Err-clause-runs g c = record {
+  between = c.plan.new.desk;
+  stays = c.plan.ensures.stays;
+  runs = inr (
+    record { goes = rw c.in-Err.is at c.plan.ensures.goes; bare = rw c.in-Err.is at c.plan.ensures.bare },
+    refl,
+  );
+}
 
 pub returns-in-Ok-clause-follows : goal.returns-in-Ok-clause-follows
 returns-in-Ok-clause-follows g c =

@@ -1,5 +1,8 @@
-use Rattle.avr_tool.proofs.Runs.Joined.{is_run}
+use Rattle.avr_tool.proofs.Runs.Joined.{is_run, session_is_run}
 use Rattle.avr_tool.proofs.laws.a_run_is_one_function.Goals as goal
 
-pub returns : goal.returns
-returns c = is_run
+pub returns-clause-run : goal.returns-clause-run
+returns-clause-run c = is_run
+
+pub returns-clause-session : goal.returns-clause-session
+returns-clause-session c = session_is_run

@@ -4,18 +4,11 @@ use Rattle.avr_tool.proofs.over_net.run_net.Goals as goal
 
 pub returns-in-Err-clause-runs : goal.returns-in-Err-clause-runs
 returns-in-Err-clause-runs g c = inr (inr
-    (rw c.in-Err.is at c.plan.ensures.goes, rw c.in-Err.is at c.plan.ensures.bare))
+    (record { goes = rw c.in-Err.is at c.plan.ensures.goes; bare = rw c.in-Err.is at c.plan.ensures.bare }))
 
 pub returns-clause-runs : goal.returns-clause-runs
 returns-clause-runs g c = inl (
-  record {
-    plan = c.in-Ok.plan;
-    planned_desk = g.D.Desk.view c.plan.new.desk;
-    transcript = c.drive.new.link.transcript;
-    link_failures = c.drive.new.link.failures;
-    made = rw c.in-Ok.is at c.plan.ensures.goes;
-    runs = rw c.in-Ok-connect.ensures.new.fresh at (rw c.in-Ok-connect.ensures.new.quiet at c.drive.ensures.runs);
-  },
+  record { transcript = c.drive.new.link.transcript; failures = c.drive.new.link.failures },
   record {
     before = c.in-Ok-connect.link;
     after = c.drive.new.link;
@@ -23,5 +16,11 @@ returns-clause-runs g c = inl (
     shows = refl;
     truly = c.drive.ensures.comes c.in-Ok-connect.link
         (true_now g.N.Stream.Read.remaining g.N.Stream.Write.contents c.in-Ok-connect.link);
+  },
+  record {
+    plan = c.in-Ok.plan;
+    between = g.D.Desk.view c.plan.new.desk;
+    made = rw c.in-Ok.is at c.plan.ensures.goes;
+    then_is = rw c.in-Ok-connect.ensures.new.fresh at (rw c.in-Ok-connect.ensures.new.quiet at c.drive.ensures.runs);
   },
 )

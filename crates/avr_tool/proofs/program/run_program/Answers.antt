@@ -3,10 +3,11 @@ use Rattle.avr_tool.proofs.program.run_program.Goals as goal
 
 pub returns-in-Err-clause-runs : goal.returns-in-Err-clause-runs
 returns-in-Err-clause-runs g c =
-    let untold = c.in-Err.ensures.runs.untold in inr (record {
+    let untold = c.in-Err.ensures.runs.1 in inr (record {
       error = c.in-Err.error;
-      leaves = rw untold at c.in-Err.ensures.runs;
+      leaves = c.in-Err.ensures.runs.0;
       printed = c.print_text-was_printed.result;
       prints = rw untold at (rw c.stream_of_usage.ensures at c.print_text-was_printed.ensures.prints);
+      untouched = c.in-Err.ensures.runs.2;
       status_is = c.status_of_usage.ensures;
     })
