@@ -194,6 +194,7 @@ abbrev outcome_of : ℕ → Bytes → Left → RunOutcome
 outcome_of status sent v =
     record { status = status; sent = sent; messages = v.messages; output = v.output; files = all_left v }
 
+-- what a run with these events and this status leaves
 abbrev pub left_by : List (Event OutputEvent) → ℕ → RunOutcome
 left_by events status = shown_by status (bytes_sent events) (after_all (outputs events) nothing_kept)
 
