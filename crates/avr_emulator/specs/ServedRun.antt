@@ -105,22 +105,15 @@ pub record ServesLoaded (part : Part) (file : Bytes) (turns : ℕ) (old new : De
   pub loaded : Loaded part file old.desk loaded_desk chip
   pub serves : ServesChip chip file turns (devices old.link loaded_desk) new status
 
--- There is no chip, which was reported. Nothing was received or sent.
-pub record ServesNoChip (part : Part) (file : Bytes) (old new : Devices) (status : ℕ) : Type 0 where
-  pub refused : HoldsAndLoads part file old.desk new.desk (Err status)
-  pub silent : new.link ≡ old.link
-
+-- The same, or there is no chip: this was reported, and nothing was received or sent.
 abbrev pub ServesPart : Part → Bytes → ℕ → Devices → Devices → ℕ → Type 0
 ServesPart part file turns old new status =
-    ServesLoaded part file turns old new status ⊎ ServesNoChip part file old new status
+    ServesLoaded part file turns old new status
+    ⊎ (HoldsAndLoads part file old.desk new.desk (Err status) × (new.link ≡ old.link))
 
--- There is no part, which was reported. Nothing was received or sent.
-pub record ServesNoPart (settings : Settings) (old new : Devices) (status : ℕ) : Type 0 where
-  pub finds : FindsNoPart settings old.desk new.desk status
-  pub silent : new.link ≡ old.link
-
--- The part of the settings was served in at most `READS` reads.
+-- The part of the settings was served in at most `READS` reads. Or there is no part: this was reported, and nothing
+-- was received or sent.
 abbrev pub RunsServed : Settings → Bytes → Devices → Devices → ℕ → Type 0
 RunsServed settings file old new status =
     WithPart settings old.desk (λ part desk. ServesPart part file READS (devices old.link desk) new status)
-    ⊎ ServesNoPart settings old new status
+    ⊎ (FindsNoPart settings old.desk new.desk status × (new.link ≡ old.link))

@@ -1,5 +1,5 @@
--- A session that was played over a wire, as it went along the turns of its fates.
-use Rattle.std.proofs.Common.{◌≡◌, ℕ, [], List, ◌++◌, All, length, take, refl, sym, ap, ◌∙◌, subst, inl, inr, rules}
+-- A session that ran over a wire went along the turns of its fates.
+use Rattle.std.proofs.Common.{◌≡◌, ℕ, [], List, ◌++◌, All, length, take, refl, sym, ap, ◌∙◌, subst, inl, inr}
 use Rattle.std.proofs.lemmas.List.{append-nil}
 use Rattle.avr_desk.specs.Said.{OutputEvent, after_all}
 use Rattle.avr_part.specs.Sound.{IsSoundChip}
@@ -65,7 +65,8 @@ module _ (plan : Plan) (w v : WiredState) (fresh : IsFresh w) (stays : Stays Com
 
   stands : Runs → v.wire.programmer
       ≡ (along device (length (frames (sent v.transcript))) (session plan) begun turns).programmer
-  stands runs = search (rules, stands_along, asks_bodies, keeps, first)
+  stands runs = stands_along (session plan) 1 begun w.wire.fates v asks_bodies fresh.lawful keeps (first runs).0
+      (first runs).1
 
   over : Runs → OverTurns plan begun v.wire.programmer turns (sent v.transcript) (events_over plan v)
   over runs =
@@ -111,7 +112,9 @@ module _ (plan : Plan) (w v : WiredState) (d e : DeskState) (status : ℕ) (over
   came_to zero = elim over.end [ inl came ↦ came | inr broke ↦ absurd (one_no (sym broke.1 ∙ zero)) ]
 
   pub untouched : frames (sent v.transcript) ≡ [] → memories v ≡ memories w
-  untouched none = search (rules, over)
+  untouched none = over.line.page_writes.memories
+      ∙ ap (λ k. effects plan.part (take k (page_writes plan)) (memories w))
+      (over.line.page_writes.none (ap length none))
 
 -- what was reported is a prefix of the output of the session over what was received
 module _ (plan : Plan) (w v : WiredState) (d e : DeskState) (status : ℕ) (silent : w.transcript ≡ [])

@@ -93,10 +93,11 @@ pub record IsPrefixOfRun (settings : Settings) (before now : Devices) : Type 0 w
   pub all_sent : bytes_sent shown ≡ sent during
   pub grows : Grows before.link.transcript during now.link.transcript
 
--- ---- 4. From settings to the bytes of the chip, over a new wire
+-- ---- 4. From settings to the bytes of the chip, over a fresh wire (stk_emu's `IsFresh`)
 
--- A plan was made and its session run, as sections 2 and 3 say. If the chip is of the plan's part, `OverAnyLine`
--- states what happened to it. Or there is no plan, and the wire is untouched.
+-- A plan was made, and its session was run. It is the run, or it stopped, as above (law `a_run_is_one_function`). If
+-- the chip is of the plan's part, `OverAnyLine` states what happened to it. Or there is no plan, and the wire is
+-- untouched.
 abbrev pub RunsWired : Settings → WiredState → WiredState → DeskState → DeskState → ℕ → Type 0
 RunsWired settings before after old now status =
     WithPlan settings old (λ plan between.

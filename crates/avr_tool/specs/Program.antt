@@ -49,7 +49,7 @@ pub record RefusesWords (words : List Bytes) (old new : Devices) (status : ℕ) 
   pub untouched : new.link ≡ old.link
   pub status_is : status ≡ 1
 
--- The command refuses the command line, or this asks for help. The error is of a kind that it calls for.
+-- The command refuses the command line, or this asks for help. The error is of a kind that the command line calls for.
 pub record LeavesError (words : List Bytes) (error : Error) : Type 0 where
   pub kind : HasKind (fault_of avrstk words) error
   pub not_memory : kind_of error ≢ OutOfMemory

@@ -20,15 +20,10 @@ ServesOn over part port file old new status =
     × ServesPart part file READS (devices new_link old) (devices link new) status)
     ⊎ (over None × Tells old new (unopened_line [] port) × (status ≡ 1))
 
--- The part and the chip file of the settings were judged; then a client was served, or none could be accepted.
-pub record ServesJudged (Over : Option LinkState → Type 0) (settings : Settings) (port file : Bytes)
-    (old new : DeskState) (status : ℕ) : Type 0 where
-  pub part : Part
-  pub judged_desk : DeskState
-  pub judged : JudgesPart settings file old judged_desk (Ok part)
-  pub serves : ServesOn Over part port file judged_desk new status
-
--- The same, or the part or the chip file is refused. No clause states that the port was left alone then.
+-- The part and the chip file of the settings were judged; then a client was served, or none could be accepted. Or the
+-- part or the chip file is refused. No clause states that the port was left alone then.
 abbrev pub ServesNet : (Option LinkState → Type 0) → Settings → Bytes → Bytes → DeskState → DeskState → ℕ → Type 0
 ServesNet over settings port file old new status =
-    ServesJudged over settings port file old new status ⊎ JudgesPart settings file old new (Err status)
+    ((part : Part) × (judged : DeskState) × JudgesPart settings file old judged (Ok part)
+    × ServesOn over part port file judged new status)
+    ⊎ JudgesPart settings file old new (Err status)

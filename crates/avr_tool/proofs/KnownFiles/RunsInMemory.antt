@@ -194,10 +194,11 @@ abbrev outcome_of : ℕ → Bytes → Left → RunOutcome
 outcome_of status sent v =
     record { status = status; sent = sent; messages = v.messages; output = v.output; files = all_left v }
 
+-- what a run with these events and this status leaves
 abbrev pub left_by : List (Event OutputEvent) → ℕ → RunOutcome
 left_by events status = shown_by status (bytes_sent events) (after_all (outputs events) nothing_kept)
 
--- planning's output events, and then these events, leave what the desk shows
+-- planning's output events, then these events, leave what the desk shows
 left_is : (status : ℕ) (says : List OutputEvent) (events : List (Event OutputEvent)) (between kept : Record)
     (transcript : Transcript)
     → left_in (after_all says nothing_kept) ≡ left_in between → kept ≡ after_all (outputs events) between

@@ -5,9 +5,9 @@ pub returns-in-Err-clause-serves : goal.returns-in-Err-clause-serves
 returns-in-Err-clause-serves g c = inr (rw c.in-Err.is at c.judge_part.ensures.judges)
 
 pub returns-clause-serves : goal.returns-clause-serves
-returns-clause-serves g c = inl (record {
-  part = c.in-Ok.part;
-  judged_desk = _;
-  judged = rw c.in-Ok.is at c.judge_part.ensures.judges;
-  serves = c.serve_called.ensures.serves c.args.listener.now c.accept.ensures.new c.accept.ensures.missed;
-})
+returns-clause-serves g c = inl (
+  c.in-Ok.part,
+  _,
+  rw c.in-Ok.is at c.judge_part.ensures.judges,
+  c.serve_called.ensures.serves c.args.listener.now c.accept.ensures.new c.accept.ensures.missed,
+)
