@@ -1,5 +1,5 @@
 -- The chip of a file.
-use Rattle.std.proofs.Common.{◌≡◌, refl, sym, ap, arith, ℕ, List, ◌∷◌, ◌==◌, length, Bool, true, false, nat_le, inl, inr, Result, Ok, Err, if◌then◌else◌}
+use Rattle.std.proofs.Common.{◌≡◌, refl, sym, ap, arith, ℕ, List, ◌∷◌, ◌==◌, length, Bool, true, false, nat_le, inl, inr, Result, Ok, Err, if◌then◌else◌, rules}
 use Rattle.std.proofs.lemmas.Bool.Decides.{nat_tests}
 use Rattle.avr_desk.specs.Fault.{HasSameCounts}
 use Rattle.avr_desk.specs.Files.{IsWhole, with_read}
@@ -79,11 +79,7 @@ goes_wrong_length part file bytes n old new status (inr memory) one told = cc
 
 pub opened_at : (opening : Opening) (passed : List Opening) (said : List OutputEvent) → AtStart true passed said
     → AtOpened (opening ∷ passed) (Opens opening ∷ said)
-opened_at opening passed said takes = (
-  opening,
-  ap (λ (os : List Opening). opening ∷ os) takes.1,
-  ap (λ (ss : List OutputEvent). Opens opening ∷ ss) takes.2,
-)
+opened_at opening passed said takes = search rules
 
 -- the judgement of the file's bytes
 goes_whole : (part : Part) (file bytes : Bytes) (ended : Bool) (old mid new : DeskState) (result : Result ChipState ℕ)
@@ -94,8 +90,7 @@ goes_whole : (part : Part) (file bytes : Bytes) (ended : Bool) (old mid new : De
 goes_whole part file bytes ended old mid new result kept whole rose goes =
     let reading : Reading = record { name = file; bytes = bytes; ended = ended } in
     goes_opened (AtStart true) AtOpened file (chip_given part file) (Found reading) old mid new result refl kept rose
-    (opened_at (Found reading)) (goes_judged (AtStart true) file LARGEST_CHIP_FILE (judged_chip part file) reading mid
-    new result whole goes)
+    (opened_at (Found reading)) (search (rules, goes_judged))
 
 -- to its end
 pub goes_ended : (part : Part) (file bytes : Bytes) (ended : Bool) (old mid new : DeskState)
@@ -120,6 +115,4 @@ goes_past part file bytes false old mid new status kept whole is rose one told =
     let more = whole.0 in
     let long : nat_le (length bytes) LARGEST_CHIP_FILE ≡ false = grind (arith, nat_tests, more) in
     let given : judged_chip part file bytes ≡ Err (too_long_line file LARGEST_CHIP_FILE) = rw long refl in
-    goes_whole part file bytes false old mid new (Err status) kept whole rose
-    (goes_unsettled (AtStart true) (judged_chip part file bytes) (too_long_line file LARGEST_CHIP_FILE) mid new status
-    given one told)
+    search (rules, goes_whole, goes_unsettled)

@@ -1,5 +1,5 @@
 -- A run over the emulated programmer, from its stages.
-use Rattle.std.proofs.Common.{◌≡◌, ℕ, [], All, ap, subst, ◌∙◌}
+use Rattle.std.proofs.Common.{◌≡◌, ℕ, [], All, ap, subst, ◌∙◌, rules}
 use Rattle.avr_emulator.specs.Holding.{Loaded}
 use Rattle.avr_cli.specs.declared.settings.Settings.{Settings}
 use Rattle.avr_desk.specs.Fault.{Follows}
@@ -25,20 +25,7 @@ use Rattle.avr_emulator.specs.Emulated.{IsSaved, new_wire, RunsOverEmulator}
 as_new : (chip : Chip) (w : WiredState) → w.held ≡ [] → w.wire ≡ fresh_wire (fresh_programmer chip) [] → w.waits ≡ []
     → w.transcript ≡ [] → w.failures ≡ 0 → w ≡ new_wire chip []
 as_new chip w held wire waits transcript failures =
-    ap (λ x. record w { held = x }) held
-    ∙ (ap (λ x. record w { held = []; wire = x }) wire
-    ∙ (ap (λ x. record w { held = []; wire = fresh_wire (fresh_programmer chip) []; waits = x }) waits
-    ∙ (ap (λ x. record w { held = []; wire = fresh_wire (fresh_programmer chip) []; waits = []; transcript = x })
-    transcript
-    ∙ ap (λ x. record {
-      held = [];
-      wire = fresh_wire (fresh_programmer chip) [];
-      waits = [];
-      transcript = [];
-      failures =
-          x;
-    })
-    failures)))
+    search rules
 
 module _ (settings : Settings) (file : Bytes) (plan : Plan) (chip : Chip) (w v : WiredState) (held : w.held ≡ [])
     (begun : w.wire ≡ fresh_wire (fresh_programmer chip) []) (waits : w.waits ≡ []) (silent : w.transcript ≡ [])
@@ -68,11 +55,9 @@ module _ (settings : Settings) (file : Bytes) (plan : Plan) (chip : Chip) (w v :
         loaded = is_loaded;
         part = part_is;
         sound = is_sound;
-        runs = subst (λ (x : WiredState). RunsSession plan (devices (wired_link x) loaded_desk)
-            (devices (wired_link v) played_desk) ran) is_new runs;
+        runs = search (rules, is_new);
         comes = subst (λ (x : WiredState). Stays ComesOf x v) is_new comes;
-        line = subst (λ (x : WiredState). OverAnyLine plan x v loaded_desk played_desk ran) is_new
-            (line (ap (λ x. x.programmer.chip.part) begun ∙ part_is));
+        line = search (rules, is_new);
         saved = saved;
         follows = by_saving;
       }

@@ -1,5 +1,5 @@
 -- Serving read by read.
-use Rattle.std.proofs.Common.{◌≡◌, ℕ, ◌+◌, ◌≤◌, List, [], ◌∷◌, ◌++◌, refl, sym, ap, ◌∙◌, subst, append_assoc, arith}
+use Rattle.std.proofs.Common.{◌≡◌, ℕ, ◌+◌, ◌≤◌, List, [], ◌∷◌, ◌++◌, refl, sym, ap, ◌∙◌, subst, append_assoc, arith, rules}
 use Rattle.std.specs.Prelude.{◌≢◌}
 use Rattle.std.proofs.lemmas.List.{append-nil}
 use Rattle.stk_host.specs.declared.link.Item.TheVariants.{End}
@@ -28,8 +28,7 @@ all_transcript : (p : Programmer) (text : List ℕ) (x y : Transcript) (mid now 
     → AnswersAll p text (bytes_of (heard_in (x ++ y))) (sent (x ++ y)) now
 all_transcript p text x y mid now first then =
     subst (λ bs. AnswersAll p text bs (sent (x ++ y)) now) (bytes_both x y)
-    (subst (λ o. AnswersAll p text (bytes_of (heard_in x) ++ bytes_of (heard_in y)) o now) (sym (sent_append x y))
-    (all_more p text (bytes_of (heard_in x)) (sent x) (bytes_of (heard_in y)) (sent y) mid now first then))
+    (search (rules, sent_append, all_more))
 
 breaks_transcript : (p : Programmer) (text : List ℕ) (x y : Transcript) (mid now : Machine)
     → AnswersAll p text (bytes_of (heard_in x)) (sent x) mid
@@ -37,8 +36,7 @@ breaks_transcript : (p : Programmer) (text : List ℕ) (x y : Transcript) (mid n
     → BreaksOff p text (bytes_of (heard_in (x ++ y))) (sent (x ++ y)) now
 breaks_transcript p text x y mid now first then =
     subst (λ bs. BreaksOff p text bs (sent (x ++ y)) now) (bytes_both x y)
-    (subst (λ o. BreaksOff p text (bytes_of (heard_in x) ++ bytes_of (heard_in y)) o now) (sym (sent_append x y))
-    (breaks_more p text (bytes_of (heard_in x)) (sent x) (bytes_of (heard_in y)) (sent y) mid now first then))
+    (search (rules, sent_append, breaks_more))
 
 leaves_more : (served : Served) (p : Programmer) (text : List ℕ) (x y : Transcript) (mid now : Machine)
     → AnswersAll p text (bytes_of (heard_in x)) (sent x) mid
@@ -79,15 +77,8 @@ serves_more served turns old mid now a b c first then = record {
   during = first.during ++ then.during;
   grows = grows_on a.transcript b.transcript c.transcript first.during then.during first.grows then.grows;
   hears = hears_more served turns first.during then.during first.hears then.hears;
-  in_turn = λ p text f.
-      let done = first.leaves p text f in
-      in_turn_append p text (emulate p text) first.during then.during (first.in_turn p text f)
-      (subst (λ o. AnswersInTurn p (text ++ bytes_of (heard_in first.during)) o then.during) done.answered
-      (then.in_turn p (text ++ bytes_of (heard_in first.during)) done.fed));
-  leaves = λ p text f.
-      let done = first.leaves p text f in
-      leaves_more served p text first.during then.during mid now done
-      (then.leaves p (text ++ bytes_of (heard_in first.during)) done.fed);
+  in_turn = search (rules, in_turn_append);
+  leaves = search (rules, leaves_more);
 }
 
 -- serving that ended early also ends within more reads
@@ -99,13 +90,7 @@ hears_within served few many transcript other le h = (h.0, omega (arith, h.1))
 
 pub serves_within : (served : Served) (few many : ℕ) (old now : Machine) (a b : LinkState) → served ≢ TooManyReads
     → few ≤ many → Serves old few served a b now → Serves old many served a b now
-serves_within served few many old now a b other le s = record {
-  during = s.during;
-  grows = s.grows;
-  hears = hears_within served few many s.during other le s.hears;
-  in_turn = s.in_turn;
-  leaves = s.leaves;
-}
+serves_within served few many old now a b other le s = search (rules, hears_within)
 
 pub fails_more : (served : Served) (a b c : LinkState) → b.failures ≡ a.failures → FailsBy served b c
     → FailsBy served a c
@@ -117,13 +102,7 @@ fails_more served a b c same f = subst (λ n. HasRisen n c.failures) same f
 
 pub read_end : (machine : Machine) (a b : LinkState) → Grows a.transcript (Got (End ∷ []) ∷ []) b.transcript
     → Serves machine 1 Ended a b machine
-read_end machine a b g = record {
-  during = Got (End ∷ []) ∷ [];
-  grows = g;
-  hears = ([], tt, refl, omega arith);
-  in_turn = λ p text f. (refl, tt);
-  leaves = λ p text f. all_nothing p text machine f;
-}
+read_end machine a b g = search (rules, all_nothing)
 
 -- a piece, then nothing but answers to it
 heard_piece : (piece : List ℕ) (transcript : Transcript) → IsQuiet transcript
@@ -143,18 +122,9 @@ read_answered piece old now a b c g r =
     record {
       during = Got (on_tape piece) ∷ transcript;
       grows = grows_on a.transcript b.transcript c.transcript (Got (on_tape piece) ∷ []) transcript g r.says.grows;
-      hears = (
-        subst HasNoEnd (sym (heard_piece piece transcript r.says.quiet)) (no_end_on_tape piece),
-        ap (λ n. n + 1) (reads_quiet transcript r.says.quiet),
-      );
-      in_turn = λ p text f. (
-        refl,
-        in_turn_quiet p (text ++ bytes_of (on_tape piece)) (emulate p text) transcript
-            r.says.quiet,
-      );
-      leaves = λ p text f.
-          subst (λ bs. AnswersAll p text bs (sent transcript) now) (bytes_heard piece transcript r.says.quiet)
-          (subst (λ o. AnswersAll p text piece o now) (sym r.says.bytes_sent) (r.answers p text f));
+      hears = search (rules, heard_piece, no_end_on_tape, reads_quiet);
+      in_turn = search (rules, in_turn_quiet);
+      leaves = search (rules, bytes_heard);
     }
 
 pub read_broken : (piece : List ℕ) (old now : Machine) (a b c : LinkState)
@@ -165,18 +135,7 @@ read_broken piece old now a b c g r =
     record {
       during = Got (on_tape piece) ∷ transcript;
       grows = grows_on a.transcript b.transcript c.transcript (Got (on_tape piece) ∷ []) transcript g r.says.grows;
-      hears = (
-        subst HasNoEnd (sym (heard_piece piece transcript r.says.quiet)) (no_end_on_tape piece),
-        omega (arith, reads_quiet transcript r.says.quiet),
-      );
-      in_turn = λ p text f. (
-        refl,
-        in_turn_quiet p (text ++ bytes_of (on_tape piece)) (emulate p text) transcript
-            r.says.quiet,
-      );
-      leaves = λ p text f.
-          let b : BreaksOff p text (bytes_of (on_tape piece ++ heard_in transcript)) (sent transcript) now =
-          subst (λ bs. BreaksOff p text bs (sent transcript) now) (bytes_heard piece transcript r.says.quiet)
-          (subst (λ o. BreaksOff p text piece o now) (sym r.says.bytes_sent) (r.breaks p text f)) in
-          (breaks_prefix p text (bytes_of (on_tape piece ++ heard_in transcript)) (sent transcript) now b, b);
+      hears = search (rules, heard_piece, no_end_on_tape, reads_quiet);
+      in_turn = search (rules, in_turn_quiet);
+      leaves = search (rules, bytes_heard, breaks_prefix);
     }

@@ -1,5 +1,5 @@
 -- Answers to one piece, frame by frame, and how each is sent.
-use Rattle.std.proofs.Common.{◌≡◌, ℕ, ◌+◌, List, [], ◌++◌, take, drop, refl, sym, ap, ◌∙◌, subst}
+use Rattle.std.proofs.Common.{◌≡◌, ℕ, ◌+◌, List, [], ◌++◌, take, drop, refl, sym, ap, ◌∙◌, subst, rules}
 use Rattle.std.proofs.lemmas.List.{take-append-drop}
 use Rattle.std.proofs.Math.Seq.{take-add}
 use Rattle.stk_host.specs.Transcript.{Transcript, LinkState, sent}
@@ -15,16 +15,11 @@ says_both x y a b c first then = record {
   during = first.during ++ then.during;
   grows = grows_on a b c first.during then.during first.grows then.grows;
   quiet = quiet_append first.during then.during first.quiet then.quiet;
-  bytes_sent = sent_append first.during then.during
-      ∙ (ap (λ bs. bs ++ sent then.during) first.bytes_sent ∙ ap (λ bs. x ++ bs) then.bytes_sent);
+  bytes_sent = search (rules, sent_append);
 }
 
 pub replies_none : (machine : Machine) (o : LinkState) → Replies machine [] o o machine
-replies_none machine o = record {
-  out = [];
-  says = record { during = []; grows = grows_none o.transcript; quiet = tt; bytes_sent = refl };
-  answers = λ p text f. all_nothing p text machine f;
-}
+replies_none machine o = search (rules, grows_none, all_nothing)
 
 -- the bytes after the first n are fed, up to the first answer
 module _ (piece part out : List ℕ) (n used : ℕ) (old mid now : Machine) (a b c : LinkState)
@@ -39,8 +34,7 @@ module _ (piece part out : List ℕ) (n used : ℕ) (old mid now : Machine) (a b
         let first = r.answers p text f in
         subst (λ bs. AnswersAll p text bs (r.out ++ out) now)
         (ap (λ bs. take n piece ++ take used bs) is ∙ sym (take-add n used piece))
-        (all_more p text (take n piece) r.out (take used part) out mid now first
-        (all_fed p (text ++ take n piece) (take used part) out mid now one first.fed));
+        (search (rules, all_more, all_fed));
   }
 
   -- or only a part of it is sent
@@ -52,7 +46,5 @@ module _ (piece part out : List ℕ) (n used : ℕ) (old mid now : Machine) (a b
         let first = r.answers p text f in
         subst (λ bs. BreaksOff p text bs (r.out ++ s.part) now)
         (ap (λ bs. take n piece ++ bs) (take-append-drop used part ∙ is) ∙ take-append-drop n piece)
-        (breaks_more p text (take n piece) r.out (take used part ++ drop used part) s.part mid now first
-        (breaks_here p (text ++ take n piece) (take used part) (drop used part) out s.part s.unsent mid now one
-        first.fed s.bytes_are s.not_whole));
+        (search (rules, breaks_more, breaks_here));
   }

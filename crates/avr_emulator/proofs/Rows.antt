@@ -1,6 +1,6 @@
 -- The limits of a chip file and of reads. Then worked outcomes that contracts refuse: of holding, of saving, and of
 -- answers to a frame with a command that no programmer knows.
-use Rattle.std.proofs.Common.{◌≡◌, ◌≤◌, refl, ap, ℕ, List, [], ◌∷◌, length, Ok, Err, arith}
+use Rattle.std.proofs.Common.{◌≡◌, ◌≤◌, refl, ap, ℕ, List, [], ◌∷◌, length, Ok, Err, arith, rules}
 use Rattle.ghosts.specs.Failures.{HasRisen}
 use Rattle.avr_desk.specs.Record.{Bytes, DeskState, Record, Passes, after_err, nothing_kept, showing, with_held, with_replaced}
 use Rattle.avr_emulator.specs.declared.loading.TheConstants.{LARGEST_CHIP_FILE}
@@ -43,12 +43,9 @@ unasked : (file told : Bytes) (trouble : holding.HoldingTrouble) (after : DeskSt
     → holding.TellsHoldingTrouble file trouble told begun after
     → Passes (λ r. after_err told (holding.denied_by file trouble r)) begun after → ⊥
 unasked file told holding.InUse after is tells kept =
-    let none : denials after.kept ≡ 0 = ap (λ v. denials v.kept) is in
-    let one : denials after.kept ≡ 1 = ap denials kept in
-    omega (arith, none, one)
+    search rules
 unasked file told holding.NotReplaceable after is tells kept =
-    let none : after.failures ≡ 0 = ap (λ v. v.failures) is in
-    no_rise tells.between.failures tells.failed.0 (rw none at tells.until.0)
+    search (rules, no_rise)
 
 pub no_denial_unasked : (file : Bytes) → HoldsFile begun (now (after_err (in_use_line file) nothing_kept) 0) file
     (Err 1) → ⊥
@@ -88,5 +85,4 @@ abbrev short : Transcript
 short = Got (on_tape frame) ∷ (Sent (0x1B ∷ 0x09 ∷ 0x00 ∷ 0x02 ∷ 0x0E ∷ 0x05 ∷ 0xC9 ∷ []) ∷ (Got (End ∷ []) ∷ []))
 
 pub not_short : (p : Programmer) → AnswersInTurn p [] [] short → ⊥
-not_short p in_turn = let less : 0x1B ∷ 0x09 ∷ 0x00 ∷ 0x02 ∷ 0x0E ∷ 0x05 ∷ 0xC9 ∷ [] ≡ answer = in_turn.1.0 in
-    absurd (cc)
+not_short p in_turn = search rules

@@ -1,5 +1,5 @@
 -- Chip files that are saved.
-use Rattle.std.proofs.Common.{◌≡◌, ℕ, Err, subst}
+use Rattle.std.proofs.Common.{◌≡◌, ℕ, Err, subst, rules}
 use Rattle.std.specs.Prelude.{⊤}
 use Rattle.avr_desk.specs.Fault.{Counts}
 use Rattle.avr_desk.specs.Record.{DeskState, Record, Passes, after_replace, after_err, released, with_none_held, Bytes}
@@ -23,12 +23,4 @@ pub not_replaced : (old mid new : DeskState) (file bytes : Bytes) (status : ℕ)
     → fault ≡ Failed → Passes (after_replace file bytes (Err fault)) old mid → Counts {T = ⊤} File old mid (Err fault)
     → status ≡ 1 → Tells (released mid) new (not_written_line file) → Saves old new file bytes (Err status)
 not_replaced old mid new file bytes status NotFound only kept counts one told = cc
-not_replaced old mid new file bytes status Failed only kept counts one told = (
-  one,
-  record {
-    trouble = NotReplaced;
-    told = told.told;
-    tells = failure_told old (released mid) new (not_written_line file) counts.0 counts.1 told;
-    kept = subst (λ (r : Record). new.kept ≡ after_err told.told (with_none_held r)) kept told.kept;
-  },
-)
+not_replaced old mid new file bytes status Failed only kept counts one told = search (rules, failure_told)

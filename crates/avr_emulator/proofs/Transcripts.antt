@@ -1,5 +1,5 @@
 -- Laws of what is received, and of transcripts in turn.
-use Rattle.std.proofs.Common.{◌≡◌, ℕ, ◌+◌, List, [], ◌∷◌, ◌++◌, refl, sym, ap, ◌∙◌, subst, append_assoc, arith}
+use Rattle.std.proofs.Common.{◌≡◌, ℕ, ◌+◌, List, [], ◌∷◌, ◌++◌, refl, sym, ap, ◌∙◌, subst, append_assoc, arith, rules}
 use Rattle.std.proofs.lemmas.List.{append-nil}
 use Rattle.stk_host.specs.declared.link.Item.TheVariants.{Byte, Silence, End}
 use Rattle.stk_host.specs.Tape.{Tape, on_tape, bytes_of}
@@ -49,8 +49,5 @@ in_turn_append p text out (Sent bytes ∷ x) y f g =
 in_turn_append p text out (Got tape ∷ x) y f g = (
   f.0,
   in_turn_append p (text ++ bytes_of tape) out x y f.1
-      (subst (λ t. AnswersInTurn p t (out ++ sent x) y)
-      (ap (λ bs. text ++ bs) (bytes_of_append tape (heard x))
-      ∙ sym (append_assoc text (bytes_of tape) (bytes_of (heard x))))
-      g),
+      (search (rules, bytes_of_append, append_assoc)),
 )

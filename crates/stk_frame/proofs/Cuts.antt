@@ -1,5 +1,5 @@
 -- Laws of the cutting.
-use Rattle.std.proofs.Common.{◌≡◌, ℕ, zero, suc, ◌-◌, ◌<◌, ◌≤◌, List, [], ◌∷◌, ◌++◌, length, take, drop, refl, sym, ap, ◌∙◌, subst, append_assoc, arith, true, false, cond, length-append, inl, inr}
+use Rattle.std.proofs.Common.{◌≡◌, ℕ, zero, suc, ◌-◌, ◌<◌, ◌≤◌, List, [], ◌∷◌, ◌++◌, length, take, drop, refl, sym, ap, ◌∙◌, subst, append_assoc, arith, true, false, cond, length-append, inl, inr, rules}
 use Rattle.std.proofs.lemmas.Bool.{leb-true, leb-false, le-leb, cases_Bool, false≢true, cond-true}
 use Rattle.std.proofs.lemmas.Bool.Decides.{nat_tests}
 use Rattle.std.proofs.lemmas.List.{take-append-le, drop-append-le, take-append-drop, length-take-le}
@@ -44,8 +44,7 @@ size_stays [] y whole = absurd (omega arith)
 size_stays (a ∷ []) y whole = let e = short a 1 (omega arith) whole in rw (start_only a y e, e) refl
 size_stays (a ∷ b ∷ []) y whole = let e = short a 2 (omega arith) whole in rw (start_only a (b ∷ y) e, e) refl
 size_stays (a ∷ b ∷ c ∷ []) y whole = let e = short a 3 (omega arith) whole in rw (start_only a (b ∷ c ∷ y) e, e) refl
-size_stays (a ∷ b ∷ c ∷ d ∷ []) y whole = let e = short a 4 (omega arith) whole in
-    rw (start_only a (b ∷ c ∷ d ∷ y) e, e) refl
+size_stays (a ∷ b ∷ c ∷ d ∷ []) y whole = search (rules, short, start_only)
 size_stays (a ∷ b ∷ c ∷ d ∷ e ∷ more) y whole = refl
 
 drop_one : (n b : ℕ) (bs : List ℕ) → 1 ≤ n → drop (n - 1) bs ≡ drop n (b ∷ bs)
@@ -57,9 +56,7 @@ pub cut_piece : (bytes : List ℕ) → has_piece bytes ≡ true
     → cut bytes ≡ take (piece_size bytes) bytes ∷ cut (drop (piece_size bytes) bytes)
 cut_piece [] whole = absurd (false≢true whole)
 cut_piece (b ∷ bs) whole =
-    cond-true (has_piece (b ∷ bs)) _ _ whole
-    ∙ ap (λ pieces. take (piece_size (b ∷ bs)) (b ∷ bs) ∷ pieces)
-    ((behind_is (piece_size (b ∷ bs) - 1) bs).0 ∙ ap cut (drop_one (piece_size (b ∷ bs)) b bs (size_positive (b ∷ bs))))
+    search (rules, cond-true, behind_is, drop_one, size_positive)
 
 pub rest_piece : (bytes : List ℕ) → has_piece bytes ≡ true → rest bytes ≡ rest (drop (piece_size bytes) bytes)
 rest_piece [] whole = absurd (false≢true whole)
@@ -79,8 +76,7 @@ rest_none (b ∷ bs) part = rw part refl
 
 stays_whole : (x y : List ℕ) → has_piece x ≡ true → has_piece (x ++ y) ≡ true
 stays_whole x y whole =
-    let le : piece_size x ≤ length x = leb-true (piece_size x) (length x) whole in
-    le-leb (piece_size (x ++ y)) (length (x ++ y)) (rw (size_stays x y le, length-append) (omega arith))
+    search (rules, leb-true, le-leb, size_stays, length-append)
 
 -- induction over the pieces: bytes with no whole piece in front, and the step over one
 module _ (P : List ℕ → Type 0) (none : (x : List ℕ) → has_piece x ≡ false → P x)
@@ -105,29 +101,21 @@ fits x whole = leb-true (piece_size x) (length x) whole
 pub cut_append : (x y : List ℕ) → cut (x ++ y) ≡ cut x ++ cut (rest x ++ y)
 cut_append x y = by_pieces (λ x. cut (x ++ y) ≡ cut x ++ cut (rest x ++ y))
     (λ x part. rw (cut_none x part, rest_none x part) refl)
-    (λ x whole inner.
-    cut_piece (x ++ y) (stays_whole x y whole)
-    ∙ rw (size_stays x y (fits x whole), take-append-le (piece_size x) x y (fits x whole))
-    (rw (drop-append-le (piece_size x) x y (fits x whole), cut_piece x whole, rest_piece x whole)
-    (ap (λ ps. take (piece_size x) x ∷ ps) inner))) x
+    (search (rules, cut_piece, stays_whole, size_stays, fits, take-append-le, drop-append-le, rest_piece)) x
 
 pub rest_append : (x y : List ℕ) → rest (x ++ y) ≡ rest (rest x ++ y)
 rest_append x y = by_pieces (λ x. rest (x ++ y) ≡ rest (rest x ++ y)) (λ x part. rw (rest_none x part) refl)
-    (λ x whole inner.
-    rest_piece (x ++ y) (stays_whole x y whole)
-    ∙ rw (size_stays x y (fits x whole), drop-append-le (piece_size x) x y (fits x whole), rest_piece x whole) inner) x
+    (search (rules, rest_piece, stays_whole, size_stays, fits, drop-append-le)) x
 
 -- the pieces and what is left are the bytes
 pub cut_joined : (x : List ℕ) → concat (cut x) ++ rest x ≡ x
 cut_joined = by_pieces (λ x. concat (cut x) ++ rest x ≡ x) (λ x part. rw (cut_none x part, rest_none x part) refl)
-    (λ x whole inner. rw (cut_piece x whole, rest_piece x whole, append_assoc, inner)
-    (take-append-drop (piece_size x) x))
+    (λ x whole inner. search (rules, cut_piece, rest_piece, append_assoc, take-append-drop))
 
 -- a piece taken off has its own size
 one_taken : (a : ℕ) (y : List ℕ) → (a == 27) ≡ false
     → piece_size (take (piece_size (a ∷ y)) (a ∷ y)) ≡ piece_size (a ∷ y)
-one_taken a y e = ap (λ n. piece_size (take n (a ∷ y))) (start_only a y e)
-    ∙ (start_only a [] e ∙ sym (start_only a y e))
+one_taken a y e = search (rules, start_only)
 
 pub taken_size : (y : List ℕ) → piece_size y ≤ length y → piece_size (take (piece_size y) y) ≡ piece_size y
 taken_size [] whole = absurd (omega arith)
@@ -147,8 +135,7 @@ taken_size (a ∷ b ∷ c ∷ d ∷ e ∷ more) whole = elim (cases_Bool (a == 2
 -- the cutting finds pieces, and a part of one is left
 pieces_whole : (x : List ℕ) → All IsPiece (cut x)
 pieces_whole = by_pieces (λ x. All IsPiece (cut x)) (λ x part. rw (cut_none x part) (All-nil IsPiece))
-    (λ x whole inner. rw (cut_piece x whole) (All-cons IsPiece (take (piece_size x) x) (cut (drop (piece_size x) x))
-    (taken_size x (fits x whole) ∙ sym (length-take-le (piece_size x) x (fits x whole))) inner))
+    (λ x whole inner. rw (cut_piece x whole) (search (rules, taken_size, fits, length-take-le)))
 
 rest_is_part : (x : List ℕ) → length (rest x) < piece_size (rest x)
 rest_is_part = by_pieces (λ x. length (rest x) < piece_size (rest x))

@@ -1,5 +1,5 @@
 -- A body is read back as its command, and nothing else is.
-use Rattle.std.proofs.Common.{◌≡◌, ℕ, suc, ◌+◌, ◌*◌, ◌<◌, ◌/◌, ◌%◌, ◌++◌, List, [], ◌∷◌, length, slice_index, refl, sym, ap, ◌∙◌, subst, arith, cond, inl, inr, Option, Some, None}
+use Rattle.std.proofs.Common.{◌≡◌, ℕ, suc, ◌+◌, ◌*◌, ◌<◌, ◌/◌, ◌%◌, ◌++◌, List, [], ◌∷◌, length, slice_index, refl, sym, ap, ◌∙◌, subst, arith, cond, inl, inr, Option, Some, None, rules}
 use Rattle.std.proofs.lemmas.Bool.{eqb-true, cases_Bool, cond-true, cond-false}
 use Rattle.std.specs.Prelude.{◌==◌, MatchOption, ◌↔◌, option_map}
 use Rattle.byteorder.specs.Endian.{big_bytes, big_number}
@@ -71,18 +71,12 @@ Below bytes = (i : ℕ) → slice_index bytes i < 256
 
 pair_back : (a b : ℕ) → a < 256 → b < 256 → big_bytes 2 (big_number 2 (a ∷ b ∷ [])) ≡ a ∷ b ∷ []
 pair_back a b e f =
-    let first : (a * 256 + (b * 1 + 0)) / 256 % 256 ≡ a = omega arith in
-    let second : (a * 256 + (b * 1 + 0)) % 256 ≡ b = omega arith in
-    cc
+    search rules
 
 four_back : (a b c d : ℕ) → a < 256 → b < 256 → c < 256 → d < 256
     → big_bytes 4 (big_number 4 (a ∷ b ∷ c ∷ d ∷ [])) ≡ a ∷ b ∷ c ∷ d ∷ []
 four_back a b c d e f g h =
-    let first : (a * 16777216 + (b * 65536 + (c * 256 + (d * 1 + 0)))) / 16777216 % 256 ≡ a = omega arith in
-    let second : (a * 16777216 + (b * 65536 + (c * 256 + (d * 1 + 0)))) / 65536 % 256 ≡ b = omega arith in
-    let third : (a * 16777216 + (b * 65536 + (c * 256 + (d * 1 + 0)))) / 256 % 256 ≡ c = omega arith in
-    let fourth : (a * 16777216 + (b * 65536 + (c * 256 + (d * 1 + 0)))) % 256 ≡ d = omega arith in
-    cc
+    search rules
 
 sign_on_sound : (fields : List ℕ) → Sound 0x01 fields (sign_on_of fields)
 sign_on_sound [] = record { says = (refl, tt) }
@@ -152,11 +146,7 @@ spi_multi_sound _ = record { says = tt }
 -- one row of the table
 row : (own code : ℕ) (fields : List ℕ) (read others : Option Command) → Sound own fields read → Sound code fields others
     → Sound code fields (cond (code == own) read others)
-row own code fields read others is other = elim (cases_Bool (code == own)) [
-  | inl same ↦ subst (λ r. Sound code fields r) (sym (cond-true (code == own) read others same))
-      (subst (λ n. Sound n fields read) (sym (eqb-true code own same)) is)
-  | inr differs ↦ subst (λ r. Sound code fields r) (sym (cond-false (code == own) read others differs)) other
-]
+row own code fields read others is other = search (rules, cases_Bool, cond-true, eqb-true, cond-false)
 
 with_fields_sound : (code : ℕ) (fields : List ℕ) → Below fields → Sound code fields (with_fields code fields)
 with_fields_sound code fields below =
@@ -171,13 +161,7 @@ with_fields_sound code fields below =
     (row 0x14 code fields _ _ (made 0x14 fields ReadFlash _ (λ f k. (refl, k)) (read_block_back fields below))
     (row 0x15 code fields _ _ (made 0x15 fields ProgramEeprom _ (λ f k. (refl, k)) (program_block_back fields below))
     (row 0x16 code fields _ _ (made 0x16 fields ReadEeprom _ (λ f k. (refl, k)) (read_block_back fields below))
-    (row 0x17 code fields _ _ (made 0x17 fields ProgramFuse _ (λ f k. (refl, k)) (instruction_back fields))
-    (row 0x18 code fields _ _ (made 0x18 fields ReadFuse _ (λ f k. (refl, k)) (read_byte_back fields))
-    (row 0x19 code fields _ _ (made 0x19 fields ProgramLock _ (λ f k. (refl, k)) (instruction_back fields))
-    (row 0x1A code fields _ _ (made 0x1A fields ReadLock _ (λ f k. (refl, k)) (read_byte_back fields))
-    (row 0x1B code fields _ _ (made 0x1B fields ReadSignature _ (λ f k. (refl, k)) (read_byte_back fields))
-    (row 0x1C code fields _ _ (made 0x1C fields ReadOsccal _ (λ f k. (refl, k)) (read_byte_back fields))
-    (row 0x1D code fields _ _ (spi_multi_sound fields) (record { says = tt }))))))))))))))))))
+    (search (rules, row, made, instruction_back, read_byte_back, spi_multi_sound))))))))))))
 
 pub only_body : (bytes : List ℕ) → Below bytes
     → MatchOption (command_of bytes) (Unit {0}) (λ c. (body c ≡ bytes) × FieldsFit c)

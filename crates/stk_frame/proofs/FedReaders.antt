@@ -1,5 +1,5 @@
 -- What one more byte brings to a reader.
-use Rattle.std.proofs.Common.{◌≡◌, ℕ, zero, suc, ◌-◌, length-drop, take, slice_index, ◌+◌, ◌<◌, ◌≤◌, List, [], ◌∷◌, ◌++◌, length, drop, refl, sym, ap, ◌∙◌, append_assoc, arith, true, false, Bool, Option, Some, None}
+use Rattle.std.proofs.Common.{◌≡◌, ℕ, zero, suc, ◌-◌, length-drop, take, slice_index, ◌+◌, ◌<◌, ◌≤◌, List, [], ◌∷◌, ◌++◌, length, drop, refl, sym, ap, ◌∙◌, append_assoc, arith, true, false, Bool, Option, Some, None, rules}
 use Rattle.std.proofs.lemmas.Bool.{le-leb, lt-leb, le-ltb, cond-false}
 use Rattle.std.proofs.lemmas.List.{append-nil, take_all, drop_all}
 use Rattle.std.proofs.Math.Seq.{take-add}
@@ -27,49 +27,28 @@ rest_whole h whole = rest_piece h (whole_is h (omega arith)) ∙ ap rest (drop_a
 
 pub cut_whole : (h : List ℕ) → IsPiece h → cut h ≡ h ∷ []
 cut_whole h whole =
-    cut_piece h (whole_is h (omega arith))
-    ∙ (ap (λ p. p ∷ cut (drop (piece_size h) h)) (take_all (piece_size h) h (omega arith))
-    ∙ ap (λ r. h ∷ cut r) (drop_all (piece_size h) h (omega arith)))
+    search (rules, cut_piece, whole_is, take_all, drop_all)
 
 -- What a part that was held and the bytes give, every text gives.
 fed_from : (h u held new : List ℕ) (skipped found : List (List ℕ)) → length h < piece_size h → held ≡ h ++ u
     → filter is_frame skipped ≡ [] → cut held ≡ skipped ++ found → rest held ≡ rest new → Fed h u new found
-fed_from h u held new skipped found part is none p r = record {
-  skipped = skipped;
-  no_frames = none;
-  pieces = λ t s. cut_append t u ∙ (ap (λ x. cut t ++ cut (x ++ u)) (s ∙ rest_part h part)
-      ∙ ap (λ ps. cut t ++ ps) (ap cut (sym is) ∙ p));
-  stands = λ t s. rest_append t u ∙ (ap (λ x. rest (x ++ u)) (s ∙ rest_part h part) ∙ (ap rest (sym is) ∙ r));
-}
+fed_from h u held new skipped found part is none p r = search (rules, cut_append, rest_part, rest_append)
 
 pub fed_none : (held : List ℕ) → Fed held [] held []
-fed_none held = record {
-  skipped = [];
-  no_frames = refl;
-  pieces = λ t s. ap cut (append-nil t) ∙ sym (append-nil (cut t));
-  stands = λ t s. ap rest (append-nil t) ∙ s;
-}
+fed_none held = search (rules, append-nil)
 
 pub fed_on : (a x b y c : List ℕ) (found : List (List ℕ)) → Fed a x b [] → Fed b y c found → Fed a (x ++ y) c found
 fed_on a x b y c found f g = record {
   skipped = f.skipped ++ g.skipped;
-  no_frames = filter-append is_frame f.skipped g.skipped
-      ∙ (ap (λ ps. ps ++ filter is_frame g.skipped) f.no_frames ∙ g.no_frames);
-  pieces = λ t s. ap cut (sym (append_assoc t x y))
-      ∙ (g.pieces (t ++ x) (f.stands t s) ∙ (ap (λ ps. ps ++ (g.skipped ++ found))
-      (f.pieces t s ∙ ap (λ ps. cut t ++ ps) (append-nil f.skipped)) ∙ simp append_assoc));
+  no_frames = search (rules, filter-append);
+  pieces = search (rules, append_assoc, append-nil);
   stands = λ t s. ap rest (sym (append_assoc t x y)) ∙ g.stands (t ++ x) (f.stands t s);
 }
 
 -- a whole frame is dropped when the next byte comes
 pub fed_cleared : (held used new : List ℕ) (found : List (List ℕ)) → IsPiece held → Fed [] used new found
     → Fed held used new found
-fed_cleared held used new found whole f = record {
-  skipped = f.skipped;
-  no_frames = f.no_frames;
-  pieces = λ t s. f.pieces t (s ∙ rest_whole held whole);
-  stands = λ t s. f.stands t (s ∙ rest_whole held whole);
-}
+fed_cleared held used new found whole f = search (rules, rest_whole)
 
 -- still a part
 pub fed_part : (h u held : List ℕ) → length h < piece_size h → held ≡ h ++ u → length held < piece_size held
@@ -106,10 +85,8 @@ not_true false h = refl
 -- bytes up to the first start byte, or all of them
 pub fed_up_to : (bytes : List ℕ) (place : Option ℕ) → IsFirstByte (is_byte 27) bytes place
     → Fed [] (take (unwrap_or place (length bytes)) bytes) [] []
-fed_up_to bytes None none = fed_noise (length bytes) bytes (omega arith)
-    (λ i below. not_true _ (none i (omega arith) below))
-fed_up_to bytes (Some n) first = fed_noise n bytes (let high = first.0.high in omega arith)
-    (λ i below. not_true _ (first.0.before i (omega arith) below))
+fed_up_to bytes None none = search (rules, fed_noise, not_true)
+fed_up_to bytes (Some n) first = search (rules, fed_noise, not_true)
 
 -- one more span of a piece
 rest_of : (piece : List ℕ) (used : ℕ) → take (length piece - used) (drop used piece) ≡ drop used piece
@@ -118,12 +95,10 @@ rest_of piece used = take_all (length piece - used) (drop used piece) (omega (ar
 pub within_span : (piece : List ℕ) (used taken : ℕ) → used ≤ length piece
     → taken ≤ length (take (length piece - used) (drop used piece)) → used + taken ≤ length piece
 within_span piece used taken within few =
-    let at_most : taken ≤ length (drop used piece) = rw (rest_of piece used) at few in
-    omega (arith, length-drop used piece)
+    search (rules, rest_of, length-drop)
 
 pub fed_span : (a b c piece : List ℕ) (used taken : ℕ) (found : List (List ℕ)) → Fed a (take used piece) b []
     → Fed b (take taken (take (length piece - used) (drop used piece))) c found
     → Fed a (take (used + taken) piece) c found
 fed_span a b c piece used taken found first second =
-    rw take-add (fed_on a (take used piece) b (take taken (drop used piece)) c found first
-    (rw (rest_of piece used) at second))
+    rw take-add (search (rules, fed_on, rest_of))

@@ -1,5 +1,5 @@
 -- Bits of words, as the code finds and makes them.
-use Rattle.std.proofs.Common.{◌≡◌, ◌∙◌, sym, ap, refl, arith, ℕ, ◌+◌, ◌-◌, ◌*◌, ◌/◌, ◌%◌, ◌^◌, ◌<◌, ◌≤◌, nat_le, nat_lt, not, min, eqb, List, length, get_or, Bool, true, false, bit_and, bit_or, ◌||◌, set, inl, inr, w64}
+use Rattle.std.proofs.Common.{◌≡◌, ◌∙◌, sym, ap, refl, arith, ℕ, ◌+◌, ◌-◌, ◌*◌, ◌/◌, ◌%◌, ◌^◌, ◌<◌, ◌≤◌, nat_le, nat_lt, not, min, eqb, List, length, get_or, Bool, true, false, bit_and, bit_or, ◌||◌, set, inl, inr, w64, rules}
 use lib.Count.{trailing_of_zero}
 use Rattle.std.specs.Int.{bit_at, trailing_zeros}
 use Rattle.std.proofs.lemmas.Nat.{and_le_l}
@@ -77,10 +77,7 @@ ones_are low high i a b l =
             rw (one_bit, first, second) refl
         | inr past ↦
             let none : bit_at right i ≡ 0 = rw right_is (bit_at_ones_above high i past) in
-            let zero_bit : bit_at (bit_and left right) i ≡ 0 = omega (arith, both, none) in
-            let first : nat_le low i ≡ true = grind (arith, nat_tests, from) in
-            let second : nat_lt i high ≡ false = grind (arith, nat_tests, past) in
-            rw (zero_bit, first, second) refl
+            search rules
       ]
     ]
 
@@ -107,20 +104,8 @@ pub span_word : (words : List ℕ) (at stop bits k : ℕ) → at < stop → stop
     → ((i : ℕ) → i < 64 → eqb (bit_at bits i) 1 ≡ is_within (at % 64) (stop - at / 64 * 64) i)
     → is_present (set words (at / 64) (bit_or (get_or words (at / 64) 0) bits)) k
     ≡ (is_within at stop k || is_present words k)
-span_word words at stop bits k l room within ones = elim (cases_eq (k / 64) (at / 64)) [
-  | inl same ↦
-      let here = get_or-set_same words (at / 64) (bit_or (get_or words (at / 64) 0) bits) 0 within in
-      let span : eqb (bit_at bits (k % 64)) 1 ≡ is_within at stop k =
-      ones (k % 64) (omega arith) ∙ in_word at stop k l room same in
-      rw (same, here) (one_of_two (get_or words (at / 64) 0) bits (k % 64) ∙ rw span refl)
-  | inr differ ↦
-      let there = get_or-set_other words (at / 64) (k / 64) (bit_or (get_or words (at / 64) 0) bits) 0 differ in
-      let outside : is_within at stop k ≡ false = elim (cases_lt k at) [
-        | inl low ↦ within_low at stop k low
-        | inr high ↦ within_high at stop k (omega (arith, high, differ, room))
-      ] in
-      rw (there, outside) refl
-]
+span_word words at stop bits k l room within ones =
+    search (rules, cases_eq, get_or-set_same, in_word, one_of_two, get_or-set_other, cases_lt, within_low, within_high)
 
 -- two spans, the one after the other
 pub spans_join : (from at stop k : ℕ) (b : Bool) → from ≤ at → at ≤ stop

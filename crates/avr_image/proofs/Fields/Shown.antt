@@ -1,6 +1,6 @@
 -- The fields of an image, as an image.
 use Rattle.std.proofs.lemmas.Bool.Decides.{nat_tests}
-use Rattle.std.proofs.Common.{◌≡◌, ◌≢◌, ◌∙◌, sym, ap, ap₂, refl, arith, ℕ, suc, zero, ◌+◌, ◌*◌, ◌/◌, ◌%◌, ◌^◌, ◌<◌, ◌≤◌, List, [], ◌∷◌, length, get_or, set, Bool, true, false, Option, Some, None, replicate, bit_or, is_some, count_by, inl, inr, w64, min, take, drop, ◌++◌, ◌-◌}
+use Rattle.std.proofs.Common.{◌≡◌, ◌≢◌, ◌∙◌, sym, ap, ap₂, refl, arith, ℕ, suc, zero, ◌+◌, ◌*◌, ◌/◌, ◌%◌, ◌^◌, ◌<◌, ◌≤◌, List, [], ◌∷◌, length, get_or, set, Bool, true, false, Option, Some, None, replicate, bit_or, is_some, count_by, inl, inr, w64, min, take, drop, ◌++◌, ◌-◌, rules}
 use Rattle.std.proofs.Math.ListN.{get_or-eq_default}
 use Rattle.std.proofs.lemmas.Bool.{cases_eq, cases_lt, cases_Bool}
 use Rattle.std.proofs.lemmas.List.{get_or-set_same, get_or-set_other, length-set, length-drop, length-take, get_or-take, get_or-drop, drop_all}
@@ -97,14 +97,8 @@ shown-marked words bytes a b l within =
     same_items _ _ (len-left ∙ sym len-right) (λ i j.
     let in-bytes : i < length bytes = omega (arith, j, len-right) in
     let left = byte_at-shown (with_mark words a) (set bytes a b) i (omega (arith, in-bytes, length-set bytes a b)) in
-    elim (cases_eq i a) [
-      | inl same ↦ left ∙ rw same (rw (present-same words a within, get_or-set_same bytes a b 0 l)
-          (sym (get_or-set_same (dense_image words bytes) a (Some b) None
-          (omega (arith, l, length_shown words bytes)))))
-      | inr differ ↦ left ∙ rw (present-other words a i within differ, get_or-set_other bytes a i b 0 differ)
-          (sym (byte_at-shown words bytes i in-bytes)
-          ∙ sym (get_or-set_other (dense_image words bytes) a i (Some b) None differ))
-    ])
+    search (rules, cases_eq, present-same, get_or-set_same, length_shown, present-other, get_or-set_other,
+        byte_at-shown))
 
 pub sized : (words bytes : List ℕ) {image : List (Option ℕ)} → dense_image words bytes ≡ image
     → length image ≡ length bytes
@@ -140,18 +134,8 @@ blank-marked words bytes a b l within blank i j none =
 pub kept_byte : (words bytes : List ℕ) {image : List (Option ℕ)} (a : ℕ) → dense_image words bytes ≡ image
     → ((i : ℕ) → i < length bytes → is_present words i ≡ false → get_or bytes i 0 ≡ 255)
     → get_or bytes a 255 ≡ or_blank (byte_at image a)
-kept_byte words bytes {image} a seen blank = rw (← seen) (elim (cases_lt a (length bytes)) [
-  | inl inside ↦
-      let there = byte_at-shown words bytes a inside in
-      elim (cases_Bool (is_present words a)) [
-        | inl held_bit ↦ rw (there, held_bit) (same_default bytes a 255 0 inside)
-        | inr no_bit ↦ rw (there, no_bit) (same_default bytes a 255 0 inside ∙ blank a inside no_bit)
-      ]
-  | inr past ↦ rw (
-    get_or-eq_default bytes 255 past,
-    byte_at-past (dense_image words bytes) a (omega (arith, past, length_shown words bytes)),
-  ) refl
-])
+kept_byte words bytes {image} a seen blank = search (rules, cases_lt, byte_at-shown, cases_Bool, same_default, past,
+    get_or-eq_default, byte_at-past, length_shown)
 
 -- the presence of a byte is its bit
 pub presence : (words bytes : List ℕ) {image : List (Option ℕ)} (a : ℕ) → dense_image words bytes ≡ image
@@ -187,8 +171,7 @@ first_is words bytes {image} addr place seen found l =
     (λ k j. ap is_some (get_or-drop addr image k None)
     ∙ presence words bytes (addr + k) seen (omega (arith, j, l))
     ∙ found.others (addr + k) (omega arith) (omega (arith, j)))
-    (ap is_some (get_or-drop addr image (place - addr) None) ∙ ap (λ (k : ℕ). is_some (byte_at image k)) rest
-    ∙ presence words bytes place seen l ∙ found.here l)
+    (search (rules, get_or-drop, presence))
     ∙ ap (λ (k : ℕ). Some k) rest
 
 pub first_none : (words bytes : List ℕ) {image : List (Option ℕ)} (addr from : ℕ) → dense_image words bytes ≡ image
@@ -217,9 +200,7 @@ run_is words bytes {image} addr end place seen found l =
     ∙ presence words bytes (addr + k) seen (omega (arith, j, found.bound))
     ∙ found.others (addr + k) (omega arith) (omega (arith, j)))
     (λ j. let rest : addr + (place - addr) ≡ place = omega (arith, found.after) in
-    ap is_some (at (place - addr) (omega (arith, j, row_len))) ∙ ap (λ (k : ℕ). is_some (byte_at image k)) rest
-    ∙ presence words bytes place seen (omega (arith, j, row_len, left, size, found.after))
-    ∙ found.here (omega (arith, j, row_len, left, size, found.after))) in
+    search (rules, presence)) in
     omega (arith, count, found.after)
 
 none_taken : (n : ℕ) → prefix_len is_some (take {A = Option ℕ} n []) ≡ 0

@@ -142,18 +142,15 @@ shown-pasted words words' bytes span addr room bits =
           ∙ sym (byte_at-shown words bytes i inside) ∙ sym (span_low (dense_image words bytes) addr span i low)
       | inr from ↦ elim (cases_lt i (addr + length span)) [
         | inl within ↦
-            let bit : is_present words' i ≡ true = bits i
-            ∙ rw (within_yes addr (addr + length span) i from within) refl in
+            let bit : is_present words' i ≡ true = search (rules, within_yes) in
             let there : addr + (i - addr) ≡ i = omega (arith, from) in
             see ∙ ap₂ (λ (b : Bool) (n : ℕ). cond b (Some n) None) bit (pasted_in addr span bytes i room from within)
-            ∙ sym (span_in (dense_image words bytes) addr span (i - addr) (omega (arith, from, within))
-            (omega (arith, room, size)))
+            ∙ sym (search (rules, span_in))
             ∙ ap (λ (n : ℕ). byte_at (laid_over (dense_image words bytes) (enumerate_from addr span)) n) there
         | inr past ↦
             let bit : is_present words' i ≡ is_present words i =
             bits i ∙ rw (within_high addr (addr + length span) i past) refl in
-            see ∙ ap₂ (λ (b : Bool) (n : ℕ). cond b (Some n) None) bit (pasted_high addr span bytes i room past)
-            ∙ sym (byte_at-shown words bytes i inside) ∙ sym (span_high (dense_image words bytes) addr span i past)
+            search (rules, pasted_high, byte_at-shown, span_high)
       ]
     ])
 
@@ -161,18 +158,8 @@ pub kept-pasted : (words words' bytes span : List ℕ) (addr : ℕ) → addr + l
     → ((k : ℕ) → is_present words' k ≡ (is_within addr (addr + length span) k || is_present words k))
     → length words' ≡ length words
     → ((i : ℕ) → get_or span i 0 < 256) → IsKept words bytes → IsKept words' (with_span addr span bytes)
-kept-pasted words words' bytes span addr room bits same small kept = grind (
-  arith,
-  nat_tests,
-  length-pasted,
-  small-pasted,
-  cases_lt,
-  within_low,
-  pasted_low,
-  within_yes,
-  within_high,
-  pasted_high,
-)
+kept-pasted words words' bytes span addr room bits same small kept =
+    search (rules, length-pasted, small-pasted, cases_lt, within_low, pasted_low, within_yes, within_high, pasted_high)
 
 -- ---- whether a span fits
 

@@ -1,6 +1,6 @@
 -- A byte that is taken away.
 use Rattle.std.proofs.lemmas.Bool.Decides.{nat_tests}
-use Rattle.std.proofs.Common.{◌≡◌, ◌≢◌, ◌∙◌, sym, ap, refl, arith, ℕ, suc, zero, ◌*◌, ◌/◌, ◌%◌, ◌^◌, ◌-◌, ◌<◌, ◌≤◌, List, [], ◌∷◌, length, get_or, set, false, eqb, Option, None, bit_and, inl, inr, w64}
+use Rattle.std.proofs.Common.{◌≡◌, ◌≢◌, ◌∙◌, sym, ap, refl, arith, ℕ, suc, zero, ◌*◌, ◌/◌, ◌%◌, ◌^◌, ◌-◌, ◌<◌, ◌≤◌, List, [], ◌∷◌, length, get_or, set, false, eqb, Option, None, bit_and, inl, inr, w64, rules}
 use Rattle.std.proofs.lemmas.Bool.{cases_eq}
 use Rattle.std.proofs.lemmas.List.{get_or-set_same, get_or-set_other, length-set}
 use Rattle.std.proofs.lemmas.Nat.Bits.{bit_at_clear_same, bit_at_clear_other}
@@ -40,13 +40,8 @@ shown-removed words bytes a l within =
     let in-bytes : i < length bytes = omega (arith, j, len-right) in
     let left = byte_at-shown (without_mark words a) (set bytes a 255) i
     (omega (arith, in-bytes, length-set bytes a 255)) in
-    elim (cases_eq i a) [
-      | inl same ↦ left ∙ rw same (rw (cleared-same words a within)
-          (sym (get_or-set_same (dense_image words bytes) a None None (omega (arith, l, length_shown words bytes)))))
-      | inr differ ↦ left ∙ rw (cleared-other words a i within differ, get_or-set_other bytes a i 255 0 differ)
-          (sym (byte_at-shown words bytes i in-bytes)
-          ∙ sym (get_or-set_other (dense_image words bytes) a i None None differ))
-    ])
+    search (rules, cases_eq, cleared-same, get_or-set_same, length_shown, cleared-other, get_or-set_other,
+        byte_at-shown))
 
 -- when a byte is taken away, FF is at addresses without a byte
 pub blank-removed : (words bytes : List ℕ) (a : ℕ) → a < length bytes → a / 64 < length words

@@ -1,5 +1,5 @@
 -- Digits, as the code reads and writes them.
-use Rattle.std.proofs.Common.{◌≡◌, ◌∙◌, sym, ap, ap₂, refl, arith, add-one, ℕ, suc, zero, ◌+◌, ◌*◌, ◌/◌, ◌%◌, ◌^◌, ◌<◌, ◌≤◌, List, [], ◌∷◌, length, get_or, set, drop, min, true, false, cond, eqb, nat_lt, ◌≢◌}
+use Rattle.std.proofs.Common.{◌≡◌, ◌∙◌, sym, ap, ap₂, refl, arith, add-one, ℕ, suc, zero, ◌+◌, ◌*◌, ◌/◌, ◌%◌, ◌^◌, ◌<◌, ◌≤◌, List, [], ◌∷◌, length, get_or, set, drop, min, true, false, cond, eqb, nat_lt, ◌≢◌, rules}
 use Rattle.std.proofs.lemmas.Bool.Decides.{nat_tests}
 use Rattle.std.proofs.lemmas.List.{drop_more, drop_all, drop-set}
 use Rattle.std.proofs.Math.Nat.{mul-le-mul_left, pow-suc}
@@ -41,9 +41,7 @@ pub written-step : (radix rest at next glyph : ℕ) (buffer : List ℕ) → at �
     (digits_onto (56 + next) radix false (rest / radix) (drop next (set buffer next glyph)))
 written-step radix rest at next glyph buffer step l here =
     let fuel : 56 + at ≡ suc (56 + next) = omega (arith, step) in
-    let grown : drop next (set buffer next glyph) ≡ digit_glyph false (rest % radix) ∷ drop at buffer =
-    drop-set buffer next glyph l ∙ ap₂ (λ (n k : ℕ). n ∷ drop k buffer) here (sym step) in
-    rw (fuel, grown) refl
+    search (rules, drop-set)
 
 pub digit_left : (radix rest at next : ℕ) → 2 ≤ radix → at ≡ next + 1 → rest < 2 ^ at → rest / radix < 2 ^ next
 digit_left radix rest at next low step l =

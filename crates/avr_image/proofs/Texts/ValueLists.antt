@@ -1,5 +1,5 @@
 -- A list of numbers, read as values, gives the numbers.
-use Rattle.std.proofs.Common.{◌≡◌, ◌∙◌, ap, refl, arith, ℕ, zero, suc, ◌+◌, ◌<◌, ◌≤◌, List, [], ◌∷◌, ◌++◌, length, map, filter, eqb, Bool, true, false, ◌&&◌, not, nat_lt, Option, Some, None, Ok, Err, inl, inr, get_or}
+use Rattle.std.proofs.Common.{◌≡◌, ◌∙◌, ap, refl, arith, ℕ, zero, suc, ◌+◌, ◌<◌, ◌≤◌, List, [], ◌∷◌, ◌++◌, length, map, filter, eqb, Bool, true, false, ◌&&◌, not, nat_lt, Option, Some, None, Ok, Err, inl, inr, get_or, rules}
 use Rattle.std.specs.List.{enumerate_from, slice_split, onto_first, list_all}
 use Rattle.std.specs.Fmt.{digits}
 use Rattle.std.proofs.lemmas.Bool.{cases_eq}
@@ -117,8 +117,7 @@ none-empty base (b ∷ bytes) all =
 pieces-line : (base : Base) (b : ℕ) (bytes : List ℕ) → b < 256 → AreBytes bytes
     → pieces (list_line base (b ∷ bytes)) ≡ map (number_text base) (b ∷ bytes)
 pieces-line base b bytes l all =
-    ap (filter (λ piece. nat_lt 0 (length piece))) (split-line base b bytes l all)
-    ∙ none-empty base (b ∷ bytes) (l, all)
+    search (rules, split-line, none-empty)
 
 -- ---- their values
 

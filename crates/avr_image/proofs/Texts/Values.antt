@@ -1,5 +1,5 @@
 -- Values laid down one after another are the values of the text.
-use Rattle.std.proofs.Common.{◌≡◌, ◌∙◌, sym, ap, refl, arith, ℕ, suc, zero, ◌+◌, ◌<◌, ◌≤◌, List, [], ◌∷◌, ◌++◌, length, map, filter, take, drop, replicate, eqb, Bool, false, cond, nat_lt, Option, Some, None, Result, Ok, Err, inl, inr}
+use Rattle.std.proofs.Common.{◌≡◌, ◌∙◌, sym, ap, refl, arith, ℕ, suc, zero, ◌+◌, ◌<◌, ◌≤◌, List, [], ◌∷◌, ◌++◌, length, map, filter, take, drop, replicate, eqb, Bool, false, cond, nat_lt, Option, Some, None, Result, Ok, Err, inl, inr, rules}
 use Rattle.std.proofs.lemmas.List.{length-append, append_assoc, append-nil, length-take}
 use Rattle.std.proofs.lemmas.Bool.{cases_Bool}
 use Rattle.std.proofs.lemmas.List.Sums.{prefix_len-le-length}
@@ -54,10 +54,7 @@ with_next : (bytes : List ℕ) (size addr : ℕ) (parts : List (List ℕ)) (rest
 with_next bytes size addr parts rest (Err fault) below here more = refl
 with_next bytes size addr parts rest (Ok byte) below here more =
     let low : addr < size = below byte refl in
-    ap (λ (n : ℕ). with_pieces (with_byte (from_zero bytes size) n byte) (addr + 1) parts) here
-    ∙ ap (λ (image : List (Option ℕ)). with_pieces image (addr + 1) parts)
-    (from_zero-next bytes byte size (omega (arith, low, here)))
-    ∙ more byte low ∙ ap (image_of_bytes size) (before-onto bytes byte rest)
+    search (rules, from_zero-next, before-onto)
 
 pub with_pieces_is : (bytes : List ℕ) (size addr : ℕ) (parts : List (List ℕ)) → addr ≡ length bytes
     → length bytes ≤ size
@@ -85,8 +82,7 @@ values_of_some size (piece ∷ parts) one some =
     ≡ with_pieces (empty size) 0 (piece ∷ parts) =
     ap (image_of_bytes size) (sym (before-none _)) ∙ sym (with_pieces_is [] size 0 (piece ∷ parts) refl (omega arith))
     ∙ ap (λ (image : List (Option ℕ)). with_pieces image 0 (piece ∷ parts)) none in
-    ap (λ (b : Bool). cond b one (image_of_bytes size
-    (all_ok (map (fitting_value size) (enumerate_from 0 (piece ∷ parts)))))) more ∙ whole
+    search rules
 
 pub values_are : (text : List ℕ) (size : ℕ) → 0 < length (pieces text)
     → values text size ≡ with_pieces (empty size) 0 (pieces text)

@@ -1,6 +1,6 @@
 -- The walks over an image return what their definitions give, place by place.
 use Rattle.std.proofs.lemmas.Bool.Decides.{nat_tests}
-use Rattle.std.proofs.Common.{◌≡◌, ◌∙◌, sym, ap, refl, arith, ℕ, suc, zero, ◌+◌, ◌-◌, ◌<◌, ◌≤◌, List, [], ◌∷◌, length, get_or, take, drop, Bool, true, false, Option, Some, None, is_some, inl, inr}
+use Rattle.std.proofs.Common.{◌≡◌, ◌∙◌, sym, ap, refl, arith, ℕ, suc, zero, ◌+◌, ◌-◌, ◌<◌, ◌≤◌, List, [], ◌∷◌, length, get_or, take, drop, Bool, true, false, Option, Some, None, is_some, inl, inr, rules}
 use Rattle.std.proofs.lemmas.Bool.{cases_Bool, cases_lt}
 use Rattle.std.proofs.lemmas.List.{length-drop, length-take, get_or-drop, get_or-take}
 use Rattle.std.proofs.lemmas.List.Sums.{prefix_len-le-length, prefix_len_passes, prefix_len_stops}
@@ -21,15 +21,7 @@ record Found {X : Type 0} (p : X → Bool) (xs : List X) (d : X) (place : ℕ) :
 
 found_later : {X : Type 0} (p : X → Bool) (x : X) (xs : List X) (d : X) (place : ℕ) → p x ≡ false → Found p xs d place
     → Found p (x ∷ xs) d (suc place)
-found_later p x xs d place first found = record {
-  within = omega (arith, found.within);
-  here = found.here;
-  before = later;
-}
-  where
-    later : (k : ℕ) → k < suc place → p (get_or (x ∷ xs) k d) ≡ false
-    later zero l = first
-    later (suc k) l = found.before k (omega (arith, l))
+found_later p x xs d place first found = search rules
 
 found_at : {X : Type 0} (p : X → Bool) (xs : List X) (d : X) (i n : ℕ) → position_from p i xs ≡ Some n
     → (place : ℕ) × (n ≡ i + place) × Found p xs d place
@@ -37,16 +29,7 @@ found_at p [] d i n e = cc
 found_at p (x ∷ xs) d i n e = elim (cases_Bool (p x)) [
   | inl passes ↦
       let same : Some i ≡ Some n = rw passes at e in
-      let here : i ≡ n = cc in (
-        0,
-        omega (arith, here),
-        record {
-          within = omega arith;
-          here = passes;
-          before =
-              λ k l. absurd (omega (arith, l));
-        },
-      )
+      let here : i ≡ n = cc in (search rules)
   | inr fails ↦
       let rest : position_from p (i + 1) xs ≡ Some n = rw fails at e in
       let found = found_at p xs d (i + 1) n rest in
@@ -72,13 +55,10 @@ next_held image addr place e =
     record {
       after = omega (arith, found.1);
       within = omega (arith, found.1, found.2.within, left);
-      held = ap (λ (k : ℕ). is_some (byte_at image k)) found.1 ∙ sym (ap is_some (get_or-drop addr image found.0 None))
-          ∙ found.2.here;
+      held = search (rules, get_or-drop);
       gap = λ k a l.
           let there : addr + (k - addr) ≡ k = omega (arith, a) in
-          none_is (byte_at image k) (sym (ap is_some
-          (get_or-drop addr image (k - addr) None ∙ ap (byte_at image) there))
-          ∙ found.2.before (k - addr) (omega (arith, found.1, l, a)));
+          none_is (byte_at image k) (search (rules, get_or-drop));
     }
 
 pub none_held : (image : List (Option ℕ)) (addr : ℕ) → first_from image addr ≡ None → (k : ℕ) → addr ≤ k
@@ -86,8 +66,7 @@ pub none_held : (image : List (Option ℕ)) (addr : ℕ) → first_from image ad
 none_held image addr e k a = elim (cases_lt k (length image)) [
   | inl inside ↦
       let there : addr + (k - addr) ≡ k = omega (arith, a) in
-      none_is (byte_at image k) (sym (ap is_some (get_or-drop addr image (k - addr) None ∙ ap (byte_at image) there))
-      ∙ none_found is_some (drop addr image) None addr e (k - addr) (omega (arith, length-drop addr image, inside, a)))
+      none_is (byte_at image k) (search (rules, get_or-drop, none_found, length-drop))
   | inr past ↦ byte_at-past image k past
 ]
 
@@ -105,14 +84,8 @@ run_ends image addr end room =
       bound = omega (arith, fits, row_len, room);
       held = λ k a l.
           let there : addr + (k - addr) ≡ k = omega (arith, a) in
-          sym (ap is_some (at (k - addr) (omega (arith, l, a, fits, row_len)) ∙ ap (byte_at image) there))
-          ∙ prefix_len_passes is_some row (k - addr) None (omega (arith, l, a));
-      stop = λ l. elim (cases_lt (addr + len) (length image)) [
-        | inl inside ↦
-            none_is (byte_at image (addr + len)) (sym (ap is_some (at len (omega (arith, l))))
-            ∙ prefix_len_stops is_some row None (omega (arith, row_len, left, inside, l)))
-        | inr past ↦ byte_at-past image (addr + len) past
-      ];
+          search (rules, prefix_len_passes);
+      stop = search (rules, cases_lt, none_is, prefix_len_stops, byte_at-past);
     }
 
 pub is_filled : (image : List (Option ℕ)) (start n : ℕ) → IsFilled image start n (filled_bytes image start n)

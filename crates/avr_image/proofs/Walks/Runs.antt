@@ -2,7 +2,7 @@
 use Rattle.std.specs.List.{position_from, prefix_len, flat_map, slice_range}
 use Rattle.std.proofs.lemmas.Bool.{cases_lt, true≢false}
 use Rattle.std.proofs.lemmas.List.{take_all, append_assoc, drop-drop, get_or-drop, length-drop, length-append, set_at}
-use Rattle.std.proofs.Common.{◌≡◌, ◌∙◌, sym, ap, ap₂, refl, arith, ℕ, zero, suc, ◌+◌, ◌-◌, ◌<◌, ◌≤◌, ◌==◌, Bool, true, false, cond, not, List, [], ◌∷◌, ◌++◌, length, take, drop, fold, min, Option, Some, None, is_some, inl, inr, add-zero, get_or, All, ◌⊎◌}
+use Rattle.std.proofs.Common.{◌≡◌, ◌∙◌, sym, ap, ap₂, refl, arith, ℕ, zero, suc, ◌+◌, ◌-◌, ◌<◌, ◌≤◌, ◌==◌, Bool, true, false, cond, not, List, [], ◌∷◌, ◌++◌, length, take, drop, fold, min, Option, Some, None, is_some, inl, inr, add-zero, get_or, All, ◌⊎◌, rules}
 use Rattle.std.proofs.lemmas.List.Recursion.{is_count_by}
 use Rattle.std.proofs.lemmas.Bool.Decides.{nat_tests}
 use Rattle.avr_image.specs.Image.{empty, byte_at, with_byte, first_from, run_end, filled_bytes, or_blank, image_of_pairs, laid_over, over, byte_count}
@@ -49,8 +49,7 @@ runs-lead addr b (Some c ∷ image) = grind (arith, nat_tests, runs-lead (addr +
 pub runs-first : (image : List (Option ℕ)) (addr : ℕ) → 0 < length (lead image)
     → runs addr image ≡ (addr, lead image) ∷ runs (addr + length (lead image)) (drop (length (lead image)) image)
 runs-first (Some b ∷ image) addr some =
-    let next : addr + 1 + length (lead image) ≡ addr + suc (length (lead image)) = omega arith in
-    runs-lead addr b image ∙ ap (λ (n : ℕ). (addr, b ∷ lead image) ∷ runs n (after image)) next
+    search (rules, runs-lead)
 runs-first x addr some = absurd (omega (arith, some))
 
 -- ---- as the walk finds them
@@ -72,11 +71,7 @@ walk-next addr place [] is = absurd (cc is)
 walk-next addr place (None ∷ image) is =
     let more = walk-next (addr + 1) place image is in
     let one : place - addr ≡ suc (place - (addr + 1)) = omega (arith, more.from) in
-    record {
-      from = omega (arith, more.from);
-      same = more.same ∙ ap (λ (n : ℕ). runs place (drop n (None ∷ image))) (sym one);
-      some = rw one more.some;
-    }
+    search rules
 walk-next addr place (Some b ∷ image) is = grind (arith, nat_tests)
 
 -- in the whole image
@@ -112,9 +107,8 @@ filled-lead image (Some b ∷ xs) (suc n) place is l =
     let here : byte_at image place ≡ Some b =
     ap (byte_at image) (sym (add-zero place)) ∙ sym (get_or-drop place image 0 None)
     ∙ ap (λ (zs : List (Option ℕ)). byte_at zs 0) is in
-    ap (λ (byte : Option ℕ). or_blank byte ∷ filled_bytes image (place + 1) n) here
-    ∙ ap (λ (more : List ℕ). b ∷ more) (filled-lead image xs n (place + 1) (drop-next image xs place (Some b) is)
-    (omega (arith, l)))
+    search (rules, drop-next, filled-lead image xs n (place + 1) (drop-next image xs place (Some b) is) (omega (arith,
+        l)))
 filled-lead image x (suc n) place is l = absurd (omega (arith, l))
 
 prefix-lead : (k : ℕ) (image : List (Option ℕ)) → prefix_len is_some (take k image) ≡ min k (length (lead image))
@@ -153,8 +147,7 @@ laid-held prefix (None ∷ image) addr at =
 laid-held prefix (Some b ∷ image) addr at =
     let next : length (prefix ++ Some b ∷ []) ≡ addr + 1 = length-append prefix (Some b ∷ []) ∙ omega (arith, at) in
     ap (λ (whole : List (Option ℕ)). fold put whole (held_places (addr + 1) image))
-    (set_at prefix None (empty (length image)) (Some b) addr at
-    ∙ sym (append_assoc prefix (Some b ∷ []) (empty (length image))))
+    (search (rules, set_at, append_assoc))
     ∙ laid-held (prefix ++ Some b ∷ []) image (addr + 1) next
     ∙ append_assoc prefix (Some b ∷ []) image
 
@@ -215,9 +208,7 @@ next_run addr place end image found is =
     let rises : place < end = omega (arith, ends, some) in
     let within : end ≤ length image = omega (arith, ends, short, left, some) in
     let bytes_are : lead (drop place image) ≡ slice_range (filled_bytes image 0 (length image)) place end =
-    sym (range-filled image place end (omega (arith, rises)) within
-    ∙ filled-lead image (drop place image) (end - place) place refl (omega (arith, ends))
-    ∙ take_all (end - place) (lead (drop place image)) (omega (arith, ends))) in
+    search (rules, range-filled, filled-lead, take_all) in
     let behind : after (drop place image) ≡ drop end image =
     drop-drop run place image ∙ ap (λ (k : ℕ). drop k image) ends in
     record {
@@ -255,10 +246,7 @@ runs-inside image = each (runs 0 image) (runs-end (length image) 0 image (omega 
 pub runs-over : (image other : List (Option ℕ)) → length other ≡ length image
     → laid_over image (flat_map places_of (runs 0 other)) ≡ over image other
 runs-over image other same =
-    ap (laid_over image) (runs-hold 0 other)
-    ∙ laid_over_laid image (held_places 0 other)
-    ∙ ap (λ (n : ℕ). over image (image_of_pairs n (held_places 0 other))) (sym same)
-    ∙ ap (over image) (laid-image other)
+    search (rules, runs-hold, laid_over_laid, laid-image)
 
 -- ---- no byte at all
 
@@ -296,38 +284,7 @@ longest_run : (addr place end : ℕ) (image : List (Option ℕ)) → (addr ≡ 0
     → IsLongestRun image (place, slice_range (filled_bytes image 0 (length image)) place end)
 longest_run addr place end image gap found is =
     let next = next_held image addr place found in
-    let stepped = next_run addr place end image found is in
-    let run : IsByteRun image place (length image) end =
-    rw is (run_ends image place (length image) (omega (arith, next.within))) in
-    let cut = range-filled image place end (omega (arith, stepped.rises)) stepped.within in
-    let bytes = is_filled image place (end - place) in
-    let size : length (slice_range (filled_bytes image 0 (length image)) place end) ≡ end - place =
-    ap length cut ∙ bytes.size in
-    record {
-      some = omega (arith, size, stepped.rises);
-      bytes = λ i l.
-          gives_byte (byte_at image (place + i)) (run.held (place + i) (omega arith) (omega (arith, l, size)))
-          ∙ ap (λ (b : ℕ). Some b) (sym (ap (λ (xs : List ℕ). get_or xs i 0) cut
-          ∙ bytes.byte i (omega (arith, l, size))));
-      before = λ k at. elim (cases_lt k addr) [
-        | inl low ↦ elim gap [
-          | inl zero_is ↦ absurd (omega (arith, low, zero_is))
-          | inr none ↦
-              let here : place ≡ addr = omega (arith, next.after, low, at) in
-              let held : is_some (byte_at image place) ≡ true = next.held in
-              let bad : is_some (byte_at image addr) ≡ true = rw here at held in
-              absurd (true≢false (sym bad ∙ ap is_some none))
-        ]
-        | inr from ↦ next.gap k from (omega (arith, at))
-      ];
-      behind =
-          let there : place + length (slice_range (filled_bytes image 0 (length image)) place end) ≡ end =
-          omega (arith, size, stepped.rises) in
-          rw there (elim (cases_lt end (length image)) [
-            | inl inside ↦ run.stop inside
-            | inr past ↦ byte_at-past image end past
-          ]);
-    }
+    search (rules, next_run, run_ends, range-filled, is_filled, gives_byte, cases_lt, byte_at-past)
 
 none-behind : (addr place end : ℕ) (image : List (Option ℕ))
     → IsLongestRun image (place, slice_range (filled_bytes image 0 (length image)) place end)
@@ -353,9 +310,8 @@ longest-from (suc n) addr image room gap (Some place) found =
     let run : List ℕ = slice_range (filled_bytes image 0 (length image)) place end in
     let longest = longest_run addr place end image gap found refl in
     let none = none-behind addr place end image longest stepped.rises stepped.within in
-    rw stepped.is
-    (all-cons (IsLongestRun image) (place, run) (runs end (drop end image)) longest
-    (longest-from n end image (omega (arith, room, next.after, stepped.rises)) (inr none) (first_from image end) refl))
+    search (rules, all-cons, longest-from n end image (omega (arith, room, next.after, stepped.rises)) (inr none)
+        (first_from image end) refl)
 
 pub runs-longest : (image : List (Option ℕ)) → All (IsLongestRun image) (runs 0 image)
 runs-longest image = longest-from (length image) 0 image (omega arith) (inl refl) (first_from image 0) refl
