@@ -97,8 +97,16 @@ shown-marked words bytes a b l within =
     same_items _ _ (len-left ∙ sym len-right) (λ i j.
     let in-bytes : i < length bytes = omega (arith, j, len-right) in
     let left = byte_at-shown (with_mark words a) (set bytes a b) i (omega (arith, in-bytes, length-set bytes a b)) in
-    search (rules, cases_eq, present-same, get_or-set_same, length_shown, present-other, get_or-set_other,
-        byte_at-shown))
+    search (
+      rules,
+      cases_eq,
+      present-same,
+      get_or-set_same,
+      length_shown,
+      present-other,
+      get_or-set_other,
+      byte_at-shown,
+    ))
 
 pub sized : (words bytes : List ℕ) {image : List (Option ℕ)} → dense_image words bytes ≡ image
     → length image ≡ length bytes
@@ -134,8 +142,17 @@ blank-marked words bytes a b l within blank i j none =
 pub kept_byte : (words bytes : List ℕ) {image : List (Option ℕ)} (a : ℕ) → dense_image words bytes ≡ image
     → ((i : ℕ) → i < length bytes → is_present words i ≡ false → get_or bytes i 0 ≡ 255)
     → get_or bytes a 255 ≡ or_blank (byte_at image a)
-kept_byte words bytes {image} a seen blank = search (rules, cases_lt, byte_at-shown, cases_Bool, same_default, past,
-    get_or-eq_default, byte_at-past, length_shown)
+kept_byte words bytes {image} a seen blank = search (
+  rules,
+  cases_lt,
+  byte_at-shown,
+  cases_Bool,
+  same_default,
+  past,
+  get_or-eq_default,
+  byte_at-past,
+  length_shown,
+)
 
 -- the presence of a byte is its bit
 pub presence : (words bytes : List ℕ) {image : List (Option ℕ)} (a : ℕ) → dense_image words bytes ≡ image

@@ -40,8 +40,16 @@ shown-removed words bytes a l within =
     let in-bytes : i < length bytes = omega (arith, j, len-right) in
     let left = byte_at-shown (without_mark words a) (set bytes a 255) i
     (omega (arith, in-bytes, length-set bytes a 255)) in
-    search (rules, cases_eq, cleared-same, get_or-set_same, length_shown, cleared-other, get_or-set_other,
-        byte_at-shown))
+    search (
+      rules,
+      cases_eq,
+      cleared-same,
+      get_or-set_same,
+      length_shown,
+      cleared-other,
+      get_or-set_other,
+      byte_at-shown,
+    ))
 
 -- when a byte is taken away, FF is at addresses without a byte
 pub blank-removed : (words bytes : List ℕ) (a : ℕ) → a < length bytes → a / 64 < length words

@@ -107,8 +107,14 @@ filled-lead image (Some b ∷ xs) (suc n) place is l =
     let here : byte_at image place ≡ Some b =
     ap (byte_at image) (sym (add-zero place)) ∙ sym (get_or-drop place image 0 None)
     ∙ ap (λ (zs : List (Option ℕ)). byte_at zs 0) is in
-    search (rules, drop-next, filled-lead image xs n (place + 1) (drop-next image xs place (Some b) is) (omega (arith,
-        l)))
+    search (
+      rules,
+      drop-next,
+      filled-lead image xs n (place + 1) (drop-next image xs place (Some b) is) (omega (
+        arith,
+        l,
+      )),
+    )
 filled-lead image x (suc n) place is l = absurd (omega (arith, l))
 
 prefix-lead : (k : ℕ) (image : List (Option ℕ)) → prefix_len is_some (take k image) ≡ min k (length (lead image))
@@ -310,8 +316,12 @@ longest-from (suc n) addr image room gap (Some place) found =
     let run : List ℕ = slice_range (filled_bytes image 0 (length image)) place end in
     let longest = longest_run addr place end image gap found refl in
     let none = none-behind addr place end image longest stepped.rises stepped.within in
-    search (rules, all-cons, longest-from n end image (omega (arith, room, next.after, stepped.rises)) (inr none)
-        (first_from image end) refl)
+    search (
+      rules,
+      all-cons,
+      longest-from n end image (omega (arith, room, next.after, stepped.rises)) (inr none)
+          (first_from image end) refl,
+    )
 
 pub runs-longest : (image : List (Option ℕ)) → All (IsLongestRun image) (runs 0 image)
 runs-longest image = longest-from (length image) 0 image (omega arith) (inl refl) (first_from image 0) refl

@@ -37,16 +37,25 @@ module _ (part : Part) (sound : IsPart part) (m : Memories) (f : FitsPart part m
       let few : n * 256 < 4294967296 = omega (arith, e) in
       let even : n * 256 % 2 ≡ 0 = omega arith in
       let next : (n + 1) * 256 ≡ n * 256 + 256 = omega arith in
-      search (rules, flash_address_back, block_join, flash_blocks (n + 1) k (let g : n + 1 + k ≡ n + suc k = omega
-          arith in g ∙ e) ∙ ap (λ j. drop j m.flash) next)
+      search (
+        rules,
+        flash_address_back,
+        block_join,
+        flash_blocks (n + 1) k (let g : n + 1 + k ≡ n + suc k = omega
+            arith in g ∙ e) ∙ ap (λ j. drop j m.flash) next,
+      )
 
   eeprom_blocks : (n k : ℕ) → n + k ≡ read_count part Eeprom
       → all_given part (each_from (read_step part Eeprom) n k) m ≡ drop (n * 256) m.eeprom
   eeprom_blocks n zero e = let long = f.eeprom in sym (drop_all (n * 256) m.eeprom (omega (arith, e, long)))
   eeprom_blocks n (suc k) e =
       let next : (n + 1) * 256 ≡ n * 256 + 256 = omega arith in
-      search (rules, block_join, eeprom_blocks (n + 1) k (let g : n + 1 + k ≡ n + suc k = omega arith in g ∙ e) ∙ ap (λ
-          j. drop j m.eeprom) next)
+      search (
+        rules,
+        block_join,
+        eeprom_blocks (n + 1) k (let g : n + 1 + k ≡ n + suc k = omega arith in g ∙ e) ∙ ap (λ
+            j. drop j m.eeprom) next,
+      )
 
   -- all blocks of a memory are the memory
   pub read_gives : (mem : Mem) → all_given part (read_steps part mem) m ≡ memory_in part mem m

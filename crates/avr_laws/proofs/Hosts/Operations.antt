@@ -63,8 +63,16 @@ module _ (part : Part) (sound : IsPart part) where
       (on_data (any_turn device) (λ bytes q. Reached part (commands ∷ steps) m q)
       (λ bytes. play steps (before ++ bytes))
       (λ bytes q x.
-      search (rules, wider, one_more, stepped, gives_given, changed_sizes, play_goes steps (changed part commands m)
-          (before ++ bytes) q are.1 (changed_sizes part commands m sound f) x.0)))
+      search (
+        rules,
+        wider,
+        one_more,
+        stepped,
+        gives_given,
+        changed_sizes,
+        play_goes steps (changed part commands m)
+            (before ++ bytes) q are.1 (changed_sizes part commands m sound f) x.0,
+      )))
 
   -- after an operation: its data, judged; or the fault of a step
   abbrev pub AfterCall : {A : Type 0} → List (List Command) → Memories → (List ℕ → Result A HostFault)

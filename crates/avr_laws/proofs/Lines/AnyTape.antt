@@ -213,8 +213,12 @@ module _ {P : Type 0} (m : Device P) where
         (filter is_good pieces) good))
     | inr bad ↦
         ap (after_frames m pieces) (cond-false (is_good piece) _ _ bad)
-        ∙ (search (rules, cond-false, good_alone pieces p ∙ ap (λ ps. after_frames m ps p) (sym (cond-false (is_good
-            piece) (piece ∷ filter is_good pieces) (filter is_good pieces) bad))))
+        ∙ (search (
+          rules,
+          cond-false,
+          good_alone pieces p ∙ ap (λ ps. after_frames m ps p) (sym (cond-false (is_good
+              piece) (piece ∷ filter is_good pieces) (filter is_good pieces) bad)),
+        ))
   ]
 
   let_through_after : (through : List Bool) (sent : List (List ℕ)) (p : P)

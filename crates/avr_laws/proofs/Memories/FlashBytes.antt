@@ -88,11 +88,26 @@ module _ (part : Part) (addr : ℕ) where
       → IsMade xs addr (byte m) (byte (effects part xs m))
   made [] m l = record { first = byte m; bytes = []; first_is = inl refl; are_there = tt; is = refl }
   made (Erase ∷ xs) m l =
-      search (rules, erased, get_or-replicate, length-replicate, made xs (effect part Erase m) (omega (arith, l,
-          length-replicate {A = ℕ} (length m.flash) 255)))
+      search (
+        rules,
+        erased,
+        get_or-replicate,
+        length-replicate,
+        made xs (effect part Erase m) (omega (
+          arith,
+          l,
+          length-replicate {A = ℕ} (length m.flash) 255,
+        )),
+      )
   made (Write Flash image ∷ xs) m l =
-      search (rules, joined, writes, still_inside, made xs (effect part (Write Flash image) m) (still_inside image
-          m.flash addr (are_locked m) l))
+      search (
+        rules,
+        joined,
+        writes,
+        still_inside,
+        made xs (effect part (Write Flash image) m) (still_inside image
+            m.flash addr (are_locked m) l),
+      )
   made (Write mem image ∷ xs) m l =
       search (rules, later, made xs (effect part (Write mem image) m) l)
 

@@ -138,9 +138,14 @@ module _ (part : Part) (sound : IsPart part) (image : Image) where
       → effects part (page_writes_of (each_from (page_steps part image) n k)) m ≡ m
   pages_locked n zero m lock most = refl
   pages_locked n (suc k) m lock most =
-      search (rules, mul-le-mul_right, page_locked, pages_locked (n + 1) k m lock (let e : (n + 1 + k) *
-          part.flash_page ≡ (n + suc k) * part.flash_page = ap (λ j. j * part.flash_page) (omega arith) in omega
-          (arith, e, most)))
+      search (
+        rules,
+        mul-le-mul_right,
+        page_locked,
+        pages_locked (n + 1) k m lock (let e : (n + 1 + k) *
+            part.flash_page ≡ (n + suc k) * part.flash_page = ap (λ j. j * part.flash_page) (omega arith) in omega
+            (arith, e, most)),
+      )
 
   -- the pages of an image do what its write does
   pub pages_effect : (m : Memories) → length m.flash ≡ part.flash_size → AllBelow m.flash

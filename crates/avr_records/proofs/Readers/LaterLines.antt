@@ -91,8 +91,16 @@ pub slice_split-append : (p : ℕ → Bool) (xs ys : List ℕ)
 slice_split-append p [] ys = let some = parts-some p ys in sym (pasted-nil (slice_split p ys) some.0 some.1 some.2)
 slice_split-append p (x ∷ xs) ys =
     let some = parts-some p xs in
-    search (rules, cases_Bool, slice_split-cons_yes, nil-pasted, slice_split-cons_no, onto-pasted, slice_split-append p
-        xs ys)
+    search (
+      rules,
+      cases_Bool,
+      slice_split-cons_yes,
+      nil-pasted,
+      slice_split-cons_no,
+      onto-pasted,
+      slice_split-append p
+          xs ys,
+    )
 
 pub pasted-last : (prefix : List (List ℕ)) (last first : List ℕ) (more : List (List ℕ))
     → pasted (prefix ++ last ∷ []) (first ∷ more) ≡ prefix ++ (last ++ first) ∷ more

@@ -264,7 +264,7 @@ broke_raised : {A : Type 0} (by : Broken) {dialog : Dialog ⊥ A} {m : Progress}
 broke_raised Send {dialog = dialog} {m = m} f some =
     let g = by_lifted OutputEvent Send dialog m f.during f.shown f.breaks in
     broke_silent f.during (raised f.shown) OfSending (outputs_raised f.shown) some f.grows
-        (search rules) g.all_sent g.in_turn tt (λ is. absurd (cc))
+    (search rules) g.all_sent g.in_turn tt (λ is. absurd (cc))
 broke_raised Recv {dialog = dialog} {m = m} f some =
     let g = by_lifted OutputEvent Recv dialog m f.during f.shown f.breaks in
     let none = sym (append-nil (raised f.shown)) in
@@ -370,7 +370,7 @@ module _ {R : Type 0} (xs : List OutputEvent) (dialog : Dialog OutputEvent R) (m
       (subst (Placed f.cause (map Said shown)) (sym (says_events xs dialog m.next m.unread))
       (placed_more (played_over dialog m []).events (λ listens. absurd (desk_says f.cause prefix.by_desk listens))
       (search (rules, map_append)))) (no_bytes shown) tt (desk_listens f.cause (played_over (says xs dialog) m
-          []).outcome prefix.by_desk)
+      []).outcome prefix.by_desk)
       (subst (λ said. StopsBehind terms (devices o d) (devices o e) said f.cause f.told)
       (sym (outputs_said shown)) (why f.between f.cause f.prefix f.told f.stops))
       (search (rules, kept_on, outputs_said)) (λ is. absurd (subst IsOfDesk is prefix.by_desk))

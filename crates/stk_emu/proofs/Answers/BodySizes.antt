@@ -39,8 +39,11 @@ flash_length : (wide : Bool) (cmd address i n : ℕ) (chip : ChipState)
     → length (flash_looks wide cmd address i n chip).0 ≡ n
 flash_length wide cmd address i zero chip = refl
 flash_length wide cmd address i (suc n) chip =
-    search (rules, flash_length wide cmd address (suc i) n (spi_of (at_address (for_half cmd i) (word_at address i) 0)
-        (sent_to (extension wide (word_at address i)) chip)).1)
+    search (
+      rules,
+      flash_length wide cmd address (suc i) n (spi_of (at_address (for_half cmd i) (word_at address i) 0)
+          (sent_to (extension wide (word_at address i)) chip)).1,
+    )
 
 eeprom_length : (cmd address i n : ℕ) (chip : ChipState) → length (eeprom_looks cmd address i n chip).0 ≡ n
 eeprom_length cmd address i zero chip = refl

@@ -105,8 +105,14 @@ pub put_is : {A : Type 0} (f : ℕ → A) (e : A) (ds : List ℕ) (prefix : List
 put_is f e [] prefix place k at = ap (λ n. prefix ++ replicate n e) (omega arith)
 put_is f e (d ∷ ds) prefix place k at =
     let count : suc (length ds) + k ≡ suc (length ds + k) = omega arith in
-    search (rules, set_at, append_assoc, at_end, put_is f e ds (prefix ++ f d ∷ []) (suc place) k (at_end prefix (f d)
-        place at) ∙ append_assoc prefix (f d ∷ []) (map f ds ++ replicate k e))
+    search (
+      rules,
+      set_at,
+      append_assoc,
+      at_end,
+      put_is f e ds (prefix ++ f d ∷ []) (suc place) k (at_end prefix (f d)
+          place at) ∙ append_assoc prefix (f d ∷ []) (map f ds ++ replicate k e),
+    )
 
 -- the bytes loaded for a run within a page, laid over a memory
 pub run_laid : (start off : ℕ) (run : List ℕ) (page : ℕ) (xs : List ℕ) → off + length run ≤ page

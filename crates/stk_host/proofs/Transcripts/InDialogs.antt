@@ -79,8 +79,12 @@ module _ {E F A B : Type 0} (dialog : Dialog E A) (inner : Dialog F B) (m n : �
   turns_lift x bytes [] f = tt
   turns_lift x bytes (Sent more ∷ transcript) f =
       rw (append_assoc before bytes more) (turns_lift x (bytes ++ more) transcript f)
-  turns_lift x bytes (Got items ∷ transcript) f = search (rules, append_assoc, turns_lift (x ++ items) bytes transcript
-      (rw (append_assoc inner_tape x items) at f.1))
+  turns_lift x bytes (Got items ∷ transcript) f = search (
+    rules,
+    append_assoc,
+    turns_lift (x ++ items) bytes transcript
+        (rw (append_assoc inner_tape x items) at f.1),
+  )
 
   -- the same from the start
   pub turns_behind : (transcript : Transcript) → TurnsFrom inner n inner_tape [] transcript

@@ -23,11 +23,23 @@ log_more [] [] [] more_out more_back m o b = refl
 log_more [] (x ∷ out) back more_out more_back m o b = absurd (omega arith)
 log_more [] [] (x ∷ back) more_out more_back m o b = absurd (omega arith)
 log_more (mark.Sent n ∷ marks) out back more_out more_back m o b =
-    search (rules, take-append-le, drop_prefix, length-drop, log_more marks (drop n out) back more_out more_back m (rw
-        length-drop (omega arith)) b)
+    search (
+      rules,
+      take-append-le,
+      drop_prefix,
+      length-drop,
+      log_more marks (drop n out) back more_out more_back m (rw
+          length-drop (omega arith)) b,
+    )
 log_more (mark.Got n ∷ marks) out back more_out more_back m o b =
-    search (rules, take-append-le, drop_prefix, length-drop, log_more marks out (drop n back) more_out more_back m o
-        (rw length-drop (omega arith)))
+    search (
+      rules,
+      take-append-le,
+      drop_prefix,
+      length-drop,
+      log_more marks out (drop n back) more_out more_back m o
+          (rw length-drop (omega arith)),
+    )
 log_more (mark.Silence ∷ marks) out back more_out more_back m o b =
     ap (λ t. Got (item.Silence ∷ []) ∷ t) (log_more marks out back more_out more_back m o b)
 log_more (mark.End ∷ marks) out back more_out more_back m o b =
