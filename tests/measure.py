@@ -4,7 +4,7 @@
     tests/measure.py            the table, which docs/ARCHITECTURE has too
     tests/measure.py -v         also the places: lines over 120 columns, the widest definitions, names with several meanings
     tests/measure.py --write    puts it into docs/ARCHITECTURE
-    tests/measure.py --check    whether it stands there, and whether README's sentences are short
+    tests/measure.py --check    whether it is there, and whether no document has a sentence over 30 words
     tests/measure.py --words    counts words that the style rules of CONTRIBUTING avoid, and long sentences of documents
 
 Only files that git knows of are read. Lines of code are those of src/ without tests, blank lines, comments and contracts;
@@ -99,7 +99,7 @@ def definitions_in(name):
 
 
 def without_nested(text):
-    """A type without what stands in parentheses and braces, but a mark for each explicit binder."""
+    """A type without the text in parentheses and braces, but a mark for each explicit binder."""
     kept, level, group = "", 0, ""
     for character in text:
         if character in "({":
@@ -259,7 +259,7 @@ def main():
         return
     if "--check" in sys.argv:
         wrong = [f"{PAGE.name} has other figures: tests/measure.py --write"] if with_figures(page) != page else []
-        wrong += [f"README.md has a sentence over {LONG} words: {it}" for it in long_sentences("README.md")]
+        wrong += [f"{name} has a sentence over {LONG} words: {it}" for name in documents() for it in long_sentences(name)]
         print("\n".join([*wrong, f"{int(not wrong)} passed, {len(wrong)} failed"]))
         sys.exit(int(bool(wrong)))
     if "--write" in sys.argv:

@@ -1,4 +1,4 @@
--- A session and a server at the two ends of an ordered line.
+-- A session and a server at the two ends of an ordered link.
 pub mod Slots
 pub mod InOrder
 pub mod Misses

@@ -59,7 +59,7 @@ passed None f told = refl
 passed (Some name) f told = ⊎_elim (λ e. rw e refl) (λ e. let wrong : false ≡ true = rw e at told in cc)
     (cases_Bool (bytes_eq name (codes "stk500v2")))
 
--- a fault of the port is reported as it is, where what follows keeps a text
+-- a fault of the port is reported unchanged, if what follows keeps a text
 from_port : {A : Type 0} (want : Result Port SettingsFault) (f : Port → Result A SettingsFault) (fault : SettingsFault)
     → ((port : Port) → is_told_anyway (f port) ≡ false)
     → TellsAnyway want (Err fault) → is_told_anyway (want >>= f) ≡ true → Err fault ≡ want >>= f

@@ -1,4 +1,4 @@
--- What a parse of a command that is known gives.
+-- What parsing a known command gives.
 use Rattle.std.proofs.Common.{ap, true, false, ◌≡◌, ◌∙◌, refl, List}
 use Rattle.std.specs.Prelude.{⊤}
 use Rattle.clap.specs.Words.{App, Rule, Text, AddsArg, HasMatchesOf, app_of, is_simple, is_simple_and_free, matches_of}
@@ -9,7 +9,7 @@ use Rattle.clap.specs.declared.parser.matches.ArgMatches.{ArgMatches}
 use Rattle.clap.proofs.OnLiterals.{clap_on_literals}
 use Rattle.avr_cli.specs.Command.{avrstk, target_rules, write_rules, run_rules, telling_rules, file_rules}
 
--- what a proof unfolds to compute over the command
+-- what a proof unfolds to compute the command
 unfoldable pub whole_command : ⊤
 unfolding clap_on_literals avrstk target_rules write_rules run_rules telling_rules file_rules
 whole_command = tt
@@ -27,7 +27,7 @@ pub rows_given : (a b : App) (words : List Text) → a ≡ b → is_simple b ≡
     → rows_of (found_of m) ≡ matches_of b words
 rows_given a b words is simple m h = (h (ap is_simple is ∙ simple)).0 ∙ ap (λ (c : App). matches_of c words) is
 
--- one option more
+-- one more option
 pub arg_added : {a b : Command} {x : Arg} {r : Rule} → AddsArg a x b → x.global ≡ false → rule_of x ≡ r
     → app_of b ≡ with_rule (app_of a) r
 arg_added {a} adds local is = adds.shape local ∙ ap (with_rule (app_of a)) is

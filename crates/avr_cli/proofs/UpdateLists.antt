@@ -1,4 +1,4 @@
--- Updates that are read one after the other.
+-- Updates that are read one after another.
 use Rattle.std.proofs.Common.{◌≡◌, ◌∙◌, ap, sym, refl, ℕ, ◌+◌, List, [], ◌∷◌, ◌++◌, Result, Ok, Err, append_assoc}
 use Rattle.avr_part.specs.PartFile.{Bytes}
 use Rattle.avr_cli.specs.Settings.{◌>>=◌, updates_from, update_at}
@@ -6,7 +6,7 @@ use Rattle.avr_cli.specs.Update.{update_of}
 use Rattle.avr_cli.specs.declared.update.Update.{Update}
 use Rattle.avr_cli.specs.declared.settings.SettingsFault.{SettingsFault}
 
--- these updates, and then those of the result
+-- these updates, then those of the result
 abbrev pub onto : List Update → Result (List Update) SettingsFault → Result (List Update) SettingsFault
 onto us (Ok vs) = Ok (us ++ vs)
 onto us (Err e) = Err e

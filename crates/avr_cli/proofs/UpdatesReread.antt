@@ -1,4 +1,4 @@
--- An update that is written is read.
+-- An update that is written reads back.
 use Rattle.std.proofs.Common.{◌≡◌, ◌≢◌, ◌∙◌, ap, refl, arith, ℕ, ◌+◌, ◌-◌, true, false, ◌==◌, [], ◌∷◌, ◌++◌, length, get_or}
 use Rattle.std.proofs.Common.{take, Some, nat_le, Ok}
 use Rattle.std.proofs.lemmas.Bool.Decides.{nat_tests}

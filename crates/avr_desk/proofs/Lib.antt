@@ -1,4 +1,4 @@
--- in the order in which to read; the list of a folder says what it holds
+-- in the order in which to read; the list beside a folder says what the folder holds
 pub mod Lines
 pub mod FileUses
 pub mod Desks

@@ -21,16 +21,15 @@ use Rattle.avr_desk.specs.declared.record.Opening.TheVariants.{Absent, Found}
 use Rattle.avr_desk.specs.declared.record.Writing.{Writing}
 use Rattle.avr_desk.specs.declared.stream.Stream.TheVariants.{File, Output, Messages}
 
--- a desk of which nothing was asked, and that has failed so often, never at the messages
+-- a desk without requests that has failed this often, never at the messages
 abbrev silent : ℕ → DeskState
 silent failures = showing nothing_kept failures 0
 
 abbrev done : Result (Unit {0}) DeskFault
 done = Ok tt
 
--- a failure that is counted after a success, after a file that isn't there, after a byte that was taken, or after
--- want of
--- memory
+-- a failure that is counted after a success, after a file that isn't there, after a byte that was taken, or after a
+-- failed allocation
 pub no_count_behind_success : Counts File (silent 0) (silent 1) done → ⊥
 no_count_behind_success counts = let e : 1 ≡ 0 = counts.1.0 in omega (arith, e)
 
@@ -57,8 +56,8 @@ no_silent_failure counts = let e : 0 ≡ 1 = counts.1.0 in omega (arith, e)
 pub no_failure_twice : Counts File (silent 0) (silent 2) failed → ⊥
 no_failure_twice counts = let e : 2 ≡ 1 = counts.1.0 in omega (arith, e)
 
--- a failure at the messages that only one count shows, one at a file and one at the output that both show, and what is
--- unsaid after a success
+-- a failure at the messages that only one count shows; one at a file, or at the output, that both show; and an
+-- unreported failure after a success
 pub no_message_unsaid_uncounted : Counts Messages (silent 0) (silent 1) failed → ⊥
 no_message_unsaid_uncounted counts = let e : 0 ≡ 1 = counts.1.1 in omega (arith, e)
 
@@ -89,7 +88,7 @@ pub no_end_before_a_fault : SendsTaken Output whole (showing nothing_kept 0 0)
     (showing (after_out end nothing_kept) 1 0) (Err Failed) → ⊥
 no_end_before_a_fault sent = prefix_or_end sent.0 (ap output_of sent.2)
 
--- a line cut short where only a file failed
+-- a line cut short though only a file failed
 pub no_line_cut_by_a_file : TellsLine whole [] (silent 0) (silent 1) → ⊥
 no_line_cut_by_a_file (inl told) = let e : [] ≡ whole = told.0 in absurd (cc)
 no_line_cut_by_a_file (inr (part, (failures, unsaid))) = let e : 0 ≡ 1 = unsaid in omega (arith, e)
@@ -110,14 +109,14 @@ begins_otherwise (x ∷ prefix) back is took = grind (arith, nat_tests)
 pub no_other_bytes : AppendsPrefix (Some []) (Some end) whole → ⊥
 no_other_bytes (prefix, (back, is), took) = begins_otherwise prefix back is took
 
--- a failure by plan at a call that isn't due
+-- a planned failure at a call that isn't due
 abbrev sound : Failing ℕ
 sound = record { inner = 0; due = 0; planned = 0; unsaid = 0 }
 
 pub no_plan_behind_success : FailsWhenDue File (Unit {0}) sound (record sound { planned = 1 }) done → ⊥
 no_plan_behind_success fails = let e : 1 ≡ 0 = fails.planned in omega (arith, e)
 
--- and one at a file that is due, and is counted as unsaid
+-- and one at a file that is due, and is counted as unreported
 abbrev failing : Failing ℕ
 failing = record { inner = 0; due = 1; planned = 0; unsaid = 0 }
 
@@ -144,7 +143,7 @@ one_there = record { input = []; files = file ∷ [] }
 abbrev found_as : Bytes → Opening
 found_as bytes = Found (record { name = name; bytes = bytes; ended = true })
 
--- bytes that the file doesn't have, and one that is there and isn't found
+-- bytes that the file doesn't have, and an existing file that isn't found
 pub no_other_contents : AreTrue one_there [] (Opened (found_as end) ∷ []) → ⊥
 no_other_contents are = grind (arith, nat_tests)
 
@@ -155,7 +154,7 @@ no_file_overlooked are = grind (arith, nat_tests)
 pub no_end_before_the_end : IsTrueOpening one_there [] (Found (record { name = name; bytes = []; ended = true })) → ⊥
 no_end_before_the_end gave = grind (arith, nat_tests)
 
--- one that was found before it was made, and one that was made before and not found, or found with older bytes
+-- a file that was found before it was made, and one that was made before but not found, or found with older bytes
 pub no_file_before_it_is_made : AreTrue nothing_there [] (Opened (found_as byte) ∷ Created file ∷ []) → ⊥
 no_file_before_it_is_made are = grind (arith, nat_tests)
 

@@ -19,7 +19,7 @@ all_nothing p text machine f = record {
   answered = ap (emulate p) (append-nil text) ∙ sym (append-nil (emulate p text));
 }
 
--- what the emulator tells of one call
+-- what the emulator returns for one call
 pub all_fed : (p : Programmer) (text used out : List ℕ) (old now : Machine) → Answers old used now out
     → IsFed p text old → AnswersAll p text used out now
 all_fed p text used out old now a f = record {
@@ -54,7 +54,7 @@ breaks_more p text a x b y mid now first then = record {
   sent_is = sym (append_assoc (emulate p text) x y) ∙ (ap (λ o. o ++ y) (sym first.answered) ∙ then.sent_is);
 }
 
--- an answer that was not sent whole is one to a frame, the last that was fed
+-- an answer that was not sent whole belongs to a frame, the last that was fed
 breaks_found : (p : Programmer) (text used unused part unsent : List ℕ) (now : Machine) (found : List (List ℕ))
     → length found ≤ 1
     → frames (text ++ used) ≡ frames text ++ found
@@ -98,7 +98,7 @@ answers_prefix p x y =
       sym (ap (λ fs. answers device fs p) all ∙ answers_more device (frames x) later p),
     )
 
--- so is what was sent of them
+-- so is the part of them that was sent
 pub breaks_prefix : (p : Programmer) (text bytes out : List ℕ) (now : Machine) → BreaksOff p text bytes out now
     → IsPrefixOf (emulate p text ++ out) (emulate p (text ++ bytes))
 breaks_prefix p text bytes out now b =

@@ -39,7 +39,7 @@ chip_is : (test : Bool) (good chip : ChipState) (n : ℕ) → (if test then Ok g
 chip_is true good chip n is = (refl, cc)
 chip_is false good chip n is = cc
 
--- a fault in place of a chip says that it doesn't
+-- a fault in place of a chip means that the test fails
 none_is : (test : Bool) (good : ChipState) (n : ℕ) (fault : PartFault)
     → (if test then Ok good else Err (BadChipFile n)) ≡ Err fault → test ≡ false
 none_is true good n fault is = cc
@@ -85,7 +85,7 @@ opened_at opening passed said takes = (
   ap (λ (ss : List OutputEvent). Opens opening ∷ ss) takes.2,
 )
 
--- the judgment of what the file gave
+-- the judgement of the file's bytes
 goes_whole : (part : Part) (file bytes : Bytes) (ended : Bool) (old mid new : DeskState) (result : Result ChipState ℕ)
     → Passes (with_read file bytes ended) old mid → IsWhole LARGEST_CHIP_FILE (record { bytes = bytes; ended = ended })
     → HasSameCounts old mid

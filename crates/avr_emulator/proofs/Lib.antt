@@ -1,7 +1,7 @@
 -- in the order in which to read: chips of files, and files that are saved
 pub mod Chips
 pub mod Savings
--- serving: talks and answers, a piece and its answers, read after read; serving whole
+-- serving: transcripts and answers, a piece and its answers, read after read; serving whole
 pub mod Transcripts
 pub mod Answers
 pub mod Replies

@@ -18,7 +18,7 @@ use Rattle.avr_emulator.specs.Replying.{Replies, RepliesPart}
 use Rattle.avr_emulator.proofs.Transcripts.{no_end_append, no_end_on_tape, reads_append, reads_quiet, in_turn_quiet, in_turn_append}
 use Rattle.avr_emulator.proofs.Answers.{all_nothing, all_more, breaks_more, breaks_prefix}
 
--- what was heard and sent in two talks
+-- the bytes received and sent in two transcripts
 bytes_both : (x y : Transcript) → bytes_of (heard_in x) ++ bytes_of (heard_in y) ≡ bytes_of (heard_in (x ++ y))
 bytes_both x y = sym (ap bytes_of (heard_append x y) ∙ bytes_of_append (heard_in x) (heard_in y))
 
@@ -51,7 +51,7 @@ leaves_more served p text x y mid now first then = all_transcript p text x y mid
 no_end_both : (x y : Transcript) → HasNoEnd (heard_in x) → HasNoEnd (heard_in y) → HasNoEnd (heard_in (x ++ y))
 no_end_both x y f g = subst HasNoEnd (sym (heard_append x y)) (no_end_append (heard_in x) (heard_in y) f g)
 
--- one read more
+-- one more read
 hears_more : (served : Served) (turns : ℕ) (x y : Transcript) → HearsUntil TooManyReads turns x → HearsUntil served 1 y
     → HearsUntil served (turns + 1) (x ++ y)
 hears_more Ended turns x y first then = (
@@ -90,7 +90,7 @@ serves_more served turns old mid now a b c first then = record {
       (then.leaves p (text ++ bytes_of (heard_in first.during)) done.fed);
 }
 
--- what ended early ended within more reads too
+-- serving that ended early also ends within more reads
 hears_within : (served : Served) (few many : ℕ) (transcript : Transcript) → served ≢ TooManyReads → few ≤ many
     → HearsUntil served few transcript → HearsUntil served many transcript
 hears_within Ended few many transcript other le h = (h.0, h.1, h.2, omega (arith, h.3))
@@ -113,7 +113,7 @@ fails_more Ended a b c same f = f ∙ same
 fails_more TooManyReads a b c same f = f ∙ same
 fails_more served a b c same f = subst (λ n. HasRisen n c.failures) same f
 
--- what one read comes to
+-- the outcome of one read
 
 pub read_end : (machine : Machine) (a b : LinkState) → Grows a.transcript (Got (End ∷ []) ∷ []) b.transcript
     → Serves machine 1 Ended a b machine
@@ -125,7 +125,7 @@ read_end machine a b g = record {
   leaves = λ p text f. all_nothing p text machine f;
 }
 
--- a piece, and then nothing but answers to it
+-- a piece, then nothing but answers to it
 heard_piece : (piece : List ℕ) (transcript : Transcript) → IsQuiet transcript
     → on_tape piece ++ heard_in transcript ≡ on_tape piece
 heard_piece piece transcript quiet =

@@ -1,4 +1,4 @@
--- Answers to one piece, frame by frame, and the sending of each.
+-- Answers to one piece, frame by frame, and how each is sent.
 use Rattle.std.proofs.Common.{◌≡◌, ℕ, ◌+◌, List, [], ◌++◌, take, drop, refl, sym, ap, ◌∙◌, subst}
 use Rattle.std.proofs.lemmas.List.{take-append-drop}
 use Rattle.std.proofs.Math.Seq.{take-add}
@@ -26,11 +26,11 @@ replies_none machine o = record {
   answers = λ p text f. all_nothing p text machine f;
 }
 
--- what is after the first n bytes is fed, up to the first answer
+-- the bytes after the first n are fed, up to the first answer
 module _ (piece part out : List ℕ) (n used : ℕ) (old mid now : Machine) (a b c : LinkState)
     (r : Replies old (take n piece) a b mid) (is : part ≡ drop n piece)
     (one : Answers mid (take used part) now out) where
-  -- which is sent
+  -- the answer is sent
   pub replies_more : Says out b.transcript c.transcript → Replies old (take (n + used) piece) a c now
   replies_more says = record {
     out = r.out ++ out;
@@ -43,7 +43,7 @@ module _ (piece part out : List ℕ) (n used : ℕ) (old mid now : Machine) (a b
         (all_fed p (text ++ take n piece) (take used part) out mid now one first.fed));
   }
 
-  -- or of which only a part is sent
+  -- or only a part of it is sent
   pub replies_part : SaysPart out b.transcript c.transcript → RepliesPart old piece a c now
   replies_part s = record {
     out = r.out ++ s.part;

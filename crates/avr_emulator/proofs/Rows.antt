@@ -1,4 +1,4 @@
--- The limits of a chip file and of reads; and worked outcomes that contracts refuse, of holding and saving, and of
+-- The limits of a chip file and of reads. Then worked outcomes that contracts refuse: of holding, of saving, and of
 -- answers to a frame with a command that no programmer knows.
 use Rattle.std.proofs.Common.{◌≡◌, ◌≤◌, refl, ap, ℕ, List, [], ◌∷◌, length, Ok, Err, arith}
 use Rattle.ghosts.specs.Failures.{HasRisen}
@@ -21,7 +21,7 @@ largest_chip_file = refl
 most_reads : READS ≡ 16777216
 most_reads = refl
 
--- a desk that was asked for nothing and never failed, and one that shows this and has failed so often
+-- a desk of no requests and no failures, and one that shows this and has failed this often
 abbrev begun : DeskState
 begun = showing nothing_kept 0 0
 
@@ -37,7 +37,7 @@ denials r = length r.denied
 abbrev file_count : Record → ℕ
 file_count r = length r.uses
 
--- that a file is in use, reported of a desk that was not asked
+-- a report that a file is in use, though the desk was not asked
 unasked : (file told : Bytes) (trouble : holding.HoldingTrouble) (after : DeskState)
     → after ≡ now (after_err (in_use_line file) nothing_kept) 0
     → holding.TellsHoldingTrouble file trouble told begun after
@@ -58,12 +58,12 @@ no_denial_unasked file holds = unasked file holds.1.told holds.1.trouble _ refl 
 pub no_hold_behind_a_failure : (file : Bytes) → HoldsFile begun (now (with_held file nothing_kept) 1) file (Ok tt) → ⊥
 no_hold_behind_a_failure file holds = let e : 1 ≡ 0 = holds.1.0 in omega (arith, e)
 
--- a save that failed, and left an empty file after
+-- a save that failed and left an empty file
 pub no_empty_file : (file bytes line : Bytes)
     → Saves begun (now (after_err line (with_replaced file [] nothing_kept)) 1) file bytes (Err 1) → ⊥
 no_empty_file file bytes line saves = let e : 1 ≡ 0 = ap file_count saves.1.kept in omega (arith, e)
 
--- a save that succeeded, and nothing was written; or though the desk failed
+-- a save that succeeded though nothing was written, or though the desk failed
 pub no_success_and_nothing_saved : (file bytes : Bytes) → Saves begun begun file bytes (Ok tt) → ⊥
 no_success_and_nothing_saved file bytes saves = let e : 0 ≡ 1 = ap file_count saves.0 in omega (arith, e)
 

@@ -11,7 +11,7 @@ use Rattle.avr_desk.specs.Lines.{memory_line, not_written_line}
 use Rattle.avr_desk.specs.Said.{Tells}
 use Rattle.avr_emulator.specs.Saving.{NoMemory, NotReplaced, Saves}
 
--- memory was refused for the bytes
+-- allocation failed for the bytes
 pub no_memory : (old new : DeskState) (file bytes : Bytes) (status : ℕ) → status ≡ 1
     → Tells (released old) new memory_line
     → Saves old new file bytes (Err status)

@@ -29,7 +29,7 @@ goes_with_parts s id old mid new parts result same went goes =
     result went (λ passed said never. absurd (taken_never passed said never))
     (subst (λ (i : Bytes). Goes (AtStart false) (part_stage i parts) mid new result) same goes)
 
--- without a part file there are no parts but the built-in ones
+-- without a part file the built-in parts are all
 pub bare_part : {E : Type 0} (id own : Bytes) (parts : List Part) (old mid new : DeskState) (result : Result Part ℕ)
     → id ≡ own
     → ◌≡◌ {A = Result (List Part) E} (Ok parts) (Ok []) → mid ≡ old

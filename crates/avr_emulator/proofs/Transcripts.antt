@@ -1,4 +1,4 @@
--- Laws of what is heard, and of talks in turn.
+-- Laws of what is received, and of transcripts in turn.
 use Rattle.std.proofs.Common.{◌≡◌, ℕ, ◌+◌, List, [], ◌∷◌, ◌++◌, refl, sym, ap, ◌∙◌, subst, append_assoc, arith}
 use Rattle.std.proofs.lemmas.List.{append-nil}
 use Rattle.stk_host.specs.declared.link.Item.TheVariants.{Byte, Silence, End}
@@ -24,7 +24,7 @@ reads_append [] y = omega arith
 reads_append (Sent bytes ∷ x) y = reads_append x y
 reads_append (Got tape ∷ x) y = omega (arith, reads_append x y)
 
--- in a quiet talk nothing is read, so its answers are in turn
+-- nothing is read in a quiet transcript, so its answers are in turn
 pub reads_quiet : (transcript : Transcript) → IsQuiet transcript → reads transcript ≡ 0
 reads_quiet [] quiet = refl
 reads_quiet (Sent bytes ∷ transcript) quiet = reads_quiet transcript quiet
@@ -36,7 +36,7 @@ in_turn_quiet p text out [] quiet = tt
 in_turn_quiet p text out (Sent bytes ∷ transcript) quiet = in_turn_quiet p text (out ++ bytes) transcript quiet
 in_turn_quiet p text out (Got tape ∷ transcript) quiet = absurd quiet
 
--- one talk after another
+-- one transcript after another
 pub in_turn_append : (p : Programmer) (text out : List ℕ) (x y : Transcript) → AnswersInTurn p text out x
     → AnswersInTurn p (text ++ bytes_of (heard x)) (out ++ sent x) y
     → AnswersInTurn p text out (x ++ y)

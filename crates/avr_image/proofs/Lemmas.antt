@@ -1,5 +1,5 @@
--- What the proofs of other crates may rest on: a lemma for each clause of the laws in src/laws.rt, in the words of
--- specs/. All else in proofs/ is the crate's own.
+-- What the proofs of other crates may use: a lemma for each clause of the laws in src/laws.rt, in the words of specs/.
+-- All else in proofs/ is the crate's own.
 use Rattle.std.proofs.Common.{◌≡◌, ◌≢◌, refl, ℕ, ◌+◌, ◌-◌, ◌<◌, ◌≤◌, ◌⊎◌, ◌↔◌, List, [], ◌∷◌, ◌++◌, length, take, drop, min, All, true, Option, Some, None, Ok, Err, is_some}
 use Rattle.std.specs.Prelude.{slice_index_or, IsTrue}
 use Rattle.std.specs.List.{enumerate_from, flat_map, slice_range}
@@ -34,29 +34,29 @@ pub same_by_address : (first second : List (Option ℕ)) → length first ≡ le
     → ((addr : ℕ) → addr < length second → byte_at first addr ≡ byte_at second addr) → first ≡ second
 same_by_address = shown.same_items
 
--- images that `==` tells to be equal are one, and no others
+-- `==` is true of images exactly if they are one
 pub equal_are_one : (first second : List (Option ℕ)) → IsTrue (is_same first second) ↔ (first ≡ second)
 equal_are_one = equality.same_decides
 
 -- ---- bytes laid down
 
--- a byte stands at its address
+-- a byte is at its address
 pub byte_here : (image : List (Option ℕ)) (addr byte : ℕ) → addr < length image
     → byte_at (with_byte image addr byte) addr ≡ Some byte
 byte_here = laid.byte_here
 
--- each other address holds what it held
+-- each other address keeps its byte or gap
 pub byte_beside : (image : List (Option ℕ)) (addr byte other : ℕ) → other ≢ addr
     → byte_at (with_byte image addr byte) other ≡ byte_at image other
 byte_beside = laid.byte_beside
 
--- a span stands at its addresses
+-- a span is at its addresses
 pub span_inside : (image : List (Option ℕ)) (addr : ℕ) (bytes : List ℕ) (place : ℕ)
     → addr + length bytes ≤ length image → place < length bytes
     → byte_at (laid_over image (enumerate_from addr bytes)) (addr + place) ≡ Some (slice_index_or bytes place 0)
 span_inside image addr bytes place room l = laid.span_in image addr bytes place l room
 
--- below it each address holds what it held
+-- below it each address keeps its byte or gap
 pub span_below : (image : List (Option ℕ)) (addr : ℕ) (bytes : List ℕ) (other : ℕ) → other < addr
     → byte_at (laid_over image (enumerate_from addr bytes)) other ≡ byte_at image other
 span_below = laid.span_low
@@ -66,7 +66,7 @@ pub span_above : (image : List (Option ℕ)) (addr : ℕ) (bytes : List ℕ) (ot
     → byte_at (laid_over image (enumerate_from addr bytes)) other ≡ byte_at image other
 span_above = laid.span_high
 
--- bytes that are laid down leave the size
+-- laying bytes down keeps the size
 pub laid_size : (image : List (Option ℕ)) (places : List (ℕ × ℕ)) → length (laid_over image places) ≡ length image
 laid_size = laid.length-laid_over
 
@@ -90,17 +90,17 @@ none_fit addr size = refl
 
 -- ---- images laid over each other
 
--- each address holds the second's byte, if that has one, else the first's
+-- each address has the second's byte, if the second has one, else the first's
 pub over_at : (first second : List (Option ℕ)) (addr : ℕ) → length first ≡ length second
     → byte_at (over first second) addr ≡ either (byte_at second addr) (byte_at first addr)
 over_at = by_address.over-at
 
--- each address holds the last byte that was laid down there, else what it held
+-- each address has the last byte laid down there, else what it had
 pub laid_at : (image : List (Option ℕ)) (places : List (ℕ × ℕ)) (addr : ℕ) → addr < length image
     → byte_at (laid_over image places) addr ≡ either (last_at addr places) (byte_at image addr)
 laid_at = by_address.laid-at
 
--- bytes laid onto an image are an image of them laid over it
+-- laying bytes onto an image is laying an image of them over it
 pub laid_is_over : (image : List (Option ℕ)) (places : List (ℕ × ℕ))
     → laid_over image places ≡ over image (image_of_pairs (length image) places)
 laid_is_over = laid.laid_over_laid
@@ -122,7 +122,7 @@ pub next_held : (image : List (Option ℕ)) (addr place : ℕ) → first_from im
     → IsNextHeld image addr place
 next_held = places.next_held
 
--- where none is left, none is held
+-- if the walk finds none, no address from there on has a byte
 pub none_held : (image : List (Option ℕ)) (addr : ℕ) → first_from image addr ≡ None → (k : ℕ) → addr ≤ k
     → byte_at image k ≡ None
 none_held = places.none_held
@@ -156,28 +156,28 @@ pub runs_are_whole : (image : List (Option ℕ))
     → image_of_pairs (length image) (flat_map places_of (runs 0 image)) ≡ image
 runs_are_whole = walks.runs_image
 
--- where no byte is left there is none
+-- without a further byte there is no run
 pub runs_none : (image : List (Option ℕ)) (addr : ℕ) → first_from image addr ≡ None → runs addr (drop addr image) ≡ []
 runs_none = walks.runs-none
 
--- else they are those from the next byte on
+-- otherwise they are those from the next byte on
 pub runs_next : (image : List (Option ℕ)) (addr place : ℕ) → first_from image addr ≡ Some place
     → runs addr (drop addr image) ≡ runs place (drop place image)
 runs_next = walks.runs-next
 
--- from a byte on: first the bytes before the next gap, then the runs after these
+-- from a byte on: first the bytes before the next gap, then the runs after them
 pub runs_first : (image : List (Option ℕ)) (addr : ℕ) → 0 < length (lead image)
     → runs addr image ≡ (addr, lead image) ∷ runs (addr + length (lead image)) (drop (length (lead image)) image)
 runs_first = walks.runs-first
 
 -- ---- the bytes before the next gap
 
--- some, where a byte is next
+-- not empty at the next byte
 pub lead_some : (image : List (Option ℕ)) (addr place : ℕ) → first_from image addr ≡ Some place
     → 0 < length (lead (drop place image))
 lead_some = walks.lead-some
 
--- as many as the run from there on has
+-- as many as in the run from there on
 pub lead_is_run : (image : List (Option ℕ)) (addr end : ℕ)
     → run_end image addr end ≡ addr + min (end - addr) (length (lead (drop addr image)))
 lead_is_run = walks.lead-run

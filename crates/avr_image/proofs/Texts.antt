@@ -1,4 +1,4 @@
--- Values and raw bytes, as texts bring them.
+-- Values and raw bytes, from texts.
 pub mod Pieces
 pub mod Digits
 pub mod RawBytes

@@ -1,4 +1,4 @@
--- A session over any line, action by action: what it leaves and in which order, and that what it says is true.
+-- A session over any link, action by action: what it leaves, in which order, and that its reports are true.
 pub mod FirstSteps
 pub mod FrameSizes
 pub mod EachAction

@@ -1,4 +1,4 @@
--- A session over any link that makes no answer.
+-- A session over any link that forges no answer.
 use Rattle.std.proofs.Common.{◌≡◌, ◌≤◌, ℕ, Bool, List, [], ◌++◌, All, length, take, refl, sym, ap, ◌∙◌, subst, arith, inl, inr, Some, length-append}
 use Rattle.std.proofs.lemmas.List.{append-nil, take-append-le, take_all}
 use Rattle.avr_desk.specs.Said.{OutputEvent, SaidPart}
@@ -26,12 +26,12 @@ use Rattle.avr_laws.specs.AnyLine.{OverTurns, WholeOverTurns}
 use Rattle.avr_laws.proofs.OverTurns.{asks, over_turns, comes_over_turns}
 use Rattle.avr_laws.proofs.Reports.OverTape.{by_tape}
 
--- a talk that began with nothing is what passed since
+-- a transcript that began empty is what passed since
 pub since_none : (old now during transcript : Transcript) → old ≡ [] → now ≡ transcript → Grows old during now
     → during ≡ transcript
 since_none old now during transcript none is grows = sym (subst (λ o. Grows o during now) none grows) ∙ is
 
--- what passed of a session is in turn, and what it sent a prefix of what it sends over what was heard
+-- the transcript of a session is in turn, and the bytes sent are a prefix of what it sends over what was received
 abbrev pub IsFirst : Plan → Transcript → Type 0
 IsFirst plan transcript = InTurn (session plan) start transcript
     × IsPrefixOf (sent transcript) (bytes_sent (played (session plan) 1 (heard transcript)).events)
@@ -136,7 +136,7 @@ module _ (plan : Plan) (s : chips.ChipState) (is_sound : IsSoundChip s) (part_is
             (stands bytes all_sent) (outputs events) status comes said,
       )
 
-  -- over a line that makes no frame, from the bytes that the programmer got
+  -- over a link that forges no frame, from the bytes that the programmer got
   module _ (got bytes : List ℕ) (through : List Bool) (tape : Tape) (came : CameThrough got (frames bytes) through)
       (none : MakesNoFrame device (session plan) 1 tape begun (became_by through) []) where
     honest_bytes : AreHonest device (session plan) 1 tape begun (became_by through)
@@ -164,7 +164,7 @@ module _ (plan : Plan) (s : chips.ChipState) (is_sound : IsSoundChip s) (part_is
         (played (session plan) 1 tape).events) left_bytes
         (over_any_end tape (became_by through) honest_bytes bytes prefix)
 
-  -- whatever a call came to over a link that was new
+  -- whatever the outcome of a call over a new link
   module _ (got : List ℕ) (through : List Bool) (old new : Devices) (status : ℕ)
       (silent : old.link.transcript ≡ []) where
     abbrev transcript : Transcript

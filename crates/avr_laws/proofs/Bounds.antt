@@ -1,4 +1,4 @@
--- How much a session asks, sends and hears.
+-- How much a session asks, sends and receives.
 pub mod Weights
 pub mod Questions
 pub mod Listening

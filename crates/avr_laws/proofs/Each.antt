@@ -11,7 +11,7 @@ pub each_on : {A : Type 0} (P : A → Type 0) (xs ys : List A) → Each P xs →
 each_on P [] ys f g = g
 each_on P (x ∷ xs) ys f g = (f.0, each_on P xs ys f.1 g)
 
--- of each step, if it does of those at each place
+-- it holds of each step if it holds of those at each place
 pub each_of : (P : List Command → Type 0) (steps_at : ℕ → List (List Command)) (place count : ℕ)
     → ((i : ℕ) → Each P (steps_at i)) → Each P (each_from steps_at place count)
 each_of P steps_at place zero each = tt

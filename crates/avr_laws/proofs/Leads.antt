@@ -1,4 +1,4 @@
--- What holds while a dialog goes along a line, and where it is done; and how far a play of steps has come there.
+-- What holds while a dialog goes along a link, and when it is done; and how far a run of steps has come there.
 use Rattle.std.specs.Prelude.{ℕ, ◌≡◌, ◌++◌, List, [], ◌∷◌, length, Ok, Err, suc, ◌-◌, ◌≤◌, ◌+◌, ◌⊎◌}
 use Rattle.avr_part.specs.Part.{Part}
 use Rattle.stk_frame.specs.declared.command.Command.{Command}
@@ -16,19 +16,19 @@ use Rattle.stk_emu.specs.Fits.{Fits}
 use Rattle.avr_laws.specs.Made.{steps_done}
 use Rattle.avr_laws.specs.Tallies.{Count, Tallies}
 
--- at each moment the one condition holds, and where the dialog has come to a result the other
+-- the first condition holds at each moment, and the second if the dialog has a result
 pub record Leads {E R P : Type 0} (m : Device P) (dialog : Dialog E R) (p : P) (turns : List Turn)
     (During : P → Type 0) (After : R → P → Type 0) : Type 0 where
   pub during : (k : ℕ) → During (along m k dialog p turns).programmer
   pub after : (k : ℕ) (r : R) → (along m k dialog p turns).dialog ≡ Done r
       → After r (along m k dialog p turns).programmer
 
--- the memories of the first so many of these steps
+-- the memories after some number of first steps
 pub record Reached (part : Part) (steps : List (List Command)) (m : Memories) (q : Programmer) : Type 0 where
   pub count : ℕ
   pub stands : Settled part (changed_by part count steps m) q
 
--- after data of all steps their memories, and what they give; after a fault those of some first steps
+-- with data: the memories after all steps, and what these give; with a fault: those after some first steps
 abbrev pub AfterSteps : Part → List (List Command) → Memories → List ℕ → StepOutcome → Programmer → Type 0
 AfterSteps part steps m before (Ok got) q =
     Settled part (changed_by part (length steps) steps m) q × (got ≡ before ++ all_given part steps m)
@@ -50,9 +50,9 @@ AreSome [] = Unit {0}
 AreSome ([] ∷ steps) = ⊥
 AreSome ((command ∷ commands) ∷ steps) = AreSome steps
 
--- How a play of steps stands after k questions: under the condition of so many steps, which are those that were
--- completed and perhaps one more. The one more is counted by the questions before the last, whose answer may not have
--- come; and where the play was completed, they are all.
+-- A run of steps after `k` questions: the condition of the first `count` steps holds. These are the completed steps and
+-- perhaps one more. That one counts by the questions before the last, whose answer may not have come. If the run was
+-- completed, these are all steps.
 pub record Climbs {P : Type 0} (m : Device P) (At : ℕ → P → Type 0) (k : ℕ) (steps : List (List Command)) (p : P)
     (turns : List Turn) (s : LineState ⊥ StepOutcome P) : Type 0 where
   pub count : ℕ
@@ -62,8 +62,8 @@ pub record Climbs {P : Type 0} (m : Device P) (At : ℕ → P → Type 0) (k : �
   pub stands : At count s.programmer
   pub whole : (bytes : List ℕ) → s.dialog ≡ Done (Ok bytes) → count ≡ length steps
 
--- How the next dialog goes on from where one stands: it makes its page writes after those made; and either so many had
--- been completed earlier, before the last question, or it makes none.
+-- The next dialog makes its page writes after those already made. Either these had been completed before the last
+-- question, or the next dialog makes none.
 pub record GoesOn {E A B P : Type 0} (m : Device P) (At : ℕ → P → Type 0) (s : LineState E A P) (made earlier : ℕ)
     (next : Dialog E B) (more : Count P) : Type 0 where
   pub rest : Tallies m next more (λ j. At (made + j)) s.programmer s.turns

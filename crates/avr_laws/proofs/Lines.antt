@@ -1,4 +1,4 @@
--- Plays over any tape and over a wire are plays along turns.
+-- Runs over any tape and over a wire are runs along turns.
 pub mod Plays
 pub mod AnyTape
 pub mod WireTapes

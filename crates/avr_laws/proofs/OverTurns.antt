@@ -1,4 +1,4 @@
--- A session that went along turns, by the page's words.
+-- A session that went along turns, in the words of the page.
 use Rattle.std.proofs.Common.{◌≡◌, ◌*◌, ℕ, List, All, length, sym, ap, ◌∙◌, subst}
 use Rattle.avr_desk.specs.Said.{OutputEvent}
 use Rattle.avr_part.specs.Part.{IsPart}
@@ -55,7 +55,7 @@ module _ (plan : Plan) (s : chips.ChipState) (is_sound : IsSoundChip s) (part_is
   pub asks : AsksBodies (session plan)
   asks = session_asks plan sound fitted
 
-  -- after the frames of these bytes the programmer stands along the turns
+  -- after the frames of these bytes the programmer is where the turns lead it
   module _ (turns : List Turn) (q : Programmer) (bytes : List ℕ)
       (stands : q ≡ (along device (length (frames bytes)) (session plan) begun turns).programmer) where
     abbrev count : ℕ

@@ -1,4 +1,4 @@
--- A session that was played over a wire, as it went along the turns of its fates.
+-- A session that ran over a wire went along the turns of its fates.
 use Rattle.std.proofs.Common.{◌≡◌, ℕ, [], List, All, length, take, refl, sym, ap, ◌∙◌, subst, inl, inr}
 use Rattle.std.proofs.lemmas.List.{append-nil}
 use Rattle.avr_desk.specs.Said.{OutputEvent, after_all}
@@ -90,7 +90,7 @@ module _ (plan : Plan) (w v : WiredState) (fresh : IsFresh w) (stays : Stays Com
 one_no : ◌≡◌ {A = ℕ} 1 0 → ⊥
 one_no e = cc
 
--- of a session with status 0, and of one that sent no frame
+-- a session with status 0, and one that sent no frame
 module _ (plan : Plan) (w v : WiredState) (d e : DeskState) (status : ℕ) (over : OverAnyLine plan w v d e status) where
   abbrev said : List OutputEvent
   said = outputs (events_over plan v)
@@ -104,7 +104,7 @@ module _ (plan : Plan) (w v : WiredState) (d e : DeskState) (status : ℕ) (over
       ∙ ap (λ k. effects plan.part (take k (page_writes plan)) (memories w))
       (over.line.page_writes.none (ap length none))
 
--- what was reported is a prefix of what the session tells over what was heard
+-- what was reported is a prefix of the output of the session over what was received
 module _ (plan : Plan) (w v : WiredState) (d e : DeskState) (status : ℕ) (silent : w.transcript ≡ [])
     (over : OverAnyLine plan w v d e status) where
   abbrev AreTrue : List (Event OutputEvent) → Type 0

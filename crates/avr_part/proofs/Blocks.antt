@@ -29,12 +29,12 @@ mod_on word k half small =
     let whole : word + k ≡ word / half * half + (word % half + k) = omega arith in
     ap (λ x. x % half) whole ∙ mod-mul-add (word / half) half (word % half + k) small
 
--- where the byte i of a block lies
+-- the place of byte i of a block
 place_on : (word i half : ℕ) → word % half * 2 + i < half * 2 → (word + i / 2) % half * 2 + i % 2 ≡ word % half * 2 + i
 place_on word i half inside =
     ap (λ x. x * 2 + i % 2) (mod_on word (i / 2) half (omega arith)) ∙ omega arith
 
--- one byte more
+-- one more byte
 paste_on : (p : ℕ) (d : ℕ) (ds xs : List ℕ) → p < length xs → pasted (suc p) ds (set xs p d) ≡ pasted p (d ∷ ds) xs
 paste_on p d ds xs inside =
     ap₂ (λ prefix back. prefix ++ (ds ++ back)) (take-suc-set xs p d inside)
@@ -81,7 +81,7 @@ read_at_once word i (suc n) half s is inside long =
     ∙ ap (λ q. take n (drop q s.flash)) (let e : w % half * 2 + suc i ≡ suc p = omega arith in e))
     ∙ ap (take (suc n)) (sym (drop-cons s.flash p 0 (omega arith)))
 
--- a word of the page buffer, by a number of 256
+-- a word of the page buffer, by a byte
 wraps_in_page : (half : ℕ) → 256 % (half * 2) ≡ 0 → (x : ℕ) → x % 256 % half ≡ x % half
 wraps_in_page half whole x =
     mod-mod_of_dvd half x (dvd_trans half (dvd-mul_right half 2) (dvd_of_mod-eq-zero (half * 2) whole))

@@ -7,7 +7,7 @@ pub length-changed_from : (k : ℕ) (f : ℕ → ℕ → ℕ) (xs : List ℕ) �
 length-changed_from k f [] = refl
 length-changed_from k f (x ∷ xs) = ap suc (length-changed_from (suc k) f xs)
 
--- the list is the changed one, since each of its bytes is
+-- the list is the changed one if each of its bytes is
 pub changed_from_is : (k : ℕ) (f : ℕ → ℕ → ℕ) (xs ys : List ℕ) → length ys ≡ length xs
     → ((i : ℕ) → i < length xs → get_or ys i 0 ≡ f (k + i) (get_or xs i 0)) → ys ≡ map_indexed_from k f xs
 changed_from_is k f [] [] len each = refl

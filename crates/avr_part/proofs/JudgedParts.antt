@@ -1,4 +1,4 @@
--- Parts that are judged one after the other.
+-- Parts that are judged one after another.
 use Rattle.std.proofs.Common.{◌≡◌, ◌∙◌, ap, sym, refl, List, [], ◌∷◌, ◌++◌, Result, Ok, Err, String, Global, string_bytes, append_assoc, Some, None}
 use Rattle.std.specs.Str.{is_utf8, IsUtf8}
 use Rattle.std.proofs.lemmas.Bool.{false_from_ne_true}
@@ -8,7 +8,7 @@ use Rattle.toml.specs.declared.value.Value.{Value}
 use Rattle.avr_part.specs.Part.{Part}
 use Rattle.avr_part.specs.PartFile.{Bytes, FileFault, ◌>>=◌, in_part, part_of, parts_in, utf8_text}
 
--- these parts, and then those of the result
+-- these parts, then those of the result
 abbrev pub onto : List Part → Result (List Part) FileFault → Result (List Part) FileFault
 onto ps (Ok qs) = Ok (ps ++ qs)
 onto ps (Err e) = Err e
@@ -31,7 +31,7 @@ judged_next all ps left next k v p split so_far is =
     (r >>= (λ part. parts_in (members_view next) >>= (λ parts. Ok (part ∷ parts))))) (sym is)
     ∙ onto-next ps p (parts_in (members_view next))
 
--- bytes that are text, and bytes that are none
+-- bytes that are text, and bytes that aren't
 pub text_is_text : (bytes : Bytes) → IsUtf8 bytes → utf8_text bytes ≡ Some bytes
 text_is_text bytes h = rw (is_utf8-from_IsUtf8 bytes h)
 

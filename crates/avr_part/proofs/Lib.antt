@@ -1,4 +1,4 @@
--- in the order in which to read: blocks and changes of memories; names and part files; what is done twice; chip files
+-- in the order in which to read: blocks and changes of memories; names and part files; changes done twice; chip files
 pub mod Blocks
 pub mod Changes
 pub mod FoundParts

@@ -1,4 +1,4 @@
--- Powers of two up to 256, by a look at each number.
+-- Powers of two up to 256, number by number.
 use Rattle.std.proofs.Common.{◌≡◌, ◌∙◌, ap, refl, ℕ, zero, suc, ◌<◌, ◌≤◌, ◌%◌, Bool, true, cond, arith, inl, inr}
 use Rattle.std.specs.Prelude.{◌&&◌, ◌||◌, ◌==◌, nat_lt}
 use Rattle.std.specs.Int.{is_power_of_two}

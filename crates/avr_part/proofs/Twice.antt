@@ -1,4 +1,4 @@
--- What is done to a chip twice is done once.
+-- Changing a chip twice is changing it once.
 use Rattle.std.proofs.Common.{◌≡◌, ◌∙◌, refl, ap, ap₂, ℕ, suc, List, [], ◌∷◌, length, Bool, true, false, cond, bit_and, Option, Some, None, unwrap_or, replicate}
 use Rattle.std.proofs.lemmas.List.{length-replicate}
 use Rattle.std.proofs.lemmas.Nat.{and_assoc}

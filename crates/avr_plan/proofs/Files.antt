@@ -1,4 +1,4 @@
--- What the bytes of a file say, as they come.
+-- What the bytes of a file give, as they come.
 pub mod FirstFaults
 pub mod Prefixes
 pub mod Images

@@ -1,4 +1,4 @@
--- in the order in which to read; the list of a folder says what it holds
+-- in the order in which to read; the list beside a folder says what the folder holds
 pub mod Files
 pub mod Stages
 pub mod Rows

@@ -1,6 +1,6 @@
--- The limits of files. Then where memory may be refused with no file open. Then wrong ends of a plan that writes the
--- file `x.hex` to flash, where the desk shows that no file was opened, and of one for a part that there is none of: its
--- contract admits none of them.
+-- The limits of files. Then when allocation may fail with no file open. Then wrong ends, which the contract refuses.
+-- One plan writes the file `x.hex` to flash, at a desk that shows no opened file. The other is for a part that doesn't
+-- exist.
 use Rattle.std.proofs.Common.{◌≡◌, ◌∙◌, sym, ap, subst, arith, ℕ, ◌+◌, ◌<◌, ◌≤◌, ◌-◌, ◌^◌, ◌⊎◌, inl, inr, List, [], ◌∷◌, ◌++◌, take, get_or, append-nil, refl, true, false, Option, Some, None, Ok, Err}
 use Rattle.std.specs.Prelude.{codes}
 use Rattle.avr_cli.specs.Settings.{no_switches}
@@ -59,7 +59,7 @@ wanted = record {
   switches = no_switches;
 }
 
--- it begins with the opening of that file
+-- it begins by opening that file
 
 begins_image : Begins file (file_image_stage no_switches file Ihex 32768)
 begins_image =
@@ -90,21 +90,21 @@ differs place line told old new apart (inl whole) =
 differs place line told old new apart (inr part) =
     apart part.0.0 (ap (λ (bytes : Bytes). get_or bytes place 0) part.0.1)
 
--- ---- where it takes memory with no file open
+-- ---- when it allocates with no file open
 
 only_due : (u due : Update) (done more : List Update) → u ∷ [] ≡ done ++ due ∷ more → due ≡ u
 only_due u due [] more is = cc
 only_due u due (x ∷ []) more is = let none : [] ≡ due ∷ more = cc in absurd (cc)
 only_due u due (x ∷ y ∷ done) more is = let none : [] ≡ y ∷ (done ++ due ∷ more) = cc in absurd (cc)
 
--- nowhere
+-- never
 takes_none : (passed : List Opening) (said : List OutputEvent) → AtUpdate wanted passed said → ⊥
 takes_none passed said at =
     let takes : op_takes_memory of_file op.Write ≡ true = subst (λ u. op_takes_memory u u.op ≡ true)
     (only_due of_file at.due at.done at.more at.updates_are) at.takes in
     cc
 
--- the same settings, with values for EEPROM before the file: before anything, and not behind the file
+-- the same settings, with values for EEPROM before the file: before anything, but not after the file
 abbrev mixed : Settings
 mixed = record wanted { updates = of_values ∷ of_file ∷ [] }
 
@@ -163,7 +163,7 @@ module _ (r : Record) (k l m n status : ℕ) where
       of_file_alone (inl failure) = failure
       of_file_alone (inr memory) = absurd (takes_none memory.1.0 [] memory.1.1)
 
-  -- that memory was refused, before the file was opened
+  -- a failed allocation, before the file was opened
   memory_first : Ends memory_line → ⊥
   memory_first ends =
       let failure = told_by memory_line ends in
@@ -199,7 +199,7 @@ module _ (r : Record) (k l m n status : ℕ) where
       half_told failure.between.failures failure.between.unsaid one few failure.since.0 failure.until.0 failure.failed.0
       failure.tells
 
-  -- silence, where the desk has not failed
+  -- no message, if the desk has not failed
   told_silence : Goes (AtUpdate wanted) (planned wanted) (showing r k m) (showing r l n) (Err status) → Told []
   told_silence ends = told_by []
       (subst (λ x. Goes (AtUpdate wanted) (planned wanted) (showing r k m) (showing x l n) (Err status))
@@ -210,7 +210,7 @@ module _ (r : Record) (k l m n status : ℕ) where
       let failure = told_silence ends in
       stood_has_not_risen k k failure.between.failures l (omega arith) failure.until.0 sound failure.failed.0
 
-  -- silence, or half of its line, where no write to the messages has failed, however often files have
+  -- no message, or half of its line, if no write to the messages has failed, however often files have
   told_whole : (told : Bytes) → HasStood m n → Told told → told ≡ not_opened_line file
   told_whole told sound failure = of_it failure.tells
     where
@@ -245,9 +245,9 @@ module _ (r : Record) (k l m n status : ℕ) where
       (opened_is_told file 4194304 (judged_image file Ihex 32768) bytes (not_opened_line file) good given
       (AtStart false) r k l m n status ends)
 
--- ---- a refusal is the last that is reported
+-- ---- a refusal is reported last
 
--- the same settings, but for a part that there is none of
+-- the same settings, but for a part that doesn't exist
 abbrev lacking : Settings
 lacking = record wanted { part = codes "t99" }
 
@@ -258,13 +258,13 @@ lacks : (openings : List Opening) → planned lacking openings
     ≡ record { says = []; answer = Refused refusal; left = openings }
 lacks openings = refl
 
--- without a part no memory is taken
+-- without a part nothing is allocated
 lacks_memory : (passed : List Opening) (said : List OutputEvent) → AtUpdate lacking passed said → ⊥
 lacks_memory passed said at =
     let clash : Refused refusal ≡ Made at.plan = ap (λ (p : StageResult Plan). p.answer) at.is_planned in cc
 
 module _ (r : Record) (k l m n status : ℕ) where
-  -- that memory was refused, after the line of the refusal
+  -- a failed allocation, after the line of the refusal
   refused_twice : TellsOne refusal (refusal ++ memory_line) (planned lacking) lacks (AtUpdate lacking) r k l m n → ⊥
   refused_twice (inl one) =
       differs 27 refusal (refusal ++ memory_line) (showing r k m) (showing r l n)

@@ -1,4 +1,4 @@
--- The numbers of a cursor say again where its lines stood, and pieces joined are the file.
+-- The numbers of a cursor give back the place of its lines, and pieces joined are the file.
 use Rattle.std.proofs.lemmas.Bool.Decides.{nat_tests}
 use Rattle.std.proofs.Common.{◌≡◌, ◌∙◌, ap, ap₂, sym, arith, ℕ, ◌^◌, ◌<◌, min, List, [], ◌∷◌, ◌++◌, length, take, drop, Bool, Option, Some}
 use Rattle.std.specs.Prelude.{if◌then◌else◌}
@@ -51,11 +51,11 @@ pub left_kept : (kind : Kind) (lines : Lines) (gone : ℕ) (image : List (Option
     → length image < 2 ^ 32 → file_left kind image (cursor_of lines gone) ≡ Some (drop gone (left lines image))
 left_kept kind lines gone image is few = grind (arith, nat_tests, left-with)
 
--- at the beginning all of the file is left
+-- at the beginning the whole file is left
 pub starts : (kind : Kind) (image : List (Option ℕ)) → file_left kind image file_start ≡ Some (image_text kind image)
 starts x image = grind (arith, nat_tests)
 
--- what a call put is the prefix of what was left
+-- the bytes that a call put are a prefix of those that were left
 call-prefix : (kind : Kind) (image : List (Option ℕ)) (cursor next : Cursor) (piece : List ℕ)
     → (call : PieceCall kind image cursor next piece) → piece ≡ take (length piece) call.text
 call-prefix kind image cursor next piece call = grind (arith, nat_tests, length-take-le, take-append-le, take_all)

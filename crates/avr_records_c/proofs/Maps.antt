@@ -38,7 +38,7 @@ held_octet : (image : List (Option ℕ)) (addr : ℕ)
     → ((k : ℕ) → addr ≤ k → k < addr + 8 → is_some (byte_at image k) ≡ true) → octet image addr ≡ 255
 held_octet image addr held = grind (arith, nat_tests)
 
--- the octets before that of the next byte, and those behind the last byte
+-- the octets before that of the next byte, and those after the last byte
 pub gap_before : (image : List (Option ℕ)) (from place : ℕ) → first_from image (from * 8) ≡ Some place
     → (i : ℕ) → from ≤ i → i < place / 8 → octet image (i * 8) ≡ 0
 gap_before image from place found i after before =

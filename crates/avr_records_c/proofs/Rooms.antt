@@ -7,7 +7,7 @@ use Rattle.std.proofs.lemmas.Bool.{cases_lt}
 use Rattle.std.proofs.lemmas.List.{append_assoc, drop-drop, length-drop, length-take-le, length-append, take_all, take-append-le, drop-append-le, take-append-drop}
 use Rattle.avr_records_c.specs.Writing.{PutsOn}
 
--- so far so many bytes of a text stand in the room, and this is left of it
+-- the first `put` bytes of a text are in the room, and this is left of it
 pub record IsPut (text rest room : List ℕ) (put : ℕ) (now : List ℕ) : Type 0 where
   pub fits : put ≤ length room
   pub most : put ≤ length text
@@ -90,7 +90,7 @@ line-out text whole room now put gone left next is past left_is =
       stands = is.stands;
     }
 
--- a room that is full, and a text that is over
+-- a full room, and a text at its end
 pub all-put : (text left room now : List ℕ) (put : ℕ) → IsPut text left room put now
     → put ≡ min (length room) (length text) → PutsOn text left room put now
 all-put text left room now put is far = record { count = far; left = is.left; stands = is.stands }

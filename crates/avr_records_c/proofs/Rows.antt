@@ -40,7 +40,7 @@ no_address_of_five_bytes : file_left Srec gap_first
     (record { addr = 3; gone = 0; upper = 0; address_size = 5; ended = 0 }) ≡ None
 no_address_of_five_bytes = refl
 
--- nothing is a good file: no call may tell a fault of it but want of memory, nor that it has an end record
+-- an empty file is good: no call may report a fault of it except a failed allocation, nor an end record
 no_fault_of_nothing : Reads 1 [] [] [] (record { outcome = outcome_of_fault (BadSum 1); bytes = []; present = [] }) → ⊥
 no_fault_of_nothing (inl e) = let same : 4 ≡ 0 = ap (λ (l : Left). l.outcome.fault) e in absurd (omega (arith, same))
 no_fault_of_nothing (inr e) = let same : 4 ≡ 10 = ap (λ (l : Left). l.outcome.fault) e in absurd (omega (arith, same))
@@ -50,10 +50,10 @@ no_reading_of_a_fourth_kind : Reads 4 [] [] []
     (record { outcome = outcome_of_fault (BadSum 1); bytes = []; present = [] }) → ⊥
 no_reading_of_a_fourth_kind e = let same : 4 ≡ 11 = ap (λ (l : Left). l.outcome.fault) e in absurd (omega (arith, same))
 
--- and a file that is no record file as such
+-- and a file that isn't a record file as such
 no_misfit_of_raw_bytes : Reads 0 [] [] [] (record { outcome = misfit; bytes = []; present = [] }) → ⊥
 no_misfit_of_raw_bytes e = let same : 11 ≡ 12 = ap (λ (l : Left). l.outcome.fault) e in absurd (omega (arith, same))
 
--- a file of nothing is its end record: no call may refuse it
+-- the text of an empty image is its end record: no call may refuse it
 not_refused : Writes 1 [] [] file_start (0 ∷ []) (put_none file_start (0 ∷ [])) → ⊥
 not_refused put = absurd (omega (arith, put.good))

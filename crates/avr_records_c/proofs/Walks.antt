@@ -23,7 +23,7 @@ drop-image (suc k) addr present (b ∷ bytes) = grind (arith, nat_tests, drop-im
 from-here : (k : ℕ) (present bytes : List ℕ) → drop k (image_of present bytes) ≡ image_from k present (drop k bytes)
 from-here k present bytes = grind (arith, nat_tests, drop-image)
 
--- a byte, where its bit is 1, and what is after it
+-- a byte, if its bit is 1, and what is after it
 next-here : (k : ℕ) (present bytes : List ℕ) → k < length bytes
     → drop k (image_of present bytes)
     ≡ byte_if_there present k (get_or bytes k 0) ∷ drop (k + 1) (image_of present bytes)
@@ -56,7 +56,7 @@ first-gap k present bytes inside gap = ap (from k) (gap-here k present bytes ins
 pub first-past : (k : ℕ) (present bytes : List ℕ) → length bytes ≤ k → first_from (image_of present bytes) k ≡ None
 first-past k present bytes past = ap (from k) (none-past k present bytes past)
 
--- a gap of so many addresses, some of them perhaps past the memory
+-- a gap of `n` addresses, some of them perhaps past the memory
 pub first-gaps : (n k : ℕ) (present bytes : List ℕ)
     → ((at : ℕ) → k ≤ at → at < k + n → is_there present at ≡ false)
     → first_from (image_of present bytes) k ≡ first_from (image_of present bytes) (k + n)

@@ -56,7 +56,7 @@ pub none_used : (part : Part) (image : List (Option ℕ)) (page : ℕ)
 none_used part image page is = rw is refl
 
 module _ (steps_at : ℕ → List (List Command)) where
-  -- the commands from this place on are those at it and those behind it
+  -- the commands from this place on are those at it and those after it
   pub next_place : (place count : ℕ) → place < count
       → commands_in (each_from steps_at place (count - place))
       ≡ commands_in (steps_at place) + commands_in (each_from steps_at (place + 1) (count - (place + 1)))
@@ -70,7 +70,7 @@ module _ (steps_at : ℕ → List (List Command)) where
       let none : count - place ≡ 0 = omega (arith, past) in
       ap (λ (n : ℕ). commands_in (each_from steps_at place n)) none
 
-  -- where each place has so many commands
+  -- if each place has `each` commands
   pub all_places : (each place count : ℕ) → ((k : ℕ) → commands_in (steps_at k) ≡ each)
       → commands_in (each_from steps_at place count) ≡ count * each
   all_places each place zero all = omega arith

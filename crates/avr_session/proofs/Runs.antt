@@ -1,4 +1,4 @@
--- A run over a link and a desk: where it stops, and what came of it.
+-- A run over a link and a desk: where it stops, and its outcome.
 pub mod Stops
 pub mod Calls
 pub mod Outcomes

@@ -1,4 +1,4 @@
--- Texts that no clause knows, printed piece after piece.
+-- Texts that no clause knows, printed piece by piece.
 use Rattle.std.proofs.Common.{◌≡◌, ◌≢◌, ◌∙◌, ◌<◌, refl, arith, ℕ, Bool, nat_lt, true, false, [], ◌∷◌, ◌++◌, take, codes, inl, inr, subst}
 use Rattle.std.proofs.lemmas.Bool.Decides.{nat_tests}
 use Rattle.ghosts.specs.Failures.{HasRisen}
@@ -69,7 +69,7 @@ printed_part s a b c piece n before part failed follows = record {
   follows = (omega (arith, before.counted.0, follows.0), omega (arith, before.counted.1, follows.1));
 }
 
--- ---- an error of which no clause knows the text
+-- ---- an error whose text no clause knows
 
 pub more_text : (a b : DeskState) (printed : Bool) → PrintsText Messages a b printed → PrintsMore a b
 more_text a b printed prints = record { told = prints.text; kept = prints.kept; follows = prints.follows }

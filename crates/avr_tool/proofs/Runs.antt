@@ -1,4 +1,4 @@
--- Planning and playing as one run.
+-- Planning and session as one run.
 pub mod Joined
 pub mod Refused
 pub mod Untaken

@@ -1,4 +1,4 @@
--- in the order in which to read: counts, what a device stays, and walks of ghost structs
+-- in the order in which to read: counts, devices that keep coming of their beginning, and walks of ghost structs
 pub mod Failures
 pub mod Rows
 pub mod Staying

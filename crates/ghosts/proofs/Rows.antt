@@ -26,7 +26,7 @@ no_count_past_the_end rises = let e : last + 1 ≡ last = rises in omega (arith,
 pub no_count_leaves_the_end : HasRisen last 0 → ⊥
 no_count_leaves_the_end rises = let e : 0 ≡ last = rises in omega (arith, e)
 
--- at its end a count stands though a call failed, so there it shows no soundness
+-- at its end a count stays though a call failed, so there it shows no soundness
 pub a_failure_at_the_end : HasRisen last last
 a_failure_at_the_end = refl
 
@@ -36,7 +36,7 @@ nothing_stood_at_the_end stood = omega (arith, stood.1)
 pub nothing_stood_that_rose : HasStood 0 1 → ⊥
 nothing_stood_that_rose stood = let e : 1 ≡ 0 = stood.0 in omega (arith, e)
 
--- a device that is no longer what it came of
+-- a device that no longer comes of its beginning
 abbrev Is : ℕ → ℕ → Type 0
 Is start device = device ≡ start
 

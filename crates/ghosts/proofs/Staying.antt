@@ -1,4 +1,4 @@
--- A device that stays what it came of, call after call.
+-- A device that keeps coming of its beginning, call after call.
 use Rattle.std.proofs.Common.{◌≡◌, sym, subst}
 use Rattle.ghosts.specs.Stays.{Stays}
 
@@ -11,6 +11,6 @@ module _ {Start Device : Type 0} (ComesOf : Start → Device → Type 0) where
   pub stays_on : (a b c : Device) → Stays ComesOf a b → Stays ComesOf b c → Stays ComesOf a c
   stays_on a b c first second = λ start of. second start (first start of)
 
-  -- what a contract says of a value holds of what was shown for it
+  -- what a contract states of a value holds of what was shown for it
   pub stays_from : (inside now new : Device) → inside ≡ now → Stays ComesOf inside new → Stays ComesOf now new
   stays_from inside now new is stays = λ start of. stays start (subst (ComesOf start) (sym is) of)

@@ -12,7 +12,7 @@ use denote.Struct.Struct.{Struct, within}
 abbrev pub no_fields : Val
 no_fields = vstruct vnil
 
--- it can be had of nothing, as it owns nothing
+-- it needs no resource, because it owns nothing
 module _ {M : Type 1} {𝓤 : Ura M} {𝓛 : Logic 𝓤} {K : Type 0} {Γ : List (Item 𝓤)} {G : Goal 𝓤 𝓛.H} where
   pub made_of_nothing : K → Step K 𝓛
       (‵ ((Struct (record { name = []; args = []; types = []; fields = [] })).own_val tt (no_fields ∷ [])) ∷ Γ) G Γ G

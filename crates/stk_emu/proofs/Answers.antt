@@ -1,4 +1,4 @@
--- What the programmer answers, and what it is afterwards.
+-- The programmer's answers, and its state after them.
 pub mod Texts
 pub mod BodySizes
 pub mod Commands

@@ -8,7 +8,7 @@ use Rattle.std.specs.List.{concat}
 use Rattle.std.specs.Prelude.{◌==◌, All}
 use Rattle.stk_frame.specs.Cut.{cut, rest, cut_behind, rest_behind, piece_size, has_piece, IsPiece, Cuts}
 
--- what stands in front is only counted
+-- the bytes already taken are only counted
 behind_is : (taken : ℕ) (bytes : List ℕ)
     → (cut_behind taken bytes ≡ cut (drop taken bytes)) × (rest_behind taken bytes ≡ rest (drop taken bytes))
 behind_is zero [] = (refl, refl)
@@ -34,7 +34,7 @@ size_positive (a ∷ b ∷ c ∷ d ∷ e ∷ more) = grind (arith, nat_tests)
 long_size : (a b c d e : ℕ) (more : List ℕ) → (a == 27) ≡ true → 5 ≤ piece_size (a ∷ b ∷ c ∷ d ∷ e ∷ more)
 long_size a b c d e more start = rw start (grind (arith, nat_tests))
 
--- few bytes are whole only where they begin with no start byte
+-- fewer than five bytes are whole only if they don't begin with the start byte
 short : (a n : ℕ) → n < 5 → cond (a == 27) 5 1 ≤ n → (a == 27) ≡ false
 short a n few whole = grind (arith, nat_tests)
 
@@ -101,7 +101,7 @@ module _ (P : List ℕ → Type 0) (none : (x : List ℕ) → has_piece x ≡ fa
 fits : (x : List ℕ) → has_piece x ≡ true → piece_size x ≤ length x
 fits x whole = leb-true (piece_size x) (length x) whole
 
--- bytes are cut as their prefix is, and then what it leaves with the bytes after
+-- bytes are cut like their prefix, and then the rest of the prefix with the bytes after
 pub cut_append : (x y : List ℕ) → cut (x ++ y) ≡ cut x ++ cut (rest x ++ y)
 cut_append x y = by_pieces (λ x. cut (x ++ y) ≡ cut x ++ cut (rest x ++ y))
     (λ x part. rw (cut_none x part, rest_none x part) refl)
@@ -144,7 +144,7 @@ taken_size (a ∷ b ∷ c ∷ d ∷ e ∷ more) whole = elim (cases_Bool (a == 2
   | inr other ↦ one_taken a (b ∷ c ∷ d ∷ e ∷ more) other
 ]
 
--- what the cutting finds is pieces, and a part of one is left
+-- the cutting finds pieces, and a part of one is left
 pieces_whole : (x : List ℕ) → All IsPiece (cut x)
 pieces_whole = by_pieces (λ x. All IsPiece (cut x)) (λ x part. rw (cut_none x part) (All-nil IsPiece))
     (λ x whole inner. rw (cut_piece x whole) (All-cons IsPiece (take (piece_size x) x) (cut (drop (piece_size x) x))

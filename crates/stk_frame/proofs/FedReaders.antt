@@ -17,11 +17,11 @@ part_is h part = lt-leb (piece_size h) (length h) part
 whole_is : (h : List ℕ) → piece_size h ≤ length h → has_piece h ≡ true
 whole_is h whole = le-leb (piece_size h) (length h) whole
 
--- of a part all is left
+-- the rest of a part is all of it
 pub rest_part : (h : List ℕ) → length h < piece_size h → rest h ≡ h
 rest_part h part = rest_none h (part_is h part)
 
--- of one piece nothing is left
+-- the rest of a piece is empty
 pub rest_whole : (h : List ℕ) → IsPiece h → rest h ≡ []
 rest_whole h whole = rest_piece h (whole_is h (omega arith)) ∙ ap rest (drop_all (piece_size h) h (omega arith))
 
@@ -61,7 +61,7 @@ fed_on a x b y c found f g = record {
   stands = λ t s. ap rest (sym (append_assoc t x y)) ∙ g.stands (t ++ x) (f.stands t s);
 }
 
--- a whole frame is done with when the next byte comes
+-- a whole frame is dropped when the next byte comes
 pub fed_cleared : (held used new : List ℕ) (found : List (List ℕ)) → IsPiece held → Fed [] used new found
     → Fed held used new found
 fed_cleared held used new found whole f = record {
@@ -76,7 +76,7 @@ pub fed_part : (h u held : List ℕ) → length h < piece_size h → held ≡ h 
     → Fed h u held []
 fed_part h u held part is more = fed_from h u held held [] [] part is refl (cut_none held (part_is held more)) refl
 
--- a piece that is no frame
+-- a piece that isn't a frame
 pub fed_skip : (h u held : List ℕ) → length h < piece_size h → held ≡ h ++ u → IsPiece held → length held ≤ 5
     → Fed h u [] []
 fed_skip h u held part is whole few = fed_from h u held [] (held ∷ []) [] part is
@@ -86,7 +86,7 @@ fed_skip h u held part is whole few = fed_from h u held [] (held ∷ []) [] part
 pub fed_frame : (h u held : List ℕ) → length h < piece_size h → held ≡ h ++ u → IsPiece held → Fed h u held (held ∷ [])
 fed_frame h u held part is whole = fed_from h u held held [] (held ∷ []) part is refl (cut_whole held whole) refl
 
--- a byte that is no start byte, in front of a piece
+-- a byte other than the start byte, in front of a piece
 fed_noise_byte : (b : ℕ) → (b == 27) ≡ false → Fed [] (b ∷ []) [] []
 fed_noise_byte b other = fed_skip [] (b ∷ []) (b ∷ []) (omega arith) refl (rw other refl) (omega arith)
 
@@ -111,7 +111,7 @@ fed_up_to bytes None none = fed_noise (length bytes) bytes (omega arith)
 fed_up_to bytes (Some n) first = fed_noise n bytes (let high = first.0.high in omega arith)
     (λ i below. not_true _ (first.0.before i (omega arith) below))
 
--- one span more of a piece
+-- one more span of a piece
 rest_of : (piece : List ℕ) (used : ℕ) → take (length piece - used) (drop used piece) ≡ drop used piece
 rest_of piece used = take_all (length piece - used) (drop used piece) (omega (arith, length-drop used piece))
 

@@ -12,7 +12,7 @@ use Rattle.stk_frame.specs.Names.{command_names, name_in, status_names}
 pub limits : (LARGEST_BODY ≡ 275) × (LARGEST_FRAME ≡ 281) × (LARGEST_BLOCK ≡ 265)
 limits = (refl, refl, refl)
 
--- bodies that are no command's
+-- bodies that aren't a command's
 pub short_fuse_unread : command_of (0x17 ∷ 0xAC ∷ 0xA0 ∷ 0x00 ∷ []) ≡ None
 short_fuse_unread = refl
 

@@ -1,3 +1,3 @@
--- Where an image has something to write or to compare.
+-- The places of an image with something to write or to compare.
 pub mod PagesAndRuns
 pub mod Differences

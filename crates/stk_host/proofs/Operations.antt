@@ -1,4 +1,4 @@
--- Attempts, steps and operations, as the code goes through them.
+-- Attempts, steps and operations, in the order of the code.
 pub mod Attempts
 pub mod StepEnds
 pub mod Steps

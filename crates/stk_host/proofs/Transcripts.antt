@@ -1,4 +1,4 @@
--- Talks over a link, as they go on in a dialog.
+-- Transcripts of a link, as they go on in a dialog.
 pub mod Laws
 pub mod InDialogs
 pub mod Sending

@@ -1,4 +1,4 @@
--- Bytes of answers in their order, with silences between them, are slots of a tape.
+-- Bytes of answers in their order, with timeouts between them, are slots of a tape.
 use Rattle.std.proofs.Common.{◌≡◌, ℕ, suc, ◌≤◌, ◌<◌, List, [], ◌∷◌, ◌++◌, length, take, drop, refl, sym, ap, ◌∙◌, append_assoc, arith, inl, inr, length-append}
 use Rattle.std.proofs.lemmas.Bool.{cases_lt, lt-leb}
 use Rattle.std.proofs.lemmas.List.{append-nil, append_cancel_left, take-append-le, take-append-drop, take_all, drop_all}
@@ -22,7 +22,7 @@ abbrev pub AreShort : List (List ℕ) → Type 0
 AreShort [] = Unit {0}
 AreShort (piece ∷ pieces) = IsShort piece × AreShort pieces
 
--- after these bytes, where it is silent no part of a piece is left
+-- after these bytes, a timeout comes only between whole pieces
 abbrev pub SilentBetween : List ℕ → Tape → Type 0
 SilentBetween prefix tape = (before after : Tape) → tape ≡ before ++ Silence ∷ after
     → rest (prefix ++ bytes_of before) ≡ []
@@ -56,7 +56,7 @@ shorter prefix more piece later part whole e = elim (cases_lt (length prefix) (l
       absurd (omega (arith, stays, whole, ge, part))
 ]
 
--- and bytes that are shorter than it have no whole piece
+-- and bytes that are shorter than it contain no whole piece
 is_part : (prefix more piece later : List ℕ) → length prefix < length piece → IsPiece piece
     → prefix ++ more ≡ piece ++ later → length prefix < piece_size prefix
 is_part prefix more piece later short whole e = elim (cases_lt (length prefix) (piece_size prefix)) [
@@ -81,7 +81,7 @@ stub_of prefix unheard (piece ∷ pieces) part short e = record {
       omega (arith, lt, few);
 }
 
--- where nothing is unheard, no piece is missing
+-- if every byte was received, no piece is missing
 none_missing : (prefix unheard : List ℕ) (pieces : List (List ℕ)) → length prefix < piece_size prefix → AreShort pieces
     → prefix ++ unheard ≡ concat pieces → unheard ≡ [] → pieces ≡ []
 none_missing prefix unheard [] part short e none = refl

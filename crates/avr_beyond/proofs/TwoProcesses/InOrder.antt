@@ -1,5 +1,5 @@
--- A dialog over a tape that carries a programmer's answers in their order, silences between them: all that is read is
--- honest, and where all came it doesn't wait.
+-- A dialog over a tape that carries a programmer's answers in their order, with timeouts between them. All that is read
+-- is honest, and if all came the dialog doesn't wait.
 use Rattle.std.proofs.Common.{◌≡◌, ℕ, zero, suc, ◌+◌, ◌≤◌, List, [], ◌∷◌, ◌++◌, length, refl, sym, ap, ◌∙◌, subst, append_assoc, arith, inl, inr, ◌⊎◌, Option, Some, None, length-append}
 use Rattle.std.proofs.lemmas.Bool.{cond-true}
 use Rattle.std.specs.List.{concat}
@@ -19,7 +19,7 @@ use Rattle.stk_emu.proofs.Wires.Arrivals.{none_skipped}
 use Rattle.avr_beyond.specs.TwoProcesses.{obeyed}
 use Rattle.avr_beyond.proofs.TwoProcesses.Slots.{Slot, slots_tape, came, IsStub, AreOld, IsOwn, all_older, old_and_own, Finds, FindsNone, Waits, Reads, reads}
 
--- At most so many of a dialog's questions go unanswered in a row from here on, and never more than eight.
+-- From here on at most this many questions of a dialog go unanswered in a row, and never more than eight.
 abbrev pub MissesFew : {E R : Type 0} → ℕ → Dialog E R → Type 0
 MissesFew k (Done r) = Unit {0}
 MissesFew k (Say e dialog) = MissesFew k dialog
@@ -27,7 +27,7 @@ MissesFew zero (Ask bytes go_on) = ⊥
 MissesFew (suc k) (Ask bytes go_on) = ((body : List ℕ) → MissesFew 8 (go_on (Answered body)))
     × MissesFew k (go_on Silent)
 
--- the first so many
+-- the first pieces
 abbrev pub first_of : ℕ → List (List ℕ) → List (List ℕ)
 first_of zero frames = []
 first_of (suc h) [] = []
@@ -46,8 +46,8 @@ abbrev pub answer_list : {P : Type 0} → Device P → List (List ℕ) → P →
 answer_list m [] p = []
 answer_list m (piece ∷ pieces) p = answer_frame m piece p ∷ answer_list m pieces (after_frame m piece p)
 
--- The tape carries the answers to the first so many frames of the dialog's play over it, in their order, after some
--- old ones; the last of them may be missing.
+-- The tape carries the answers to the first `h` frames of the dialog's run over it, in their order, after some old
+-- ones. The last of these answers may be missing.
 pub record Brings {E R P : Type 0} (m : Device P) (d : Dialog E R) (n : ℕ) (tape : Tape) (p : P) (h left : ℕ)
     (more : List (List ℕ)) : Type 0 where
   pub slots : List Slot
@@ -61,7 +61,7 @@ pub record Brings {E R P : Type 0} (m : Device P) (d : Dialog E R) (n : ℕ) (ta
   pub few : length old ≤ missed
   pub comes : came slots ++ more ≡ old ++ answer_list m (first_of h (frames_in (played d n tape).events)) p
 
--- what a question of it comes to
+-- the outcome of its question
 pub record ComesOwn {E R P : Type 0} (m : Device P) (bytes : List ℕ) (go_on : Reading → Dialog E R) (n : ℕ)
     (tape : Tape) (p : P) (h : ℕ)
     (more : List (List ℕ)) : Type 0 where
@@ -107,7 +107,7 @@ module _ {P : Type 0} (m : Device P) (sound : AnswersBodies m) where
     abbrev frames_by : Option (Reading × Tape) → List (List ℕ)
     frames_by o = frames_in (by_answer (λ reading. played (go_on reading) (next n)) o).events
 
-    -- the answers that are due, by how many frames were heard
+    -- the answers that are due, by how many frames were received
     abbrev due : ℕ → Option (Reading × Tape) → List (List ℕ)
     due h o = answer_list m (first_of h (frame n bytes ∷ frames_by o)) p
 
@@ -156,7 +156,7 @@ module _ {P : Type 0} (m : Device P) (sound : AnswersBodies m) where
           };
         }
 
-    -- a silence
+    -- a timeout
     finds_none : (h count missed : ℕ) (tape : Tape) (last : List ℕ) (stub : IsStub last) (more : List (List ℕ))
         (t : Tape) (length_old : ℕ) → t ≡ tape → missed + suc count ≡ 8 → length_old ≤ missed
         → FindsNone n missed length_old t last more (due h (answer n tape))
@@ -234,7 +234,7 @@ module _ {P : Type 0} (m : Device P) (sound : AnswersBodies m) where
         (reads n b.missed (omega (arith, counts)) b.last b.stub more [] b.slots b.old (due h (answer n tape))
         (none_skipped n) (omega (arith, few, counts)) b.are_old (own_due h (answer n tape)) b.comes)
 
-  -- ---- the whole play
+  -- ---- the whole run
 
   abbrev Honest : {E R : Type 0} → Dialog E R → ℕ → Type 0
   Honest d n = (tape : Tape) (p : P) (h left : ℕ) (more : List (List ℕ)) → Brings m d n tape p h left more
@@ -291,7 +291,7 @@ module _ {P : Type 0} (m : Device P) (sound : AnswersBodies m) where
       honest_by bytes go_on n tape p h count more (λ reading. in_order_honest (go_on reading) (next n))
       (asked bytes go_on n p asks.0 h count tape more b) few asks
 
-  -- ---- where all came
+  -- ---- if all came
 
   abbrev Ends : {E R : Type 0} → Dialog E R → ℕ → Type 0
   Ends d n = (tape : Tape) (p : P) (h left : ℕ) → Brings m d n tape p h left [] → MissesFew left d → AsksBodies d

@@ -1,4 +1,4 @@
--- A host that plays a dialog, and a server, at the two ends of a line that keeps their bytes in order.
+-- A host that runs a dialog, and a server, at the two ends of a link that keeps their bytes in order.
 use Rattle.std.proofs.Common.{◌≡◌, ℕ, ◌≤◌, List, [], ◌∷◌, ◌++◌, length, refl, sym, ap, ◌∙◌, subst, append_assoc, arith, Some, None, inl, inr}
 use Rattle.std.proofs.lemmas.Bool.{cases_Bool, cond-true, cond-false}
 use Rattle.std.proofs.lemmas.List.{append-nil}
@@ -94,12 +94,12 @@ has_served TooManyReads p transcript left l = all_served p transcript left l
 
 -- ---- both ends
 
--- the frames of some bytes come first among those of more
+-- the frames of some bytes are the first among those of more
 frames_more : (used more : List ℕ) → frames (used ++ more) ≡ frames used ++ filter is_frame (cut (rest used ++ more))
 frames_more used more = ap (filter is_frame) (cut_append used more)
     ∙ filter-append is_frame (cut used) (cut (rest used ++ more))
 
--- of the frames that were sent those were obeyed that the server took, and so it stands
+-- the server obeyed the frames that it took, and this is its state after them
 pub meet_sent : (p left : Programmer) (host server : Transcript) (serves : HasServed p server left)
     → IsJoined host server
     → after_pieces device (frames (sent host)) (obeyed (length (frames serves.used))) p ≡ left
@@ -142,12 +142,12 @@ module _ {E R : Type 0} (d : Dialog E R) (asks : AsksBodies d) (p left : Program
   arrived_are : first_of arrived (frames_in events) ≡ frames serves.used
   arrived_are = ap (first_of arrived) some_frames.1 ∙ first_prefix (frames serves.used) some_frames.0
 
-  -- so the server stands
+  -- so this is the server's state
   pub meet_leaves : after_pieces device (frames_in events) (obeyed arrived) p ≡ left
   meet_leaves = sym (after_first device answers_bodies arrived (frames_in events) p)
       ∙ (ap (λ fs. after_frames device fs p) arrived_are ∙ sym serves.left_is)
 
-  -- where it stalls between answers alone
+  -- if it stalls between answers alone
   module _ (few : MissesFew 8 d) (endless : HasNoEnd (heard host)) (stalls : StallsBetweenAnswers (heard host)) where
     abbrev unheard : List ℕ
     unheard = joined.down.0 ++ serves.unsent
@@ -180,14 +180,14 @@ module _ {E R : Type 0} (d : Dialog E R) (asks : AsksBodies d) (p left : Program
     pub meet_honest : AreHonest device d 1 (heard host) p (obeyed arrived)
     meet_honest = in_order_honest device answers_bodies d 1 (heard host) p arrived 8 slots.more brings few asks
 
-    -- where all was heard, the host doesn't wait
+    -- if all was received, the host doesn't wait
     pub meet_ends : unheard ≡ [] → length (frames_in events) ≤ arrived → (played d 1 (heard host)).outcome ≡ None → ⊥
     meet_ends none all waits =
         in_order_ends device answers_bodies d 1 (heard host) p arrived 8
         (subst (λ more. Brings device d 1 (heard host) p arrived 8 more) (slots.complete none) brings) few asks all
         waits
 
-    -- on a line that is never silent it goes straight
+    -- on a link without timeouts all goes straight
     pub meet_straight : IsPrompt (heard host) → (r : R) (seq : ℕ) (unread : Tape)
         → (played d 1 (heard host)).outcome ≡ Some (r, seq, unread) → Straight device d 1 (heard host) p arrived r
     meet_straight prompt r seq unread e = goes_straight device answers_bodies d 1 (heard host) p arrived 8 slots.more

@@ -1,4 +1,4 @@
--- Of a session's questions at most eight in a row go unanswered: four attempts of a step, and four to leave.
+-- At most eight of a session's questions in a row go unanswered: four attempts of a step, and four to leave.
 use Rattle.std.proofs.Common.{◌≡◌, ℕ, zero, suc, ◌+◌, ◌≤◌, List, [], ◌∷◌, ◌++◌, refl, sym, subst, arith, Bool, true, false, Ok, Err, Result, Option}
 use Rattle.std.specs.Prelude.{if◌then◌else◌}
 use Rattle.avr_cli.specs.declared.settings.Switches.{Switches}
@@ -26,7 +26,7 @@ use Rattle.avr_session.specs.Actions.{Action, OpenSession, EraseChip, WriteImage
 use Rattle.avr_session.specs.Session.{says, standing, reported, unless_fault, fault_or, opening_says, erased_says, written_says, verified_says, closed_says, read_says, left_out_says, action_dialog, actions_dialog, ending, playing, status_of, session}
 use Rattle.avr_beyond.proofs.TwoProcesses.InOrder.{MissesFew}
 
--- so many more may go unanswered, and at its end so many
+-- how many more may go unanswered now, and how many at the end
 abbrev Misses : {E R : Type 0} → (ℕ → R → Type 0) → ℕ → Dialog E R → Type 0
 Misses Post k (Done r) = Post k r
 Misses Post k (Say e dialog) = Misses Post k dialog

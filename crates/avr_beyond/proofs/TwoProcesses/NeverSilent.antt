@@ -1,4 +1,4 @@
--- Over a line that is never silent all turns are right.
+-- Over a link without timeouts all turns are right.
 use Rattle.std.proofs.Common.{◌≡◌, ℕ, zero, suc, List, [], ◌∷◌, ◌++◌, length, take, drop, refl, sym, ap, ◌∙◌, subst, Bool, true, false, inl, inr, Option, Some, None}
 use Rattle.std.proofs.lemmas.Bool.{cases_Bool, cond-true, cond-false, false≢true}
 use Rattle.std.proofs.lemmas.Option.{none-some}
@@ -44,7 +44,7 @@ abbrev left_of : Option (Reading × Tape) → Tape
 left_of None = []
 left_of (Some (reading, left)) = left
 
--- what is read is no silence, and neither is one left
+-- what is read isn't a timeout, and none is left
 record ReadsOn (o : Option (Reading × Tape)) : Type 0 where
   heard : is_silent o ≡ false
   left : IsPrompt (left_of o)
@@ -69,7 +69,7 @@ answer_on : (n : ℕ) (tape : Tape) → IsPrompt tape → ReadsOn (answer n tape
 unfolding answer
 answer_on n tape p = read_on (first_answer n (cut (take limit (bytes_in tape)))) (take limit (bytes_in tape)) tape p
 
--- The dialog goes along a perfect line.
+-- The dialog goes along a perfect link.
 pub record Straight {E R P : Type 0} (m : Device P) (d : Dialog E R) (n : ℕ) (tape : Tape) (p : P) (h : ℕ) (r : R) :
     Type 0 where
   pub dialog : (along m (length (frames_in (played d n tape).events)) d p []).dialog ≡ Done r

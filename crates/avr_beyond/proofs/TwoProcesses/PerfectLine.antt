@@ -1,4 +1,4 @@
--- A session and a server over a line that cuts nothing and is never silent: for every dialog there is such a run.
+-- A session and a server over a link that cuts nothing and has no timeouts: for every dialog there is such a run.
 use Rattle.std.proofs.Common.{◌≡◌, ◌∙◌, ap, subst, sym, refl, arith, ℕ, ◌≤◌, length, List, [], ◌∷◌, ◌++◌, append_assoc, append-nil, Some, None, inl}
 use Rattle.std.proofs.lemmas.Bool.{and_from, eq-eqb, cond-true, and_parts}
 use Rattle.std.proofs.lemmas.List.Elements.{filter-append}
@@ -35,7 +35,7 @@ use Rattle.avr_emulator.specs.declared.serving.Served.TheVariants.{Ended}
 use Rattle.avr_beyond.proofs.TwoProcesses.InOrder.{after_is, answer_is}
 use Rattle.avr_beyond.specs.TwoProcesses.{Call, HostSays, HostHears, ServerSays, ServerHears, HasRun, IsOrdered, IsPrompt, of_host, of_server}
 
--- each frame is heard and answered at once, and at the end the server hears that of the line
+-- each frame is received and answered at once, and at last the server receives the end of the link
 abbrev asking : List ℕ → List ℕ → List Call → List Call
 asking question reply later = HostSays question ∷ ServerHears (on_tape question) ∷ ServerSays reply
     ∷ HostHears (on_tape reply) ∷ later
@@ -47,9 +47,9 @@ calls_of (Ask bytes go_on) n p =
     asking (frame n bytes) (frame n (device.answer bytes p))
     (calls_of (go_on (Answered (device.answer bytes p))) (next n) (device.after bytes p))
 
--- ---- the line
+-- ---- the link
 
--- at each moment what an end has heard is a prefix of what the other has sent
+-- at each moment what an end has received is a prefix of what the other has sent
 abbrev Joined : List ℕ → List ℕ → List ℕ → List ℕ → Type 0
 Joined said_up heard_up said_down heard_down = IsPrefixOf heard_up said_up × IsPrefixOf heard_down said_down
 
@@ -100,7 +100,7 @@ joined_behind a b c d (ServerHears items ∷ first) later j =
     ∙ ap (λ bs. b ++ bs) (sym (bytes_of_append items (heard (of_server first)))))
     (joined_behind a (b ++ bytes_of items) c d first later j.1)
 
--- all was heard
+-- all was received
 even : (a : List ℕ) → IsPrefixOf a a
 even a = ([], append-nil a)
 
@@ -137,7 +137,7 @@ calls_joined (Ask bytes go_on) n p a c =
     (calls_joined (go_on (Answered (device.answer bytes p))) (next n) (device.after bytes p) (a ++ frame n bytes)
     (c ++ frame n (device.answer bytes p)))
 
--- bytes alone are heard
+-- bytes alone are received
 bytes_prompt : (bytes : List ℕ) (tape : Tape) → IsPrompt tape → IsPrompt (on_tape bytes ++ tape)
 bytes_prompt [] tape prompt = prompt
 bytes_prompt (b ∷ bytes) tape prompt = bytes_prompt bytes tape prompt
@@ -181,7 +181,7 @@ own_answer n bytes later b =
     let few : length (frame n bytes) ≤ limit = let f = b.few in rw (length_frame n bytes) (omega (arith, f)) in
     answer_found n (frame n bytes) later bytes found few
 
--- a question that was answered so
+-- a question with this answer
 asked : {E R : Type 0} (bytes : List ℕ) (go_on : Reading → Dialog E R) (n : ℕ) (reply : List ℕ) (later : Tape)
     → IsBody reply
     → played (Ask bytes go_on) n (on_tape (frame n reply) ++ later)
@@ -190,7 +190,7 @@ asked bytes go_on n reply later b =
     ap (λ o. behind (Frame (frame n bytes) ∷ []) (by_answer (λ reading. played (go_on reading) (next n)) o))
     (own_answer n reply later b)
 
--- the play of the dialog, whatever follows on the line
+-- the run of the dialog, whatever follows on the link
 pub record IsWhole {E R : Type 0} (d : Dialog E R) (n : ℕ) (transcript : Transcript) : Type 0 where
   pub events : List (Event E)
   pub result : R
@@ -228,7 +228,7 @@ host_plays (Ask bytes go_on) n p asks =
       all_sent = ap (λ bs. frame n bytes ++ bs) inner.all_sent;
     }
 
--- a dialog in turn, as one that it goes on as
+-- a dialog in turn, as one that continues it
 module _ {E R : Type 0} (d e : Dialog E R) (n k : ℕ) (prefix : Tape) (events : List (Event E))
     (goes : (tape : Tape) → played d n (prefix ++ tape) ≡ behind events (played e k tape)) where
   turns_behind : (transcript : Transcript) (tape : Tape) (bytes : List ℕ) → TurnsFrom e k tape bytes transcript
@@ -277,7 +277,7 @@ host_in_turn (Ask bytes go_on) n p asks =
 
 -- ---- the server
 
--- it was fed whole frames, and stands as they left it
+-- it was fed whole frames, and is as they left it
 record HasObeyed (p : Programmer) (text : List ℕ) (now : Programmer) : Type 0 where
   whole : rest text ≡ []
   stands : now ≡ after_frames device (frames text) p
@@ -318,7 +318,7 @@ left_of (Done r) n p = p
 left_of (Say e d) n p = left_of d n p
 left_of (Ask bytes go_on) n p = left_of (go_on (Answered (device.answer bytes p))) (next n) (device.after bytes p)
 
--- After any text of whole frames, that it answered, it answers all that it hears.
+-- After any text of whole frames that it answered, it answers all that it receives.
 record ServesOn (p : Programmer) (text : List ℕ) (transcript : Transcript) (left : Programmer) : Type 0 where
   in_turn : AnswersInTurn p text (emulate p text) transcript
   fed : HasObeyed p (text ++ bytes_of (heard transcript)) left
@@ -359,7 +359,7 @@ serves_on (Ask bytes go_on) n now p text asks was =
           ∙ append_assoc (emulate p text) (frame n reply) (sent later);
     }
 
--- the end of the line is heard last
+-- the end of the link is received last
 ends : {E R : Type 0} (d : Dialog E R) (n : ℕ) (p : Programmer)
     → (before : Tape) × HasNoEnd before × (heard (of_server (calls_of d n p)) ≡ before ++ End ∷ [])
 ends (Done r) n p = ([], tt, refl)

@@ -1,4 +1,4 @@
--- A session and a server at the two ends of an ordered line.
+-- A session and a server at the two ends of an ordered link.
 use Rattle.std.proofs.Common.{◌≡◌, ℕ, List, [], ◌∷◌, ◌++◌, length, refl, sym, ap, ◌∙◌, subst, append_assoc, arith, All, inl, inr, Some, Ok}
 use Rattle.std.proofs.lemmas.List.{append-nil}
 use Rattle.avr_desk.specs.Record.{Bytes}
@@ -41,7 +41,7 @@ use Rattle.avr_beyond.proofs.TwoProcesses.NeverSilent.{prompt_stalls}
 use Rattle.avr_beyond.proofs.TwoProcesses.Misses.{session_few}
 use Rattle.avr_laws.proofs.AnyLink.{since_none, over_any_line, over_any_end, IsFirst, sent_first}
 
--- where something is heard, all answers had been sent
+-- whenever something is received, all earlier answers had been sent
 answered_at : (p : Programmer) (text answered : List ℕ) (before after : Transcript) (items : Tape)
     → AnswersInTurn p text answered (before ++ Got items ∷ after)
     → answered ++ sent before ≡ emulate p (text ++ bytes_of (heard before))
@@ -120,7 +120,7 @@ module _ (plan : Plan) (s : chips.ChipState) (is_sound : IsSoundChip s) (part_is
         never_wait up down (answered_at (fresh_programmer s) [] [] server [] server_items server_turns)
         (due_at (session plan) 1 [] [] host [] host_items host_turns)
 
-    -- whatever becomes of both
+    -- whatever happens to both
     pub touched : (left : Programmer) (serves : HasServed (fresh_programmer s) server left) → IsJoined host server
         → IsPrefixOf (sent host) (bytes_sent (played (session plan) 1 (heard host)).events)
         → OverTurns plan (fresh_programmer s) left
@@ -157,7 +157,7 @@ module _ (plan : Plan) (s : chips.ChipState) (is_sound : IsSoundChip s) (part_is
           (over_any_line plan s is_sound part_is fitted (heard host) becames (honest left serves joined prefix)
           (sent host) (on_tape after.unread ++ []) events status after.next over plays.all_sent)
 
-      -- and one over a line that is never silent
+      -- and one over a link without timeouts
       pub expected_of : (left : Programmer) → HasServed (fresh_programmer s) server left → IsJoined host server
           → IsPrompt (heard host)
           → (status ≡ (expected_run plan (memories_of s)).status)
@@ -182,7 +182,7 @@ module _ (plan : Plan) (s : chips.ChipState) (is_sound : IsSoundChip s) (part_is
             ap (λ (q : Programmer). memories_of q.chip) (sym stands) ∙ came.memories,
           )
 
-  -- over an ordered line that stalls anywhere, and makes no frame
+  -- over an ordered link that stalls anywhere, and forges no frame
   pub stalling : (left : Programmer) (host server : Transcript) (events : List (Event OutputEvent)) (status : ℕ)
       (after : Progress)
       (serves : HasServed (fresh_programmer s) server left) → IsJoined host server
@@ -202,7 +202,7 @@ module _ (plan : Plan) (s : chips.ChipState) (is_sound : IsSoundChip s) (part_is
       (on_tape after.unread ++ [])
       events status after.next over plays.all_sent)
 
-  -- whatever becomes of both
+  -- whatever happens to both
   module _ (calls : List Call) (ordered : IsOrdered calls) (stalls : StallsBetweenAnswers (heard (of_host calls)))
       (left : Programmer) (serves : HasServed (fresh_programmer s) (of_server calls) left) where
     abbrev Ended : Type 0
@@ -221,7 +221,7 @@ module _ (plan : Plan) (s : chips.ChipState) (is_sound : IsSoundChip s) (part_is
   -- THE TWO PROCESSES, from these devices to those
   module _ (calls : List Call) (old new : Devices) (server_old server_new : Devices) (file : Bytes)
       (most status served_status : ℕ) where
-    -- what passed since nothing had passed is all of it, at the server's end and at the host's
+    -- with an empty transcript before, what passed since is the whole transcript, at the server's end and at the host's
     served_all : server_old.link.transcript ≡ [] → server_new.link.transcript ≡ of_server calls
         → (serves : ServesChip s file most server_old server_new served_status)
         → HasServed (fresh_programmer s) (of_server calls) serves.left.programmer
@@ -256,7 +256,7 @@ module _ (plan : Plan) (s : chips.ChipState) (is_sound : IsSoundChip s) (part_is
               (ordered.joined calls [] (sym (append-nil calls))),
         )
 
-    -- and over a line that is never silent
+    -- and over a link without timeouts
     pub one_expected : (after : Progress) → IsOrdered calls → IsPrompt (heard (of_host calls))
         → old.link.transcript ≡ [] → new.link.transcript ≡ of_host calls → server_old.link.transcript ≡ []
         → server_new.link.transcript ≡ of_server calls

@@ -1,4 +1,4 @@
--- A tape that carries answers in their order, silences between them: what is read of it for one question.
+-- A tape that carries answers in their order, with timeouts between them: what is read of it for one question.
 use Rattle.std.proofs.Common.{◌≡◌, ℕ, suc, ◌+◌, ◌*◌, ◌%◌, ◌≤◌, ◌≢◌, List, [], ◌∷◌, ◌++◌, length, refl, sym, ap, ◌∙◌, subst, append_assoc, arith, inl, inr, ◌⊎◌, Some, None, length-append}
 use Rattle.std.proofs.lemmas.List.{append-nil}
 use Rattle.stk_frame.specs.Frame.{frame}
@@ -17,7 +17,7 @@ pub data Slot : Type 0 where
   Came : List ℕ → Slot
   Quiet : Slot
 
--- so they stand on a tape, and after them the prefix of one more answer
+-- so they are on a tape, and after them the prefix of one more answer
 abbrev pub slots_tape : List Slot → List ℕ → Tape
 slots_tape [] last = on_tape last
 slots_tape (Came piece ∷ slots) last = on_tape piece ++ slots_tape slots last
@@ -28,12 +28,12 @@ came [] = []
 came (Came piece ∷ slots) = piece ∷ came slots
 came (Quiet ∷ slots) = came slots
 
--- bytes in which no piece is whole
+-- bytes that contain no whole piece
 pub record IsStub (last : List ℕ) : Type 0 where
   pub none : cut last ≡ []
   pub few : length last ≤ 281
 
--- the answer to one of the last so many frames before that of this number
+-- the answer to one of the last `c` frames before that of this number
 pub record IsOld (n c : ℕ) (piece : List ℕ) : Type 0 where
   pub seq : ℕ
   pub bytes : List ℕ
@@ -88,7 +88,7 @@ pub old_and_own : (n c : ℕ) (pieces : List (List ℕ)) (piece : List ℕ) → 
 old_and_own n c [] piece o own = (own_older n c piece own, tt)
 old_and_own n c (old ∷ pieces) piece o own = (one_older n c old o.0, old_and_own n c pieces piece o.1 own)
 
--- ---- bytes that are passed over
+-- ---- bytes that are skipped
 
 other_number : (n seq back c : ℕ) → c ≤ 255 → 1 ≤ back → back ≤ c → (seq + back) % 256 ≡ n % 256 → seq ≢ n
 other_number n seq back c most some few number e = omega (arith, most, some, few, number, e)
@@ -110,7 +110,7 @@ pub record Finds (n : ℕ) (t : Tape) (last : List ℕ) (more answers : List (Li
   pub is : answer n t ≡ Some (Answered bytes, slots_tape slots last)
   pub left : came slots ++ more ≡ later
 
--- a silence
+-- a timeout
 pub record FindsNone (n c count : ℕ) (t : Tape) (last : List ℕ) (more answers : List (List ℕ)) : Type 0 where
   pub slots : List Slot
   pub old : List (List ℕ)
@@ -155,7 +155,7 @@ module _ (n c : ℕ) (most : c ≤ 255) (last : List ℕ) (stub : IsStub last) (
   prefix_none : (prefix : List ℕ) → Skipped n prefix → first_answer n (cut prefix) ≡ None
   prefix_none prefix passed = ap (λ bs. first_answer n (cut bs)) (sym (append-nil prefix)) ∙ passed.first []
 
-  -- after bytes that were passed over
+  -- after bytes that were skipped
   pub reads : (prefix : List ℕ) (slots : List Slot) (old answers : List (List ℕ)) → Skipped n prefix
       → length prefix + 281 * length old ≤ 3000 → AreOld n c old
       → ((piece : List ℕ) (later : List (List ℕ)) → answers ≡ piece ∷ later → IsOwn n piece)

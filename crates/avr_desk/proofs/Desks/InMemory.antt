@@ -1,4 +1,4 @@
--- A desk in memory, call after call: what it keeps stays true of what it began with.
+-- A desk in memory, call after call: what it keeps stays true by the files that it began with.
 use Rattle.std.proofs.Common.{◌≡◌, ◌∙◌, sym, ap, subst, refl, arith, ℕ, ◌==◌, ◌&&◌, ◌||◌, not, Bool, true, false, List, [], ◌∷◌, ◌++◌, append_assoc, append-nil, take, drop, length, Some, None, if◌then◌else◌}
 use Rattle.std.proofs.Math.Seq.{drop-append_seam}
 use Rattle.std.proofs.lemmas.Bool.Decides.{nat_tests}
@@ -20,7 +20,7 @@ use Rattle.avr_desk.specs.declared.record.Writing.{Writing}
 
 -- ---- uses that are joined
 
--- uses after those, by the files of both
+-- later uses are true, by the files of both
 pub true_append : (stock : Stock) (made : List Writing) (first last : List FileUse) → AreTrue stock made first
     → AreTrue stock (made ++ files_among first) last → AreTrue stock made (first ++ last)
 true_append stock made [] last are behind = subst (λ fs. AreTrue stock fs last) (append-nil made) behind
@@ -30,7 +30,7 @@ true_append stock made (Created file ∷ first) last are behind =
     true_append stock (made ++ file ∷ []) first last are
     (subst (λ fs. AreTrue stock fs last) (sym (append_assoc made (file ∷ []) (files_among first))) behind)
 
--- the later ones were true by the files of both
+-- the later uses were true, by the files of both
 pub true_behind : (stock : Stock) (made : List Writing) (first last : List FileUse) → AreTrue stock made (first ++ last)
     → AreTrue stock (made ++ files_among first) last
 true_behind stock made [] last are = subst (λ fs. AreTrue stock fs last) (sym (append-nil made)) are
@@ -48,13 +48,13 @@ of_open stock m y is = tt
 pub all_true : (stock : Stock) (m : MemDeskState) → HoldsTrue stock m → AreTrue stock [] (all_uses m.kept)
 all_true stock m holds = grind (arith, nat_tests, true_append, of_open)
 
--- what a new desk has is what it begins with
+-- a new desk has the files that it begins with
 pub begins_true : (m : MemDeskState) → m.kept ≡ nothing_kept → HoldsTrue (stock_of m) m
 begins_true m fresh = grind (arith, nat_tests)
 
 -- ---- one call
 
--- what it began with is not touched
+-- a call doesn't change what the desk began with
 stock_same : (old new : MemDeskState) → new.input ≡ old.input → new.stored ≡ old.stored → stock_of new ≡ stock_of old
 stock_same old new input stored = ap (λ (b : Bytes). stock b new.stored) input ∙ ap (stock old.input) stored
   where
@@ -78,7 +78,7 @@ same_true old new input stored opened uses current = λ stock holds. record {
     )
     open_same stock (ToWrite x) is = tt
 
--- the open file is put by, perhaps after it a use that is over, and nothing is read
+-- the open file is put by, perhaps with a finished use after it, and nothing is read
 pub put_by_true : (more : List FileUse) (old new : MemDeskState) → new.input ≡ old.input → new.stored ≡ old.stored
     → new.kept.uses ≡ all_uses old.kept ++ more
     → ((stock : Stock) → HoldsTrue stock old → AreTrue stock (all_files old.kept) more)
@@ -90,12 +90,12 @@ put_by_true more old new input stored uses behind current = λ stock holds. reco
   current = current stock;
 }
 
--- what a name stands for is what it stood for, of all files
+-- a name has the same bytes as before, among all files
 stands : (stock : Stock) (m : MemDeskState) (name : Bytes) → HoldsTrue stock m
     → contents name m ≡ stood_for stock (all_files m.kept) name
 stands stock m name holds = ap (λ (s : Stock). stood_for s (all_files m.kept) name) holds.began
 
--- a change of what is kept, where there was memory for it, and none where there was not
+-- the record changes if memory was allocated, otherwise it stays
 changed_true : (ok : Bool) (change : Record → Record) (old new : MemDeskState) → new.input ≡ old.input
     → new.stored ≡ old.stored → new.opened ≡ old.opened
     → new.kept ≡ (if ok then change old.kept else old.kept) → (new.kept ≡ change old.kept → Stays HoldsTrue old new)
@@ -113,21 +113,21 @@ created_true ok file old new input stored opened kept =
     put_by_true [] old new input stored (ap (λ (r : Record). r.uses) is ∙ sym (append-nil (all_uses old.kept)))
     (λ stock holds. tt) (λ stock. subst (λ (r : Record). IsOpenTrue stock new r.current) (sym is) tt))
 
--- or made whole
+-- or replaced whole
 pub replaced_true : (ok : Bool) (file : Writing) (old new : MemDeskState) → new.input ≡ old.input
     → new.stored ≡ old.stored
     → new.opened ≡ old.opened
     → new.kept ≡ (if ok then with_replaced file.name file.bytes old.kept else old.kept) → Stays HoldsTrue old new
 replaced_true ok file old new input stored opened kept = grind (arith, nat_tests, changed_true, put_by_true, subst)
 
--- no file of this name is there
+-- there is no file of this name
 pub absent_true : (ok : Bool) (name own : Bytes) (old new : MemDeskState) → own ≡ name → None ≡ contents name old
     → new.input ≡ old.input → new.stored ≡ old.stored → new.opened ≡ old.opened
     → new.kept ≡ (if ok then with_absent own old.kept else old.kept) → Stays HoldsTrue old new
 absent_true ok name own old new same none input stored opened kept =
     grind (arith, nat_tests, changed_true, put_by_true, stands, subst)
 
--- a file is opened that has these bytes
+-- a file with these bytes is opened
 pub opened_true : (ok : Bool) (name own bytes first : Bytes) (old new : MemDeskState) → ok ≡ true → own ≡ name
     → first ≡ []
     → new.opened ≡ bytes → Some bytes ≡ contents name old → new.input ≡ old.input → new.stored ≡ old.stored
@@ -147,11 +147,11 @@ opened_true true name own bytes first old new ok same none has there input store
 }
 opened_true false name own bytes first old new ok same none has there input stored kept = absurd (cc)
 
--- what a desk shows is what it was inside
+-- the state that a desk shows is the one inside
 pub from_inside : (inside now new : MemDeskState) → inside ≡ now → Stays HoldsTrue inside new → Stays HoldsTrue now new
 from_inside inside now new is stays = λ stock holds. stays stock (subst (HoldsTrue stock) (sym is) holds)
 
--- bytes of the open file are read, or its end is seen, for which there has to be room
+-- bytes of the open file are read, or its end is seen, which needs room in the buffer
 module _ (old new : MemDeskState) (ends : Bool) (n room : ℕ) (whole gave next piece : Bytes)
     (whole_is : whole ≡ old.opened)
     (gave_is : gave ≡ bytes_given old.kept.current)

@@ -42,7 +42,7 @@ no_dash_behind [] back none = none
 no_dash_behind (file ∷ prefix) back none =
     no_dash_behind prefix back (or_parts (is_dash file.name) (has_dash (prefix ++ back)) none).1
 
--- bytes more don't make a file the output
+-- more bytes don't make a file the output
 same_dash_behind : (files one other : List Writing) → has_dash one ≡ has_dash other
     → has_dash (files ++ one) ≡ has_dash (files ++ other)
 same_dash_behind [] one other same = same
@@ -79,7 +79,7 @@ module _ {H : Type 0} (reads : Reads H) where
   no_more None bytes piece few = tt
   no_more (Some x) bytes piece few = grind (arith, common_steps, few)
 
-  -- a read of no bytes into some room is one at the end
+  -- a read of no bytes into a non-empty buffer is one at the end
   end_seen : (old new : H) (buf : Bytes) (n : ℕ) → GivesBytes reads old new buf n
       → (n == 0 && not (is_nil buf)) ≡ true → IsAtEnd (reads.remaining new)
   end_seen old new buf n gives end = grind (arith, nat_tests)
@@ -158,7 +158,7 @@ module _ {S F H I O E : Type 0} (system : Ghosts S F H) (reads : Reads F) (write
     files = λ are. g.files (f.files are);
   }
 
-  -- what a desk shows is what it was inside
+  -- the state that a desk shows is the one inside
   pub from_inside : {inside now new : Desk} → inside ≡ now → Since inside new → Stays Since now new
   from_inside {inside = inside} {new = new} is then =
       λ start first. true_on start inside new (subst (Since start) (sym is) first) then
@@ -187,7 +187,7 @@ module _ {S F H I O E : Type 0} (system : Ghosts S F H) (reads : Reads F) (write
   pub true_now : (a : Desk) → Since a a
   true_now a = quiet refl refl (λ none. none) (λ none was. was) (λ are. are)
 
-  -- all is as it was but the uses, and what is open
+  -- only the uses and the open file change
   files_now : {o p : Held F I} {h : Option H} {r : Record} {uses : List FileUse} {current : Open} → Files o h r
       → All TrueUse uses → TrueOpen p current → Files p h (record r { uses = uses; current = current })
   files_now are uses current = record { uses = uses; current = current; denied = are.denied; held = are.held }
@@ -250,7 +250,7 @@ module _ {S F H I O E : Type 0} (system : Ghosts S F H) (reads : Reads F) (write
       create_true x kept (no_dash ∙ ap is_dash (sym same))
       (x, refl, (h, subst (system.is_of h) (sym same) named, Appends-nil (writes.contents h)))
 
-  -- a file was replaced; what was held is let go
+  -- a file was replaced, and the held file released
   pub replace_true : {b c : Desk} {name own bytes : Bytes} → own ≡ name → c.output ≡ b.output
       → c.messages ≡ b.messages → c.hold ≡ None → c.opened ≡ held.Nothing → c.kept ≡ with_replaced own bytes b.kept
       → system.replaced name bytes → Since b c
@@ -281,7 +281,7 @@ module _ {S F H I O E : Type 0} (system : Ghosts S F H) (reads : Reads F) (write
         held = still b.kept.held are.held;
       })
 
-  -- bytes were read of what is open
+  -- bytes of the open file were read
   read_on_open : (old new : Held F I) (buf : Bytes) (n : ℕ) (o : Open) → HeldGives reads input old new buf n
       → TrueOpen old o → TrueOpen new (read_on buf n o)
   read_on_open (held.Input i) new buf n o (now, is, gives) (x, same, (dash, first, given)) =
@@ -316,7 +316,7 @@ module _ {S F H I O E : Type 0} (system : Ghosts S F H) (reads : Reads F) (write
       quiet refl refl (λ none. none) (λ none was. same ∙ was)
       (λ are. files_now are are.uses (kept_open b.opened o b.kept.current none are.current))
 
-  -- bytes went to a file of its own
+  -- bytes went to a file other than the output
   write_on : (old new : F) (bytes : Bytes) (o : Open) → Appends (writes.contents old) (writes.contents new) bytes
       → TrueOpen (held.ToWrite old) o → TrueOpen (held.ToWrite new) (written_on bytes o)
   write_on old new bytes o took (x, same, (first, named, all)) = (

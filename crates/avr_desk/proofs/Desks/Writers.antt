@@ -1,10 +1,10 @@
--- What a writer whose bytes are known has taken.
+-- What a writer with known bytes has taken.
 use Rattle.std.proofs.Common.{◌≡◌, ◌∙◌, refl, ap, ℕ, ◌++◌, append-nil, take, drop, take-append-drop, Option, None, Some}
 use Rattle.std.specs.Io.KnownBytes.{Keeps, Appends}
 use Rattle.avr_desk.specs.Record.{Bytes}
 use Rattle.avr_desk.specs.Shown.{AppendsPrefix}
 
--- so many of the bytes are a prefix of them
+-- the first `n` of the bytes are a prefix of them
 pub took_prefix : (a b : Option Bytes) (n : ℕ) (bytes : Bytes) → Appends a b (take n bytes) → AppendsPrefix a b bytes
 took_prefix a b n bytes took = (take n bytes, (drop n bytes, take-append-drop n bytes), took)
 

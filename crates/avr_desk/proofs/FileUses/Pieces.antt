@@ -1,4 +1,4 @@
--- Pieces of a file that are read one after the other.
+-- Pieces of a file that are read one after another.
 use Rattle.std.proofs.Common.{◌≡◌, ◌∙◌, ap, ap₂, refl, ℕ, ◌++◌, ◌||◌, Bool, true, false, Result, Ok, Err, append_assoc, take, ◌==◌, ◌&&◌, not, arith}
 use Rattle.std.proofs.lemmas.Bool.Decides.{nat_tests}
 use Rattle.avr_desk.specs.Record.{Record, Bytes, showing, after_open, after_read, noted, is_nil}
@@ -15,7 +15,7 @@ pub opened_read : (name : Bytes) (old now new : Record) (bytes : Bytes) (ended :
     → new ≡ after_reading bytes ended now → new ≡ with_read name bytes ended old
 opened_read name old now new bytes ended opened read = read ∙ ap (after_reading bytes ended) opened
 
--- (the counts say nothing here)
+-- without the counts
 pub reads_opened : (name : Bytes) (old now new : Record) (r : Result Contents FileFault)
     → now ≡ after_open name (Ok tt) old → ReadsOpen (showing now 0 0) (showing new 0 0) r
     → ReadsFile name (showing old 0 0) (showing new 0 0) r
@@ -24,7 +24,7 @@ reads_opened name old now new (Err NotRead) opened read = grind (arith, nat_test
 reads_opened name old now new (Err Memory) opened read = grind (arith, nat_tests)
 reads_opened name old now new x opened read = absurd read
 
--- a piece read, and the next
+-- a piece that was read, and the next
 noted-noted : (o : Open) (a b : Bytes) (ends : Bool) → noted b ends (noted a false o) ≡ noted (a ++ b) ends o
 noted-noted (ToRead x) a b ends =
     ap₂ (λ (bytes : Bytes) (ended : Bool). ToRead (record x { bytes = bytes; ended = ended }))

@@ -21,7 +21,7 @@ openings_append [] last = refl
 openings_append (Opened opening ∷ first) last = ap (λ (os : List Opening). opening ∷ os) (openings_append first last)
 openings_append (Created file ∷ first) last = openings_append first last
 
--- ---- the open file is a use as all others
+-- ---- the open file is a use like any other
 
 file_used : (o : Open) → files_among (use_of o) ≡ file_of o
 file_used y = grind (arith, nat_tests)

@@ -1,4 +1,4 @@
--- What the counts of failures say of a write.
+-- What the counts of failures show of a write.
 use Rattle.std.proofs.Common.{◌≡◌, ℕ, Result, Ok}
 use Rattle.avr_desk.specs.Fault.{HasSameCounts, WriteCounts}
 use Rattle.avr_desk.specs.Record.{Bytes, DeskState}

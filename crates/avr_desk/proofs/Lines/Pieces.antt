@@ -1,4 +1,4 @@
--- Pieces of a line, written one after the other.
+-- Pieces of a line, written one after another.
 use Rattle.std.proofs.lemmas.Bool.Decides.{nat_tests}
 use Rattle.std.proofs.Common.{◌≡◌, ◌∙◌, ap, refl, subst, arith, ℕ, ◌+◌, List, [], ◌∷◌, ◌++◌, append_assoc, append-nil, take, drop, length, map, get_or, ◌<◌, OnOk, OnErr, Result, Ok, Err}
 use Rattle.std.specs.List.{concat}
@@ -12,7 +12,7 @@ use Rattle.avr_desk.specs.Lines.{line, text_of}
 use Rattle.avr_desk.specs.Said.{IsPrinted}
 use Rattle.avr_desk.specs.declared.line.Piece.{Piece}
 
--- what the pieces come to
+-- the text of all pieces
 abbrev pub all_text : List Piece → List ℕ
 all_text ps = concat (map text_of ps)
 
@@ -20,7 +20,7 @@ all_text-append : (ps qs : List Piece) → all_text (ps ++ qs) ≡ all_text ps +
 all_text-append [] qs = refl
 all_text-append (p ∷ ps) qs = grind (arith, nat_tests, all_text-append ps qs, append_assoc)
 
--- the pieces before the ith, the ith and those after it
+-- the pieces before the ith, the ith, and those after it
 pub all_text_at : (ps : List Piece) (i : ℕ) (d : Piece) → i < length ps
     → all_text ps ≡ all_text (take i ps) ++ (text_of (get_or ps i d) ++ all_text (drop (i + 1) ps))
 all_text_at ps i d l =
@@ -32,7 +32,7 @@ all_text_more ps i d l =
     ap all_text (take_more ps i d l) ∙ all_text-append (take i ps) (get_or ps i d ∷ [])
     ∙ ap (λ (b : List ℕ). all_text (take i ps) ++ b) (append-nil (text_of (get_or ps i d)))
 
--- a line is as long as its mark and the pieces up to the ith, or longer
+-- a line is at least as long as its mark and the pieces up to the ith
 pub line_longer : (mark so_far : List ℕ) (ps : List Piece) (i : ℕ) (d : Piece) (room : ℕ) → i < length ps
     → so_far ≡ mark ++ all_text (take i ps) → room < length so_far + length (text_of (get_or ps i d))
     → room < length (line mark (map text_of ps))
@@ -52,7 +52,7 @@ line_longer mark so_far ps i d room within is over =
       length-append it after,
     )
 
--- the end of a line after its mark and its text (the counts say nothing here)
+-- the end of a line after its mark and its text, without the counts
 pub line_ends : (old first then new : Record) (mark text : List ℕ) (result : Result (Unit {0}) DeskFault)
     → first ≡ after_err mark old → then ≡ after_err text first
     → OnOk result (new ≡ after_err (10 ∷ []) then)

@@ -1,4 +1,4 @@
--- Bytes that are sent one after the other.
+-- Bytes that are sent one after another.
 use Rattle.std.proofs.lemmas.Bool.Decides.{nat_tests}
 use Rattle.std.proofs.Common.{◌≡◌, ◌∙◌, ap, sym, refl, arith, ℕ, ◌+◌, ◌-◌, ◌++◌, append_assoc, append-nil, take, drop, length, [], ◌≤◌}
 use Rattle.std.proofs.Math.Seq.{take-add, take-append-add}
@@ -35,13 +35,13 @@ sent_none Messages r = ap (λ (m : Bytes). record r { messages = m }) (sym (appe
 pub slice_rest : (bytes : Bytes) (m : ℕ) → take (length bytes - m) (drop m bytes) ≡ drop m bytes
 slice_rest bytes m = grind (arith, common_steps)
 
--- the first m bytes are sent, and then the next n
+-- the first m bytes are sent, then the next n
 pub sent_on : (s : Stream) (old now new : Record) (bytes : Bytes) (m n : ℕ) → now ≡ after_sent s (take m bytes) old
     → new ≡ after_sent s (take n (take (length bytes - m) (drop m bytes))) now
     → new ≡ after_sent s (take (m + n) bytes) old
 sent_on s old now new bytes m n first then = grind (arith, nat_tests, slice_rest, after_sent-after_sent, take-add)
 
--- the first m bytes are sent, and of the others a prefix (the counts say nothing here)
+-- the first m bytes are sent, then a prefix of the others; without the counts
 pub sent_on_part : (s : Stream) (old now new : Record) (bytes : Bytes) (m : ℕ) → m ≤ length bytes
     → now ≡ after_sent s (take m bytes) old
     → SendsPart s (showing now 0 0) (showing new 0 0) (take (length bytes - m) (drop m bytes))
@@ -53,12 +53,12 @@ sent_on_part s old now new bytes m within first part =
     let bound : n ≤ length (take (length bytes - m) (drop m bytes)) = part.1 in
     (m + n, omega (arith, size, bound, within), sent_on s old now new bytes m n first part.2)
 
--- some bytes are sent, and then others
+-- some bytes are sent, then others
 pub sent_next : (s : Stream) (old now new : Record) (a b : Bytes) → now ≡ after_sent s a old → new ≡ after_sent s b now
     → new ≡ after_sent s (a ++ b) old
 sent_next s old now new a b first then = then ∙ ap (after_sent s b) first ∙ after_sent-after_sent s old a b
 
--- and of the others only a part
+-- and only a part of the others
 pub sent_next_part : (s : Stream) (old now new : Record) (a b c : Bytes) → now ≡ after_sent s a old
     → SendsPart s (showing now 0 0) (showing new 0 0) b
     → SendsPart s (showing old 0 0) (showing new 0 0) (a ++ (b ++ c))

@@ -16,29 +16,29 @@ use Rattle.avr_desk.specs.Said.{IsPrinted, TellsLine, Tells, TellsFailure}
 pub follows_here : (a : DeskState) → Follows a a
 follows_here a = (omega arith, omega arith)
 
--- and one that follows one that follows another
+-- and follows each desk that the one before it follows
 pub follows_on : (a b c : DeskState) → Follows a b → Follows b c → Follows a c
 follows_on a b c first then = (omega (arith, first.0, then.0), omega (arith, first.1, then.1))
 
--- no failure was counted of one that is as it was, nor after one and another
+-- no failure was counted at an unchanged desk, nor in two stretches without one
 pub same_here : (a : DeskState) → HasSameCounts a a
 same_here a = (refl, refl)
 
 pub same_on : (a b c : DeskState) → HasSameCounts a b → HasSameCounts b c → HasSameCounts a c
 same_on a b c first then = (then.0 ∙ first.0, then.1 ∙ first.1)
 
--- and such a desk follows
+-- without a counted failure a desk follows
 pub follows_same : (a b : DeskState) → HasSameCounts a b → Follows a b
 follows_same a b same = (omega (arith, same.0), omega (arith, same.1))
 
--- a failure at the file, or at the messages, is the first since before where none was counted
+-- a failure at the file, or at the messages, is also the first since any time after which none was counted
 pub failed_since : (a b c : DeskState) → HasSameCounts a b → HasFailedAt File b c → HasFailedAt File a c
 failed_since a b c same failed = (subst (λ n. HasRisen n c.failures) same.0 failed.0, failed.1 ∙ same.1)
 
 pub unsaid_since : (a b c : DeskState) → HasSameCounts a b → HasFailedToSay b c → HasFailedToSay a c
 unsaid_since a b c same failed = grind (arith, nat_tests)
 
--- a desk whose count stood has not failed in between
+-- a desk with an unchanged count has not failed in between
 pub not_failed : (a b c d : DeskState) → Follows a b → Follows c d → HasStood a.failures d.failures → HasFailed b c → ⊥
 not_failed a b c d first last = stood_has_not_risen a.failures b.failures c.failures d.failures first.0 last.0
 
@@ -57,7 +57,7 @@ tells_line old new line (Ok done) is counts only = grind (arith, nat_tests)
 tells_line old new line (Err NotFound) is counts only = cc
 tells_line old new line (Err Failed) is counts only = grind (arith, nat_tests, take-append-drop is.0 line)
 
--- what was reported since then was reported since before, where no failure was counted
+-- if no failure was counted, the report since then is the report since before
 pub tells_since : (line told : List ℕ) (a b c : DeskState) → HasSameCounts a b → TellsLine line told b c
     → TellsLine line told a c
 tells_since line told a b c first (inl whole) = inl (whole.0, same_on a b c first whole.1)
@@ -67,7 +67,7 @@ pub failure_since : (line told : List ℕ) (a b c : DeskState) → HasSameCounts
     → TellsFailure line told a c
 failure_since line told a b c first failure = grind (arith, nat_tests)
 
--- The desk failed, and from then on that was reported.
+-- The desk failed, and this was reported from then on.
 pub failure_told : (old mid new : DeskState) (line : List ℕ) → Follows old mid → HasFailedAt File old mid
     → (told : Tells mid new line)
     → TellsFailure line told.told old new

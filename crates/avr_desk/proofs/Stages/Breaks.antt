@@ -1,4 +1,4 @@
--- What is reported where a stage broke off, by what a desk shows.
+-- What is reported if a stage broke off, by what a desk shows.
 use Rattle.std.proofs.lemmas.Bool.Decides.{nat_tests}
 use Rattle.std.proofs.Common.{arith, ◌≡◌, ◌∙◌, sym, ap, subst, refl, ℕ, ◌⊎◌, inl, inr, List, [], ◌∷◌, ◌++◌, drop, append-nil, append_assoc, Result, Ok, Err, true, false}
 use Rattle.std.proofs.lemmas.List.{append_cancel_left}
@@ -18,26 +18,26 @@ use Rattle.avr_desk.specs.Playing.{Break, InLine, NotOpened, NotRead, NoMemory, 
 use Rattle.avr_desk.specs.Stage.{Stage, StageAnswer, Made, Refused, StageResult, all_told, ◌>>=◌, next_opening, file_stage}
 use Rattle.avr_desk.proofs.Stages.Played.{says_more}
 
--- ---- where the desk did not fail
+-- ---- if the desk didn't fail
 
--- this line stands at the end of the messages
+-- this line is at the end of the messages
 abbrev EndsWith : Bytes → Record → Type 0
 EndsWith line r = (prefix : Bytes) × (r.messages ≡ prefix ++ line)
 
--- a line reported does
+-- a reported line is
 told_last : (before after : Record) (said last : List OutputEvent) (told line : Bytes) → told ≡ line
     → ((r : Record) → (after_all last r).messages ≡ r.messages ++ told)
     → after ≡ after_all (said ++ last) before → EndsWith line after
 told_last before after said last told line whole ends kept = grind (arith, nat_tests, after_append)
 
--- of a desk that did not fail a line was reported whole
+-- if the desk didn't fail, a line was reported whole
 whole_line : (line told : Bytes) (old new : DeskState) → HasStood old.failures new.failures
     → TellsLine line told old new
     → told ≡ line
 whole_line line told old new sound (inl whole) = whole.0
 whole_line line told old new sound (inr part) = grind (arith, nat_tests)
 
--- and of the breaks only the want of memory is left
+-- and of the breaks only a failed allocation is left
 broke_lacks : {A : Type 0} (taking : Taking) (stage : Stage A) (before after : Record) (k l m n : ℕ) → HasStood k l
     → StageBrokeOff taking stage (showing before k m) (showing after l n) → EndsWith memory_line after
 broke_lacks taking stage before after k l m n sound b = by_break b.break b.told b.tells b.kept
@@ -64,7 +64,7 @@ broke_lacks taking stage before after k l m n sound b = by_break b.break b.told 
         (whole_line memory_line told old new sound tells)
         (λ r. refl) kept
 
--- So a status other than that of a plan is the refusal that the stage says.
+-- So a status other than that of a plan is the refusal that the stage returns.
 pub sound_refusal : {A : Type 0} (taking : Taking) (stage : Stage A) (before after : Record) (k l m n status : ℕ)
     → HasStood k l
     → ((prefix : Bytes) → after.messages ≡ prefix ++ memory_line → ⊥)
@@ -74,7 +74,7 @@ sound_refusal taking stage before after k l m n status sound has_memory (one, in
 sound_refusal taking stage before after k l m n status sound has_memory (one, inr broke) =
     let lacks = broke_lacks taking stage before after k l m n sound broke in absurd (has_memory lacks.0 lacks.1)
 
--- ---- where the desk shows no file that was opened
+-- ---- if the desk shows no opened file
 
 abbrev pub openings_in : List OutputEvent → List Opening
 openings_in [] = []
@@ -130,9 +130,9 @@ same_openings first second r kept =
     append_cancel_left (all_openings r) (openings_in first) (openings_in second)
     (sym (openings_shown first r) ∙ (ap all_openings same ∙ openings_shown second r))
 
--- ---- a stage that begins with the opening of a file
+-- ---- a stage that begins by opening a file
 
--- whatever files give, the first that it says is the opening of the file of this name
+-- whatever files give, its first output event is the opening of the file of this name
 abbrev pub Begins : {A : Type 0} → Bytes → Stage A → Type 0
 Begins name stage = (openings : List Opening)
     → (extra : List OutputEvent) × ((stage openings).says ≡ Opens (next_opening name openings) ∷ extra)
@@ -148,22 +148,22 @@ pub begins_file : {A : Type 0} (name : Bytes) (limit : ℕ) (judge : Bytes → R
     → Begins name (file_stage name limit judge)
 begins_file name limit judge openings = grind (arith, nat_tests)
 
--- the one that is after them all has this name too
+-- the opening after all of them has this name too
 same_name : (name other : Bytes) (passed : List Opening) → next_opening name (passed ++ []) ≡ Absent other
     → name ≡ other
 same_name name other y is = grind (arith, nat_tests)
 
--- the line of a refusal stands after what was said first
+-- the line of a refusal comes after the first output
 told_first : {A : Type 0} (first : OutputEvent) (says : List OutputEvent) (answer : StageAnswer A)
     → all_told (first ∷ says) answer ≡ first ∷ all_told says answer
 told_first first says x = grind (arith, nat_tests)
 
--- nothing but this line was reported since
+-- only this line was reported since
 only_told : (r : Record) (told line : Bytes) → after_err told r ≡ after_all (Line line ∷ []) r → told ≡ line
 only_told r told line kept = grind (arith, nat_tests, append_cancel_left)
 
--- Of a stage that begins so, where the desk shows no opening: the file could not be opened, and that was reported, or
--- memory was refused, and that was, where it is taken before anything was said.
+-- A stage that begins like this, at a desk that shows no opening. Either the file could not be opened, and that was
+-- reported; or an allocation before any output failed, and that was reported.
 module _ {A : Type 0} (taking : Taking) (name told : Bytes) (stage : Stage A) (begins : Begins name stage) (r : Record)
     (k l m n : ℕ) where
   abbrev pub Old : DeskState
@@ -243,7 +243,7 @@ module _ {A : Type 0} (taking : Taking) (name told : Bytes) (stage : Stage A) (b
 
 -- ---- a file that was opened and is good
 
--- it was read to its end, and this is what it comes to
+-- it was read to its end, and this is its outcome
 module _ {A : Type 0} (name : Bytes) (limit : ℕ) (judge : Bytes → Result A Bytes) (bytes told : Bytes) (good : A)
     (given : judge bytes ≡ Ok good) (taking : Taking) (r : Record) (k l m n : ℕ) where
   abbrev Before : DeskState
@@ -265,7 +265,7 @@ module _ {A : Type 0} (name : Bytes) (limit : ℕ) (judge : Bytes → Result A B
   abbrev made : List Opening → StageResult A
   made left = record { says = Opens (Found reading) ∷ []; answer = Made good; left = left }
 
-  -- where the next opening gives it, it is made
+  -- if the next opening gives it, it is made
   comes_to : (openings : List Opening) → next_opening name openings ≡ Found reading
       → file_stage name limit judge openings ≡ made (drop 1 openings)
   comes_to openings is = rw (is, given) refl
@@ -296,7 +296,7 @@ module _ {A : Type 0} (name : Bytes) (limit : ℕ) (judge : Bytes → Result A B
   before_it (NoMemoryFor x) line tells kept =
       subst (λ t. TellsLine memory_line t Before After) (sym (told_is (Found x) line kept)) tells
 
-  -- or after it, where nothing more is said
+  -- or after it, if nothing more is reported
   behind_it : (break : Break) (line : Bytes) (opening : Opening) → IsBreak break [] []
       → TellsBreak break line Before After → Leaves_it (Opens opening ∷ last_done break line)
       → TellsLine memory_line told Before After
@@ -337,7 +337,7 @@ module _ {A : Type 0} (name : Bytes) (limit : ℕ) (judge : Bytes → Result A B
       (ap (λ (p : StageResult A). p.answer) (comes_to openings opening)) is in
       by_end first (next_opening name openings) whole later break line first_is none is_made tells kept
 
-  -- So the desk was shown to open it, to its end, and what was reported is the line of memory.
+  -- So the desk showed its opening, read to the end, and what was reported is the line of memory.
   pub opened_is_told : (status : ℕ) → Goes taking (file_stage name limit judge) (showing r k m)
       (showing (after_all done r) l n) (Err status) → TellsLine memory_line told Before After
   opened_is_told status (one, inl (line, went)) =
@@ -362,8 +362,8 @@ module _ {A : Type 0} (name : Bytes) (limit : ℕ) (judge : Bytes → Result A B
 same_refusal : {A : Type 0} (line other : Bytes) → ◌≡◌ {A = StageAnswer A} (Refused line) (Refused other) → line ≡ other
 same_refusal line other is = cc
 
--- Whatever files give, it is refused by this line, and says nothing before it: so of it nothing was reported but that
--- line, or that memory was refused, where it is taken there.
+-- Whatever files give, the stage is refused by this line, with no output before it. So either that line was reported,
+-- or a failed allocation, if the stage allocates there.
 module _ {A : Type 0} (line told : Bytes) (stage : Stage A)
     (refuses : (openings : List Opening) → stage openings
     ≡ record { says = []; answer = Refused line; left = openings })

@@ -15,12 +15,12 @@ use Rattle.avr_desk.proofs.Stages.Played.{goes_refused}
 use Rattle.avr_desk.specs.Playing.{Taking, AtStart, Goes, Went}
 use Rattle.avr_desk.specs.Stage.{Made, verdict_stage, content_stage, file_stage}
 
--- no memory is taken
+-- nothing is allocated
 pub taken_never : (passed : List Opening) (said : List OutputEvent) → AtStart false passed said → ⊥
 taken_never passed said never = let clash : false ≡ true = never.0 in cc
 
 module _ {A : Type 0} (taking : Taking) (name : Bytes) (limit : ℕ) (judge : Bytes → Result A Bytes) where
-  -- the judgment of what the file gave
+  -- the judgement of the file's bytes
   pub goes_whole : (bytes : Bytes) (ended : Bool) (old mid new : DeskState) (result : Result A ℕ)
       → Passes (with_read name bytes ended) old mid → IsWhole limit (record { bytes = bytes; ended = ended })
       → HasSameCounts old mid

@@ -1,4 +1,4 @@
--- Stages that begin with the opening of a file.
+-- Stages that begin by opening a file.
 use Rattle.std.proofs.Common.{◌≡◌, refl, subst, ap, arith, ℕ, List, [], ◌∷◌, Bool, true, false, nat_lt, ◌||◌, length, Result, Err}
 use Rattle.std.proofs.lemmas.Bool.Decides.{nat_tests}
 use Rattle.avr_desk.specs.Fault.{Follows, HasFailedAt, HasSameCounts}
@@ -23,7 +23,7 @@ use Rattle.avr_desk.specs.Stage.{Stage, Made, StageResult, ◌>>=◌, verdict_st
 abbrev after_opening : List Opening → Opening → StageResult Opening
 after_opening more opening = record { says = Opens opening ∷ []; answer = Made opening; left = more }
 
--- the file of this name gave this, and so the stage goes on
+-- the file of this name gave this, so the stage goes on
 pub goes_opened : {A : Type 0} (inner taking : Taking) (name : Bytes) (next : Opening → Stage A) (opening : Opening)
     (old mid new : DeskState) (result : Result A ℕ)
     → under_name name opening ≡ opening → Passes (after_all (Opens opening ∷ [])) old mid → HasSameCounts old mid
@@ -77,7 +77,7 @@ goes_unopened taking name next old mid new status same rose failed one told =
     (subst (λ (kept : Record). new.kept ≡ after_err told.told kept) same told.kept)
     (follows_on old mid new rose told.follows)
 
--- or not be read on
+-- or could not be read to its end
 goes_unread : {A : Type 0} (taking : Taking) (name bytes : Bytes) (next : Opening → Stage A) (old mid new : DeskState)
     (status : ℕ)
     → Passes (with_read name bytes false) old mid → Follows old mid → HasFailedAt File old mid → status ≡ 1
@@ -88,7 +88,7 @@ goes_unread taking name bytes next old mid new status kept rose failed one told 
     (kept_append (part_read name bytes ∷ []) (Line told.told ∷ []) old.kept mid.kept new.kept kept told.kept)
     (follows_on old mid new rose told.follows)
 
--- or there was no memory for it
+-- or allocation failed for it
 goes_unheld : {A : Type 0} (taking : Taking) (name bytes : Bytes) (ended : Bool) (next : Opening → Stage A)
     (old mid new : DeskState)
     (status : ℕ)
@@ -101,7 +101,7 @@ goes_unheld taking name bytes ended next old mid new status kept same one told =
     (kept_append (Opens (Found reading) ∷ []) (Line told.told ∷ []) old.kept mid.kept new.kept kept told.kept)
     (follows_on old mid new (follows_same old mid same) told.follows)
 
--- any fault of the file but that it is not there
+-- any fault of the file except that it doesn't exist
 pub goes_broken : {A : Type 0} (taking : Taking) (name : Bytes) (next : Opening → Stage A) (fault : FileFault)
     (old mid new : DeskState)
     (status : ℕ)
@@ -119,14 +119,14 @@ goes_broken taking name next file_fault.Memory old mid new status there breaks r
 
 -- ---- a file that is kept whole as it is read
 
--- (the counts say nothing here)
+-- without the counts
 pub breaks_as : (name : Bytes) (old mid : Record) (fault : FileFault)
     → ReadsFile name (showing old 0 0) (showing mid 0 0) (Err fault)
     → FileBreaks name (showing old 0 0) (showing mid 0 0) fault
 breaks_as name old mid file_fault.Memory reads = (reads.0, false, reads.1)
 breaks_as name old mid x reads = reads
 
--- (what is kept says nothing here)
+-- without the record
 pub counted_as : (k l m n : ℕ) (fault : FileFault)
     → FaultCounts (showing nothing_kept k m) (showing nothing_kept l n) (Err fault)
     → IsCounted (showing nothing_kept k m) (showing nothing_kept l n) fault

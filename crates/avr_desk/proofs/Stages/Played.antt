@@ -1,4 +1,4 @@
--- Stages that were played, one after the other.
+-- Stages that ran, one after another.
 use Rattle.std.proofs.lemmas.Bool.Decides.{nat_tests}
 use Rattle.std.proofs.Common.{arith, ◌≡◌, sym, subst, inl, inr, ap, List, [], ◌∷◌, ◌++◌, ℕ, take, drop, refl, Ok, Err, Result, append_assoc, append-nil}
 use Rattle.std.proofs.lemmas.List.{take-append-drop}
@@ -39,20 +39,20 @@ break_more (NotRead name bytes) more later extra is = next_more (Opens (next_ope
 break_more NoMemory more later extra is = is
 break_more (NoMemoryFor reading) more later extra is = next_more (Opens (next_opening reading.name more)) later extra is
 
--- what a stage says, the stage after it says after that
+-- the output of the next stage comes after this one's
 pub says_more : {A B : Type 0} (says : List OutputEvent) (left : List Opening) (go_on : A
     → Stage B) (answer : StageAnswer A)
     → (extra : List OutputEvent) × ((going_on says left go_on answer).says ≡ says ++ extra)
 says_more says left go_on (Made a) = ((go_on a left).says, refl)
 says_more says left go_on x = ([], sym (append-nil says))
 
--- the line of a refusal stands after both
+-- the line of a refusal comes after both
 pub told_append : {A : Type 0} (first second : List OutputEvent) (answer : StageAnswer A)
     → all_told (first ++ second) answer ≡ first ++ all_told second answer
 told_append first second (Refused line) = append_assoc first second (Line line ∷ [])
 told_append first second x = refl
 
--- the output events of the next stage stand behind a rest
+-- the output events of the next stage come after a rest
 rest_on : {A B : Type 0} (says : List OutputEvent) (left : List Opening) (go_on : A → Stage B) (answer : StageAnswer A)
     (whole : List OutputEvent) (break : Break) (more : List Opening)
     → Rest (record { says = says; answer = answer; left = left }) whole break more
@@ -91,13 +91,13 @@ went_went stage go_on old mid new a answer first then = record {
   sound = same_on old mid new first.sound then.sound;
 }
 
--- memory that is taken here is taken there
+-- an allocation of the inner stage is one of the whole
 taken_there : (inner taking : Taking) (break : Break) (passed all : List Opening) (said told : List OutputEvent)
     → (inner passed said → taking all told) → TakesThere inner break passed said → TakesThere taking break all told
 taken_there inner taking NoMemory passed all said told there is = there is
 taken_there inner taking x passed all said told there is = tt
 
--- what takes memory after a stage that made something
+-- what allocates after a stage that succeeded
 abbrev pub TakesBehind : {A : Type 0} (inner taking : Taking) (stage : Stage A) (old mid : DeskState) (a : A)
     → Went stage old mid (Made a) → Type 0
 TakesBehind inner taking stage old mid a first = (passed : List Opening) (said : List OutputEvent) → inner passed said
@@ -128,7 +128,7 @@ broke_then : {A B : Type 0} (taking : Taking) (stage : Stage A) (go_on : A → S
     → StageBrokeOff taking stage old new → StageBrokeOff taking (stage >>= go_on) old new
 broke_then taking stage go_on old new first = grind (arith, nat_tests, rest_more)
 
--- a stage that made something, and how the next one goes
+-- a stage that succeeded, and how the next one goes
 pub goes_on : {A B : Type 0} (inner taking : Taking) (stage : Stage A) (go_on : A → Stage B) (old mid new : DeskState)
     (a : A) (result : Result B ℕ) (went : Went stage old mid (Made a))
     → TakesBehind inner taking stage old mid a went
@@ -140,13 +140,13 @@ goes_on inner taking stage go_on old mid new a (Err status) went behind (one, in
 goes_on inner taking stage go_on old mid new a (Err status) went behind (one, inr then) =
     (one, inr (went_broke inner taking stage go_on old mid new a went behind then))
 
--- a stage that made nothing
+-- a stage that didn't succeed
 pub goes_no_further : {A B : Type 0} (taking : Taking) (stage : Stage A) (go_on : A → Stage B) (old new : DeskState)
     (status : ℕ) → Goes taking stage old new (Err status) → Goes taking (stage >>= go_on) old new (Err status)
 goes_no_further taking stage go_on old new status (one, inl went) = grind (arith, nat_tests)
 goes_no_further taking stage go_on old new status (one, inr broke) = grind (arith, nat_tests, broke_then)
 
--- where memory may be refused in more places
+-- if allocation may fail in more places
 pub goes_within : {A : Type 0} (inner taking : Taking) (stage : Stage A) (old new : DeskState) (result : Result A ℕ)
     → ((passed : List Opening) (said : List OutputEvent) → inner passed said → taking passed said)
     → Goes inner stage old new result → Goes taking stage old new result
@@ -156,7 +156,7 @@ goes_within inner taking stage old new (Err status) within (one, inr broke) = gr
 
 -- ---- stages that read nothing
 
--- nothing is said or read
+-- nothing is printed or read
 pub went_nowhere : {A : Type 0} (d : DeskState) (a : A) → Went (verdict_stage (Ok a)) d d (Made a)
 went_nowhere d a = record { passed = []; says = []; comes = λ more. refl; kept = kept_none d.kept; sound = same_here d }
 
@@ -198,13 +198,13 @@ pub goes_refused : {A : Type 0} (taking : Taking) (old new : DeskState) (line : 
 goes_refused {A} taking old new line status one told =
     (one, (refused_by {A = A} taking old new line told.told told.tells told.kept told.follows).1)
 
--- memory that was refused
+-- a failed allocation
 pub goes_without_memory : {A : Type 0} (taking : Taking) (stage : Stage A) (old new : DeskState) (status : ℕ)
     → taking [] [] → status ≡ 1 → Tells old new memory_line → Goes taking stage old new (Err status)
 goes_without_memory taking stage old new status takes one told =
     (one, inr (broke_here taking stage old new NoMemory told.told takes (λ more. tt) told.tells told.kept told.follows))
 
--- ---- judgments, and what is said
+-- ---- judgements, and output
 
 pub went_settled : {A : Type 0} (r : Result A (List ℕ)) (a : A) (d : DeskState) → r ≡ Ok a
     → Went (verdict_stage r) d d (Made a)
@@ -240,7 +240,7 @@ goes_output_part taking old new line fault part is counts = (
       ((drop part.0 line, take-append-drop part.0 line), failed_counts old new fault is counts) part.2 counts.0),
 )
 
--- what was made, made into something else
+-- the result, made into another
 pub went_into : {A B : Type 0} (stage : Stage A) (f : A → B) (old new : DeskState) (a : A) → Went stage old new (Made a)
     → Went (stage >>= λ x. verdict_stage (Ok (f x))) old new (Made (f a))
 went_into stage f old new a went = went_went stage (λ x. verdict_stage (Ok (f x))) old new new a (Made (f a)) went

@@ -97,7 +97,7 @@ within_low from end k a = let first : nat_le from k ≡ false = grind (arith, na
 pub within_high : (from end k : ℕ) → end ≤ k → is_within from end k ≡ false
 within_high from end k b = grind (arith, nat_tests)
 
--- the part of a word's bits that a span has, against the span
+-- the part of a word's bits that a span has, compared with the span
 in_word : (at stop k : ℕ) → at < stop → stop ≤ at / 64 * 64 + 64 → k / 64 ≡ at / 64
     → is_within (at % 64) (stop - at / 64 * 64) (k % 64) ≡ is_within at stop k
 in_word at stop k l room same = grind (arith, nat_tests)

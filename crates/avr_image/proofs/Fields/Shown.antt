@@ -1,4 +1,4 @@
--- How the fields of an image are seen.
+-- The fields of an image, as an image.
 use Rattle.std.proofs.lemmas.Bool.Decides.{nat_tests}
 use Rattle.std.proofs.Common.{◌≡◌, ◌≢◌, ◌∙◌, sym, ap, ap₂, refl, arith, ℕ, suc, zero, ◌+◌, ◌*◌, ◌/◌, ◌%◌, ◌^◌, ◌<◌, ◌≤◌, List, [], ◌∷◌, length, get_or, set, Bool, true, false, Option, Some, None, replicate, bit_or, is_some, count_by, inl, inr, w64, min, take, drop, ◌++◌, ◌-◌}
 use Rattle.std.proofs.Math.ListN.{get_or-eq_default}
@@ -133,14 +133,14 @@ pub past : (words bytes : List ℕ) {image : List (Option ℕ)} (i : ℕ) → de
     → None ≡ byte_at image i
 past words bytes {image} i seen l = grind (arith, nat_tests, byte_at-past, length_shown)
 
--- FF stays where no byte is, when a byte is laid down
+-- when a byte is laid down, FF stays at addresses without a byte
 pub blank-marked : (words bytes : List ℕ) (a b : ℕ) → a < length bytes → a / 64 < length words
     → ((i : ℕ) → i < length bytes → is_present words i ≡ false → get_or bytes i 0 ≡ 255)
     → (i : ℕ) → i < length (set bytes a b) → is_present (with_mark words a) i ≡ false → get_or (set bytes a b) i 0 ≡ 255
 blank-marked words bytes a b l within blank i j none =
     grind (arith, nat_tests, cases_eq, present-same, get_or-set_other, length-set, present-other)
 
--- a byte as it is kept is what `fill` writes for its address
+-- a stored byte is what `fill` writes for its address
 pub kept_byte : (words bytes : List ℕ) {image : List (Option ℕ)} (a : ℕ) → dense_image words bytes ≡ image
     → ((i : ℕ) → i < length bytes → is_present words i ≡ false → get_or bytes i 0 ≡ 255)
     → get_or bytes a 255 ≡ or_blank (byte_at image a)
@@ -232,7 +232,7 @@ none_taken x = grind (arith, nat_tests)
 pub no_run_past : (image : List (Option ℕ)) (addr end : ℕ) → length image ≤ addr → addr ≡ run_end image addr end
 no_run_past image addr end l = grind (arith, nat_tests, drop_all, none_taken)
 
--- all bytes as they are kept are what `fill` writes for all addresses
+-- all stored bytes are what `fill` writes for all addresses
 pub kept_whole : (words bytes : List ℕ) {image : List (Option ℕ)} → dense_image words bytes ≡ image
     → ((i : ℕ) → i < length bytes → is_present words i ≡ false → get_or bytes i 0 ≡ 255)
     → bytes ≡ filled_bytes image 0 (length image)
@@ -243,7 +243,7 @@ kept_whole words bytes {image} seen blank =
     ∙ kept_byte words bytes i seen blank
     ∙ ap (λ (k : ℕ). or_blank (byte_at image k)) (omega arith))
 
--- what is kept as bytes is seen as bytes
+-- what is stored as bytes is shown as bytes
 pub holds_bytes : (words bytes : List ℕ) {image : List (Option ℕ)} → dense_image words bytes ≡ image
     → ((i : ℕ) → get_or bytes i 0 < 256) → HoldsBytes image
 holds_bytes words bytes {image} seen small addr byte is =

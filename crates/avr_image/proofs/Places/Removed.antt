@@ -48,7 +48,7 @@ shown-removed words bytes a l within =
           ∙ sym (get_or-set_other (dense_image words bytes) a i None None differ))
     ])
 
--- FF stands where no byte is, when one is taken away
+-- when a byte is taken away, FF is at addresses without a byte
 pub blank-removed : (words bytes : List ℕ) (a : ℕ) → a < length bytes → a / 64 < length words
     → ((i : ℕ) → i < length bytes → is_present words i ≡ false → get_or bytes i 0 ≡ 255)
     → (i : ℕ) → i < length (set bytes a 255) → is_present (without_mark words a) i ≡ false

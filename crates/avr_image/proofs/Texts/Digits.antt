@@ -49,7 +49,7 @@ pub digit_left : (radix rest at next : ℕ) → 2 ≤ radix → at ≡ next + 1 
 digit_left radix rest at next low step l =
     grind (arith, nat_tests, add-one next, pow-suc 2 next, mul-le-mul_left (2 ^ next) low)
 
--- the digits of a byte below `at` are to be written, and the others stand from there on
+-- the digits of a byte below `at` are still to be written, and the others are in place from there on
 pub record IsWritten (radix byte rest at : ℕ) (buffer : List ℕ) : Type 0 where
   pub joined : digits_onto (56 + at) radix false rest (drop at buffer) ≡ digits radix false byte
 
@@ -86,7 +86,7 @@ eq_test a b e = grind (arith, nat_tests, e)
 pub ne_test : (a b : ℕ) → a ≢ b → eqb a b ≡ false
 ne_test a b n = grind (arith, nat_tests, n)
 
--- a number that isn't 0 takes a digit
+-- a number other than 0 needs a digit
 pub digit_more : (n places : ℕ) → n ≢ 0 → n < 2 ^ places → 0 < places
 digit_more n zero some l = absurd (some (omega (arith, l)))
 digit_more n (suc places) some l = omega arith

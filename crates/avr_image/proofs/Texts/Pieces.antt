@@ -5,7 +5,7 @@ use Rattle.std.proofs.KnownBytes.{Appends-nil, Appends-trans}
 use Rattle.std.proofs.lemmas.List.{append-nil, length-append, nil_from_length}
 use Rattle.std.specs.Io.KnownBytes.{Appends}
 
--- what came, and what is left, is the whole
+-- what came and what is left are the whole
 pub goes_on : (text piece old left whole : List ℕ) → text ++ old ≡ whole → old ≡ piece ++ left
     → (text ++ piece) ++ left ≡ whole
 goes_on text piece old left whole so_far split = grind (arith, nat_tests, append_assoc)
@@ -13,7 +13,7 @@ goes_on text piece old left whole so_far split = grind (arith, nat_tests, append
 pub is_whole : (text left whole : List ℕ) → text ++ left ≡ whole → length left ≡ 0 → text ≡ whole
 is_whole text left whole so_far none = grind (arith, nat_tests, append-nil, nil_from_length)
 
--- after an empty piece, where nothing was left, nothing is left
+-- if a piece is empty and nothing was left, nothing is left after it
 pub none_left : (old piece left : List ℕ) → old ≡ piece ++ left → length old ≡ 0 → left ≡ []
 none_left old piece left split none = grind (arith, nat_tests, nil_from_length, length-append)
 
@@ -39,7 +39,7 @@ pub all_written : (old now : Option (List ℕ)) (left whole : List ℕ) → Writ
 all_written old now left whole written none =
     subst (Appends old now) (is_whole written.prefix left whole written.split none) written.appended
 
--- what the loops need that join pieces, or write them
+-- what the loops that join or write pieces need
 pub ruleset joins = (goes_on, is_whole, none_left)
 
 pub ruleset writes = (piece_written, all_written, none_left)

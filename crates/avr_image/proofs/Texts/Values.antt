@@ -1,4 +1,4 @@
--- Values laid down one after the other are the values of the text.
+-- Values laid down one after another are the values of the text.
 use Rattle.std.proofs.Common.{◌≡◌, ◌∙◌, sym, ap, refl, arith, ℕ, suc, zero, ◌+◌, ◌<◌, ◌≤◌, List, [], ◌∷◌, ◌++◌, length, map, filter, take, drop, replicate, eqb, Bool, false, cond, nat_lt, Option, Some, None, Result, Ok, Err, inl, inr}
 use Rattle.std.proofs.lemmas.List.{length-append, append_assoc, append-nil, length-take}
 use Rattle.std.proofs.lemmas.Bool.{cases_Bool}
@@ -131,7 +131,7 @@ pub pieces_prefix : (xs : List ℕ) (n : ℕ) → n ≡ position_or_len is_separ
 pieces_prefix xs n here some =
     grind (arith, nat_tests, prefix_len-le-length, length-take, nat_lt, lt_test, filter, prefix, pieces_tails)
 
--- one piece more, at fault or not
+-- one more piece, with a fault or without
 pub piece_bad : (image : List (Option ℕ)) (addr : ℕ) (piece : List ℕ) (more : List (List ℕ)) (fault : ImageFault)
     → with_piece image addr piece ≡ Err fault → with_pieces image addr (piece ∷ more) ≡ Err fault
 piece_bad image addr piece more fault e = grind (arith, nat_tests)

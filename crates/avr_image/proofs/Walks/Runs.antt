@@ -12,7 +12,7 @@ use Rattle.avr_image.specs.Walk.{IsLongestRun, IsByteRun}
 use Rattle.avr_image.proofs.Fields.Shown.{byte_at-past}
 use Rattle.avr_image.proofs.Walks.Places.{next_held, run_ends, is_filled}
 
--- ---- the first run, and what stands after it
+-- ---- the first run, and what is after it
 
 -- the first run begins here or after
 abbrev Begins : ℕ → List (ℕ × List ℕ) → Type 0
@@ -135,7 +135,7 @@ lead-short x = omega arith
 
 -- ---- the bytes of an image at their addresses
 
--- those that are there, where the image's part begins at `addr`
+-- the bytes that are there, if the image's part begins at `addr`
 abbrev held_places : ℕ → List (Option ℕ) → List (ℕ × ℕ)
 held_places addr [] = []
 held_places addr (None ∷ image) = held_places (addr + 1) image

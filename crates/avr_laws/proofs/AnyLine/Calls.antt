@@ -32,7 +32,7 @@ module _ {P : Type 0} (m : Device P) where
     abbrev told : Dialog ⊥ StepOutcome → Dialog OutputEvent Standing
     told d = reported (d >>= (λ outcome. Done (judged_by judge outcome))) outcome_says
 
-    -- what is said moves nothing
+    -- output moves nothing
     pub told_programmer : (k : ℕ) (d : Dialog ⊥ StepOutcome) (p : P) (turns : List Turn)
         → (along m k (told d) p turns).programmer ≡ (along m k d p turns).programmer
     told_programmer k (Done o) p turns =

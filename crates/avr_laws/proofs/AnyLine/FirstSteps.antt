@@ -1,4 +1,4 @@
--- The memories of some first steps of items, and of items one after another.
+-- The memories after some first steps of items, and after items one after another.
 use Rattle.std.proofs.Common.{◌≡◌, ℕ, zero, suc, ◌+◌, ◌≤◌, List, [], ◌∷◌, ◌++◌, length, refl, sym, ap, ◌∙◌, subst, append_assoc, arith}
 use Rattle.std.specs.Prelude.{min}
 use Rattle.avr_part.specs.declared.part.Mem.{Mem}
@@ -13,12 +13,12 @@ use Rattle.stk_emu.specs.PageWrites.{changed, changed_by, page_write_of, steps_o
 use Rattle.avr_laws.proofs.Each.{Each, each_of}
 use Rattle.avr_laws.proofs.PageWrites.Items.{items_do, changed_all, effect_sizes}
 
--- the memories of the first so many of these steps, in any mode
+-- the memories after some number of first steps, in any mode
 pub record Rests (part : Part) (steps : List (List Command)) (m : Memories) (q : Programmer) : Type 0 where
   pub count : ℕ
   pub stands : Idle part (changed_by part count steps m) q
 
--- counted past the last step nothing is changed
+-- a count past the last step changes nothing more
 pub changed_min : (part : Part) (count : ℕ) (steps : List (List Command)) (m : Memories)
     → changed_by part (min count (length steps)) steps m ≡ changed_by part count steps m
 changed_min part zero steps m = ap (λ n. changed_by part n steps m) (let e : min 0 (length steps)
@@ -29,7 +29,7 @@ changed_min part (suc count) (commands ∷ steps) m =
     (let e : min (suc count) (suc (length steps)) ≡ suc (min count (length steps)) = omega arith in e)
     ∙ changed_min part count steps (changed part commands m)
 
--- so many of the first steps, in front of others
+-- the first steps of a list are the first of a longer one
 pub changed_prefix : (part : Part) (count : ℕ) (xs ys : List (List Command)) (m : Memories) → count ≤ length xs
     → changed_by part count (xs ++ ys) m ≡ changed_by part count xs m
 changed_prefix part zero xs ys m few = refl
@@ -37,7 +37,7 @@ changed_prefix part (suc count) [] ys m few = absurd (omega (arith, few))
 changed_prefix part (suc count) (commands ∷ xs) ys m few =
     changed_prefix part count xs ys (changed part commands m) (omega (arith, few))
 
--- all of these, and so many more
+-- all these steps, and some of the next
 pub changed_behind : (part : Part) (count : ℕ) (xs ys : List (List Command)) (m : Memories)
     → changed_by part (count + length xs) (xs ++ ys) m ≡ changed_by part count ys (changed_by part (length xs) xs m)
 changed_behind part count [] ys m = ap (λ n. changed_by part n ys m) (let e : count + 0 ≡ count = omega arith in e)
@@ -73,7 +73,7 @@ module _ (part : Part) where
   effects_sizes sound (item ∷ items) m f =
       effects_sizes sound items (effect part item m) (effect_sizes part sound item m f)
 
-  -- all steps of items do what they do
+  -- all steps of items do what the items do
   pub all_changed : (sound : IsPart part) (items : List Item) (m : Memories) → AllFitItems part items → FitsPart part m
       → changed_by part (length (all_steps part items)) (all_steps part items) m ≡ effects part items m
   all_changed sound items m fits f = changed_all part (all_steps part items) m ∙ items_do part sound items m fits f
@@ -118,7 +118,7 @@ quiet_stays part (suc count) [] m quiet = refl
 quiet_stays part (suc count) (commands ∷ steps) m quiet =
     ap (λ items. changed_by part count steps (effects part items m)) quiet.0 ∙ quiet_stays part count steps m quiet.1
 
--- to read writes nothing
+-- reading writes nothing
 pub read_quiet : (part : Part) (mem : Mem) → AreQuiet (read_steps part mem)
 read_quiet part Flash = each_of IsQuiet (read_step part Flash) 0 (read_count part Flash) (λ i. (refl, tt))
 read_quiet part Eeprom = each_of IsQuiet (read_step part Eeprom) 0 (read_count part Eeprom) (λ i. (refl, tt))

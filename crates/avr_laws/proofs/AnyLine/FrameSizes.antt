@@ -1,4 +1,4 @@
--- All that a session asks fits a frame: it weighs nothing, where a body weighs 1 that no frame can carry.
+-- Every body that a session asks fits a frame: if each other body weighs 1, all that it asks weighs 0.
 use Rattle.std.proofs.Common.{◌≡◌, ℕ, ◌*◌, ◌-◌, ◌≤◌, List, [], ◌∷◌, ◌++◌, map, length, subst, arith}
 use Rattle.std.proofs.lemmas.Bool.Decides.{nat_tests}
 use Rattle.std.specs.Prelude.{All, nat_le, ◌&&◌, if◌then◌else◌}

@@ -1,4 +1,4 @@
--- A session makes the page writes of its plan in their order.
+-- A session makes the page writes of its plan in order.
 use Rattle.std.proofs.Common.{◌≡◌, ℕ, ◌+◌, ◌-◌, List, [], ◌∷◌, take, refl, sym, ap, ◌∙◌, subst, arith, inl, inr, Result}
 use Rattle.std.proofs.lemmas.List.{append-nil}
 use Rattle.std.specs.Prelude.{All, ⊤}
@@ -175,7 +175,7 @@ module _ (plan : Plan) (sound : IsPart plan.part) (fitted : All (IsFitted plan.p
         sharp = inr (λ l. refl);
       }
 
-  -- so many page writes of the plan, in their order
+  -- the first page writes of the plan, in order, counted
   pub session_makes : Tallies device (session plan) (made_by plan)
       (λ j q. memories_of q.chip ≡ effects plan.part (take j (page_writes plan)) m) p turns
   unfolding session

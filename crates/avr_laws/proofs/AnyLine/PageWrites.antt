@@ -29,12 +29,12 @@ use Rattle.avr_laws.specs.Made.{none_made, made_unless_fault, step_count, steps_
 use Rattle.avr_laws.proofs.AnyLine.FirstSteps.{Rests, quiet_stays, changed_min, changed_prefix, changed_behind, all_on, all_changed}
 use Rattle.avr_laws.proofs.AnyLine.Calls.{says≢done, told_programmer, told_fine}
 
--- the memories of so many first steps of these items
+-- the memories after `j` first steps of these items
 pub record Changed (part : Part) (items : List Item) (m : Memories) (j : ℕ) (q : Programmer) : Type 0 where
   pub few : j ≤ length (all_steps part items)
   pub stands : Idle part (changed_by part j (all_steps part items) m) q
 
--- an action that makes the page writes of these items in their order, and where it is fine all have been completed
+-- an action that makes the page writes of these items in order; if it is fine, all were completed
 pub record Makes (part : Part) (m : Memories) (items : List Item) (d : Dialog OutputEvent Standing)
     (made : Count Programmer)
     (p : Programmer) (turns : List Turn) : Type 0 where
@@ -42,7 +42,7 @@ pub record Makes (part : Part) (m : Memories) (items : List Item) (d : Dialog Ou
   pub complete : (k : ℕ) → (along device k d p turns).dialog ≡ Done Fine
       → made k p turns ≡ length (all_steps part items)
 
--- nothing is made where the memories stay
+-- nothing is made if the memories stay
 pub makes_none : (part : Part) (m : Memories) (d : Dialog OutputEvent Standing) (p : Programmer) (turns : List Turn)
     (After : Standing → Programmer → Type 0)
     → Leads device d p turns (Rests part [] m) After → Makes part m [] d none_made p turns
@@ -153,7 +153,7 @@ module _ (part : Part) (sound : IsPart part) where
             ∙ ap (changed_by part j (all_steps part ys)) (all_changed part sound xs m fits f))))) s.stands;
       }
 
-  -- one action, and the next one unless there was a fault
+  -- one action, then the next unless there was a fault
   module _ (m : Memories) (xs ys : List Item) (d next : Dialog OutputEvent Standing)
       (made later : Count Programmer) (p : Programmer) (turns : List Turn)
       (fits : AllFitItems part xs) (f : FitsPart part m)
@@ -168,7 +168,7 @@ module _ (part : Part) (sound : IsPart part) where
     abbrev At : ℕ → Programmer → Type 0
     At = Changed part (xs ++ ys) m
 
-    -- where it is fine it has made all of its page writes, before the last question of what follows
+    -- if it is fine, it made all its page writes before the last question of what follows
     whole : (k : ℕ) → (along device k d p turns).dialog ≡ Done Fine → first.tally.count k ≡ length (all_steps part xs)
     whole k e =
         let few = (first.tally.stands k).few in

@@ -1,4 +1,4 @@
--- How long a dialog listens: for each frame at most one silence comes, and 4,096 bytes.
+-- How long a dialog listens: for each frame at most one timeout and 4,096 bytes.
 use Rattle.std.proofs.Common.{◌≡◌, ℕ, zero, suc, ◌+◌, ◌*◌, ◌<◌, ◌≤◌, List, [], ◌∷◌, ◌++◌, length, length-append, take, drop, refl, sym, ap, ◌∙◌, subst, arith, inl, inr, Option, Some, None, All}
 use Rattle.std.proofs.lemmas.Bool.{leb-true, leb-false, cases_Bool, cond-true, cond-false}
 use Rattle.std.specs.List.{concat}
@@ -69,7 +69,7 @@ record Drops (n : ℕ) (tape left : Tape) : Type 0 where
   silent : silences left ≡ silences tape
   bytes : bytes_on tape ≡ n + bytes_on left
 
--- so many of the bytes in front
+-- the first `n` bytes
 drops : (n : ℕ) (tape : Tape) → n ≤ length (bytes_in tape) → Drops n tape (drop n tape)
 drops zero tape le = record { silent = refl; bytes = omega arith }
 drops (suc n) (Byte b ∷ tape) le = let d = drops n tape (omega (arith, le)) in let bytes = d.bytes in
@@ -138,7 +138,7 @@ answer_costs seq tape reading left e =
     (take_within limit (bytes_in tape))
     (λ body used f. let inside = used_within seq (cut bytes) body used f in omega (arith, inside, cut_few)) e
 
--- ---- where it waits for more
+-- ---- when it waits for more
 
 all_waiting : (tape : Tape) → silence_or_end (drop (length (bytes_in tape)) tape) ≡ None
     → (silences tape ≡ 0) × (bytes_on tape ≡ length (bytes_in tape))
@@ -168,7 +168,7 @@ answer_waits_for : (seq : ℕ) (tape : Tape) → answer seq tape ≡ None → (s
 unfolding answer
 answer_waits_for seq tape e = read_waits tape (first_answer seq (cut (take limit (bytes_in tape)))) e
 
--- listening once for an answer: where more is awaited the tape had little, and where it is done that cost no more
+-- Listening once for an answer. If it waits for more, the tape had little; if it is done, that cost no more.
 record ListensOnce (tape : Tape) (got : Option (Reading × Tape)) : Type 0 where
   waiting : got ≡ None → (silences tape ≡ 0) × (bytes_on tape < limit)
   done : (reading : Reading) (left : Tape) → got ≡ Some (reading, left) → Costs tape left
@@ -179,7 +179,7 @@ answer_listens seq tape = record {
   done = λ reading left e. answer_costs seq tape reading left e;
 }
 
--- ---- a play
+-- ---- a run
 
 record Listens {E R : Type 0} (p : Played E R) (tape : Tape) : Type 0 where
   waiting : p.outcome ≡ None → (silences tape < length (frames_in p.events))
@@ -223,7 +223,7 @@ listens (Ask body answered) seq tape =
     listens_asked (frame seq body) (λ reading. played (answered reading) (next seq)) tape (answer seq tape)
     (answer_listens seq tape) (λ reading left. listens (answered reading) (next seq) left)
 
--- ---- a talk
+-- ---- a transcript
 
 pub listens_at_most : {E R : Type 0} (n : ℕ) (d : Dialog E R) → AsksAtMost n d → AsksBodies d → ListensAtMost n d
 listens_at_most {E = E} {R = R} n d most bodies = record {

@@ -1,4 +1,5 @@
--- A session asks at most four times the commands of its plan's steps: what its bodies weigh, where each weighs 1.
+-- A session asks at most four times the commands of its plan's steps, because that is what its bodies weigh if each
+-- weighs 1.
 use Rattle.std.proofs.Common.{◌≡◌, ℕ, zero, suc, ◌*◌, ◌-◌, List, [], ◌∷◌, map, length, subst, arith}
 use Rattle.avr_desk.specs.Said.{SaidPart}
 use Rattle.avr_plan.specs.Plan.{Plan}

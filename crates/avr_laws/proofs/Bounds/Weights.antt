@@ -30,11 +30,11 @@ use Rattle.avr_session.specs.PlanSteps.{action_steps, actions_steps, run_steps}
 use Rattle.avr_laws.proofs.Plans.Calls.{call_of, outcome_says, dialog_is}
 use Rattle.avr_laws.specs.AnyLine.{Weight, weighed, bodies_in}
 
--- whatever is read: what is left of a budget after each question
+-- what is left of a budget after each question, whatever is read
 abbrev pub budget : Weight → World ℕ Reading
 budget w = record { reads = λ asked left reading. reading; after = λ asked left reading. left - w asked }
 
--- whatever is read, the questions weigh at most so much
+-- the questions weigh at most `n`, whatever is read
 abbrev pub WeighsAtMost : {E R : Type 0} → Weight → ℕ → Dialog E R → Type 0
 WeighsAtMost w n d = HoldsFrom (budget w) (λ asked left. w asked ≤ left) (λ e left. Unit {0}) (λ r left. Unit {0}) d n
 
@@ -58,14 +58,14 @@ module _ (w : Weight) where
   total_on : (xs ys : List (List Command)) → total (xs ++ ys) ≡ total xs + total ys
   total_on xs ys = ap (weighed w) (bodies_append xs ys) ∙ weighed_append (bodies_in xs) (bodies_in ys)
 
-  -- a dialog of a call, and of a session, that leaves so much of a budget
+  -- a dialog of a call, and of a session, that leaves part of a budget
   abbrev Call : {R : Type 0} → (R → ℕ → Type 0) → Dialog ⊥ R → ℕ → Type 0
   Call After d left = Upholds (budget w) (λ asked left. w asked ≤ left) NoSays After d left
 
   abbrev OneAction : (Standing → ℕ → Type 0) → Dialog OutputEvent Standing → ℕ → Type 0
   OneAction After d left = Upholds (budget w) (λ asked left. w asked ≤ left) (λ e left. Unit {0}) After d left
 
-  -- it spends at most so much of any
+  -- it spends at most `n` of any budget
   abbrev Spends : {R : Type 0} → ℕ → Dialog ⊥ R → Type 0
   Spends {R} n d = (k left : ℕ) → n + k ≤ left → Call (λ (r : R) rest. k ≤ rest) d left
 
@@ -106,7 +106,7 @@ module _ (w : Weight) where
       settled more (Again fault) t e = e
       settled more (Stop fault) t e = omega (arith, e)
 
-  -- a step, and then the dialog that its data choose
+  -- a step, then the dialog that its data choose
   then_spends : (commands : List Command) (steps : List (List Command)) (go_on : List ℕ → Dialog ⊥ StepOutcome)
       → ((bytes : List ℕ) → Spends (4 * total steps) (go_on bytes))
       → Spends (4 * total (commands ∷ steps)) (step commands >>= if_done go_on)

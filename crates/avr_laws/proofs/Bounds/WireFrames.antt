@@ -30,7 +30,7 @@ module _ (w : Weight) where
       let same : w (body_of (frame seq asked)) ≡ w asked = ap w (body_of_frame seq asked) in
       omega (arith, first, rest, same)
 
-  -- of a prefix of the bytes
+  -- the same of a prefix of the bytes
   pub prefix_weighs : {E R : Type 0} (n : ℕ) (d : Dialog E R) (seq : ℕ) (tape : Tape) (sent : List ℕ) → AsksBodies d
       → WeighsAtMost w n d → IsPrefixOf sent (bytes_sent (played d seq tape).events)
       → weighed w (map body_of (frames sent)) ≤ n

@@ -1,5 +1,5 @@
--- The calls of a host over a line on which few frames go wrong: each has all its data, and no fault but of what they
--- are.
+-- The calls of a host over a link on which few frames go wrong. Each has all its data, and only the faults that these
+-- data give.
 use Rattle.std.proofs.Common.{ℕ, List, [], ◌∷◌, length, refl, subst, arith, inl, Bool, Ok}
 use Rattle.avr_cli.specs.declared.settings.Switches.{Switches}
 use Rattle.avr_part.specs.declared.part.Mem.TheVariants.{Signature}

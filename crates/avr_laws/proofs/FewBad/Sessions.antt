@@ -1,4 +1,4 @@
--- A session over a line on which few frames go wrong: it has its expected run, and is done after at most four times its
+-- A session over a link on which few frames go wrong goes as its expected run. It is done after at most four times its
 -- commands.
 use Rattle.std.proofs.Common.{◌≡◌, ℕ, ◌*◌, ◌≤◌, List, ap, ◌∙◌, All, inl, inr}
 use Rattle.avr_part.specs.Part.{IsPart}

@@ -1,4 +1,4 @@
--- What a comparison without a difference says, and which comparisons have none.
+-- The output of a comparison without a difference, and which comparisons have none.
 use Rattle.std.proofs.Common.{◌≡◌, ℕ, zero, suc, ◌+◌, ◌<◌, List, [], ◌∷◌, get_or, refl, sym, ap, ◌∙◌, arith, inl, inr, Bool, true, false, Ok, Err, Option, Some, None, unwrap_or, bit_and}
 use Rattle.std.proofs.lemmas.Bool.{cases_Bool, eqb-true, eq-eqb, cond-true, cond-false}
 use Rattle.std.proofs.Math.Nat.{mod-eq_of_lt}
@@ -21,7 +21,7 @@ some_is a b e = cc
 differs : (d : Difference) → ◌≡◌ {A = Option Difference} (Some d) None → ⊥
 differs d e = cc
 
--- one byte that is the same
+-- one byte that is equal
 same_byte : (addr want found : ℕ) (image : Image) (bytes : List ℕ)
     → difference_from addr (Some want ∷ image) (found ∷ bytes) ≡ None
     → (found ≡ want) × (difference_from (addr + 1) image bytes ≡ None)
@@ -51,7 +51,7 @@ no_difference addr (Some want ∷ image) (found ∷ bytes) e zero b held l =
 no_difference addr (Some want ∷ image) (found ∷ bytes) e (suc i) b held l =
     no_difference (addr + 1) image bytes (same_byte addr want found image bytes e).1 i b held (omega (arith, l))
 
--- and where it holds it there is none
+-- if the memory holds the image, there is no difference
 pub held_same : (addr : ℕ) (image : Image) (bytes : List ℕ) → HoldsImage image bytes
     → difference_from addr image bytes ≡ None
 held_same addr [] bytes holds = refl

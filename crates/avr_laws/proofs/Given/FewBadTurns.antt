@@ -1,4 +1,4 @@
--- Over few bad turns each step comes to its data, and a play of steps to all that they give.
+-- Over few bad turns each step gives its data, and a run of steps all that they give.
 use Rattle.std.proofs.Common.{◌≡◌, ℕ, zero, suc, ◌+◌, ◌*◌, ◌≤◌, List, [], ◌∷◌, ◌++◌, length, refl, sym, ap, ◌∙◌, subst, arith, append_assoc, inl, inr, ◌⊎◌, Ok, Err}
 use Rattle.std.proofs.lemmas.List.{append-nil}
 use Rattle.std.specs.Prelude.{⊤}
@@ -52,7 +52,7 @@ none_bad (suc n) [] good = let none = none_bad n [] good in omega (arith, none)
 none_bad (suc n) (turn ∷ turns) good = let none = none_bad n turns good.1 in let well : bad turn ≡ 0 = ap bad good.0 in
     omega (arith, none, well)
 
--- a good line is the simplest case
+-- a good link is the simplest case
 pub good_few : (turns : List Turn) → AreGood turns → AreFew turns
 good_few [] good = tt
 good_few (turn ∷ turns) good = (let none = none_bad 7 (turn ∷ turns) good in omega (arith, none), good_few turns good.1)
@@ -66,7 +66,7 @@ module _ {E R : Type 0} where
   few_left zero (Ask bytes go_on) p turns few = few
   few_left (suc k) (Ask bytes go_on) p turns few = few_left k (go_on _) _ (other_turns turns) (others_few turns few)
 
-  -- a dialog that asks at most so many questions is done after them
+  -- a dialog that asks at most `n` questions is done after `n`
   pub done_within : (n k : ℕ) (d : Dialog E R) (p : Programmer) (turns : List Turn) → AsksAtMost n d → n ≤ k
       → (r : R) × ((along device k d p turns).dialog ≡ Done r)
   done_within n k (Done r) p turns asks le = (r, refl)
@@ -76,7 +76,7 @@ module _ {E R : Type 0} where
   done_within (suc n) (suc k) (Ask bytes go_on) p turns asks le =
       done_within n k (go_on _) _ (other_turns turns) (asks _) (omega (arith, le))
 
--- the turns after so many
+-- the turns after the first `n`
 abbrev behind : ℕ → List Turn → List Turn
 behind zero turns = turns
 behind (suc n) turns = behind n (other_turns turns)
@@ -102,7 +102,7 @@ stop_again a b e = cc
 same_data : (a b : List ℕ) → Data a ≡ Data b → a ≡ b
 same_data a b e = cc
 
--- a frame in front that went well
+-- the first frame went well
 well : (size : ℕ) (turns : List Turn) (got : List ℕ) (then : Reply) (rest : List Turn)
     → Tried size (other_turns turns) got then rest → Tried (suc size) turns got then rest
 well size turns got then rest (inl brings) = inl brings
@@ -122,7 +122,7 @@ wrong : (size : ℕ) (turns : List Turn) (got : List ℕ) (fault : StepFault) �
 wrong size turns got fault is = inr
     (record { fault = fault; again = refl; place = 0; near = omega arith; went_wrong = is; behind_it = refl })
 
--- enough frames go well for one attempt and so many more: one frame goes well between two that go wrong, at most
+-- Enough frames go well for one attempt and `more` others: at most one frame goes well between two that go wrong.
 record Clear (more : ℕ) (turns : List Turn) : Type 0 where
   here : bad_in (suc (more + more)) turns ≤ more
   next : bad_in (suc (more + more)) (other_turns turns) ≤ more
@@ -150,7 +150,7 @@ none_wrong zero turns le wrong c = let h = c.here in omega (arith, h, wrong)
 none_wrong (suc zero) turns le wrong c = let h = c.next in omega (arith, h, wrong)
 none_wrong (suc (suc place)) turns le wrong c = omega (arith, le)
 
--- ---- lines on which nothing begins anew, and which don't end
+-- ---- links that don't end, and over which the programmer never restarts
 
 abbrev Stands : Became → Type 0
 Stands (Anew became) = ⊥
@@ -195,7 +195,7 @@ not_four (Wrong became instead) le = (
   few_goes_on instead (let some = some_bad became in omega (arith, le, some)),
 )
 
--- where few turns go wrong, none lets the programmer begin anew
+-- if few turns go wrong, none restarts the programmer
 few_steady : (turns : List Turn) → AreFew turns → AreSteady turns
 few_steady [] few = tt
 few_steady (turn ∷ turns) few = (not_four turn (let le = few.0 in omega (arith, le)), few_steady turns few.1)
@@ -353,7 +353,7 @@ module _ (part : Part) (sound : IsPart part) where
   step_short commands (ReadsSignature place few e) = short_as _ commands e (omega arith)
   step_short commands (ReadsCalibration e) = short_as _ commands e (omega arith)
 
-  -- whether or not the step was already done, all of one attempt's commands have its data
+  -- all commands of one attempt have their data, whether or not the step was already done
   data_either : (commands : List Command) (m : Memories) → IsStep part commands → FitsPart part m → (q : Programmer)
       → Ready part m q ⊎ Ready part (changed part commands m) q
       → joined_reply device commands [] q ≡ Data (given_by part commands m)
@@ -367,7 +367,7 @@ module _ (part : Part) (sound : IsPart part) where
       few_step commands (given_by part commands m) (Ready part m) (Ready part (changed part commands m))
       (step_ready part sound commands m is) (step_short commands is) (data_either commands m is f)
 
-  -- a step comes to what it gives, in at most eight questions
+  -- a step gives its data, in at most eight questions
   pub step_comes : (commands : List Command) (m : Memories) (k : ℕ) (p : Programmer) (turns : List Turn)
       → IsStep part commands → FitsPart part m → Ready part m p → AreFew turns → 8 ≤ k
       → (along device k (step commands) p turns).dialog ≡ Done (Ok (given_by part commands m))
@@ -379,7 +379,7 @@ module _ (part : Part) (sound : IsPart part) where
       (where_done device (step commands) (p, turns) (few_one commands m is f (p, turns) ready few) k within.0
       within.1).0.0
 
-  -- a play of steps comes to all that they give
+  -- a run of steps gives all that they give
   pub few_play : (steps : List (List Command)) (m : Memories) (before : List ℕ) → AreSteps part steps → FitsPart part m
       → Few (Ready part m) (play steps before) (Ok (before ++ all_given part steps m))
       (Ready part (changed_by part (length steps) steps m))
@@ -402,7 +402,7 @@ module _ (part : Part) (sound : IsPart part) where
   play_few steps m k before p turns o are f ready few e =
       (where_done device (play steps before) (p, turns) (few_play steps m before are f (p, turns) ready few) k o e).0.0
 
--- four bad frames of seven are too many, in a row and where each second one is bad
+-- four bad frames of seven are too many, both in a row and if each second one is bad
 pub four_too_many : (command : Command) (commands : List Command) (p : Programmer)
     → (along device 4 (step (command ∷ commands)) p (lost ∷ lost ∷ lost ∷ lost ∷ [])).dialog ≡ Done (Err NoAnswer)
 unfolding tries attempt exchange

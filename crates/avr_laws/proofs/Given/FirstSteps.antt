@@ -1,4 +1,4 @@
--- A programmer as it begins, and plays of steps from a settled one.
+-- A programmer at its beginning, and runs of steps from a settled one.
 use Rattle.std.proofs.Common.{◌≡◌, ℕ, List, [], ◌∷◌, refl}
 use Rattle.avr_part.specs.State as chip
 use Rattle.avr_part.specs.Sound.{IsSoundChip}

@@ -1,4 +1,4 @@
--- An answer that is found stays found, and what follows stays after it.
+-- An answer that is found stays found if the tape grows, and what follows stays after it.
 use Rattle.std.proofs.Common.{◌≡◌, ℕ, zero, suc, ◌+◌, ◌<◌, ◌≤◌, List, [], ◌∷◌, ◌++◌, length, take, drop, refl, sym, ap, ap₂, ◌∙◌, subst, append_assoc, arith, min, length-append, inl, inr, Option, Some, None}
 use Rattle.std.proofs.lemmas.Bool.{leb-true, leb-false, cases_Bool, cond-true, cond-false}
 use Rattle.std.proofs.lemmas.List.{take_all, take-append-le, length-take}
@@ -78,7 +78,7 @@ used_few seq x body used e =
     let few = used_within seq (cut x) body used e in
     omega arith
 
--- an answer that is given, by the cases
+-- an answer that is given, by cases
 some_tape : (a b : Reading) (s t : Tape) → ◌≡◌ {A = Option (Reading × Tape)} (Some (a, s)) (Some (b, t))
     → (a ≡ b) × (s ≡ t)
 some_tape a b s t e =

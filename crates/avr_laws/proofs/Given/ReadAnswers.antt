@@ -1,4 +1,4 @@
--- What a programmer answers to the commands that read, and what it is afterwards.
+-- The programmer's answers to the commands that read, and its state after them.
 use Rattle.std.proofs.Common.{◌≡◌, ℕ, ◌/◌, ◌%◌, ◌≤◌, ◌<◌, sym, ap, ◌∙◌, subst, arith, true, false}
 use Rattle.std.proofs.lemmas.Bool.{ne_eqb, eq-eqb, and_from, le-leb, le-ltb, cond-true}
 use Rattle.std.specs.Prelude.{◌==◌, ◌&&◌, not, nat_le}
@@ -35,7 +35,7 @@ flash_block count p mode some even few =
     ∙ ap {A = Response} {B = Response} (λ z. (z.0, z.1))
     (cond-true (not (count == 0) && (count % 2 == 0) && nat_le count 272) _ _ (flash_test count some even few)))
 
--- and of EEPROM
+-- a block of EEPROM
 pub eeprom_block : (count : ℕ) (p : Programmer) → p.mode ≡ true → 0 < count → count ≤ 256
     → (device.answer (body (read_eeprom_block count)) p, device.after (body (read_eeprom_block count)) p)
     ≡ block 0x16 (eeprom_looks 0xA0 p.address 0 count p.chip) (with_address_moved count p)
@@ -50,7 +50,7 @@ module _ (part : Part) (sound : IsPart part) where
   narrow_test : IsNarrow part → is_wide part ≡ false
   narrow_test is_narrow = le-ltb 131072 part.flash_size is_narrow
 
-  -- the address is loaded, and the block is read
+  -- the address is loaded, then the block is read
   pub flash_read_keeps : (start count : ℕ) (m : Memories) (p : Programmer) → IsBlock part Flash start count
       → AreWords start count → Ready part m p
       → Ready part m (device.after (body (read_flash_block count)) (device.after (body (load_flash part start)) p))

@@ -44,7 +44,7 @@ module _ {P : Type 0} (m : Device P) where
       ap (λ r. on_data r (λ a. on_data (reply_to m d (m.after (body c) p)) (λ b. Data (a ++ b)))) e
       ∙ ap (λ r. on_data r (λ b. Data b)) f
 
--- how a command is answered in programming mode
+-- the answer to a command in programming mode
 reply_is : (c : Command) (p : Programmer) → decoding.FieldsFit c
     → reply_to device c p ≡ reading_reply c (Answered (obey_command c p).0)
 reply_is c p fits = ap (λ (z : programmer.Response). reading_reply c (Answered z.0)) (obeys c p fits)
@@ -53,7 +53,7 @@ in_mode_reply : (c : Command) (p : Programmer) (x y : programmer.Response) → p
     → reading_reply c (Answered (cond p.mode x y).0) ≡ reading_reply c (Answered x.0)
 in_mode_reply c p x y e = ap (λ (z : programmer.Response). reading_reply c (Answered z.0)) (cond-true p.mode x y e)
 
--- data after which a good status stands
+-- data with a good status behind them
 closed_data : (n : ℕ) (bytes : List ℕ) → length bytes ≡ n → data_of (Closed n) (bytes ++ 0 ∷ []) ≡ Ok bytes
 closed_data n bytes len =
     let long : length (bytes ++ 0 ∷ []) ≡ n + 1 = length-append bytes (0 ∷ []) ∙ ap (λ k. k + 1) len in
@@ -248,7 +248,7 @@ module _ (part : Part) (sound : IsPart part) where
   step_data commands m p (ReadsCalibration e) f s =
       as_written _ commands m p e (one_gathered device read_calibration p _ (calibration_given m p s))
 
--- what a step does keeps the sizes
+-- a step keeps the sizes of the memories
 changed_sizes_by : (part : Part) (items : List Item) (m : Memories) → IsPart part → FitsPart part m
     → FitsPart part (effects part items m)
 changed_sizes_by part [] m sound f = f
@@ -295,7 +295,7 @@ module _ (part : Part) (sound : IsPart part) where
   same_data : (a b : List ℕ) → Data a ≡ Data b → a ≡ b
   same_data a b e = cc
 
-  -- what an attempt from under either condition gives is what the memories hold
+  -- an attempt under either condition gives what the memories hold
   pub gives_given : (commands : List Command) (m : Memories) (got : List ℕ) → IsStep part commands → FitsPart part m
       → Gives device commands (Settled part m) (Settled part (changed part commands m)) got
       → got ≡ given_by part commands m

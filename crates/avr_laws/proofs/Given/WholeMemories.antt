@@ -12,7 +12,7 @@ use Rattle.stk_emu.specs.Settled.{FitsPart}
 use Rattle.stk_emu.specs.Given.{all_given}
 use Rattle.stk_emu.proofs.Memories.Pages.{flash_address_back}
 
--- a block, and what is after it
+-- a block, then the rest
 block_join : (xs : List ℕ) (start size : ℕ) → length xs ≡ size
     → take (min 256 (size - start)) (drop start xs) ++ drop (start + 256) xs ≡ drop start xs
 block_join xs start size long =

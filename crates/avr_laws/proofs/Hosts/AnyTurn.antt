@@ -1,4 +1,4 @@
--- A device behind a line that may make any turn at any question, in the logic of dialogs: attempts and steps of a host.
+-- A device behind a link that may make any turn at any question, in the logic of dialogs: attempts and steps of a host.
 use Rattle.std.proofs.Common.{◌≡◌, ℕ, zero, suc, List, [], ◌∷◌, ◌++◌, length, refl, subst, ◌⊎◌, inl, inr, Ok, Err}
 use Rattle.stk_frame.specs.declared.command.Command.{Command}
 use Rattle.stk_frame.specs.Commands.{body}
@@ -16,7 +16,7 @@ use Rattle.stk_emu.specs.Fits.{after_commands, Fits}
 use Rattle.stk_emu.specs.Given.{on_data, joined_reply, reply_to, Gives}
 use Rattle.avr_laws.proofs.Leads.{Leads}
 
--- no list of turns and no count of questions: what holds at each move holds along all lines
+-- What holds at each move holds along all links, so no list of turns and no count of questions is needed.
 abbrev pub any_turn : {P : Type 0} → Device P → World P Turn
 any_turn m = record {
   reads = λ bytes p turn. turn_reading turn (m.answer bytes p);
@@ -31,7 +31,7 @@ pub asks≢done : {E R : Type 0} (bytes : List ℕ) (go_on : Reading → Dialog 
 asks≢done bytes go_on r e = cc
 
 module _ {P : Type 0} (m : Device P) where
-  -- what a dialog upholds holds along each line
+  -- what a dialog upholds holds along each link
   module _ {E R : Type 0} (During : P → Type 0) (Says : E → P → Type 0) (After After' : R → P → Type 0)
       (at_end : (r : R) (q : P) → After r q → During q × After' r q) where
     led : (d : Dialog E R) (k : ℕ) (p : P) (turns : List Turn)
@@ -52,12 +52,12 @@ module _ {P : Type 0} (m : Device P) where
     after = λ k. (led J Says A A' at_end d k p turns l.holds).1;
   }
 
-  -- what a call upholds where one condition holds throughout
+  -- what a call upholds if one condition holds throughout
   abbrev pub Keeps : {R : Type 0} → (P → Type 0) → (R → P → Type 0) → Dialog ⊥ R → P → Type 0
   Keeps During After d p = Upholds (any_turn m) (λ bytes q. During q) NoSays After d p
 
-  -- An attempt: where a condition holds after each prefix of its commands, also begun anew, it holds throughout; and
-  -- its data are those of all commands, each obeyed and answered.
+  -- An attempt. If a condition holds after each prefix of its commands, also after a restart, it holds throughout. Its
+  -- data are those of all commands, each obeyed and answered.
   module _ (Stands : P → Type 0) (After : StepOutcome → P → Type 0) (anew : (q : P) → Stands q → Stands (m.reset q))
       (failed : (fault : StepFault) (q : P) → Stands q → After (Err fault) q) where
     abbrev Tries : Dialog ⊥ Reply → P → Type 0
@@ -99,7 +99,7 @@ module _ {P : Type 0} (m : Device P) where
         (λ got. After (Ok got) (after_commands m (length commands) commands q)) (prefixes 1)
         (λ bytes each. attempt_goes commands (before ++ bytes) q (λ i. prefixes (suc i)) each) whole))
 
-  -- A step leads from its one condition to the other: with data to the other, else to the one or the other.
+  -- A step leads from its first condition to its second. With data the second holds, otherwise either.
   module _ (commands : List Command) (Before After : P → Type 0) (fits : Fits m commands Before After) where
     abbrev Either : P → Type 0
     Either q = Before q ⊎ After q
@@ -147,7 +147,7 @@ module _ {P : Type 0} (m : Device P) where
         ended (Ok got) q x = x
         ended (Err fault) q x = failed fault q (either q x)
 
-    -- along each line
+    -- along each link
     pub step_along : (p : P) (turns : List Turn) → Before p → Leads m (step commands) p turns Either AfterStep
     step_along p turns before = leads at_end (step_goes p before)
       where

@@ -1,4 +1,4 @@
--- Dialogs along a line: attempts and steps.
+-- Dialogs along a link: attempts and steps.
 use Rattle.std.proofs.Common.{◌≡◌, ℕ, zero, suc, List, refl, ◌⊎◌, Ok, Err}
 use Rattle.stk_frame.specs.declared.command.Command.{Command}
 use Rattle.stk_host.specs.declared.fault.StepFault.{StepFault}
@@ -10,7 +10,7 @@ use Rattle.stk_emu.specs.Along.{LineState, along}
 use Rattle.stk_emu.specs.Fits.{Fits}
 use Rattle.avr_laws.proofs.Hosts.AnyTurn.{step_along}
 
--- from where a dialog stands, the next one
+-- the next dialog, from where this one is
 abbrev pub onward : {E A B P : Type 0} → Device P → (A → Dialog E B) → ℕ → List Turn → P → Dialog E A → LineState E B P
 onward m next left turns p (Done a) = along m left (next a) p turns
 onward m next left turns p (Say e dialog) =
@@ -21,7 +21,7 @@ onward m next left turns p (Ask bytes go_on) =
 abbrev pub onwards : {E A B P : Type 0} → Device P → (A → Dialog E B) → LineState E A P → LineState E B P
 onwards m next s = onward m next s.left s.turns s.programmer s.dialog
 
--- a dialog and the next one go along as the one does, and the other from there
+-- a dialog and the next one go along as the first does, and then the second from there
 pub along_bind : {E A B P : Type 0} (m : Device P) (k : ℕ) (d : Dialog E A) (next : A → Dialog E B) (p : P)
     (turns : List Turn) → along m k (d >>= next) p turns ≡ onwards m next (along m k d p turns)
 along_bind m k (Done a) next p turns = refl
@@ -33,7 +33,7 @@ pub err≢ok : (fault : StepFault) (bytes : List ℕ) → ◌≡◌ {A = Dialog 
     → ⊥
 err≢ok fault bytes e = cc
 
--- How a step stands: under the one condition or the other; where it was completed, under the other.
+-- After a step either condition holds; if it was completed, the second.
 pub record Stepped {P : Type 0} (m : Device P) (Before After : P → Type 0) (s : LineState ⊥ StepOutcome P) : Type
     0 where
   pub stands : Before s.programmer ⊎ After s.programmer

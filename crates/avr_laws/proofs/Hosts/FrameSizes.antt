@@ -1,4 +1,4 @@
--- The commands of a host's steps have bodies that a frame can carry.
+-- The commands of a host's steps have bodies that fit a frame.
 use Rattle.std.proofs.Common.{◌≡◌, ℕ, List, [], ◌∷◌, sym, subst, arith}
 use Rattle.avr_part.specs.Part.{Part, IsPart}
 use Rattle.stk_frame.specs.declared.command.Command.{Command}

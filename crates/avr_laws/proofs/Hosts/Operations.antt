@@ -1,4 +1,4 @@
--- The operations of a host over any line, in the logic of dialogs: what holds during and after them.
+-- The operations of a host over any link, in the logic of dialogs: what holds during and after them.
 use Rattle.std.proofs.Common.{◌≡◌, ℕ, suc, List, [], ◌∷◌, ◌++◌, length, append_assoc, refl, sym, ap, ◌∙◌, subst, ◌⊎◌, inl, inr, Ok, Err, Result}
 use Rattle.std.proofs.lemmas.List.{append-nil}
 use Rattle.std.specs.Prelude.{⊤}
@@ -39,7 +39,8 @@ module _ (part : Part) (sound : IsPart part) where
       → Reached part steps (changed part commands m) q → Reached part (commands ∷ steps) m q
   one_more commands steps m q r = record { count = suc r.count; stands = r.stands }
 
-  -- after a play of steps: as after all of them, with what they give; after a fault as after some first ones
+  -- After a run of steps the memories are those after all of them, with what they give; after a fault, those after some
+  -- first ones.
   stepped : (commands : List Command) (steps : List (List Command)) (m : Memories) (before bytes : List ℕ)
       (o : StepOutcome)
       (q : Programmer) → bytes ≡ given_by part commands m
@@ -115,7 +116,7 @@ module _ (part : Part) (sound : IsPart part) where
       begun (Ok got) q a = (a.0, a.1 ∙ one_by_one part.signature sound.signature)
       begun (Err fault) q a = idle_reached m q a
 
--- to close a session, which keeps what to leave programming mode keeps; its fault is a step's
+-- Closing a session keeps what leaving programming mode keeps; its fault is a step's.
 abbrev pub IsClosed : Result ⊤ HostFault → Type 0
 IsClosed r = (r ≡ Ok tt) ⊎ ((fault : StepFault) × (r ≡ Err (host_fault fault)))
 
@@ -132,9 +133,9 @@ closing_goes Stands fits p stands =
     left (Ok bytes) q i = (i.0, inl refl)
     left (Err fault) q i = (i, inr (fault, refl))
 
--- ---- along a line
+-- ---- along a link
 
--- a dialog whose result is only reported otherwise
+-- a dialog whose result is reported in another form
 abbrev reported : {E A B P : Type 0} → (A → B) → LineState E A P → LineState E B P
 reported tell s = record {
   dialog = s.dialog >>= (λ a. Done (tell a));

@@ -25,7 +25,7 @@ turn_honest m bytes p Right = inl (refl, refl)
 turn_honest m bytes p (Wrong became Refusal) = inr refl
 turn_honest m bytes p (Wrong became instead) = tt
 
--- and whatever is honest is a turn
+-- every honest reading is a turn
 abbrev IsTurn : {P : Type 0} → Device P → List ℕ → P → Became → Reading → Turn → Type 0
 IsTurn m bytes p became reading turn =
     (turn_reading turn (m.answer bytes p) ≡ reading)
@@ -64,7 +64,7 @@ honest_turn m bytes p (Anew became) (Answered body) (inl own) = absurd (not_anew
 honest_turn m bytes p (Anew became) (Answered body) (inr e) = (ap (λ x. Answered x) (sym e), refl)
 honest_turn m bytes p became reading h = (refl, refl)
 
--- where no question is asked any more, nothing becomes of the programmer
+-- without a further question the programmer stays as it is
 none_asked : {E R P : Type 0} (m : Device P) (d : Dialog E R) (p : P) (turns : List Turn)
     → (along m 0 d p turns).programmer ≡ p
 none_asked m (Done r) p turns = refl
@@ -76,8 +76,8 @@ pub obeyed_frame : {P : Type 0} (m : Device P) (n : ℕ) (bytes : List ℕ) (p :
 obeyed_frame m n bytes p b = cond-true (is_good (frame n bytes)) _ _ (frame_is_good n bytes b.some)
     ∙ ap (λ x. m.after x p) (body_of_frame n bytes)
 
--- A play over a tape is the play along these turns, of which so many are read; all frames, where it is done. After any
--- first frames the programmer stands as what became of it says.
+-- A run over a tape is the run along these turns, of which `answered` are read; if it is done, these are as many as its
+-- frames. After any first frames the programmer is as the list of what happened to it gives.
 record HeardAs {E R P : Type 0} (m : Device P) (d : Dialog E R) (n : ℕ) (tape : Tape) (p : P) (becames : List Became)
     (turns : List Turn) : Type 0 where
   answered : ℕ
@@ -121,7 +121,7 @@ module _ {P : Type 0} (m : Device P) where
         stands (suc zero) le = none_asked m (go_on Silent) on_time [] ∙ arrives
         stands (suc (suc k)) le = absurd (omega (arith, le))
 
-    -- one that was answered, by its turn
+    -- a question that was answered, by its turn
     module _ (turn : Turn) (later : List Turn) (left : Tape)
         (read : answer n tape ≡ Some (turn_reading turn (m.answer bytes p), left))
         (leaves : after_turn turn (m.after bytes p) p m.reset ≡ on_time)
@@ -216,9 +216,9 @@ module _ {P : Type 0} (m : Device P) where
         };
       }
 
--- ---- what was heard first of a tape that is honest
+-- ---- the first readings of an honest tape
 
--- what was read of this question is honest, and what is read of those after it
+-- what was read for this question is honest, and what is read after it too
 abbrev pub HonestOn : {E R P : Type 0} → Device P → List ℕ → (Reading → Dialog E R) → ℕ → P → List Became
     → Option (Reading × Tape) → Type 0
 HonestOn m bytes go_on n p becames = on_answer (λ reading left.
@@ -250,7 +250,7 @@ module _ {P : Type 0} (m : Device P) where
 -- ---- what the programmer cuts from the bytes that it got
 
 module _ {P : Type 0} (m : Device P) where
-  -- pieces that are no good frames change nothing
+  -- pieces that aren't good frames change nothing
   good_alone : (pieces : List (List ℕ)) (p : P) → after_frames m pieces p ≡ after_frames m (filter is_good pieces) p
   good_alone [] p = refl
   good_alone (piece ∷ pieces) p = elim (cases_Bool (is_good piece)) [

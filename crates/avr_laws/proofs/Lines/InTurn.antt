@@ -1,4 +1,5 @@
--- A talk in turn over a wire: nobody listens where nothing comes, and the programmer goes along with the dialog.
+-- A transcript in turn over a wire: the tool listens only if something comes, and the programmer goes along with the
+-- dialog.
 use Rattle.std.proofs.Common.{◌≡◌, ℕ, ◌<◌, ◌≤◌, List, [], ◌∷◌, ◌++◌, length, take, drop, refl, sym, ap, ◌∙◌, subst, append_assoc, arith, inl, inr, true, Option, Some, None, length-append}
 use Rattle.std.proofs.lemmas.Bool.{cases_lt, lt-leb, and_parts, cond-true}
 use Rattle.std.proofs.lemmas.List.{append-nil, take-append-le, drop-append-le, take_all, drop_all, take-append-drop}
@@ -52,7 +53,7 @@ whole_by : {E R : Type 0} (go_on : Reading → Tape → Played E R) (o : Option 
 whole_by go_on None each = tt
 whole_by go_on (Some (reading, left)) each = each reading left
 
--- a play sends whole frames
+-- a run sends whole frames
 pub sends_whole : {E R : Type 0} (d : Dialog E R) (n : ℕ) (t : Tape) → AsksBodies d
     → AreWhole (frames_in (played d n t).events)
 sends_whole (Done r) n t asks = tt
@@ -71,7 +72,7 @@ frames_sent (Frame f ∷ events) whole = frame_first f (bytes_sent events) whole
     ∙ ap (λ fs. f ∷ fs) (frames_sent events whole.1)
 frames_sent (Said e ∷ events) whole = frames_sent events whole
 
--- where something is heard, it was due
+-- what is received was due
 pub due_at : {E R : Type 0} (d : Dialog E R) (n : ℕ) (tape : Tape) (bytes : List ℕ) (before after : Transcript)
     (items : Tape)
     → TurnsFrom d n tape bytes (before ++ Got items ∷ after) → IsDue d n (tape ++ heard before) (bytes ++ sent before)
@@ -85,7 +86,8 @@ due_at d n tape bytes (Got got ∷ before) after items turns =
     subst (λ t. IsDue d n t (bytes ++ sent before)) (append_assoc tape got (heard before))
     (due_at d n (tape ++ got) bytes before after items turns.1)
 
--- a talk in turn never listens where nothing waits: of a play over all that was brought each question was answered
+-- A transcript in turn never listens while nothing waits, so in a run over all that was brought each question was
+-- answered.
 pub never_idle : {E R : Type 0} (d : Dialog E R) (n : ℕ) (p : Programmer) (fates : List Fate) (transcript : Transcript)
     → AsksBodies d → AreLawful fates → InTurn d (progress_at n []) transcript → NeverIdle p fates transcript
 never_idle d n p fates transcript asks lawful turns before after items split same =
@@ -104,7 +106,7 @@ never_idle d n p fates transcript asks lawful turns before after items split sam
     let as_many = sym (ap length gone) ∙ ap (λ x. length (frames_in x.events)) goes.play in
     absurd (omega (arith, one_more, as_many))
 
--- more of the tape, more frames after those sent
+-- with more of the tape, more frames after those sent
 abbrev Goes : {E R : Type 0} → Dialog E R → ℕ → Tape → Tape → Type 0
 Goes d n t u = (more : List (List ℕ)) × (frames_in (played d n (t ++ u)).events
     ≡ frames_in (played d n t).events ++ more)
@@ -124,7 +126,7 @@ played_goes (Ask bytes go_on) n t u =
           (g.0, ap sent_by (answer_extends n t u got.0 got.1 e) ∙ ap (λ fs. frame n bytes ∷ fs) g.1)
     ]) refl
 
--- a part of a frame has no frame
+-- a part of a frame contains no frame
 part_none : (x y : List ℕ) → 0 < length y → IsPiece (x ++ y) → frames x ≡ []
 part_none x y some whole = elim (cases_lt (length x) (piece_size x)) [
   | inl lt ↦ ap (filter is_frame) (cut_none x (lt-leb (piece_size x) (length x) lt))
@@ -135,7 +137,7 @@ none_before : {A : Type 0} (x y : List A) → x ++ y ≡ [] → (x ≡ []) × (y
 none_before [] y e = (refl, e)
 none_before (a ∷ x) y e = (cc, cc)
 
--- bytes that are a prefix of those of events have a prefix of their frames
+-- a prefix of the bytes of events has a prefix of their frames
 pub frames_prefix : {E : Type 0} (events : List (Event E)) (bytes back : List ℕ) → AreWhole (frames_in events)
     → bytes ++ back ≡ bytes_sent events → (others : List (List ℕ)) × (frames_in events ≡ frames bytes ++ others)
 frames_prefix [] bytes back whole e = (
@@ -173,7 +175,7 @@ frames_prefix (Frame f ∷ events) bytes back whole e = elim (cases_lt (length b
       )
 ]
 
--- what happened of a talk that broke off is a prefix of the bytes
+-- the events of a run that broke off send a prefix of the bytes
 begun_prefix : {E : Type 0} (SaidPart : E → E → Type 0) (begun later : List (Event E)) → IsBegun SaidPart begun later
     → IsPrefixOf (bytes_sent begun) (bytes_sent later)
 begun_prefix SaidPart [] later part = (bytes_sent later, refl)
@@ -202,7 +204,7 @@ module _ {E R : Type 0} (d : Dialog E R) (n : ℕ) (p : Programmer) (fates : Lis
   brings : brought p fates (sent w.transcript) ≡ heard w.transcript ++ w.waits
   brings = keeps.brings (never_idle d n p fates w.transcript asks lawful turns)
 
-  -- what was sent is a prefix of what the play over what was heard sends
+  -- what was sent is a prefix of what the run over what was received sends
   abbrev SendsFirst : Type 0
   SendsFirst = IsPrefixOf (sent w.transcript) (bytes_sent (played d n (heard w.transcript)).events)
 
@@ -220,7 +222,7 @@ module _ {E R : Type 0} (d : Dialog E R) (n : ℕ) (p : Programmer) (fates : Lis
       (ap (λ t. frames_in (played d n t).events) brings
       ∙ (g.1 ∙ (ap (λ fs. fs ++ g.0) f.1 ∙ append_assoc (frames (sent w.transcript)) f.0 g.0)))
 
-  -- what was heard is honest, by the fates of all frames that the play over it sends
+  -- what was received is honest, by the fates of all frames that the run over it sends
   pub honest_heard : SendsFirst → AreHonest device d n (heard w.transcript) p
       (becames_of (length (frames_in (played d n (heard w.transcript)).events)) fates)
   honest_heard prefix =
@@ -231,14 +233,14 @@ module _ {E R : Type 0} (d : Dialog E R) (n : ℕ) (p : Programmer) (fates : Lis
       honest_prefix device d n (heard w.transcript) w.waits p (becames_of all fates)
       (subst (λ t. AreHonest device d n t p (becames_of all fates)) brings ((goes_along prefix).honest all enough))
 
-  -- the programmer stands along the line
+  -- the programmer is where the link leads it
   pub stands_along : SendsFirst → w.wire.programmer ≡ (along device count d p (turns_of fates)).programmer
   stands_along prefix = ap (λ x. x.programmer) keeps.stands ∙ (goes_along prefix).programmer
 
-  -- where the talk was whole the dialog has said the same and come to the same result there
+  -- a whole run has the same output and the same result there
   module _ (events : List (Event E)) (r : R) (after : Progress)
       (plays : Plays d (progress_at n []) w.transcript events r after) (prefix : SendsFirst) where
-    -- the play along the line
+    -- the run along the link
     over : played_along device count d n p (turns_of fates) []
         ≡ record { events = events; outcome = Some (r, after.next, on_tape after.unread ++ w.waits) }
     over = sym (goes_along prefix).play ∙ (ap (played d n) brings ∙ plays.plays w.waits)

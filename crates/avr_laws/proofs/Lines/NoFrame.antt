@@ -1,4 +1,4 @@
--- On a line that makes no frame all that is read is honest.
+-- On a link that forges no frame all that is read is honest.
 use Rattle.std.proofs.Common.{◌≡◌, ℕ, zero, suc, ◌+◌, ◌%◌, ◌≤◌, List, [], ◌∷◌, ◌++◌, length, take, drop, refl, sym, ap, ◌∙◌, arith, inl, inr, ◌⊎◌, Bool, true, false, Option, Some, None}
 use Rattle.std.proofs.lemmas.Bool.{cases_Bool, and_parts, eqb-true, false≢true, cond-true, cond-false}
 use Rattle.std.specs.Prelude.{◌==◌, nat_le, filter, replicate}
@@ -14,9 +14,9 @@ use Rattle.avr_laws.proofs.Lines.Plays.{tail_is}
 use Rattle.avr_laws.specs.NoFrame.{given, IsAmong, WasSent, WereSent, MakesNoFrame}
 use Rattle.avr_laws.proofs.Lines.AnyTape.{HonestOn}
 
--- ---- the numbers of the answers given before
+-- ---- the numbers of the earlier answers
 
--- those so many questions back and further: each has the number of its question, or is nothing
+-- the answers `k` questions back and further: each is empty or has the number of its question
 abbrev pub Past : ℕ → ℕ → List (List ℕ) → Type 0
 Past n k [] = Unit {0}
 Past n k (answer ∷ before) = ((answer ≡ []) ⊎ ((seq_of answer + k) % 256 ≡ n % 256)) × Past n (suc k) before
@@ -82,7 +82,7 @@ taken n sent (piece ∷ pieces) body used e were = elim (cases_Bool (is_answer n
       taken n sent pieces body rest.0 rest.1 (were.1 other)
 ]
 
--- what is answered was found
+-- a timeout or the end is never an answered body
 no_answer : (tape left : Tape) (body : List ℕ) → silence_or_end tape ≡ Some (Answered body, left) → ⊥
 no_answer (Byte b ∷ tape) left body e = false≢true (ap is_answered e)
 no_answer tape left body e = false≢true (ap is_answered e)
@@ -171,7 +171,7 @@ module _ {P : Type 0} (m : Device P) where
       (given m n bytes p (first_became becames) ∷ before) (more_past n bytes p (first_became becames) before past)
       inner) made
 
--- ---- a programmer that got a prefix of the bytes that were sent, as over a line that keeps their order
+-- ---- a programmer that got a prefix of the bytes sent, as over a link that keeps their order
 
 all_through : (xs ys : List (List ℕ)) → let_through (replicate (length xs) true) (xs ++ ys) ≡ xs
 all_through [] ys = refl

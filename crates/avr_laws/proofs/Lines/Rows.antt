@@ -1,4 +1,4 @@
--- Worked lines that aren't honest.
+-- Worked links that aren't honest.
 use Rattle.std.proofs.Common.{◌≡◌, ℕ, List, [], ◌∷◌, inl, inr}
 use Rattle.stk_frame.specs.Frame.{frame}
 use Rattle.stk_host.specs.Tape.{on_tape, answer}
@@ -12,7 +12,7 @@ use Rattle.stk_emu.proofs.Rows.Answers.{start, told}
 abbrev asks : Dialog ⊥ ℕ
 asks = Ask (0x05 ∷ []) (λ reading. Done 0)
 
--- an answer that another made, though all else is in order
+-- a forged answer, though all else is in order
 pub forged : AreHonest device asks 1 (on_tape (frame 1 (0x05 ∷ 0x00 ∷ []))) start (Obeyed ∷ []) → ⊥
 unfolding answer
 forged (inl own, rest) = different own.1

@@ -1,4 +1,4 @@
--- A dialog played over what a wire brings is played along the turns of its fates, and nothing of the tape is left.
+-- A dialog run over what a wire brings runs along the turns of its fates, and nothing of the tape is left.
 use Rattle.std.proofs.Common.{◌≡◌, ◌≤◌, ℕ, zero, suc, List, [], ◌∷◌, ◌++◌, length, refl, sym, ap, ◌∙◌, subst, arith, Some, None}
 use Rattle.std.proofs.lemmas.List.Elements.{All-head, All-tail}
 use Rattle.stk_frame.specs.Frame.{frame}
@@ -30,9 +30,8 @@ others_lawful : (fates : List Fate) → AreLawful fates → AreLawful (other_fat
 others_lawful [] l = l
 others_lawful (fate ∷ fates) l = All-tail IsLawfulFate fate fates l
 
--- A dialog that sent frames over a wire: where the programmer stands; its play over all that they bring; and that this
--- is
--- honest, by the fates of these frames and of any more.
+-- A dialog that sent frames over a wire: the programmer after it, and its run over all that they bring. That is honest,
+-- by the fates of these frames and of any more.
 pub record GoesOver {E R P : Type 0} (m : Device P) (d : Dialog E R) (n : ℕ) (w : Wire P) (sent : List (List ℕ)) (p : P)
     (turns : List Turn) : Type 0 where
   pub programmer : (wire_after m sent w).programmer ≡ (along m (length sent) d p turns).programmer

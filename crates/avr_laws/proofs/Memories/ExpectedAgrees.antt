@@ -1,4 +1,4 @@
--- An expected run stands fine exactly where its comparisons agree.
+-- An expected run is fine exactly if its comparisons agree.
 use Rattle.std.proofs.Common.{◌≡◌, arith, refl, sym, ap, ◌∙◌, subst, List, [], ◌∷◌, Option, Some, None}
 use Rattle.std.specs.Prelude.{⊤, ◌↔◌}
 use Rattle.avr_cli.specs.declared.settings.Switches.{Switches}
@@ -17,7 +17,7 @@ use Rattle.avr_laws.specs.ExpectedRun.{Expected, then_from, ◌then◌, action_e
 use Rattle.avr_laws.specs.Items.{action_items, actions_items, items}
 use Rattle.avr_laws.proofs.Plans.Standings.{faulty_fine}
 
--- An expected run that stands fine exactly where something agrees, and then leaves these memories.
+-- An expected run that is fine exactly if something agrees, and then leaves these memories.
 record Turns (c : Expected) (Agree : Type 0) (left : Memories) : Type 0 where
   if_fine : c.standing ≡ Fine → Agree
   is_fine : Agree → c.standing ≡ Fine

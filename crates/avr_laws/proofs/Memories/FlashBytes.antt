@@ -21,7 +21,7 @@ erase_later : (item : Item) (xs : List Item) → has_erase xs ≡ true → has_e
 erase_later Erase xs has = refl
 erase_later (Write mem image) xs has = has
 
--- an item before, of which the byte has nothing
+-- an earlier item that the byte has nothing of
 later : (item : Item) (xs : List Item) (addr before after : ℕ) → IsMade xs addr before after
     → IsMade (item ∷ xs) addr before after
 later item xs addr before after m =
@@ -47,7 +47,7 @@ erased xs addr before mid after e m = record {
   is = m.is;
 }
 
--- a write that gives its byte to the one before
+-- a write whose byte is ANDed to the one before
 anded : (image : Image) (xs : List Item) (addr before byte mid after : ℕ) → byte_at image addr ≡ Some byte
     → mid ≡ bit_and before byte
     → IsMade xs addr mid after → IsMade (Write Flash image ∷ xs) addr before after
@@ -69,7 +69,7 @@ anded image xs addr before byte mid after at e m = elim m.first_is [
   }
 ]
 
--- what a write leaves: the byte, or it AND the image's
+-- a write leaves the byte, or it AND the image's
 abbrev Writes : Image → ℕ → ℕ → ℕ → Type 0
 Writes image addr before mid = (mid ≡ before)
     ⊎ ((byte : ℕ) × (byte_at image addr ≡ Some byte) × (mid ≡ bit_and before byte))
@@ -116,7 +116,7 @@ module _ (part : Part) (addr : ℕ) where
       later (Write mem image) xs addr (byte m) (byte (effects part xs (effect part (Write mem image) m)))
       (made xs (effect part (Write mem image) m) l)
 
--- first items of some
+-- the first items of a list
 there_of : (k : ℕ) (xs : List Item) (addr byte : ℕ) → IsThere (take k xs) addr byte → IsThere xs addr byte
 there_of zero xs addr byte is = absurd is
 there_of (suc k) [] addr byte is = absurd is

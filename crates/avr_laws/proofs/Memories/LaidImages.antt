@@ -1,4 +1,4 @@
--- What writes leave in a memory: their images laid over each other, and elsewhere what was there.
+-- What writes leave in a memory: their images laid over each other, and elsewhere the bytes before.
 use Rattle.std.proofs.Common.{◌≡◌, ℕ, zero, suc, ◌≤◌, ◌<◌, arith, refl, sym, ap, ◌∙◌, subst, List, [], ◌∷◌, ◌++◌, length, get_or, Bool, true, false, Option, Some, None, unwrap_or}
 use Rattle.std.proofs.lemmas.Bool.{true≢false}
 use Rattle.std.proofs.lemmas.List.{length-replicate}
@@ -45,7 +45,7 @@ byte_of_over (x ∷ a) (y ∷ b) (suc i) l = byte_of_over a b i (omega (arith, l
 
 -- ---- a write to bytes
 
--- The bytes stay as many, and keep theirs where the image holds none.
+-- The number of bytes stays, and so does each byte for which the image has none.
 pub record Keeps (image : Image) (old new : List ℕ) : Type 0 where
   pub size : length new ≡ length old
   pub rest : (i : ℕ) → byte_at image i ≡ None → get_or new i 0 ≡ get_or old i 0
@@ -86,7 +86,7 @@ write_keeps part mem image m = subst (Keeps image (memory_in part mem m)) (sym (
 
 -- ---- what is left of one memory
 
--- It is as large as before, holds the image, and elsewhere what it held.
+-- It is as large as before, holds the image, and elsewhere its earlier bytes.
 pub record Left (part : Part) (mem : Mem) (image : Image) (old new : Memories) : Type 0 where
   pub size : length (memory_in part mem new) ≡ length (memory_in part mem old)
   pub shows : Shows part mem image new
@@ -105,7 +105,7 @@ module _ (part : Part) where
   left_by_write mem image m shows = let kept = write_keeps part mem image m in
       record { size = kept.size; shows = shows; rest = kept.rest }
 
-  -- from where the memory was the same
+  -- from a memory that was the same
   left_from : (mem : Mem) (image : Image) (old between new : Memories)
       → memory_in part mem between ≡ memory_in part mem old
       → Left part mem image between new → Left part mem image old new
@@ -167,7 +167,7 @@ module _ (part : Part) where
   write_left mem other image more m new false e fits size shows left =
       left_from mem more m (write_effect other image m) new (others_stay part other mem image m e) left
 
-  -- what actions leave of a memory that agree
+  -- what actions that agree leave of a memory
   abbrev Leave : Mem → List Action → Memories → Type 0
   Leave mem actions m = AllFitActions part actions → ActionsAgree part actions m
       → Left part mem (written_to part mem (actions_items actions)) m (effects part (actions_items actions) m)
@@ -184,7 +184,7 @@ module _ (part : Part) where
       (memory_number other == memory_number mem) refl
       fit.0.0 (length-written_to mem more fit.1.1) agree.1.0 (rest after fit.1.1 agree.1.1)
 
-  -- where writes are read back
+  -- if writes are read back
   pub tasks_left : (s : Switches) → s.no_verify ≡ false → (mem : Mem) (tasks : List Task) (m : Memories)
       → Leave mem (tasks_actions s tasks) m
   tasks_left s verified mem [] m fit agree = left_as_it_is mem (size_of mem part) m

@@ -102,7 +102,7 @@ module _ (plan : Plan) (before after : Memories) (all : All (IsFitted plan.part)
         lock = λ none. (memory_left Lock).rest 0 none ∙ lock_erased part due before;
       }
 
-  -- and so by what its tasks ask for
+  -- the same by what the tasks ask for
   pub run_written : IsPart plan.part → FitsPart plan.part before → IsWritten plan.part (asked_items plan) before after
   run_written sound fits =
       subst (λ xs. IsWritten plan.part xs before after) (items_by_tasks plan) (items_written sound fits)
@@ -128,7 +128,7 @@ no_erase dry false true keep e n = absurd (true≢false n)
 no_erase true false false keep e n = refl
 no_erase false false false keep e n = refl
 
--- so a run that compares what is shown, and nothing else, has status 0
+-- so a run that only compares what is shown has status 0
 pub shown_succeeds : (part : Part) (s : Switches) (image_of : Mem → Image) (m : Memories) (mems : List Mem)
     → s.erase ≡ false → ((mem : Mem) → Shows part mem (image_of mem) m)
     → (expected_run (record { part = part; tasks = map (λ mem. task.Verify mem (image_of mem)) mems; switches = s })

@@ -1,4 +1,4 @@
--- A play of steps along a line: how many of their conditions it has climbed.
+-- A run of steps along a link: how many of their conditions it has climbed.
 use Rattle.std.proofs.Common.{◌≡◌, ℕ, zero, suc, ◌≤◌, List, [], ◌∷◌, ◌++◌, length, refl, sym, ap, ◌∙◌, subst, arith, ◌⊎◌, inl, inr, Ok, Err}
 use Rattle.stk_frame.specs.declared.command.Command.{Command}
 use Rattle.stk_host.specs.Dialog.{Dialog, Done, Say, Ask, ◌>>=◌}
@@ -12,7 +12,7 @@ use Rattle.avr_laws.proofs.Hosts.Attempts.{along_bind, onward, step_stands, Step
 use Rattle.avr_laws.proofs.Hosts.AnyTurn.{asks≢done, done_is}
 
 module _ {P : Type 0} (m : Device P) where
-  -- a dialog that was done before its last question was done then
+  -- a dialog that is done with questions to spare was done without the last
   pub along_before : {E R : Type 0} (k left : ℕ) (d : Dialog E R) (p : P) (turns : List Turn) (r : R)
       → (along m (suc k) d p turns).dialog ≡ Done r → (along m (suc k) d p turns).left ≡ suc left
       → along m k d p turns ≡ record {
@@ -37,7 +37,7 @@ module _ {P : Type 0} (m : Device P) where
   along_before (suc k) left (Ask bytes go_on) p turns r e n = along_before k left (go_on _) _ _ r e n
 
   module _ (At : ℕ → P → Type 0) where
-    -- what is reported of the rest of a play
+    -- the count of the rest of a run, with its bounds
     abbrev Rest : ℕ → LineState ⊥ StepOutcome P → ℕ → ℕ → Type 0
     Rest total s done before =
         (count : ℕ) × (done ≤ count) × (count ≤ suc before) × (At count s.programmer)
@@ -103,7 +103,7 @@ module _ {P : Type 0} (m : Device P) where
         (onward m (if_done go_on) s.left s.turns s.programmer (Ask bytes more)) refl
         (λ b f. asks≢done bytes (λ reading. more reading >>= if_done go_on) (Ok b) f) stepped.stands
 
-    -- nothing is asked
+    -- before the first question
     none_asked : (command : Command) (commands : List Command) (steps : List (List Command)) (before : List ℕ) (p : P)
         (turns : List Turn) → At 0 p
         → Climbs m At 0 ((command ∷ commands) ∷ steps) p turns

@@ -37,7 +37,7 @@ module _ {P : Type 0} (m : Device P) where
     stands = at;
   }
 
-  -- a count in other words, of what is counted alike
+  -- a count in other words, if both count alike
   abbrev pub tallies_as : {E F Q R : Type 0} (d : Dialog E Q) (e : Dialog F R) (made other : Count P)
       (At At' : ℕ → P → Type 0) (p : P) (turns : List Turn) → ((k : ℕ) → made k p turns ≡ other k p turns)
       → ((k j : ℕ) → At j (along m k d p turns).programmer → At' j (along m k e p turns).programmer)
@@ -126,7 +126,7 @@ module _ {P : Type 0} (m : Device P) where
     stands_from k (Done a) e = (follow k a e).rest.stands (along m k d p turns).left
     stands_from k x e = t.stands k
 
-    -- a dialog, and the next one
+    -- a dialog, then the next one
     pub tallies_bind : Tallies m (d >>= next) (then_count m d first more) At p turns
     tallies_bind = record {
       count = λ k. total k (along m k d p turns).dialog refl;
@@ -137,7 +137,7 @@ module _ {P : Type 0} (m : Device P) where
           (sym (along_bind m k d next p turns)) (stands_from k (along m k d p turns).dialog refl);
     }
 
-  -- all steps of a play that was completed are done
+  -- all steps of a completed run are done
   all_on : (left : ℕ) (turns : List Turn) (q : P) (x : Dialog ⊥ StepOutcome) (go_on : List ℕ → Dialog ⊥ StepOutcome)
       (got : List ℕ) (rest total : ℕ)
       → ((bytes : List ℕ) → (along m left (go_on bytes) q turns).dialog ≡ Done (Ok got) → rest ≡ total)
@@ -166,7 +166,7 @@ module _ (part : Part) (steps : List (List Command)) (m : Memories) (before : Li
       (along device k (play steps before) p turns)
   climbs k = steps_climb part steps m k before p turns sound are s
 
-  -- where it was completed, all its page writes had before the last question of what follows
+  -- if it was completed, all its page writes were, before the last question of what follows
   play_sharp : (k l : ℕ) (got : List ℕ) → (along device k (play steps before) p turns).dialog ≡ Done (Ok got)
       → (along device k (play steps before) p turns).left ≡ suc l
       → (climbs k).count ≤ steps_done device steps (k - 1) p turns
@@ -179,7 +179,7 @@ module _ (part : Part) (steps : List (List Command)) (m : Memories) (before : Li
       let whole : (climbs (suc k)).count ≡ length steps = (climbs (suc k)).whole got e in
       subst (λ i. (climbs (suc k)).count ≤ steps_done device steps i p turns) (sym back) (omega (arith, all, whole))
 
-  -- a play of steps, and that where it was completed all its page writes had before the last question of what follows
+  -- a run of steps; if it was completed, all its page writes were, before the last question of what follows
   pub tallies_play : (t : Tallies device (play steps before) (steps_done device steps)
       (λ j. Settled part (changed_by part j steps m)) p turns)
       × ((k l : ℕ) (got : List ℕ) → (along device k (play steps before) p turns).dialog ≡ Done (Ok got)

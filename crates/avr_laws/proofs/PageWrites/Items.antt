@@ -1,4 +1,4 @@
--- The steps of an item do what the item does, and the part can bear them.
+-- The steps of an item do what the item does, and fit the part.
 use Rattle.std.proofs.Common.{◌≡◌, ℕ, zero, suc, ◌+◌, ◌-◌, ◌*◌, ◌/◌, ◌%◌, ◌≤◌, ◌<◌, List, [], ◌∷◌, ◌++◌, length, get_or, replicate, refl, sym, ap, ◌∙◌, subst, arith, inl, inr, Bool, true, false, cond, Option, Some, None, is_some, unwrap_or}
 use Rattle.std.proofs.lemmas.Bool.{cases_lt, false≢true, and_parts}
 use Rattle.std.proofs.lemmas.List.{length-replicate, get_or-replicate}
@@ -27,7 +27,7 @@ use Rattle.avr_laws.proofs.PageWrites.EachMemory.{size_stays}
 use Rattle.avr_laws.proofs.PageWrites.Pages.{page_writes_on, effects_on, pages_effect, AllBelow, below_and_in}
 use Rattle.avr_laws.proofs.PageWrites.Runs.{runs_effect}
 
--- what is chosen between the same
+-- a choice between equals
 either_way : {A : Type 0} (b : Bool) (x : A) → cond b x x ≡ x
 either_way true x = refl
 either_way false x = refl
@@ -123,7 +123,7 @@ changed_all part [] m = refl
 changed_all part (commands ∷ steps) m = changed_all part steps (changed part commands m)
     ∙ sym (effects_on part (page_write_of commands) (page_writes_of steps) m)
 
--- the part can bear the steps
+-- ---- the steps fit the part
 
 pub steps_on : (part : Part) (xs ys : List (List Command)) → AreSteps part xs → AreSteps part ys
     → AreSteps part (xs ++ ys)
@@ -216,7 +216,7 @@ module _ (part : Part) (sound : IsPart part) where
   item_are_steps Erase fits = (Erases refl, tt)
   item_are_steps (Write mem image) fits = write_are_steps mem image fits
 
-  -- and those that read
+  -- and so do those that read
   pub flash_even : part.flash_size % 2 ≡ 0
   flash_even =
       let all = div-add-mod' part.flash_size part.flash_page in

@@ -1,4 +1,4 @@
--- Writes, one after another, are one write to each memory; so writes twice are they once, also after an erase.
+-- Writes, one after another, are one write to each memory. So writing twice is writing once, also after an erase.
 use Rattle.std.proofs.Common.{◌≡◌, ℕ, zero, suc, arith, refl, sym, ap, ap₂, ◌∙◌, inl, inr, List, [], ◌∷◌, length, get_or, Bool, true, false, Option, Some, None, unwrap_or, bit_and}
 use Rattle.std.proofs.lemmas.Bool.{true≢false, cases_Bool, eqb-true, cond-true, or_right}
 use Rattle.std.proofs.lemmas.List.{length-replicate}

@@ -1,5 +1,5 @@
--- Steps outside programming mode: each fails and changes nothing. So a step leads from its memories to those that it
--- leaves, also where the programmer begins anew.
+-- Outside programming mode each step fails and changes nothing. So a step leads from its memories to those that it
+-- leaves, also if the programmer restarts.
 use Rattle.std.proofs.Common.{◌≡◌, ℕ, zero, suc, ◌*◌, ◌<◌, ◌^◌, List, [], ◌∷◌, ◌++◌, length, refl, sym, ap, ◌∙◌, subst, ◌⊎◌, inl, inr, arith, true, false, cond}
 use Rattle.std.proofs.lemmas.Bool.{cases_Bool, cond-false}
 use Rattle.avr_part.specs.Part.{Part, IsPart}
@@ -155,7 +155,7 @@ two_idles part address c few fails = record {
         subst (Settled part m) (sym (obeyed_none device i (device.after (body c) q) ∙ (fails q (outside p off)).after))
         (kept m p s)
 
--- what is obeyed and answered is the same where nothing begins anew
+-- if nothing restarts, the commands obeyed and answered are the same
 obeyed_steady : (i : ℕ) (commands : List Command) (p : Programmer)
     → after_commands steady i commands p ≡ after_commands device i commands p
 obeyed_steady zero commands p = refl
@@ -254,7 +254,7 @@ module _ (part : Part) (sound : IsPart part) where
       ready : Fits steady commands (Ready part m) (Ready part (changed part commands m))
       ready = step_ready part sound commands m is
 
-  -- each step of many, from the memories that those before it leave
+  -- each step of a list, from the memories that those before it leave
   pub all_fit : (steps : List (List Command)) (m : Memories) → AreSteps part steps
       → AllFit device (λ j. Settled part (changed_by part j steps m)) steps
   all_fit [] m are = tt

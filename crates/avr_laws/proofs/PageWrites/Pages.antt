@@ -168,7 +168,7 @@ module _ (part : Part) (sound : IsPart part) (image : Image) where
       less : (a b page : ℕ) → a ≤ b → a * page ≤ b * page
       less a b page le = mul-le-mul_right page le
 
-  -- where it is locked nothing changes
+  -- if flash is locked, nothing changes
   page_locked : (n : ℕ) (others : List (List Command)) (m : Memories) → are_locked m ≡ true
       → n * part.flash_page < 4294967296 → effects part (page_writes_of others) m ≡ m
       → effects part (page_writes_of (page_steps part image n ++ others)) m ≡ m

@@ -1,4 +1,4 @@
--- A memory that is changed place by place, as its image says.
+-- A memory that is changed place by place, by its image.
 use Rattle.std.proofs.Common.{◌≡◌, ℕ, ◌+◌, ◌-◌, ◌≤◌, ◌<◌, List, length, get_or, map, refl, sym, ap, ◌∙◌, arith, inl, inr, Option, Some, None, unwrap_or}
 use Rattle.std.proofs.lemmas.Bool.{cases_lt}
 use Rattle.std.proofs.lemmas.List.{ext_get_or, length-map, get_or_past}
@@ -7,7 +7,7 @@ use Rattle.stk_emu.specs.Effect.{Image, with_image, and_in, and_with}
 use Rattle.stk_emu.specs.PageWrites.{image_at}
 use Rattle.stk_emu.proofs.Memories.LaidImages.{length-laid, length-and_in, get_laid, get_and_in, before_part, in_part, some_at}
 
--- From a place on each byte is changed as the image says.
+-- From a place on each byte is changed by the image.
 pub record Written (f : Option ℕ → ℕ → ℕ) (image : Image) (from : ℕ) (old new : List ℕ) : Type 0 where
   pub long : length new ≡ length old
   pub kept : (i : ℕ) → i < length old → i < from → get_or new i 0 ≡ get_or old i 0
@@ -21,7 +21,7 @@ pub record Changed (f : Option ℕ → ℕ → ℕ) (image : Image) (from to : �
   pub within : (i : ℕ) → i < length old → from ≤ i → i < to → get_or new i 0 ≡ f (byte_at image i) (get_or old i 0)
   pub behind : (i : ℕ) → i < length old → to ≤ i → get_or new i 0 ≡ get_or old i 0
 
--- a page write, and then the others
+-- a page write, then the others
 pub changed_first : (f : Option ℕ → ℕ → ℕ) (image : Image) (from to : ℕ) (old mid new : List ℕ)
     → Changed f image from to old mid → Written f image to mid new → Written f image from old new
 changed_first f image from to old mid new s w = record {
@@ -42,7 +42,7 @@ nothing_left f image from old none gap = record {
   done = λ i l b. sym (none (get_or old i 0)) ∙ ap (λ (o : Option ℕ). f o (get_or old i 0)) (sym (gap i l b));
 }
 
--- a gap is passed over
+-- a gap is skipped
 pub gap_first : (f : Option ℕ → ℕ → ℕ) (image : Image) (from to : ℕ) (old new : List ℕ) → ((x : ℕ) → f None x ≡ x)
     → from ≤ to → ((i : ℕ) → from ≤ i → i < to → byte_at image i ≡ None) → Written f image to old new
     → Written f image from old new
@@ -64,7 +64,7 @@ pub all_anded : (image : Image) (old new : List ℕ) → Written and_with image 
 all_anded image old new w = ext_get_or 0 new (and_in image old) (w.long ∙ sym (length-and_in image old))
     (λ i l. w.done i (omega (arith, l, w.long)) (omega arith) ∙ sym (get_and_in image old i (omega (arith, l, w.long))))
 
--- the bytes of a page write, by their addresses
+-- ---- the bytes of a page write, by their addresses
 
 pub placed_before : (start : ℕ) (bytes : List ℕ) (i : ℕ) → i < start → get_or (image_at start bytes) i None ≡ None
 placed_before start bytes i l = before_part start (map Some bytes) i l

@@ -119,7 +119,7 @@ module _ (part : Part) (sound : IsPart part) (image : Image) where
       runs_from next (first_from image next) m old free fits border refl
       (λ end mid longer inside b. runs_free fuel end m mid free fits (omega (arith, longer, enough)) b)
 
-  -- where it is locked nothing changes
+  -- if EEPROM is locked, nothing changes
   run_locked : (addr : ℕ) (others : List (List Command)) (m : Memories) → are_locked m ≡ true
       → effects part (page_writes_of others) m ≡ m
       → effects part (page_writes_of (run_steps_at part image addr ++ others)) m ≡ m

@@ -27,7 +27,7 @@ one_more part [] others steps count m e rest = absurd (omega arith)
 one_more part (item ∷ []) others steps count m e rest = rest (effect part item m)
 one_more part (item ∷ next ∷ items) others steps count m e rest = absurd (omega arith)
 
--- so the memories after the first so many steps are those of the first so many page writes
+-- so the memories after the first `count` steps are those after the first `count` page writes
 pub counted_page_writes : (part : Part) (count : ℕ) (steps : List (List Command)) (m : Memories) → ArePageWrites steps
     → changed_by part count steps m ≡ effects part (take count (page_writes_of steps)) m
 counted_page_writes part zero steps m are = refl

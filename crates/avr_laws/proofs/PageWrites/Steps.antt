@@ -1,4 +1,4 @@
--- Each step leads from its memories to those that it leaves, also where it is cut short and begun again.
+-- Each step leads from its memories to those that it leaves, also if it is cut short and repeated.
 use Rattle.std.proofs.Common.{◌≡◌, ℕ, ◌+◌, ◌*◌, ◌/◌, ◌<◌, ◌^◌, List, [], ◌∷◌, refl, sym, subst, arith, Some, inl, inr}
 use Rattle.std.proofs.lemmas.Bool.{cases_Bool, cond-true, cond-false}
 use Rattle.std.specs.Prelude.{nat_lt}
@@ -56,7 +56,7 @@ module _ (part : Part) where
   leave_fits m = one_fits device leave (Idle part m) (Idle part m) (λ p s. leave_keeps part m p s)
       (λ p s. leave_keeps part m p s) (λ p s. anew_idle part m p s) (λ p s. anew_idle part m p s)
 
-  -- and where nothing begins anew
+  -- the same if nothing restarts
   pub sign_on_steady : (m : Memories) → Fits steady (SignOn ∷ []) (Idle part m) (Idle part m)
   sign_on_steady m = one_steady SignOn (Idle part m) (Idle part m) (λ p s. sign_on_keeps part m p s)
       (λ p s. sign_on_keeps part m p s)
@@ -70,7 +70,7 @@ module _ (part : Part) where
       (λ p s. leave_keeps part m p s)
 
   module _ (sound : IsPart part) where
-    -- what is done again
+    -- what is repeated
     again_of : (commands : List Command) (m : Memories) (q : Programmer)
         → changed part commands (changed part commands m) ≡ changed part commands m
         → Ready part (changed part commands (changed part commands m)) q → Ready part (changed part commands m) q

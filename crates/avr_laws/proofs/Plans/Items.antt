@@ -14,7 +14,7 @@ use Rattle.avr_laws.proofs.PageWrites.Pages.{effects_on}
 use Rattle.avr_laws.specs.Agrees.{ActionsAgree, Agrees}
 use Rattle.avr_laws.specs.Items.{action_items, actions_items, items, has_erase, task_item, asked_items}
 
--- what the erase of a session can be
+-- the cases of a session's erase
 pub by_erase : (P : List Action → Type 0) (s : Switches) (tasks : List Task) → P [] → P (LeaveOut TheErase ∷ [])
     → P (EraseChip ∷ []) → P (erase_actions s tasks)
 by_erase P s tasks none left_out done = by_switches s.dry s.erase (is_erase_due s tasks)
@@ -25,7 +25,7 @@ by_erase P s tasks none left_out done = by_switches s.dry s.erase (is_erase_due 
     by_switches false asked true = done
     by_switches dry asked due = none
 
--- and a write
+-- and of a write
 pub by_write : (P : List Action → Type 0) (s : Switches) (mem : Mem) (image : Image)
     → P (LeaveOut (TheWrite mem image) ∷ []) → P (WriteImage mem image ∷ [])
     → P (WriteImage mem image ∷ CompareImage mem image ∷ []) → P (write_actions s mem image)

@@ -1,4 +1,4 @@
--- Over any line that makes no answer whatever is reported is true.
+-- Over any link that forges no answer whatever is reported is true.
 use Rattle.std.proofs.Common.{◌≡◌, ◌∙◌, ℕ, zero, suc, Bool, true, false, List, [], ◌∷◌, ◌++◌, length, refl, sym, ap, subst, Option, Some, None}
 use Rattle.std.specs.Prelude.{if◌then◌else◌}
 use Rattle.std.specs.Str.{bytes_eq}
@@ -16,7 +16,7 @@ use Rattle.avr_laws.proofs.Lines.AnyTape.{honest_turn, obeyed_frame}
 use Rattle.avr_laws.proofs.Lines.WireTapes.{turn_leaves}
 use Rattle.avr_laws.specs.Told.{TellsTrue, SaidTrue}
 
--- ---- what became of the programmer at the first frames, and their turns
+-- ---- what happened to the programmer at the first frames, and their turns
 
 abbrev pub ByTurns : ℕ → List Became → List Turn → Type 0
 ByTurns zero becames turns = Unit {0}
@@ -57,7 +57,7 @@ by_tape (Ask bytes go_on) n tape becames =
     (λ reading left. by_tape (go_on reading) (next n) left (other_becames becames))
 
 module _ {P : Type 0} (m : Device P) where
-  -- whatever turns its questions have, a dialog tells what is true
+  -- whatever turns its questions have, a dialog reports what is true
   abbrev AlwaysTrue : {E R : Type 0} → (P → E → Type 0) → Dialog E R → P → Type 0
   AlwaysTrue T d p = (k : ℕ) (turns : List Turn) → TellsTrue m T k d p turns
 

@@ -1,4 +1,4 @@
--- What a session says is what its expected run says, up to the first action that does not come to its end.
+-- The output of a session is that of its expected run, up to the first action that doesn't complete.
 use Rattle.std.proofs.Common.{◌≡◌, ℕ, List, [], ◌∷◌, ◌++◌, length, append_assoc, refl, sym, ap, ◌∙◌, subst, inl, inr, All, Option, Some, None}
 use Rattle.avr_cli.specs.declared.settings.Switches.{Switches}
 use Rattle.avr_desk.specs.Said.{OutputEvent}
@@ -58,7 +58,7 @@ module _ (plan : Plan) (sound : IsPart plan.part) (fitted : All (IsFitted plan.p
           (length (frames_in (played (session plan) 1 tape).events)) p (turns_heard (session plan) 1 tape becames)
           idle)
 
--- ---- what first actions say is a prefix of the expected run
+-- ---- the output of first actions is a prefix of the expected run's
 
 then_at : (first : Expected) (next : Memories → Expected) (at : Standing) → first.standing ≡ at
     → (first then next) ≡ then_from first at next

@@ -1,4 +1,4 @@
--- The page writes of a plan that erases: an erase and writes, which keep EEPROM where the plan's do.
+-- The page writes of a plan that erases: an erase and writes, which keep EEPROM if the plan's do.
 use Rattle.std.proofs.Common.{◌≡◌, ℕ, zero, suc, ◌+◌, ◌*◌, ◌/◌, refl, sym, ap, ◌∙◌, subst, List, [], ◌∷◌, ◌++◌, Bool, true, false, cond, Option, Some, None, unwrap_or}
 use Rattle.std.proofs.lemmas.Bool.{true≢false}
 use Rattle.std.specs.Prelude.{◌==◌, if◌then◌else◌, take, ⊤, All}

@@ -20,7 +20,7 @@ use Rattle.avr_laws.specs.Agrees.{Agrees, ActionAgrees, ActionsAgree}
 use Rattle.avr_laws.specs.Items.{action_items, actions_items, items, has_erase}
 use Rattle.avr_laws.proofs.Plans.Items.{begins, erase_if, tasks_write, tasks_agree, plan_agrees}
 
--- ---- bytes: where two agree, the third agrees with them
+-- ---- bytes: if two agree, the third agrees with them
 
 abbrev Third : ℕ → ℕ → ℕ → Type 0
 Third z o m = z ≡ o → m ≡ z

@@ -78,7 +78,7 @@ unlocks = refl
 too_early : statuses (Verify Eeprom (Some 3 ∷ None ∷ []) ∷ Write Eeprom (Some 3 ∷ None ∷ []) ∷ []) ≡ 1 ∷ 1 ∷ []
 too_early = refl
 
--- without an erase the two chips don't speak for all: a locked chip of FF keeps its FF
+-- Without an erase the two chips don't represent all: a locked chip of FF keeps its FF.
 abbrev unerased : Plan
 unerased = record {
   part = tiny;

@@ -24,7 +24,7 @@ chip_fits part byte l = record {
   bytes = All-replicate (λ (b : ℕ). b < 256) part.flash_size byte l;
 }
 
--- it is as much as is needed
+-- a plan that agrees on every chip agrees on the two
 pub two_of_all : (plan : Plan) → ((m : Memories) → FitsPart plan.part m → Agrees plan m) → AgreesAnyway plan
 two_of_all plan all = record {
   zeros = all (chip_of plan.part 0) (chip_fits plan.part 0 (omega arith));
@@ -56,7 +56,7 @@ pub touched_healed : (plan : Plan) (before after : Memories) → IsPart plan.par
 touched_healed plan before after sound fitted f erases both kept touched =
     subst (Heals plan before) (sym touched.memories) (healed plan touched.count before sound fitted f erases both kept)
 
--- a second run that did all comes to what the first one would have come to
+-- a second run that did everything has the outcome that the first one would have had
 pub done_again : (plan : Plan) (before left after : Memories) → IsPart plan.part → All (IsFitted plan.part) plan.tasks
     → FitsPart plan.part before
     → (has_erase (items plan) ≡ true → erase_keeps_eeprom plan.part before ≡ true → AreKeeping plan.part (items plan))

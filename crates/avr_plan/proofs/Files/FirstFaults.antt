@@ -43,7 +43,7 @@ own_fault : (kind : Kind) (text more : List ℕ) (size : ℕ) (fault : RecordFau
 own_fault kind text more size fault l is =
     ap (λ (zs : List (List ℕ)). fault_among size (map (said_by_line kind) zs)) (sym l.closed) ∙ is
 
--- a line that has ended and is at fault is the first one still when more has come
+-- a fault of a line that has ended stays the first one when more bytes come
 pub closed_fault-more : (kind : Kind) (text more : List ℕ) (size : ℕ) (fault : RecordFault)
     → closed_fault kind text size ≡ Some fault
     → closed_fault kind (text ++ more) size ≡ Some fault

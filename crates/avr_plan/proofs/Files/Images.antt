@@ -74,7 +74,7 @@ take-prefix all buf limit left n count less =
     subst (λ k. take k (all ++ take n buf) ≡ all ++ take left buf) count
     (take-append-add all (take n buf) left ∙ ap (λ (b : Bytes). all ++ b) (take-take left n buf less))
 
--- so far it went, and then n bytes were read
+-- the read came this far, and then gave n bytes
 module _ (old now new : DeskState) (first last : Intake) (room left n : ℕ) (buf : Bytes)
     (going : Going old now first last room left) (then : Passes (after_read buf (Ok n)) now new) where
   pub going_on : (next : Intake) (rest : ℕ) → (n ≡ 0 → ⊥) → length (take n buf) + rest ≡ left
@@ -110,7 +110,7 @@ module _ (old now new : DeskState) (first last : Intake) (room left n : ℕ) (bu
           gives = within limit found all size len;
         })
 
-    -- more came than may
+    -- more bytes came than the limit allows
     pub rest_long : (bad : BadFile) → left < n → n ≤ length buf → length buf ≤ 4096
         → ((found : Found) (size : ℕ) (text : Bytes) → Takes found size last text
         → bad ≡ long_file found (text ++ take left buf) size)
@@ -151,7 +151,7 @@ kind-prefix letter.Srec prefix more len = refl
 kind-prefix letter.Raw prefix more len = refl
 kind-prefix format prefix more len = detected-prefix prefix more len
 
--- the prefix, and after it the rest
+-- the prefix, then the rest
 open_rest : (limit : ℕ) (format : Format) (size : ℕ) (prefix : Bytes) (old now new : DeskState) (given : Given)
     → Passes (after_reading prefix false) old now
     → length prefix ≡ 1024 → ReadsRest limit (kind_of format prefix) size prefix now new given

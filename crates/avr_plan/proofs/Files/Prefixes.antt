@@ -1,4 +1,4 @@
--- What the bytes of a file that came so far say of the whole.
+-- What the first bytes of a file decide about the whole.
 use Rattle.std.proofs.Common.{◌≡◌, ◌∙◌, sym, ap, refl, ℕ, [], ◌++◌, Some, None, Err, append-nil, subst}
 use Rattle.avr_image.specs.Raw as raw_file
 use Rattle.avr_desk.specs.Record.{Bytes}
@@ -28,7 +28,7 @@ decides-record records.Srec size fault text is = record {
   long = λ more. ap or_too_long (closed_fault-more records.Srec text more size fault is);
 }
 
--- a line is at fault
+-- a line has a fault
 pub record-decides : (found : Found) (size : ℕ) (reader : ReaderState) (fault : RecordFault) (text piece : Bytes)
     → TakesRecords found size reader text
     → Err fault ≡ ok_unless (closed_fault reader.kind (text ++ piece) (memory_size reader))
@@ -54,7 +54,7 @@ sound-long : (kind : Kind) (size : ℕ) (text : Bytes) → closed_fault kind tex
 sound-long records.Ihex size text none = ap or_too_long (sym none)
 sound-long records.Srec size text none = ap or_too_long (sym none)
 
--- no line is at fault
+-- no line has a fault
 pub records-long : (found : Found) (size : ℕ) (reader : ReaderState) (text : Bytes)
     → TakesRecords found size reader text
     → TooLong ≡ long_file found text size

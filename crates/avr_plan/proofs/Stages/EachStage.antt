@@ -60,7 +60,7 @@ module _ (Holds : (A : Type 0) → Stage A → List Bytes → Type 0)
     image memory size name kind = file_image name kind size
 
     module _ (part : Part) where
-      -- an update's image, and then its task
+      -- an update's image, then its task
       imaged : (u : Update) (make : List (Option ℕ) → Task)
           → Holds Task (update_image s part u >>= λ bytes. verdict_stage (Ok (make bytes))) (image_file u.file u.format)
       imaged u make = last (update_image s part u) (λ bytes. verdict_stage (Ok (make bytes)))
@@ -89,7 +89,7 @@ module _ (Holds : (A : Type 0) → Stage A → List Bytes → Type 0)
           onward Task (List Task) (task_stage s part u) (λ task. tasks_stage s part (before ++ task ∷ []) updates)
           (file_of_op u u.op) (files_of updates) (operation u u.op) (λ task. tasks (before ++ task ∷ []) updates)
 
-  -- what the parts come to
+  -- the plan made of a part and tasks
   abbrev made : Settings → Part → List Task → Stage Plan
   made s part tasks = verdict_stage (Ok (record { part = part; tasks = tasks; switches = s.switches }))
 

@@ -1,4 +1,4 @@
--- Planning over what was read of some files is planning over these files, whole: stage by stage.
+-- Planning over the bytes that were read of some files is planning over the whole files, stage by stage.
 use Rattle.std.proofs.Common.{◌≡◌, ◌∙◌, sym, ap, subst, refl, arith, ℕ, ◌≤◌, ◌<◌, List, [], ◌∷◌, ◌++◌, append_assoc, append-nil, length, take, drop, Bool, true, false, ◌||◌, nat_le, nat_lt, Option, Result, Ok, Err, if◌then◌else◌, length-append}
 use Rattle.std.proofs.lemmas.Bool.Decides.{nat_tests}
 use Rattle.std.proofs.lemmas.List.{take-append-le, take-append-drop, length-take-le, map-append}
@@ -21,7 +21,7 @@ use Rattle.avr_plan.specs.ImageFile.{file_within, kind_of}
 use Rattle.avr_plan.specs.Plan.{Plan}
 use Rattle.avr_plan.specs.Planning.{judged_parts, warning_says, image_or_line, judged_image, planned}
 
--- ---- what was opened
+-- ---- the openings
 
 pub seen_first : (stock : Stock) (first second : List OutputEvent) → AreSeen stock (first ++ second)
     → AreSeen stock first
@@ -50,14 +50,14 @@ lines_told first second Unread same = same
 
 -- ---- one stage over two lists of openings
 
--- it comes to the same, says the same lines, and where it is made it leaves the rest
+-- it has the same outcome and the same output, and if it succeeds it leaves the rest
 pub record IsSame {A : Type 0} (p q : StageResult A) (rest : List Opening) : Type 0 where
   pub answer : q.answer ≡ p.answer
   pub lines : lines_in q.says ≡ lines_in p.says
   pub left : (a : A) → p.answer ≡ Made a → q.left ≡ rest
 
 module _ (stock : Stock) where
-  -- a stage that reads the files of these names: over what it saw of them it is what it is over the whole of them
+  -- a stage that reads the files of these names: over the bytes that it saw it is what it is over the whole files
   abbrev Sees : {A : Type 0} → Stage A → List Bytes → Type 0
   Sees stage names = (openings rest : List Opening) → AreSeen stock (stage openings).says
       → ((stage openings).answer ≡ Unread → ⊥)
@@ -74,7 +74,7 @@ module _ (stock : Stock) where
   says_fixed : (says : List OutputEvent) → Sees (output_stage says) []
   says_fixed says openings rest seen read = record { answer = refl; lines = refl; left = λ made is. refl }
 
-  -- one and then another
+  -- one, then another
   on_made : {A B : Type 0} (go_on : A → Stage B) (p q : StageResult A) (back : List Bytes) (rest : List Opening)
       → ((a : A) → Sees (go_on a) back) → IsSame p q (files_give stock back ++ rest) → (answer : StageAnswer A)
       → p.answer ≡ answer
@@ -132,7 +132,7 @@ module _ (stock : Stock) where
 
   -- ---- a file
 
-  -- past its limit a file is judged by what was read of it
+  -- past its limit a file is judged by the bytes that were read
   abbrev IsLimited : {A : Type 0} → ℕ → (Bytes → Result A Bytes) → Type 0
   IsLimited limit judge = (bytes more : Bytes) → limit < length bytes → judge (bytes ++ more) ≡ judge bytes
 
@@ -146,7 +146,7 @@ module _ (stock : Stock) where
 
   module _ {A : Type 0} (name : Bytes) (limit : ℕ) (judge : Bytes → Result A Bytes)
       (limited : IsLimited limit judge) where
-    -- what was seen of it, and the whole of it
+    -- the bytes seen of it, and the whole of it
     of_opening : (opening : Opening) (openings rest : List Opening) → IsTrueOpening stock [] (under_name name opening)
         → ((content_stage name limit judge (under_name name opening) openings).answer ≡ Unread → ⊥)
         → IsSame (content_stage name limit judge (under_name name opening) openings)

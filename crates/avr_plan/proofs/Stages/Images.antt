@@ -63,7 +63,7 @@ module _ (switches : Switches) (file : Bytes) (format : Format) (size : ℕ) whe
       (goes_no_further (AtStart false) (output_stage (warning_says switches file ending))
       (λ ok. verdict_stage (Ok image)) mid new status warns)
 
-  -- a file that is none
+  -- a file that isn't one
   goes_bad : (old mid new : DeskState) (bad : BadFile) (status : ℕ)
       → ReadsImage LARGEST_IMAGE_FILE format size file old mid (Err bad) → HasSameCounts old mid → status ≡ 1
       → Tells mid new (bad_file_line file bad)
@@ -94,7 +94,7 @@ module _ (switches : Switches) (file : Bytes) (format : Format) (size : ℕ) whe
       (goes_file_fault (AtStart false) file LARGEST_IMAGE_FILE (judged_image file format size) file_fault.Memory old mid
       new status (reads.bytes, reads.ended, reads.kept) (follows_same old mid same) same one told)
 
-  -- no image came of the file
+  -- the file gave no image
   pub goes_without_image : (old mid new : DeskState) (fault : ReadFault) (status : ℕ)
       → ImageIsRead LARGEST_IMAGE_FILE format size file old mid (Err fault) → Follows old mid
       → IsCountedRead old mid fault

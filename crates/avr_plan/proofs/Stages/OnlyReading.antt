@@ -1,4 +1,4 @@
--- Planning only reads and tells, stage by stage.
+-- Planning only reads and reports, stage by stage.
 use Rattle.std.proofs.Common.{ℕ, List, [], ◌∷◌, ◌++◌, Bool, true, false, Ok, Err, Result}
 use Rattle.std.specs.Prelude.{if◌then◌else◌}
 use Rattle.avr_cli.specs.declared.settings.Settings.{Settings}
@@ -14,7 +14,7 @@ use Rattle.avr_plan.specs.OnlyReading.{OnlyReads}
 use Rattle.avr_plan.specs.Planning.{judged_parts, is_warned, judged_image, planned}
 use Rattle.avr_desk.specs.Stage.{Stage, StageAnswer, Made, Refused, all_told, told_in, going_on, ◌>>=◌, verdict_stage, unread_stage, open_stage, is_whole, content_stage, file_stage}
 
--- a stage that only reads and tells
+-- a stage that only reads and reports
 abbrev Reads : {A : Type 0} → Stage A → Type 0
 Reads stage = (openings : List Opening) → OnlyReads (stage openings).says
 
@@ -63,7 +63,7 @@ reads_plan = whole_plan (λ A stage names. Reads {A = A} stage) (λ A result. is
     (λ name kind size. file name LARGEST_IMAGE_FILE (judged_image name kind size))
     (λ A B stage go_on first back f g. onward stage go_on f g)
 
--- the line of a refusal too
+-- so is the line of a refusal
 refused_so : {A : Type 0} (says : List OutputEvent) (answer : StageAnswer A) → OnlyReads says
     → OnlyReads (all_told says answer)
 refused_so says (Refused line) f = both says (Line line ∷ []) f tt

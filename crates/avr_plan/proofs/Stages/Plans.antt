@@ -1,4 +1,4 @@
--- The stages of a plan, one after the other.
+-- The stages of a plan, one after another.
 use Rattle.std.proofs.Common.{◌≡◌, ◌∙◌, ap, append-nil, subst, ℕ, false, List, [], ◌++◌, Result, Ok, Err}
 use Rattle.avr_cli.specs.declared.settings.Settings.{Settings}
 use Rattle.avr_desk.specs.Record.{DeskState, Bytes}
@@ -40,7 +40,7 @@ goes_without_part s old mid new status parts went goes =
     (λ passed said never. absurd (taken_never passed said never))
     (goes_no_further (AtStart false) (part_stage s.part parts) (behind_part s) mid new status goes)
 
--- where an update is due behind the part, there it is due in the plan
+-- an update that is due after the part is due in the plan
 at_due : (s : Settings) (old first mid : DeskState) (parts : List Part) (part : Part)
     (went : Went (parts_stage s.parts) old first (Made parts))
     (found : Went (part_stage s.part parts) first mid (Made part)) (passed : List Opening) (said : List OutputEvent)
@@ -76,7 +76,7 @@ at_due s old first mid parts part went found passed said due = record {
         { says = ss; answer = Made (plan_of s part due.made); left = [] })
         (append-nil said)))
 
--- where memory is taken behind the part file
+-- what allocates after the part file
 abbrev Behind : Settings → List Opening → List OutputEvent → Taking
 Behind s before says passed said = AtUpdate s (before ++ passed) (says ++ said)
 

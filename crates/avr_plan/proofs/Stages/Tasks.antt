@@ -20,7 +20,7 @@ use Rattle.avr_desk.specs.Stage.{Stage, Made, behind_outputs, ◌>>=◌, verdict
 use Rattle.avr_plan.specs.declared.planned.Task.{Task}
 use Rattle.avr_plan.specs.declared.planned.Task.TheVariants.{Write}
 
--- a format that is none of values is that of a file
+-- a format that isn't one of values is that of a file
 file_stage-is : (switches : Switches) (memory : Mem) (size : ℕ) (file : Bytes) (format : Format)
     → (format ≡ Immediate → ⊥)
     → file_image_stage switches file format size ≡ image_stage switches memory size file format
@@ -78,7 +78,7 @@ goes_read_only switches part u old new status is one told =
     (if b then writes switches part u else verdict_stage (Err (read_only_line u.memory))) old new (Err status)) is
     (goes_refused (AtStart false) old new (read_only_line u.memory) status one told)
 
--- ---- one task after the other
+-- ---- one task after another
 
 module _ (switches : Switches) (part : Part) (tasks : List Task) (u : Update) (updates : List Update) where
   -- the update is due
@@ -94,7 +94,7 @@ module _ (switches : Switches) (part : Part) (tasks : List Task) (u : Update) (u
     are_made = rw (takes.1, takes.2) refl;
   }
 
-  -- or one after it, of which it is made
+  -- or a later update, whose task it is
   at_later : (old mid : DeskState) (task : Task) (went : Went (task_stage switches part u) old mid (Made task))
       (passed : List Opening) (said : List OutputEvent)
       → AtTask switches part (tasks ++ task ∷ []) updates passed said

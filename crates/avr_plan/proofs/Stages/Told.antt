@@ -1,4 +1,4 @@
--- What was reported last of a plan that is refused, from an earlier desk on.
+-- The last report about a refused plan, from an earlier desk on.
 use Rattle.avr_cli.specs.declared.settings.Settings.{Settings}
 use Rattle.avr_cli.specs.declared.update.Update.{Update}
 use Rattle.avr_desk.specs.Fault.{HasSameCounts}

@@ -14,7 +14,7 @@ use Rattle.avr_records.specs.declared.fault.RecordFault.{RecordFault}
 use Rattle.avr_records.proofs.Readers.Fed.{line-first, says-nothing, said-prefix}
 use Rattle.avr_records.proofs.Readers.Held.{counts-next, counts-more, counts-bad}
 
--- Of the lines of a text these are left, and the lines before them leave that.
+-- These lines of a text are left, and the lines before them leave this extent.
 pub record Walked (kind : Kind) (e : Extent) (text : List ℕ) (left : List (List ℕ)) : Type 0 where
   pub prefix : List (List ℕ)
   pub cut : lines text ≡ prefix ++ left
@@ -27,7 +27,7 @@ said-all : (kind : Kind) (prefix left : List (List ℕ)) (text : List ℕ) → l
     → map (said_by_line kind) (lines text) ≡ map (said_by_line kind) prefix ++ map (said_by_line kind) left
 said-all kind prefix left text cut = grind (arith, nat_tests, map-append)
 
--- the lines that are left, where one ends
+-- the lines that are left, if one ends
 pub left-lines : (left line more : List ℕ) → lines line ≡ line ∷ [] → left ≡ line ++ 10 ∷ more
     → lines left ≡ line ∷ lines more
 left-lines left line more one end = ap lines end ∙ line-first line more one
@@ -67,7 +67,7 @@ walk-fault kind e text line left more fault is on w step =
     fault on w.extent step in
     rw among refl
 
--- after the last line's end nothing stands
+-- after the last line's end there is nothing
 pub walk-empty : (kind : Kind) (e : Extent) (text left : List ℕ) → e.ended ≡ false → Walked kind e text (lines left)
     → length left ≡ 0 → Ok e.end ≡ needed_in_text kind text
 walk-empty kind e text left on w zero-long =

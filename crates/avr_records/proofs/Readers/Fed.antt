@@ -1,4 +1,4 @@
--- How the lines of a text that a reader was fed change what it holds.
+-- How a reader's state changes with the lines of a text that it was fed.
 use Rattle.std.proofs.Common.{◌≡◌, ◌∙◌, sym, ap, refl, arith, ℕ, suc, ◌+◌, List, [], ◌∷◌, ◌++◌, length, map, take, true, false, nat_lt, Some, None, Ok, Err, subst, inl, inr}
 use Rattle.std.proofs.lemmas.Bool.{cases_Bool}
 use Rattle.std.proofs.lemmas.Bool.Decides.{nat_tests}
@@ -24,7 +24,7 @@ use Rattle.avr_records.specs.declared.progress.Progress.{Progress}
 
 -- ---- lines
 
--- what comes after a text goes on with its last line
+-- what comes after a text continues its last line
 pub goes-on : (text more : List ℕ) (prefix : List (List ℕ)) (last first : List ℕ) (rest : List (List ℕ))
     → lines text ≡ prefix ++ last ∷ []
     → lines more ≡ first ∷ rest → lines (text ++ more) ≡ prefix ++ (last ++ first) ∷ rest
@@ -61,7 +61,7 @@ says-too_long : (kind : Kind) (line : List ℕ) → nat_lt longest (length line)
     → said_by_line kind line ≡ Err TooLong
 says-too_long x line is = grind (arith, nat_tests)
 
--- what is kept says what the line says
+-- the kept bytes of a line mean what the line means
 pub said-kept : (kind : Kind) (line : List ℕ) → said_by_line kind (kept line) ≡ said_by_line kind line
 said-kept kind line =
     elim (cases_Bool (nat_lt longest (length line))) [
@@ -71,7 +71,7 @@ said-kept kind line =
       | inr f ↦ ap (said_by_line kind) (take_all (longest + 1) line (grind (arith, nat_tests, f)))
     ]
 
--- and goes on as the line does
+-- and continue as the line does
 said-on : (kind : Kind) (part last rest : List ℕ) → part ≡ kept last
     → said_by_line kind (part ++ rest) ≡ said_by_line kind (last ++ rest)
 said-on kind part last rest is =
@@ -121,7 +121,7 @@ pub said-prefix : (kind : Kind) (prefix : List (List ℕ)) (line : List ℕ)
     → map (said_by_line kind) (prefix ++ line ∷ []) ≡ map (said_by_line kind) prefix ++ said_by_line kind line ∷ []
 said-prefix kind prefix line = map-append (said_by_line kind) prefix (line ∷ [])
 
--- what is kept of the last line and what ends it, if it counts, are the line
+-- the line is what is kept of the last one, with what ends it, if it counts
 line-step : (kind : Kind) (p : Progress) (part text rest : List ℕ) (r : ReadsLines kind p part text)
     → next_progress p (said_by_line kind (r.last ++ rest)) ≡ next_progress p (said_by_line kind (part ++ rest))
 line-step kind p part text rest r = elim (cases_Bool p.extent.ended) [
@@ -129,7 +129,7 @@ line-step kind p part text rest r = elim (cases_Bool p.extent.ended) [
   | inr on ↦ ap (next_progress p) (sym (said-on kind part r.last rest (r.keeps on)))
 ]
 
--- a line has ended, and isn't at fault
+-- a line has ended, without a fault
 ends-good : (kind : Kind) (p new : Progress) (part next text rest : List ℕ) → lines rest ≡ rest ∷ []
     → next_progress p (said_by_line kind (part ++ rest)) ≡ Ok new → next ≡ [] → ReadsLines kind p part text
     → ReadsLines kind new next (text ++ (rest ++ 10 ∷ []))
@@ -142,7 +142,7 @@ ends-good kind p new part next text rest one is clear r = record {
   keeps = λ _. clear;
 }
 
--- a line has ended, and is at fault, whatever follows
+-- a line has ended with a fault, whatever follows
 ends-bad : (kind : Kind) (p : Progress) (part text rest more : List ℕ) (fault : RecordFault) → lines rest ≡ rest ∷ []
     → next_progress p (said_by_line kind (part ++ rest)) ≡ Err fault → ReadsLines kind p part text
     → closed_fault kind (text ++ (rest ++ 10 ∷ more)) (image_size p) ≡ Some fault
@@ -157,7 +157,7 @@ ends-bad kind p part text rest more fault one is r =
     ∙ holds-bad p _ (map (said_by_line kind) behind) (said_by_line kind (r.last ++ rest)) fault r.holds
     (line-step kind p part text rest r ∙ is)
 
--- no line that has ended is at fault
+-- no line that has ended has a fault
 pub reads-sound : (kind : Kind) (p : Progress) (part text : List ℕ) → ReadsLines kind p part text
     → closed_fault kind text (image_size p) ≡ None
 reads-sound kind p part text r = grind (arith, nat_tests, closed-prefix, append-nil)
@@ -188,7 +188,7 @@ pub whole-good : (kind : Kind) (p new : Progress) (part text : List ℕ) → ima
 whole-good kind p new part text same is r =
     whole-next kind p new part text r same (rw (append-nil r.last) at (line-step kind p part text [] r) ∙ is)
 
--- the last line is at fault
+-- the last line has a fault
 pub whole-bad : (kind : Kind) (p : Progress) (part text : List ℕ) (fault : RecordFault)
     → next_progress p (said_by_line kind (part ++ [])) ≡ Err fault → ReadsLines kind p part text
     → image_in_text kind text (image_size p) ≡ Err fault
@@ -204,7 +204,7 @@ kept-nothing (c ∷ line) is = cc is
 pub says-nothing : (kind : Kind) → said_by_line kind [] ≡ Ok Nothing
 says-nothing x = grind (arith, nat_tests)
 
--- no byte came of the last line
+-- the last line has no byte
 pub whole-empty : (kind : Kind) (p : Progress) (part text : List ℕ) → part ≡ [] → ReadsLines kind p part text
     → image_in_text kind text (image_size p) ≡ Ok (p.image, ending_of p.extent)
 whole-empty kind p part text empty r = elim (cases_Bool p.extent.ended) [
@@ -221,7 +221,7 @@ whole-empty kind p part text empty r = elim (cases_Bool p.extent.ended) [
 rearranged : (used line rest : List ℕ) → used ++ (line ++ 10 ∷ rest) ≡ (used ++ (line ++ 10 ∷ [])) ++ rest
 rearranged used line rest = grind (arith, nat_tests, append_assoc)
 
--- what a reader of lines holds: what the lines that have ended leave, and what is kept of the last one
+-- the state of a reader of lines: what the ended lines leave, and what is kept of the last one
 pub record LineState : Type 0 where
   pub progress : Progress
   pub part : List ℕ
@@ -229,7 +229,7 @@ pub record LineState : Type 0 where
 abbrev pub line_state : Progress → List ℕ → LineState
 line_state progress part = record { progress = progress; part = part }
 
--- Of a piece this is left, and what was used of it led from one state to the other.
+-- This is left of a piece, and the part of it that was used led from one state to the other.
 pub record Carries (kind : Kind) (old now : LineState) (piece left : List ℕ) : Type 0 where
   pub used : List ℕ
   pub cut : piece ≡ used ++ left

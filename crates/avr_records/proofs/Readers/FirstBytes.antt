@@ -17,14 +17,14 @@ not-le-zero n = grind (arith, nat_tests)
 pub too-few : (p : ℕ → Bool) (n : ℕ) (xs : List ℕ) → length xs < n → false ≡ nat_le n (prefix_len p xs)
 too-few p n xs len = let bound = prefix_len-le-length p xs in grind (arith, nat_tests, len, bound)
 
--- the first n elements pass where at least n in front do
+-- the first n elements pass if at least n in front do
 pub all_of_prefix : (p : ℕ → Bool) (n : ℕ) (xs : List ℕ) → n ≤ length xs
     → list_all p (take n xs) ≡ nat_le n (prefix_len p xs)
 all_of_prefix p zero xs len = grind (arith, nat_tests)
 all_of_prefix p (suc n) [] len = absurd (omega (arith, len))
 all_of_prefix p (suc n) (x ∷ xs) len = grind (arith, nat_tests, all_of_prefix p n xs (omega (arith, len)))
 
--- what the first line of a text shows that isn't blank
+-- what the first line of a text that isn't blank shows
 abbrev pub first_of : List ℕ → Found
 first_of text = kind_of_line (find (λ line. not (list_all is_blank line)) (lines text))
 

@@ -1,4 +1,4 @@
--- How a line changes what a reader holds.
+-- How a line changes a reader's state.
 use Rattle.std.proofs.lemmas.Bool.Decides.{nat_tests}
 use Rattle.std.proofs.Common.{◌≡◌, ◌∙◌, sym, ap, ap₂, refl, arith, ℕ, ◌+◌, List, [], ◌∷◌, ◌++◌, length, true, false, Result, Ok, Err, subst, Option, Some, None, count_by, inl, inr}
 use Rattle.std.proofs.lemmas.Bool.{cases_Bool, cond-true, cond-false}
@@ -49,7 +49,7 @@ any_end-last : (said : List Said) (line : Said)
     → (if is_end line then true else list_any is_end said) ≡ list_any is_end (said ++ line ∷ [])
 any_end-last said line = grind (arith, nat_tests, list_any-append, cases_Bool)
 
--- ---- one line more
+-- ---- one more line
 
 unless-good : (fault : Option LineFault) (line : ℕ) (new out : Extent) → extent_unless fault line new ≡ Ok out
     → (fault ≡ None) × (new ≡ out)
@@ -102,7 +102,7 @@ pub counts-more : (size : ℕ) (e : Extent) (said more : List Said) → e.ended 
     → IsExtentOf size e (up_to_end (said ++ more))
 counts-more size e said more done m = grind (arith, nat_tests, subst, up_to_end-done)
 
--- the first line at fault decides, whatever follows it
+-- the first line with a fault decides, whatever follows it
 pub counts-bad : (size : ℕ) (e : Extent) (said more : List Said) (line : Said) (fault : RecordFault) → e.ended ≡ false
     → IsExtentOf size e (up_to_end said) → next_extent size e line ≡ Err fault
     → fault_among size (said ++ line ∷ more) ≡ Some fault
@@ -146,7 +146,7 @@ done-step : (p : Progress) (line : Said) (out : Result Progress RecordFault) →
     → next_progress p line ≡ out → Ok p ≡ out
 done-step p line out done is = sym (cond-true p.extent.ended (Ok p) _ done) ∙ is
 
--- what one line more leaves
+-- what one more line leaves
 pub holds-next : (p new : Progress) (said : List Said) (line : Said) → Holds p said → next_progress p line ≡ Ok new
     → Holds new (said ++ line ∷ [])
 holds-next p new said line h is = elim (cases_Bool p.extent.ended) [
@@ -156,13 +156,13 @@ holds-next p new said line h is = elim (cases_Bool p.extent.ended) [
   | inr on ↦ holds-on p new said line on h is
 ]
 
--- a line at fault decides
+-- a line with a fault decides
 pub holds-bad : (p : Progress) (said more : List Said) (line : Said) (fault : RecordFault) → Holds p said
     → next_progress p line ≡ Err fault → fault_among (image_size p) (said ++ line ∷ more) ≡ Some fault
 holds-bad p said more line fault h is =
     grind (arith, nat_tests, cases_Bool, done-step, counts-bad, with-bad, cond-false)
 
--- the file that such lines are
+-- the file made of such lines
 pub together-holds : (p : Progress) (said : List Said) → Holds p said
     → together (image_size p) said ≡ Ok (p.image, ending_of p.extent)
 together-holds p said h = grind (arith, nat_tests, up_to_end-any)

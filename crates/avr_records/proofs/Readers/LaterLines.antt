@@ -1,4 +1,4 @@
--- How lines that follow change what the lines before them say.
+-- How later lines change the meaning of the lines before them.
 use Rattle.std.proofs.lemmas.Bool.Decides.{nat_tests}
 use Rattle.std.proofs.Common.{◌≡◌, ◌∙◌, sym, ap, refl, arith, ℕ, ◌+◌, List, [], ◌∷◌, ◌++◌, length, Bool, true, false, Option, Some, None, inl, inr}
 use Rattle.std.proofs.lemmas.Bool.{cases_Bool}
@@ -64,7 +64,7 @@ parts-some p (x ∷ xs) =
       )
     ]
 
--- parts of a text, and the parts of what follows it: the last one goes on with the first one after it
+-- the parts of a text and of what follows it: the last part continues with the first one after it
 abbrev pub pasted : List (List ℕ) → List (List ℕ) → List (List ℕ)
 pasted [] more = more
 pasted (part ∷ []) [] = part ∷ []

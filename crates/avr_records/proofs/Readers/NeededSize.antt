@@ -1,4 +1,4 @@
--- The size that a file needs is the least into which it reads.
+-- The size that a file needs is the least memory into which it reads.
 use Rattle.std.proofs.Common.{◌≡◌, ◌∙◌, ap, refl, arith, ℕ, ◌+◌, ◌<◌, ◌≤◌, List, [], ◌∷◌, length, map, max, flat_map, count_by, Option, Some, None, option_map, Ok, Err, nat_lt, inl, inr}
 use Rattle.std.proofs.lemmas.Bool.{cases_Bool}
 use Rattle.std.proofs.lemmas.Bool.Decides.{nat_tests}
@@ -35,7 +35,7 @@ none-mapped : (f : ℕ → LineFault) (found : Option ℕ) → option_map f foun
 none-mapped f None is = refl
 none-mapped f (Some n) is = cc is
 
--- a line that is good for one memory is good for each that its bytes lie in
+-- a line that is good for one memory is good for each memory that contains its bytes
 good : (size other : ℕ) (base : Base) (count : ℕ) (line : Said) → fault_under size base count line ≡ None
     → beyond other (placed_under base line) ≡ None → fault_under other base count line ≡ None
 good size other base count (Err fault) none lies' = none
@@ -43,7 +43,7 @@ good size other base count (Ok (Data offset bytes)) none lies' = ap (option_map 
 good size other base count (Ok (Counted n)) none lies' = none
 good size other base count x none lies' = refl
 
--- and its bytes lie in that one
+-- and its bytes are in that memory
 lies : (size : ℕ) (base : Base) (count : ℕ) (line : Said) → fault_under size base count line ≡ None
     → beyond size (placed_under base line) ≡ None
 lies size base count (Ok (Data offset bytes)) none = none-mapped _ _ none

@@ -57,7 +57,7 @@ pub none-or : (fault : Option RecordFault) (told : RecordFault) → Err told ≡
 none-or None told is = absurd (cc is)
 none-or (Some f) told is = let same : told ≡ f = cc is in ap (λ (x : RecordFault). Some x) (sym same)
 
--- the fault that a new reader answers for a whole file
+-- the fault that a new reader returns for a whole file
 pub new-told : (kind : Kind) (size : ℕ) (s : ReaderState) (text : List ℕ) (told : RecordFault) → IsNewReader kind size s
     → ((before : List ℕ) → StandsFor s before
     → Err told ≡ ok_unless (closed_fault s.kind (before ++ text) (memory_size s)))

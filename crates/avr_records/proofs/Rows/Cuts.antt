@@ -1,4 +1,4 @@
--- What the rows hold into which a writer cuts its bytes.
+-- The rows into which a writer cuts its bytes.
 use Rattle.std.proofs.lemmas.Bool.Decides.{nat_tests}
 use Rattle.std.proofs.Common.{◌≡◌, ◌∙◌, sym, ap, refl, arith, ℕ, zero, suc, ◌+◌, ◌-◌, ◌<◌, ◌≤◌, List, [], ◌∷◌, ◌++◌, length, take, drop, add-zero}
 use Rattle.std.proofs.lemmas.List.{length-take}
@@ -29,7 +29,7 @@ IsBytes-take (suc n) (x ∷ xs) all = IsBytes-cons x (take n xs) (all 0) (IsByte
 
 -- ---- rows
 
--- a row of bytes that ends where the bytes do, at the latest
+-- a row of bytes that ends before the bytes do, or with them
 pub record IsRow (size : ℕ → ℕ) (end : ℕ) (row : ℕ × List ℕ) : Type 0 where
   pub some : 0 < length row.1
   pub few : length row.1 ≤ size row.0
@@ -81,7 +81,7 @@ rows_behind-hold zero size addr (b ∷ bs) wide =
     ∙ enumerate-split (size addr) addr (b ∷ bs)
     ∙ ap (λ (a : ℕ). enumerate_from a (b ∷ bs)) (sym (add-zero addr))
 
--- all bytes stand in the rows, at their addresses
+-- all bytes are in the rows, at their addresses
 pub rows-hold : (size : ℕ → ℕ) (base : ℕ) (bytes : List ℕ) → ((a : ℕ) → 0 < size a)
     → flat_map places_of (rows size base bytes) ≡ enumerate_from base bytes
 rows-hold size base bytes wide =

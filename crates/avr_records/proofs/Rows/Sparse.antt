@@ -1,4 +1,4 @@
--- What is no line of a record file.
+-- What isn't a line of a record file.
 use Rattle.std.proofs.Common.{◌++◌, [], ◌∷◌}
 use Rattle.std.specs.Prelude.{ℕ, List, codes}
 use Rattle.avr_records.specs.Text.{IsLine}

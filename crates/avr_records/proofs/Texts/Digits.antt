@@ -1,4 +1,4 @@
--- What decoding answers of an even number of digits.
+-- What decoding returns for an even number of digits.
 use Rattle.std.proofs.lemmas.Bool.Decides.{nat_tests}
 use Rattle.std.proofs.Common.{◌≡◌, refl, arith, ℕ, ◌*◌, ◌%◌, List, length, true, false, Result, Ok, Err, MatchResult}
 use Rattle.std.proofs.lemmas.Bool.{cases_Bool}
@@ -10,7 +10,7 @@ use Rattle.hex.proofs.HexLemmas.{decode_of-ok, decode_of-digits, decode_sized-tw
 use Rattle.avr_records.specs.Record.{bytes_of_digits}
 use Rattle.avr_records.specs.declared.fault.LineFault.TheVariants.{Digit}
 
--- what a call of the decoder answered and wrote
+-- what a call of the decoder returned and wrote
 abbrev pub Decoded : List ℕ → List ℕ → Result Unit FromHexError → Result (List ℕ) FromHexError → Type 0
 Decoded digits out answer of = MatchResult of (λ bytes. (answer ≡ Ok tt) × (out ≡ bytes)) (λ e. answer ≡ Err e)
 

@@ -23,7 +23,7 @@ one_line (suc n) (c ∷ text) len none =
     ]
 one_line x y len none = refl
 
--- a text is what stands before a place, what stands there, and the rest
+-- a text is the bytes before a place, the byte there, and the rest
 pub cut_at : (n : ℕ) (text : List ℕ) → n < length text → text ≡ take n text ++ get_or text n 0 ∷ drop (n + 1) text
 cut_at n [] len = absurd (omega (arith, len))
 cut_at zero (c ∷ text) len = refl

@@ -23,7 +23,7 @@ use Rattle.avr_records.specs.declared.line.Line.TheVariants.{Data}
 abbrev places_from : Base → ℕ → ℕ → List ℕ → List (ℕ × ℕ)
 places_from base offset i bytes = map (λ p. (address base offset p.0, p.1)) (enumerate_from i bytes)
 
--- ---- where they stand
+-- ---- the addresses
 
 linear-from : (upper offset i : ℕ) (bytes : List ℕ) (addr : ℕ) → addr ≡ upper * 65536 + offset + i
     → places_from (Linear upper) offset i bytes ≡ enumerate_from addr bytes
@@ -56,7 +56,7 @@ places_from-append : (base : Base) (offset i : ℕ) (xs ys : List ℕ)
 places_from-append base offset i [] ys = ap (λ (n : ℕ). places_from base offset n ys) (omega arith)
 places_from-append base offset i (x ∷ xs) ys = grind (arith, nat_tests, places_from-append base offset (i + 1) xs ys)
 
--- past the end of a segment they go on at its beginning
+-- past the end of a segment they continue at its beginning
 pub places-wrapped : (paragraph offset : ℕ) (before behind : List ℕ) → offset % 65536 + length before ≡ 65536
     → length behind ≤ 65536
     → places (Segment paragraph) offset (before ++ behind)
@@ -64,7 +64,7 @@ pub places-wrapped : (paragraph offset : ℕ) (before behind : List ℕ) → off
 places-wrapped paragraph offset before behind full short =
     grind (arith, nat_tests, places_from-append, places-segment, segment-from)
 
--- the same, cut where the segment ends
+-- the same, cut at the segment's end
 pub places-wrapped-at : (paragraph offset n : ℕ) (bytes : List ℕ) → offset % 65536 + n ≡ 65536 → n ≤ length bytes
     → length bytes ≤ 255
     → places (Segment paragraph) offset bytes
@@ -104,7 +104,7 @@ beyond-parts size (x ∷ xs) ys none =
       | inr f ↦ cc (rw f at none)
     ]
 
--- a span lies inside
+-- a span is inside
 beyond-span : (size addr : ℕ) (bytes : List ℕ) → fits addr bytes size ≡ true
     → beyond size (enumerate_from addr bytes) ≡ None
 beyond-span size addr [] inside = refl
@@ -150,7 +150,7 @@ pub extends-outside : (limit end addr : ℕ) (bytes : List ℕ) → 0 < length b
 extends-outside limit end addr [] some l = absurd (omega (arith, some))
 extends-outside limit end addr (b ∷ bs) some l = beyond-span-end limit addr (b ∷ bs) (grind (arith, nat_tests, l))
 
--- one span and then another
+-- one span, then another
 pub extends-both : (limit end mid : ℕ) (xs ys : List (ℕ × ℕ)) (result : Result ℕ ℕ) → Extends limit end xs (Ok mid)
     → Extends limit mid ys result → Extends limit end (xs ++ ys) result
 extends-both limit end mid xs ys (Ok new) first second = (
@@ -161,7 +161,7 @@ extends-both limit end mid xs ys (Err addr) first second = beyond-append limit x
 
 -- ---- laid
 
--- what is judged to lie inside is laid
+-- what is judged to be inside is laid down
 pub lays-span : (old new : List (Option ℕ)) (addr : ℕ) (bytes : List ℕ) (result : Result ℕ ImageFault)
     → beyond (length old) (enumerate_from addr bytes) ≡ None
     → result ≡ (if fits addr bytes (length old) then Ok (addr + length bytes)

@@ -21,7 +21,7 @@ use Rattle.avr_records.proofs.Rows.Cuts.{IsBytes-nil, IsBytes-cons, IsBytes-appe
 use Rattle.avr_records.proofs.Writers.Lines.{is_plain, plain-digits, encode-digits, bytes_of-encode, says-plain, lines-plain, lines-written, sum-push}
 use Rattle.avr_records.proofs.Writers.Reread.{AllGoOn, then_end, threaded, places-linear}
 
--- what stands between the colon and the checksum
+-- the bytes between the colon and the checksum
 abbrev unsummed : ℕ → ℕ → List ℕ → List ℕ
 unsummed type offset bytes = length bytes ∷ two offset ++ type ∷ bytes
 
@@ -73,11 +73,11 @@ typed-upper : (upper : ℕ) → upper < 65536
     → record_meaning Ihex (typed_ihex 4 0 (two upper)) ≡ Ok (Rebase (Linear upper))
 typed-upper upper below = ap (λ (n : ℕ). Ok (Rebase (Linear n))) (omega arith)
 
--- what the record says that stands before a row, if there is one
+-- the meaning of the record before a row, if there is one
 abbrev upper_said : ℕ → ℕ → List Said
 upper_said old new = if new == old then [] else Ok (Rebase (Linear new)) ∷ []
 
--- what the rows say, where this upper half is in force
+-- the meaning of the rows while this upper half is in force
 abbrev pub rows_said : ℕ → List (ℕ × List ℕ) → List Said
 rows_said upper [] = []
 rows_said upper (row ∷ rows) = upper_said upper (row.0 / 65536) ++ Ok (Data (row.0 % 65536) row.1)

@@ -1,4 +1,4 @@
--- How a written line reads.
+-- How a written line is read.
 use Rattle.std.proofs.Common.{◌≡◌, ◌∙◌, sym, ap, refl, arith, ℕ, ◌+◌, ◌-◌, ◌≤◌, nat_lt, Bool, true, false, not, ◌&&◌, List, [], ◌∷◌, ◌++◌, length, take, get_or, fold, Ok, Err}
 use Rattle.std.specs.Prelude.{if◌then◌else◌}
 use Rattle.std.specs.List.{list_all, onto_first, suffix_len}
@@ -54,7 +54,7 @@ trimmed-plain line plain =
 says-bare : (kind : Kind) (line : List ℕ) → said_by_line kind line ≡ unless_long (bare_says kind) line
 says-bare x line = grind (arith, nat_tests)
 
--- a line that isn't too long says what its record means
+-- a line that isn't too long means what its record means
 pub says-plain : (kind : Kind) (c : ℕ) (cs : List ℕ) → list_all is_plain (c ∷ cs) ≡ true
     → length (c ∷ cs) ≤ 600 → said_by_line kind (c ∷ cs) ≡ record_meaning kind (bare_record kind (c ∷ cs))
 says-plain kind c cs plain short =

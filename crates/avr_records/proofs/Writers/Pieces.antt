@@ -43,7 +43,7 @@ changed_more f xs ys i within is =
     ∙ sym (append_assoc prefix (f at ∷ []) rest)
     ∙ ap (λ (zs : List ℕ). zs ++ rest) (sym (map_more f xs i 0 within))
 
--- rows after bytes that belong to a row before are rows of the bytes after those
+-- rows after bytes that belong to an earlier row are rows of the bytes after those
 pub rows_behind-drop : (taken : ℕ) (size : ℕ → ℕ) (addr : ℕ) (bytes : List ℕ)
     → rows_behind taken size addr bytes ≡ rows size (addr + taken) (drop taken bytes)
 rows_behind-drop zero size addr [] = refl
@@ -84,7 +84,7 @@ few_bytes x = grind (arith, nat_tests)
 pub wide_row : (kind : Kind) (addr : ℕ) → 0 < row_size kind addr
 wide_row x addr = grind (arith, nat_tests)
 
--- ---- what the text of rows begins with
+-- ---- the first record of the text of rows
 
 -- a record that sets the upper half of the address
 pub rows-upper : (kind : Kind) (upper new addr : ℕ) (size : AddressSize) (row : List ℕ) (more : List (ℕ × List ℕ))

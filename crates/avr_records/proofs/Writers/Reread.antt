@@ -1,4 +1,4 @@
--- Lines of data records that follow on each other, and the image that they make.
+-- Lines of data records that follow each other, and the image that they make.
 use Rattle.std.proofs.lemmas.Bool.Decides.{nat_tests}
 use Rattle.std.proofs.Common.{◌≡◌, ◌∙◌, ap, refl, arith, ℕ, ◌+◌, ◌*◌, nat_lt, Bool, true, List, [], ◌∷◌, ◌++◌, length, map, Option, Some, None, Ok, Err, inl, inr, add-zero}
 use Rattle.std.specs.Prelude.{option_map, if◌then◌else◌}
@@ -23,9 +23,9 @@ beyond-parts size (p ∷ xs) ys none =
       | inr f ↦ let no : Some p.0 ≡ None = rw f at none in absurd (cc no)
     ]
 
--- ---- lines, one after the other
+-- ---- lines, one after another
 
--- the bytes of a line where this base is in force
+-- the bytes of a line while this base is in force
 abbrev pub under : Base → Said → List (ℕ × ℕ)
 under base (Ok (Data offset bytes)) = places base offset bytes
 under base said = []
@@ -44,7 +44,7 @@ placed-threaded before [] = refl
 placed-threaded before (s ∷ more) =
     grind (arith, nat_tests, placed-threaded (before ++ s ∷ []) more, placed-under, fold-append)
 
--- a line that is no fault, no count and no end
+-- a line that isn't a fault, a count or an end
 abbrev pub GoesOn : Said → Type 0
 GoesOn (Err fault) = ⊥
 GoesOn (Ok (Counted n)) = ⊥
@@ -93,8 +93,7 @@ first_fault-none size before (s ∷ prefix) on inside =
     (first_fault size (in_place (before ++ s ∷ []) (then_end prefix)))) (fault-none size before s on.0 parts.0)
     ∙ first_fault-none size (before ++ s ∷ []) prefix on.1 parts.1
 
--- Lines of data, the end record and whatever stands after it: they read as the image of their bytes, where all lie
--- inside.
+-- Lines of data, the end record and whatever comes after it: they read as the image of their bytes, if all are inside.
 pub together-laid : (size : ℕ) (image : List (Option ℕ)) (places : List (ℕ × ℕ)) (prefix more : List Said)
     → AllGoOn prefix
     → threaded (Linear 0) (then_end prefix) ≡ places → beyond size places ≡ None → image_of_pairs size places ≡ image
@@ -102,7 +101,7 @@ pub together-laid : (size : ℕ) (image : List (Option ℕ)) (places : List (ℕ
 together-laid size image places prefix more on follow inside_is laid_is =
     grind (arith, nat_tests, placed-threaded, stops, first_fault-none, ended)
 
--- the places of a data record where a linear base is in force
+-- the places of a data record while a linear base is in force
 pub places-linear : (upper offset addr : ℕ) (bytes : List ℕ) → upper * 65536 + offset ≡ addr
     → places (Linear upper) offset bytes ≡ enumerate_from addr bytes
 places-linear upper offset addr bytes is =

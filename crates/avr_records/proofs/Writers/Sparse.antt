@@ -1,4 +1,4 @@
--- What is written of an image with gaps reads back as it was.
+-- A written image with gaps reads back as it was.
 use Rattle.std.proofs.Common.{◌≡◌, ◌∙◌, sym, ap, ap₂, refl, arith, ℕ, zero, suc, add-zero, ◌+◌, ◌^◌, ◌<◌, ◌≤◌, All, List, [], ◌∷◌, ◌++◌, length, map, Option, Some, None, Ok}
 use Rattle.std.specs.List.{flat_map, enumerate_from}
 use Rattle.std.proofs.lemmas.Bool.Decides.{nat_tests}
@@ -46,7 +46,7 @@ pub rows_of-hold : (size : ℕ → ℕ) (cut : List (ℕ × List ℕ)) → ((a :
 rows_of-hold size [] wide = refl
 rows_of-hold size (run ∷ cut) wide = grind (arith, nat_tests, rows_of-hold size cut wide, flat_map-append, rows-hold)
 
--- ---- runs are bytes that end where the image does, at the latest
+-- ---- runs are bytes that end before the image does, or with it
 
 pub record IsIn (end : ℕ) (run : ℕ × List ℕ) : Type 0 where
   pub below : run.0 + length run.1 ≤ end

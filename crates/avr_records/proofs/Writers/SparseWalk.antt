@@ -1,4 +1,4 @@
--- How the text of a memory with gaps begins, as a walk over it finds it.
+-- How the text of a memory with gaps begins, by the walk over it.
 use Rattle.std.proofs.lemmas.Bool.Decides.{nat_tests}
 use Rattle.std.proofs.Common.{◌≡◌, ◌∙◌, sym, ap, ap₂, refl, arith, ℕ, zero, suc, ◌+◌, ◌-◌, ◌<◌, ◌≤◌, List, [], ◌∷◌, ◌++◌, length, take, drop, min, Option, Some, None, is_some, add-zero}
 use Rattle.std.specs.List.{position_from, slice_range}
@@ -13,7 +13,7 @@ use Rattle.avr_records.specs.declared.address_size.AddressSize.{AddressSize}
 use Rattle.avr_records.specs.declared.kind.Kind.{Kind}
 use Rattle.avr_records.proofs.Writers.Pieces.{rows-next, rows-row, rows-upper, wide_row}
 
--- ---- the first run, and what stands after it
+-- ---- the first run, and what is after it
 
 abbrev after : List (Option ℕ) → List (Option ℕ)
 after image = drop (length (lead image)) image
@@ -44,12 +44,12 @@ rows-step size addr n image some wide is =
 
 -- ---- as the walk finds them
 
--- the run that a walk finds, as far as a row goes
+-- the run that a walk finds, up to the length of a row
 pub run-is : (size place most : ℕ) (image : List (Option ℕ)) → most ≡ min size (length image - place)
     → run_end image place (place + most) ≡ place + min size (length (lead (drop place image)))
 run-is size place most image is = grind (arith, nat_tests, lead_within, length-drop, lead_is_run)
 
--- a row lies inside the image, as long as it may be
+-- a row is inside the image, whatever its length
 pub record IsPart (place most end : ℕ) (bytes : List ℕ) (image : List (Option ℕ)) : Type 0 where
   pub within : end ≤ length bytes
   pub part : slice_range bytes place end ≡ take most (lead (drop place image))

@@ -114,7 +114,7 @@ meant-data : (size : AddressSize) (addr : ℕ) (row : List ℕ)
     → record_meaning Srec (record_with (bytes_of size - 1) addr row) ≡ Ok (Data addr row)
 meant-data x addr row = grind (arith, nat_tests)
 
--- what a row of data says
+-- the meaning of a row of data
 abbrev pub said_of : ℕ × List ℕ → Said
 said_of row = Ok (Data row.0 row.1)
 

@@ -18,13 +18,13 @@ unless_both : (first more : Dialog OutputEvent Standing) (standing : Standing)
 unless_both first more Fine = refl
 unless_both first more standing = refl
 
--- of one action its action is all
+-- a list of one action has that action's dialog
 pub actions_dialog-one : (part : Part) (s : Switches) (action : Action) → actions_dialog part s (action ∷ [])
     ≡ action_dialog part s action
 actions_dialog-one part s action = bind_same (action_dialog part s action) (unless_fault (Done Fine)) Done unless_done
     ∙ bind_done (action_dialog part s action)
 
--- of two lists of actions the second is left out after a fault
+-- after a fault in the first of two lists the second is skipped
 pub actions_dialog-append : (part : Part) (s : Switches) (xs ys : List Action)
     → actions_dialog part s (xs ++ ys) ≡ actions_dialog part s xs >>= unless_fault (actions_dialog part s ys)
 actions_dialog-append part s [] ys = refl

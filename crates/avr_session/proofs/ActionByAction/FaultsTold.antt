@@ -1,4 +1,4 @@
--- How an action of a session stands at its end says whether a fault was reported in it: laws of dialogs alone.
+-- The state of a session after an action gives whether a fault was reported in it: laws of dialogs alone.
 use Rattle.std.proofs.Common.{◌≡◌, ℕ, Bool, true, false, ◌||◌, List, [], ◌∷◌, ◌++◌, length, drop, map, refl, sym, ap, ◌∙◌, subst, append_assoc, append-nil, nat_lt, bytes_eq, codes, decimal, if◌then◌else◌, Option, Some, None, Result, Ok, Err, inl, inr}
 use Rattle.std.proofs.lemmas.Bool.{cases_Bool, or_parts}
 use Rattle.std.proofs.lemmas.List.Folds.{list_any-append}
@@ -31,9 +31,9 @@ use Rattle.avr_session.specs.Reporting.{SaysPrefix}
 use Rattle.avr_session.specs.Session.{says, standing, reported, unless_fault, fault_or, opening_says, warns_of_signature, signature_says, bytes_say, saving_says, kept_of, erased_says, written_says, verified_says, read_says, left_out_says, action_dialog, actions_dialog}
 use Rattle.avr_session.proofs.Runs.Stops.{outputs_by}
 
--- ---- along every way of a dialog
+-- ---- along every path of a dialog
 
--- whatever is read, what is said to the end and the result are so
+-- whatever is read, this holds of the whole output and the result
 abbrev pub Along : {R : Type 0} → (List OutputEvent → R → Type 0) → Dialog OutputEvent R → Type 0
 Along P (Done r) = P [] r
 Along P (Say e dialog) = Along (λ said r. P (e ∷ said) r) dialog
@@ -67,7 +67,7 @@ pub along_says : {R : Type 0} (Q : List OutputEvent → R
 along_says Q [] dialog f = f
 along_says Q (x ∷ xs) dialog f = along_says (λ said r. Q (x ∷ said) r) xs dialog f
 
--- a play goes one of the ways
+-- a run follows one of the paths
 abbrev Ends : {R : Type 0} → (List OutputEvent → R → Type 0) → List OutputEvent → Option (R × ℕ × Tape) → Type 0
 Ends P said None = Unit {0}
 Ends P said (Some x) = P said x.0
@@ -91,7 +91,7 @@ along_play {R = R} P (Ask body answered) seq tape f =
       | Some got ↦ along_play P (answered got.0) (next seq) got.1 (f got.0)
     ]
 
--- ---- the standing says it
+-- ---- the state gives it
 
 abbrev pub Foretold : List OutputEvent → Standing → Type 0
 Foretold said standing = tells_fault said ≡ is_told standing
@@ -128,11 +128,11 @@ foretells_reported operation outcome_says f =
     (ap tells_fault (ap (λ (xs : List OutputEvent). xs ++ (outcome_says outcome ++ [])) none
     ∙ append-nil (outcome_says outcome)) ∙ f outcome)
 
--- what is said in place of an action
+-- the output in place of an action
 foretells_says : (outputs : List OutputEvent) → tells_fault outputs ≡ false → Foretells (says outputs (Done Fine))
 foretells_says outputs f = along_says Foretold outputs (Done Fine) (ap tells_fault (append-nil outputs) ∙ f)
 
--- ---- lines that tell no fault, and those that do
+-- ---- lines that report no fault, and those that do
 
 fault_is_told : (A : Type 0) (fault : HostFault) → is_told (standing {A = A} (Err fault)) ≡ true
 fault_is_told A NoAnswer = refl
@@ -231,7 +231,7 @@ actions_foretells part s (action ∷ actions) =
     foretells_then (action_dialog part s action) (actions_dialog part s actions) (action_foretells part s action)
     (actions_foretells part s actions)
 
--- ---- a prefix of what tells no fault tells none
+-- ---- a prefix of output without a fault has none
 
 error_prefix : (prefix whole : Bytes) → IsPrefixOf prefix whole → is_error (Line prefix) ≡ true
     → is_error (Line whole) ≡ true

@@ -37,7 +37,7 @@ use Rattle.avr_desk.proofs.Lines.Told.{same_here}
 use Rattle.avr_session.proofs.ActionByAction.Reports.{told_some}
 use Rattle.avr_session.proofs.Runs.Calls.{came_lifted, came_said, came_on, ran_from, broke_quietly, broke_output, broke_operation, broke_lacking, broken_cause, StopsReport, ToldBy}
 
--- Why an operation stops a run: the link failed at it, or memory was refused.
+-- Why an operation stops a run: the link failed during it, or allocation failed.
 pub data Stop : Type 0 where
   Broke : Broken → Stop
   Lacks : Stop
@@ -54,12 +54,12 @@ cause_at Lacks = OfMemory
 abbrev pub StopsAs : {A : Type 0} → Result A HostFault → Stop → Type 0
 StopsAs outcome stop = outcome ≡ Err (fault_at stop)
 
--- the link broke the dialog off, or memory, where it is taken, was refused before anything was sent or heard
+-- the link broke the dialog off; or allocation, if it is needed, failed before anything was sent or received
 abbrev pub StopsOver : {R : Type 0} → Bool → Dialog ⊥ R → Progress → LinkState → LinkState → Stop → Type 0
 StopsOver takes dialog m o p (Broke by) = FailsOver by dialog m o p
 StopsOver takes dialog m o p Lacks = (takes ≡ true) × (p ≡ o)
 
--- How a call ended: it was played whole to an outcome that stops nothing, or it stopped.
+-- How a call ended: it ran to an outcome that stops nothing, or it stopped.
 abbrev pub Ended : {A : Type 0} → Bool → Dialog ⊥ (Result A HostFault) → Progress → LinkState → LinkState
     → Result A HostFault → Progress → Type 0
 Ended takes dialog m o p outcome n =
@@ -81,7 +81,7 @@ module _ {A : Type 0} (dialog : Dialog ⊥ (Result A HostFault)) (m : Progress) 
   lack_ended (Err Memory) n ends = inr (Lacks, refl, (refl, ends.0))
   lack_ended outcome n ends = inl (ends, refl)
 
--- no step answers that memory was refused: what is judged of its outcome doesn't either
+-- no step returns that allocation failed, and so no judgement of its outcome does
 
 abbrev IsMemory : {A : Type 0} → Result A HostFault → Type 0
 IsMemory (Err Memory) = Unit {0}
@@ -157,7 +157,7 @@ writing_lacks_none {m = m} {n = n} {o = o} {p = p} part mem image f = by_test (i
     by_test false f = subst (λ (p : Played ⊥ (Result (Unit {0}) HostFault)). IsLacking p.outcome)
         (sym (f.plays.plays [])) tt
 
--- what stops a run ends it so, however the report went
+-- what stops a run ends it, however the report went
 stop_goes : {A : Type 0} {outcome : Result A HostFault} (stop : Stop) (said : Result (Unit {0}) DeskFault)
     → StopsAs outcome stop → stands (conclusion outcome said) ≡ Err tt
 stop_goes stop (Err _) is = refl
@@ -165,7 +165,7 @@ stop_goes (Broke Send) (Ok ok) is = ap (λ x. stands (after_outcome x)) is
 stop_goes (Broke Recv) (Ok ok) is = ap (λ x. stands (after_outcome x)) is
 stop_goes Lacks (Ok ok) is = ap (λ x. stands (after_outcome x)) is
 
--- the host serves after any outcome that leaves the line
+-- the host serves after any outcome that leaves the link
 pub serves_after : {A : Type 0} (outcome : Result A HostFault) (said : Result (Unit {0}) DeskFault)
     (broken : Option HostFault) → broken ≡ lasting_fault outcome → HostServes (stands (conclusion outcome said)) broken
 serves_after outcome (Err _) broken is = tt
@@ -175,7 +175,7 @@ serves_after (Err RecvFailed) (Ok done) broken is = tt
 serves_after (Err Memory) (Ok done) broken is = tt
 serves_after outcome (Ok done) broken is = is
 
--- the link fails only where the outcome says so
+-- the link fails only if the outcome says so
 unbroken : {A P : Type 0} (outcome : Result A HostFault) → stands (after_outcome outcome) ≡ Ok (standing outcome)
     → UnlessBroken outcome P → P
 unbroken (Err SendFailed) goes p = absurd (cc)
@@ -189,7 +189,7 @@ line_at part (Broke Send) = refl
 line_at part (Broke Recv) = refl
 line_at part Lacks = refl
 
--- and it is reported, where the line of such a fault is all that is said of it
+-- and it is reported, if the line of such a fault is the whole output for it
 pub told_of : {A : Type 0} (part : Part) (tells : Result A HostFault → List OutputEvent)
     → ((stop : Stop) → tells (Err (fault_at stop)) ≡ Line (fault_line part (fault_at stop)) ∷ []) → {d e : DeskState}
     {outcome : Result A HostFault} {said : Result (Unit {0}) DeskFault} → Reports PrintStops d e (tells outcome) said
@@ -204,7 +204,7 @@ opening_line quiet part (Broke Send) = refl
 opening_line quiet part (Broke Recv) = refl
 opening_line quiet part Lacks = refl
 
--- what stops a run is counted, or is want of memory
+-- what stops a run is counted, or is a failed allocation
 pub stop_come : {A R : Type 0} (takes : Bool) (dialog : Dialog ⊥ R) (m : Progress) (o p : LinkState)
     {outcome : Result A HostFault} (d : DeskState) (stop : Stop) → (IsBroken outcome → link.HasFailed o p)
     → StopsAs outcome stop

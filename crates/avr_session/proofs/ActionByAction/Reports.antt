@@ -1,4 +1,4 @@
--- What is reported, one thing after another.
+-- Reports, one after another.
 use Rattle.std.proofs.Common.{◌≡◌, ◌≤◌, ℕ, arith, List, [], ◌∷◌, ◌++◌, Result, Ok, Err, refl, sym, ap, ◌∙◌, subst, inl, inr, IfErr, append-nil, nat_lt, false}
 use Rattle.std.proofs.lemmas.Bool.Decides.{nat_tests}
 use Rattle.avr_desk.specs.Record.{Record, DeskState, Passes, after_err}
@@ -36,7 +36,7 @@ nothing_printed r = ap (λ bytes. record r { messages = bytes }) (append-nil r.m
 pub kept_nothing : (d : Record) → d ≡ after_err [] d
 kept_nothing d = sym (nothing_printed d)
 
--- nothing more is printed where printing failed
+-- nothing more is printed after printing failed
 said_until : (old new : DeskState) (outputs : List OutputEvent) → SaysPrefix OfPrinting old new outputs
     → HasFailedToSay old new → SaidSome PrintStops old new outputs
 said_until old new outputs prefix failed = record {
@@ -63,7 +63,7 @@ pub reports_line : (old new : DeskState) (bytes : List ℕ) (printed : Result (U
 reports_line old new bytes printed is counts only =
     record { says = line_said old new bytes printed is counts only; follows = counts.0 }
 
--- a report and then a line, where a cause that stops the line stops both
+-- a report and then a line; a cause that stops the line stops both
 said_then : (By : DeskState → DeskState → Cause → List ℕ
     → Type 0) (old mid new : DeskState) (first more : List OutputEvent)
     (result : Result (Unit {0}) DeskFault)
@@ -81,7 +81,7 @@ said_then By old mid new first more (Err _) why was then = record {
   kept = then.kept;
 }
 
--- one report and then another
+-- one report, then another
 pub reports_then : (old mid new : DeskState) (first more : List OutputEvent) {done : Unit {0}}
     (result : Result (Unit {0}) DeskFault) → Reports PrintStops old mid first (Ok done)
     → Reports PrintStops mid new more result → Reports PrintStops old new (first ++ more) result
@@ -91,7 +91,7 @@ reports_then old mid new first more result was then = record {
   follows = follows_on old mid new was.follows then.follows;
 }
 
--- something is saved, and then a line is printed
+-- something is saved, then a line is printed
 pub saves_then : (old mid new : DeskState) (file : List ℕ) (first more : List OutputEvent) {done : Unit {0}}
     (result : Result (Unit {0}) DeskFault) → Reports (SaveStops file) old mid first (Ok done)
     → Reports PrintStops mid new more result → Reports DeskStops old new (first ++ more) result
@@ -121,7 +121,7 @@ reports_until By Then first more fault why was =
       follows = was.follows;
     }
 
--- of one line a prefix was printed
+-- a prefix of one line was printed
 
 one_only : (l x : List ℕ) (whole more : List OutputEvent) → Line l ∷ [] ≡ whole ++ (Line x ∷ more) → (whole ≡ [])
     × (x ≡ l)
@@ -159,12 +159,12 @@ some_told old new l (Ok done) follows said =
 some_told old new l (Err _) follows some =
     told_line some.cause some.told l old new some.between follows some.prefix some.stops some.kept
 
--- what was printed of a line that was reported
+-- the part of a reported line that was printed
 pub told_some : (old new : DeskState) (l : List ℕ) (result : Result (Unit {0}) DeskFault)
     → Reports PrintStops old new (Line l ∷ []) result → Tells old new l
 told_some old new l result reports = some_told old new l result reports.follows reports.says
 
--- a file's trouble is reported after what was done
+-- a file's fault is reported after the output so far
 pub file_stops : (By : DeskState → DeskState → Cause → List ℕ → Type 0) (old mid new : DeskState)
     (outputs : List OutputEvent)
     (file : List ℕ) (trouble : FileTrouble) → SaysPrefix (OfFile file trouble) old mid outputs

@@ -32,7 +32,7 @@ not_created old new file (Err other) fault more is kept = record {
   kept = kept ∙ kept_none old.kept;
 }
 
--- where a file can't be saved the desk has failed
+-- if a file can't be saved, the desk has failed
 pub save_is_desk : (file : List ℕ) (before now : DeskState) (cause : Cause) (told : List ℕ)
     → SaveStops file before now cause told → DeskStops before now cause told
 save_is_desk file before now (OfFile named NotCreated) told stops = stops.1
@@ -91,14 +91,14 @@ saved_out old new file text result same writes follows =
       follows = follows;
     }
 
--- what fails as it is written fails as a file
+-- a stream that fails during writing fails as a file
 pub failed_at_file : (stream : Stream) (old new : DeskState) → IsForData stream → HasFailedAt stream old new
     → HasFailedAt File old new
 failed_at_file File old new written failed = failed
 failed_at_file Output old new written failed = failed
 failed_at_file Messages old new written failed = absurd written
 
--- what was reported of a file after a prefix of its bytes
+-- the report about a file after a prefix of its bytes
 pub writes_some : (stream : Stream) (file text : List ℕ) (old mid new : DeskState) → SendsPart stream old mid text
     → HasFailedAt File old mid → Follows old mid → Tells mid new (cause_line (OfFile file NotWritten))
     → WritesSome stream file old new text

@@ -44,7 +44,7 @@ use Rattle.avr_session.proofs.ActionByAction.FaultsTold.{Foretells, foretold, pr
 use Rattle.avr_session.proofs.ActionByAction.Actions.{actions_dialog-one, actions_dialog-append}
 use Rattle.avr_session.proofs.ActionByAction.Operations.{call_ended, closing_lacks_none, Stop, Broke, Lacks, cause_at, StopsAs, StopsOver, Ended, operation_runs, serves_after, stop_come, told_of}
 
--- a desk that failed as it printed stops the run, whatever was reported
+-- a desk that failed in printing stops the run, whatever was reported
 printing_tells : (flag : Bool) (told : List ℕ) (d : DeskState) → told ≡ [] → TellsCause flag OfPrinting told d d
 unfolding cause_line
 printing_tells false told d none = inl (none, same_here d)
@@ -64,7 +64,7 @@ print_stops_run terms o d e le said OfPrinting told stops =
     }
 print_stops_run terms o d e le said cause told stops = absurd stops
 
--- at a file too, where no fault was reported
+-- so does a desk that failed at a file, if no fault was reported
 desk_stops_run : (takes : Bool) (o : LinkState) (d e : DeskState) → Follows d e → (said : List OutputEvent)
     → tells_fault said ≡ false → (cause : Cause) (told : List ℕ) → DeskStops d e cause told
     → StopsBehind (untold takes) (devices o d) (devices o e) said cause told
@@ -79,7 +79,7 @@ desk_stops_run takes o d e le said none OfPrinting told stops =
     print_stops_run (untold takes) o d e le said OfPrinting told stops
 desk_stops_run takes o d e le said none cause told stops = absurd stops
 
--- what a report stops by, after a prefix of what it says
+-- the cause that stops a report, after a prefix of its output
 
 pub print_stops_report : (terms : Terms) (o : LinkState) {d e : DeskState} {outputs : List OutputEvent}
     {told : Result (Unit {0}) DeskFault} → Reports PrintStops d e outputs told
@@ -109,7 +109,7 @@ told_by takes dialog m o p {d = d} stop failed is over some = (
   some.kept,
 )
 
--- An operation of the host, and what is said of its outcome: of a call that ended it so, and that was reported so.
+-- An operation of the host and the output about its outcome, for a call that ended and was reported like this.
 module _ {A : Type 0} (operation : Dialog ⊥ (Result A HostFault)) (outcome_says : Result A HostFault → List OutputEvent)
     {Ends : Progress → LinkState → LinkState → Result A HostFault → Progress → Type 0} {old new : HostState}
     {o p : LinkState} {d e : DeskState} {outcome : Result A HostFault} {told : Result (Unit {0}) DeskFault}
@@ -150,7 +150,7 @@ left_out_runs takes outputs m o d e (Ok done) reports = ran_from (came_said outp
 left_out_runs takes outputs m o d e (Err _) reports =
     broke_output outputs (Done Fine) m o (print_stops_report (untold takes) o reports) reports.says
 
--- something said in its place
+-- output in place of an action
 pub left_out_performs : (takes : Bool) (outputs : List OutputEvent) {host : HostState} {o : LinkState} {d e : DeskState}
     (result : Result (Unit {0}) End) → host.broken ≡ None → LeavesOut outputs d e result
     → Performs takes (says outputs (Done Fine)) host host (devices o d) (devices o e) (stands result)
@@ -174,7 +174,7 @@ nothing_performs standing host o serves = record {
   desk = follows_here o.desk;
 }
 
--- after an action that was done a session goes on as its standing chooses
+-- after an action that was done a session goes on as its state chooses
 module _ {first : Dialog OutputEvent Standing} {K : Lacking} {x y : HostState} {o p : Devices} (takes : Bool)
     (standing : Standing) (done : PerformsBehind (untold takes) K first x y o p (Ok standing)) where
   after_done : {terms : Terms} {L M : Lacking} {more whole : Dialog OutputEvent Standing} {z : HostState} {q : Devices}
@@ -210,7 +210,7 @@ abbrev performs_as : {terms all : Terms} {L M : Lacking} {first whole : Dialog O
 performs_as done runs serves =
     record { runs = runs; serves = serves; part = done.part; link = done.link; desk = done.desk }
 
--- memory is taken in the one or in the other
+-- memory is allocated in the one or in the other
 
 or_first : (b c : Bool) → b ≡ true → (b || c) ≡ true
 or_first true c is = refl
@@ -233,7 +233,7 @@ module _ (takes more_takes : Bool) where
   performs_last more end lack done =
       performs_as done (ran_from (came_part (unless_fault more) done.runs)) done.serves
 
--- ---- where memory is taken
+-- ---- actions that allocate
 
 -- at once in the only action
 taking_one : (part : Part) (s : Switches) (action : Action) (m : Progress)
@@ -264,7 +264,7 @@ taking_prefix part s xs ys m during shown at = record {
   is_played = at.is_played;
 }
 
--- after others that were played
+-- after others that ran
 taking_then : (part : Part) (s : Switches) (xs ys : List Action) {m n : Progress} {o p : Devices}
     (ran : Ran (actions_dialog part s xs) m o p Fine n)
     → LacksLater (AtTaking part s (xs ++ ys)) m ran.during ran.events (AtTaking part s ys) n
@@ -296,7 +296,7 @@ pub does_nothing : (plan : Plan) (host : HostState) (o : Devices) → host.broke
     → Does plan [] host host o o (Ok Fine)
 does_nothing plan host o sound = nothing_performs Fine host o sound
 
--- the same action, by where else memory may be taken
+-- the same action, by the other places that may allocate
 performs_lacking : {terms : Terms} {L M : Lacking} {dialog : Dialog OutputEvent Standing} {x y : HostState}
     {o p : Devices}
     → LacksLater L x.progress [] [] M x.progress → (result : Result Standing (Unit {0}))
@@ -317,7 +317,7 @@ does_one plan action {x = x} {y = y} {o = o} {p = p} {result = result} done =
     (sym (or-false (action_takes_memory action))) (sym (actions_dialog-one plan.part plan.switches action))
     (performs_lacking (taking_one plan.part plan.switches action x.progress) result done)
 
--- the same actions, as they are written elsewhere
+-- the same actions, in another form
 pub does_same : (plan : Plan) (xs ys : List Action) {x y : HostState} {o p : Devices}
     {result : Result Standing (Unit {0})}
     → xs ≡ ys → Does plan xs x y o p result → Does plan ys x y o p result
@@ -348,14 +348,14 @@ module _ (plan : Plan) (xs ys : List Action) where
       (or_then (list_any action_takes_memory xs) (list_any action_takes_memory ys))
       (actions_foretells plan.part plan.switches xs) (taking_then plan.part plan.switches xs ys done.runs) rest)
 
-  -- the others are left out
+  -- the others are skipped
   pub does_last : {x y : HostState} {o p : Devices} (end : End) → Does plan xs x y o p (stands (Err end))
       → Does plan (xs ++ ys) x y o p (stands (Err end))
   does_last {x = x} end done =
       does_both (performs_last (list_any action_takes_memory xs) (list_any action_takes_memory ys)
       (actions_dialog plan.part plan.switches ys) end (taking_prefix plan.part plan.switches xs ys x.progress) done)
 
--- a read, whose data stand in a vector
+-- a read, whose data are in a vector
 
 pub given_concluded : {A : Type 0} (a : A) (outcome : Result (Unit {0}) HostFault)
     (told : Result (Unit {0}) DeskFault) → conclusion (given_or_fault a outcome) told ≡ conclusion outcome told
@@ -363,7 +363,7 @@ given_concluded a (Ok ok) (Ok done) = refl
 given_concluded a (Err fault) (Ok done) = refl
 given_concluded a outcome (Err _) = refl
 
--- a fault alone tells why a run stops
+-- why a run stops depends on the fault alone
 pub given_told : {A : Type 0} (a : A) (good : A → List OutputEvent) {d e : DeskState} (part : Part)
     (outcome : Result (Unit {0}) HostFault) {told : Result (Unit {0}) DeskFault}
     → Reports (ReadStops outcome) d e (fault_or part good (given_or_fault a outcome)) told
@@ -371,7 +371,7 @@ pub given_told : {A : Type 0} (a : A) (good : A → List OutputEvent) {d e : Des
 given_told a good part (Ok ok) reports stop is = absurd (cc)
 given_told a good part (Err fault) reports stop is = told_of part (fault_or part good) (λ stop. refl) reports stop is
 
--- only where bytes were read there is something to save, and no fault is reported of them
+-- only if bytes were read is there something to save, and they are reported without a fault
 pub read_stops_report : (part : Part) (good : List ℕ → List OutputEvent) (items : List ℕ) → tells_fault (good items)
     ≡ false
     → (outcome : Result (Unit {0}) HostFault) (takes : Bool) (o : LinkState) {d e : DeskState}
@@ -408,7 +408,7 @@ performs_until go_on stopped done =
 abbrev told_before : Terms
 told_before = record { takes = false; was_told = true }
 
--- nothing is reported there of a link that failed, and memory is taken nowhere
+-- a failed link isn't reported there, and nothing is allocated
 silent_at : {R : Type 0} (dialog : Dialog ⊥ R) (m : Progress) (o p : LinkState) (d : DeskState) (stop : Stop)
     → StopsOver false dialog m o p stop → TellsCause true (cause_at stop) [] d d
 silent_at dialog m o p d (Broke Send) over = refl
@@ -430,7 +430,7 @@ told_nothing dialog m o p d failed stop is over = (
   kept_nothing d.kept,
 )
 
--- programming mode is left, and nothing is reported of it
+-- programming mode is left without a report
 pub quietly_performs : {old new : HostState} {o p : LinkState} (d : DeskState) {outcome : Result (Unit {0}) HostFault}
     {result : Result (Unit {0}) End} → old.broken ≡ None → Calls closing old new o p outcome
     → result ≡ conclusion outcome (Ok tt)
@@ -443,7 +443,7 @@ quietly_performs {old = old} {o = o} {p = p} d sound calls is =
     (told_nothing closing old.progress o p d (calls.failed sound)) sound calls
     (call_ended closing _ _ _ _ _ closing_lacks_none) is
 
--- after it nothing more goes over the line
+-- after it nothing more goes over the link
 pub quietly_over : {first : Dialog OutputEvent Standing} {L : Lacking} {x y : HostState} {o p : Devices}
     (standing : Standing)
     → PerformsBehind told_before L first x y o p (Ok standing)
@@ -451,7 +451,7 @@ pub quietly_over : {first : Dialog OutputEvent Standing} {L : Lacking} {x y : Ho
 quietly_over {y = y} {p = p} standing done =
     performs_as done (ran_on (came_part (λ _. Done Over) done.runs) (ran_from (came_here (Done Over) y.progress p))) tt
 
--- a session that stood so after its actions ends so
+-- a session in this state after its actions ends like this
 pub ends_so : (plan : Plan) (standing : Standing) {x y z : HostState} {o p q : Devices}
     (result : Result Standing (Unit {0})) → Does plan (actions plan) x y o p (Ok standing)
     → PerformsBehind (record { takes = false; was_told = is_told standing }) (AtOnce false)
@@ -463,7 +463,7 @@ ends_so plan standing result done rest =
     (actions_foretells plan.part plan.switches (actions plan)) (λ during shown never. let e = never.0 in absurd (cc))
     rest
 
--- a whole session, played to its status, or stopped where it stood
+-- a whole session, run to its status, or stopped in this state
 pub session_played : (plan : Plan) {x y : HostState} {o p : Devices} (standing : Standing) → x.progress ≡ start
     → PerformsBehind (untold (takes_memory plan)) (AtTaking plan.part plan.switches (actions plan)) (playing plan) x y o
     p (Ok standing)

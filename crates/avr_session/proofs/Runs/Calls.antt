@@ -24,7 +24,7 @@ use Rattle.avr_session.specs.Runs.{Devices, devices, NoneFailed, Cause, OfSendin
 use Rattle.avr_session.specs.Reporting.{IsOfDesk, SaysPrefix, SaidSome}
 use Rattle.avr_session.proofs.Runs.Stops.{place_more, place_behind, place_part, desk_says, desk_listens, outputs_said, map_append}
 
--- where a call stands: what is left of its dialog, how far its conversation is, and what the devices show
+-- a point of a call: the rest of its dialog, the progress of its conversation, and the devices' states
 pub record Point (R : Type 0) : Type 0 where
   pub left : Dialog OutputEvent R
   pub progress_at : Progress
@@ -33,7 +33,7 @@ pub record Point (R : Type 0) : Type 0 where
 abbrev pub point : {R : Type 0} → Dialog OutputEvent R → Progress → Devices → Point R
 point left progress_at devices = record { left = left; progress_at = progress_at; devices = devices }
 
--- a call has come from one point to another: what was sent and said between them
+-- a call has come from one point to another: what was sent and printed between them
 pub record Came {R : Type 0} (x y : Point R) : Type 0 where
   pub during : Transcript
   pub events : List (Event OutputEvent)
@@ -92,7 +92,7 @@ came_on {x = x} {y = y} {z = z} f g =
       sound = none_failed_on o p q f.sound g.sound;
     }
 
--- a dialog was played whole: the call has come to its result
+-- a dialog was run whole: the call has come to its result
 
 pub ran_from : {R : Type 0} {a : Dialog OutputEvent R} {m n : Progress} {o p : Devices} {result : R}
     → Came (point a m o) (point (Done result) n p) → Ran a m o p result n
@@ -106,7 +106,7 @@ ran_from f = record {
   sound = f.sound;
 }
 
--- so a part of a dialog was, by what its talk leads to
+-- so a part of a dialog was, by its transcript
 abbrev came_of : {A R : Type 0} {a : Dialog OutputEvent A} {m n : Progress} {o p : Devices} {result : A}
     {b c : Dialog OutputEvent R} (f : Ran a m o p result n) → TranscriptLeads b m f.during f.events c n
     → Came (point b m o) (point c n p)
@@ -131,7 +131,7 @@ abbrev pub StopsWhole : Terms → Terms → List OutputEvent → Devices → Dev
 StopsWhole some all before o p q = (said : List OutputEvent) (cause : Cause) (told : List ℕ)
     → StopsBehind some p q said cause told → StopsBehind all o q (before ++ said) cause told
 
--- where want of memory may stop what is left of a dialog it may stop the whole, after this talk and these events
+-- if a failed allocation may stop the rest of a dialog, it may stop the whole, after this transcript and these events
 abbrev pub LacksLater : Lacking → Progress → Transcript → List (Event OutputEvent) → Lacking → Progress → Type 0
 LacksLater L m transcript events M n = (during : Transcript) (shown : List (Event OutputEvent)) → M n during shown
     → L m (transcript ++ during) (events ++ shown)
@@ -147,7 +147,7 @@ has_come_in some all o p then takes same OfMemory come = (takes come.0, none_fai
 has_come_in some all o p then takes same cause come =
     (subst (λ n. HasRisen n then.link.failures) same.0 come.0, same_on o.desk p.desk then.desk same.1 come.1)
 
--- after other output events, where they tell what is taken to be reported
+-- after other output events, if these report as the terms assume
 pub stops_in : (some all : Terms) (before : List OutputEvent) (o p q : Devices) → (some.takes ≡ true → all.takes ≡ true)
     → NoneFailed o p → (all.was_told || tells_fault before) ≡ some.was_told
     → StopsWhole some all before o p q
@@ -164,13 +164,13 @@ stops_in some all before o p q takes sound same said cause told stops =
       until = stops.until;
     }
 
--- since before, or where more may take memory
+-- since before, or if more may allocate
 pub stops_since : (takes more told : Bool) (o p q : Devices) → (takes ≡ true → more ≡ true) → NoneFailed o p
     → StopsWhole (record { takes = takes; was_told = told }) (record { takes = more; was_told = told }) [] o p q
 stops_since takes more told o p q also sound = stops_in (record { takes = takes; was_told = told })
     (record { takes = more; was_told = told }) [] o p q also sound (or-false told)
 
--- what happened of these events, up to where its cause stopped it
+-- the events that happened, up to where the cause stopped them
 record Placed (cause : Cause) (shown events : List (Event OutputEvent)) : Type 0 where
   whole : List (Event OutputEvent)
   begun : List (Event OutputEvent)
@@ -201,7 +201,7 @@ placed_more {cause = cause} more none f = record {
   place = place_more cause f.whole f.begun f.later more none f.place;
 }
 
--- of a cause this was reported, after nothing that was said
+-- this was reported of a cause, with no output before it
 abbrev pub ToldBy : Terms → Cause → Devices → Devices → Type 0
 ToldBy terms cause o p = (told : List ℕ) × StopsBehind terms o p [] cause told × Passes (after_err told) o.desk p.desk
 
@@ -249,7 +249,7 @@ module _ {R : Type 0} {dialog : Dialog OutputEvent R} {m : Progress} {o p : Devi
     kept = kept;
   }
 
-  -- before anything was said
+  -- before any output
   broke_silent : (during : Transcript) (shown : List (Event OutputEvent)) (cause : Cause) → outputs shown ≡ []
       → ToldBy terms cause o p → Grows o.link.transcript during p.link.transcript
       → Placed cause shown (played_over dialog m during).events → bytes_sent shown ≡ sent during
@@ -283,11 +283,11 @@ broke_on {R = R} {x = x} {y = y} {q = q} {all = all} came why lack broke =
     q.desk.kept (λ r. ap (after_err broke.told) (after_both came.events broke.shown r)) came.kept broke.kept)
     (λ is. lack broke.during broke.shown (broke.lacks is))
 
--- memory is taken nowhere
+-- nothing is allocated
 abbrev pub Never : Lacking
 Never before during shown = ⊥
 
--- after a part in which nothing was said, where no memory is taken since
+-- after a part without output, if nothing is allocated since
 pub broke_quietly : {R : Type 0} {x y : Point R} {q : Devices} {terms : Terms} {L : Lacking} (came : Came x y)
     → outputs came.events ≡ [] → BrokeOff y.left y.progress_at y.devices q terms Never
     → BrokeOff x.left x.progress_at x.devices q terms L
@@ -310,7 +310,7 @@ listens_behind : {A R : Type 0} (cause : Cause) (outcome : Option (A × ℕ × T
 listens_behind OfListening outcome go_on listens = ap (λ o. (continued o go_on).outcome) listens
 listens_behind cause outcome go_on listens = tt
 
--- in an operation of the host; what was reported of it stands after it
+-- in an operation of the host; its report follows it
 
 abbrev pub broken_cause : Broken → Cause
 broken_cause Send = OfSending
@@ -350,7 +350,7 @@ broke_raised Recv {dialog = dialog} {m = m} f some =
 
 -- what follows a part of a dialog
 module _ {A R : Type 0} (go_on : A → Dialog OutputEvent R) where
-  -- an operation of the host, played whole
+  -- an operation of the host, run whole
   unfoldable pub came_lifted : {dialog : Dialog ⊥ A} {m n : Progress} {o p : LinkState} {result : A} (d : DeskState)
       → PlaysOver dialog m o p result n → length n.unread ≤ 281 → p.failures ≡ o.failures
       → Came (point (lifted dialog >>= go_on) m (devices o d)) (point (go_on result) n (devices p d))
@@ -364,7 +364,7 @@ module _ {A R : Type 0} (go_on : A → Dialog OutputEvent R) where
     sound = (same, same_here d);
   }
 
-  -- a part that was played whole
+  -- a part that was run whole
   unfoldable pub came_part : {a : Dialog OutputEvent A} {m n : Progress} {o p : Devices} {result : A}
       → Ran a m o p result n
       → Came (point (a >>= go_on) m o) (point (go_on result) n p)
@@ -393,7 +393,7 @@ module _ {A R : Type 0} (go_on : A → Dialog OutputEvent R) where
   broke_operation by {L = L} f some =
       broke_part {M = L} (λ said cause told s. s) (λ during shown lack. lack) (broke_raised by f some)
 
--- what is said
+-- output
 
 leads_says : {R : Type 0} (xs : List OutputEvent) (dialog : Dialog OutputEvent R) (m : Progress)
     → TranscriptLeads (says xs dialog) m [] (map Said xs) dialog m
@@ -410,7 +410,7 @@ no_bytes : (xs : List OutputEvent) → bytes_sent (map {B = Event OutputEvent} S
 no_bytes [] = refl
 no_bytes (x ∷ xs) = no_bytes xs
 
--- what stops a report stops it after a prefix of what it says
+-- what stops a report stops it after a prefix of its output
 abbrev pub StopsReport : Terms → LinkState → DeskState → DeskState → List OutputEvent
     → (DeskState → DeskState → Cause → List ℕ → Type 0) → Type 0
 StopsReport terms o d e outputs By = (mid : DeskState) (cause : Cause) (prefix : SaysPrefix cause d mid outputs)
@@ -455,7 +455,7 @@ module _ {R : Type 0} (xs : List OutputEvent) (dialog : Dialog OutputEvent R) (m
       d.kept f.between.kept e.kept (λ r. ap (after_err f.told) (ap (λ ss. after_all ss r) (outputs_said shown)))
       f.prefix.kept f.kept) (λ is. absurd (subst IsOfDesk is prefix.by_desk))
 
--- at once, for want of memory
+-- at once, for a failed allocation
 pub broke_lacking : {R : Type 0} {terms : Terms} {L : Lacking} {o p : Devices} (dialog : Dialog OutputEvent R)
     (m : Progress)
     → p.link ≡ o.link → ToldBy terms OfMemory o p → L m [] [] → BrokeOff dialog m o p terms L

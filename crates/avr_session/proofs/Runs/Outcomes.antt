@@ -1,4 +1,4 @@
--- What came of a session: the line of its fault is the last one that was reported.
+-- The outcome of a session: the line of its fault is the last one that was reported.
 use Rattle.std.proofs.Common.{◌≡◌, ◌++◌, ℕ, List, [], ◌∷◌, Result, Ok, Err, inl, inr, refl}
 use Rattle.avr_desk.specs.Record.{Bytes, DeskState, Record}
 use Rattle.avr_desk.specs.Said.{OutputEvent, Line, after, after_all}
@@ -25,13 +25,13 @@ use Rattle.avr_session.specs.Session.{playing, opening_says, signature_says}
 use Rattle.avr_session.specs.Taking.{AtTaking}
 use Rattle.avr_session.proofs.ActionByAction.Sequences.{session_played, session_stopped}
 
--- a line after what was said ends the messages
+-- a line after the output ends the messages
 pub last_line : (outputs : List OutputEvent) (line : Bytes) (r : Record)
     → EndWith line (after_all (outputs ++ Line line ∷ []) r).messages
 last_line [] line r = (r.messages, refl)
 last_line (output ∷ outputs) line r = last_line outputs line (after output r)
 
--- so does the line of a fault, whatever else was said of the opening
+-- so does the line of a fault, whatever else is printed for the opening
 pub opening_last : (quiet : ℕ) (part : Part) (fault : HostFault) (r : Record)
     → EndWith (fault_line part fault) (after_all (opening_says quiet part (Err fault)) r).messages
 opening_last quiet part (WrongSignature found) r =
@@ -46,7 +46,7 @@ after_fault A part Memory view last = tt
 after_fault A part RecvFailed view last = tt
 after_fault A part fault view last = last
 
--- what is said of the outcome of an operation
+-- the output for the outcome of an operation
 module _ {A : Type 0} (part : Part) (tells : Result A HostFault → List OutputEvent) where
   -- the line of a fault is the last one of it
   abbrev TellsLast : Type 0
@@ -63,7 +63,7 @@ module _ {A : Type 0} (part : Part) (tells : Result A HostFault → List OutputE
       let ends : EndWith (fault_line part fault) new.kept.messages = rw reports.says.0 (last fault old.kept) in
       after_fault A part fault new ends
 
-  -- after an operation that was reported so the line of its fault is the last one
+  -- after an operation that was reported like this, the line of its fault is the last one
   pub told_by : {By : DeskState → DeskState → Cause → Bytes → Type 0} {old new : DeskState}
       {outcome : Result A HostFault}
       {reported : Result (Unit {0}) DeskFault} {result : Result (Unit {0}) End} → TellsLast
@@ -71,7 +71,7 @@ module _ {A : Type 0} (part : Part) (tells : Result A HostFault → List OutputE
   told_by {By = By} {old = old} {new = new} {outcome = outcome} {reported = reported} last reports is =
       rw is (concluded By old new outcome reported last reports)
 
--- where something was left out no fault was reported
+-- if an action was left out, no fault was reported
 said_told : (part : Part) (view : DeskState) (said : Result (Unit {0}) DeskFault)
     → EndsTold part view (conclusion {A = Unit {0}} (Ok tt) said)
 said_told part view (Ok done) = tt
@@ -92,7 +92,7 @@ session_comes plan (Err (ends.Faulty fault)) first done last = (session_played p
 session_comes plan (Err (ends.Over fault)) first done last = (session_played plan Over first done, last)
 session_comes plan (Err ends.Stopped) first done last = session_stopped plan tt first done
 
--- what it came to has its status
+-- its outcome has its status
 pub comes_runs : (plan : Plan) (old new : Devices) (outcome : Outcome) → ComesTo plan old new outcome
     → RunsSession plan old new (outcome_status outcome)
 comes_runs plan old new outcome.Done comes = inl comes

@@ -1,4 +1,4 @@
--- Where no device failed, a run was played whole, or its messages say that memory was refused.
+-- If no device failed, a run was complete, or its messages report that allocation failed.
 use Rattle.std.proofs.Common.{◌≡◌, arith, ℕ, Bool, true, false, List, ◌++◌, ◌∙◌, refl, ap, subst, inl, inr}
 use Rattle.ghosts.proofs.Failures.{stood_has_not_risen}
 use Rattle.ghosts.specs.Failures.{HasStood}
@@ -17,7 +17,7 @@ use Rattle.avr_session.specs.Session.{session}
 use Rattle.avr_session.specs.Stopping.{keeping, IsSound, LacksMemory, IsPlayed}
 use Rattle.avr_desk.proofs.Lines.Told.{follows_here, not_failed}
 
--- of sound devices only memory is left
+-- sound devices leave only allocation as a cause
 
 link_stood : {old new : Devices} → IsSound old new → link.HasFailed old.link new.link → ⊥
 link_stood {old = old} {new = new} sound =
@@ -49,7 +49,7 @@ lacks {old = old} {new = new} {said = said} {told = told} cause sound stops =
     (subst (λ cause. TellsCause (tells_fault said) cause told stops.between new.desk) (only_memory cause sound stops)
     stops.tells)
 
--- a line reported stands at the end of the messages
+-- a line reported is at the end of the messages
 told_last : (before after : Record) (said : List OutputEvent) (told line : Bytes) → told ≡ line
     → after ≡ after_err told (after_all said before) → (prefix : Bytes) × (after.messages ≡ prefix ++ line)
 told_last before after said told line whole kept =
@@ -57,7 +57,7 @@ told_last before after said told line whole kept =
     let same : after ≡ after_err told r = cc in
     (r.messages, ap (λ (x : Record). x.messages) same ∙ ap (λ (xs : Bytes). r.messages ++ xs) whole)
 
--- so what broke off says so
+-- so a run that broke off reports it
 pub broke_lacks : {R : Type 0} {L : Lacking} (dialog : Dialog OutputEvent R) (m : Progress) (o p : LinkState)
     (before after : Record) (a b : ℕ × ℕ) (takes : Bool)
     → IsSound (devices o (keeping before a)) (devices p (keeping after b))
@@ -66,7 +66,7 @@ pub broke_lacks : {R : Type 0} {L : Lacking} (dialog : Dialog OutputEvent R) (m 
 broke_lacks dialog m o p before after a b takes sound f =
     told_last before after (outputs f.shown) f.told (cause_line OfMemory) (lacks f.cause sound f.stops) f.kept
 
--- and a run is played whole where no device failed and memory was not refused, by its messages.
+-- and a run is complete if no device failed and, by its messages, no allocation did
 pub sound_run : (plan : Plan) (o p : LinkState) (before after : Record) (a b : ℕ × ℕ) (status : ℕ)
     → IsSound (devices o (keeping before a)) (devices p (keeping after b)) → (LacksMemory after.messages → ⊥)
     → RunsSession plan (devices o (keeping before a)) (devices p (keeping after b)) status
@@ -75,7 +75,7 @@ sound_run plan o p before after a b status sound has_memory (inl ran) = ran
 sound_run plan o p before after a b status sound has_memory (inr broke) =
     absurd (has_memory (broke_lacks (session plan) start o p before after a b (takes_memory plan) sound broke.0))
 
--- Where no memory is taken it is played whole, whatever the messages are.
+-- If nothing is allocated, it is complete, whatever the messages are.
 pub exact_run : (plan : Plan) (old new : Devices) (status : ℕ) → IsSound old new → takes_memory plan ≡ false
     → RunsSession plan old new status → IsPlayed (session plan) old new status
 exact_run plan old new status sound none (inl ran) = ran

@@ -1,4 +1,4 @@
--- Where a run stops: what stands before it and what follows it changes nothing.
+-- Where a run stops: what is before it and what follows it changes nothing.
 use Rattle.std.proofs.Common.{ℕ, ◌≡◌, ◌∙◌, List, [], ◌∷◌, ◌++◌, map, refl, sym, ap, subst, append_assoc, take, drop, Option, inl, inr, codes}
 use Rattle.std.proofs.lemmas.List.{take-append-drop}
 use Rattle.avr_desk.specs.Record.{DeskState, Passes, Bytes}

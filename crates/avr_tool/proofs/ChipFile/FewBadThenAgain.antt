@@ -1,4 +1,4 @@
--- A run over a line on which few frames go wrong, and the same one once more, over the chip that a first one left.
+-- A run over a link on which few frames go wrong, then the same run again, over the chip that the first one left.
 use Rattle.std.proofs.Common.{◌≡◌, ◌⊎◌, ℕ, List, All, ◌∙◌, inl, inr, true, false}
 use Rattle.avr_desk.specs.Record.{DeskState, Record, Passes}
 use Rattle.avr_desk.specs.Said.{OutputEvent, after_all}
@@ -85,7 +85,7 @@ further_heals plan w v x y d e f g status further sound fitted fits erases both 
       | inr broke ↦ inr broke.0
     ]
 
--- the same over any link, also where nobody knows how the first run ended
+-- the same over any link, also if it is unknown how the first run ended
 pub further_heals_link : (plan : Plan) (p q x y : Programmer) (turns more : List Turn) (bytes others : List ℕ)
     (begun events : List (Event OutputEvent)) (further : ℕ)
     → IsPart plan.part → All (IsFitted plan.part) plan.tasks → FitsPart plan.part (memories_of p.chip)

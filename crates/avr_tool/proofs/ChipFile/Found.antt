@@ -54,7 +54,7 @@ chip_made false true true right good chip far wrong left test is = absurd (cc)
 chip_made false true false right good chip far wrong left test is = absurd (cc)
 chip_made false false fits right good chip far wrong left test is = absurd (cc)
 
--- so by a true opening it is the chip of what the name stood for
+-- so by a true opening it is the chip of the bytes under that name
 chip_is : (part : Part) (file : Bytes) (stock : Stock) (made : List Writing) (o : Opening) (left : List Opening)
     (chip : Chip) → opened_name o ≡ file
     → IsTrueOpening stock made o → (chip_given part file o left).answer ≡ Made chip
@@ -121,7 +121,7 @@ module _ (settings : Settings) (file : Bytes) (stock : Stock) (old new : MemDesk
   only_read = subst OnlyReads (ap (λ (p : StageResult Plan). told_in p) (r.made.comes []))
       (only_reads settings (r.made.passed ++ []))
 
-  -- what was opened before the chip's file
+  -- the openings before the chip's file
   before : (openings : List Opening) × (all_uses r.planned_desk.kept ≡ all_uses old.kept ++ opened openings)
   before =
       let said = only_opened r.made.says old.kept only_read in
@@ -156,7 +156,7 @@ module _ (settings : Settings) (file : Bytes) (stock : Stock) (old new : MemDesk
       ∙ ap (λ (fs : List Writing). files_among (all_uses old.kept) ++ fs) (none_made before.0)
       ∙ append-nil (files_among (all_uses old.kept)) ∙ files_used old.kept
 
-  -- its opening was true when what was there before the run was there
+  -- its opening was true by the files before the run
   gave : IsTrueOpening stock (all_files old.kept) opening
   gave =
       let all : AreTrue stock [] ((first_uses ++ Opened opening ∷ []) ++ ended.0) =

@@ -1,4 +1,4 @@
--- The same run once more, over the chip file that a first one left.
+-- The same run again, over the chip file that the first one left.
 use Rattle.std.proofs.Common.{◌≡◌, ◌∙◌, ◌⊎◌, ap, subst, sym, refl, inl, inr, arith, ℕ, ◌+◌, Bool, true, false, length, List, [], ◌∷◌, ◌++◌, take, Option, Some, None, if◌then◌else◌}
 use Rattle.std.proofs.lemmas.Slice.Eq.{bytes_eq-Decides}
 use Rattle.ghosts.specs.Stays.{Stays}
@@ -54,9 +54,9 @@ same_memories part s fits =
     let lock = fuse_part s.flash s.eeprom fuses (at + 3) 3 (omega arith) in
     rw (flash, eeprom, lfuse, hfuse, efuse, lock) refl
 
--- ---- what is in the file after a run
+-- ---- the bytes in the file after a run
 
--- a name that is not that of standard input
+-- a name other than that of standard input
 module _ (file : Bytes) (stock : Stock) (no_dash : is_dash file ≡ false) where
   stands : (made : List Writing) → stood_for stock made file ≡ file_named file stock made
   stands made = ap (λ (b : Bool). if b then Some stock.input else file_named file stock made) no_dash
@@ -70,7 +70,7 @@ module _ (file : Bytes) (stock : Stock) (no_dash : is_dash file ≡ false) where
       ∙ ap (λ (b : Bool). if b then Some bytes else newest file (newest file None stock.files) (all_files r))
       ((bytes_eq-Decides file file).1 refl)
 
-  -- the chip's, or what it was
+  -- the chip's bytes, or the earlier ones
   saved_held : (out : List ℕ) (old new : DeskState) (bytes : Bytes) (ran status : ℕ)
       → IsSaved out old new file bytes ran status
       → (file_held stock new.kept file ≡ Some bytes) ⊎ (file_held stock new.kept file ≡ file_held stock old.kept file)
@@ -80,7 +80,7 @@ module _ (file : Bytes) (stock : Stock) (no_dash : is_dash file ≡ false) where
   saved_held (b ∷ out) old new bytes ran status (inr (fault, saves, is)) =
       inr (ap (λ r. file_held stock r file) saves.1.kept)
 
-  -- with status 0 the chip's, as a session of status 0 has sent something
+  -- with status 0 the chip's, because a session of status 0 has sent something
   zero_held : (out : List ℕ) (old new : DeskState) (bytes : Bytes) (ran : ℕ) → (out ≡ [] → ran ≡ 0 → ⊥)
       → IsSaved out old new file bytes ran 0
       → file_held stock new.kept file ≡ Some bytes
@@ -89,7 +89,7 @@ module _ (file : Bytes) (stock : Stock) (no_dash : is_dash file ≡ false) where
       ap (λ r. file_held stock r file) saves.0 ∙ replaced bytes old.kept
   zero_held (b ∷ out) old new bytes ran some (inr (fault, saves, is)) = absurd (cc)
 
--- a session that was played begins with a frame
+-- a session that ran begins with a frame
 first_frame : (plan : Plan) (tape : Tape)
     → (rest : List ℕ) × (bytes_sent (played (session plan) 1 tape).events ≡ 27 ∷ rest)
 unfolding session opening handshake tries attempt exchange
@@ -165,7 +165,7 @@ module _ (settings : Settings) (file : Bytes) (stock : Stock) (old mid new : Mem
   left = subst (FitsPart plan.part) (sym one.line.line.page_writes.memories)
       (effects_sizes plan.part is_part (take one.line.line.page_writes.count (page_writes plan)) before fits)
 
-  -- the second run begins with what some first page writes of the first one left
+  -- the second run begins after some first page writes of the first one
   touched : IsTouched plan before (memories_of two.chip)
   touched = elim (saved_held file stock no_dash (sent one.after.transcript) one.played_desk (memory_state mid)
       (chip_file one.after.wire.programmer.chip) one.ran status one.saved) [

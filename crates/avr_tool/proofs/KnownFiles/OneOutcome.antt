@@ -23,7 +23,7 @@ use Rattle.avr_tool.specs.Worked.{absent_outcome, absent_settings, frames_due, l
 some_is : (a b : RunOutcome) → ◌≡◌ {A = Option RunOutcome} (Some a) (Some b) → a ≡ b
 some_is a b e = cc
 
--- as many ends as either asks for, in whichever order
+-- as many ends as either requests, in any order
 ends_either : (tape : Tape) (a b : ℕ) → (tape ++ replicate a End) ++ replicate b End
     ≡ (tape ++ replicate b End) ++ replicate a End
 ends_either tape a b =
@@ -39,7 +39,7 @@ one_outcome s stock tape a b first second =
     ∙ ap (λ t. run_outcome (run_of s stock t)) (ends_either tape first.ends second.ends)
     ∙ second.is (replicate first.ends End))
 
--- ---- more of a tape changes nothing of what came to its end
+-- ---- more of a tape doesn't change a run that came to its end
 
 some_end : {R : Type 0} (a b : R) (m n : ℕ) (t u : Tape)
     → ◌≡◌ {A = Option (R × ℕ × Tape)} (Some (a, m, t)) (Some (b, n, u)) → (a ≡ b) × (m ≡ n) × (t ≡ u)

@@ -1,4 +1,4 @@
--- Uses of files that are past stay, whatever is done at the desk from then on.
+-- Past uses of files stay, whatever is done at the desk from then on.
 use Rattle.std.proofs.Common.{◌≡◌, ◌∙◌, ◌⊎◌, ap, subst, sym, refl, inl, inr, ℕ, Bool, List, [], ◌∷◌, ◌++◌, append_assoc, append-nil, map, Ok, Err, Result}
 use Rattle.std.specs.Prelude.{⊤}
 use Rattle.avr_desk.specs.Record.{Bytes, DeskState, Record, all_uses, files_among, released, use_of, with_absent, with_replaced, written_on}
@@ -15,7 +15,8 @@ use Rattle.avr_plan.specs.OnlyReading.{OnlyReads}
 use Rattle.avr_session.specs.Runs.{RunsTo, Devices, Lacking}
 use Rattle.stk_host.specs.Dialog.{Dialog, outputs}
 
--- These are the first uses at a desk; the file that it reads may be the last of them, what it writes is none.
+-- These are the first uses at a desk. The file that it is reading may be the last of them; the file that it is writing
+-- isn't.
 abbrev pub ArePast : List FileUse → Record → Type 0
 ArePast uses r = ((more : List FileUse) × (r.uses ≡ uses ++ more))
     ⊎ ((x : Reading) × (r.current ≡ ToRead x) × (r.uses ++ Opened (Found x) ∷ [] ≡ uses))
@@ -29,7 +30,7 @@ past_shown uses r (inl (more, is)) = (
 )
 past_shown uses r (inr (x, reads, is)) = ([], ap (λ o. r.uses ++ use_of o) reads ∙ is ∙ sym (append-nil uses))
 
--- the open file is put by, and perhaps uses stand after it
+-- the open file is put by, and uses may follow it
 put_by : (uses later : List FileUse) (r s : Record) → ArePast uses r → s.uses ≡ all_uses r ++ later → ArePast uses s
 put_by uses later r s past is =
     let shown = past_shown uses r past in
@@ -50,7 +51,7 @@ pub past_all : (uses : List FileUse) (says : List OutputEvent) (r : Record) → 
 past_all uses [] r past = past
 past_all uses (output ∷ says) r past = past_all uses says (after output r) (past_on uses output r past)
 
--- ---- what was read and reported only
+-- ---- reading and reporting alone
 
 abbrev pub opened : List Opening → List FileUse
 opened openings = map Opened openings
@@ -80,7 +81,7 @@ only_opened (Opens (Found x) ∷ says) r reads =
 only_opened (Line bytes ∷ says) r reads = only_opened says (after (Line bytes) r) reads
 only_opened (output ∷ says) r reads = absurd reads
 
--- ---- what a session and a saving do
+-- ---- what a session and a save do
 
 pub opened_past : (opening : Opening) (r : Record)
     → ArePast (all_uses r ++ Opened opening ∷ []) (after_opening opening r)

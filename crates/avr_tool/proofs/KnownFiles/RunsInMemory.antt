@@ -47,22 +47,22 @@ abbrev AreOpened : Stock → List Opening → Type 0
 AreOpened stock [] = Unit {0}
 AreOpened stock (opening ∷ openings) = IsTrueOpening stock [] opening × AreOpened stock openings
 
--- what was opened among these uses, where no file was made
+-- the openings among these uses, if no file was made
 opened_uses : (stock : Stock) (uses : List FileUse) → files_among uses ≡ [] → AreTrue stock [] uses
     → AreOpened stock (openings_among uses)
 opened_uses stock [] none are = tt
 opened_uses stock (Opened opening ∷ uses) none are = (are.0, opened_uses stock uses none are.1)
 opened_uses stock (Created file ∷ uses) none are = absurd (cc)
 
--- what was opened among these output events
+-- the openings among these output events
 seen_outputs : (stock : Stock) (says : List OutputEvent) → AreOpened stock (openings_in says) → AreSeen stock says
 seen_outputs stock [] are = tt
 seen_outputs stock (Opens opening ∷ says) are = (are.0, seen_outputs stock says are.1)
 seen_outputs stock (output ∷ says) are = seen_outputs stock says are
 
--- ---- what is left, but for what was opened
+-- ---- what is left, apart from openings
 
--- the messages, the output, the files that were made and the one that is being written
+-- the messages, the output, the files that were made and the file that is being written
 record Left : Type 0 where
   messages : Bytes
   output : Bytes
@@ -110,7 +110,7 @@ left_all : (says : List OutputEvent) (r : Record) → left_in (after_all says r)
 left_all [] r = refl
 left_all (output ∷ says) r = left_all says (after output r) ∙ ap (left_after_all says) (left_on output r)
 
--- what reads and tells makes no file
+-- reading and reporting make no file
 abbrev joined : List Bytes → Bytes
 joined [] = []
 joined (line ∷ lines) = line ++ joined lines
@@ -126,14 +126,14 @@ only_told (Line bytes ∷ says) messages output reads = only_told says (messages
     ∙ ap (λ (m : Bytes). told_left m output) (append_assoc messages bytes (joined (lines_in says)))
 only_told (event ∷ says) messages output reads = absurd reads
 
--- so what planning leaves is the lines that it tells
+-- so what planning leaves is the lines that it prints
 planning_left : (says : List OutputEvent) → OnlyReads says
     → left_in (after_all says nothing_kept) ≡ told_left (joined (lines_in says)) []
 planning_left says reads = left_all says nothing_kept ∙ only_told says [] [] reads
 
 -- ---- planning
 
--- what was said before a refusal was seen so too
+-- so were the openings before a refusal
 seen_before : (stock : Stock) (says : List OutputEvent) (answer : StageAnswer Plan)
     → AreSeen stock (all_told says answer)
     → AreSeen stock says
@@ -194,7 +194,7 @@ abbrev outcome_of : ℕ → Bytes → Left → RunOutcome
 outcome_of status sent v =
     record { status = status; sent = sent; messages = v.messages; output = v.output; files = all_left v }
 
--- planning's output events, and then these events, leave what the desk shows
+-- planning's output events, then these events, leave what the desk shows
 left_is : (status : ℕ) (says : List OutputEvent) (events : List (Event OutputEvent)) (between kept : Record)
     (transcript : Transcript)
     → left_in (after_all says nothing_kept) ≡ left_in between → kept ≡ after_all (outputs events) between
@@ -216,7 +216,7 @@ module _ (settings : Settings) (old new : MemDeskState) (before after : LinkStat
   silent_before : before.transcript ≡ []
   silent_before = ap (λ (l : LinkState). l.transcript) unused.link_is
 
-  -- the plan was made, and its session played
+  -- the plan was made, and its session ran
   whole : (between : MemDeskState) (plan : Plan) → HoldsTrue stock between
       → Went (planned settings) (memory_state old) (memory_state between) (Made plan)
       → IsPlayed (session plan) (devices before (memory_state between)) (devices after (memory_state new)) status
@@ -256,7 +256,7 @@ module _ (settings : Settings) (old new : MemDeskState) (before after : LinkStat
       ap (λ a. run_outcome (behind (map Said p.says) (after_answer a (heard after.transcript ++ more)))) answer
       ∙ ap (λ (o : RunOutcome). Some o) left
 
-  -- over what was heard it leaves what is shown, and the link has not failed
+  -- over what was received it leaves what is shown, and the link has not failed
   pub record LeavesShown : Type 0 where
     pub is : IsLeft settings stock (heard after.transcript) (shown_by status new.kept after.transcript)
     pub sound : after.failures ≡ 0

@@ -1,4 +1,4 @@
--- A session over a line that makes a frame.
+-- A session over a link that forges a frame.
 use Rattle.std.proofs.Common.{◌≡◌, ℕ, List, [], Bool, refl, ap, arith, Option, Some}
 use Rattle.std.proofs.lemmas.List.Elements.{All-cons, All-nil}
 use Rattle.avr_desk.specs.Said.{OutputEvent}
@@ -28,7 +28,7 @@ pub promise_void : (p q : Programmer) (turns : List Turn) (bytes : List ℕ) (ev
     → (p.chip.lfuse ≡ 0xE2 → ⊥) → WholeOverTurns fuse_plan p q turns bytes events 0 → ⊥
 promise_void p q turns bytes events other over = other ((over.1.done refl).agrees.1.0 0 0xE2 refl (omega arith))
 
--- so such a frame was made: of a chip whose fuse is another no line that makes none brings this tape
+-- So such a frame was forged: with a chip whose fuse differs, no link that forges none brings this tape.
 pub frame_made : (s : chips.ChipState) (got : List ℕ) (through : List Bool) → IsSoundChip s → s.part ≡ fuse_plan.part
     → (s.lfuse ≡ 0xE2 → ⊥)
     → CameThrough got (frames (bytes_sent (played (session fuse_plan) 1 made_answers).events)) through

@@ -1,4 +1,4 @@
--- A run over a wire to the emulated programmer, by the page's words.
+-- A run over a wire to the emulated programmer, in the words of the page.
 use Rattle.std.proofs.Common.{◌≡◌, ◌⊎◌, ℕ, [], ◌++◌, refl, sym, ap, ◌∙◌, subst, inl, inr, None, Err}
 use Rattle.avr_cli.specs.declared.settings.Settings.{Settings}
 use Rattle.avr_desk.specs.Fault.{Follows}
@@ -23,7 +23,7 @@ use Rattle.avr_laws.specs.AnyLine.{Stopped, OverAnyLine}
 use Rattle.avr_tool.specs.Headline.{IsRun, StoppedPlanning, IsNew, wire_and_desk, PlaysOverWire, HasNoPlan}
 use Rattle.avr_tool.proofs.Runs.Joined.{ran_whole, ran_openings, refused_whole}
 
--- a new wire keeps what its frames have brought, as there are none
+-- a new wire keeps what its frames have brought, because it has had none
 pub is_fresh : (w : WiredState) → IsNew w → IsFresh w
 is_fresh w new = record {
   silent = new.none_passed;

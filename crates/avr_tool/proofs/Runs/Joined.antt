@@ -1,4 +1,4 @@
--- Planning and playing as one run.
+-- Planning and session as one run.
 use Rattle.std.proofs.Common.{◌≡◌, ℕ, ◌⊎◌, inl, inr, List, [], ◌∷◌, ◌++◌, map, Some, refl, sym, ap, ◌∙◌, subst, arith, append_assoc}
 use Rattle.avr_cli.specs.declared.settings.Settings.{Settings}
 use Rattle.avr_desk.specs.Record.{DeskState}
@@ -33,7 +33,7 @@ said_bytes (output ∷ says) events = said_bytes says events
 answered : {p q : StageResult Plan} → p ≡ q → p.answer ≡ q.answer
 answered e = ap (λ (p : StageResult Plan). p.answer) e
 
--- what a plan made, and its session whole
+-- the whole session of the plan that was made
 pub ran_whole : (settings : Settings) (plan : Plan) (x y : Devices) (between : DeskState) (status : ℕ)
     → Went (planned settings) x.desk between (Made plan) → IsPlayed (session plan) (devices x.link between) y status
     → IsRun settings x y status
@@ -130,7 +130,7 @@ stopped_prefix settings x y status stopped = record {
 some_is : {A : Type 0} (a b : A) → Some a ≡ Some b → a ≡ b
 some_is a b e = cc
 
--- the same openings and the same items heard come to one status
+-- the same openings and the same items received lead to one status
 pub one_status : (settings : Settings) (h i j k : Devices) (m n : ℕ) (x : IsRun settings h i m)
     (y : IsRun settings j k n) → x.openings ≡ y.openings → heard x.during ≡ heard y.during → m ≡ n
 one_status settings h i j k m n x y same alike =

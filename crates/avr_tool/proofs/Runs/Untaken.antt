@@ -1,4 +1,4 @@
--- Words that ask for no run, and the error that is left of them.
+-- Arguments that request no run, and the error that is left of them.
 use Rattle.std.proofs.Common.{◌≡◌, refl, sym, ◌∙◌, subst, ℕ, List, Result, Ok, Err, inr}
 use Rattle.clap.specs.Words.{fault_of, kind_of, HasKind}
 use Rattle.clap.specs.declared.error.Error.{Error}

@@ -1,4 +1,4 @@
--- Each answer of the programmer is a body that a frame can carry.
+-- Each answer of the programmer is a body that fits a frame.
 use Rattle.std.proofs.Common.{◌≡◌, ℕ, zero, suc, ◌+◌, ◌%◌, ◌≤◌, List, [], ◌∷◌, ◌++◌, length, refl, ap, arith, Bool, true, false, if◌then◌else◌, Option, Some, None, length-append, take, drop}
 use Rattle.std.proofs.lemmas.Bool.{leb-true, and_parts}
 use Rattle.std.proofs.lemmas.List.{length-take}
@@ -14,7 +14,7 @@ use Rattle.stk_emu.specs.Programmer.{Programmer, Response, obey, obey_command, r
 use Rattle.stk_emu.specs.Device.{Device, device}
 use Rattle.stk_emu.specs.Lawful.{IsBody}
 
--- each answer to a body is a body that a frame can carry
+-- each answer to a body is a body that fits a frame
 abbrev pub AnswersBodies : {P : Type 0} → Device P → Type 0
 AnswersBodies {P} m = (bytes : List ℕ) (p : P) → IsBody bytes → IsBody (m.answer bytes p)
 

@@ -1,4 +1,4 @@
--- What the programmer is after each command of a host.
+-- The programmer's state after each command of a host.
 use Rattle.std.proofs.Common.{◌≡◌, ℕ, zero, suc, ◌<◌, ◌^◌, [], ◌∷◌, length, refl, sym, ap, ◌∙◌, subst, ◌⊎◌, inl, inr, true, cond, replicate, None, Option}
 use Rattle.std.proofs.lemmas.List.{length-replicate}
 use Rattle.std.proofs.lemmas.Bool.{cond-true}
@@ -49,7 +49,7 @@ module _ {P : Type 0} (m : Device P) where
       agains p zero a = a
       agains p (suc i) a = subst After (sym (obeyed_none i (m.after (body c) p))) (again p a)
 
-  -- a step of two
+  -- a step of two commands
   pub two_fits : (c d : Command) (Before After : P → Type 0) → ((p : P) → Before p → Before (m.after (body c) p))
       → ((p : P) → After p → After (m.after (body c) p))
       → ((p : P) → Before p → After (m.after (body d) (m.after (body c) p)))
@@ -76,7 +76,7 @@ module _ {P : Type 0} (m : Device P) where
       agains p (suc zero) a = first_again p a
       agains p (suc (suc i)) a = subst After (sym (obeyed_none i (m.after (body d) (m.after (body c) p)))) (again p a)
 
--- the device as it goes along where it never begins anew
+-- the device, if it never restarts
 abbrev pub steady : Device Programmer
 steady = record { answer = device.answer; after = device.after; reset = λ p. p }
 
@@ -95,12 +95,12 @@ pub two_steady : (c d : Command) (Before After : Programmer → Type 0)
 two_steady c d Before After first first_again does again =
     two_fits steady c d Before After first first_again does again (λ p b. b) (λ p a. a)
 
--- a command of programming mode, in it
+-- a command of programming mode, in that mode
 pub in_mode_is : (p : Programmer) (x y : Response) → p.mode ≡ true → (cond p.mode x y).1 ≡ x.1
 in_mode_is p x y e = ap (λ z. z.1) (cond-true p.mode x y e)
 
 module _ (part : Part) where
-  -- what is settled is idle
+  -- a settled programmer is idle
   pub settled_idle : (m : Memories) (p : Programmer) → Settled part m p → Idle part m p
   settled_idle m p s = record {
     memories = s.memories;
@@ -109,7 +109,7 @@ module _ (part : Part) where
     eeprom_buffer = ap length s.eeprom_buffer ∙ length-replicate {A = Option ℕ} part.eeprom_page None;
   }
 
-  -- what is ready is settled, and what is settled is ready in programming mode
+  -- a ready programmer is settled, and a settled one is ready in programming mode
   pub ready_settled : (m : Memories) (p : Programmer) → Ready part m p → Settled part m p
   ready_settled m p s = record {
     memories = s.memories;
@@ -132,7 +132,7 @@ module _ (part : Part) where
   pub ready_idle : (m : Memories) (p : Programmer) → Ready part m p → Idle part m p
   ready_idle m p s = settled_idle m p (ready_settled m p s)
 
-  -- what begins anew keeps its memories, and nothing is loaded
+  -- after a restart the memories are the same, and nothing is loaded
   pub anew_idle : (m : Memories) (p : Programmer) → Idle part m p → Idle part m (device.reset p)
   anew_idle m p s = record {
     memories = s.memories;
@@ -174,7 +174,7 @@ module _ (part : Part) where
     eeprom_buffer = s.eeprom_buffer;
   }
 
-  -- A programmer that is ready, and then has these memories, and all else as it was.
+  -- A programmer that is ready, and then has these memories, and all else unchanged.
   ready_with : (m n : Memories) (p q : Programmer) → Ready part m p → memories_of q.chip ≡ n
       → q.chip.part ≡ p.chip.part → q.mode ≡ p.mode → q.chip.flash_buffer ≡ p.chip.flash_buffer
       → q.chip.eeprom_buffer ≡ p.chip.eeprom_buffer → q.chip.extended ≡ p.chip.extended → Ready part n q
@@ -212,7 +212,7 @@ module _ (part : Part) where
       (ready_with m _ p _ s (ap (λ (q : Part). changed q (erase ∷ []) (memories_of p.chip)) s.part_is
       ∙ ap (changed part (erase ∷ [])) s.memories) refl refl refl refl refl)
 
--- a byte that is read changes nothing
+-- reading a byte changes nothing
 pub fuse_read_after : (f : Fuse) (p : Programmer) → p.mode ≡ true → device.after (body (read_fuse f)) p ≡ p
 fuse_read_after Low p e = in_mode_is p _ _ e
 fuse_read_after _ p e = in_mode_is p _ _ e

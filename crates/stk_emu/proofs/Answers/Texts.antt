@@ -24,7 +24,7 @@ pub after_more : {P : Type 0} (m : Device P) (xs ys : List (List ℕ)) (p : P)
 after_more m [] ys p = refl
 after_more m (x ∷ xs) ys p = after_more m xs ys (after_frame m x p)
 
--- what an event tells of is a frame, and at most one
+-- an event of the reader gives at most one frame
 pub found_frames : (event : Event) (held : List ℕ) → TellsEvent event held
     → filter is_frame (frames_of_event event held) ≡ frames_of_event event held
 found_frames More held tells = refl
@@ -34,7 +34,7 @@ pub found_few : (event : Event) (held : List ℕ) → length (frames_of_event ev
 found_few More held = omega arith
 found_few _ held = omega arith
 
--- an answer is one to a frame that is held whole
+-- an answer belongs to a frame that is held whole
 pub answer_ends : (event : Event) (held out : List ℕ) (p : Programmer) → TellsEvent event held
     → out ≡ answers device (frames_of_event event held) p → 0 < length out → HoldsFrame held
 answer_ends More held out p tells e some = absurd (let none : length out ≡ 0 = ap length e in omega (arith, none, some))
@@ -47,7 +47,7 @@ frames_fed old used new fs text fed are stands =
     rw (fed.pieces text stands, filter-append is_frame (cut text) (fed.skipped ++ fs))
     (rw (filter-append is_frame fed.skipped fs, fed.no_frames, are) refl)
 
--- where nothing is answered no frame ended
+-- without an answer no frame ended
 pub none_found : (event : Event) (held : List ℕ) (p : Programmer) → answers device (frames_of_event event held) p ≡ []
     → event ≡ More
 none_found More held p e = refl
@@ -63,7 +63,7 @@ appends_none machine before = record {
   obeyed = refl;
 }
 
--- what one call answers, appended
+-- the answers of one call, appended
 pub appends_one : (old new : Machine) (used out before after : List ℕ) → Answers old used new out
     → after ≡ before ++ out → AppendsAnswers old used new before after
 appends_one old new used out before after a is = record {
@@ -89,7 +89,7 @@ appends_both old mid new x y a b c first then = record {
   obeyed = rw (then.obeyed, first.obeyed, after_more device first.found then.found old.programmer) refl;
 }
 
--- after the first n bytes, so many more
+-- after the first `n` bytes, `used` more
 pub appends_on : (bytes : List ℕ) (n used : ℕ) (old mid new : Machine) (a b c : List ℕ)
     → AppendsAnswers old (take n bytes) mid a b → AppendsAnswers mid (take used (drop n bytes)) new b c
     → AppendsAnswers old (take (n + used) bytes) new a c

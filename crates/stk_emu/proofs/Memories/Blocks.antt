@@ -39,7 +39,7 @@ pub record LooksOn (before : List ℕ) (whole : List ℕ × ChipState) (out : Li
   pub bytes : out ++ more.0 ≡ before ++ whole.0
   pub chip : more.1 ≡ whole.1
 
--- one byte more was read: an instruction was sent, and its fourth byte out put after those so far
+-- one more byte was read: an instruction was sent, and the fourth byte received was put after those so far
 pub record PutsLook (x : List ℕ) (chip after : ChipState) (out new : List ℕ) : Type 0 where
   pub answer : List ℕ
   pub obeyed : (answer, after) ≡ spi_of x chip
@@ -74,7 +74,7 @@ module _ (before : List ℕ) (whole : List ℕ × ChipState) (cmd address i : �
       rw add-one (looked_on before whole (at_address cmd (byte_address address i) 0) chip after out new
       (eeprom_looks cmd address (suc i) m) (rw e at on) p)
 
--- A block was loaded, and written if that was asked for.
+-- A block was loaded, and written if that was requested.
 pub block_done : (code moved : ℕ) (fits : Bool) (p new : Programmer) (loads writes : List (List ℕ))
     (loaded written : ChipState) (out : List ℕ) → p.mode ≡ true → fits ≡ true → loaded ≡ sent_to loads p.chip
     → written ≡ sent_to writes loaded → new ≡ with_address_moved moved (record p { chip = written })

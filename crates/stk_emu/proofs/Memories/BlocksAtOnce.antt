@@ -16,7 +16,7 @@ cond_twice : (b : Bool) (y x e : ℕ) → cond b y (cond b x e) ≡ cond b y e
 cond_twice true y x e = refl
 cond_twice false y x e = refl
 
--- a load and an extended address know nothing of each other
+-- a load and an extended address don't affect each other
 loads_apart : (word i x y : ℕ) (bytes : List ℕ) (s : chip.ChipState)
     → record (loaded_in_turn word i bytes (record s { extended = x })) { extended = y }
     ≡ record (loaded_in_turn word i bytes s) { extended = y }
@@ -90,7 +90,7 @@ block_is_loads wide cmd a last (d ∷ ds) s loaded new done c some l answer is e
     rw (ext, extended_is wide last loaded, loaded_is, place, keeps_extended (a % 256) 0 bytes s)
     (sym (all_loads wide a 0 d ds s) ∙ ap (λ k. sent_to (flash_loads wide k a 0 bytes) s) (sym c))
 
--- where the extended address is right already, reading changes nothing
+-- if the extended address is right already, reading changes nothing
 all_looks : (wide : Bool) (a i n : ℕ) (s : chip.ChipState) → cond wide (a / 65536 % 256) s.extended ≡ s.extended
     → a < 2147483648 → a % 65536 * 2 + i + n ≤ 131072
     → flash_looks wide 0x20 a i n s ≡ (read_in_turn (a % 65536) i n s, s)

@@ -11,7 +11,7 @@ use Rattle.stk_emu.proofs.Memories.Pages.{extended_is, by_half, word_whole}
 one_more : (xs : List ℕ) (j n : ℕ) → j < length xs → get_or xs j 0 ∷ take n (drop (suc j) xs) ≡ take (suc n) (drop j xs)
 one_more xs j n l = ap (take (suc n)) (sym (drop-cons xs j 0 l))
 
--- what is read after an instruction whose answer is known
+-- the bytes read after an instruction whose answer is known
 pub look_by : (x : List ℕ) (s : chip.ChipState) {got : List ℕ × chip.ChipState}
     (more : chip.ChipState → List ℕ × chip.ChipState) → chip.spi_of x s ≡ got
     → look x s more ≡ (slice_index got.0 3 ∷ (more got.1).0, (more got.1).1)
@@ -38,7 +38,7 @@ pub record Looked (wide : Bool) (j n : ℕ) (s : chip.ChipState) (looked : List 
   pub kept : wide ≡ false → value ≡ s.extended
   pub is : looked.1 ≡ record s { extended = value }
 
--- where the byte of an address lies
+-- the place of an address's byte
 flash_place : (wide : Bool) (a i size : ℕ) (s : chip.ChipState) → s.part.flash_size ≡ size → a + i / 2 < 2147483648
     → a + i / 2 < 16777216 → a + i / 2 < size / 2
     → (wide ≡ false → (s.extended ≡ 0) × (a + i / 2 < 65536))
@@ -98,7 +98,7 @@ eeprom_looked a i (suc n) size s is long most fits =
     (ap (λ bs. (bs, s)) (ap (λ j. byte ∷ take n (drop j s.eeprom)) (let e : a + suc i ≡ suc (a + i) = omega arith in e)
     ∙ one_more s.eeprom (a + i) n (omega arith)))
 
--- whatever is read, nothing but the extended address changes
+-- whatever is read, only the extended address changes
 pub record Left (wide : Bool) (s t : chip.ChipState) : Type 0 where
   pub value : ℕ
   pub kept : wide ≡ false → value ≡ s.extended

@@ -51,7 +51,7 @@ and_in_twice image [] = refl
 and_in_twice [] (x ∷ xs) = refl
 and_in_twice (b ∷ image) (x ∷ xs) = ap₂ (λ y ys. y ∷ ys) (and_byte b x) (and_in_twice image xs)
 
--- no bytes at the end of an image don't matter
+-- gaps at the end of an image don't matter
 nothing_laid : (k : ℕ) (xs : List ℕ) → with_image (replicate k None) xs ≡ xs
 nothing_laid k [] = refl
 nothing_laid zero (x ∷ xs) = refl

@@ -25,7 +25,7 @@ use Rattle.stk_emu.proofs.Memories.LaidImages.{put, put_is, anded_in}
 use Rattle.stk_emu.proofs.Answers.Commands.{in_mode_is, obeys}
 use Rattle.stk_emu.proofs.Memories.Runs.{narrow_loaded}
 
--- whether the extended address is asked for
+-- whether the part needs the extended address
 abbrev pub is_wide : Part → Bool
 is_wide part = nat_lt 131072 part.flash_size
 
@@ -53,7 +53,7 @@ flash_loaded_at part start p few = elim (cases_Bool (nat_lt 131072 part.flash_si
   | inr narrow ↦ rw narrow (narrow_loaded (start / 2) p (omega arith))
 ]
 
--- and the byte that the address stands for
+-- and the byte of that address
 pub flash_address_back : (part : Part) (start : ℕ) → start < 4294967296 → start % 2 ≡ 0
     → flash_address part start % 2147483648 * 2 ≡ start
 flash_address_back part start few even = elim (cases_Bool (nat_lt 131072 part.flash_size)) [
@@ -111,7 +111,7 @@ flash_loaded wide a i half (d ∷ ds) s e each =
       is = one ∙ more.is;
     }
 
--- where byte j of a page goes
+-- the place of byte j of a page
 word_place : (n half j : ℕ) → 256 % (half * 2) ≡ 0 → j < half * 2 → n * half + j / 2 < 2147483648
     → (n * half + j / 2) % 2147483648 % 256 % half * 2 + j % 2 ≡ j
 word_place n half j whole within few =

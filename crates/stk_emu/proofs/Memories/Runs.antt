@@ -20,14 +20,14 @@ use Rattle.stk_emu.proofs.Memories.Blocks.{sent-append}
 use Rattle.stk_emu.proofs.Memories.LaidImages.{put, run_laid, length_put}
 use Rattle.stk_emu.proofs.Answers.Commands.{in_mode_is, obeys}
 
--- an address that asks for no extended one
+-- an address that needs no extended one
 pub narrow_loaded : (address : ℕ) (p : Programmer) → address < 2147483648
     → device.after (body (LoadAddress address)) p ≡ record p { address = address; wide = false }
 narrow_loaded address p few =
     ap (λ z. z.1) (obeys (LoadAddress address) p (let l : address < 4294967296 = omega arith in l))
     ∙ rw (mod-eq_of_lt few, lt-leb 2147483648 address few) refl
 
--- where byte k goes within a page that holds it
+-- the place of byte k within a page that holds it
 place_in : (address page k : ℕ) → 256 % page ≡ 0 → 0 < page → address % page + k < page → address + k < 2147483648
     → (address + k) % 2147483648 % 256 % page ≡ address % page + k
 place_in address page k whole some within few =

@@ -10,8 +10,8 @@ use Rattle.stk_emu.specs.declared.fate.TheConstants.{LARGEST_NOISE}
 use Rattle.stk_emu.specs.declared.programmer.TheConstants.{LARGEST_READ}
 use Rattle.stk_emu.specs.declared.arrival.TheConstants.{ROOM}
 
--- the most bytes that a request reads, the most noise that a line has at a time, and the room for all that one frame
--- can bring: three late answers, noise, and a silence
+-- the most bytes that a request reads, the most noise on a link at a time, and the room for all that one frame can
+-- bring: three late answers, noise and a timeout
 pub limits : (LARGEST_READ ≡ 272) × (LARGEST_NOISE ≡ 2048) × (ROOM ≡ 2892)
 limits = (refl, refl, refl)
 
@@ -48,7 +48,7 @@ poll_above_four = refl
 abbrev loaded : Programmer
 loaded = behind (0x06 ∷ 0x00 ∷ 0x00 ∷ 0x00 ∷ 0x00 ∷ []) entered
 
--- a page that is loaded, and not written, is lost with programming mode
+-- a page that is loaded but not written is lost with programming mode
 pub load_is_lost : restarted_programmer (behind
     (0x13 ∷ 0x00 ∷ 0x02 ∷ 0x41 ∷ 0x0A ∷ 0x40 ∷ 0x4C ∷ 0x20 ∷ 0xFF ∷ 0xFF ∷ 0x12 ∷ 0x34 ∷ []) loaded) ≡ start
 load_is_lost = refl

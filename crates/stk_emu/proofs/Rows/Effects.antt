@@ -23,7 +23,7 @@ erases_all = refl
 keeps_eeprom : effect m328p Erase (small 0xD1 0xFC) ≡ record (small 0xD1 0xFF) { flash = 0xFF ∷ 0xFF ∷ [] }
 keeps_eeprom = refl
 
--- flash takes only zeros, and keeps what the image doesn't hold
+-- flash takes only zeros, and keeps the bytes for which the image has none
 ands_flash : effect m328p (Write Flash (Some 0xF0 ∷ None ∷ [])) (small 0xD9 0xFF)
     ≡ record (small 0xD9 0xFF) { flash = 0xF0 ∷ 0x0F ∷ [] }
 ands_flash = refl

@@ -18,7 +18,7 @@ use Rattle.stk_emu.specs.Wire.{IsLawfulFate, first_fate, turn_of, back, let_go, 
 use Rattle.stk_emu.specs.Lawful.{IsLawful, IsBody, Late, none_late, behind_late, waiting, later, IsPast, IsClear}
 use Rattle.stk_emu.specs.Turn.{after_turn, turn_reading}
 
--- no good frame, no answer
+-- without a good frame there is no answer
 none_good : (n : ℕ) (pieces : List (List ℕ)) → filter is_good pieces ≡ [] → first_answer n pieces ≡ None
 none_good n [] e = refl
 none_good n (piece ∷ pieces) e = elim (cases_Bool (is_good piece)) [
@@ -29,14 +29,14 @@ none_good n (piece ∷ pieces) e = elim (cases_Bool (is_good piece)) [
 frame_cut : (n : ℕ) (bytes more : List ℕ) → IsBody bytes → cut (frame n bytes ++ more) ≡ frame n bytes ∷ cut more
 frame_cut n bytes more b = cut_first (frame n bytes) more (frame_is_piece n bytes b.some b.few)
 
--- a frame of another sequence is passed over
+-- a frame of another sequence is skipped
 other_frame : (n seq : ℕ) (bytes : List ℕ) → seq ≢ n → is_answer n (frame seq bytes) ≡ false
 other_frame n seq bytes other = and_right (is_good (frame seq bytes)) (seq == n) (ne_eqb seq n other)
 
 own_frame : (n : ℕ) (bytes : List ℕ) → IsBody bytes → is_answer n (frame n bytes) ≡ true
 own_frame n bytes b = and_from _ _ (frame_is_good n bytes b.some) (eq-eqb n n refl)
 
--- Bytes that are passed over: after them others are judged as by themselves.
+-- Bytes that are skipped: those after them are judged as if alone.
 pub record Skipped (n : ℕ) (prefix : List ℕ) : Type 0 where
   pub first : (more : List ℕ) → first_answer n (cut (prefix ++ more))
       ≡ further (length prefix) (first_answer n (cut more))
@@ -140,8 +140,8 @@ answered_body : {P : Type 0} (m : Device P) (n : ℕ) (bytes : List ℕ) (p : P)
     → answer_body m (frame n bytes) p ≡ m.answer bytes p
 answered_body m n bytes p b = rw (frame_is_good n bytes b.some, body_of_frame n bytes) refl
 
--- The arrival: of a frame of sequence n it is read whole, and nothing else; the answer is the programmer's, the
--- refusal, or a silence.
+-- The arrival of a frame of sequence n is read whole, and nothing else. The answer is the programmer's, the refusal, or
+-- a timeout.
 pub arrival_read : {P : Type 0} (m : Device P) (n : ℕ) (bytes : List ℕ) (w : Wire P) (more : Tape) → IsBody bytes
     → IsBody (m.answer bytes w.programmer) → IsClear n w.late → IsLawfulFate (first_fate w.fates)
     → answer n (arrival m (frame n bytes) w ++ more)

@@ -1,4 +1,4 @@
--- What a wire keeps, as frames pass and items are heard.
+-- What a wire keeps, as frames pass and items are received.
 use Rattle.std.proofs.Common.{◌≡◌, ℕ, List, [], ◌∷◌, ◌++◌, length, drop, refl, ap, sym, ◌∙◌, subst, append_assoc}
 use Rattle.std.proofs.lemmas.List.{append-nil, take-append-drop}
 use Rattle.stk_frame.specs.Cut.{frames}
@@ -24,7 +24,7 @@ pub wire_more : {P : Type 0} (m : Device P) (xs ys : List (List ℕ)) (w : Wire 
 wire_more m [] ys w = refl
 wire_more m (x ∷ xs) ys w = wire_more m xs ys (wire_behind m x w)
 
--- nobody listened idly before, if nobody did up to now
+-- if nobody listened idly up to now, nobody did before
 never_before : (p : Programmer) (fates : List Fate) (transcript more : Transcript)
     → NeverIdle p fates (transcript ++ more)
     → NeverIdle p fates transcript
@@ -55,7 +55,7 @@ keeps_passing old new used p fates passes keeps =
           (append_assoc (heard old.transcript) old.waits (tape_of device passes.found old.wire)));
     }
 
--- what was heard next stood first among what waited, unless nothing waited
+-- the items received next were the first of those that waited, unless nothing waited
 heard_then : (p : Programmer) (fates : List Fate) (old : WiredState) (items : Tape) (waits : Tape) → old.waits ≡ waits
     → IsNext items waits → FollowsFates p fates old
     → NeverIdle p fates (old.transcript ++ Got items ∷ []) → items ++ drop (length items) waits ≡ waits
@@ -82,7 +82,7 @@ keeps_hearing old items p fates next keeps =
           (rw (heard_then p fates old items old.waits refl next keeps never) refl));
     }
 
--- a state with what was heard, part by part
+-- a state with the items received, part by part
 pub heard_state : (w : WiredState) (transcript : Transcript) (waits items : Tape)
     → transcript ≡ w.transcript ++ Got items ∷ []
     → waits ≡ drop (length items) w.waits

@@ -42,7 +42,7 @@ noise_next old new noise at used fs part bad stands none =
       good_fed old (take used (drop at noise)) new fs (take at noise) fed stands none ∙ bad,
     )
 
--- a good one was found
+-- a good frame was found
 pub good_next : (old new noise : List ℕ) (at used : ℕ) (fs : List (List ℕ))
     → Fed old (take used (take (length noise - at) (drop at noise))) new fs → (fs ≡ new ∷ []) × (is_good new ≡ true)
     → MayHold old (take at noise) → filter is_good (cut (take at noise)) ≡ []

@@ -18,7 +18,7 @@ item_at [] i = refl
 item_at (x ∷ items) zero = refl
 item_at (x ∷ items) (suc i) = item_at items i
 
--- one byte more is taken
+-- one more byte is taken
 pub taken_next : (items : List (Option ℕ)) (buffer : List ℕ) (count b : ℕ) → count < length buffer
     → count < length items → get_or items count None ≡ Some b
     → on_tape (take count buffer) ≡ take count (tape_in items)
@@ -28,12 +28,12 @@ taken_next items buffer count b h k is taken =
     rw (take_more_set buffer count b h, map_push Byte (take count buffer) b, taken)
     (rw (take_more (tape_in items) count Silence inside, item_at items count, is) refl)
 
--- what is left where so many are heard
+-- what is left after the first `count` are received
 pub left_on : (items old : List (Option ℕ)) (at next count : ℕ) → drop next items ≡ drop count (drop at old)
     → tape_in (drop next items) ≡ drop count (tape_in (drop at old))
 left_on items old at next count e = ap tape_in e ∙ sym (drop-map item_of count (drop at old))
 
--- more waits, after what waited
+-- more items wait, after those that waited
 pub grown : (waits new brought : List (Option ℕ)) (at : ℕ) (tape : Tape) → at ≤ length waits → new ≡ waits ++ brought
     → tape_in brought ≡ tape
     → tape_in (drop at new) ≡ tape_in (drop at waits) ++ tape

@@ -1,4 +1,4 @@
--- A dialog that says nothing beside the line, as a part of one that does: laws for the crates above.
+-- A dialog without output, as a part of one with output: laws for the crates above.
 use Rattle.std.proofs.Common.{◌≡◌, ℕ, List, [], ◌∷◌, ◌++◌, refl, sym, ap, ◌∙◌, Some, None}
 use Rattle.stk_frame.specs.Frame.{frame}
 use Rattle.stk_host.specs.declared.fault.Broken.{Broken}
@@ -9,7 +9,7 @@ use Rattle.stk_host.specs.Dialog.{Dialog, Done, Say, Ask, lifted, Event, Frame, 
 use Rattle.stk_host.specs.Play.{Progress, IsDue, InTurn, Plays, BreaksBy}
 use Rattle.stk_host.proofs.Transcripts.InDialogs.{turns_behind}
 
--- events among which nothing is said
+-- events without output
 abbrev pub raised : {E : Type 0} → List (Event ⊥) → List (Event E)
 raised [] = []
 raised (Frame bytes ∷ events) = Frame bytes ∷ raised events

@@ -8,35 +8,35 @@ use Rattle.stk_host.specs.Steps.{Reply, Data, Again, Stop, attempt, StepOutcome,
 use Rattle.stk_host.proofs.Dialogs.Bound.{bind_done}
 
 -- The other side, by a state: what is read at each move that it may make at a question, and the state after it. The
--- state is whatever a proof wants to know: a programmer, or what is left of a budget.
+-- state is whatever a proof needs, such as a programmer, or what is left of a budget.
 pub record World (S M : Type 0) : Type 0 where
   pub reads : List ℕ → S → M → Reading
   pub after : List ℕ → S → M → S
 
 module _ {E S M : Type 0} (w : World S M) (Asks : List ℕ → S → Type 0) (Says : E → S → Type 0) where
-  -- From this state on, each question and each output event is made only if its condition holds, and each result is
-  -- reached only if its own does, whatever moves are made.
+  -- From this state on, whatever moves are made, each question and each output event comes only if its condition holds.
+  -- Each result comes only if its own does.
   abbrev pub HoldsFrom : {R : Type 0} → (R → S → Type 0) → Dialog E R → S → Type 0
   HoldsFrom After (Done r) s = After r s
   HoldsFrom After (Say e dialog) s = Says e s × HoldsFrom After dialog s
   HoldsFrom After (Ask bytes go_on) s =
       Asks bytes s × ((move : M) → HoldsFrom After (go_on (w.reads bytes s move)) (w.after bytes s move))
 
-  -- the same as a record: so that dialogs, conditions and states are found as implicit arguments
+  -- The same as a record, so that dialogs, conditions and states are found as implicit arguments.
   pub record Upholds {R : Type 0} (After : R → S → Type 0) (dialog : Dialog E R) (s : S) : Type 0 where
     pub holds : HoldsFrom After dialog s
 
--- a call says nothing beside the line
+-- a call has no output
 abbrev pub NoSays : {S : Type 0} → ⊥ → S → Type 0
 NoSays e s = ⊥
 
--- after an attempt: what stands where another one may follow, else what the step comes to
+-- after an attempt: what holds if another may follow, else the condition of the step's outcome
 abbrev pub OnReply : {S : Type 0} → (S → Type 0) → (StepOutcome → S → Type 0) → Reply → S → Type 0
 OnReply Stands After (Data bytes) s = After (Ok bytes) s
 OnReply Stands After (Again fault) s = Stands s
 OnReply Stands After (Stop fault) s = After (Err fault) s
 
--- after a step: what stands after its data, else what all comes to
+-- after a step: what holds after its data, else the condition of the whole outcome
 abbrev pub OnOutcome : {S : Type 0} → (List ℕ → S → Type 0) → (StepOutcome → S → Type 0) → StepOutcome → S → Type 0
 OnOutcome Then After (Ok bytes) s = Then bytes s
 OnOutcome Then After (Err fault) s = After (Err fault) s
@@ -53,7 +53,7 @@ module _ {E S M : Type 0} (w : World S M) (Asks : List ℕ → S → Type 0) (Sa
     on_bind (Say e d) s h = (g e s h.0, on_bind d s h.1)
     on_bind (Ask bytes go_on) s h = (f bytes s h.0, λ move. on_bind (go_on _) (w.after bytes s move) (h.1 move))
 
-  -- a call, as a part of a dialog that says something too
+  -- a call, as a part of a dialog with output
   on_lifted : {R : Type 0} (After : R → S → Type 0) (d : Dialog ⊥ R) (s : S)
       → HoldsFrom w Asks NoSays After d s → HoldsFrom w Asks Says After (lifted d) s
   on_lifted After (Done r) s h = h
@@ -61,7 +61,7 @@ module _ {E S M : Type 0} (w : World S M) (Asks : List ℕ → S → Type 0) (Sa
   on_lifted After (Ask bytes go_on) s h = (h.0, λ move. on_lifted After (go_on _) (w.after bytes s move) (h.1 move))
 
 module _ {E S M : Type 0} {w : World S M} {Asks : List ℕ → S → Type 0} {Says : E → S → Type 0} where
-  -- a dialog that is done, one that says something first, and one that asks
+  -- a dialog that is done, one that begins with output, and one that asks
   pub done : {R : Type 0} {After : R → S → Type 0} {r : R} {s : S} → After r s → Upholds w Asks Says After (Done r) s
   done a = record { holds = a }
 
@@ -74,7 +74,7 @@ module _ {E S M : Type 0} {w : World S M} {Asks : List ℕ → S → Type 0} {Sa
       → Upholds w Asks Says After (Ask bytes go_on) s
   ask f l = record { holds = (f, λ move. (l move).holds) }
 
-  -- one dialog, and the next one from where it comes to its result
+  -- one dialog, then the next one from its result
   pub bind : {A B : Type 0} {Between : A → S → Type 0} {After : B → S → Type 0} {d : Dialog E A} {next : A → Dialog E B}
       {s : S} → Upholds w Asks Says Between d s → ((a : A) (t : S) → Between a t → Upholds w Asks Says After (next a) t)
       → Upholds w Asks Says After (d >>= next) s
@@ -82,7 +82,7 @@ module _ {E S M : Type 0} {w : World S M} {Asks : List ℕ → S → Type 0} {Sa
     holds = on_bind w Asks Says Asks Says Between After next (λ b t x. x) (λ e t x. x) more d s l.holds;
   }
 
-  -- a result that is only reported otherwise
+  -- a result that is only reported in another form
   pub told : {A B : Type 0} {Between : A → S → Type 0} {After : B → S → Type 0} {d : Dialog E A} {s : S} (tell : A → B)
       → Upholds w Asks Says Between d s → ((a : A) (t : S) → Between a t → After (tell a) t)
       → Upholds w Asks Says After (d >>= (λ a. Done (tell a))) s
@@ -106,8 +106,8 @@ module _ {S M : Type 0} (w : World S M) (Asks : List ℕ → S → Type 0) where
   abbrev Calls : {R : Type 0} → (R → S → Type 0) → Dialog ⊥ R → S → Type 0
   Calls After d s = Upholds w Asks NoSays After d s
 
-  -- Attempts: what stands before each, by how many are left, stands after one that may be begun again, and with no
-  -- more of them it is what a fault may leave.
+  -- Attempts, with a condition before each, by how many are left. It holds after an attempt that may be repeated; with
+  -- none left it becomes the condition of a fault.
   module _ (commands : List Command) (Stands : ℕ → S → Type 0) (After : StepOutcome → S → Type 0)
       (once : (more : ℕ) (t : S) → Stands (suc more) t → Calls (OnReply (Stands more) After) (attempt commands []) t)
       (none : (fault : StepFault) (t : S) → Stands 0 t → After (Err fault) t) where
@@ -123,7 +123,7 @@ module _ {S M : Type 0} (w : World S M) (Asks : List ℕ → S → Type 0) where
     attempts zero fault s stands = done (none fault s stands)
     attempts (suc more) fault s stands = bind (once more s stands) (by_reply more (attempts more))
 
-  -- what a fault leaves is left, and with data the next dialog goes on
+  -- a fault keeps its condition, and with data the next dialog goes on
   pub on_data : {Then : List ℕ → S → Type 0} {After : StepOutcome → S → Type 0} (go_on : List ℕ → Dialog ⊥ StepOutcome)
       → ((bytes : List ℕ) (t : S) → Then bytes t → Calls After (go_on bytes) t)
       → (outcome : StepOutcome) (t : S) → OnOutcome Then After outcome t → Calls After (if_done go_on outcome) t

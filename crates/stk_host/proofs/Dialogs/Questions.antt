@@ -133,7 +133,7 @@ pub done_most : (n : ℕ) (go_on : List ℕ → Dialog ⊥ StepOutcome) (outcome
 done_most n go_on (Ok bytes) f = f bytes
 done_most n go_on (Err fault) f = tt
 
--- a step, and then the dialog that its data choose
+-- a step, then the dialog that its data choose
 pub then_most : (commands : List Command) (steps : List (List Command)) (go_on : List ℕ → Dialog ⊥ StepOutcome)
     → ((bytes : List ℕ) → AsksAtMost (4 * commands_in steps) (go_on bytes))
     → AsksAtMost (4 * commands_in (commands ∷ steps)) (step commands >>= if_done go_on)

@@ -19,7 +19,7 @@ drop_at xs at none there = rw add-one (drop-cons xs at none there)
 abbrev decided : Bool → ℕ → ℕ → ℕ → Option Difference → Option Difference
 decided same addr want found later = if same then later else Some (record { addr = addr; want = want; found = found })
 
--- the bytes of a run, as an image holds them
+-- the bytes of a run, in the form of an image
 abbrev pub held_as : List ℕ → List (Option ℕ)
 held_as run = map (λ byte. Some byte) run
 
@@ -91,7 +91,7 @@ among-runs addr (Some b ∷ image) bytes there =
     rw (among-onto addr b (runs (addr + 1) image) bytes (omega (arith, there)))
     (rw (among-runs (addr + 1) image bytes (omega (arith, there)), drop_at bytes addr 0 (omega (arith, there))) refl)
 
--- what lies after the image is not compared
+-- bytes after the image aren't compared
 pub within_image : (addr : ℕ) (image : List (Option ℕ)) (bytes : List ℕ)
     → difference_from addr image (take (length image) bytes) ≡ difference_from addr image bytes
 within_image addr [] bytes = refl

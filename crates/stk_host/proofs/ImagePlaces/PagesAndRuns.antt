@@ -1,4 +1,4 @@
--- Which places have steps: the pages that are used, and the bytes at which runs begin, up to the next of them.
+-- Which places have steps: the pages that are used, and the first byte of each run.
 use Rattle.std.proofs.Common.{◌≡◌, ◌∙◌, sym, ap, subst, refl, arith, ℕ, suc, zero, ◌+◌, ◌-◌, ◌*◌, ◌/◌, ◌%◌, ◌<◌, ◌≤◌, List, [], ◌∷◌, ◌++◌, length, get_or, take, drop, true, false, Option, None, is_some, inl, inr, ◌⊎◌}
 use Rattle.std.specs.Prelude.{◌==◌}
 use Rattle.std.proofs.lemmas.Bool.{cases_Bool, cases_lt, eqb-true}
@@ -113,7 +113,7 @@ pub record IsNextRun (part : Part) (image : List (Option ℕ)) (next start end :
       ≡ run_step part image start ∷ each_from (run_steps_at part image) end (part.eeprom_size - end)
   pub border : (end % part.eeprom_page ≡ 0) ⊎ (byte_at image end ≡ None)
 
--- places without steps are passed over
+-- places without steps are skipped
 skip_steps : (steps_at : ℕ → List (List Command)) (place count here : ℕ) → place ≤ here → here ≤ place + count
     → ((i : ℕ) → place ≤ i → i < here → steps_at i ≡ [])
     → each_from steps_at place count ≡ each_from steps_at here (place + count - here)

@@ -1,4 +1,4 @@
--- Commands, attempts and steps, as the code goes through them.
+-- Commands, attempts and steps, in the order of the code.
 use Rattle.std.proofs.Common.{◌≡◌, ℕ, zero, suc, List, [], ◌∷◌, ◌++◌, refl, ◌∙◌, Ok, Err, Result, arith}
 use Rattle.stk_frame.specs.declared.command.Command.{Command}
 use Rattle.stk_frame.specs.Frame.{frame}
@@ -59,7 +59,7 @@ exchange_unheard seq command {u = u} {o = o} {p = p} {q = q} says hears = record
       says.quiet says.bytes_sent hears.waits hears.no_answer;
 }
 
--- an attempt, whose next command was sent and answered
+-- an attempt whose next command was sent and answered
 
 attempt_on : (command : Command) (commands : List Command) (before : List ℕ) {seq n : Progress} {o q : LinkState}
     (reply : Reply) → PlaysOver (exchange command) seq o q reply n
@@ -90,7 +90,7 @@ gets_one last m o q (Ok reply) after f =
 gets_one last m o q (Err broken) after f =
     record { ok = tt; err = attempt_off last [] f.err; sized = f.sized; counts = f.counts; bound = f.bound }
 
--- one of two, whose first command was answered and brought nothing
+-- an attempt of two commands, whose first was answered and brought nothing
 pub gets_last : (first last : Command) (m n : Progress) (o p q : LinkState) (was : said.Reply) (none : List ℕ)
     (result : Result said.Reply Broken) (after : ConversationState)
     → PlaysOver (exchange first) m o p (reply_of was none) n → was ≡ replies.Data → none ≡ []
@@ -121,7 +121,7 @@ gets_last first last m n o p q was none result after f is nothing same g =
       bound = e.bound;
     }
 
--- and one whose first command brought no data
+-- an attempt whose first command brought no data
 pub gets_short : (first last : Command) (was : said.Reply) (none bytes : List ℕ) {m n : Progress} {o p : LinkState}
     → PlaysOver (exchange first) m o p (reply_of was none) n → (was ≡ replies.Data → ⊥)
     → PlaysOver (attempt (first ∷ last ∷ []) []) m o p (reply_of was bytes) n
@@ -146,7 +146,7 @@ tries_off : {by : Broken} (more : ℕ) (commands : List Command) (last : StepFau
 unfolding tries
 tries_off more commands last f = broken_bind (end_or_again (tries more commands)) f
 
--- as the code takes it: it has come so far, and an attempt is left
+-- in the form of the code: it has come this far, and an attempt is left
 module _ {a : Dialog ⊥ StepOutcome} {l seq : Progress} {j o : LinkState} {k : ℕ} (more : ℕ) (commands : List Command)
     (last : StepFault) (count : k ≡ suc more) (come : Reaches a l j (tries k commands last) seq o) where
   next_try : Reaches a l j (tries (suc more) commands last) seq o

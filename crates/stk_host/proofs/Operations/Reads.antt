@@ -1,4 +1,4 @@
--- What the steps bring that read a memory.
+-- What the steps that read a memory bring.
 use Rattle.std.proofs.Common.{◌≡◌, ℕ, ◌+◌, ◌*◌, ◌<◌, ◌≤◌, lit≤, arith}
 use Rattle.std.specs.Prelude.{min}
 use Rattle.avr_part.specs.declared.part.Mem.{Mem}
@@ -11,7 +11,7 @@ use Rattle.stk_host.specs.Calls.{step_brings}
 abbrev pub read_before : Part → Mem → ℕ → ℕ
 read_before part mem number = min (number * read_unit mem) (size_of mem part)
 
--- what one step more brings
+-- what one more step brings
 pub record BringsMore (part : Part) (mem : Mem) (number : ℕ) : Type 0 where
   pub more : read_before part mem (number + 1) ≡ read_before part mem number + step_brings (read_at part mem number)
   pub within : read_before part mem (number + 1) ≤ size_of mem part

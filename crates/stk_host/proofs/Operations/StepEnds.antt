@@ -1,4 +1,4 @@
--- One step after another, from what each call ensures.
+-- One step after another, by the clauses of each call.
 use Rattle.std.proofs.Common.{◌≡◌, refl, ℕ, Bool, false, if◌then◌else◌, List, [], ◌∷◌, ◌++◌, Ok, Err, Result}
 use Rattle.std.specs.Str.{bytes_eq}
 use Rattle.stk_frame.specs.declared.command.Command.{Command}
@@ -33,7 +33,7 @@ pub stops_there : (a : Dialog ⊥ StepOutcome) (go_on : List ℕ → Dialog ⊥ 
 stops_there a go_on m n o p (Fault fault) e = played_from (then_reaches (if_done go_on) e)
 stops_there a go_on m n o p (Link broken) e = broken_bind (if_done go_on) e
 
--- steps that came to their data
+-- steps that brought their data
 pub goes_on : {a : Dialog ⊥ StepOutcome} {m n : Progress} {o p : LinkState} (go_on : List ℕ → Dialog ⊥ StepOutcome)
     (bytes : List ℕ)
     → PlaysOver a m o p (Ok bytes) n → Reaches (a >>= if_done go_on) m o (go_on bytes) n p
@@ -59,9 +59,9 @@ pub play_done : (bytes : List ℕ) {a : Dialog ⊥ StepOutcome} {m n : Progress}
 unfolding play
 play_done bytes f = played_from f
 
--- what the outcome of steps is judged to be
+-- how the outcome of steps is judged
 
--- a fault of a step, as the host tells it, is no fault of the link
+-- a fault of a step, as the host reports it, is not a fault of the link
 told_ends : {A : Type 0} (dialog : Dialog ⊥ (Result A HostFault)) (fault : StepFault) (m n : Progress) (o p : LinkState)
     → PlaysOver dialog m o p (Err (host_fault fault)) n → EndsCall dialog m o p (Err (host_fault fault)) n
 told_ends dialog of_step.NoAnswer m n o p e = e
@@ -78,7 +78,7 @@ stop_ends first judge told (Fault fault) m n o p e =
 stop_ends first judge told (Link broken.Send) m n o p e = broken_bind (λ outcome. Done (judge outcome)) e
 stop_ends first judge told (Link broken.Recv) m n o p e = broken_bind (λ outcome. Done (judge outcome)) e
 
--- a signature is judged good or wrong, and this is no fault of the link
+-- a signature is judged right or wrong; neither is a fault of the link
 judged_ends : {dialog : Dialog ⊥ (Result (List ℕ) HostFault)} {m n : Progress} {o p : LinkState} (wanted found : List ℕ)
     (force same : Bool)
     → PlaysOver dialog m o p (if force then Ok found else if same then Ok found else Err (WrongSignature found)) n

@@ -34,7 +34,7 @@ pub counted_data : (of : Shape) (bytes : List ℕ) → IsSizedShape of → Sized
 counted_data Name bytes counted sized = absurd counted
 counted_data _ bytes counted sized = sized
 
--- a step that was played goes on with those that follow
+-- a step that was run goes on with those that follow
 pub goes_with : (commands : List Command) (before bytes : List ℕ) {m n : Progress} {o p : LinkState}
     → PlaysOver (step commands) m o p (Ok bytes) n
     → EndsInnerStep (with_step commands before) (without_step (before ++ bytes)) m o p (Ok tt) n
@@ -92,7 +92,7 @@ pub passes : {these : List (List Command)} (m : Progress) (o : LinkState) → th
     → EndsInnerStep (with_steps these []) (without_step []) m o o (Ok tt) m
 passes m o none = λ steps. rw none (reaches_here (play steps []) m o)
 
--- the places are at their end
+-- after the last place
 pub plays_all : {a : Dialog ⊥ StepOutcome} {k m : Progress} {r o : LinkState} (steps_at : ℕ → List (List Command))
     (place end : ℕ) {before : List ℕ}
     → Reaches a k r (play (each_from steps_at place (end - place)) before) m o → end ≤ place
@@ -101,9 +101,9 @@ plays_all steps_at place end {before = before} come past =
     let none : end - place ≡ 0 = omega (arith, past) in
     play_done before (rw none at come)
 
--- what an operation comes to, from what its steps come to
+-- the outcome of an operation, from the outcome of its steps
 
--- a stop, as the host tells it
+-- a stop, as the host reports it
 told_ends : {A : Type 0} (steps : List (List Command)) (judge : List ℕ → Result A HostFault) (stop : Stop)
     (m n : Progress) (o p : LinkState)
     → StopsSteps (play steps []) m o p stop n → EndsCall (operation steps judge) m o p (Err (fault_of_stop stop)) n
@@ -136,7 +136,7 @@ pub writes_nothing : (part : Part) (mem : Mem) (image : List (Option ℕ)) (m : 
 writes_nothing part mem image m o cannot =
     rw cannot (played_from (reaches_here (Done (Err (ReadOnly mem))) m o))
 
--- a stop is no want of memory
+-- a stop is not a failed allocation
 not_lacking : {A : Type 0} (dialog : Dialog ⊥ (Result A HostFault)) (stop : Stop) (m n : Progress) (o p : LinkState)
     → EndsCall dialog m o p (Err (fault_of_stop stop)) n → EndsOrLacks dialog m o p (Err (fault_of_stop stop)) n
 not_lacking dialog (Fault of_step.NoAnswer) m n o p e = e
@@ -178,7 +178,7 @@ begins_at steps_at count before m o =
     let all : count - 0 ≡ count = omega arith in
     rw all (reaches_here (play (each_from steps_at 0 count) before) m o)
 
--- how many bytes are kept of a memory that was read
+-- the number of bytes kept of a memory that was read
 
 pub read_sized : (taken : Result (Unit {0}) Stop) (items : List ℕ) (n : ℕ) → OnOk taken (length items ≡ n)
     → OnOk (closing_result taken) (length (vector_after (closing_result taken) items) ≡ n)

@@ -12,7 +12,7 @@ use Rattle.stk_host.specs.Operations.{closing}
 use Rattle.stk_host.specs.Calls.{EndsCall}
 use Rattle.stk_host.proofs.Transcripts.InDialogs.{bytes_append}
 
--- what broke off in a frame has sent less than its play sends
+-- a call that broke off in a frame has sent less than its run sends
 pub sent_less : {E R : Type 0} {dialog : Dialog E R} {before : Progress} {transcript : Transcript}
     {shown : List (Event E)}
     → BreaksSending dialog before transcript shown
@@ -39,7 +39,7 @@ never_both f g =
     let all = ap length (sym g.all_sent ∙ ap bytes_sent g.shown_is) in
     omega (arith, less, all)
 
--- a link by what passed over it
+-- a link with this transcript
 abbrev showing : Transcript → LinkState
 showing transcript = record { transcript = transcript; failures = 0 }
 
@@ -58,7 +58,7 @@ sixth = progress_at 6 []
 abbrev leaving : List ℕ
 leaving = 0x1B ∷ 0x06 ∷ 0x00 ∷ 0x03 ∷ 0x0E ∷ 0x11 ∷ 0x01 ∷ 0x01 ∷ 0x01 ∷ []
 
--- the frame was sent, and its answer not heard
+-- the frame was sent, and its answer not received
 pub unheard : EndsCall closing sixth (showing []) (showing (Sent leaving ∷ [])) (Err RecvFailed) sixth
 unfolding exchange attempt tries answer closing
 unheard = record {
@@ -68,12 +68,12 @@ unheard = record {
   breaks = record { waits = refl; shown_is = refl; all_sent = refl; in_turn = tt };
 }
 
--- which is no failure to send it
+-- that is not a failure to send it
 pub not_unsent : (after : Progress) → EndsCall closing sixth (showing []) (showing (Sent leaving ∷ [])) (Err SendFailed)
     after → ⊥
 not_unsent after f = never_either closing sixth (Sent leaving ∷ []) f unheard
 
--- two bytes of it were sent
+-- two bytes of the frame were sent
 pub unsent : EndsCall closing sixth (showing []) (showing (Sent (0x1B ∷ 0x06 ∷ []) ∷ [])) (Err SendFailed) sixth
 unfolding exchange attempt tries answer closing
 unsent = record {
@@ -93,12 +93,12 @@ unsent = record {
   };
 }
 
--- which is no failure to hear its answer
+-- that is not a failure to receive its answer
 pub not_unheard : (after : Progress) → EndsCall closing sixth (showing []) (showing (Sent (0x1B ∷ 0x06 ∷ []) ∷ []))
     (Err RecvFailed) after → ⊥
 not_unheard after f = never_either closing sixth (Sent (0x1B ∷ 0x06 ∷ []) ∷ []) unsent f
 
--- nothing was sent at all, and nothing heard
+-- nothing was sent, and nothing received
 pub unsent_at_all : EndsCall closing sixth (showing []) (showing []) (Err SendFailed) sixth
 unfolding exchange attempt tries answer closing
 unsent_at_all = record {
@@ -121,7 +121,7 @@ unsent_at_all = record {
 pub not_unasked : (after : Progress) → EndsCall closing sixth (showing []) (showing []) (Err RecvFailed) after → ⊥
 not_unasked after f = never_either closing sixth [] unsent_at_all f
 
--- who listens before the frame is sent whole isn't in turn
+-- listening before the frame is sent whole isn't in turn
 pub not_early : InTurn closing sixth (Sent (0x1B ∷ 0x06 ∷ []) ∷ (Got (Silence ∷ []) ∷ [])) → ⊥
 unfolding exchange attempt tries answer closing
 not_early in_turn = let all : leaving ≡ 0x1B ∷ 0x06 ∷ [] = in_turn.0.all_sent in absurd (cc)

@@ -14,11 +14,11 @@ use Rattle.stk_host.specs.WriteSteps.{write_steps}
 use Rattle.stk_host.specs.ReadSteps.{read_steps}
 use Rattle.stk_host.specs.Operations.{writing}
 
--- up to 128 KiB of flash sixteen bits number each word
+-- up to 128 KiB of flash, sixteen bits number each word
 pub narrow_flash : NARROW_FLASH ≡ 131072
 narrow_flash = refl
 
--- an address of flash counts words, and has bit 31 for a large part alone
+-- an address of flash counts words, and has bit 31 for a large part only
 pub loads_second_page : frame 9 (body (load_flash m328p 128))
     ≡ 0x1B ∷ 0x09 ∷ 0x00 ∷ 0x05 ∷ 0x0E ∷ 0x06 ∷ 0x00 ∷ 0x00 ∷ 0x00 ∷ 0x40 ∷ 0x5F ∷ []
 loads_second_page = refl
@@ -38,7 +38,7 @@ writes_pages = refl
 pub writes_no_page : write_steps m328p Flash [] ≡ []
 writes_no_page = refl
 
--- a gap ends a run, and so does a page
+-- both a gap and a page end a run
 pub writes_runs : write_steps (record m328p { eeprom_size = 12 }) Eeprom
     (Some 0x11 ∷ None ∷ Some 0x33 ∷ Some 0x44 ∷ Some 0x55 ∷ [])
     ≡ (load_eeprom 0 ∷ program_eeprom_block (0x11 ∷ []) ∷ [])

@@ -12,7 +12,7 @@ use Rattle.stk_frame.proofs.Cuts.{cut_append, cut_joined}
 use Rattle.stk_host.specs.declared.link.Item.TheVariants.{Byte, Silence, End}
 use Rattle.stk_host.specs.Tape.{Tape, on_tape, bytes_of, bytes_in, answer, read_to, silence_or_end, first_answer, is_answer, further, limit, Answered, Silent, Ended, Babbled}
 
--- the bytes of a tape after another's, and of one that has bytes alone
+-- the bytes of two tapes joined, and of a tape of bytes alone
 pub bytes_of_append : (x y : Tape) → bytes_of (x ++ y) ≡ bytes_of x ++ bytes_of y
 bytes_of_append [] y = refl
 bytes_of_append (Byte byte ∷ x) y = ap (λ bytes. byte ∷ bytes) (bytes_of_append x y)
@@ -64,7 +64,7 @@ pub answer_waits : (seq : ℕ) (x : List ℕ) → first_answer seq (cut x) ≡ N
     → answer seq (on_tape x) ≡ None
 answer_waits seq x none few = ap (answer seq) (sym (append-nil (on_tape x))) ∙ stopped_at seq x [] none few refl
 
--- where the limit is reached
+-- if the limit is reached
 pub answer_babbled : (seq : ℕ) (x : List ℕ) (more : Tape) → first_answer seq (cut x) ≡ None → length x ≡ limit
     → answer seq (on_tape x ++ more) ≡ Some (Babbled, more)
 answer_babbled seq x more none full =
@@ -116,7 +116,7 @@ first_answer_stays seq (x ∷ xs) ys found some = elim (cases_Bool (is_answer se
       rw is_not (ap (further (length x)) (first_answer_stays seq xs ys at.0 at.1 ∙ sym at.1) ∙ inner)
 ]
 
--- among pieces that are no frames there is no answer
+-- pieces that aren't frames contain no answer
 pub first_answer_skipped : (seq : ℕ) (xs : List (List ℕ)) → filter is_frame xs ≡ [] → first_answer seq xs ≡ None
 first_answer_skipped seq [] none = refl
 first_answer_skipped seq (x ∷ xs) none = elim (cases_Bool (is_frame x)) [
@@ -124,7 +124,7 @@ first_answer_skipped seq (x ∷ xs) none = elim (cases_Bool (is_frame x)) [
   | inr is_not ↦ rw is_not (ap (further (length x)) (first_answer_skipped seq xs (rw is_not at none)))
 ]
 
--- more bytes that bring no frame, or one that is no answer
+-- more bytes that bring no frame, or one that isn't the answer
 pub still_none : (seq : ℕ) (x y : List ℕ) (skipped found : List (List ℕ)) → first_answer seq (cut x) ≡ None
     → filter is_frame skipped ≡ [] → cut (x ++ y) ≡ cut x ++ (skipped ++ found) → first_answer seq found ≡ None
     → first_answer seq (cut (x ++ y)) ≡ None
@@ -143,7 +143,7 @@ now_found seq x y skipped frame none no_frames pieces is_it whole =
     (rw (first_answer_behind seq skipped (frame ∷ []) (first_answer_skipped seq skipped no_frames), is_it)
     (ap (λ n. Some (body_of frame, n)) (omega (arith, total))))
 
--- the answer, where the bytes end with it
+-- the answer, if the bytes end with it
 pub answer_found : (seq : ℕ) (x : List ℕ) (more : Tape) (body : List ℕ)
     → first_answer seq (cut x) ≡ Some (body, length x) → length x ≤ limit
     → answer seq (on_tape x ++ more) ≡ Some (Answered body, more)

@@ -8,7 +8,7 @@ use Rattle.stk_host.specs.Tape.{Tape, bytes_in, on_tape}
 use Rattle.stk_host.specs.Transcript.{items_of, FitsBuffer}
 use Rattle.stk_host.specs.Links.{byte_of, next_piece}
 
--- a byte after bytes alone is one of them
+-- if the tape has a byte at a place up to the end of its first bytes, it is one of them
 pub within_bytes : (tape : Tape) (i byte : ℕ) → i ≤ length (bytes_in tape) → byte_of (slice_get tape i) ≡ Some byte
     → i < length (bytes_in tape)
 within_bytes [] i byte le is = cc
@@ -26,7 +26,7 @@ next_byte (Byte b ∷ tape) (suc i) byte le is = ap (λ bytes. b ∷ bytes) (nex
 next_byte (item ∷ tape) zero byte le is = cc
 next_byte (item ∷ tape) (suc i) byte le is = absurd (omega arith)
 
--- where no byte stands after bytes alone, they end
+-- if the place after bytes has no byte, they end there
 pub no_byte : (tape : Tape) (i : ℕ) → i ≤ length (bytes_in tape) → byte_of (slice_get tape i) ≡ None
     → length (bytes_in tape) ≡ i
 no_byte [] i le is = omega arith
@@ -34,7 +34,7 @@ no_byte (Byte b ∷ tape) zero le is = cc
 no_byte (Byte b ∷ tape) (suc i) le is = ap suc (no_byte tape i (omega arith) is)
 no_byte (item ∷ tape) i le is = omega arith
 
--- one byte more is copied
+-- one more byte is copied
 pub copied_more : (tape : Tape) (buffer : List ℕ) (i byte : ℕ) → i < length buffer → i ≤ length (bytes_in tape)
     → byte_of (slice_get tape i) ≡ Some byte
     → take i buffer ≡ take i (bytes_in tape) → take (i + 1) (set buffer i byte) ≡ take (i + 1) (bytes_in tape)
@@ -51,13 +51,13 @@ copied_all tape buffer i room le is same =
     same ∙ take_all i (bytes_in tape) (omega (arith, e))
     ∙ sym (take_all (length buffer) (bytes_in tape) (omega (arith, e)))
 
--- what stands after a piece in its buffer is no part of it
+-- the bytes after a piece in its buffer aren't part of it
 pub piece_alone : (heard : Heard) (prefix back : List ℕ) → FitsBuffer heard (length prefix)
     → items_of heard (prefix ++ back) ≡ items_of heard prefix
 piece_alone (heard.Bytes n) prefix back fits = ap on_tape (take-append-le n prefix back fits.1)
 piece_alone _ prefix back fits = refl
 
--- the room for a piece, whose bytes replace the prefix of a buffer
+-- the room for a piece whose bytes replace the prefix of a buffer
 pub room_of : (prefix buffer : List ℕ) (cut most : ℕ) → most ≡ min cut (length buffer)
     → length prefix ≡ length (take most buffer)
     → length prefix ≡ min cut (length (prefix ++ drop most buffer))

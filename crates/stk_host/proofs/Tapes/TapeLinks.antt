@@ -31,7 +31,7 @@ bytes_given (suc most) (Byte b ∷ tape) = ap (λ (t : Tape). Byte b ∷ t) (byt
 bytes_given (suc most) (Silence ∷ tape) = refl
 bytes_given (suc most) (End ∷ tape) = refl
 
--- so many ends were given after the last item
+-- the number of ends given after the last item
 abbrev ends_of : Tape → ℕ
 ends_of [] = 1
 ends_of (item ∷ tape) = 0
@@ -80,7 +80,7 @@ of_tape_on a b c f g = record {
 since : (b c : TapeState) → IsOfTape b c → Stays IsOfTape b c
 since b c g = λ start f. of_tape_on start b c f g
 
--- nothing was heard
+-- nothing was received
 quiet_of_tape : (during : Transcript) (b c : TapeState) → heard during ≡ [] → c.left ≡ b.left
     → c.transcript ≡ b.transcript ++ during
     → Stays IsOfTape b c

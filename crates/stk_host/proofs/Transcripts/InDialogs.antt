@@ -1,4 +1,4 @@
--- How a talk goes on in a dialog: laws over talks alone.
+-- How a transcript goes on in a dialog: laws of transcripts alone.
 use Rattle.std.proofs.Common.{◌≡◌, ℕ, ◌<◌, List, [], ◌∷◌, ◌++◌, length, refl, sym, ap, ◌∙◌, subst, append_assoc, Option, Some, None}
 use Rattle.std.proofs.lemmas.List.{append-nil}
 use Rattle.stk_frame.specs.Frame.{frame}
@@ -11,13 +11,13 @@ use Rattle.stk_host.specs.Play.{Progress, progress_at, IsDue, TurnsFrom, InTurn,
 use Rattle.stk_host.specs.Reach.{TranscriptLeads, IsQuiet, WaitsFrom}
 use Rattle.stk_host.proofs.Transcripts.Laws.{sent_append, heard_append, heard_both, heard_quiet, sent_waiting}
 
--- plays
+-- runs
 
 abbrev pub continued : {E A B : Type 0} → Option (A × ℕ × Tape) → (A → ℕ → Tape → Played E B) → Played E B
 continued None go_on = record { events = []; outcome = None }
 continued (Some (a, seq, tape)) go_on = go_on a seq tape
 
--- a play, and then the play from its result
+-- a run, then the run from its result
 abbrev pub followed : {E A B : Type 0} → Played E A → (A → ℕ → Tape → Played E B) → Played E B
 followed p go_on = behind p.events (continued p.outcome go_on)
 
@@ -56,7 +56,7 @@ turns_quiet dialog seq tape bytes (Sent more ∷ transcript) quiet =
     turns_quiet dialog seq tape (bytes ++ more) transcript quiet
 turns_quiet dialog seq tape bytes (Got items ∷ transcript) quiet = absurd quiet
 
--- one talk after another
+-- one transcript after another
 pub turns_append : {E R : Type 0} (dialog : Dialog E R) (seq : ℕ) (tape : Tape) (bytes : List ℕ) (x y : Transcript)
     → TurnsFrom dialog seq tape bytes x → TurnsFrom dialog seq (tape ++ heard x) (bytes ++ sent x) y
     → TurnsFrom dialog seq tape bytes (x ++ y)
@@ -69,7 +69,7 @@ turns_append dialog seq tape bytes (Got items ∷ x) y f g = (
   turns_append dialog seq (tape ++ items) bytes x y f.1 (rw (← append_assoc tape items (heard x)) at g),
 )
 
--- where the one is due whenever the other is
+-- if the one is due whenever the other is
 module _ {E F A B : Type 0} (dialog : Dialog E A) (inner : Dialog F B) (m n : ℕ) (tape inner_tape : Tape)
     (before : List ℕ)
     (due : (x : Tape) (bytes : List ℕ) → IsDue inner n (inner_tape ++ x) bytes
@@ -94,7 +94,7 @@ module _ {E F A B : Type 0} (dialog : Dialog E A) (inner : Dialog F B) (m n : �
       (subst (λ s. TurnsFrom dialog m (tape ++ []) s transcript) (append-nil before)
       (turns_lift [] [] transcript (subst (λ t. TurnsFrom inner n t [] transcript) (sym (append-nil inner_tape)) f)))
 
--- a play that waits, whatever follows its dialog
+-- a run that waits, whatever follows its dialog
 waits_bind : {E A B : Type 0} (dialog : Dialog E A) (go_on : A → Dialog E B) (seq : ℕ) (x : Tape)
     → (played dialog seq x).outcome ≡ None
     → played (dialog >>= go_on) seq x ≡ record { events = (played dialog seq x).events; outcome = None }
@@ -149,7 +149,7 @@ begun_more SaidPart [] later more part = tt
 begun_more SaidPart (e ∷ []) (x ∷ later) more part = part
 begun_more SaidPart _ _ more part = absurd part
 
--- a prefix of the events is one where more follow
+-- a prefix of the events is a prefix if more follow
 pub prefix_more : {E : Type 0} (SaidPart : E → E → Type 0) {shown events : List (Event E)} (more : List (Event E))
     → IsPrefixOfEvents SaidPart shown events → IsPrefixOfEvents SaidPart shown (events ++ more)
 prefix_more SaidPart more f = record {
@@ -161,7 +161,7 @@ prefix_more SaidPart more f = record {
   part = begun_more SaidPart f.begun f.later more f.part;
 }
 
--- and one after others that happened whole
+-- and a prefix after events that happened whole
 pub prefix_behind : {E : Type 0} (SaidPart : E → E → Type 0) {shown events : List (Event E)} (before : List (Event E))
     → IsPrefixOfEvents SaidPart shown events → IsPrefixOfEvents SaidPart (before ++ shown) (before ++ events)
 prefix_behind SaidPart before f = record {
@@ -178,7 +178,7 @@ prefix_behind SaidPart before f = record {
 pub leads_here : {E R : Type 0} (dialog : Dialog E R) (m : Progress) → TranscriptLeads dialog m [] [] dialog m
 leads_here dialog m = record { goes_on = λ more. refl; all_sent = refl; in_turn = tt }
 
--- after a talk that leads on
+-- after a transcript that leads on
 module _ {E R : Type 0} {a b : Dialog E R} {m n : Progress} {x : Transcript} {events : List (Event E)}
     (f : TranscriptLeads a m x events b n) where
   -- what is due there
@@ -192,7 +192,7 @@ module _ {E R : Type 0} {a b : Dialog E R} {m n : Progress} {x : Transcript} {ev
             (rw due.all_sent refl);
       }
 
-  -- what is played over both talks, what they send, and that both listen in turn
+  -- the run over both transcripts, what they send, and that both listen in turn
   led : (y : Transcript) → played_over a m (x ++ y) ≡ behind events (played_over b n y)
   led y = ap (λ t. played a m.next (on_tape m.unread ++ t)) (heard_append x y) ∙ f.goes_on (heard y)
 
@@ -234,7 +234,7 @@ module _ {E R : Type 0} {a b : Dialog E R} {m n : Progress} {x : Transcript} {ev
     in_turn = led_turns y g.in_turn;
   }
 
--- the same before what follows, and before a talk that breaks off
+-- the same before what follows, and before a transcript that breaks off
 module _ {E R : Type 0} {a b : Dialog E R} {m n : Progress} {x : Transcript} {events : List (Event E)} where
   pub leads_bind : {B : Type 0} (go_on : R → Dialog E B) → TranscriptLeads a m x events b n
       → TranscriptLeads (a >>= go_on) m x events (b >>= go_on) n
@@ -255,7 +255,7 @@ module _ {E R : Type 0} {a b : Dialog E R} {m n : Progress} {x : Transcript} {ev
     in_turn = led_turns f y g.in_turn;
   }
 
--- something is said beside the line
+-- an output event
 pub leads_say : {E R : Type 0} (e : E) (dialog : Dialog E R) (m : Progress)
     → TranscriptLeads (Say e dialog) m [] (Said e ∷ []) dialog m
 leads_say e dialog m = record { goes_on = λ more. refl; all_sent = refl; in_turn = tt }

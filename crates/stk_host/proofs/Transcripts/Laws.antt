@@ -1,4 +1,4 @@
--- Laws of talks.
+-- Laws of transcripts.
 use Rattle.std.proofs.Common.{◌≡◌, ℕ, [], ◌∷◌, ◌++◌, refl, sym, ap, ◌∙◌, append_assoc}
 use Rattle.std.proofs.lemmas.List.{append-nil}
 use Rattle.stk_host.specs.Tape.{Tape}
@@ -15,7 +15,7 @@ heard_append [] y = refl
 heard_append (Sent bytes ∷ x) y = heard_append x y
 heard_append (Got tape ∷ x) y = ap (λ t. tape ++ t) (heard_append x y) ∙ sym (append_assoc tape (heard x) (heard y))
 
--- what the whole heard is, before what follows
+-- what both parts received, before what follows
 pub heard_both : (u : Tape) (x y : Transcript) (more : Tape)
     → u ++ (heard (x ++ y) ++ more) ≡ u ++ (heard x ++ (heard y ++ more))
 heard_both u x y more = ap (λ t. u ++ t)
@@ -27,7 +27,7 @@ grows_none old = sym (append-nil old)
 pub grows_on : (a b c : Transcript) (x y : Transcript) → Grows a x b → Grows b y c → Grows a (x ++ y) c
 grows_on a b c x y f g = g ∙ ap (λ (t : Transcript). t ++ y) f ∙ append_assoc a x y
 
--- in a quiet talk nothing is heard
+-- in a quiet transcript nothing is received
 pub heard_quiet : (transcript : Transcript) → IsQuiet transcript → heard transcript ≡ []
 heard_quiet [] quiet = refl
 heard_quiet (Sent bytes ∷ transcript) quiet = heard_quiet transcript quiet
@@ -38,7 +38,7 @@ quiet_append [] y f g = g
 quiet_append (Sent bytes ∷ x) y f g = quiet_append x y f g
 quiet_append (Got tape ∷ x) y f g = absurd f
 
--- while an answer is waited for nothing is sent
+-- nothing is sent during the wait for an answer
 pub sent_waiting : (seq : ℕ) (tape : Tape) (transcript : Transcript) → WaitsFrom seq tape transcript
     → sent transcript ≡ []
 sent_waiting seq tape [] waits = refl

@@ -1,4 +1,4 @@
--- Listening for an answer, as the code takes it turn by turn.
+-- Listening for an answer, as the code does it round by round.
 use Rattle.std.proofs.Common.{◌≡◌, ℕ, ◌+◌, ◌<◌, ◌≤◌, List, [], ◌∷◌, ◌++◌, length, refl, sym, ap, ◌∙◌, subst, append_assoc, arith, length-append, Some, None, true}
 use Rattle.std.proofs.lemmas.List.{append-nil, length-map, nil_from_length}
 use Rattle.stk_frame.specs.declared.reader.Event.{Event}
@@ -17,8 +17,8 @@ use Rattle.stk_host.specs.Calls.{HearsPiece}
 use Rattle.stk_host.proofs.Tapes.Answers.{on_tape_append, answer_silent, answer_ended, answer_waits, answer_babbled, answer_found, still_none, now_found}
 use Rattle.stk_host.proofs.Transcripts.Laws.{heard_append, heard_both, grows_none, grows_on, waits_append}
 
--- An answer is listened for: so many bytes of a text were read, no answer is in them, a reader holds what is left of
--- them, and after them come the bytes that are still unread.
+-- Listening for an answer. The first `count` bytes of a text were read and contain no answer. A reader holds the rest
+-- of them, and after them come the bytes that are still unread.
 pub record Listening (seq : ℕ) (unread : List ℕ) (old : LinkState) (held : List ℕ) (count : ℕ) (left : List ℕ)
     (new : LinkState) : Type 0 where
   pub text : List ℕ
@@ -44,14 +44,14 @@ begins seq u o few = record {
   all_heard = append-nil (on_tape u);
 }
 
--- the unread bytes that a turn of reading took
+-- the unread bytes that one round of reading took
 abbrev pub ReadOn : List ℕ → List ℕ → ℕ → List ℕ → List ℕ → Event → Type 0
 ReadOn left new_left n held new what = (used : List ℕ) × (length used ≡ n) × (left ≡ used ++ new_left)
     × Fed held used new (frames_of_event what new)
 
--- laws of a listening
+-- laws of listening
 module _ {seq : ℕ} {u : List ℕ} {o : LinkState} where
-  -- how much was heard
+  -- how much was received
   heard_count : {held : List ℕ} {count : ℕ} {left : List ℕ} {p : LinkState} (l : Listening seq u o held count left p)
       → length u + length (heard_in l.during) ≡ count + length left
   heard_count {left = left} l =
@@ -66,7 +66,7 @@ module _ {seq : ℕ} {u : List ℕ} {o : LinkState} where
         l.counted,
       )
 
-  -- where nothing is left unread, and a piece is heard
+  -- if nothing is left unread, and a piece is received
   module _ {held : List ℕ} {count : ℕ} {left : List ℕ} {p : LinkState} (of_left : Listening seq u o held count left p)
       (none : length left ≡ 0) (few : count < limit) where
     l : Listening seq u o held count [] p
@@ -75,7 +75,7 @@ module _ {seq : ℕ} {u : List ℕ} {o : LinkState} where
     text_heard : on_tape u ++ heard_in l.during ≡ on_tape l.text
     text_heard = l.all_heard ∙ ap on_tape (append-nil l.text)
 
-    -- the answer isn't there yet, and one more piece may be heard
+    -- the answer isn't there yet, and one more piece may come
     not_yet : answer seq (on_tape u ++ heard_in l.during) ≡ None
     not_yet = ap (answer seq) text_heard ∙ answer_waits seq l.text l.no_answer (omega (arith, l.counted))
 
@@ -99,7 +99,7 @@ module _ {seq : ℕ} {u : List ℕ} {o : LinkState} where
           (sym (on_tape_append l.text new)));
     }
 
-    -- a silence or an end
+    -- a timeout or an end
     stops : {q : LinkState} {new : List ℕ} (item : Item) (reading : Reading)
         → (new ≡ []) × Grows p.transcript (Got (item ∷ []) ∷ []) q.transcript
         → ((more : Tape) → answer seq (on_tape l.text ++ item ∷ more) ≡ Some (reading, more))
@@ -130,7 +130,7 @@ module _ {seq : ℕ} {u : List ℕ} {o : LinkState} where
         stops End Ended (rw is at piece)
         (λ more. answer_ended seq l.text more l.no_answer (omega (arith, l.counted)))
 
-    -- nothing is heard: the link failed
+    -- nothing is received: the link failed
     pub hears_none : {q : LinkState} → Grows p.transcript [] q.transcript → HearsNone seq u o q
     hears_none {q = q} g = record {
       during = l.during;
@@ -164,7 +164,7 @@ module _ {seq : ℕ} {u : List ℕ} {o : LinkState} where
   reads_on n new_left new what l read other =
       rw (← read.1) (reads read.0 new_left new (frames_of_event what new) (rw read.2 at l) read.3 other)
 
-  -- a listening whose reading is known
+  -- listening whose reading is known
   gives : {held : List ℕ} {count : ℕ} {left : List ℕ} {p : LinkState} (x rest_left : List ℕ) (reading : Reading)
       → (l : Listening seq u o held count left p) → on_tape u ++ heard_in l.during ≡ on_tape (x ++ rest_left)
       → ((more : Tape) → answer seq (on_tape x ++ more) ≡ Some (reading, more)) → Hears seq u o p reading rest_left

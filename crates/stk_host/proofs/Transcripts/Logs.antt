@@ -1,4 +1,4 @@
--- A log with one mark more.
+-- A log with one more mark.
 use Rattle.std.proofs.Common.{◌≡◌, ℕ, zero, suc, ◌+◌, ◌≤◌, List, [], ◌∷◌, ◌++◌, length, take, drop, refl, ap, ◌∙◌, arith, length-append}
 use Rattle.std.proofs.lemmas.List.{take-append-le, take-append-drop, length-drop}
 use Rattle.stk_host.specs.declared.log.Mark.{Mark}
@@ -65,7 +65,7 @@ heard_in (mark.Got n ∷ marks) out back b =
     (take-append-drop n back))
 heard_in (other ∷ marks) out back b = heard_in marks out back b
 
--- the whole of it, as the code goes on: this mark and these bytes are new
+-- the whole log, as the code goes on: this mark and these bytes are new
 module _ (marks new_marks : List Mark) (out new_out back new_back x y : List ℕ) (m : Mark)
     (o : out_count marks ≡ length out) (b : back_count marks ≡ length back) (marks_are : new_marks ≡ marks ++ m ∷ [])
     (out_is : new_out ≡ out ++ x) (back_is : new_back ≡ back ++ y) where

@@ -1,4 +1,4 @@
--- How far a call has come, over a link.
+-- How far a call has come over a link.
 use Rattle.std.proofs.Common.{[], ◌++◌}
 use Rattle.stk_host.specs.declared.fault.Broken.{Broken}
 use Rattle.stk_host.specs.Transcript.{LinkState}
@@ -44,7 +44,7 @@ reaches_bind go_on f = record {
   leads = leads_bind go_on f.leads;
 }
 
--- what a call that played a dialog ensures is how far its caller has come
+-- the clauses of a call that ran a dialog give how far its caller has come
 pub reaches_from : {R : Type 0} {a : Dialog ⊥ R} {m n : Progress} {o p : LinkState} {result : R}
     → PlaysOver a m o p result n → Reaches a m o (Done result) n p
 reaches_from f = record { during = f.during; events = f.events; grows = f.grows; leads = leads_from f.plays }
@@ -64,7 +64,7 @@ broken_bind {by = by} {a = a} {m = m} go_on f =
       breaks = by_bind by a m f.during f.shown go_on f.breaks;
     }
 
--- a dialog played, and what follows it
+-- a dialog that was run, and what follows it
 pub then_reaches : {A B : Type 0} {a : Dialog ⊥ A} {m n : Progress} {o p : LinkState} {result : A}
     (go_on : A → Dialog ⊥ B) → PlaysOver a m o p result n → Reaches (a >>= go_on) m o (go_on result) n p
 then_reaches go_on f = reaches_bind go_on (reaches_from f)

@@ -1,4 +1,4 @@
--- What was sent in parts, and what is left of a range.
+-- Bytes sent in parts, and the rest of a range.
 use Rattle.std.proofs.Common.{◌≡◌, ℕ, ◌+◌, ◌-◌, ◌<◌, ◌≤◌, List, [], ◌∷◌, ◌++◌, length, take, drop, refl, sym, ap, ◌∙◌, subst, arith, Err}
 use Rattle.std.proofs.lemmas.List.{append-nil, drop-take, drop-drop, take-append-drop, length-take, length-drop, take_all}
 use Rattle.std.proofs.Math.Seq.{take-add}
@@ -25,7 +25,7 @@ pub says_part : (bytes : List ℕ) (n m : ℕ) (part : List ℕ) (o p q : Transc
 says_part bytes n m part o p q says is g =
     rw (take-add n m bytes, ← is) (says_more (take n bytes) (take m part) o p q says g)
 
--- so many bytes were sent, and not all
+-- the first `n` bytes were sent, and not all
 pub part_of : (bytes : List ℕ) (n : ℕ) (o q : Transcript) → n < length bytes → Says (take n bytes) o q
     → SaysPart bytes o q
 part_of bytes n o q few says = record {
@@ -36,7 +36,7 @@ part_of bytes n o q few says = record {
   says = says;
 }
 
--- a link that has failed since some earlier time, when its count was the same
+-- a link that has failed since an earlier time with the same count
 pub fails_since : {A E : Type 0} (a c : LinkState) (count : ℕ) (error : E) → count ≡ a.failures → count ≤ c.failures
     → HasRisen count c.failures → LinkCounts {A = A} a c (Err error)
 fails_since a c count error same counted failed = record {
@@ -45,7 +45,7 @@ fails_since a c count error same counted failed = record {
   failed = subst (λ n. HasRisen n c.failures) same failed;
 }
 
--- what is left of a range after its first places
+-- the rest of a range after its first places
 pub range_later : (xs : List ℕ) (a b n : ℕ) → a + n ≤ b → slice_range xs (a + n) b ≡ drop n (slice_range xs a b)
 range_later xs a b n le =
     ap (take (b - (a + n))) (sym (drop-drop n a xs))
@@ -58,7 +58,7 @@ range_consumed xs a b n all order is le =
     let size : length all ≤ b - a = rw (← is, length-take) (omega arith) in
     range_later xs a b n (omega arith) ∙ ap (drop n) is
 
--- the bytes after the first n, as a slice of them is written
+-- the bytes after the first n, in the form of a slice
 pub behind : (bytes : List ℕ) (n : ℕ) → take (length bytes - n) (drop n bytes) ≡ drop n bytes
 behind bytes n = take_all (length bytes - n) (drop n bytes) (rw length-drop (omega arith))
 

@@ -1,4 +1,4 @@
--- What a writer whose bytes are known has taken, and a reader whose bytes are known has given.
+-- What a writer with known bytes has taken, and a reader with known bytes has given.
 use Rattle.std.proofs.Common.{◌≡◌, ◌∙◌, ℕ, List, [], ◌∷◌, ◌++◌, take, Option, None, Some, sym, ap, append_assoc, append-nil, arith}
 use Rattle.std.proofs.KnownBytes.{Consumes-nil, Consumes-trans, Consumes-kept, Appends-nil, Appends-trans}
 use Rattle.std.specs.Io.KnownBytes.{Keeps, Appends, Consumes}
@@ -22,7 +22,7 @@ wrote_prefix (Some x) (Some y) (Some z) prefix back bytes is p q = (prefix, (bac
 pub lost_none : (a b : Option (List ℕ)) → Keeps a b → Consumes a b []
 lost_none a b keeps = Consumes-kept a a b [] (Consumes-nil a) keeps
 
--- the items heard have the bytes that the reader lost
+-- the items received have the bytes that the reader lost
 pub items_given : (h : Heard) (buffer : List ℕ) (a b : Option (List ℕ)) → HearsKnown h buffer a b
     → Consumes a b (bytes_of (items_of h buffer))
 items_given (hears.Bytes n) buffer a b given = rw (bytes_of_on_tape (take n buffer)) given

@@ -9,7 +9,7 @@ use Rattle.avr_plan.specs.declared.planned.Task.{Task}
 use Rattle.ghosts.specs.Stays.{Stays}
 use Rattle.avr_plan.proofs.planning.update_tasks.Given as goal
 
--- however the updates that are left go, so go all of them
+-- the outcome of the remaining updates is that of all of them
 abbrev pub invariant-loop-update : goal.invariant-loop-update
 invariant-loop-update g l = record {
   goes : (new : DeskState) (result : Result (List Task) ℕ)
