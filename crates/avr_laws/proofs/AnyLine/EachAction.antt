@@ -1,4 +1,4 @@
--- The actions of a session on one line, where a step may fail or none does: what they print, and what they leave.
+-- The actions of a session over one link, on which steps may fail or none does: their output, and what they leave.
 use Rattle.std.proofs.Common.{◌≡◌, List, [], ◌∷◌, ◌++◌, append_assoc, refl, sym, ap, ap₂, ◌∙◌, subst, inl, inr, ◌⊎◌, Ok, Err, Result}
 use Rattle.std.specs.Prelude.{⊤}
 use Rattle.avr_cli.specs.declared.settings.Switches.{Switches}
@@ -25,7 +25,7 @@ use Rattle.avr_laws.proofs.AnyLine.FirstSteps.{Rests, rests_here, rests_before, 
 use Rattle.avr_laws.proofs.Given.Comparisons.{signature_taken}
 use Rattle.avr_laws.proofs.Hosts.AnyTurn.{Keeps}
 use Rattle.avr_laws.proofs.Hosts.Operations.{AfterCall, operation_goes, beginning_goes}
-use Rattle.avr_laws.proofs.Hosts.OneLine.{Spot, Runs}
+use Rattle.avr_laws.proofs.Hosts.OneLink.{Spot, Runs}
 use Rattle.avr_laws.proofs.Hosts.Outputs.{AllTrue, Prints, stops, prints_reported, prints_then, prints_wider}
 use Rattle.avr_laws.proofs.Leads.{Reached, AfterBeginning}
 use Rattle.avr_laws.proofs.Plans.Calls.{Outcome, outcome_of, call_of, outcome_says, dialog_is, expected_is, IsOperation, is_operation}
@@ -41,7 +41,7 @@ abbrev pub RestsIn : Part → List Item → Memories → Spot → Type 0
 RestsIn part items m z = Rests part (all_steps part items) m z.0
 
 module _ (part : Part) (s : Switches) (At : Memories → Spot → Type 0) (Fails : Type 0) where
-  -- after the call of an action: its own outcome, and the memories of its items; or, if a step may fail, its fault
+  -- After the call of an action: its own outcome and the memories of its items. If steps may fail, also a step's fault.
   abbrev pub Came : (action : Action) → Memories → Result (Outcome action) HostFault → Spot → Type 0
   Came action m got z =
       ((got ≡ outcome_of part action m) × At (effects part (action_items action) m) z)
@@ -51,19 +51,19 @@ module _ (part : Part) (s : Switches) (At : Memories → Spot → Type 0) (Fails
   abbrev pub Comes : Action → Memories → Spot → Type 0
   Comes action m z = Runs device (λ y. RestsIn part (action_items action) m y) (Came action m) (call_of part s action) z
 
-  -- what the expected run has at this moment
+  -- as the expected run: its state, its output and its memories
   pub record Own (c : Expected) (at : Standing) (said : List OutputEvent) (z : Spot) : Type 0 where
     pub stands : c.standing ≡ at
     pub says_are : said ≡ c.says
     pub left : At c.memories z
 
-  -- a step has failed, and its line was printed last
+  -- a step failed, and its line was printed last
   pub record Broken (actions : List Action) (m : Memories) (at : Standing) (said : List OutputEvent) : Type 0 where
     pub fails : Fails
     pub faulty : at ≡ Fine → ⊥
     pub line : SaysFault part s actions m said
 
-  -- at each question of these actions, and after them
+  -- at each question of these actions; then after them
   abbrev pub Now : List Action → Memories → List OutputEvent → Spot → Type 0
   Now actions m said z = RestsIn part (actions_items actions) m z × SaysFirst part s actions m said
 
@@ -80,8 +80,8 @@ module _ (part : Part) (s : Switches) (At : Memories → Spot → Type 0) (Fails
   AfterOne action rest m at said z = RestsIn part (action_items action) m z
       × (Own (outcome_expected action m) at said z ⊎ Broken (action ∷ rest) m at said)
 
-  -- What is known of the calls from such memories on: each action comes to its outcome, and the closing keeps them. A
-  -- fault comes only if a step may fail.
+  -- What the calls do between such conditions. Each action has its outcome, and the closing keeps the memories. A fault
+  -- comes only if steps may fail.
   pub record Passes : Type 0 where
     pub idle : (m : Memories) (z : Spot) → At m z → Idle part m z.0
     pub calls : (action : Action) (m : Memories) (z : Spot) → FitsAction part action → FitsPart part m → At m z
@@ -90,7 +90,7 @@ module _ (part : Part) (s : Switches) (At : Memories → Spot → Type 0) (Fails
         × ((r ≡ Ok tt) ⊎ (Fails × ((fault : StepFault) × (r ≡ Err (host_fault fault)))))) closing z
 
 module _ (part : Part) (sound : IsPart part) (s : Switches) where
-  -- what may come of a call on any line
+  -- the outcomes of a call over any link
   abbrev AnyOutcome : (action : Action) → Memories → Result (Outcome action) HostFault → Programmer → Type 0
   AnyOutcome action m got q = Came part s (λ m z. Settled part m z.0) ⊤ action m got (q, [])
 
@@ -98,7 +98,7 @@ module _ (part : Part) (sound : IsPart part) (s : Switches) where
   ComesAnyhow action m p = Keeps device (Rests part (all_steps part (action_items action)) m) (AnyOutcome action m)
       (call_of part s action) p
 
-  -- an action that is its steps, judged
+  -- an action that is a run of steps and its judgement
   pub operation_comes : (action : Action) (m : Memories) → FitsAction part action → FitsPart part m → (p : Programmer)
       → Settled part m p → ComesAnyhow action m p
   operation_comes action m fits f p settled =
@@ -122,7 +122,7 @@ module _ (part : Part) (sound : IsPart part) (s : Switches) where
       came got q (inl made) = inl (made.1 ∙ o.gives, subst (λ z. Settled part z q) o.all made.0)
       came got q (inr broke) = inr (tt, (broke.0, broke.1, rests q broke.2))
 
-  -- a session that is opened with the part's own signature
+  -- the opening, with the part's own signature
   pub opening_comes : (m : Memories) → FitsPart part m → (p : Programmer) → Idle part m p → ComesAnyhow OpenSession m p
   unfolding opening
   opening_comes m f p idle =
@@ -139,7 +139,7 @@ module _ (part : Part) (sound : IsPart part) (s : Switches) where
       )
       came (Err fault) q i = inr (tt, (fault, refl, rests_here part [] m q i))
 
--- ---- what they print
+-- ---- their output
 
 module _ (part : Part) (s : Switches) where
   abbrev pub fault_told : StepFault → List OutputEvent
@@ -155,7 +155,7 @@ module _ (part : Part) (s : Switches) where
   fault_says (SaveMemory mem format file) fault = refl
   fault_says (LeaveOut what) fault = refl
 
-  -- what an action prints is true: of its own outcome, and of a step's fault
+  -- the output of an action is true, both for its own outcome and for a step's fault
   module _ (True : OutputEvent → Programmer → Type 0) where
     abbrev pub ActionTrue : Action → Memories → Type 0
     ActionTrue action m =
@@ -173,7 +173,7 @@ module _ (part : Part) (sound : IsPart part) (s : Switches) (True : OutputEvent 
   none_done : (actions : List Action) (m : Memories) → SaysFirst part s actions m []
   none_done actions m = record { done = []; more = actions; actions_are = refl; fine = refl; says_are = refl }
 
-  -- the actions of a session from here on
+  -- these actions keep what is stated of them
   abbrev pub Goes : List Action → Memories → Spot → Type 0
   Goes actions m z =
       Prints True (Now part s At Fails actions m) (After part s At Fails actions m) (actions_dialog part s actions) z
@@ -222,7 +222,7 @@ module _ (part : Part) (sound : IsPart part) (s : Switches) (True : OutputEvent 
               ),
             )
 
-    -- ---- an action, and the next ones unless there was a fault
+    -- ---- an action, then the next ones unless there was a fault
 
     goes_as : (next : Memories → Expected) (at : Standing) → c.standing ≡ at
         → (action_expected part s action m then next) ≡ then_from c at next

@@ -1,4 +1,4 @@
--- A session on one line, from its opening to its end: what it prints, what it comes to, and what it leaves.
+-- A session over one link, from its opening to its end: its output, its status, and what it leaves.
 use Rattle.std.proofs.Common.{◌≡◌, ℕ, List, [], ◌++◌, refl, sym, ap, ◌∙◌, subst, inl, inr, ◌⊎◌, Ok, Err, Result, All}
 use Rattle.std.proofs.lemmas.List.{append-nil}
 use Rattle.std.specs.Prelude.{⊤}
@@ -21,7 +21,7 @@ use Rattle.stk_emu.specs.Programmer.{Programmer}
 use Rattle.stk_emu.specs.Settled.{Idle, Settled, FitsPart}
 use Rattle.avr_laws.proofs.AnyLine.EachAction.{RestsIn, Comes, Own, After, Passes, ActionTrue, ActionsTrue, fault_told, operation_comes, goes_cons, goes_actions}
 use Rattle.avr_laws.proofs.Hosts.Operations.{closing_goes}
-use Rattle.avr_laws.proofs.Hosts.OneLine.{Spot, on_line}
+use Rattle.avr_laws.proofs.Hosts.OneLink.{Spot, on_link}
 use Rattle.avr_laws.proofs.Hosts.Outputs.{AllTrue, Prints, stops, prints_reported, prints_then}
 use Rattle.avr_laws.proofs.PageWrites.StepCounts.{items_counted}
 use Rattle.avr_laws.proofs.PageWrites.Steps.{leave_fits}
@@ -32,11 +32,11 @@ use Rattle.avr_laws.specs.Foretold.{SaysFirst, SaysFault, IsForetold}
 use Rattle.avr_laws.specs.Items.{items}
 use Rattle.avr_laws.specs.Outcome.{IsTouched, IsExpectedRun}
 
--- a line on which any step may fail
+-- any link: each step may fail
 pub anyhow : (part : Part) → IsPart part → (s : Switches) → Passes part s (λ m z. Settled part m z.0) ⊤
 anyhow part sound s = record {
   idle = λ m z t. settled_idle part m z.0 t;
-  calls = λ action m z fits f t. on_line device (operation_comes part sound s action m fits f z.0 t);
+  calls = λ action m z fits f t. on_link device (operation_comes part sound s action m fits f z.0 t);
   closes = λ m z t.
       wider (λ bytes y i. i) (λ e y x. x) (λ r y x. (
         x.0,
@@ -44,14 +44,14 @@ anyhow part sound s = record {
           | inl ok ↦ inl ok
           | inr broke ↦ inr (tt, broke)
         ],
-      )) (on_line device (closing_goes (Idle part m) (leave_fits part m) z.0 (settled_idle part m z.0 t)));
+      )) (on_link device (closing_goes (Idle part m) (leave_fits part m) z.0 (settled_idle part m z.0 t)));
 }
 
 module _ (plan : Plan) (m : Memories) where
   abbrev pub AtMoment : List OutputEvent → Spot → Type 0
   AtMoment said y = IsTouched plan m (memories_of y.0.chip) × IsForetold plan m said
 
-  -- with a status: as the expected run, or after the line of a step that failed
+  -- with a status: as the expected run, or status 1 after the line of a failed step
   abbrev pub AtEnd : Type 0 → ℕ → List OutputEvent → Spot → Type 0
   AtEnd Fails status said y = IsTouched plan m (memories_of y.0.chip)
       × (IsExpectedRun plan m (memories_of y.0.chip) said status
@@ -90,7 +90,7 @@ module _ (plan : Plan) (sound : IsPart plan.part) (fitted : All (IsFitted plan.p
     says_are = is;
   }
 
-  -- where all has gone well
+  -- if all went well
   module _ (said : List OutputEvent) (y : Spot) (rests : RestsIn part (items plan) m y)
       (own : Own part s At Fails w Fine said y) (done_true : (q : Programmer)
       → AllTrue True (closed_says s.quiet part (Ok tt)) q)
@@ -132,7 +132,7 @@ module _ (plan : Plan) (sound : IsPart plan.part) (fitted : All (IsFitted plan.p
           ),
         )
 
-  -- with a fault: what is left afterwards
+  -- after a fault
   with_fault : (at : Standing) (said : List OutputEvent) (y z : Spot) → ending_says plan at ≡ [] → status_of at ≡ 1
       → After part s At Fails (actions plan) m at said y → memories_of z.0.chip ≡ memories_of y.0.chip
       → AtEnd plan m Fails 1 said z
@@ -169,7 +169,7 @@ module _ (plan : Plan) (sound : IsPart plan.part) (fitted : All (IsFitted plan.p
         (with_fault Faulty said y z refl refl after (i.memories ∙ sym after.0.stands.memories)) in
         prints_then True (λ x z now. now)
         (prints_reported True {Then = λ at x z. AtEnd plan m Fails 1 (said ++ x) z} (λ _. [])
-        (on_line device (closing_goes (Idle part before) (leave_fits part before) y.0 after.0.stands))
+        (on_link device (closing_goes (Idle part before) (leave_fits part before) y.0 after.0.stands))
         (λ z i. at_last plan m Fails 1 (said ++ []) z (left z i)) (λ r z x. (tt, left z x.0)))
         (λ closed x z a. stops True (λ b v. AtEnd plan m Fails (status_of b) (said ++ v)) Over x z a)
     ending_prints Over said y after =

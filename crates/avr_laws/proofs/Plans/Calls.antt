@@ -1,4 +1,4 @@
--- Each action is one call of the host, of which an outcome is reported; all but the opening are their steps, judged.
+-- Each action is one call of the host and the output about its outcome. All but the opening are steps and a judgement.
 use Rattle.std.proofs.Common.{◌≡◌, ℕ, List, [], length, refl, sym, ap, ◌∙◌, arith, Ok, Err, Result}
 use Rattle.std.proofs.lemmas.Bool.{cond-true}
 use Rattle.std.proofs.lemmas.List.{append-nil}
@@ -35,7 +35,7 @@ Outcome (SaveMemory mem format file) = List ℕ
 Outcome action = ⊤
 
 module _ (part : Part) where
-  -- without a fault of a step
+  -- if no step fails
   abbrev pub outcome_of : (action : Action) → Memories → Result (Outcome action) HostFault
   outcome_of OpenSession m = Ok part.signature
   outcome_of EraseChip m = Ok tt
@@ -78,7 +78,7 @@ module _ (part : Part) where
     expected_is (SaveMemory mem format file) m = refl
     expected_is (LeaveOut what) m = refl
 
-    -- the steps of a call, what is judged of their data, and what they leave
+    -- the judgement of a call, and what its steps give and leave
     pub record IsOperation (action : Action) (m : Memories) : Type 0 where
       pub judge : List ℕ → Result (Outcome action) HostFault
       pub call_is : operation (action_steps part action) judge ≡ call_of action

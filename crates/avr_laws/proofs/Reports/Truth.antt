@@ -35,7 +35,7 @@ use Rattle.avr_laws.specs.Told.{TellsTrue, count_line, kept_in, IsTrue, Signatur
 use Rattle.avr_laws.proofs.AnyLine.EachAction.{Comes, Passes, ActionTrue, ActionsTrue, opening_comes}
 use Rattle.avr_laws.proofs.AnyLine.Sessions.{AtMoment, AtEnd, at_last, anyhow, session_prints}
 use Rattle.avr_laws.proofs.Given.Comparisons.{bytes_same}
-use Rattle.avr_laws.proofs.Hosts.OneLine.{Spot, on_line}
+use Rattle.avr_laws.proofs.Hosts.OneLink.{Spot, on_link}
 use Rattle.avr_laws.proofs.Hosts.Outputs.{AllTrue, Prints, Printed, at_moment, all_true}
 use Rattle.avr_laws.proofs.Memories.ExpectedAgrees.{no_difference_if_fine, expected_status, expected_memories}
 use Rattle.avr_laws.specs.Outcome.{IsTouched, IsDone, IsExpectedRun}
@@ -190,7 +190,7 @@ module _ (plan : Plan) (sound : IsPart plan.part) (m0 : Memories) (f0 : FitsPart
 
   -- ---- a session
 
-  -- on any line, or where no step fails
+  -- over any link, or if no step fails
   pub session_prints_true : All (IsFitted plan.part) plan.tasks → (At : Memories → Spot → Type 0) (Fails : Type 0)
       → Passes plan.part plan.switches At Fails → (z : Spot)
       → Comes plan.part plan.switches At Fails OpenSession m0 z
@@ -205,7 +205,7 @@ module _ (plan : Plan) (sound : IsPart plan.part) (m0 : Memories) (f0 : FitsPart
       → Prints T (AtMoment plan m0) (AtEnd plan m0 ⊤) (session plan) (p, turns)
   session_goes fitted p turns idle =
       session_prints_true fitted (λ m z. Settled plan.part m z.0) ⊤ (anyhow plan.part sound plan.switches) (p, turns)
-      (on_line device (opening_comes plan.part sound plan.switches m0 f0 p idle))
+      (on_link device (opening_comes plan.part sound plan.switches m0 f0 p idle))
 
   pub session_tells : All (IsFitted plan.part) plan.tasks → (k : ℕ) (p : Programmer) (turns : List Turn)
       → Idle plan.part m0 p
@@ -214,12 +214,12 @@ module _ (plan : Plan) (sound : IsPart plan.part) (m0 : Memories) (f0 : FitsPart
       all_true T (AtMoment plan m0) (AtEnd plan m0 ⊤) k (session plan) (p, turns)
       (session_goes fitted p turns idle).holds
 
-  -- along it
+  -- along any link
   pub session_along : All (IsFitted plan.part) plan.tasks → (k : ℕ) (p : Programmer) (turns : List Turn)
       → Idle plan.part m0 p → Printed (AtMoment plan m0) (AtEnd plan m0 ⊤) k (session plan) (p, turns)
   session_along fitted k p turns idle = at_moment T (at_last plan m0 ⊤) k (session_goes fitted p turns idle)
 
-  -- with status 0 it has its expected run
+  -- with status 0 it is its expected run
   pub session_succeeds : All (IsFitted plan.part) plan.tasks → (k status : ℕ) (p : Programmer) (turns : List Turn)
       → Idle plan.part m0 p → (along device k (session plan) p turns).dialog ≡ Done status → status ≡ 0
       → IsExpectedRun plan m0 (memories_of (along device k (session plan) p turns).programmer.chip)
