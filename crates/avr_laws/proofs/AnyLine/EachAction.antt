@@ -28,10 +28,10 @@ use Rattle.avr_laws.proofs.Hosts.Operations.{AfterCall, operation_goes, beginnin
 use Rattle.avr_laws.proofs.Hosts.OneLink.{Spot, Runs}
 use Rattle.avr_laws.proofs.Hosts.Outputs.{AllTrue, Prints, stops, prints_reported, prints_then, prints_wider}
 use Rattle.avr_laws.proofs.Leads.{Reached, AfterBeginning}
-use Rattle.avr_laws.proofs.Plans.Calls.{Outcome, outcome_of, call_of, outcome_says, dialog_is, expected_is, IsOperation, is_operation}
+use Rattle.avr_laws.proofs.Plans.Calls.{Outcome, outcome_of, call_of, outcome_says, outcome_expected, dialog_is, expected_is, IsOperation, is_operation}
 use Rattle.avr_laws.proofs.Plans.Fits.{FitsAction, AllFitActions, action_items_fit}
 use Rattle.avr_laws.proofs.Plans.Standings.{after_fault, faulty_fine, over_fine}
-use Rattle.avr_laws.specs.ExpectedRun.{Expected, reported_expected, then_from, ◌then◌, action_expected, actions_expected}
+use Rattle.avr_laws.specs.ExpectedRun.{Expected, then_from, ◌then◌, action_expected, actions_expected}
 use Rattle.avr_laws.specs.Foretold.{SaysFirst, SaysFault}
 use Rattle.avr_laws.specs.Items.{action_items, actions_items}
 
@@ -72,13 +72,9 @@ module _ (part : Part) (s : Switches) (At : Memories → Spot → Type 0) (Fails
       × (Own (actions_expected part s actions m) at said z ⊎ Broken actions m at said)
 
   -- after the first of them
-  abbrev pub outcome_expected : Action → Memories → Expected
-  outcome_expected action m =
-      reported_expected (outcome_says part s action) (outcome_of part action m) (effects part (action_items action) m)
-
   abbrev pub AfterOne : Action → List Action → Memories → Standing → List OutputEvent → Spot → Type 0
   AfterOne action rest m at said z = RestsIn part (action_items action) m z
-      × (Own (outcome_expected action m) at said z ⊎ Broken (action ∷ rest) m at said)
+      × (Own (outcome_expected part s action m) at said z ⊎ Broken (action ∷ rest) m at said)
 
   -- What the calls do between such conditions. Each action has its outcome, and the closing keeps the memories. A fault
   -- comes only if steps may fail.
@@ -141,12 +137,12 @@ module _ (part : Part) (sound : IsPart part) (s : Switches) where
 
 -- ---- their output
 
-module _ (part : Part) (s : Switches) where
-  abbrev pub fault_told : StepFault → List OutputEvent
-  fault_told fault = Line (fault_line part (host_fault fault)) ∷ []
+abbrev pub fault_told : Part → StepFault → List OutputEvent
+fault_told part fault = Line (fault_line part (host_fault fault)) ∷ []
 
+module _ (part : Part) (s : Switches) where
   fault_says : (action : Action) (fault : StepFault)
-      → outcome_says part s action (Err (host_fault fault)) ≡ fault_told fault
+      → outcome_says part s action (Err (host_fault fault)) ≡ fault_told part fault
   fault_says OpenSession of_step.NoAnswer = refl
   fault_says OpenSession fault = refl
   fault_says EraseChip fault = refl
@@ -155,13 +151,11 @@ module _ (part : Part) (s : Switches) where
   fault_says (SaveMemory mem format file) fault = refl
   fault_says (LeaveOut what) fault = refl
 
-  -- the output of an action is true, both for its own outcome and for a step's fault
+  -- the output of an action is true
   module _ (True : OutputEvent → Programmer → Type 0) where
     abbrev pub ActionTrue : Action → Memories → Type 0
-    ActionTrue action m =
-        ((q : Programmer) → memories_of q.chip ≡ effects part (action_items action) m
-        → AllTrue True (outcome_says part s action (outcome_of part action m)) q)
-        × ((fault : StepFault) (q : Programmer) → AllTrue True (fault_told fault) q)
+    ActionTrue action m = (q : Programmer) → memories_of q.chip ≡ effects part (action_items action) m
+        → AllTrue True (outcome_says part s action (outcome_of part action m)) q
 
     abbrev pub ActionsTrue : List Action → Memories → Type 0
     ActionsTrue [] m = ⊤
@@ -169,6 +163,7 @@ module _ (part : Part) (s : Switches) where
         ActionTrue action m × ActionsTrue actions (effects part (action_items action) m)
 
 module _ (part : Part) (sound : IsPart part) (s : Switches) (True : OutputEvent → Programmer → Type 0)
+    (fault_true : (fault : StepFault) (q : Programmer) → AllTrue True (fault_told part fault) q)
     (At : Memories → Spot → Type 0) (Fails : Type 0) (pass : Passes part s At Fails) where
   none_done : (actions : List Action) (m : Memories) → SaysFirst part s actions m []
   none_done actions m = record { done = []; more = actions; actions_are = refl; fine = refl; says_are = refl }
@@ -184,7 +179,7 @@ module _ (part : Part) (sound : IsPart part) (s : Switches) (True : OutputEvent 
     items = action_items action
 
     abbrev c : Expected
-    c = outcome_expected part s At Fails action m
+    c = outcome_expected part s action m
 
     pub action_prints : (z : Spot) → ActionTrue part s True action m → Comes part s At Fails action m z
         → Prints True (λ said y. RestsIn part items m y × SaysFirst part s (action ∷ rest) m said)
@@ -200,7 +195,7 @@ module _ (part : Part) (sound : IsPart part) (s : Switches) (True : OutputEvent 
         each got y (inl made) =
             subst (λ x. AllTrue True (outcome_says part s action x) y.0
             × AfterOne part s At Fails action rest m (standing x) (outcome_says part s action x) y) (sym made.0) (
-              holds.0 y.0 (pass.idle _ y made.1).memories,
+              holds y.0 (pass.idle _ y made.1).memories,
               (
                 rests_all part sound items m y.0 fits f (pass.idle _ y made.1),
                 inl (record { stands = refl; says_are = refl; left = made.1 }),
@@ -208,9 +203,9 @@ module _ (part : Part) (sound : IsPart part) (s : Switches) (True : OutputEvent 
             )
         each got y (inr broke) =
             let fault = broke.1.0 in
-            let line : outcome_says part s action got ≡ fault_told part s fault =
+            let line : outcome_says part s action got ≡ fault_told part fault =
             ap (outcome_says part s action) broke.1.1 ∙ fault_says part s action fault in (
-              subst (λ x. AllTrue True x y.0) (sym line) (holds.1 fault y.0),
+              subst (λ x. AllTrue True x y.0) (sym line) (fault_true fault y.0),
               (
                 broke.1.2,
                 inr (record {
@@ -264,7 +259,7 @@ module _ (part : Part) (sound : IsPart part) (s : Switches) (True : OutputEvent 
                 first = first_behind line.told line.first;
                 fault = line.fault;
                 says_are = ap (λ y. said ++ y) line.says_are
-                    ∙ sym (append_assoc said line.told (fault_told part s line.fault));
+                    ∙ sym (append_assoc said line.told (fault_told part line.fault));
               };
             }),
           )

@@ -74,12 +74,9 @@ module _ (part : Part) (sound : IsPart part) (s : Switches) where
       prints : Prints Anything (λ said z. Rests part (all_steps part (action_items action)) m z.0)
           (AfterOne part s (λ m z. Settled part m z.0) ⊤ action [] m) (action_dialog part s action) (p, turns)
       prints = prints_wider Anything (λ said z x. x.0) (λ at said z x. x)
-          (action_prints part sound s Anything (λ m z. Settled part m z.0) ⊤ (anyhow part sound s) action [] m fits f
-          (p, turns) (
-            λ q is. any_outputs (outcome_says part s action (outcome_of part action m)) q,
-            λ fault q. any_outputs (fault_told part s fault) q,
-          )
-          (on_link device comes))
+          (action_prints part sound s Anything (λ fault q. any_outputs (fault_told part fault) q)
+          (λ m z. Settled part m z.0) ⊤ (anyhow part sound s) action [] m fits f (p, turns)
+          (λ q is. any_outputs (outcome_says part s action (outcome_of part action m)) q) (on_link device comes))
 
   makes_written : (action : Action) (m : Memories) → FitsAction part action → FitsPart part m
       → action_steps part action ≡ all_steps part (action_items action)

@@ -26,7 +26,7 @@ use Rattle.avr_laws.proofs.AnyLine.FirstSteps.{quiet_stays, read_quiet}
 use Rattle.avr_laws.proofs.Given.WholeMemories.{read_gives}
 use Rattle.avr_laws.proofs.PageWrites.Items.{changed_all, item_does, item_are_steps, read_are_steps}
 use Rattle.avr_laws.proofs.Plans.Fits.{FitsAction}
-use Rattle.avr_laws.specs.ExpectedRun.{reported_expected, action_expected}
+use Rattle.avr_laws.specs.ExpectedRun.{Expected, reported_expected, action_expected}
 use Rattle.avr_laws.specs.Items.{action_items}
 
 abbrev pub Outcome : Action → Type 0
@@ -69,8 +69,11 @@ module _ (part : Part) where
     dialog_is (SaveMemory mem format file) = refl
     dialog_is (LeaveOut what) = refl
 
-    pub expected_is : (action : Action) (m : Memories) → action_expected part s action m
-        ≡ reported_expected (outcome_says action) (outcome_of action m) (effects part (action_items action) m)
+    abbrev pub outcome_expected : Action → Memories → Expected
+    outcome_expected action m =
+        reported_expected (outcome_says action) (outcome_of action m) (effects part (action_items action) m)
+
+    pub expected_is : (action : Action) (m : Memories) → action_expected part s action m ≡ outcome_expected action m
     expected_is OpenSession m = refl
     expected_is EraseChip m = refl
     expected_is (WriteImage mem image) m = refl

@@ -131,44 +131,30 @@ module _ (plan : Plan) (sound : IsPart plan.part) (m0 : Memories) (f0 : FitsPart
           → items plan ≡ actions_items done ++ (action_items a ++ actions_items later)
           → ActionTrue plan.part plan.switches T a m
       by_kind OpenSession fits has order = absurd fits
-      by_kind EraseChip fits has order = (
-        λ q is.
-            informs_hold plan.switches.quiet (codes "chip erased" ∷ []) q
-            (ChipErased has refl (is ∙ ap (λ xs. effect plan.part Erase (effects plan.part xs m0))
-            (erase_first plan (actions_items done) (actions_items later) order))),
-        failed,
-      )
-      by_kind (WriteImage mem image) fits has order =
-          (λ q is. written_now mem image (actions_items done) (actions_items later) q order is, failed)
-      by_kind (CompareImage mem image) fits has order = (
-        λ q is.
-            subst (λ z. AllTrue T (verified_says plan.switches.quiet plan.part mem image
-            (comparison mem image (memory_in plan.part mem z))) q) is
-            (compared_now mem image q has (comparison mem image (memory_in plan.part mem (memories_of q.chip))) refl),
-        failed,
-      )
-      by_kind (SaveMemory mem format file) fits has order = (
-        λ q is.
-            subst (λ z. AllTrue T (read_says plan.switches mem format file (memory_in plan.part mem z)) q) is
-            (hold_on T (saving_says file (file_text format (kept_in plan mem (memories_of q.chip))))
-            (bytes_say plan.switches.quiet mem (length (kept_in plan mem (memories_of q.chip)))
-            (codes " bytes read")) q
-            (saved_now (bytes_eq file (codes "-")) mem format file q has
-            (file_text format (kept_in plan mem (memories_of q.chip))) refl)
-            (counts_hold mem (length (kept_in plan mem (memories_of q.chip))) (codes " bytes read") q
-            (BytesRead mem format file has refl))),
-        failed,
-      )
-      by_kind (LeaveOut TheErase) fits has order = (
-        λ q is.
-            hold_unless T (nat_lt 1 plan.switches.quiet) (Line (warning (codes "chip not erased because of -n" ∷ []))) q
-            (EraseLeftOut has refl),
-        failed,
-      )
-      by_kind (LeaveOut (TheWrite mem image)) fits has order = (
-        λ q is. counts_hold mem (byte_count image) (codes " bytes not written") q (WriteLeftOut mem image has refl),
-        failed,
-      )
+      by_kind EraseChip fits has order = λ q is.
+          informs_hold plan.switches.quiet (codes "chip erased" ∷ []) q
+          (ChipErased has refl (is ∙ ap (λ xs. effect plan.part Erase (effects plan.part xs m0))
+          (erase_first plan (actions_items done) (actions_items later) order)))
+      by_kind (WriteImage mem image) fits has order = λ q is.
+          written_now mem image (actions_items done) (actions_items later) q order is
+      by_kind (CompareImage mem image) fits has order = λ q is.
+          subst (λ z. AllTrue T (verified_says plan.switches.quiet plan.part mem image
+          (comparison mem image (memory_in plan.part mem z))) q) is
+          (compared_now mem image q has (comparison mem image (memory_in plan.part mem (memories_of q.chip))) refl)
+      by_kind (SaveMemory mem format file) fits has order = λ q is.
+          subst (λ z. AllTrue T (read_says plan.switches mem format file (memory_in plan.part mem z)) q) is
+          (hold_on T (saving_says file (file_text format (kept_in plan mem (memories_of q.chip))))
+          (bytes_say plan.switches.quiet mem (length (kept_in plan mem (memories_of q.chip)))
+          (codes " bytes read")) q
+          (saved_now (bytes_eq file (codes "-")) mem format file q has
+          (file_text format (kept_in plan mem (memories_of q.chip))) refl)
+          (counts_hold mem (length (kept_in plan mem (memories_of q.chip))) (codes " bytes read") q
+          (BytesRead mem format file has refl)))
+      by_kind (LeaveOut TheErase) fits has order = λ q is.
+          hold_unless T (nat_lt 1 plan.switches.quiet) (Line (warning (codes "chip not erased because of -n" ∷ []))) q
+          (EraseLeftOut has refl)
+      by_kind (LeaveOut (TheWrite mem image)) fits has order = λ q is.
+          counts_hold mem (byte_count image) (codes " bytes not written") q (WriteLeftOut mem image has refl)
 
   -- the memories after one more action
   one_more : (done : List Action) (action : Action)
@@ -196,10 +182,10 @@ module _ (plan : Plan) (sound : IsPart plan.part) (m0 : Memories) (f0 : FitsPart
       → Comes plan.part plan.switches At Fails OpenSession m0 z
       → Prints T (AtMoment plan m0) (AtEnd plan m0 Fails) (session plan) z
   session_prints_true fitted At Fails pass z opened =
-      session_prints plan sound fitted T At Fails pass m0 f0
-      (λ q is. own_signature plan.switches.quiet q, failed)
-      (actions_true (work plan) (OpenSession ∷ []) (work_fits plan fitted) refl)
-      (λ q. informs_hold plan.switches.quiet (codes "done" ∷ []) q (SessionDone refl)) z opened
+      session_prints plan sound fitted T failed
+      (λ q. informs_hold plan.switches.quiet (codes "done" ∷ []) q (SessionDone refl)) At Fails pass m0 f0
+      (λ q is. own_signature plan.switches.quiet q)
+      (actions_true (work plan) (OpenSession ∷ []) (work_fits plan fitted) refl) z opened
 
   pub session_goes : All (IsFitted plan.part) plan.tasks → (p : Programmer) (turns : List Turn) → Idle plan.part m0 p
       → Prints T (AtMoment plan m0) (AtEnd plan m0 ⊤) (session plan) (p, turns)
