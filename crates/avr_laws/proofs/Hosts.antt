@@ -2,6 +2,6 @@
 pub mod AnyTurn
 pub mod Attempts
 pub mod Operations
-pub mod OneLine
+pub mod OneLink
 pub mod Outputs
 pub mod FrameSizes

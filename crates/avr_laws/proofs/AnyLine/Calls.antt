@@ -1,4 +1,4 @@
--- A play of steps, judged, and what is said of its outcome: where it stands on a line.
+-- A run of steps, its judgement and the output about it: where they are along a link.
 use Rattle.std.proofs.Common.{◌≡◌, ℕ, zero, suc, List, [], ◌∷◌, refl, sym, ◌∙◌, Ok, Err, Result}
 use Rattle.avr_desk.specs.Said.{OutputEvent}
 use Rattle.stk_host.specs.declared.fault.HostFault.{HostFault}
@@ -32,7 +32,7 @@ module _ {P : Type 0} (m : Device P) where
     abbrev told : Dialog ⊥ StepOutcome → Dialog OutputEvent Standing
     told d = reported (d >>= (λ outcome. Done (judged_by judge outcome))) outcome_says
 
-    -- what is said moves nothing
+    -- output moves nothing
     pub told_programmer : (k : ℕ) (d : Dialog ⊥ StepOutcome) (p : P) (turns : List Turn)
         → (along m k (told d) p turns).programmer ≡ (along m k d p turns).programmer
     told_programmer k (Done o) p turns =
@@ -41,7 +41,7 @@ module _ {P : Type 0} (m : Device P) where
     told_programmer zero (Ask bytes go_on) p turns = refl
     told_programmer (suc k) (Ask bytes go_on) p turns = told_programmer k (go_on _) _ (other_turns turns)
 
-    -- where it is fine all steps were completed
+    -- if the session is fine, all steps were completed
     pub told_fine : (k : ℕ) (d : Dialog ⊥ StepOutcome) (p : P) (turns : List Turn)
         → (along m k (told d) p turns).dialog ≡ Done Fine
         → (got : List ℕ) × ((along m k d p turns).dialog ≡ Done (Ok got))

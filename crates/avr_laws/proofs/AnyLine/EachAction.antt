@@ -1,4 +1,4 @@
--- The actions of a session on one line, where a step may fail or none does: what they print, and what they leave.
+-- The actions of a session over one link, on which steps may fail or none does: their output, and what they leave.
 use Rattle.std.proofs.Common.{◌≡◌, List, [], ◌∷◌, ◌++◌, append_assoc, refl, sym, ap, ap₂, ◌∙◌, subst, inl, inr, ◌⊎◌, Ok, Err, Result}
 use Rattle.std.specs.Prelude.{⊤}
 use Rattle.avr_cli.specs.declared.settings.Switches.{Switches}
@@ -25,13 +25,13 @@ use Rattle.avr_laws.proofs.AnyLine.FirstSteps.{Rests, rests_here, rests_before, 
 use Rattle.avr_laws.proofs.Given.Comparisons.{signature_taken}
 use Rattle.avr_laws.proofs.Hosts.AnyTurn.{Keeps}
 use Rattle.avr_laws.proofs.Hosts.Operations.{AfterCall, operation_goes, beginning_goes}
-use Rattle.avr_laws.proofs.Hosts.OneLine.{Spot, Runs}
+use Rattle.avr_laws.proofs.Hosts.OneLink.{Spot, Runs}
 use Rattle.avr_laws.proofs.Hosts.Outputs.{AllTrue, Prints, stops, prints_reported, prints_then, prints_wider}
 use Rattle.avr_laws.proofs.Leads.{Reached, AfterBeginning}
-use Rattle.avr_laws.proofs.Plans.Calls.{Outcome, outcome_of, call_of, outcome_says, dialog_is, expected_is, IsOperation, is_operation}
+use Rattle.avr_laws.proofs.Plans.Calls.{Outcome, outcome_of, call_of, outcome_says, outcome_expected, dialog_is, expected_is, IsOperation, is_operation}
 use Rattle.avr_laws.proofs.Plans.Fits.{FitsAction, AllFitActions, action_items_fit}
 use Rattle.avr_laws.proofs.Plans.Standings.{after_fault, faulty_fine, over_fine}
-use Rattle.avr_laws.specs.ExpectedRun.{Expected, reported_expected, then_from, ◌then◌, action_expected, actions_expected}
+use Rattle.avr_laws.specs.ExpectedRun.{Expected, then_from, ◌then◌, action_expected, actions_expected}
 use Rattle.avr_laws.specs.Foretold.{SaysFirst, SaysFault}
 use Rattle.avr_laws.specs.Items.{action_items, actions_items}
 
@@ -41,7 +41,7 @@ abbrev pub RestsIn : Part → List Item → Memories → Spot → Type 0
 RestsIn part items m z = Rests part (all_steps part items) m z.0
 
 module _ (part : Part) (s : Switches) (At : Memories → Spot → Type 0) (Fails : Type 0) where
-  -- after the call of an action: its own outcome, and the memories of its items; or, if a step may fail, its fault
+  -- After the call of an action: its own outcome and the memories of its items. If steps may fail, also a step's fault.
   abbrev pub Came : (action : Action) → Memories → Result (Outcome action) HostFault → Spot → Type 0
   Came action m got z =
       ((got ≡ outcome_of part action m) × At (effects part (action_items action) m) z)
@@ -51,19 +51,19 @@ module _ (part : Part) (s : Switches) (At : Memories → Spot → Type 0) (Fails
   abbrev pub Comes : Action → Memories → Spot → Type 0
   Comes action m z = Runs device (λ y. RestsIn part (action_items action) m y) (Came action m) (call_of part s action) z
 
-  -- what the expected run has at this moment
+  -- as the expected run: its state, its output and its memories
   pub record Own (c : Expected) (at : Standing) (said : List OutputEvent) (z : Spot) : Type 0 where
     pub stands : c.standing ≡ at
     pub says_are : said ≡ c.says
     pub left : At c.memories z
 
-  -- a step has failed, and its line was printed last
+  -- a step failed, and its line was printed last
   pub record Broken (actions : List Action) (m : Memories) (at : Standing) (said : List OutputEvent) : Type 0 where
     pub fails : Fails
     pub faulty : at ≡ Fine → ⊥
     pub line : SaysFault part s actions m said
 
-  -- at each question of these actions, and after them
+  -- at each question of these actions; then after them
   abbrev pub Now : List Action → Memories → List OutputEvent → Spot → Type 0
   Now actions m said z = RestsIn part (actions_items actions) m z × SaysFirst part s actions m said
 
@@ -72,16 +72,12 @@ module _ (part : Part) (s : Switches) (At : Memories → Spot → Type 0) (Fails
       × (Own (actions_expected part s actions m) at said z ⊎ Broken actions m at said)
 
   -- after the first of them
-  abbrev pub outcome_expected : Action → Memories → Expected
-  outcome_expected action m =
-      reported_expected (outcome_says part s action) (outcome_of part action m) (effects part (action_items action) m)
-
   abbrev pub AfterOne : Action → List Action → Memories → Standing → List OutputEvent → Spot → Type 0
   AfterOne action rest m at said z = RestsIn part (action_items action) m z
-      × (Own (outcome_expected action m) at said z ⊎ Broken (action ∷ rest) m at said)
+      × (Own (outcome_expected part s action m) at said z ⊎ Broken (action ∷ rest) m at said)
 
-  -- What is known of the calls from such memories on: each action comes to its outcome, and the closing keeps them. A
-  -- fault comes only if a step may fail.
+  -- What the calls do between such conditions. Each action has its outcome, and the closing keeps the memories. A fault
+  -- comes only if steps may fail.
   pub record Passes : Type 0 where
     pub idle : (m : Memories) (z : Spot) → At m z → Idle part m z.0
     pub calls : (action : Action) (m : Memories) (z : Spot) → FitsAction part action → FitsPart part m → At m z
@@ -90,7 +86,7 @@ module _ (part : Part) (s : Switches) (At : Memories → Spot → Type 0) (Fails
         × ((r ≡ Ok tt) ⊎ (Fails × ((fault : StepFault) × (r ≡ Err (host_fault fault)))))) closing z
 
 module _ (part : Part) (sound : IsPart part) (s : Switches) where
-  -- what may come of a call on any line
+  -- the outcomes of a call over any link
   abbrev AnyOutcome : (action : Action) → Memories → Result (Outcome action) HostFault → Programmer → Type 0
   AnyOutcome action m got q = Came part s (λ m z. Settled part m z.0) ⊤ action m got (q, [])
 
@@ -98,7 +94,7 @@ module _ (part : Part) (sound : IsPart part) (s : Switches) where
   ComesAnyhow action m p = Keeps device (Rests part (all_steps part (action_items action)) m) (AnyOutcome action m)
       (call_of part s action) p
 
-  -- an action that is its steps, judged
+  -- an action that is a run of steps and its judgement
   pub operation_comes : (action : Action) (m : Memories) → FitsAction part action → FitsPart part m → (p : Programmer)
       → Settled part m p → ComesAnyhow action m p
   operation_comes action m fits f p settled =
@@ -122,7 +118,7 @@ module _ (part : Part) (sound : IsPart part) (s : Switches) where
       came got q (inl made) = inl (made.1 ∙ o.gives, subst (λ z. Settled part z q) o.all made.0)
       came got q (inr broke) = inr (tt, (broke.0, broke.1, rests q broke.2))
 
-  -- a session that is opened with the part's own signature
+  -- the opening, with the part's own signature
   pub opening_comes : (m : Memories) → FitsPart part m → (p : Programmer) → Idle part m p → ComesAnyhow OpenSession m p
   unfolding opening
   opening_comes m f p idle =
@@ -139,14 +135,14 @@ module _ (part : Part) (sound : IsPart part) (s : Switches) where
       )
       came (Err fault) q i = inr (tt, (fault, refl, rests_here part [] m q i))
 
--- ---- what they print
+-- ---- their output
+
+abbrev pub fault_told : Part → StepFault → List OutputEvent
+fault_told part fault = Line (fault_line part (host_fault fault)) ∷ []
 
 module _ (part : Part) (s : Switches) where
-  abbrev pub fault_told : StepFault → List OutputEvent
-  fault_told fault = Line (fault_line part (host_fault fault)) ∷ []
-
   fault_says : (action : Action) (fault : StepFault)
-      → outcome_says part s action (Err (host_fault fault)) ≡ fault_told fault
+      → outcome_says part s action (Err (host_fault fault)) ≡ fault_told part fault
   fault_says OpenSession of_step.NoAnswer = refl
   fault_says OpenSession fault = refl
   fault_says EraseChip fault = refl
@@ -155,13 +151,11 @@ module _ (part : Part) (s : Switches) where
   fault_says (SaveMemory mem format file) fault = refl
   fault_says (LeaveOut what) fault = refl
 
-  -- what an action prints is true: of its own outcome, and of a step's fault
+  -- the output of an action is true
   module _ (True : OutputEvent → Programmer → Type 0) where
     abbrev pub ActionTrue : Action → Memories → Type 0
-    ActionTrue action m =
-        ((q : Programmer) → memories_of q.chip ≡ effects part (action_items action) m
-        → AllTrue True (outcome_says part s action (outcome_of part action m)) q)
-        × ((fault : StepFault) (q : Programmer) → AllTrue True (fault_told fault) q)
+    ActionTrue action m = (q : Programmer) → memories_of q.chip ≡ effects part (action_items action) m
+        → AllTrue True (outcome_says part s action (outcome_of part action m)) q
 
     abbrev pub ActionsTrue : List Action → Memories → Type 0
     ActionsTrue [] m = ⊤
@@ -169,11 +163,12 @@ module _ (part : Part) (s : Switches) where
         ActionTrue action m × ActionsTrue actions (effects part (action_items action) m)
 
 module _ (part : Part) (sound : IsPart part) (s : Switches) (True : OutputEvent → Programmer → Type 0)
+    (fault_true : (fault : StepFault) (q : Programmer) → AllTrue True (fault_told part fault) q)
     (At : Memories → Spot → Type 0) (Fails : Type 0) (pass : Passes part s At Fails) where
   none_done : (actions : List Action) (m : Memories) → SaysFirst part s actions m []
   none_done actions m = record { done = []; more = actions; actions_are = refl; fine = refl; says_are = refl }
 
-  -- the actions of a session from here on
+  -- these actions keep what is stated of them
   abbrev pub Goes : List Action → Memories → Spot → Type 0
   Goes actions m z =
       Prints True (Now part s At Fails actions m) (After part s At Fails actions m) (actions_dialog part s actions) z
@@ -184,7 +179,7 @@ module _ (part : Part) (sound : IsPart part) (s : Switches) (True : OutputEvent 
     items = action_items action
 
     abbrev c : Expected
-    c = outcome_expected part s At Fails action m
+    c = outcome_expected part s action m
 
     pub action_prints : (z : Spot) → ActionTrue part s True action m → Comes part s At Fails action m z
         → Prints True (λ said y. RestsIn part items m y × SaysFirst part s (action ∷ rest) m said)
@@ -200,7 +195,7 @@ module _ (part : Part) (sound : IsPart part) (s : Switches) (True : OutputEvent 
         each got y (inl made) =
             subst (λ x. AllTrue True (outcome_says part s action x) y.0
             × AfterOne part s At Fails action rest m (standing x) (outcome_says part s action x) y) (sym made.0) (
-              holds.0 y.0 (pass.idle _ y made.1).memories,
+              holds y.0 (pass.idle _ y made.1).memories,
               (
                 rests_all part sound items m y.0 fits f (pass.idle _ y made.1),
                 inl (record { stands = refl; says_are = refl; left = made.1 }),
@@ -208,9 +203,9 @@ module _ (part : Part) (sound : IsPart part) (s : Switches) (True : OutputEvent 
             )
         each got y (inr broke) =
             let fault = broke.1.0 in
-            let line : outcome_says part s action got ≡ fault_told part s fault =
+            let line : outcome_says part s action got ≡ fault_told part fault =
             ap (outcome_says part s action) broke.1.1 ∙ fault_says part s action fault in (
-              subst (λ x. AllTrue True x y.0) (sym line) (holds.1 fault y.0),
+              subst (λ x. AllTrue True x y.0) (sym line) (fault_true fault y.0),
               (
                 broke.1.2,
                 inr (record {
@@ -222,7 +217,7 @@ module _ (part : Part) (sound : IsPart part) (s : Switches) (True : OutputEvent 
               ),
             )
 
-    -- ---- an action, and the next ones unless there was a fault
+    -- ---- an action, then the next ones unless there was a fault
 
     goes_as : (next : Memories → Expected) (at : Standing) → c.standing ≡ at
         → (action_expected part s action m then next) ≡ then_from c at next
@@ -264,7 +259,7 @@ module _ (part : Part) (sound : IsPart part) (s : Switches) (True : OutputEvent 
                 first = first_behind line.told line.first;
                 fault = line.fault;
                 says_are = ap (λ y. said ++ y) line.says_are
-                    ∙ sym (append_assoc said line.told (fault_told part s line.fault));
+                    ∙ sym (append_assoc said line.told (fault_told part line.fault));
               };
             }),
           )

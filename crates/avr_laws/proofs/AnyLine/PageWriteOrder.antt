@@ -1,4 +1,4 @@
--- A session makes the page writes of its plan in their order.
+-- A session makes the page writes of its plan in order.
 use Rattle.std.proofs.Common.{◌≡◌, ℕ, ◌+◌, ◌-◌, List, [], ◌∷◌, take, refl, sym, ap, ◌∙◌, subst, arith, inl, inr, Result}
 use Rattle.std.proofs.lemmas.List.{append-nil}
 use Rattle.std.specs.Prelude.{All, ⊤}
@@ -33,7 +33,7 @@ use Rattle.avr_laws.proofs.AnyLine.FirstSteps.{Rests, rests_here, effects_sizes}
 use Rattle.avr_laws.proofs.AnyLine.Sessions.{anyhow}
 use Rattle.avr_laws.proofs.AnyLine.EachAction.{ComesAnyhow, AfterOne, fault_told, action_prints, operation_comes, opening_comes}
 use Rattle.avr_laws.proofs.Hosts.Operations.{along_told, closing_goes}
-use Rattle.avr_laws.proofs.Hosts.OneLine.{Spot, on_line}
+use Rattle.avr_laws.proofs.Hosts.OneLink.{Spot, on_link}
 use Rattle.avr_laws.proofs.Hosts.Outputs.{AllTrue, Prints, stops, at_moment, prints_reported, prints_then, prints_wider}
 use Rattle.avr_laws.proofs.PageWrites.Steps.{leave_fits}
 use Rattle.avr_laws.proofs.Plans.Calls.{outcome_of, outcome_says, dialog_is, is_operation}
@@ -49,7 +49,7 @@ nothing_after : (x : Dialog OutputEvent Standing) (n : ℕ) → with_next x n (�
 nothing_after (Done s) n = omega arith
 nothing_after d n = refl
 
--- ---- where nothing is asked of what is said
+-- ---- no condition on the output
 
 abbrev Anything : OutputEvent → Programmer → Type 0
 Anything output q = ⊤
@@ -74,12 +74,9 @@ module _ (part : Part) (sound : IsPart part) (s : Switches) where
       prints : Prints Anything (λ said z. Rests part (all_steps part (action_items action)) m z.0)
           (AfterOne part s (λ m z. Settled part m z.0) ⊤ action [] m) (action_dialog part s action) (p, turns)
       prints = prints_wider Anything (λ said z x. x.0) (λ at said z x. x)
-          (action_prints part sound s Anything (λ m z. Settled part m z.0) ⊤ (anyhow part sound s) action [] m fits f
-          (p, turns) (
-            λ q is. any_outputs (outcome_says part s action (outcome_of part action m)) q,
-            λ fault q. any_outputs (fault_told part s fault) q,
-          )
-          (on_line device comes))
+          (action_prints part sound s Anything (λ fault q. any_outputs (fault_told part fault) q)
+          (λ m z. Settled part m z.0) ⊤ (anyhow part sound s) action [] m fits f (p, turns)
+          (λ q is. any_outputs (outcome_says part s action (outcome_of part action m)) q) (on_link device comes))
 
   makes_written : (action : Action) (m : Memories) → FitsAction part action → FitsPart part m
       → action_steps part action ≡ all_steps part (action_items action)
@@ -126,7 +123,7 @@ module _ (part : Part) (sound : IsPart part) (s : Switches) where
     closing_keeps : (outcome_says : Result ⊤ HostFault → List OutputEvent) (z : Spot) → Idle part m z.0
         → Kept (reported closing outcome_says) z
     closing_keeps outcome_says z i =
-        prints_reported Anything outcome_says (on_line device (closing_goes (Idle part m) (leave_fits part m) z.0 i))
+        prints_reported Anything outcome_says (on_link device (closing_goes (Idle part m) (leave_fits part m) z.0 i))
         (λ y i. i) (λ r y x. (any_outputs (outcome_says r) y.0, x.0))
 
     ending_keeps : (at : Standing) (z : Spot) → Idle part m z.0 → Kept (ending part s at) z

@@ -42,7 +42,7 @@ pub record Makes (part : Part) (m : Memories) (items : List Item) (d : Dialog Ou
   pub complete : (k : ℕ) → (along device k d p turns).dialog ≡ Done Fine
       → made k p turns ≡ length (all_steps part items)
 
--- nothing is made where the memories stay
+-- nothing is made if the memories stay
 pub makes_none : (part : Part) (m : Memories) (d : Dialog OutputEvent Standing) (p : Programmer) (turns : List Turn)
     (After : Standing → Programmer → Type 0)
     → Leads device d p turns (Rests part [] m) After → Makes part m [] d none_made p turns
@@ -133,7 +133,7 @@ module _ (part : Part) (sound : IsPart part) where
       let past : made + j ≡ j + length steps = omega (arith, whole) in
       search (rules, whole, stands, all_on, changed_behind, all_changed)
 
-  -- one action, and the next one unless there was a fault
+  -- one action, then the next unless there was a fault
   module _ (m : Memories) (xs ys : List Item) (d next : Dialog OutputEvent Standing)
       (made later : Count Programmer) (p : Programmer) (turns : List Turn)
       (fits : AllFitItems part xs) (f : FitsPart part m)

@@ -1,4 +1,4 @@
--- A session on one line, from its opening to its end: what it prints, what it comes to, and what it leaves.
+-- A session over one link, from its opening to its end: its output, its status, and what it leaves.
 use Rattle.std.proofs.Common.{◌≡◌, ℕ, List, [], ◌++◌, refl, sym, ap, ◌∙◌, subst, inl, inr, ◌⊎◌, Ok, Err, Result, All}
 use Rattle.std.proofs.lemmas.List.{append-nil}
 use Rattle.std.specs.Prelude.{⊤}
@@ -21,7 +21,7 @@ use Rattle.stk_emu.specs.Programmer.{Programmer}
 use Rattle.stk_emu.specs.Settled.{Idle, Settled, FitsPart}
 use Rattle.avr_laws.proofs.AnyLine.EachAction.{RestsIn, Comes, Own, After, Passes, ActionTrue, ActionsTrue, fault_told, operation_comes, goes_cons, goes_actions}
 use Rattle.avr_laws.proofs.Hosts.Operations.{closing_goes}
-use Rattle.avr_laws.proofs.Hosts.OneLine.{Spot, on_line}
+use Rattle.avr_laws.proofs.Hosts.OneLink.{Spot, on_link}
 use Rattle.avr_laws.proofs.Hosts.Outputs.{AllTrue, Prints, stops, prints_reported, prints_then}
 use Rattle.avr_laws.proofs.PageWrites.StepCounts.{items_counted}
 use Rattle.avr_laws.proofs.PageWrites.Steps.{leave_fits}
@@ -32,11 +32,11 @@ use Rattle.avr_laws.specs.Foretold.{SaysFirst, SaysFault, IsForetold}
 use Rattle.avr_laws.specs.Items.{items}
 use Rattle.avr_laws.specs.Outcome.{IsTouched, IsExpectedRun}
 
--- a line on which any step may fail
+-- any link: each step may fail
 pub anyhow : (part : Part) → IsPart part → (s : Switches) → Passes part s (λ m z. Settled part m z.0) ⊤
 anyhow part sound s = record {
   idle = λ m z t. settled_idle part m z.0 t;
-  calls = λ action m z fits f t. on_line device (operation_comes part sound s action m fits f z.0 t);
+  calls = λ action m z fits f t. on_link device (operation_comes part sound s action m fits f z.0 t);
   closes = λ m z t.
       wider (λ bytes y i. i) (λ e y x. x) (λ r y x. (
         x.0,
@@ -44,14 +44,14 @@ anyhow part sound s = record {
           | inl ok ↦ inl ok
           | inr broke ↦ inr (tt, broke)
         ],
-      )) (on_line device (closing_goes (Idle part m) (leave_fits part m) z.0 (settled_idle part m z.0 t)));
+      )) (on_link device (closing_goes (Idle part m) (leave_fits part m) z.0 (settled_idle part m z.0 t)));
 }
 
 module _ (plan : Plan) (m : Memories) where
   abbrev pub AtMoment : List OutputEvent → Spot → Type 0
   AtMoment said y = IsTouched plan m (memories_of y.0.chip) × IsForetold plan m said
 
-  -- with a status: as the expected run, or after the line of a step that failed
+  -- with a status: as the expected run, or status 1 after the line of a failed step
   abbrev pub AtEnd : Type 0 → ℕ → List OutputEvent → Spot → Type 0
   AtEnd Fails status said y = IsTouched plan m (memories_of y.0.chip)
       × (IsExpectedRun plan m (memories_of y.0.chip) said status
@@ -63,8 +63,10 @@ module _ (plan : Plan) (m : Memories) where
   at_last Fails status said y (touched, inr broke) = (touched, inr (inr broke.1.0))
 
 module _ (plan : Plan) (sound : IsPart plan.part) (fitted : All (IsFitted plan.part) plan.tasks)
-    (True : OutputEvent → Programmer → Type 0) (At : Memories → Spot → Type 0) (Fails : Type 0)
-    (pass : Passes plan.part plan.switches At Fails) (m : Memories) (f : FitsPart plan.part m) where
+    (True : OutputEvent → Programmer → Type 0)
+    (fault_true : (fault : StepFault) (q : Programmer) → AllTrue True (fault_told plan.part fault) q)
+    (done_true : (q : Programmer) → AllTrue True (closed_says plan.switches.quiet plan.part (Ok tt)) q)
+    (At : Memories → Spot → Type 0) (Fails : Type 0) (pass : Passes plan.part plan.switches At Fails) (m : Memories) (f : FitsPart plan.part m) where
   abbrev part : Part
   part = plan.part
 
@@ -90,11 +92,9 @@ module _ (plan : Plan) (sound : IsPart plan.part) (fitted : All (IsFitted plan.p
     says_are = is;
   }
 
-  -- where all has gone well
+  -- if all went well
   module _ (said : List OutputEvent) (y : Spot) (rests : RestsIn part (items plan) m y)
-      (own : Own part s At Fails w Fine said y) (done_true : (q : Programmer)
-      → AllTrue True (closed_says s.quiet part (Ok tt)) q)
-      (fault_true : (fault : StepFault) (q : Programmer) → AllTrue True (fault_told part s fault) q) where
+      (own : Own part s At Fails w Fine said y) where
     left : (z : Spot) → Idle part w.memories z.0 → IsTouched plan m (memories_of z.0.chip)
     left z i = touched y z rests (i.memories ∙ sym (pass.idle w.memories y own.left).memories)
 
@@ -132,7 +132,7 @@ module _ (plan : Plan) (sound : IsPart plan.part) (fitted : All (IsFitted plan.p
           ),
         )
 
-  -- with a fault: what is left afterwards
+  -- after a fault
   with_fault : (at : Standing) (said : List OutputEvent) (y z : Spot) → ending_says plan at ≡ [] → status_of at ≡ 1
       → After part s At Fails (actions plan) m at said y → memories_of z.0.chip ≡ memories_of y.0.chip
       → AtEnd plan m Fails 1 said z
@@ -148,41 +148,40 @@ module _ (plan : Plan) (sound : IsPart plan.part) (fitted : All (IsFitted plan.p
   with_fault at said y z none one (rests, inr broken) kept =
       (touched y z rests kept, inr (broken.fails, (broken.line, refl)))
 
-  module _ (opening_true : ActionTrue part s True OpenSession m) (work_true : ActionsTrue part s True (work plan) m)
-      (done_true : (q : Programmer) → AllTrue True (closed_says s.quiet part (Ok tt)) q) where
-    ending_prints : (at : Standing) (said : List OutputEvent) (y : Spot)
-        → After part s At Fails (actions plan) m at said y
-        → Prints True (λ x. AtMoment plan m (said ++ x)) (λ b x. AtEnd plan m Fails (status_of b) (said ++ x))
-        (ending part s at) y
-    ending_prints Fine said y (rests, inl own) =
-        prints_reported True (closed_says s.quiet part) (pass.closes w.memories y own.left)
-        (λ z i. (
-          left said y rests own done_true opening_true.1 z i,
-          inr (inl (all_done (said ++ []) (append-nil said ∙ own.says_are) own.stands)),
-        ))
-        (closed said y rests own done_true opening_true.1)
-    ending_prints Fine said y (rests, inr broken) = absurd (broken.faulty refl)
-    ending_prints Faulty said y after =
-        let before = changed_by part after.0.count (all_steps part (items plan)) m in
-        let left : (z : Spot) → Idle part before z.0 → AtEnd plan m Fails 1 (said ++ []) z =
-        λ z i. subst (λ x. AtEnd plan m Fails 1 x z) (sym (append-nil said))
-        (with_fault Faulty said y z refl refl after (i.memories ∙ sym after.0.stands.memories)) in
-        prints_then True (λ x z now. now)
-        (prints_reported True {Then = λ at x z. AtEnd plan m Fails 1 (said ++ x) z} (λ _. [])
-        (on_line device (closing_goes (Idle part before) (leave_fits part before) y.0 after.0.stands))
-        (λ z i. at_last plan m Fails 1 (said ++ []) z (left z i)) (λ r z x. (tt, left z x.0)))
-        (λ closed x z a. stops True (λ b v. AtEnd plan m Fails (status_of b) (said ++ v)) Over x z a)
-    ending_prints Over said y after =
-        stops True (λ b. AtEnd plan m Fails (status_of b)) Over said y
-        (with_fault Over said y y refl refl after refl)
+  ending_prints : (at : Standing) (said : List OutputEvent) (y : Spot)
+      → After part s At Fails (actions plan) m at said y
+      → Prints True (λ x. AtMoment plan m (said ++ x)) (λ b x. AtEnd plan m Fails (status_of b) (said ++ x))
+      (ending part s at) y
+  ending_prints Fine said y (rests, inl own) =
+      prints_reported True (closed_says s.quiet part) (pass.closes w.memories y own.left)
+      (λ z i. (
+        left said y rests own z i,
+        inr (inl (all_done (said ++ []) (append-nil said ∙ own.says_are) own.stands)),
+      ))
+      (closed said y rests own)
+  ending_prints Fine said y (rests, inr broken) = absurd (broken.faulty refl)
+  ending_prints Faulty said y after =
+      let before = changed_by part after.0.count (all_steps part (items plan)) m in
+      let left : (z : Spot) → Idle part before z.0 → AtEnd plan m Fails 1 (said ++ []) z =
+      λ z i. subst (λ x. AtEnd plan m Fails 1 x z) (sym (append-nil said))
+      (with_fault Faulty said y z refl refl after (i.memories ∙ sym after.0.stands.memories)) in
+      prints_then True (λ x z now. now)
+      (prints_reported True {Then = λ at x z. AtEnd plan m Fails 1 (said ++ x) z} (λ _. [])
+      (on_link device (closing_goes (Idle part before) (leave_fits part before) y.0 after.0.stands))
+      (λ z i. at_last plan m Fails 1 (said ++ []) z (left z i)) (λ r z x. (tt, left z x.0)))
+      (λ closed x z a. stops True (λ b v. AtEnd plan m Fails (status_of b) (said ++ v)) Over x z a)
+  ending_prints Over said y after =
+      stops True (λ b. AtEnd plan m Fails (status_of b)) Over said y
+      (with_fault Over said y y refl refl after refl)
 
-    pub session_prints : (z : Spot) → Comes part s At Fails OpenSession m z
-        → Prints True (AtMoment plan m) (AtEnd plan m Fails) (session plan) z
-    unfolding session
-    session_prints z opened =
-        prints_then True (λ x y now. now)
-        (prints_then True (λ x y now. (touched y y now.0 refl, inr (inl now.1)))
-        (goes_cons part sound s True At Fails pass OpenSession (work plan) m tt f z opening_true opened
-        (λ y there. goes_actions part sound s True At Fails pass (work plan) m y (work_fits plan fitted) f work_true
-        there)) ending_prints)
-        (λ at said y a. stops True (AtEnd plan m Fails) (status_of at) said y a)
+  pub session_prints : ActionTrue part s True OpenSession m → ActionsTrue part s True (work plan) m → (z : Spot)
+      → Comes part s At Fails OpenSession m z
+      → Prints True (AtMoment plan m) (AtEnd plan m Fails) (session plan) z
+  unfolding session
+  session_prints opening_true work_true z opened =
+      prints_then True (λ x y now. now)
+      (prints_then True (λ x y now. (touched y y now.0 refl, inr (inl now.1)))
+      (goes_cons part sound s True fault_true At Fails pass OpenSession (work plan) m tt f z opening_true opened
+      (λ y there. goes_actions part sound s True fault_true At Fails pass (work plan) m y (work_fits plan fitted) f work_true
+      there)) ending_prints)
+      (λ at said y a. stops True (AtEnd plan m Fails) (status_of at) said y a)

@@ -1,5 +1,5 @@
--- The calls of a host over a line on which few frames go wrong: each has all its data, and no fault but of what they
--- are.
+-- The calls of a host over a link on which few frames go wrong. Each has all its data, and only the faults that these
+-- data give.
 use Rattle.std.proofs.Common.{ℕ, List, [], ◌∷◌, length, refl, subst, arith, inl, Bool, Ok}
 use Rattle.avr_cli.specs.declared.settings.Switches.{Switches}
 use Rattle.avr_part.specs.declared.part.Mem.TheVariants.{Signature}
@@ -25,7 +25,7 @@ use Rattle.avr_laws.proofs.Given.Comparisons.{signature_taken}
 use Rattle.avr_laws.proofs.Given.FewBadTurns.{Few, few_bind, few_told, few_step, few_play}
 use Rattle.avr_laws.proofs.Given.WholeMemories.{read_gives}
 use Rattle.avr_laws.proofs.Hosts.Operations.{closing_goes}
-use Rattle.avr_laws.proofs.Hosts.OneLine.{Spot, on_line, both}
+use Rattle.avr_laws.proofs.Hosts.OneLink.{Spot, on_link, both}
 use Rattle.avr_laws.proofs.PageWrites.Items.{read_are_steps}
 use Rattle.avr_laws.proofs.PageWrites.Steps.{sign_on_steady, enter_ready, leave_steady, leave_fits}
 use Rattle.avr_laws.proofs.Plans.Calls.{outcome_of, call_of, is_operation}
@@ -83,7 +83,7 @@ few_closing part m =
 
 -- ---- the calls of a session
 
--- in programming mode, and few of the turns to come are bad
+-- the programmer is in programming mode, and few of the turns to come are bad
 abbrev pub AtFew : Part → Memories → Spot → Type 0
 AtFew part m z = Ready part m z.0 × AreFew z.1
 
@@ -92,12 +92,12 @@ no_failure part sound s = record {
   idle = λ m z t. ready_idle part m z.0 t.0;
   calls = λ action m z fits f t.
       wider (λ bytes y r. r) (λ e y x. x) (λ got y x. inl (x.1.0.0, (x.1.0.1, x.1.1)))
-      (both device (on_line device (operation_comes part sound s action m fits f z.0 (ready_settled part m z.0 t.0)))
+      (both device (on_link device (operation_comes part sound s action m fits f z.0 (ready_settled part m z.0 t.0)))
       (few_operation part sound m f s action fits z t.0 t.1));
   closes = λ m z t.
       let i = ready_idle part m z.0 t.0 in
       wider (λ bytes y i. i) (λ e y x. x) (λ r y x. (x.0.0, inl x.1.0.0))
-      (both device (on_line device (closing_goes (Idle part m) (leave_fits part m) z.0 i))
+      (both device (on_link device (closing_goes (Idle part m) (leave_fits part m) z.0 i))
       (few_closing part m z i t.1));
 }
 
@@ -105,5 +105,5 @@ pub few_opens : (part : Part) (sound : IsPart part) (s : Switches) (m : Memories
     → Idle part m z.0 → AreFew z.1 → Comes part s (AtFew part) ⊥ OpenSession m z
 few_opens part sound s m z f idle few =
     wider (λ bytes y r. r) (λ e y x. x) (λ got y x. inl (x.1.0.0, (x.1.0.1, x.1.1)))
-    (both device (on_line device (opening_comes part sound s m f z.0 idle))
+    (both device (on_link device (opening_comes part sound s m f z.0 idle))
     (few_opening part sound m f s.force z idle few))

@@ -24,7 +24,7 @@ use Rattle.stk_emu.specs.Settled.{Ready, FitsPart}
 use Rattle.stk_emu.specs.PageWrites.{changed, changed_by, IsStep, Erases, ProgramsPage, ProgramsRun, ProgramsFuse, ProgramsLock, ReadsFlash, ReadsEeprom, ReadsFuse, ReadsLock, ReadsSignature, ReadsCalibration, AreSteps}
 use Rattle.stk_emu.specs.Given.{on_data, reply_to, joined_reply, given_by, all_given}
 use Rattle.avr_laws.proofs.Hosts.AnyTurn.{AfterStep, try_goes}
-use Rattle.avr_laws.proofs.Hosts.OneLine.{Spot, this_line, Runs, on_line, both, where_done}
+use Rattle.avr_laws.proofs.Hosts.OneLink.{Spot, this_link, Runs, on_link, both, where_done}
 use Rattle.stk_emu.proofs.Answers.Commands.{steady}
 use Rattle.avr_laws.proofs.PageWrites.Steps.{step_ready}
 use Rattle.avr_laws.proofs.PageWrites.OutsideMode.{gathered_steady, stop_no}
@@ -58,7 +58,7 @@ good_few [] good = tt
 good_few (turn ∷ turns) good = (let none = none_bad 7 (turn ∷ turns) good in omega (arith, none), good_few turns good.1)
 
 module _ {E R : Type 0} where
-  -- of turns to come few are bad, so of those that are left
+  -- if few of the turns to come are bad, so are few of those that are left
   pub few_left : (k : ℕ) (d : Dialog E R) (p : Programmer) (turns : List Turn) → AreFew turns
       → AreFew (along device k d p turns).turns
   few_left k (Done r) p turns few = few
@@ -66,7 +66,7 @@ module _ {E R : Type 0} where
   few_left zero (Ask bytes go_on) p turns few = few
   few_left (suc k) (Ask bytes go_on) p turns few = few_left k (go_on _) _ (other_turns turns) (others_few turns few)
 
-  -- a dialog that asks at most so many questions is done after them
+  -- a dialog that asks at most `n` questions is done after `n`
   pub done_within : (n k : ℕ) (d : Dialog E R) (p : Programmer) (turns : List Turn) → AsksAtMost n d → n ≤ k
       → (r : R) × ((along device k d p turns).dialog ≡ Done r)
   done_within n k (Done r) p turns asks le = (r, refl)
@@ -197,9 +197,9 @@ few_steady : (turns : List Turn) → AreFew turns → AreSteady turns
 few_steady [] few = tt
 few_steady (turn ∷ turns) few = (not_four turn (let le = few.0 in omega (arith, le)), few_steady turns few.1)
 
--- ---- attempts and steps, where nothing begins anew
+-- ---- attempts and steps of a programmer that never restarts
 
--- wherever a dialog comes to a reply, an attempt of so many frames was tried
+-- whenever the dialog ends with a reply, an attempt of `size` frames was tried
 abbrev Tries : ℕ → List Turn → List ℕ → Dialog ⊥ Reply → Spot → Type 0
 Tries size turns got d z = Runs steady (λ y. ⊤) (λ reply y. Tried size turns got reply y.1 × AreFew y.1) d z
 
@@ -228,7 +228,7 @@ module _ (go_on : List ℕ → Dialog ⊥ Reply) (go : List ℕ → Reply) (size
   by_turn (Wrong became instead) command p is calm each has =
       done (wrong size turns got _ (let some = some_bad became in omega (arith, is, some)), few)
 
--- an attempt whose commands would all have data: they come, or a frame went wrong
+-- an attempt whose commands would all have data: the data come, or a frame went wrong
 attempt_tried : (commands : List Command) (before : List ℕ) (z : Spot) (got : List ℕ) → AreFew z.1
     → joined_reply steady commands before z.0 ≡ Data got
     → Tries (length commands) z.1 got (attempt commands before) z
@@ -242,14 +242,14 @@ attempt_tried (command ∷ commands) before z got few has =
     z.0 refl (first_steady z.1 (few_steady z.1 few))
     (λ bytes f. attempt_tried commands (before ++ bytes) (q, other_turns z.1) got left f) has)
 
--- a step of at most two commands, which have these data from under the one condition and the other
+-- a step of at most two commands, which have these data under either condition
 module _ (Before After : Programmer → Type 0) (commands : List Command) (got : List ℕ)
     (fits : Fits steady commands Before After) (short : length commands ≤ 2)
     (has : (q : Programmer) → Before q ⊎ After q → joined_reply device commands [] q ≡ Data got) where
   abbrev Whole : StepOutcome → Spot → Type 0
   Whole o z = ((o ≡ Ok got) × After z.0) × AreFew z.1
 
-  -- with so many attempts left
+  -- with this many attempts left
   abbrev Begins : ℕ → Spot → Type 0
   Begins zero z = ⊥
   Begins (suc more) z = (Before z.0 ⊎ After z.0) × (AreFew z.1 × Clear more z.1)
@@ -276,9 +276,9 @@ module _ (Before After : Programmer → Type 0) (commands : List Command) (got :
 
   step_steady : (z : Spot) → Before z.0 → AreFew z.1 → Runs steady (λ y. ⊤) Whole (step commands) z
   step_steady z before few =
-      attempts (this_line steady) (λ bytes y. ⊤) commands Begins Whole
+      attempts (this_link steady) (λ bytes y. ⊤) commands Begins Whole
       (λ more y begins. wider (λ bytes y x. tt) (λ e y x. x) (after_try more y.1 begins.1.1)
-      (both steady (on_line steady (try_goes steady commands Before After fits y.0 begins.0))
+      (both steady (on_link steady (try_goes steady commands Before After fits y.0 begins.0))
       (attempt_tried commands [] y got begins.1.0 (gathered_steady commands [] y.0 ∙ has y.0 begins.0))))
       (λ fault y none. absurd none) 4 NoAnswer z
       (inl before, (few, record { here = in_seven z.1 few; next = in_seven (other_turns z.1) (others_few z.1 few) }))
@@ -288,23 +288,23 @@ same_after : {P : Type 0} (turn : Turn) (obeyed kept : P) (anew other : P → P)
 same_after (Wrong (Anew became) instead) obeyed kept anew other s = absurd s.0
 same_after turn obeyed kept anew other s = refl
 
--- where nothing begins anew the programmer may begin anew
+-- over such turns no device restarts
 on_steady : {R : Type 0} (After : R → Spot → Type 0) (d : Dialog ⊥ R) (z : Spot) → AreSteady z.1
-    → HoldsFrom (this_line steady) (λ bytes y. ⊤) NoSays After d z
-    → HoldsFrom (this_line device) (λ bytes y. ⊤) NoSays After d z
+    → HoldsFrom (this_link steady) (λ bytes y. ⊤) NoSays After d z
+    → HoldsFrom (this_link device) (λ bytes y. ⊤) NoSays After d z
 on_steady After (Done r) z s h = h
 on_steady After (Say e d) z s h = absurd e
 on_steady After (Ask bytes go_on) z s h = (
   tt,
-  λ move. subst (λ q. HoldsFrom (this_line device) (λ bytes y. ⊤) NoSays After
+  λ move. subst (λ q. HoldsFrom (this_link device) (λ bytes y. ⊤) NoSays After
       (go_on (turn_reading (first_turn z.1) (device.answer bytes z.0))) (q, other_turns z.1))
       (same_after (first_turn z.1) (device.after bytes z.0) z.0 (λ q. q) device.reset (first_steady z.1 s))
       (on_steady After (go_on _) _ (others_steady z.1 s) (h.1 tt)),
 )
 
--- ---- calls over such a line
+-- ---- calls over such a link
 
--- from each programmer under the one condition to this result and one under the other
+-- from each programmer under the first condition to this result and one under the second
 abbrev pub Few : {R : Type 0} → (Programmer → Type 0) → Dialog ⊥ R → R → (Programmer → Type 0) → Type 0
 Few Before d r After = (z : Spot) → Before z.0 → AreFew z.1
     → Runs device (λ y. ⊤) (λ got y. ((got ≡ r) × After y.0) × AreFew y.1) d z
@@ -315,13 +315,13 @@ few_bind next a b Before Between After d first more z before few = bind (first z
     (λ got y x. subst (λ o. Runs device (λ y. ⊤) (λ got y. ((got ≡ b) × After y.0) × AreFew y.1) (next o) y) (sym x.0.0)
     (more y x.0.1 x.1))
 
--- the outcome of a call, reported otherwise
+-- the result of a call, reported in another form
 pub few_told : {A B : Type 0} (d : Dialog ⊥ A) (tell : A → B) (a : A) (Before After : Programmer → Type 0)
     → Few Before d a After → Few Before (d >>= (λ outcome. Done (tell outcome))) (tell a) After
 few_told d tell a Before After l z before few =
     told tell (l z before few) (λ got y x. ((ap tell x.0.0, x.0.1), x.1))
 
--- a step of at most two commands, which have these data from under the one condition and the other
+-- a step of at most two commands, which have these data under either condition
 pub few_step : (commands : List Command) (got : List ℕ) (Before After : Programmer → Type 0)
     → Fits steady commands Before After → length commands ≤ 2
     → ((q : Programmer) → Before q ⊎ After q → joined_reply device commands [] q ≡ Data got)
@@ -376,7 +376,7 @@ module _ (part : Part) (sound : IsPart part) where
       (where_done device (step commands) (p, turns) (few_one commands m is f (p, turns) ready few) k within.0
       within.1).0.0
 
-  -- a play of steps comes to all that they give
+  -- a run of steps gives all that they give
   pub few_play : (steps : List (List Command)) (m : Memories) (before : List ℕ) → AreSteps part steps → FitsPart part m
       → Few (Ready part m) (play steps before) (Ok (before ++ all_given part steps m))
       (Ready part (changed_by part (length steps) steps m))

@@ -52,7 +52,7 @@ module _ {P : Type 0} (m : Device P) where
     after = λ k. (led J Says A A' at_end d k p turns l.holds).1;
   }
 
-  -- what a call upholds where one condition holds throughout
+  -- what a call upholds if one condition holds throughout
   abbrev pub Keeps : {R : Type 0} → (P → Type 0) → (R → P → Type 0) → Dialog ⊥ R → P → Type 0
   Keeps During After d p = Upholds (any_turn m) (λ bytes q. During q) NoSays After d p
 
@@ -137,7 +137,12 @@ module _ {P : Type 0} (m : Device P) where
     step_leads During Whole p from to failed before =
         search (rules, wider, step_goes)
 
-    -- along each line
+        ended : (o : StepOutcome) (q : P) → AfterStep o q
+            → OnOutcome (λ got q. After q × Gives m commands Before After got) Whole o q
+        ended (Ok got) q x = x
+        ended (Err fault) q x = failed fault q (either q x)
+
+    -- along each link
     pub step_along : (p : P) (turns : List Turn) → Before p → Leads m (step commands) p turns Either AfterStep
     step_along p turns before = leads at_end (step_goes p before)
       where

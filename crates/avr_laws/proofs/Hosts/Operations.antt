@@ -1,4 +1,4 @@
--- The operations of a host over any line, in the logic of dialogs: what holds during and after them.
+-- The operations of a host over any link, in the logic of dialogs: what holds during and after them.
 use Rattle.std.proofs.Common.{◌≡◌, ℕ, suc, List, [], ◌∷◌, ◌++◌, length, append_assoc, refl, sym, ap, ◌∙◌, subst, ◌⊎◌, inl, inr, Ok, Err, Result}
 use Rattle.std.proofs.lemmas.List.{append-nil}
 use Rattle.std.specs.Prelude.{⊤}
@@ -136,7 +136,7 @@ closing_goes Stands fits p stands =
 
 -- ---- along a link
 
--- a dialog whose result is only reported otherwise
+-- a dialog whose result is reported in another form
 abbrev reported : {E A B P : Type 0} → (A → B) → LineState E A P → LineState E B P
 reported tell s = record {
   dialog = s.dialog >>= (λ a. Done (tell a));

@@ -1,4 +1,4 @@
--- Dialogs on one line with what they print: what holds at each question, and where they are done.
+-- Dialogs over one link, by their output: what holds at each question, and when they are done.
 use Rattle.std.proofs.Common.{◌≡◌, ℕ, zero, suc, List, [], ◌∷◌, ◌++◌, sym, subst, Result}
 use Rattle.std.proofs.lemmas.List.{append-nil}
 use Rattle.std.specs.Prelude.{⊤}
@@ -12,26 +12,26 @@ use Rattle.stk_host.proofs.Dialogs.Logic.{World, HoldsFrom, NoSays}
 use Rattle.stk_host.specs.Dialog.{Dialog, Done, Say, Ask, ◌>>=◌}
 use Rattle.stk_host.specs.declared.fault.HostFault.{HostFault}
 use Rattle.avr_laws.proofs.Hosts.AnyTurn.{asks≢done, done_is}
-use Rattle.avr_laws.proofs.Hosts.OneLine.{Spot, this_line, Runs, spot}
+use Rattle.avr_laws.proofs.Hosts.OneLink.{Spot, this_link, Runs, spot}
 use Rattle.avr_laws.specs.Told.{TellsTrue}
 use Rattle.stk_host.proofs.Dialogs.Bound.{bind_done}
 
-abbrev line : World Spot ⊤
-line = this_line device
+abbrev link : World Spot ⊤
+link = this_link device
 
 -- each of these output events is true of a programmer
 abbrev pub AllTrue : (OutputEvent → Programmer → Type 0) → List OutputEvent → Programmer → Type 0
 AllTrue True [] q = ⊤
 AllTrue True (output ∷ outputs) q = True output q × AllTrue True outputs q
 
--- what may hold at a moment, by what was printed, and where a dialog is done
+-- a condition on the output so far, and one on a result too
 abbrev pub Moment : Type 1
 Moment = List OutputEvent → Spot → Type 0
 
 abbrev pub End : Type 0 → Type 1
 End R = R → List OutputEvent → Spot → Type 0
 
--- along the line, after so many questions
+-- both, after `k` questions along the link
 pub record Printed {R : Type 0} (Now : Moment) (After : End R) (k : ℕ) (d : Dialog OutputEvent R) (z : Spot) : Type
     0 where
   pub now : Now (said_along device k d z.0 z.1) (spot device k d z)
@@ -39,18 +39,18 @@ pub record Printed {R : Type 0} (Now : Moment) (After : End R) (k : ℕ) (d : Di
       → After r (said_along device k d z.0 z.1) (spot device k d z)
 
 module _ (True : OutputEvent → Programmer → Type 0) where
-  -- Each output event is true where it is printed; at each question what was printed is as foreseen, and at the end.
+  -- Each output event is true when it is printed. The first condition holds at each question, the second at the end.
   abbrev pub PrintsFrom : {R : Type 0} → Moment → End R → Dialog OutputEvent R → Spot → Type 0
   PrintsFrom Now After (Done r) z = After r [] z
   PrintsFrom Now After (Say output d) z =
       True output z.0 × PrintsFrom (λ x. Now (output ∷ x)) (λ r x. After r (output ∷ x)) d z
   PrintsFrom Now After (Ask bytes go_on) z =
-      Now [] z × PrintsFrom Now After (go_on (line.reads bytes z tt)) (line.after bytes z tt)
+      Now [] z × PrintsFrom Now After (go_on (link.reads bytes z tt)) (link.after bytes z tt)
 
   pub record Prints {R : Type 0} (Now : Moment) (After : End R) (d : Dialog OutputEvent R) (z : Spot) : Type 0 where
     pub holds : PrintsFrom Now After d z
 
-  -- it stops behind what was printed
+  -- nothing more is printed
   pub stops : {R : Type 0} {Now : Moment} (After : End R) (r : R) (said : List OutputEvent) (z : Spot) → After r said z
       → Prints Now (λ b x. After b (said ++ x)) (Done r) z
   stops After r said z a = record { holds = subst (λ x. After r x z) (sym (append-nil said)) a }
@@ -61,7 +61,7 @@ module _ (True : OutputEvent → Programmer → Type 0) where
   on_outputs Now After (output ∷ outputs) r z all a =
       (all.0, on_outputs (λ x. Now (output ∷ x)) (λ r x. After r (output ∷ x)) outputs r z all.1 a)
 
-  -- a call, and what is printed of its outcome
+  -- a call and the output about its outcome
   pub prints_reported : {A : Type 0} {During : Spot → Type 0} {After : Result A HostFault → Spot → Type 0}
       {Now : Moment} {Then : End Standing} {d : Dialog ⊥ (Result A HostFault)} {z : Spot}
       (outcome_says : Result A HostFault → List OutputEvent) → Runs device During After d z
@@ -72,13 +72,13 @@ module _ (True : OutputEvent → Programmer → Type 0) where
   prints_reported {A = A} {During = During} {After = After} {Now = Now} {Then = Then} {d = d} {z = z} outcome_says l f
       each = record { holds = on d z l.holds }
     where
-      on : (d : Dialog ⊥ (Result A HostFault)) (z : Spot) → HoldsFrom line (λ bytes y. During y) NoSays After d z
+      on : (d : Dialog ⊥ (Result A HostFault)) (z : Spot) → HoldsFrom link (λ bytes y. During y) NoSays After d z
           → PrintsFrom Now Then (reported d outcome_says) z
       on (Done r) z h = let x = each r z h in on_outputs Now Then (outcome_says r) (standing r) z x.0 x.1
       on (Say e d) z h = absurd e
-      on (Ask bytes go_on) z h = (f z h.0, on (go_on _) (line.after bytes z tt) (h.1 tt))
+      on (Ask bytes go_on) z h = (f z h.0, on (go_on _) (link.after bytes z tt) (h.1 tt))
 
-  -- a dialog, and the next one from where it comes to its result
+  -- a dialog, then the next one from its result
   on_bind : {A B : Type 0} (Now Now' : Moment) (Between : End A) (After : End B) (next : A → Dialog OutputEvent B)
       → ((said : List OutputEvent) (y : Spot) → Now said y → Now' said y)
       → ((a : A) (said : List OutputEvent) (y : Spot) → Between a said y
@@ -91,7 +91,7 @@ module _ (True : OutputEvent → Programmer → Type 0) where
         (λ b x. After b (output ∷ x)) next (λ x. f (output ∷ x)) (λ a x. more a (output ∷ x)) d z h.1,
   )
   on_bind Now Now' Between After next f more (Ask bytes go_on) z h =
-      (f [] z h.0, on_bind Now Now' Between After next f more (go_on _) (line.after bytes z tt) h.1)
+      (f [] z h.0, on_bind Now Now' Between After next f more (go_on _) (link.after bytes z tt) h.1)
 
   pub prints_then : {A B : Type 0} {Now Now' : Moment} {Between : End A} {After : End B}
       {next : A → Dialog OutputEvent B} {d : Dialog OutputEvent A} {z : Spot}
@@ -124,7 +124,7 @@ module _ (True : OutputEvent → Programmer → Type 0) where
   on_moment Now After last zero (Ask bytes go_on) z h =
       record { now = h.0; after = λ r e. absurd (asks≢done bytes go_on r e) }
   on_moment Now After last (suc k) (Ask bytes go_on) z h =
-      let more = on_moment Now After last k (go_on _) (line.after bytes z tt) h.1 in
+      let more = on_moment Now After last k (go_on _) (link.after bytes z tt) h.1 in
       record { now = more.now; after = more.after }
 
   pub at_moment : {R : Type 0} {Now : Moment} {After : End R} {d : Dialog OutputEvent R} {z : Spot}
@@ -138,4 +138,4 @@ module _ (True : OutputEvent → Programmer → Type 0) where
   all_true Now After k (Say output d) z h =
       (h.0, all_true (λ x. Now (output ∷ x)) (λ r x. After r (output ∷ x)) k d z h.1)
   all_true Now After zero (Ask bytes go_on) z h = tt
-  all_true Now After (suc k) (Ask bytes go_on) z h = all_true Now After k (go_on _) (line.after bytes z tt) h.1
+  all_true Now After (suc k) (Ask bytes go_on) z h = all_true Now After k (go_on _) (link.after bytes z tt) h.1

@@ -1,4 +1,4 @@
--- Each action is one call of the host, of which an outcome is reported; all but the opening are their steps, judged.
+-- Each action is one call of the host and the output about its outcome. All but the opening are steps and a judgement.
 use Rattle.std.proofs.Common.{◌≡◌, ℕ, List, [], length, refl, sym, ap, ◌∙◌, arith, Ok, Err, Result}
 use Rattle.std.proofs.lemmas.Bool.{cond-true}
 use Rattle.std.proofs.lemmas.List.{append-nil}
@@ -26,7 +26,7 @@ use Rattle.avr_laws.proofs.AnyLine.FirstSteps.{quiet_stays, read_quiet}
 use Rattle.avr_laws.proofs.Given.WholeMemories.{read_gives}
 use Rattle.avr_laws.proofs.PageWrites.Items.{changed_all, item_does, item_are_steps, read_are_steps}
 use Rattle.avr_laws.proofs.Plans.Fits.{FitsAction}
-use Rattle.avr_laws.specs.ExpectedRun.{reported_expected, action_expected}
+use Rattle.avr_laws.specs.ExpectedRun.{Expected, reported_expected, action_expected}
 use Rattle.avr_laws.specs.Items.{action_items}
 
 abbrev pub Outcome : Action → Type 0
@@ -35,7 +35,7 @@ Outcome (SaveMemory mem format file) = List ℕ
 Outcome action = ⊤
 
 module _ (part : Part) where
-  -- without a fault of a step
+  -- if no step fails
   abbrev pub outcome_of : (action : Action) → Memories → Result (Outcome action) HostFault
   outcome_of OpenSession m = Ok part.signature
   outcome_of EraseChip m = Ok tt
@@ -69,8 +69,11 @@ module _ (part : Part) where
     dialog_is (SaveMemory mem format file) = refl
     dialog_is (LeaveOut what) = refl
 
-    pub expected_is : (action : Action) (m : Memories) → action_expected part s action m
-        ≡ reported_expected (outcome_says action) (outcome_of action m) (effects part (action_items action) m)
+    abbrev pub outcome_expected : Action → Memories → Expected
+    outcome_expected action m =
+        reported_expected (outcome_says action) (outcome_of action m) (effects part (action_items action) m)
+
+    pub expected_is : (action : Action) (m : Memories) → action_expected part s action m ≡ outcome_expected action m
     expected_is OpenSession m = refl
     expected_is EraseChip m = refl
     expected_is (WriteImage mem image) m = refl
@@ -78,7 +81,7 @@ module _ (part : Part) where
     expected_is (SaveMemory mem format file) m = refl
     expected_is (LeaveOut what) m = refl
 
-    -- the steps of a call, what is judged of their data, and what they leave
+    -- the judgement of a call, and what its steps give and leave
     pub record IsOperation (action : Action) (m : Memories) : Type 0 where
       pub judge : List ℕ → Result (Outcome action) HostFault
       pub call_is : operation (action_steps part action) judge ≡ call_of action

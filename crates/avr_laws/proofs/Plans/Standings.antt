@@ -1,4 +1,4 @@
--- How a session stands: after an operation that failed, at its end, and that a fault is not fine.
+-- The state of a session: after an operation that failed, and at its end; a fault is not fine.
 use Rattle.std.proofs.Common.{◌≡◌, Err}
 use Rattle.stk_host.specs.declared.fault.HostFault.{HostFault}
 use Rattle.stk_host.specs.declared.fault.HostFault.TheVariants.{LinkEnded}

@@ -35,7 +35,7 @@ use Rattle.avr_laws.specs.Told.{TellsTrue, count_line, kept_in, IsTrue, Signatur
 use Rattle.avr_laws.proofs.AnyLine.EachAction.{Comes, Passes, ActionTrue, ActionsTrue, opening_comes}
 use Rattle.avr_laws.proofs.AnyLine.Sessions.{AtMoment, AtEnd, at_last, anyhow, session_prints}
 use Rattle.avr_laws.proofs.Given.Comparisons.{bytes_same}
-use Rattle.avr_laws.proofs.Hosts.OneLine.{Spot, on_line}
+use Rattle.avr_laws.proofs.Hosts.OneLink.{Spot, on_link}
 use Rattle.avr_laws.proofs.Hosts.Outputs.{AllTrue, Prints, Printed, at_moment, all_true}
 use Rattle.avr_laws.proofs.Memories.ExpectedAgrees.{no_difference_if_fine, expected_status, expected_memories}
 use Rattle.avr_laws.specs.Outcome.{IsTouched, IsDone, IsExpectedRun}
@@ -128,43 +128,30 @@ module _ (plan : Plan) (sound : IsPart plan.part) (m0 : Memories) (f0 : FitsPart
           → items plan ≡ actions_items done ++ (action_items a ++ actions_items later)
           → ActionTrue plan.part plan.switches T a m
       by_kind OpenSession fits has order = absurd fits
-      by_kind EraseChip fits has order = (
-        λ q is.
-            informs_hold plan.switches.quiet (codes "chip erased" ∷ []) q
-            (ChipErased has refl (is ∙ ap (λ xs. effect plan.part Erase (effects plan.part xs m0))
-            (erase_first plan (actions_items done) (actions_items later) order))),
-        failed,
-      )
-      by_kind (WriteImage mem image) fits has order =
-          (λ q is. written_now mem image (actions_items done) (actions_items later) q order is, failed)
-      by_kind (CompareImage mem image) fits has order = (
-        λ q is.
-            subst (λ z. AllTrue T (verified_says plan.switches.quiet plan.part mem image
-            (comparison mem image (memory_in plan.part mem z))) q) is
-            (compared_now mem image q has (comparison mem image (memory_in plan.part mem (memories_of q.chip))) refl),
-        failed,
-      )
-      by_kind (SaveMemory mem format file) fits has order = (
-        λ q is.
-            subst (λ z. AllTrue T (read_says plan.switches mem format file (memory_in plan.part mem z)) q) is
-            (hold_on T (saving_says file (file_text format (kept_in plan mem (memories_of q.chip))))
-            (bytes_say plan.switches.quiet mem (length (kept_in plan mem (memories_of q.chip)))
-            (codes " bytes read")) q
-            (search (rules, saved_now))
-            (counts_hold mem (length (kept_in plan mem (memories_of q.chip))) (codes " bytes read") q
-            (BytesRead mem format file has refl))),
-        failed,
-      )
-      by_kind (LeaveOut TheErase) fits has order = (
-        λ q is.
-            hold_unless T (nat_lt 1 plan.switches.quiet) (Line (warning (codes "chip not erased because of -n" ∷ []))) q
-            (EraseLeftOut has refl),
-        failed,
-      )
-      by_kind (LeaveOut (TheWrite mem image)) fits has order = (
-        λ q is. counts_hold mem (byte_count image) (codes " bytes not written") q (WriteLeftOut mem image has refl),
-        failed,
-      )
+      by_kind EraseChip fits has order = λ q is.
+          informs_hold plan.switches.quiet (codes "chip erased" ∷ []) q
+          (ChipErased has refl (is ∙ ap (λ xs. effect plan.part Erase (effects plan.part xs m0))
+          (erase_first plan (actions_items done) (actions_items later) order)))
+      by_kind (WriteImage mem image) fits has order = λ q is.
+          written_now mem image (actions_items done) (actions_items later) q order is
+      by_kind (CompareImage mem image) fits has order = λ q is.
+          subst (λ z. AllTrue T (verified_says plan.switches.quiet plan.part mem image
+          (comparison mem image (memory_in plan.part mem z))) q) is
+          (compared_now mem image q has (comparison mem image (memory_in plan.part mem (memories_of q.chip))) refl)
+      by_kind (SaveMemory mem format file) fits has order = λ q is.
+          subst (λ z. AllTrue T (read_says plan.switches mem format file (memory_in plan.part mem z)) q) is
+          (hold_on T (saving_says file (file_text format (kept_in plan mem (memories_of q.chip))))
+          (bytes_say plan.switches.quiet mem (length (kept_in plan mem (memories_of q.chip)))
+          (codes " bytes read")) q
+          (saved_now (bytes_eq file (codes "-")) mem format file q has
+          (file_text format (kept_in plan mem (memories_of q.chip))) refl)
+          (counts_hold mem (length (kept_in plan mem (memories_of q.chip))) (codes " bytes read") q
+          (BytesRead mem format file has refl)))
+      by_kind (LeaveOut TheErase) fits has order = λ q is.
+          hold_unless T (nat_lt 1 plan.switches.quiet) (Line (warning (codes "chip not erased because of -n" ∷ []))) q
+          (EraseLeftOut has refl)
+      by_kind (LeaveOut (TheWrite mem image)) fits has order = λ q is.
+          counts_hold mem (byte_count image) (codes " bytes not written") q (WriteLeftOut mem image has refl)
 
   -- the memories after one more action
   one_more : (done : List Action) (action : Action)
@@ -184,22 +171,22 @@ module _ (plan : Plan) (sound : IsPart plan.part) (m0 : Memories) (f0 : FitsPart
 
   -- ---- a session
 
-  -- on any line, or where no step fails
+  -- over any link, or if no step fails
   pub session_prints_true : All (IsFitted plan.part) plan.tasks → (At : Memories → Spot → Type 0) (Fails : Type 0)
       → Passes plan.part plan.switches At Fails → (z : Spot)
       → Comes plan.part plan.switches At Fails OpenSession m0 z
       → Prints T (AtMoment plan m0) (AtEnd plan m0 Fails) (session plan) z
   session_prints_true fitted At Fails pass z opened =
-      session_prints plan sound fitted T At Fails pass m0 f0
-      (λ q is. own_signature plan.switches.quiet q, failed)
-      (actions_true (work plan) (OpenSession ∷ []) (work_fits plan fitted) refl)
-      (λ q. informs_hold plan.switches.quiet (codes "done" ∷ []) q (SessionDone refl)) z opened
+      session_prints plan sound fitted T failed
+      (λ q. informs_hold plan.switches.quiet (codes "done" ∷ []) q (SessionDone refl)) At Fails pass m0 f0
+      (λ q is. own_signature plan.switches.quiet q)
+      (actions_true (work plan) (OpenSession ∷ []) (work_fits plan fitted) refl) z opened
 
   pub session_goes : All (IsFitted plan.part) plan.tasks → (p : Programmer) (turns : List Turn) → Idle plan.part m0 p
       → Prints T (AtMoment plan m0) (AtEnd plan m0 ⊤) (session plan) (p, turns)
   session_goes fitted p turns idle =
       session_prints_true fitted (λ m z. Settled plan.part m z.0) ⊤ (anyhow plan.part sound plan.switches) (p, turns)
-      (on_line device (opening_comes plan.part sound plan.switches m0 f0 p idle))
+      (on_link device (opening_comes plan.part sound plan.switches m0 f0 p idle))
 
   pub session_tells : All (IsFitted plan.part) plan.tasks → (k : ℕ) (p : Programmer) (turns : List Turn)
       → Idle plan.part m0 p
@@ -208,12 +195,12 @@ module _ (plan : Plan) (sound : IsPart plan.part) (m0 : Memories) (f0 : FitsPart
       all_true T (AtMoment plan m0) (AtEnd plan m0 ⊤) k (session plan) (p, turns)
       (session_goes fitted p turns idle).holds
 
-  -- along it
+  -- along any link
   pub session_along : All (IsFitted plan.part) plan.tasks → (k : ℕ) (p : Programmer) (turns : List Turn)
       → Idle plan.part m0 p → Printed (AtMoment plan m0) (AtEnd plan m0 ⊤) k (session plan) (p, turns)
   session_along fitted k p turns idle = at_moment T (at_last plan m0 ⊤) k (session_goes fitted p turns idle)
 
-  -- with status 0 it has its expected run
+  -- with status 0 it is its expected run
   pub session_succeeds : All (IsFitted plan.part) plan.tasks → (k status : ℕ) (p : Programmer) (turns : List Turn)
       → Idle plan.part m0 p → (along device k (session plan) p turns).dialog ≡ Done status → status ≡ 0
       → IsExpectedRun plan m0 (memories_of (along device k (session plan) p turns).programmer.chip)

@@ -1,5 +1,5 @@
--- What a session says is what its expected run says, up to the first action that does not come to its end.
-use Rattle.std.proofs.Common.{◌≡◌, ℕ, List, [], ◌∷◌, ◌++◌, length, append_assoc, refl, sym, ap, ◌∙◌, subst, inl, inr, All, Option, Some, None, rules}
+-- The output of a session is that of its expected run, up to the first action that doesn't complete.
+use Rattle.std.proofs.Common.{◌≡◌, ℕ, List, [], ◌∷◌, ◌++◌, length, append_assoc, refl, sym, ap, ◌∙◌, subst, inl, inr, All, Option, Some, None}
 use Rattle.avr_cli.specs.declared.settings.Switches.{Switches}
 use Rattle.avr_desk.specs.Said.{OutputEvent}
 use Rattle.avr_part.specs.Part.{Part, IsPart}
@@ -55,7 +55,7 @@ module _ (plan : Plan) (sound : IsPart plan.part) (fitted : All (IsFitted plan.p
           let got = goes.outcome status seq left e in
           search (rules, foretold_now)
 
--- ---- what first actions say is a prefix of the expected run
+-- ---- the output of first actions is a prefix of the expected run's
 
 then_at : (first : Expected) (next : Memories → Expected) (at : Standing) → first.standing ≡ at
     → (first then next) ≡ then_from first at next
