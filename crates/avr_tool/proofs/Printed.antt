@@ -1,5 +1,5 @@
 -- Texts that no clause knows, printed piece by piece.
-use Rattle.std.proofs.Common.{◌≡◌, ◌≢◌, ◌∙◌, ◌<◌, refl, arith, ℕ, Bool, nat_lt, true, false, [], ◌∷◌, ◌++◌, take, codes, inl, inr, subst}
+use Rattle.std.proofs.Common.{◌≡◌, ◌≢◌, ◌∙◌, ◌<◌, refl, arith, ℕ, Bool, nat_lt, true, false, [], ◌∷◌, ◌++◌, take, codes, inl, inr, subst, rules}
 use Rattle.std.proofs.lemmas.Bool.Decides.{nat_tests}
 use Rattle.ghosts.specs.Failures.{HasRisen}
 use Rattle.avr_desk.specs.Fault.{Follows, HasFailedAt, HasSameCounts}
@@ -11,13 +11,7 @@ use Rattle.avr_desk.proofs.Lines.SentBytes.{sent_next, sent_none}
 use Rattle.avr_tool.specs.Texts.{HasPrinted, PrintsMore, PrintsText, ReportsText}
 
 pub printed_none : (s : Stream) (v : DeskState) → HasPrinted s v v 0
-printed_none s v = record {
-  text = [];
-  kept = sent_none s v.kept;
-  counted = (refl, refl);
-  some = λ more. absurd (omega (arith, more));
-  none = λ is. refl;
-}
+printed_none s v = search (rules, sent_none)
 
 not_none : (text piece : Bytes) → piece ≢ [] → text ++ piece ≢ []
 not_none [] piece some = some
@@ -38,18 +32,8 @@ same_follows a b same = (omega (arith, same.0), omega (arith, same.1))
 
 of_count : (s : Stream) (a b : DeskState) (n : ℕ) (up : Bool) → nat_lt 0 n ≡ up → HasPrinted s a b n
     → PrintsText s a b up
-of_count s a b n true is before = record {
-  text = before.text;
-  kept = before.kept;
-  comes = (before.some (grind (arith, nat_tests, is)), before.counted);
-  follows = same_follows a b before.counted;
-}
-of_count s a b n false is before = record {
-  text = before.text;
-  kept = before.kept;
-  comes = inl (before.none (grind (arith, nat_tests, is)), before.counted);
-  follows = same_follows a b before.counted;
-}
+of_count s a b n true is before = search (rules, same_follows)
+of_count s a b n false is before = search (rules, same_follows)
 
 pub printed_end : (s : Stream) (a b : DeskState) (n : ℕ) → HasPrinted s a b n → PrintsText s a b (nat_lt 0 n)
 printed_end s a b n before = of_count s a b n (nat_lt 0 n) refl before

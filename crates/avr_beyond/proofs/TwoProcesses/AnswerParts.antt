@@ -1,5 +1,5 @@
 -- Bytes of answers in their order, with timeouts between them, are slots of a tape.
-use Rattle.std.proofs.Common.{◌≡◌, ℕ, suc, ◌≤◌, ◌<◌, List, [], ◌∷◌, ◌++◌, length, take, drop, refl, sym, ap, ◌∙◌, append_assoc, arith, inl, inr, length-append}
+use Rattle.std.proofs.Common.{◌≡◌, ℕ, suc, ◌≤◌, ◌<◌, List, [], ◌∷◌, ◌++◌, length, take, drop, refl, sym, ap, ◌∙◌, append_assoc, arith, inl, inr, length-append, rules}
 use Rattle.std.proofs.lemmas.Bool.{cases_lt, lt-leb}
 use Rattle.std.proofs.lemmas.List.{append-nil, append_cancel_left, take-append-le, take-append-drop, take_all, drop_all}
 use Rattle.std.specs.List.{concat}
@@ -40,61 +40,34 @@ pub record InSlots (prefix : List ℕ) (tape : Tape) (pieces : List (List ℕ)) 
 begins : (x a y b : List ℕ) → length y ≤ length x → x ++ a ≡ y ++ b → x ≡ y ++ drop (length y) x
 begins x a y b le e =
     let prefix : take (length y) x ≡ y = sym (take-append-le (length y) x a le)
-    ∙ (ap (take (length y)) e ∙ (take-append-le (length y) y b (omega arith)
-    ∙ take_all (length y) y (omega arith))) in
+    ∙ (search (rules, take-append-le, take_all)) in
     sym (take-append-drop (length y) x) ∙ ap (λ z. z ++ drop (length y) x) prefix
 
 -- bytes in which no piece is whole are shorter than the first piece
 shorter : (prefix more piece later : List ℕ) → length prefix < piece_size prefix → IsPiece piece
     → prefix ++ more ≡ piece ++ later → length prefix < length piece
-shorter prefix more piece later part whole e = elim (cases_lt (length prefix) (length piece)) [
-  | inl lt ↦ lt
-  | inr ge ↦
-      let split : prefix ≡ piece ++ drop (length piece) prefix = begins prefix more piece later ge e in
-      let stays : piece_size prefix ≡ piece_size piece =
-      ap piece_size split ∙ size_stays piece (drop (length piece) prefix) (omega (arith, whole)) in
-      absurd (omega (arith, stays, whole, ge, part))
-]
+shorter prefix more piece later part whole e = search (rules, cases_lt, begins, size_stays)
 
 -- and bytes that are shorter than it contain no whole piece
 is_part : (prefix more piece later : List ℕ) → length prefix < length piece → IsPiece piece
     → prefix ++ more ≡ piece ++ later → length prefix < piece_size prefix
-is_part prefix more piece later short whole e = elim (cases_lt (length prefix) (piece_size prefix)) [
-  | inl lt ↦ lt
-  | inr ge ↦
-      let split : piece ≡ prefix ++ drop (length prefix) piece =
-      begins piece later prefix more (omega (arith, short)) (sym e) in
-      let stays : piece_size piece ≡ piece_size prefix =
-      ap piece_size split ∙ size_stays prefix (drop (length prefix) piece) ge in
-      absurd (omega (arith, stays, whole, ge, short))
-]
+is_part prefix more piece later short whole e = search (rules, cases_lt, begins, size_stays)
 
 stub_of : (prefix unheard : List ℕ) (pieces : List (List ℕ)) → length prefix < piece_size prefix → AreShort pieces
     → prefix ++ unheard ≡ concat pieces → IsStub prefix
-stub_of prefix unheard [] part short e = record {
-  none = cut_none prefix (lt-leb (piece_size prefix) (length prefix) part);
-  few = let n = ap length e in omega (arith, n, length-append prefix unheard);
-}
-stub_of prefix unheard (piece ∷ pieces) part short e = record {
-  none = cut_none prefix (lt-leb (piece_size prefix) (length prefix) part);
-  few = let lt = shorter prefix unheard piece (concat pieces) part short.0.whole e in let few = short.0.few in
-      omega (arith, lt, few);
-}
+stub_of prefix unheard [] part short e = search (rules, cut_none, lt-leb, length-append)
+stub_of prefix unheard (piece ∷ pieces) part short e = search (rules, cut_none, lt-leb, shorter)
 
 -- if every byte was received, no piece is missing
 none_missing : (prefix unheard : List ℕ) (pieces : List (List ℕ)) → length prefix < piece_size prefix → AreShort pieces
     → prefix ++ unheard ≡ concat pieces → unheard ≡ [] → pieces ≡ []
 none_missing prefix unheard [] part short e none = refl
 none_missing prefix unheard (piece ∷ pieces) part short e none =
-    let lt = shorter prefix unheard piece (concat pieces) part short.0.whole e in
-    let n : length (prefix ++ unheard) ≡ length (piece ++ concat pieces) = ap length e in
-    let z : length unheard ≡ 0 = ap length none in
-    absurd (omega (arith, n, z, lt, length-append prefix unheard, length-append piece (concat pieces)))
+    search (rules, shorter, length-append)
 
 one_more : (prefix : List ℕ) (b : ℕ) (tape : Tape)
     → on_tape (prefix ++ b ∷ []) ++ tape ≡ on_tape prefix ++ Byte b ∷ tape
-one_more prefix b tape = ap (λ t. t ++ tape) (on_tape_append prefix (b ∷ []))
-    ∙ append_assoc (on_tape prefix) (Byte b ∷ []) tape
+one_more prefix b tape = search (rules, on_tape_append, append_assoc)
 
 pub parted : (prefix : List ℕ) (tape : Tape) (pieces : List (List ℕ)) (unheard : List ℕ)
     → length prefix < piece_size prefix → AreShort pieces → HasNoEnd tape → SilentBetween prefix tape
@@ -122,8 +95,7 @@ parted [] (Silence ∷ tape) pieces unheard part short endless silent e =
       complete = inner.complete;
     }
 parted (b ∷ prefix) (Silence ∷ tape) pieces unheard part short endless silent e =
-    absurd (cons_none b prefix (sym (sym (rest_none (b ∷ prefix)
-    (lt-leb (piece_size (b ∷ prefix)) (length (b ∷ prefix)) part))
+    absurd (cons_none b prefix (sym (sym (search (rules, rest_none, lt-leb))
     ∙ (ap rest (sym (append-nil (b ∷ prefix))) ∙ silent [] tape refl))))
 parted prefix (Byte b ∷ tape) [] unheard part short endless silent e =
     let n = ap length e in absurd (omega (arith, n, length-append prefix (b ∷ (bytes_of tape ++ unheard))))
@@ -152,10 +124,8 @@ parted prefix (Byte b ∷ tape) (piece ∷ pieces) unheard part short endless si
       | inr ge ↦
           let is : now ≡ piece =
           begins now left piece (concat pieces) ge split
-          ∙ (ap (λ z. piece ++ z) (drop_all (length piece) now (omega (arith, ge, size, before_it)))
-          ∙ append-nil piece) in
-          let rest_is : left ≡ concat pieces = append_cancel_left piece left (concat pieces)
-          (ap (λ z. z ++ left) (sym is) ∙ split) in
+          ∙ (search (rules, drop_all, append-nil)) in
+          let rest_is : left ≡ concat pieces = search (rules, append_cancel_left) in
           let between : SilentBetween [] tape = λ before after at. sym (rest_first piece (bytes_of before) whole)
           ∙ (ap (λ z. rest (z ++ bytes_of before)) (sym is)
           ∙ (ap rest (append_assoc prefix (b ∷ []) (bytes_of before))
@@ -166,8 +136,7 @@ parted prefix (Byte b ∷ tape) (piece ∷ pieces) unheard part short endless si
             last = inner.last;
             more = inner.more;
             stub = inner.stub;
-            tape_is = ap (λ t. on_tape piece ++ t) inner.tape_is
-                ∙ (ap (λ z. on_tape z ++ tape) (sym is) ∙ one_more prefix b tape);
+            tape_is = search (rules, one_more);
             pieces_are = ap (λ ps. piece ∷ ps) inner.pieces_are;
             complete = inner.complete;
           }

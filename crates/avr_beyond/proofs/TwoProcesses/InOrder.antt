@@ -1,6 +1,6 @@
 -- A dialog over a tape that carries a programmer's answers in their order, with timeouts between them. All that is read
 -- is honest, and if all came the dialog doesn't wait.
-use Rattle.std.proofs.Common.{◌≡◌, ℕ, zero, suc, ◌+◌, ◌≤◌, List, [], ◌∷◌, ◌++◌, length, refl, sym, ap, ◌∙◌, subst, append_assoc, arith, inl, inr, ◌⊎◌, Option, Some, None, length-append}
+use Rattle.std.proofs.Common.{◌≡◌, ℕ, zero, suc, ◌+◌, ◌≤◌, List, [], ◌∷◌, ◌++◌, length, refl, sym, ap, ◌∙◌, subst, append_assoc, arith, inl, inr, ◌⊎◌, Option, Some, None, length-append, rules}
 use Rattle.std.proofs.lemmas.Bool.{cond-true}
 use Rattle.std.specs.List.{concat}
 use Rattle.stk_frame.specs.Frame.{frame}
@@ -95,12 +95,10 @@ no_middle (y ∷ xs) x ys e = cc
 module _ {P : Type 0} (m : Device P) (sound : AnswersBodies m) where
   pub answer_is : (n : ℕ) (bytes : List ℕ) (p : P) → IsBody bytes
       → answer_frame m (frame n bytes) p ≡ frame n (m.answer bytes p)
-  answer_is n bytes p b = ap (frame n) (cond-true (is_good (frame n bytes)) _ _ (frame_is_good n bytes b.some)
-      ∙ ap (λ x. m.answer x p) (body_of_frame n bytes))
+  answer_is n bytes p b = search (rules, cond-true, frame_is_good, body_of_frame)
 
   pub after_is : (n : ℕ) (bytes : List ℕ) (p : P) → IsBody bytes → after_frame m (frame n bytes) p ≡ m.after bytes p
-  after_is n bytes p b = cond-true (is_good (frame n bytes)) _ _ (frame_is_good n bytes b.some)
-      ∙ ap (λ x. m.after x p) (body_of_frame n bytes)
+  after_is n bytes p b = search (rules, cond-true, frame_is_good, body_of_frame)
 
   module _ {E R : Type 0} (bytes : List ℕ) (go_on : Reading → Dialog E R) (n : ℕ) (p : P) (body : IsBody bytes) where
     -- the frames after the first, by what is read
@@ -114,11 +112,7 @@ module _ {P : Type 0} (m : Device P) (sound : AnswersBodies m) where
     own_due : (h : ℕ) (o : Option (Reading × Tape)) (piece : List ℕ) (later : List (List ℕ)) → due h o ≡ piece ∷ later
         → IsOwn n piece
     own_due zero o piece later e = absurd (cons_none piece later e)
-    own_due (suc h) o piece later e = record {
-      bytes = m.answer bytes p;
-      carried = sound bytes p body;
-      is = sym (head_is _ piece _ later e) ∙ answer_is n bytes p body;
-    }
+    own_due (suc h) o piece later e = search (rules, head_is, answer_is)
 
     -- its own answer is found
     finds : (h : ℕ) (tape : Tape) (last : List ℕ) (stub : IsStub last) (more : List (List ℕ)) (t : Tape) → t ≡ tape
@@ -134,10 +128,7 @@ module _ {P : Type 0} (m : Device P) (sound : AnswersBodies m) where
         ap (answer n) (sym same) ∙ (f.is ∙ ap (λ b. Some (Answered b, left)) own_body) in
         let comes : came f.slots ++ more ≡ answer_list m
         (first_of h (frames_by (Some (Answered (m.answer bytes p), left)))) (m.after bytes p) =
-        f.left ∙ (sym (tail_is _ (frame n f.bytes) _ f.later f.answers_are)
-        ∙ (ap (λ o. answer_list m (first_of h (frames_by o)) (after_frame m (frame n bytes) p)) is
-        ∙ ap (answer_list m (first_of h (frames_by (Some (Answered (m.answer bytes p), left)))))
-        (after_is n bytes p body))) in
+        search (rules, tail_is, after_is) in
         record {
           left = left;
           became = refl;
@@ -199,20 +190,14 @@ module _ {P : Type 0} (m : Device P) (sound : AnswersBodies m) where
             are_old = old_and_own n missed f.old own f.are_old (own_due (suc h) (answer n tape) own _ refl);
             few = rw (length-append f.old (own ∷ [])) (omega (arith, few, le));
             comes =
-                f.left
-                ∙ (ap (λ o. f.old ++ own ∷ answer_list m (first_of h (frames_by o)) (after_frame m (frame n bytes) p))
-                is
-                ∙ (ap (λ q. f.old ++ own ∷ answer_list m (first_of h (frames_by (Some (Silent, left)))) q)
-                (after_is n bytes p body)
-                ∙ sym (append_assoc f.old (own ∷ []) later)));
+                search (rules, after_is, append_assoc);
           };
         }
 
     waits_for : (h : ℕ) (tape : Tape) (more : List (List ℕ)) (t : Tape) → t ≡ tape
         → Waits n t more (due h (answer n tape)) → StillWaits n tape h more
     waits_for zero tape more t same f = record { is = ap (answer n) (sym same) ∙ f.is; none = λ e. refl }
-    waits_for (suc h) tape more t same f = record
-        { is = ap (answer n) (sym same) ∙ f.is; none = λ e. absurd (no_middle f.old _ _ (sym e ∙ f.left)) }
+    waits_for (suc h) tape more t same f = search (rules, no_middle)
 
     by_reads : (h count missed length_old : ℕ) (tape : Tape) (last : List ℕ) (stub : IsStub last) (more : List (List ℕ))
         (t : Tape) → t ≡ tape → missed + suc count ≡ 8 → length_old ≤ missed
@@ -274,18 +259,8 @@ module _ {P : Type 0} (m : Device P) (sound : AnswersBodies m) where
   -- THE JOINT
   pub in_order_honest : {E R : Type 0} (d : Dialog E R) (n : ℕ) → Honest d n
   in_order_honest (Done r) n tape p h left more b few asks = tt
-  in_order_honest (Say e d) n tape p h left more b few asks = in_order_honest d n tape p h left more (record {
-    slots = b.slots;
-    last = b.last;
-    stub = b.stub;
-    tape_is = b.tape_is;
-    missed = b.missed;
-    count = b.count;
-    old = b.old;
-    are_old = b.are_old;
-    few = b.few;
-    comes = b.comes;
-  }) few asks
+  in_order_honest (Say e d) n tape p h left more b few asks = in_order_honest d n tape p h left more
+      (search rules) few asks
   in_order_honest (Ask bytes go_on) n tape p h zero more b few asks = absurd few
   in_order_honest (Ask bytes go_on) n tape p h (suc count) more b few asks =
       honest_by bytes go_on n tape p h count more (λ reading. in_order_honest (go_on reading) (next n))
@@ -309,18 +284,15 @@ module _ {P : Type 0} (m : Device P) (sound : AnswersBodies m) where
   ends_by bytes go_on n tape p h count each (inl c) few asks all none =
       each (Answered (m.answer bytes p)) c.left (after_became (first_became (obeyed h)) (m.after bytes p) p m.reset)
       (one_less h) 8 c.brings (few.0 (m.answer bytes p)) (asks.1 (Answered (m.answer bytes p)))
-      (less_of h _ (subst (λ o. suc (length (frames_in
-      (by_answer (λ reading. played (go_on reading) (next n)) o).events)) ≤ h) c.is all))
+      (less_of h _ (search rules))
       (ap (λ o. (by_answer (λ reading. played (go_on reading) (next n)) o).outcome) (sym c.is) ∙ none)
   ends_by bytes go_on n tape p h count each (inr (inl c)) few asks all none =
       each Silent c.left (after_became (first_became (obeyed h)) (m.after bytes p) p m.reset) (one_less h) count
       c.brings few.1 (asks.1 Silent)
-      (less_of h _ (subst (λ o. suc (length (frames_in
-      (by_answer (λ reading. played (go_on reading) (next n)) o).events)) ≤ h) c.is all))
+      (less_of h _ (search rules))
       (ap (λ o. (by_answer (λ reading. played (go_on reading) (next n)) o).outcome) (sym c.is) ∙ none)
   ends_by bytes go_on n tape p h count each (inr (inr c)) few asks all none =
-      let zero_is = c.none refl in
-      omega (arith, all, zero_is)
+      search rules
 
   -- IT DOESN'T WAIT
   pub in_order_ends : {E R : Type 0} (d : Dialog E R) (n : ℕ) → Ends d n
@@ -328,18 +300,8 @@ module _ {P : Type 0} (m : Device P) (sound : AnswersBodies m) where
     where
       some_none : {A : Type 0} (a : A) → Some a ≡ None → ⊥
       some_none a e = cc
-  in_order_ends (Say e d) n tape p h left b few asks all none = in_order_ends d n tape p h left (record {
-    slots = b.slots;
-    last = b.last;
-    stub = b.stub;
-    tape_is = b.tape_is;
-    missed = b.missed;
-    count = b.count;
-    old = b.old;
-    are_old = b.are_old;
-    few = b.few;
-    comes = b.comes;
-  }) few asks all none
+  in_order_ends (Say e d) n tape p h left b few asks all none = in_order_ends d n tape p h left
+      (search rules) few asks all none
   in_order_ends (Ask bytes go_on) n tape p h zero b few asks all none = absurd few
   in_order_ends (Ask bytes go_on) n tape p h (suc count) b few asks all none =
       ends_by bytes go_on n tape p h count (λ reading. in_order_ends (go_on reading) (next n))

@@ -1,5 +1,5 @@
 -- A host that runs a dialog, and a server, at the two ends of a link that keeps their bytes in order.
-use Rattle.std.proofs.Common.{◌≡◌, ℕ, ◌≤◌, List, [], ◌∷◌, ◌++◌, length, refl, sym, ap, ◌∙◌, subst, append_assoc, arith, Some, None, inl, inr}
+use Rattle.std.proofs.Common.{◌≡◌, ℕ, ◌≤◌, List, [], ◌∷◌, ◌++◌, length, refl, sym, ap, ◌∙◌, subst, append_assoc, arith, Some, None, inl, inr, rules}
 use Rattle.std.proofs.lemmas.Bool.{cases_Bool, cond-true, cond-false}
 use Rattle.std.proofs.lemmas.List.{append-nil}
 use Rattle.std.proofs.lemmas.List.Elements.{filter-append}
@@ -45,11 +45,7 @@ body_answered piece p = elim (cases_Bool (is_good piece)) [
 answer_short : (piece : List ℕ) (p : Programmer) → IsShort (answer_frame device piece p)
 answer_short piece p =
     let b = body_answered piece p in
-    let few = b.few in
-    record {
-      whole = frame_is_piece (seq_of piece) (answer_body device piece p) b.some b.few;
-      few = rw (length_frame (seq_of piece) (answer_body device piece p)) (omega (arith, few));
-    }
+    search (rules, frame_is_piece, length_frame)
 
 answers_short : (pieces : List (List ℕ)) (p : Programmer) → AreShort (answer_list device pieces p)
 answers_short [] p = tt
@@ -70,19 +66,7 @@ all_served p transcript left all = record {
 
 broken_served : (p : Programmer) (transcript : Transcript) (left : Machine)
     → BreaksOff p [] (bytes_of (heard transcript)) (sent transcript) left → HasServed p transcript left.programmer
-broken_served p transcript left b = record {
-  used = b.used;
-  unused = b.unused;
-  heard_is = sym b.bytes_are;
-  unsent = b.unsent;
-  sent_is =
-      ap (λ bs. bs ++ b.unsent) b.sent_is
-      ∙ (append_assoc (answers device b.earlier p) b.part b.unsent
-      ∙ (ap (λ bs. answers device b.earlier p ++ bs)
-      (sym b.answer_is ∙ sym (append-nil (answer_frame device b.last (after_frames device b.earlier p))))
-      ∙ (sym (answers_more device b.earlier (b.last ∷ []) p) ∙ ap (λ fs. answers device fs p) (sym b.frames_are))));
-  left_is = b.fed.obeyed;
-}
+broken_served p transcript left b = search (rules, append_assoc, append-nil, answers_more)
 
 pub has_served : (served : Served) (p : Programmer) (transcript : Transcript) (left : Machine)
     → ServingLeaves served p [] transcript left
@@ -96,8 +80,7 @@ has_served TooManyReads p transcript left l = all_served p transcript left l
 
 -- the frames of some bytes are the first among those of more
 frames_more : (used more : List ℕ) → frames (used ++ more) ≡ frames used ++ filter is_frame (cut (rest used ++ more))
-frames_more used more = ap (filter is_frame) (cut_append used more)
-    ∙ filter-append is_frame (cut used) (cut (rest used ++ more))
+frames_more used more = search (rules, cut_append, filter-append)
 
 -- the server obeyed the frames that it took, and this is its state after them
 pub meet_sent : (p left : Programmer) (host server : Transcript) (serves : HasServed p server left)
@@ -107,14 +90,11 @@ meet_sent p left host server serves joined =
     let arrived = length (frames serves.used) in
     let more = serves.unused ++ joined.up.0 in
     let all : serves.used ++ more ≡ sent host =
-    sym (append_assoc serves.used serves.unused joined.up.0)
-    ∙ (ap (λ bs. bs ++ joined.up.0) serves.heard_is ∙ joined.up.1) in
+    search (rules, append_assoc) in
     let others = filter is_frame (cut (rest serves.used ++ more)) in
     let first : first_of arrived (frames (sent host)) ≡ frames serves.used =
-    ap (λ bs. first_of arrived (frames bs)) (sym all)
-    ∙ (ap (first_of arrived) (frames_more serves.used more) ∙ first_prefix (frames serves.used) others) in
-    sym (after_first device answers_bodies arrived (frames (sent host)) p)
-    ∙ (ap (λ fs. after_frames device fs p) first ∙ sym serves.left_is)
+    search (rules, first_of, frames_more, first_prefix) in
+    search (rules, after_first, answers_bodies)
 
 module _ {E R : Type 0} (d : Dialog E R) (asks : AsksBodies d) (p left : Programmer) (host server : Transcript)
     (serves : HasServed p server left) (joined : IsJoined host server)
@@ -130,10 +110,7 @@ module _ {E R : Type 0} (d : Dialog E R) (asks : AsksBodies d) (p left : Program
 
   prefix : serves.used ++ (serves.unused ++ (joined.up.0 ++ plays.0)) ≡ bytes_sent events
   prefix =
-      sym (append_assoc serves.used serves.unused (joined.up.0 ++ plays.0))
-      ∙ (ap (λ bs. bs ++ (joined.up.0 ++ plays.0)) serves.heard_is
-      ∙ (sym (append_assoc (bytes_of (heard server)) joined.up.0 plays.0)
-      ∙ (ap (λ bs. bs ++ plays.0) joined.up.1 ∙ plays.1)))
+      search (rules, append_assoc)
 
   some_frames : (others : List (List ℕ)) × (frames_in events ≡ frames serves.used ++ others)
   some_frames = frames_prefix events serves.used (serves.unused ++ (joined.up.0 ++ plays.0))
@@ -144,8 +121,7 @@ module _ {E R : Type 0} (d : Dialog E R) (asks : AsksBodies d) (p left : Program
 
   -- so this is the server's state
   pub meet_leaves : after_pieces device (frames_in events) (obeyed arrived) p ≡ left
-  meet_leaves = sym (after_first device answers_bodies arrived (frames_in events) p)
-      ∙ (ap (λ fs. after_frames device fs p) arrived_are ∙ sym serves.left_is)
+  meet_leaves = search (rules, after_first, answers_bodies, arrived_are)
 
   -- if it stalls between answers alone
   module _ (few : MissesFew 8 d) (endless : HasNoEnd (heard host)) (stalls : StallsBetweenAnswers (heard host)) where
@@ -154,27 +130,13 @@ module _ {E R : Type 0} (d : Dialog E R) (asks : AsksBodies d) (p left : Program
 
     heard_are : bytes_of (heard host) ++ unheard ≡ concat given
     heard_are =
-        sym (append_assoc (bytes_of (heard host)) joined.down.0 serves.unsent)
-        ∙ (ap (λ bs. bs ++ serves.unsent) joined.down.1
-        ∙ (serves.sent_is ∙ answers_joined device answers_bodies (frames serves.used) p))
+        search (rules, append_assoc, answers_joined, answers_bodies)
 
     slots : InSlots [] (heard host) given unheard
-    slots = parted [] (heard host) given unheard (omega arith) (answers_short (frames serves.used) p) endless stalls
-        heard_are
+    slots = search (rules, parted, answers_short, heard_are)
 
     brings : Brings device d 1 (heard host) p arrived 8 slots.more
-    brings = record {
-      slots = slots.slots;
-      last = slots.last;
-      stub = slots.stub;
-      tape_is = slots.tape_is;
-      missed = 0;
-      count = refl;
-      old = [];
-      are_old = tt;
-      few = omega arith;
-      comes = slots.pieces_are ∙ ap (λ fs. answer_list device fs p) (sym arrived_are);
-    }
+    brings = search (rules, slots, answer_list, arrived_are)
 
     -- what the host reads is honest, by what arrived
     pub meet_honest : AreHonest device d 1 (heard host) p (obeyed arrived)
@@ -190,5 +152,4 @@ module _ {E R : Type 0} (d : Dialog E R) (asks : AsksBodies d) (p left : Program
     -- on a link without timeouts all goes straight
     pub meet_straight : IsPrompt (heard host) → (r : R) (seq : ℕ) (unread : Tape)
         → (played d 1 (heard host)).outcome ≡ Some (r, seq, unread) → Straight device d 1 (heard host) p arrived r
-    meet_straight prompt r seq unread e = goes_straight device answers_bodies d 1 (heard host) p arrived 8 slots.more
-        brings few asks prompt r seq unread e
+    meet_straight prompt r seq unread e = search (rules, goes_straight, answers_bodies, slots, brings)

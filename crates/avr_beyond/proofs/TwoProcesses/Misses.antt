@@ -1,5 +1,5 @@
 -- At most eight of a session's questions in a row go unanswered: four attempts of a step, and four to leave.
-use Rattle.std.proofs.Common.{◌≡◌, ℕ, zero, suc, ◌+◌, ◌≤◌, List, [], ◌∷◌, ◌++◌, refl, sym, subst, arith, Bool, true, false, Ok, Err, Result, Option}
+use Rattle.std.proofs.Common.{◌≡◌, ℕ, zero, suc, ◌+◌, ◌≤◌, List, [], ◌∷◌, ◌++◌, refl, sym, subst, arith, Bool, true, false, Ok, Err, Result, Option, rules}
 use Rattle.std.specs.Prelude.{if◌then◌else◌}
 use Rattle.avr_cli.specs.declared.settings.Switches.{Switches}
 use Rattle.avr_desk.specs.Said.{OutputEvent}
@@ -96,11 +96,7 @@ turn_few : (command : Command) (commands : List Command) (before : List ℕ) (j 
     → ((bytes : List ℕ) → Misses (AfterAttempt 7) 8 (attempt commands bytes))
     → Misses (AfterAttempt j) (suc j) (attempt (command ∷ commands) before)
 unfolding attempt exchange
-turn_few command commands before j le f = (
-  λ bytes. by_reply j (λ got. attempt commands (before ++ got)) (answer_reply command (judge command bytes)) le
-      (λ got. f (before ++ got)),
-  (omega arith, omega (arith, le)),
-)
+turn_few command commands before j le f = search (rules, by_reply)
 
 attempt_few : (commands : List Command) (before : List ℕ) → Misses (AfterAttempt 7) 8 (attempt commands before)
 unfolding attempt
@@ -115,8 +111,7 @@ by_settled : (more : ℕ) (again : StepFault → Dialog ⊥ StepOutcome) (r k : 
     → ((fault : StepFault) (j : ℕ) → r + more ≤ j → j ≤ 8 → Misses (AfterStep r) j (again fault))
     → (j : ℕ) (reply : Reply) → AfterAttempt k j reply → Misses (AfterStep r) j (end_or_again again reply)
 by_settled more again r k le most each j (Data bytes) f = f
-by_settled more again r k le most each j (Again fault) f = let first = f.0 in
-    each fault j (omega (arith, first, le)) f.1
+by_settled more again r k le most each j (Again fault) f = search rules
 by_settled more again r k le most each j (Stop fault) f = (omega (arith, f, le, most), omega (arith, f))
 
 tries_few : (more : ℕ) (command : Command) (commands : List Command) (fault : StepFault) (r k : ℕ) → r + more ≤ k
@@ -138,11 +133,7 @@ step_few (command ∷ commands) = tries_few 4 command commands NoAnswer 4 8 (ome
 
 then_few : (go_on : List ℕ → Dialog ⊥ StepOutcome) (d : Dialog ⊥ StepOutcome) → Misses (AfterStep 4) 8 d
     → ((bytes : List ℕ) → Misses (AfterStep 4) 8 (go_on bytes)) → Misses (AfterStep 4) 8 (d >>= if_done go_on)
-then_few go_on d f g = bind (AfterStep 4) (AfterStep 4) 8 d (if_done go_on) f after
-  where
-    after : (j : ℕ) (o : StepOutcome) → AfterStep 4 j o → Misses (AfterStep 4) j (if_done go_on o)
-    after j (Ok bytes) e = subst (λ k. Misses (AfterStep 4) k (go_on bytes)) (sym e) (g bytes)
-    after j (Err fault) e = e
+then_few go_on d f g = search (rules, bind)
 
 play_few : (steps : List (List Command)) (before : List ℕ) → Misses (AfterStep 4) 8 (play steps before)
 unfolding play
@@ -173,19 +164,11 @@ operation_few steps judge_by = bind (AfterStep 4) AfterCall 8 (play steps [])
 handshake_few : Misses (AfterStep 4) 8 handshake
 unfolding handshake
 handshake_few =
-    then_few (λ name. step (enter ∷ []) >>= if_done (λ nothing. play signature_steps [])) (step (SignOn ∷ []))
-    (step_few (SignOn ∷ []))
-    (λ name. then_few (λ nothing. play signature_steps []) (step (enter ∷ [])) (step_few (enter ∷ []))
-    (λ nothing. play_few signature_steps []))
+    search (rules, then_few, step_few, play_few)
 
 opening_few : (signature : List ℕ) (force : Bool) → Misses AfterCall 8 (opening signature force)
 unfolding opening
-opening_few signature force = bind (AfterStep 4) AfterCall 8 handshake
-    (λ outcome. Done (signature_judged signature force outcome)) handshake_few after
-  where
-    after : (j : ℕ) (o : StepOutcome) → AfterStep 4 j o → AfterCall j (signature_judged signature force o)
-    after j (Ok found) e = all_left j (signature_judged signature force (Ok found)) e
-    after j (Err fault) e = e
+opening_few signature force = search (rules, bind, handshake_few, all_left)
 
 abbrev Any : {R : Type 0} → ℕ → R → Type 0
 Any k r = Unit {0}
@@ -197,12 +180,7 @@ closing_few k b =
     (let first = b.0 in tries_few 4 leave [] NoAnswer 0 k (omega (arith, first)) b.1) (λ j o e. tt)
 
 writing_few : (part : Part) (mem : Mem) (image : List (Option ℕ)) → Misses AfterCall 8 (writing part mem image)
-writing_few part mem image = by_kind (is_writable mem)
-  where
-    by_kind : (b : Bool) → Misses AfterCall 8
-        (if b then operation (write_steps part mem image) no_result else Done (Err (ReadOnly mem)))
-    by_kind true = operation_few (write_steps part mem image) no_result
-    by_kind false = (omega arith, omega arith)
+writing_few part mem image = search (rules, operation_few)
 
 -- ---- the actions of a session
 
@@ -239,16 +217,12 @@ any_reported k call tells f =
 
 module _ (part : Part) (s : Switches) where
   action_few : (action : Action) → Misses AfterAction 8 (action_dialog part s action)
-  action_few OpenSession = reported_few (opening part.signature s.force) (opening_says s.quiet part)
-      (opening_few part.signature s.force)
+  action_few OpenSession = search (rules, reported_few, opening_few)
   action_few EraseChip = reported_few erasing (erased_says s.quiet part) (operation_few ((erase ∷ []) ∷ []) no_result)
-  action_few (WriteImage mem image) = reported_few (writing part mem image) (written_says s.quiet part mem image)
-      (writing_few part mem image)
-  action_few (CompareImage mem image) = reported_few (verifying part mem image) (verified_says s.quiet part mem image)
-      (operation_few (read_steps part mem) (comparison mem image))
+  action_few (WriteImage mem image) = search (rules, reported_few, writing_few)
+  action_few (CompareImage mem image) = search (rules, reported_few, operation_few)
   action_few (SaveMemory mem format file) =
-      reported_few (reading part mem) (fault_or part (read_says s mem format file))
-      (operation_few (read_steps part mem) Ok)
+      search (rules, reported_few, operation_few)
   action_few (LeaveOut what) = says_few AfterAction 8 (left_out_says s.quiet what) (Done Fine) refl
 
   unless_few : (next : Dialog OutputEvent Standing) → Misses AfterAction 8 next → (j : ℕ) (at : Standing)
@@ -265,8 +239,7 @@ module _ (part : Part) (s : Switches) where
       (unless_few (actions_dialog part s actions) (actions_few actions))
 
   ending_few : (j : ℕ) (at : Standing) → AfterAction j at → Misses Any j (ending part s at)
-  ending_few j Fine e = any_reported j closing (closed_says s.quiet part)
-      (closing_few j (omega (arith, e), omega (arith, e)))
+  ending_few j Fine e = search (rules, any_reported, closing_few)
   ending_few j Faulty b = bind Any Any j (reported closing (λ _. [])) (λ closed. Done Over)
       (any_reported j closing (λ _. []) (closing_few j b)) (λ i closed post. tt)
   ending_few j Over b = tt

@@ -1,5 +1,5 @@
 -- Over a link without timeouts all turns are right.
-use Rattle.std.proofs.Common.{◌≡◌, ℕ, zero, suc, List, [], ◌∷◌, ◌++◌, length, take, drop, refl, sym, ap, ◌∙◌, subst, Bool, true, false, inl, inr, Option, Some, None}
+use Rattle.std.proofs.Common.{◌≡◌, ℕ, zero, suc, List, [], ◌∷◌, ◌++◌, length, take, drop, refl, sym, ap, ◌∙◌, subst, Bool, true, false, inl, inr, Option, Some, None, rules}
 use Rattle.std.proofs.lemmas.Bool.{cases_Bool, cond-true, cond-false, false≢true}
 use Rattle.std.proofs.lemmas.Option.{none-some}
 use Rattle.std.specs.Prelude.{nat_le}
@@ -60,8 +60,7 @@ read_on (Some (body, used)) bytes tape p = record { heard = refl; left = dropped
 read_on None bytes tape p = elim (cases_Bool (nat_le limit (length bytes))) [
   | inl full ↦ subst ReadsOn (sym (cond-true (nat_le limit (length bytes)) (Some (Babbled, drop limit tape))
       (silence_or_end (drop (length bytes) tape)) full)) (record { heard = refl; left = dropped limit tape p })
-  | inr few ↦ subst ReadsOn (sym (cond-false (nat_le limit (length bytes)) (Some (Babbled, drop limit tape))
-      (silence_or_end (drop (length bytes) tape)) few))
+  | inr few ↦ subst ReadsOn (search (rules, cond-false))
       (end_on (drop (length bytes) tape) (dropped (length bytes) tape p))
 ]
 
@@ -103,50 +102,16 @@ module _ {P : Type 0} (m : Device P) (sound : AnswersBodies m) where
       (after_became (first_became (obeyed h)) (m.after bytes p) p m.reset) (one_less h) 8 more c.brings
       (few.0 (m.answer bytes p)) (asks.1 (Answered (m.answer bytes p))) goes r seq unread
       (sym (ap (λ x. x.outcome) first) ∙ e) in
-      let obeys : after_became (first_became (obeyed h)) (m.after bytes p) p m.reset ≡ m.after bytes p =
-      ap (λ b. after_became b (m.after bytes p) p m.reset) c.became in
-      let there : Straight m d (next n) c.left (m.after bytes p) (one_less h) r =
-      subst (λ q. Straight m d (next n) c.left q (one_less h) r) obeys inner in
-      let fs : List (List ℕ) = frames_in (played d (next n) c.left).events in
-      let stands : after_pieces m fs (obeyed (one_less h)) (m.after bytes p)
-      ≡ after_pieces m (frame n bytes ∷ fs) (obeyed h) p =
-      ap (λ bs. after_pieces m fs bs (m.after bytes p)) (sym (others_obeyed h))
-      ∙ ap (after_pieces m fs (other_becames (obeyed h)))
-      (sym (ap (λ b. after_became b (after_frame m (frame n bytes) p) p m.reset) c.became
-      ∙ after_is m sound n bytes p asks.0)) in
-      record {
-        dialog = subst (λ x. (along m (length (frames_in x.events)) (Ask bytes go_on) p []).dialog ≡ Done r) (sym first)
-            there.dialog;
-        programmer = subst (λ x. (along m (length (frames_in x.events)) (Ask bytes go_on) p []).programmer
-            ≡ after_pieces m (frames_in x.events) (obeyed h) p) (sym first) (there.programmer ∙ stands);
-        says = subst (λ x. outputs x.events ≡ said_along m (length (frames_in x.events)) (Ask bytes go_on) p [])
-            (sym first) there.says;
-      }
+      search (rules, one_less, others_obeyed, after_is)
   straight_by bytes go_on n tape p h count more each (inr (inl c)) few asks prompt r seq unread e =
       absurd (false≢true (sym (sym (ap is_silent c.is) ∙ (answer_on n tape prompt).heard)))
   straight_by bytes go_on n tape p h count more each (inr (inr c)) few asks prompt r seq unread e =
-      absurd (none-some (r, seq, unread) (sym (ap
-      (λ o. (by_answer (λ reading. played (go_on reading) (next n)) o).outcome) c.is) ∙ e))
+      absurd (none-some (r, seq, unread) (sym (search rules) ∙ e))
 
   pub goes_straight : {E R : Type 0} (d : Dialog E R) (n : ℕ) → GoesStraight d n
-  goes_straight (Done q) n tape p h left more b few asks prompt r seq unread e = record {
-    dialog = ap (λ o. Done (result_of q o)) e;
-    programmer = refl;
-    says = refl;
-  }
+  goes_straight (Done q) n tape p h left more b few asks prompt r seq unread e = search rules
   goes_straight (Say s d) n tape p h left more b few asks prompt r seq unread e =
-      let inner = goes_straight d n tape p h left more (record {
-        slots = b.slots;
-        last = b.last;
-        stub = b.stub;
-        tape_is = b.tape_is;
-        missed = b.missed;
-        count = b.count;
-        old = b.old;
-        are_old = b.are_old;
-        few = b.few;
-        comes = b.comes;
-      }) few asks prompt r seq unread e in
+      let inner = goes_straight d n tape p h left more (search rules) few asks prompt r seq unread e in
       record { dialog = inner.dialog; programmer = inner.programmer; says = ap (λ said. s ∷ said) inner.says }
   goes_straight (Ask bytes go_on) n tape p h zero more b few asks prompt r seq unread e = absurd few
   goes_straight (Ask bytes go_on) n tape p h (suc count) more b few asks prompt r seq unread e =

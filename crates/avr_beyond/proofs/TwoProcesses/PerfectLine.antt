@@ -1,5 +1,5 @@
 -- A session and a server over a link that cuts nothing and has no timeouts: for every dialog there is such a run.
-use Rattle.std.proofs.Common.{◌≡◌, ◌∙◌, ap, subst, sym, refl, arith, ℕ, ◌≤◌, length, List, [], ◌∷◌, ◌++◌, append_assoc, append-nil, Some, None, inl}
+use Rattle.std.proofs.Common.{◌≡◌, ◌∙◌, ap, subst, sym, refl, arith, ℕ, ◌≤◌, length, List, [], ◌∷◌, ◌++◌, append_assoc, append-nil, Some, None, inl, rules}
 use Rattle.std.proofs.lemmas.Bool.{and_from, eq-eqb, cond-true, and_parts}
 use Rattle.std.proofs.lemmas.List.Elements.{filter-append}
 use Rattle.std.specs.Prelude.{filter}
@@ -77,28 +77,15 @@ joined_now a b c d (ServerHears items ∷ calls) j = j.0
 joined_behind : (a b c d : List ℕ) (first later : List EndCall) → JoinedFrom a b c d (first ++ later)
     → Joined (a ++ sent (of_host first)) (b ++ bytes_of (heard (of_server first))) (c ++ sent (of_server first))
     (d ++ bytes_of (heard (of_host first)))
-joined_behind a b c d [] later j = rw (append-nil a, append-nil b, append-nil c, append-nil d)
-    (joined_now a b c d later j)
+joined_behind a b c d [] later j = search (rules, append-nil, joined_now)
 joined_behind a b c d (HostSays bytes ∷ first) later j =
-    subst (λ x. Joined x (b ++ bytes_of (heard (of_server first))) (c ++ sent (of_server first))
-    (d ++ bytes_of (heard (of_host first))))
-    (append_assoc a bytes (sent (of_host first))) (joined_behind (a ++ bytes) b c d first later j.1)
+    search (rules, append_assoc, joined_behind (a ++ bytes) b c d first later j.1)
 joined_behind a b c d (HostHears items ∷ first) later j =
-    subst (λ x. Joined (a ++ sent (of_host first)) (b ++ bytes_of (heard (of_server first)))
-    (c ++ sent (of_server first)) x)
-    (append_assoc d (bytes_of items) (bytes_of (heard (of_host first)))
-    ∙ ap (λ bs. d ++ bs) (sym (bytes_of_append items (heard (of_host first)))))
-    (joined_behind a b c (d ++ bytes_of items) first later j.1)
+    search (rules, append_assoc, bytes_of_append, joined_behind a b c (d ++ bytes_of items) first later j.1)
 joined_behind a b c d (ServerSays bytes ∷ first) later j =
-    subst (λ x. Joined (a ++ sent (of_host first)) (b ++ bytes_of (heard (of_server first))) x
-    (d ++ bytes_of (heard (of_host first))))
-    (append_assoc c bytes (sent (of_server first))) (joined_behind a b (c ++ bytes) d first later j.1)
+    search (rules, append_assoc, joined_behind a b (c ++ bytes) d first later j.1)
 joined_behind a b c d (ServerHears items ∷ first) later j =
-    subst (λ x. Joined (a ++ sent (of_host first)) x (c ++ sent (of_server first))
-    (d ++ bytes_of (heard (of_host first))))
-    (append_assoc b (bytes_of items) (bytes_of (heard (of_server first)))
-    ∙ ap (λ bs. b ++ bs) (sym (bytes_of_append items (heard (of_server first)))))
-    (joined_behind a (b ++ bytes_of items) c d first later j.1)
+    search (rules, append_assoc, bytes_of_append, joined_behind a (b ++ bytes_of items) c d first later j.1)
 
 -- all was received
 even : (a : List ℕ) → IsPrefixOf a a
@@ -111,31 +98,19 @@ asking_joined : (a c question reply : List ℕ) (later : List EndCall)
     → JoinedFrom (a ++ question) (a ++ question) (c ++ reply) (c ++ reply) later
     → JoinedFrom a a c c (asking question reply later)
 asking_joined a c question reply later j =
-    let up : a ++ bytes_of (on_tape question) ≡ a ++ question = ap (λ bs. a ++ bs) (bytes_of_on_tape question) in
-    let down : c ++ bytes_of (on_tape reply) ≡ c ++ reply = ap (λ bs. c ++ bs) (bytes_of_on_tape reply) in (
-      (even a, even c),
-      (
-        (more a question, even c),
-        (
-          (subst (λ x. IsPrefixOf x (a ++ question)) (sym up) (even (a ++ question)), even c),
-          (
-            (subst (λ x. IsPrefixOf x (a ++ question)) (sym up) (even (a ++ question)), more c reply),
-            subst (λ x. JoinedFrom (a ++ question) x (c ++ reply) (c ++ bytes_of (on_tape reply)) later) (sym up)
-                (subst (λ x. JoinedFrom (a ++ question) (a ++ question) (c ++ reply) x later) (sym down) j),
-          ),
-        ),
-      ),
-    )
+    search (rules, bytes_of_on_tape, even, more)
 
 calls_joined : {E R : Type 0} (d : Dialog E R) (n : ℕ) (p : Programmer) (a c : List ℕ)
     → JoinedFrom a a c c (calls_of d n p)
 calls_joined (Done r) n p a c = ((even a, even c), (subst (λ x. IsPrefixOf x a) (sym (append-nil a)) (even a), even c))
 calls_joined (Say e d) n p a c = calls_joined d n p a c
 calls_joined (Ask bytes go_on) n p a c =
-    asking_joined a c (frame n bytes) (frame n (device.answer bytes p))
-    (calls_of (go_on (Answered (device.answer bytes p))) (next n) (device.after bytes p))
-    (calls_joined (go_on (Answered (device.answer bytes p))) (next n) (device.after bytes p) (a ++ frame n bytes)
-    (c ++ frame n (device.answer bytes p)))
+    search (
+      rules,
+      asking_joined,
+      calls_joined (go_on (Answered (device.answer bytes p))) (next n) (device.after bytes
+          p) (a ++ frame n bytes) (c ++ frame n (device.answer bytes p)),
+    )
 
 -- bytes alone are received
 bytes_prompt : (bytes : List ℕ) (tape : Tape) → IsPrompt tape → IsPrompt (on_tape bytes ++ tape)
@@ -176,8 +151,7 @@ own_answer : (n : ℕ) (bytes : List ℕ) (later : Tape) → IsBody bytes
 own_answer n bytes later b =
     let found : first_answer n (cut (frame n bytes)) ≡ Some (bytes, length (frame n bytes)) =
     ap (first_answer n) (cut_whole (frame n bytes) (frame_is_piece n bytes b.some b.few))
-    ∙ (cond-true (is_answer n (frame n bytes)) _ _ (and_from _ _ (frame_is_good n bytes b.some) (eq-eqb n n refl))
-    ∙ ap (λ x. Some (x, length (frame n bytes))) (body_of_frame n bytes)) in
+    ∙ (search (rules, cond-true, and_from, frame_is_good, eq-eqb, body_of_frame)) in
     let few : length (frame n bytes) ≤ limit = let f = b.few in rw (length_frame n bytes) (omega (arith, f)) in
     answer_found n (frame n bytes) later bytes found few
 
@@ -187,8 +161,7 @@ asked : {E R : Type 0} (bytes : List ℕ) (go_on : Reading → Dialog E R) (n : 
     → played (Ask bytes go_on) n (on_tape (frame n reply) ++ later)
     ≡ behind (Frame (frame n bytes) ∷ []) (played (go_on (Answered reply)) (next n) later)
 asked bytes go_on n reply later b =
-    ap (λ o. behind (Frame (frame n bytes) ∷ []) (by_answer (λ reading. played (go_on reading) (next n)) o))
-    (own_answer n reply later b)
+    search (rules, own_answer)
 
 -- the run of the dialog, whatever follows on the link
 pub record IsWhole {E R : Type 0} (d : Dialog E R) (n : ℕ) (transcript : Transcript) : Type 0 where
@@ -221,10 +194,7 @@ host_plays (Ask bytes go_on) n p asks =
       events = Frame (frame n bytes) ∷ inner.events;
       result = inner.result;
       at = inner.at;
-      plays = λ later.
-          ap (played (Ask bytes go_on) n) (append_assoc (on_tape (frame n reply)) (heard transcript) later)
-          ∙ asked bytes go_on n reply (heard transcript ++ later) (answers_bodies bytes p asks.0)
-          ∙ ap (behind (Frame (frame n bytes) ∷ [])) (inner.plays later);
+      plays = search (rules, append_assoc, asked, answers_bodies);
       all_sent = ap (λ bs. frame n bytes ++ bs) inner.all_sent;
     }
 
@@ -235,17 +205,9 @@ module _ {E R : Type 0} (d e : Dialog E R) (n k : ℕ) (prefix : Tape) (events :
       → TurnsFrom d n (prefix ++ tape) (bytes_sent events ++ bytes) transcript
   turns_behind [] tape bytes turns = tt
   turns_behind (Sent more ∷ transcript) tape bytes turns =
-      subst (λ bs. TurnsFrom d n (prefix ++ tape) bs transcript) (sym (append_assoc (bytes_sent events) bytes more))
-      (turns_behind transcript tape (bytes ++ more) turns)
-  turns_behind (Got items ∷ transcript) tape bytes turns = (
-    record {
-      waits = ap (λ p. p.outcome) (goes tape) ∙ turns.0.waits;
-      all_sent = ap (λ p. bytes_sent p.events) (goes tape) ∙ bytes_append events (played e k tape).events
-          ∙ ap (λ bs. bytes_sent events ++ bs) turns.0.all_sent;
-    },
-    subst (λ t. TurnsFrom d n t (bytes_sent events ++ bytes) transcript) (sym (append_assoc prefix tape items))
-        (turns_behind transcript (tape ++ items) bytes turns.1),
-  )
+      search (rules, append_assoc, more, turns_behind transcript tape (bytes ++ more) turns)
+  turns_behind (Got items ∷ transcript) tape bytes turns =
+      search (rules, bytes_append, append_assoc, turns_behind transcript (tape ++ items) bytes turns.1)
 
 pub host_in_turn : {E R : Type 0} (d : Dialog E R) (n : ℕ) (p : Programmer) → AsksBodies d
     → TurnsFrom d n [] [] (of_host (calls_of d n p))
@@ -264,16 +226,7 @@ host_in_turn (Ask bytes go_on) n p asks =
     turns_behind (Ask bytes go_on) d n (next n) (on_tape (frame n reply)) (Frame (frame n bytes) ∷ [])
     (λ tape. asked bytes go_on n reply tape (answers_bodies bytes p asks.0)) transcript [] []
     (host_in_turn (go_on (Answered (device.answer bytes p))) (next n) (device.after bytes p)
-    (asks.1 (Answered (device.answer bytes p)))) in (
-      record {
-        waits = ap (λ q. q.outcome) nothing;
-        all_sent =
-            ap (λ q. bytes_sent q.events) nothing ∙ append-nil (frame n bytes);
-      },
-      subst (λ t. TurnsFrom (Ask bytes go_on) n t (frame n bytes) transcript) (append-nil (on_tape (frame n reply)))
-          (subst (λ bs. TurnsFrom (Ask bytes go_on) n (on_tape (frame n reply) ++ []) bs transcript)
-          (append-nil (frame n bytes ++ []) ∙ append-nil (frame n bytes)) later),
-    )
+    (asks.1 (Answered (device.answer bytes p)))) in search (rules, append-nil)
 
 -- ---- the server
 
@@ -291,16 +244,14 @@ module _ (p : Programmer) (text : List ℕ) (n : ℕ) (bytes : List ℕ) (body :
   one_more : frames (text ++ question) ≡ frames text ++ question ∷ []
   one_more =
       let cut_so : cut (text ++ question) ≡ cut text ++ question ∷ [] =
-      cut_append text question ∙ ap (λ r. cut text ++ cut (r ++ question)) was.whole
-      ∙ ap (λ ps. cut text ++ ps) (cut_whole question (frame_is_piece n bytes body.some body.few)) in
+      search (rules, cut_append, cut_whole, frame_is_piece) in
       ap (filter is_frame) cut_so ∙ filter-append is_frame (cut text) (question ∷ [])
       ∙ ap (λ ps. frames text ++ ps) (cond-true (is_frame question) (question ∷ []) []
       (and_parts _ _ (frame_is_good n bytes body.some)).0)
 
   fed_more : HasObeyed p (text ++ question) (device.after bytes now)
   fed_more = record {
-    whole = rest_append text question ∙ ap (λ r. rest (r ++ question)) was.whole
-        ∙ rest_whole question (frame_is_piece n bytes body.some body.few);
+    whole = search (rules, rest_append, rest_whole, frame_is_piece);
     stands = sym (ap (λ fs. after_frames device fs p) one_more ∙ after_more device (frames text) (question ∷ []) p
         ∙ ap (after_frame device question) (sym was.stands) ∙ after_is device answers_bodies n bytes now body);
   }
@@ -309,8 +260,7 @@ module _ (p : Programmer) (text : List ℕ) (n : ℕ) (bytes : List ℕ) (body :
   answered_more =
       ap (λ fs. answers device fs p) one_more ∙ answers_more device (frames text) (question ∷ []) p
       ∙ ap (λ q. emulate p text ++ (answer_frame device question q ++ [])) (sym was.stands)
-      ∙ ap (λ bs. emulate p text ++ bs) (append-nil (answer_frame device question now)
-      ∙ answer_is device answers_bodies n bytes now body)
+      ∙ ap (λ bs. emulate p text ++ bs) (search (rules, append-nil, answer_is, answers_bodies))
 
 -- what is left of the programmer
 abbrev pub left_of : {E R : Type 0} → Dialog E R → ℕ → Programmer → Programmer
@@ -327,11 +277,7 @@ record ServesOn (p : Programmer) (text : List ℕ) (transcript : Transcript) (le
 serves_on : {E R : Type 0} (d : Dialog E R) (n : ℕ) (now p : Programmer) (text : List ℕ) → AsksBodies d
     → HasObeyed p text now
     → ServesOn p text (of_server (calls_of d n now)) (left_of d n now)
-serves_on (Done r) n now p text asks was = record {
-  in_turn = (refl, tt);
-  fed = subst (λ bs. HasObeyed p bs now) (sym (append-nil text)) was;
-  answered = ap (emulate p) (append-nil text) ∙ sym (append-nil (emulate p text));
-}
+serves_on (Done r) n now p text asks was = search (rules, append-nil)
 serves_on (Say e d) n now p text asks was = serves_on d n now p text asks was
 serves_on (Ask bytes go_on) n now p text asks was =
     let question = frame n bytes in
@@ -343,21 +289,7 @@ serves_on (Ask bytes go_on) n now p text asks was =
     (fed_more p text n bytes asks.0 now was) in
     let later = of_server (calls_of d (next n) (device.after bytes now)) in
     let answered = answered_more p text n bytes asks.0 now was in
-    let bytes_are : text ++ bytes_of (on_tape question ++ heard later) ≡ (text ++ question) ++ bytes_of (heard later) =
-    ap (λ bs. text ++ bs) (bytes_of_append (on_tape question) (heard later)
-    ∙ ap (λ bs. bs ++ bytes_of (heard later)) (bytes_of_on_tape question))
-    ∙ sym (append_assoc text question (bytes_of (heard later))) in
-    record {
-      in_turn = (
-        refl,
-        subst (λ bs. AnswersInTurn p (text ++ bs) (emulate p text ++ frame n reply) later)
-            (sym (bytes_of_on_tape question))
-            (subst (λ bs. AnswersInTurn p (text ++ question) bs later) answered inner.in_turn),
-      );
-      fed = subst (λ bs. HasObeyed p bs (left_of d (next n) (device.after bytes now))) (sym bytes_are) inner.fed;
-      answered = ap (emulate p) bytes_are ∙ inner.answered ∙ ap (λ bs. bs ++ sent later) answered
-          ∙ append_assoc (emulate p text) (frame n reply) (sent later);
-    }
+    search (rules, bytes_of_append, bytes_of_on_tape, append_assoc)
 
 -- the end of the link is received last
 ends : {E R : Type 0} (d : Dialog E R) (n : ℕ) (p : Programmer)
@@ -404,24 +336,10 @@ module _ (plan : Plan) (s : chips.ChipState) (file : Bytes) (asks : AsksBodies (
   runs : Ran (session plan) start (devices silent empty_desk)
       (devices (record { transcript = host; failures = 0 }) said_desk)
       whole.result (record { next = whole.at; unread = [] })
-  runs = record {
-    during = host;
-    events = whole.events;
-    grows = refl;
-    plays = record {
-      plays = whole.plays;
-      all_sent = whole.all_sent;
-      in_turn =
-          host_in_turn (session plan) 1 (fresh_programmer s) asks;
-    };
-    few = λ few. omega arith;
-    kept = refl;
-    sound = (refl, (refl, refl));
-  }
+  runs = search (rules, whole, host_in_turn)
 
   on : (p : Programmer) (text : List ℕ) → IsFed p text (fresh_machine s) → ServesOn p text server left.programmer
-  on p text was = serves_on (session plan) 1 (fresh_programmer s) p text asks
-      (record { whole = was.stands; stands = was.obeyed })
+  on p text was = search (rules, serves_on, whole)
 
   answers_all : (p : Programmer) (text : List ℕ) → IsFed p text (fresh_machine s)
       → AnswersAll p text (bytes_of (heard server)) (sent server) left
@@ -457,17 +375,4 @@ module _ (plan : Plan) (s : chips.ChipState) (file : Bytes) (asks : AsksBodies (
       }
 
   pub has_run : HasRun plan s file
-  has_run = record {
-    calls = calls;
-    ordered = calls_ordered (session plan) 1 (fresh_programmer s);
-    prompt = calls_prompt (session plan) 1 (fresh_programmer s);
-    most = reads server;
-    status = whole.result;
-    after = record { next = whole.at; unread = [] };
-    host_desk = empty_desk;
-    host_desk_then = said_desk;
-    server_desk = empty_desk;
-    server_desk_then = saved_desk;
-    ran = runs;
-    serves = serves;
-  }
+  has_run = search (rules, calls_ordered, calls_prompt, whole, runs, serves)

@@ -1,5 +1,5 @@
 -- A session and a server at the two ends of an ordered link.
-use Rattle.std.proofs.Common.{◌≡◌, ℕ, List, [], ◌∷◌, ◌++◌, length, refl, sym, ap, ◌∙◌, subst, append_assoc, arith, All, inl, inr, Some, Ok}
+use Rattle.std.proofs.Common.{◌≡◌, ℕ, List, [], ◌∷◌, ◌++◌, length, refl, sym, ap, ◌∙◌, subst, append_assoc, arith, All, inl, inr, Some, Ok, rules}
 use Rattle.std.proofs.lemmas.List.{append-nil}
 use Rattle.avr_desk.specs.Record.{Bytes}
 use Rattle.avr_desk.specs.Said.{OutputEvent}
@@ -76,15 +76,13 @@ module _ (plan : Plan) (s : chips.ChipState) (is_sound : IsSoundChip s) (part_is
     pub honest : (left : Programmer) (serves : HasServed (fresh_programmer s) server left) → IsJoined host server
         → IsPrefixOf (sent host) (bytes_sent (played (session plan) 1 (heard host)).events)
         → AreHonest device (session plan) 1 (heard host) (fresh_programmer s) (obeyed (length (frames serves.used)))
-    honest left serves joined plays = meet_honest (session plan) asks (fresh_programmer s) left host server serves
-        joined plays (session_few plan) endless stalls
+    honest left serves joined plays = search (rules, meet_honest, asks, session_few)
 
     pub leaves : (left : Programmer) (serves : HasServed (fresh_programmer s) server left) → IsJoined host server
         → IsPrefixOf (sent host) (bytes_sent (played (session plan) 1 (heard host)).events)
         → after_pieces device (frames_in (played (session plan) 1 (heard host)).events)
         (obeyed (length (frames serves.used))) (fresh_programmer s) ≡ left
-    leaves left serves joined plays = meet_leaves (session plan) asks (fresh_programmer s) left host server serves
-        joined plays
+    leaves left serves joined plays = search (rules, meet_leaves, asks)
 
     -- NO DEADLOCK
     pub never_wait : bytes_of (heard server) ≡ sent host → bytes_of (heard host) ≡ sent server
@@ -102,14 +100,9 @@ module _ (plan : Plan) (s : chips.ChipState) (is_sound : IsSoundChip s) (part_is
           left_is = refl;
         } in
         let all : frames_in events ≡ frames (bytes_of (heard server)) =
-        sym (frames_sent events (sends_whole (session plan) 1 (heard host) asks))
-        ∙ ap frames (due.all_sent ∙ sym up) in
+        search (rules, frames_sent, sends_whole, asks) in
         meet_ends (session plan) asks p (after_frames device (frames (bytes_of (heard server))) p) host server serves
-        (record {
-          up = ([], append-nil (bytes_of (heard server)) ∙ up);
-          down =
-              ([], append-nil (bytes_of (heard host)) ∙ down);
-        }) ([], append-nil (sent host) ∙ sym due.all_sent)
+        (search (rules, append-nil)) ([], append-nil (sent host) ∙ sym due.all_sent)
         (session_few plan) endless stalls
         refl (let same = ap length all in omega (arith, same)) due.waits
 
@@ -118,8 +111,7 @@ module _ (plan : Plan) (s : chips.ChipState) (is_sound : IsSoundChip s) (part_is
         → AnswersInTurn (fresh_programmer s) [] [] (server ++ Got server_items ∷ [])
         → bytes_of (heard server) ≡ sent host → bytes_of (heard host) ≡ sent server → ⊥
     never_both host_items server_items host_turns server_turns up down =
-        never_wait up down (answered_at (fresh_programmer s) [] [] server [] server_items server_turns)
-        (due_at (session plan) 1 [] [] host [] host_items host_turns)
+        search (rules, never_wait, answered_at, due_at)
 
     -- whatever happens to both
     pub touched : (left : Programmer) (serves : HasServed (fresh_programmer s) server left) → IsJoined host server
@@ -132,8 +124,7 @@ module _ (plan : Plan) (s : chips.ChipState) (is_sound : IsSoundChip s) (part_is
         subst (λ q. OverTurns plan (fresh_programmer s) q (turns_heard (session plan) 1 (heard host) becames)
         (sent host) (played (session plan) 1 (heard host)).events)
         (meet_sent (fresh_programmer s) left host server serves joined)
-        (over_any_end plan s is_sound part_is fitted (heard host) becames (honest left serves joined plays) (sent host)
-        plays)
+        (search (rules, over_any_end, honest))
 
     -- a whole session
     module _ (events : List (Event OutputEvent)) (status : ℕ) (after : Progress)
@@ -155,8 +146,7 @@ module _ (plan : Plan) (s : chips.ChipState) (is_sound : IsSoundChip s) (part_is
           let becames = obeyed (length (frames serves.used)) in
           subst (λ q. WholeOverTurns plan (fresh_programmer s) q (turns_heard (session plan) 1 (heard host) becames)
           (sent host) events status) (meet_sent (fresh_programmer s) left host server serves joined)
-          (over_any_line plan s is_sound part_is fitted (heard host) becames (honest left serves joined prefix)
-          (sent host) (on_tape after.unread ++ []) events status after.next over plays.all_sent)
+          (search (rules, over_any_line, honest, over))
 
       -- and one over a link without timeouts
       pub expected_of : (left : Programmer) → HasServed (fresh_programmer s) server left → IsJoined host server
@@ -198,10 +188,7 @@ module _ (plan : Plan) (s : chips.ChipState) (is_sound : IsSoundChip s) (part_is
       let becames = obeyed (length (frames serves.used)) in
       subst (λ q. WholeOverTurns plan (fresh_programmer s) q (turns_heard (session plan) 1 (heard host) becames)
       (sent host) events status) (meet_sent (fresh_programmer s) left host server serves joined)
-      (over_any_line plan s is_sound part_is fitted (heard host) becames
-      (no_frame_honest device (session plan) 1 (heard host) (fresh_programmer s) becames [] tt made) (sent host)
-      (on_tape after.unread ++ [])
-      events status after.next over plays.all_sent)
+      (search (rules, over_any_line, no_frame_honest, over))
 
   -- whatever happens to both
   module _ (calls : List EndCall) (ordered : IsOrdered calls) (stalls : StallsBetweenAnswers (heard (of_host calls)))
@@ -227,18 +214,13 @@ module _ (plan : Plan) (s : chips.ChipState) (is_sound : IsSoundChip s) (part_is
         → (serves : ServesChip s file most server_old server_new served_status)
         → HasServed (fresh_programmer s) (of_server calls) serves.left.programmer
     served_all none some serves =
-        subst (λ t. HasServed (fresh_programmer s) t serves.left.programmer)
-        (since_none server_old.link.transcript server_new.link.transcript serves.serves.during
-        (of_server calls) none some
-        serves.serves.grows)
-        (has_served serves.served (fresh_programmer s) serves.serves.during serves.left serves.leaves)
+        search (rules, since_none, has_served)
 
     played_all : (after : Progress) → old.link.transcript ≡ [] → new.link.transcript ≡ of_host calls
         → (ran : Ran (session plan) start old new status after)
         → Plays (session plan) start (of_host calls) ran.events status after
     played_all after none some ran =
-        subst (λ t. Plays (session plan) start t ran.events status after)
-        (since_none old.link.transcript new.link.transcript ran.during (of_host calls) none some ran.grows) ran.plays
+        search (rules, since_none)
 
     pub one_run : (after : Progress) → IsOrdered calls → StallsBetweenAnswers (heard (of_host calls))
         → old.link.transcript ≡ [] → new.link.transcript ≡ of_host calls → server_old.link.transcript ≡ []

@@ -1,5 +1,5 @@
 -- A tape that carries answers in their order, with timeouts between them: what is read of it for one question.
-use Rattle.std.proofs.Common.{◌≡◌, ℕ, suc, ◌+◌, ◌*◌, ◌%◌, ◌≤◌, ◌≢◌, List, [], ◌∷◌, ◌++◌, length, refl, sym, ap, ◌∙◌, subst, append_assoc, arith, inl, inr, ◌⊎◌, Some, None, length-append}
+use Rattle.std.proofs.Common.{◌≡◌, ℕ, suc, ◌+◌, ◌*◌, ◌%◌, ◌≤◌, ◌≢◌, List, [], ◌∷◌, ◌++◌, length, refl, sym, ap, ◌∙◌, subst, append_assoc, arith, inl, inr, ◌⊎◌, Some, None, length-append, rules}
 use Rattle.std.proofs.lemmas.List.{append-nil}
 use Rattle.stk_frame.specs.Frame.{frame}
 use Rattle.stk_frame.specs.Cut.{cut}
@@ -71,16 +71,7 @@ all_older n c [] o = tt
 all_older n c (piece ∷ pieces) o = (one_older n c piece o.0, all_older n c pieces o.1)
 
 own_older : (n c : ℕ) (piece : List ℕ) → IsOwn n piece → IsOld (next n) (suc c) piece
-own_older n c piece o = record {
-  seq = n;
-  bytes = o.bytes;
-  carried = o.carried;
-  is = o.is;
-  back = 1;
-  some = omega arith;
-  few = omega arith;
-  number = omega arith;
-}
+own_older n c piece o = search rules
 
 -- those before, and one more after them
 pub old_and_own : (n c : ℕ) (pieces : List (List ℕ)) (piece : List ℕ) → AreOld n c pieces → IsOwn n piece
@@ -133,16 +124,7 @@ few_more : (n c count : ℕ) (t : Tape) (last : List ℕ) (more answers : List (
     → Reads n c count t last more answers → Reads n c (suc count) t last more answers
 few_more n c count t last more answers (inl r) = inl r
 few_more n c count t last more answers (inr (inl r)) =
-    let few = r.few in
-    inr (inl (record {
-      slots = r.slots;
-      old = r.old;
-      are_old = r.are_old;
-      few = omega (arith, few);
-      is = r.is;
-      left =
-          r.left;
-    }))
+    search rules
 few_more n c count t last more answers (inr (inr r)) = inr (inr r)
 
 old_length : (n c : ℕ) (piece : List ℕ) → IsOld n c piece → length piece ≤ 281
@@ -171,26 +153,14 @@ module _ (n c : ℕ) (most : c ≤ 255) (last : List ℕ) (stub : IsStub last) (
         left = e;
       }))
   reads prefix (Quiet ∷ slots) old answers passed short are_old own e =
-      inr (inl (record {
-        slots = slots;
-        old = old;
-        are_old = are_old;
-        few = omega arith;
-        is = answer_silent n prefix (slots_tape slots last) (prefix_none prefix passed) (omega (arith, short));
-        left = e;
-      }))
+      search (rules, answer_silent, prefix_none)
   reads prefix (Came piece ∷ slots) (first ∷ old) answers passed short are_old own e =
       let same : piece ≡ first = head_is piece first (came slots ++ more) (old ++ answers) e in
       let length_is = old_length n c first are_old.0 in
       let inner = reads (prefix ++ first) slots old answers (passed_on n c prefix first most passed are_old.0)
       (rw (length-append prefix first) (omega (arith, short, length_is))) are_old.1 own
       (tail_is piece first (came slots ++ more) (old ++ answers) e) in
-      few_more n c (length old) _ last more answers
-      (subst (λ t. Reads n c (length old) t last more answers)
-      (ap (λ t. t ++ slots_tape slots last) (on_tape_append prefix first)
-      ∙ (append_assoc (on_tape prefix) (on_tape first) (slots_tape slots last)
-      ∙ ap (λ q. on_tape prefix ++ (on_tape q ++ slots_tape slots last)) (sym same)))
-      inner)
+      search (rules, few_more, on_tape_append, append_assoc)
   reads prefix (Came piece ∷ slots) [] [] passed short are_old own e =
       absurd (cons_none piece (came slots ++ more) (sym e))
   reads prefix (Came piece ∷ slots) [] (first ∷ later) passed short are_old own e =
@@ -199,9 +169,7 @@ module _ (n c : ℕ) (most : c ≤ 255) (last : List ℕ) (stub : IsStub last) (
       let same : piece ≡ frame n o.bytes = head_is piece first (came slots ++ more) later e ∙ o.is in
       let found : first_answer n (cut (prefix ++ frame n o.bytes))
       ≡ Some (o.bytes, length (prefix ++ frame n o.bytes)) =
-      passed.first (frame n o.bytes)
-      ∙ (ap (further (length prefix)) (found_frame n o.bytes o.carried)
-      ∙ ap (λ k. Some (o.bytes, k)) (sym (length-append prefix (frame n o.bytes)))) in
+      search (rules, found_frame, length-append) in
       inl (record {
         bytes = o.bytes;
         later = later;
@@ -209,8 +177,7 @@ module _ (n c : ℕ) (most : c ≤ 255) (last : List ℕ) (stub : IsStub last) (
         slots = slots;
         is =
             ap (λ q. answer n (on_tape prefix ++ (on_tape q ++ slots_tape slots last))) same
-            ∙ (ap (answer n) (sym (append_assoc (on_tape prefix) (on_tape (frame n o.bytes)) (slots_tape slots last))
-            ∙ ap (λ t. t ++ slots_tape slots last) (sym (on_tape_append prefix (frame n o.bytes))))
+            ∙ (ap (answer n) (search (rules, append_assoc, on_tape_append))
             ∙ answer_found n (prefix ++ frame n o.bytes) (slots_tape slots last) o.bytes found
             (rw (length-append prefix (frame n o.bytes), length_frame n o.bytes) (omega (arith, short, few))));
         left = tail_is piece first (came slots ++ more) later e;

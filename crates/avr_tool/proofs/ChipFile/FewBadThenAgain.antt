@@ -1,5 +1,5 @@
 -- A run over a link on which few frames go wrong, then the same run again, over the chip that the first one left.
-use Rattle.std.proofs.Common.{◌≡◌, ◌⊎◌, ℕ, List, All, ◌∙◌, inl, inr, true, false}
+use Rattle.std.proofs.Common.{◌≡◌, ◌⊎◌, ℕ, List, All, ◌∙◌, inl, inr, true, false, rules}
 use Rattle.avr_desk.specs.Record.{DeskState, Record, Passes}
 use Rattle.avr_desk.specs.Said.{OutputEvent, after_all}
 use Rattle.avr_part.specs.Part.{IsPart}
@@ -35,16 +35,12 @@ module _ (plan : Plan) (w v : WiredState) (d e : Record) (a b : ℕ × ℕ) (sta
   now = keeping e b
 
   goes_on : Stopped plan w v old now → ⊥
-  goes_on broke = has_memory (broke_lacks (session plan) start (wired_link w) (wired_link v) d e a b (takes_memory plan)
-      sound broke)
+  goes_on broke = search (rules, broke_lacks)
 
   pub sound_expected : OverAnyLine plan w v old now status
       → IsExpectedRun plan (memories w) (memories v) (outputs (events_over plan v)) status
       × Passes (after_all (outputs (events_over plan v))) old now
-  sound_expected is_over = elim is_over.end [
-    | inl came ↦ (came.0.few_bad few, came.1)
-    | inr broke ↦ absurd (goes_on broke.0)
-  ]
+  sound_expected is_over = search (rules, goes_on)
 
   pub sound_images : plan.switches.no_verify ≡ false → has_erase (items plan) ≡ true → AgreesAnyway plan
       → OverAnyLine plan w v old now status → (status ≡ 0)
@@ -59,10 +55,8 @@ done_further : (plan : Plan) (before begun after : Memories) → IsPart plan.par
     → FitsPart plan.part before → has_erase (items plan) ≡ true → AgreesAnyway plan
     → (erase_keeps_eeprom plan.part before ≡ true → AreKeeping plan.part (items plan))
     → IsTouched plan before begun → IsDone plan begun after → IsDone plan before after
-done_further plan before begun after sound fitted fits erases both kept touched done = record {
-  memories = done_again plan before begun after sound fitted fits (λ _. kept) touched done;
-  agrees = agrees_anyway plan before fits erases both;
-}
+done_further plan before begun after sound fitted fits erases both kept touched done =
+    search (rules, done_again, agrees_anyway)
 
 pub further_heals : (plan : Plan) (w v x y : WiredState) (d e f g : DeskState) (status further : ℕ)
     → IsPart plan.part → All (IsFitted plan.part) plan.tasks → FitsPart plan.part (memories w)
@@ -98,9 +92,5 @@ further_heals_link plan p q x y turns more bytes others begun events further sou
     let zero = second.1.again few erases both in (
       zero,
       done_further plan (memories_of p.chip) (memories_of x.chip) (memories_of y.chip) sound fitted fits erases both
-          kept (record {
-            count = first.page_writes.count;
-            memories = same
-                ∙ first.page_writes.memories;
-          }) (second.1.done zero),
+          kept (search rules) (second.1.done zero),
     )

@@ -1,5 +1,5 @@
 -- A run over the emulator finds the chip of its file, and leaves it there.
-use Rattle.std.proofs.Common.{◌≡◌, ◌∙◌, ap, subst, sym, refl, arith, ℕ, ◌==◌, ◌||◌, Bool, true, false, not, nat_le, nat_lt, length, List, [], ◌∷◌, ◌++◌, append_assoc, append-nil, Some, Result, Ok, Err, if◌then◌else◌}
+use Rattle.std.proofs.Common.{◌≡◌, ◌∙◌, ap, subst, sym, refl, arith, ℕ, ◌==◌, ◌||◌, Bool, true, false, not, nat_le, nat_lt, length, List, [], ◌∷◌, ◌++◌, append_assoc, append-nil, Some, Result, Ok, Err, if◌then◌else◌, rules}
 use Rattle.std.proofs.lemmas.Bool.Decides.{nat_tests}
 use Rattle.std.proofs.lemmas.Grind.{common_steps}
 use Rattle.avr_emulator.specs.Loading.{chip_given, chip_stage, judged_chip}
@@ -60,38 +60,16 @@ chip_is : (part : Part) (file : Bytes) (stock : Stock) (made : List Writing) (o 
     → IsTrueOpening stock made o → (chip_given part file o left).answer ≡ Made chip
     → IsChipOf part (stood_for stock made file) chip
 chip_is part file stock made (Absent name) left chip name_is gave is =
-    subst (λ stood. IsChipOf part stood chip) (sym gave ∙ ap (stood_for stock made) name_is)
-    (let e : fresh_state part ≡ chip = cc in sym e)
+    search (rules, gave)
 chip_is part file stock made (Found x) left chip name_is gave is =
-    let fits = nat_le (length x.bytes) 4194304 in
-    let long : nat_lt 4194304 (length x.bytes) ≡ not fits = grind (arith, nat_tests, common_steps) in
-    let right = length x.bytes == chip_file_size part in
-    let all = chip_made x.ended (nat_lt 4194304 (length x.bytes)) fits right (state_in part x.bytes) chip
-    (too_long_line file 4194304) _ left long is in
-    let none : gave.unread ≡ [] = gave.ends all.0 in
-    let size : length x.bytes ≡ chip_file_size part = let e : right ≡ true = all.1 in
-    grind (arith, nat_tests, common_steps, e) in
-    let stood : stood_for stock made file ≡ Some (x.bytes ++ gave.unread) =
-    ap (stood_for stock made) (sym name_is) ∙ gave.whole in
-    subst (λ s. IsChipOf part s chip) (sym (stood ∙ ap (λ (b : Bytes). Some (x.bytes ++ b)) none
-    ∙ ap (λ (b : Bytes). Some b) (append-nil x.bytes)))
-    (size, sym all.2)
+    search (rules, common_steps, chip_made, gave, append-nil)
 
 -- ---- the chip that is loaded
 
 given_says : (part : Part) (file : Bytes) (o : Opening) (left : List Opening) → (chip_given part file o left).says ≡ []
 given_says part file (Absent name) left = refl
 given_says part file (Found x) left =
-    content_says (x.ended || nat_lt 4194304 (length x.bytes)) (judged_chip part file x.bytes) left
-  where
-    judged_says : (judged : Result Chip Bytes) (left : List Opening) → (verdict_stage judged left).says ≡ []
-    judged_says (Ok chip) left = refl
-    judged_says (Err line) left = refl
-
-    content_says : (whole : Bool) (judged : Result Chip Bytes) (left : List Opening)
-        → ((if whole then verdict_stage judged else unread_stage) left).says ≡ []
-    content_says true judged left = judged_says judged left
-    content_says false judged left = refl
+    search rules
 
 -- the next opening is the chip's
 module _ (part : Part) (file : Bytes) (old new : DeskState) (chip : Chip)
@@ -102,15 +80,11 @@ module _ (part : Part) (file : Bytes) (old new : DeskState) (chip : Chip)
   pub found_chip : (stock : Stock) (made : List Writing) → IsTrueOpening stock made found
       → IsChipOf part (stood_for stock made file) chip
   found_chip stock made gave =
-      chip_is part file stock made found _ chip (named file (went.passed ++ [])) gave
-      (ap (λ (p : StageResult Chip). p.answer) (went.comes []))
+      search (rules, chip_is, named, gave)
 
   pub found_kept : new.kept ≡ after_opening found old.kept
   found_kept =
-      let said : went.says ≡ Opens found ∷ [] =
-      sym (ap (λ (p : StageResult Chip). p.says) (went.comes []))
-      ∙ ap (λ (ss : List OutputEvent). Opens found ∷ ss) (given_says part file found _) in
-      went.kept ∙ ap (λ (ss : List OutputEvent). after_all ss old.kept) said
+      search (rules, given_says)
 
 -- ---- a run
 
@@ -152,9 +126,7 @@ module _ (settings : Settings) (file : Bytes) (stock : Stock) (old new : MemDesk
 
   first_files : files_among first_uses ≡ all_files old.kept
   first_files =
-      files_append (all_uses old.kept) (opened before.0)
-      ∙ ap (λ (fs : List Writing). files_among (all_uses old.kept) ++ fs) (none_made before.0)
-      ∙ append-nil (files_among (all_uses old.kept)) ∙ files_used old.kept
+      search (rules, files_append, opened, before, none_made, append-nil, files_used)
 
   -- its opening was true by the files before the run
   gave : IsTrueOpening stock (all_files old.kept) opening

@@ -1,5 +1,5 @@
 -- The same run again, over the chip file that the first one left.
-use Rattle.std.proofs.Common.{◌≡◌, ◌∙◌, ◌⊎◌, ap, subst, sym, refl, inl, inr, arith, ℕ, ◌+◌, Bool, true, false, length, List, [], ◌∷◌, ◌++◌, take, Option, Some, None, if◌then◌else◌}
+use Rattle.std.proofs.Common.{◌≡◌, ◌∙◌, ◌⊎◌, ap, subst, sym, refl, inl, inr, arith, ℕ, ◌+◌, Bool, true, false, length, List, [], ◌∷◌, ◌++◌, take, Option, Some, None, if◌then◌else◌, rules}
 use Rattle.std.proofs.lemmas.Slice.Eq.{bytes_eq-Decides}
 use Rattle.ghosts.specs.Stays.{Stays}
 use Rattle.avr_cli.specs.declared.settings.Settings.{Settings}
@@ -63,12 +63,7 @@ module _ (file : Bytes) (stock : Stock) (no_dash : is_dash file ≡ false) where
 
   replaced : (bytes : Bytes) (r : Record) → file_held stock (with_replaced file bytes r) file ≡ Some bytes
   replaced bytes r =
-      let own : Writing = record { name = file; bytes = bytes } in
-      stands (all_files (with_replaced file bytes r)) ∙ ap (file_named file stock) (files_replaced file bytes r)
-      ∙ newest_append file None stock.files (all_files r ++ own ∷ [])
-      ∙ newest_append file (newest file None stock.files) (all_files r) (own ∷ [])
-      ∙ ap (λ (b : Bool). if b then Some bytes else newest file (newest file None stock.files) (all_files r))
-      ((bytes_eq-Decides file file).1 refl)
+      search (rules, stands, files_replaced, newest_append, bytes_eq-Decides)
 
   -- the chip's bytes, or the earlier ones
   saved_held : (out : List ℕ) (old new : DeskState) (bytes : Bytes) (ran status : ℕ)
@@ -100,11 +95,7 @@ no_silence : (plan : Plan) (chip : Chip) (after : WiredState) (d e : DeskState) 
     → sent after.transcript ≡ [] → ran ≡ 0 → ⊥
 no_silence plan chip after d e ran (inl (place, whole)) none zero =
     let first = first_frame plan (heard whole.during ++ []) in
-    let begun : bytes_sent whole.events ≡ 27 ∷ first.0 =
-    sym (ap (λ p. bytes_sent p.events) (whole.plays.plays [])) ∙ first.1 in
-    let silent : sent whole.during ≡ [] = ap sent (sym whole.grows) ∙ none in
-    let clash : 27 ∷ first.0 ≡ [] = sym begun ∙ whole.plays.all_sent ∙ silent in
-    cc
+    search rules
 no_silence plan chip after d e ran (inr (broke, one)) none zero = let e : 1 ≡ 0 = sym one ∙ zero in omega (arith, e)
 
 -- so the chip is in its file after a run of status 0
@@ -116,9 +107,7 @@ chip_left settings file stock old new status no_dash zero r =
     zero_held file stock no_dash (sent r.after.transcript) r.played_desk (memory_state new)
     (chip_file r.after.wire.programmer.chip) r.ran
     (no_silence r.plan r.chip r.after r.loaded_desk r.played_desk r.ran r.runs)
-    (subst (IsSaved (sent r.after.transcript) r.played_desk (memory_state new) file
-    (chip_file r.after.wire.programmer.chip)
-    r.ran) zero r.saved)
+    (search rules)
 
 -- ---- two runs
 
@@ -155,11 +144,7 @@ module _ (settings : Settings) (file : Bytes) (stock : Stock) (old mid new : Mem
   is_part = subst IsPart one.part one.sound.part
 
   fits : FitsPart plan.part before
-  fits = record {
-    flash = one.sound.flash_size ∙ ap (λ (p : Part). p.flash_size) one.part;
-    eeprom = one.sound.eeprom_size ∙ ap (λ (p : Part). p.eeprom_size) one.part;
-    bytes = one.sound.flash;
-  }
+  fits = search rules
 
   left : FitsPart plan.part (memories one.after)
   left = subst (FitsPart plan.part) (sym one.line.line.page_writes.memories)
@@ -170,24 +155,16 @@ module _ (settings : Settings) (file : Bytes) (stock : Stock) (old mid new : Mem
   touched = elim (saved_held file stock no_dash (sent one.after.transcript) one.played_desk (memory_state mid)
       (chip_file one.after.wire.programmer.chip) one.ran status one.saved) [
         | inl is ↦
-            (let held : IsChipOf plan.part (Some (chip_file one.after.wire.programmer.chip)) two.chip =
-            subst (λ h. IsChipOf plan.part h two.chip) is second_chip in
-            record {
-              count = one.line.line.page_writes.count;
-              memories = ap memories_of held.1 ∙ same_memories plan.part one.after.wire.programmer.chip left
-                  ∙ one.line.line.page_writes.memories;
-            })
+            (search (rules, second_chip, same_memories, left))
         | inr same ↦
             record {
               count = 0;
-              memories = ap memories_of (same_chip plan.part (file_held stock old.kept file) two.chip one.chip
-                  (subst (λ h. IsChipOf plan.part h two.chip) (same ∙ own) second_chip) first_chip);
+              memories = search (rules, same_chip, second_chip, first_chip);
             }
       ]
 
   second : OverAnyLine plan (new_wire two.chip []) two.after two.loaded_desk two.played_desk two.ran
-  second = subst (λ (p : Plan). OverAnyLine p (new_wire two.chip []) two.after two.loaded_desk two.played_desk two.ran)
-      same_plan two.line
+  second = search rules
 
   pub heals_file : has_erase (items plan) ≡ true → AgreesAnyway plan
       → (erase_keeps_eeprom plan.part before ≡ true → AreKeeping plan.part (items plan))

@@ -1,5 +1,5 @@
 -- What a run leaves over known files and a known tape.
-use Rattle.std.proofs.Common.{◌≡◌, ◌∙◌, ◌+◌, ℕ, sym, ap, refl, arith, List, [], ◌∷◌, ◌++◌, append_assoc, map, append-nil, replicate, Option, Some, None}
+use Rattle.std.proofs.Common.{◌≡◌, ◌∙◌, ◌+◌, ℕ, sym, ap, refl, arith, List, [], ◌∷◌, ◌++◌, append_assoc, map, append-nil, replicate, Option, Some, None, rules}
 use Rattle.std.proofs.lemmas.List.{replicate-append-replicate}
 use Rattle.avr_cli.specs.declared.settings.Settings.{Settings}
 use Rattle.avr_desk.specs.Memory.{Stock}
@@ -28,10 +28,7 @@ some_is a b e = cc
 ends_either : (tape : Tape) (a b : ℕ) → (tape ++ replicate a End) ++ replicate b End
     ≡ (tape ++ replicate b End) ++ replicate a End
 ends_either tape a b =
-    let sum : a + b ≡ b + a = omega arith in
-    append_assoc tape (replicate a End) (replicate b End)
-    ∙ ap (λ (t : Tape). tape ++ t) (replicate-append-replicate a b End ∙ ap (λ (n : ℕ). replicate n End) sum
-    ∙ sym (replicate-append-replicate b a End)) ∙ sym (append_assoc tape (replicate b End) (replicate a End))
+    search (rules, append_assoc, replicate-append-replicate)
 
 pub one_outcome : (s : Settings) (stock : Stock) (tape : Tape) (a b : RunOutcome) → Leaves s stock tape a
     → Leaves s stock tape b → a ≡ b
@@ -69,11 +66,9 @@ ended_more {E = E} {R = R} (Ask body answered) seq t u r n left is =
           outcome =
               Some (r, n, left ++ u);
         }
-    by_reading None behind_it found ended = absurd
-        (let e : ◌≡◌ {A = Option (R × ℕ × Tape)} None (Some (r, n, left)) = ended in cc)
+    by_reading None behind_it found ended = search rules
     by_reading (Some (reading, rest)) behind_it found ended =
-        rw (found, answer_extends seq t u reading rest found)
-        (ap (behind (Frame (frame seq body) ∷ [])) (behind_it reading rest ended))
+        search (rules, answer_extends)
 
 answered_more : (answer : StageAnswer Plan) (t u : Tape) (status n : ℕ) (left : Tape)
     → (after_answer answer t).outcome ≡ Some (status, n, left)
@@ -83,8 +78,7 @@ answered_more : (answer : StageAnswer Plan) (t u : Tape) (status n : ℕ) (left 
           Some (status, n, left ++ u);
     }
 answered_more (Made plan) t u status n left is = ended_more (session plan) 1 t u status n left is
-answered_more (Refused line) t u status n left is = let e = some_end 1 status 1 n t left is in
-    rw (← e.0, ← e.1, ← e.2) refl
+answered_more (Refused line) t u status n left is = search (rules, some_end)
 answered_more Unread t u status n left is =
     absurd (let e : ◌≡◌ {A = Option (ℕ × ℕ × Tape)} None (Some (status, n, left)) = is in cc)
 
@@ -107,14 +101,12 @@ worked_over : (stock : Stock) (more : Tape)
     → run_outcome (run_of worked_settings stock (worked_answers ++ more)) ≡ Some worked_outcome
 worked_over stock more =
     ap run_outcome (run_more worked_settings [] worked_answers more 0 7 [] (answered_due []))
-    ∙ ap (λ (o : RunOutcome). Some o) (worked_left (run worked_settings [] worked_answers).events (sent_due [])
-    (said_due []))
+    ∙ ap (λ (o : RunOutcome). Some o) (search (rules, worked_left, sent_due, said_due))
 
 pub worked_leaves : (stock : Stock) → Leaves worked_settings stock worked_answers worked_outcome
 worked_leaves stock = record {
   ends = 0;
-  is = λ more. ap (λ (t : Tape). run_outcome (run_of worked_settings stock (t ++ more))) (append-nil worked_answers)
-      ∙ worked_over stock more;
+  is = search (rules, append-nil, worked_over);
 }
 
 absent_over : (tape : Tape) → run_outcome (run_of absent_settings no_stock tape) ≡ Some absent_outcome

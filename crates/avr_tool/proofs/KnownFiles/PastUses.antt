@@ -1,5 +1,5 @@
 -- Past uses of files stay, whatever is done at the desk from then on.
-use Rattle.std.proofs.Common.{◌≡◌, ◌∙◌, ◌⊎◌, ap, subst, sym, refl, inl, inr, ℕ, Bool, List, [], ◌∷◌, ◌++◌, append_assoc, append-nil, map, Ok, Err, Result}
+use Rattle.std.proofs.Common.{◌≡◌, ◌∙◌, ◌⊎◌, ap, subst, sym, refl, inl, inr, ℕ, Bool, List, [], ◌∷◌, ◌++◌, append_assoc, append-nil, map, Ok, Err, Result, rules}
 use Rattle.std.specs.Prelude.{⊤}
 use Rattle.avr_desk.specs.Record.{Bytes, DeskState, Record, all_uses, files_among, released, use_of, with_absent, with_replaced, written_on}
 use Rattle.avr_desk.specs.Said.{OutputEvent, Opens, Line, Creates, Writes, Outs, after, after_all, after_opening}
@@ -33,8 +33,7 @@ past_shown uses r (inr (x, reads, is)) = ([], ap (λ o. r.uses ++ use_of o) read
 -- the open file is put by, and uses may follow it
 put_by : (uses later : List FileUse) (r s : Record) → ArePast uses r → s.uses ≡ all_uses r ++ later → ArePast uses s
 put_by uses later r s past is =
-    let shown = past_shown uses r past in
-    inl (shown.0 ++ later, is ∙ ap (λ (us : List FileUse). us ++ later) shown.1 ∙ append_assoc uses shown.0 later)
+    search (rules, past_shown, append_assoc)
 
 past_on : (uses : List FileUse) (output : OutputEvent) (r : Record) → ArePast uses r → ArePast uses (after output r)
 past_on uses (Opens (Absent name)) r past = put_by uses (Opened (Absent name) ∷ []) r (with_absent name r) past refl
@@ -63,8 +62,7 @@ none_made (opening ∷ openings) = none_made openings
 one_more : (uses shown all : List FileUse) (o : Opening) (more : List Opening) → shown ≡ uses ++ Opened o ∷ []
     → all ≡ shown ++ opened more
     → all ≡ uses ++ opened (o ∷ more)
-one_more uses shown all o more one is = is ∙ ap (λ (us : List FileUse). us ++ opened more) one
-    ∙ append_assoc uses (Opened o ∷ []) (opened more)
+one_more uses shown all o more one is = search (rules, append_assoc)
 
 pub only_opened : (says : List OutputEvent) (r : Record) → OnlyReads says
     → (openings : List Opening) × (all_uses (after_all says r) ≡ all_uses r ++ opened openings)
@@ -95,9 +93,7 @@ pub run_past : (uses : List FileUse) (dialog : Dialog OutputEvent ℕ) (old new 
 run_past uses dialog old new takes Lacks status (inl (place, ran)) past =
     subst (ArePast uses) (sym ran.kept) (past_all uses (outputs ran.events) old.desk.kept past)
 run_past uses dialog old new takes Lacks status (inr (broke, one)) past =
-    subst (ArePast uses) (sym broke.kept) (past_on uses (Line broke.told)
-    (after_all (outputs broke.shown) old.desk.kept)
-    (past_all uses (outputs broke.shown) old.desk.kept past))
+    subst (ArePast uses) (sym broke.kept) (search (rules, past_on, past_all))
 
 saves_past : (uses : List FileUse) (old new : DeskState) (file bytes : Bytes) (result : Result ⊤ ℕ)
     → Saves old new file bytes result

@@ -1,5 +1,5 @@
 -- A run over a desk in memory and a tape is the function of its files and that tape.
-use Rattle.std.proofs.Common.{◌≡◌, ◌∙◌, ◌⊎◌, inl, inr, ℕ, sym, ap, ap₂, subst, refl, List, [], ◌∷◌, ◌++◌, append_assoc, append-nil, map, replicate, Option, Some}
+use Rattle.std.proofs.Common.{◌≡◌, ◌∙◌, ◌⊎◌, inl, inr, ℕ, sym, ap, ap₂, subst, refl, List, [], ◌∷◌, ◌++◌, append_assoc, append-nil, map, replicate, Option, Some, rules}
 use Rattle.std.proofs.lemmas.List.{map-append}
 use Rattle.std.specs.Io.KnownBytes.{Appends, Consumes}
 use Rattle.ghosts.specs.Stays.{Stays}
@@ -100,8 +100,7 @@ left_on (Opens (Absent name)) r =
 left_on (Opens (Found x)) r =
     ap (λ (fs : List Writing). record (left_in r) { files = fs; file = [] }) (files_used r)
 left_on (Line bytes) r = refl
-left_on (Creates name) r = ap (λ (fs : List Writing). record (left_in r)
-    { files = fs; file = record { name = name; bytes = [] } ∷ [] }) (files_used r)
+left_on (Creates name) r = search (rules, files_used)
 left_on (Writes bytes) r =
     ap (λ (fs : List Writing). record (left_in r) { file = fs }) (written_file bytes r.current)
 left_on (Outs bytes) r = refl
@@ -169,10 +168,7 @@ module _ (settings : Settings) (stock : Stock) (old m : MemDeskState) (answer : 
 
   both : ((planned_of settings stock).answer ≡ (planned settings (went.passed ++ [])).answer)
       × (lines_in (told_in (planned_of settings stock)) ≡ lines_in (told_in (planned settings (went.passed ++ []))))
-  both = seen_is_planned stock settings (went.passed ++ [])
-      (subst (AreSeen stock) (sym (ap (λ (p : StageResult Plan). p.says) planned_is))
-      (seen_before stock went.says answer seen))
-      (λ unread. judged (sym (ap (λ (p : StageResult Plan). p.answer) planned_is) ∙ unread))
+  both = search (rules, seen_is_planned, planned_is, seen_before, seen)
 
   same_answer : (planned_of settings stock).answer ≡ answer
   same_answer = both.0 ∙ ap (λ (p : StageResult Plan). p.answer) planned_is
@@ -180,13 +176,7 @@ module _ (settings : Settings) (stock : Stock) (old m : MemDeskState) (answer : 
   same_left : left_in (after_all (all_told (planned_of settings stock).says answer) nothing_kept) ≡ left_in m.kept
   same_left =
       let whole = told_in (planned_of settings stock) in
-      let lines : lines_in whole ≡ lines_in told =
-      both.1 ∙ ap (λ (p : StageResult Plan). lines_in (told_in p)) planned_is in
-      ap (λ (a : StageAnswer Plan). left_in (after_all (all_told (planned_of settings stock).says a) nothing_kept))
-      (sym same_answer)
-      ∙ planning_left whole (only_reads settings (files_give stock (files_read settings)))
-      ∙ ap (λ (ls : List Bytes). told_left (joined ls) []) lines ∙ sym (planning_left told only_read)
-      ∙ ap left_in (sym kept_is)
+      search (rules, whole, both, planned_is, same_answer, planning_left, only_reads, only_read, kept_is)
 
 -- ---- the run
 
@@ -205,12 +195,7 @@ left_is : (status : ℕ) (says : List OutputEvent) (events : List (Event OutputE
     → bytes_sent events ≡ sent transcript
     → left_by (map Said says ++ events) status ≡ shown_by status (sent transcript) kept
 left_is status says events between kept transcript alike then frames =
-    let same : left_in (after_all (outputs (map Said says ++ events)) nothing_kept) ≡ left_in kept =
-    ap (λ (ss : List OutputEvent). left_in (after_all ss nothing_kept)) (said_outputs says events)
-    ∙ ap left_in (after_append says (outputs events) nothing_kept)
-    ∙ left_all (outputs events) (after_all says nothing_kept) ∙ ap (left_after_all (outputs events)) alike
-    ∙ sym (left_all (outputs events) between) ∙ ap left_in (sym then) in
-    ap₂ (outcome_of status) (said_bytes says events ∙ frames) same
+    search (rules, said_outputs, after_append, left_all, said_bytes)
 
 module _ (settings : Settings) (old new : MemDeskState) (before after : LinkState) (status : ℕ)
     (unused : AreUnused old before) where
@@ -229,17 +214,14 @@ module _ (settings : Settings) (old new : MemDeskState) (before after : LinkStat
       let ran = played_whole.1 in
       let p = planned_of settings stock in
       let judged : ◌≡◌ {A = StageAnswer Plan} (Made plan) Unread → ⊥ = λ e. cc in
-      let answer : p.answer ≡ Made plan = same_answer settings stock old between (Made plan) unused.desk_is holds judged
-      went in
+      let answer : p.answer ≡ Made plan = search (rules, same_answer) in
       let alike = same_left settings stock old between (Made plan) unused.desk_is holds judged went in
       let during : after.transcript ≡ ran.during =
       ran.grows ∙ ap (λ transcript. transcript ++ ran.during) silent_before in
       let left : left_by (map Said p.says ++ ran.events) status ≡ shown_by status (sent after.transcript) new.kept =
       left_is status p.says ran.events between.kept new.kept after.transcript alike ran.kept
       (ran.plays.all_sent ∙ ap sent (sym during)) in
-      ap (λ transcript. run_outcome (run_of settings stock (heard transcript ++ more))) during
-      ∙ ap (λ a. run_outcome (behind (map Said p.says) (after_answer a (heard ran.during ++ more)))) answer
-      ∙ ap (λ q. run_outcome (behind (map Said p.says) q)) (ran.plays.plays more) ∙ ap (λ (o : RunOutcome). Some o) left
+      search rules
 
   -- it was refused
   refused : HoldsTrue stock new → after.transcript ≡ before.transcript
@@ -248,8 +230,7 @@ module _ (settings : Settings) (old new : MemDeskState) (before after : LinkStat
   refused holds silent (line, went) more =
       let p = planned_of settings stock in
       let judged : ◌≡◌ {A = StageAnswer Plan} (Refused line) Unread → ⊥ = λ e. cc in
-      let answer : p.answer ≡ Refused line = same_answer settings stock old new (Refused line) unused.desk_is holds
-      judged went in
+      let answer : p.answer ≡ Refused line = search (rules, same_answer) in
       let alike = same_left settings stock old new (Refused line) unused.desk_is holds judged went in
       let events : map Said (p.says ++ Line line ∷ []) ++ [] ≡ map Said p.says ++ Said (Line line) ∷ [] =
       append-nil (map Said (p.says ++ Line line ∷ [])) ∙ map-append Said p.says (Line line ∷ []) in
@@ -257,8 +238,7 @@ module _ (settings : Settings) (old new : MemDeskState) (before after : LinkStat
       ap (λ (es : List (Event OutputEvent)). left_by es 1) (sym events)
       ∙ left_is 1 (p.says ++ Line line ∷ []) [] new.kept new.kept after.transcript alike refl
       (ap sent (sym (silent ∙ silent_before))) in
-      ap (λ a. run_outcome (behind (map Said p.says) (after_answer a (heard after.transcript ++ more)))) answer
-      ∙ ap (λ (o : RunOutcome). Some o) left
+      search rules
 
   -- over what was received it leaves what is shown, and the link has not failed
   pub record LeavesShown : Type 0 where
@@ -272,10 +252,7 @@ module _ (settings : Settings) (old new : MemDeskState) (before after : LinkStat
       status
       → LeavesShown ⊎ IsStopped settings (devices before (memory_state old)) (devices after (memory_state new)) status
   run_is between first all (inl runs) = elim runs.runs [
-    | inl played_whole ↦ inl (record {
-      is = whole between runs.plan (first stock (begins_true old unused.desk_is)) runs.made played_whole;
-      sound = played_whole.1.sound.0 ∙ ap (λ (l : LinkState). l.failures) unused.link_is;
-    })
+    | inl played_whole ↦ inl (search (rules, whole, begins_true))
     | inr broke ↦ inr (
       inl (record { plan = runs.plan; between = memory_state between; made = runs.made; then_is = broke.0 }),
       broke.1,
@@ -298,17 +275,7 @@ module _ (settings : Settings) (old new : MemDeskState) (status : ℕ) where
       → IsLeft settings (stock_of old) (heard after.transcript) (shown_by status (sent after.transcript) new.kept)
       → Leaves settings (stock_of old) before.left (shown_by status (sent after.transcript) new.kept)
   over_tape before after silent of_tape left =
-      let transcript_is : after.transcript ≡ of_tape.during =
-      of_tape.grows ∙ ap (λ transcript. transcript ++ of_tape.during) silent in
-      record {
-        ends = of_tape.ends;
-        is = λ more.
-            let tape : (before.left ++ replicate of_tape.ends End) ++ more
-            ≡ heard after.transcript ++ (after.left ++ more) =
-            ap (λ (t : Tape). t ++ more) (sym of_tape.gave) ∙ append_assoc (heard of_tape.during) after.left more
-            ∙ ap (λ transcript. heard transcript ++ (after.left ++ more)) (sym transcript_is) in
-            ap (λ t. run_outcome (run_of settings (stock_of old) t)) tape ∙ left (after.left ++ more);
-      }
+      search (rules, append_assoc)
 
   pub run_is_over_tape : (before after : TapeState) (between : MemDeskState)
       (unused : AreUnused old (tape_state before))
@@ -338,18 +305,8 @@ module _ (settings : Settings) (old new : MemDeskState) (status : ℕ) where
       (devices (stream_state after) (memory_state new)) status
   run_is_over_streams remaining contents before after between unused true_since first all runs =
       let transcript_is : after.transcript ≡ true_since.during =
-      true_since.grows ∙ ap (λ transcript. transcript ++ true_since.during)
-      (ap (λ (l : LinkState). l.transcript) unused.link_is) in
+      search rules in
       elim (run_is settings old new (stream_state before) (stream_state after) status unused between first all runs) [
-        | inl left ↦ inl (record {
-          tape = heard after.transcript;
-          gave = subst (λ transcript. Consumes (remaining before.reader) (remaining after.reader)
-              (bytes_of (heard transcript)))
-              (sym transcript_is) true_since.gave;
-          took = subst (λ transcript. Appends (contents before.writer) (contents after.writer) (sent transcript))
-              (sym transcript_is)
-              (true_since.took left.sound);
-          is = left.is;
-        })
+        | inl left ↦ inl (search rules)
         | inr stopped ↦ inr stopped
       ]

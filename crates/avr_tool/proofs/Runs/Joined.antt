@@ -1,5 +1,5 @@
 -- Planning and session as one run.
-use Rattle.std.proofs.Common.{◌≡◌, ℕ, ◌⊎◌, inl, inr, List, [], ◌∷◌, ◌++◌, map, Some, refl, sym, ap, ◌∙◌, subst, arith, append_assoc}
+use Rattle.std.proofs.Common.{◌≡◌, ℕ, ◌⊎◌, inl, inr, List, [], ◌∷◌, ◌++◌, map, Some, refl, sym, ap, ◌∙◌, subst, arith, append_assoc, rules}
 use Rattle.avr_cli.specs.declared.settings.Settings.{Settings}
 use Rattle.avr_desk.specs.Fault.{Follows}
 use Rattle.avr_desk.specs.Record.{DeskState}
@@ -50,14 +50,11 @@ ran_whole settings plan x y between status went whole =
       events = map Said went.says ++ ran.events;
       next = whole.0.next;
       left = whole.0.unread;
-      is = λ later more. ap (λ q. after_planning q (heard ran.during ++ more)) (went.comes later)
-          ∙ ap (behind (map Said went.says)) (ran.plays.plays more);
-      in_turn = λ later. subst (λ answer. IsInTurn answer ran.during) (sym (answered (went.comes later)))
-          ran.plays.in_turn;
+      is = search rules;
+      in_turn = search (rules, answered);
       all_sent = said_bytes went.says ran.events ∙ ran.plays.all_sent;
       grows = ran.grows;
-      kept = kept_append went.says (outputs ran.events) x.desk.kept between.kept y.desk.kept went.kept ran.kept
-          ∙ ap (λ says. after_all says x.desk.kept) (sym (said_outputs went.says ran.events));
+      kept = search (rules, kept_append, said_outputs);
       few = ran.few (omega arith);
       sound = (ran.sound.0, same_on x.desk between y.desk went.sound ran.sound.1);
     }
@@ -158,8 +155,5 @@ pub one_status : (settings : Settings) (h i j k : Devices) (m n : ℕ) (x : IsRu
 one_status settings h i j k m n x y same alike =
     let both : run settings (x.openings ++ []) (heard x.during ++ [])
     ≡ run settings (y.openings ++ []) (heard y.during ++ []) =
-    ap (λ os. run settings (os ++ []) (heard x.during ++ [])) same
-    ∙ ap (λ t. run settings (y.openings ++ []) (t ++ [])) alike in
-    let outcomes = sym (ap (λ z. z.outcome) (x.is [] []))
-    ∙ (ap (λ z. z.outcome) both ∙ ap (λ z. z.outcome) (y.is [] [])) in
-    ap (λ z. z.0) (some_is (m, x.next, on_tape x.left ++ []) (n, y.next, on_tape y.left ++ []) outcomes)
+    search rules in
+    search (rules, some_is)

@@ -1,5 +1,5 @@
 -- Outcomes that the page refuses.
-use Rattle.std.proofs.Common.{◌≡◌, ◌<◌, ◌*◌, ℕ, List, [], ◌++◌, map, ap, sym, ◌∙◌, subst, refl, arith, Option, Some}
+use Rattle.std.proofs.Common.{◌≡◌, ◌<◌, ◌*◌, ℕ, List, [], ◌++◌, map, ap, sym, ◌∙◌, subst, refl, arith, Option, Some, rules}
 use Rattle.avr_desk.specs.Record.{DeskState, Passes}
 use Rattle.avr_desk.specs.declared.record.Opening.{Opening}
 use Rattle.avr_desk.specs.Said.{after_all}
@@ -38,8 +38,7 @@ not_all_written plan w v d e other over = other ((came_to plan w v d e 0 over re
 pub said_otherwise : (plan : Plan) (w v : WiredState) (d e : DeskState)
     → (Passes (after_all (expected_run plan (memories w)).says) d e → ⊥) → OverAnyLine plan w v d e 0 → ⊥
 said_otherwise plan w v d e other over =
-    let came = came_to plan w v d e 0 over refl in
-    other (came.1 ∙ ap (λ said. after_all said d.kept) (came.0.success refl).said)
+    search (rules, came_to)
 
 pub touched_in_silence : (plan : Plan) (w v : WiredState) (d e : DeskState) (status : ℕ)
     → frames (sent v.transcript) ≡ []

@@ -1,5 +1,5 @@
 -- Arguments that request no run, and the error that is left of them.
-use Rattle.std.proofs.Common.{◌≡◌, refl, sym, ◌∙◌, subst, ℕ, List, Result, Ok, Err, inr}
+use Rattle.std.proofs.Common.{◌≡◌, refl, sym, ◌∙◌, subst, ℕ, List, Result, Ok, Err, inr, rules}
 use Rattle.clap.specs.Words.{fault_of, kind_of, HasKind}
 use Rattle.clap.specs.declared.error.Error.{Error}
 use Rattle.clap.specs.declared.error.kind.ErrorKind.TheVariants.{OutOfMemory}
@@ -19,11 +19,7 @@ pub untaken : (peers : Peers) (words : List Bytes)
     (link : LinkState) (old mid new : DeskState) (error : Error) (result : Result ℕ Error)
     → Asks words old mid (Err (Words error)) → LeavesWords error mid new result
     → ActsOnWords peers words (devices link old) (devices link new) result
-untaken peers words link old mid new error (Ok status) asks leaves = inr (record {
-  why = inr (subst (λ (d : DeskState). Tells d new (refusal_line Memory)) asks.2 leaves.1);
-  untouched = refl;
-  status_is = leaves.2;
-})
+untaken peers words link old mid new error (Ok status) asks leaves = search rules
 untaken peers words link old mid new error (Err left) asks leaves = (
   record {
     kind = subst (λ (e : Error). HasKind (fault_of avrstk words) e) (sym leaves.1) asks.0;
