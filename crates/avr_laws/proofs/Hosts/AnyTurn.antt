@@ -137,11 +137,6 @@ module _ {P : Type 0} (m : Device P) where
     step_leads During Whole p from to failed before =
         search (rules, wider, step_goes)
 
-        ended : (o : StepOutcome) (q : P) → AfterStep o q
-            → OnOutcome (λ got q. After q × Gives m commands Before After got) Whole o q
-        ended (Ok got) q x = x
-        ended (Err fault) q x = failed fault q (either q x)
-
     -- along each link
     pub step_along : (p : P) (turns : List Turn) → Before p → Leads m (step commands) p turns Either AfterStep
     step_along p turns before = leads at_end (step_goes p before)
