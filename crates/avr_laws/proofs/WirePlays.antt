@@ -1,5 +1,5 @@
 -- A session that ran over a wire went along the turns of its fates.
-use Rattle.std.proofs.Common.{◌≡◌, ℕ, [], List, ◌++◌, All, length, take, refl, sym, ap, ◌∙◌, subst, inl, inr}
+use Rattle.std.proofs.Common.{◌≡◌, ℕ, [], List, ◌++◌, All, length, take, refl, sym, ap, ◌∙◌, subst, inl, inr, rules}
 use Rattle.std.proofs.lemmas.List.{append-nil}
 use Rattle.avr_desk.specs.Said.{OutputEvent, after_all}
 use Rattle.avr_part.specs.Sound.{IsSoundChip}

@@ -141,5 +141,19 @@ pub touched_made : (plan : Plan) (before after : Memories) (addr : ℕ) → addr
 touched_made plan before after addr l touched =
     let m : IsMade (take touched.count (page_writes plan)) addr (get_or before.flash addr 0)
     (get_or after.flash addr 0) =
-    search (rules, made) in
-    search (rules, erase_of, all_there)
+    subst (λ (n : Memories). IsMade (take touched.count (page_writes plan)) addr (get_or before.flash addr 0)
+    (get_or n.flash addr 0)) (sym touched.memories)
+    (made plan.part addr (take touched.count (page_writes plan)) before l) in
+    let first_is : (m.first ≡ get_or before.flash addr 0) ⊎ ((m.first ≡ 255) × (has_erase (page_writes plan) ≡ true)) =
+    elim m.first_is [
+      | inl same ↦ inl same
+      | inr blank ↦ inr (blank.0, erase_of touched.count (page_writes plan) blank.1)
+    ] in
+    record {
+      first = m.first;
+      bytes = m.bytes;
+      first_is = first_is;
+      are_there =
+          all_there touched.count (page_writes plan) addr m.bytes m.are_there;
+      is = m.is;
+    }
