@@ -1,5 +1,5 @@
 -- Which results keep a text, or follow a text that was kept.
-use Rattle.std.proofs.Common.{◌≡◌, ◌∙◌, refl, ap, sym, ℕ, ◌+◌, true, false, List, [], ◌∷◌, length, Option, Some, None, Result, Ok, Err, codes, ⊎_elim}
+use Rattle.std.proofs.Common.{◌≡◌, ◌∙◌, refl, ap, sym, ℕ, ◌+◌, true, false, List, [], ◌∷◌, length, Option, Some, None, Result, Ok, Err, codes, ⊎_elim, rules}
 use Rattle.std.specs.Prelude.{⊤, nat_lt}
 use Rattle.std.specs.Str.{bytes_eq}
 use Rattle.std.proofs.lemmas.Bool.{cases_Bool}
@@ -27,17 +27,14 @@ update_keeps n (Err fault) = refl
 updates_keep : (n : ℕ) (texts : List Bytes) → is_told_anyway (updates_from n texts) ≡ false
 updates_keep n [] = refl
 updates_keep n (text ∷ rest) =
-    then_keeps (update_at n (update_of text)) (λ u. updates_from (n + 1) rest >>= (λ us. Ok (u ∷ us)))
-    (update_keeps n (update_of text))
-    (λ u. then_keeps (updates_from (n + 1) rest) (λ us. Ok (u ∷ us)) (updates_keep (n + 1) rest) (λ us. refl))
+    search (rules, then_keeps, update_keeps, updates_keep (n + 1) rest)
 
 all_keep : (texts : List Bytes) → is_told_anyway (updates_of texts) ≡ false
 all_keep texts = ⊎_elim (λ e. rw e refl) (λ e. rw e (updates_keep 1 texts)) (cases_Bool (nat_lt 16 (length texts)))
 
 streams_keep : (port : Port) (updates : List Update) (parts chip : Option Bytes)
     → is_told_anyway (checked_streams port updates parts chip) ≡ false
-streams_keep port updates parts chip = ⊎_elim (λ e. rw e refl) (λ e. rw e refl)
-    (cases_Bool (is_taken port updates parts chip))
+streams_keep port updates parts chip = search (rules, cases_Bool)
 
 -- the settings of a run, after the programmer and the port
 abbrev behind_port : Bytes → Entries → Port → Result Settings SettingsFault
@@ -47,17 +44,14 @@ behind_port part e port =
 
 behind_port_keeps : (part : Bytes) (e : Entries) (port : Port) → is_told_anyway (behind_port part e port) ≡ false
 behind_port_keeps part e port =
-    then_keeps (updates_of e.updates) _ (all_keep e.updates)
-    (λ updates. then_keeps (checked_streams port updates e.parts e.chip) _ (streams_keep port updates e.parts e.chip)
-    (λ _. refl))
+    search (rules, then_keeps, all_keep, streams_keep)
 
 -- a fault of the programmer keeps its name
 passed : {A : Type 0} (given : Option Bytes) (f : ⊤ → Result A SettingsFault)
     → is_told_anyway (checked_programmer given >>= f) ≡ true
     → checked_programmer given ≡ Ok tt
 passed None f told = refl
-passed (Some name) f told = ⊎_elim (λ e. rw e refl) (λ e. let wrong : false ≡ true = rw e at told in cc)
-    (cases_Bool (bytes_eq name (codes "stk500v2")))
+passed (Some name) f told = search (rules, cases_Bool)
 
 -- a fault of the port is reported unchanged, if what follows keeps a text
 from_port : {A : Type 0} (want : Result Port SettingsFault) (f : Port → Result A SettingsFault) (fault : SettingsFault)
@@ -79,12 +73,9 @@ by_port part e told = rw (passed e.programmer _ told) refl
 pub port_is_told : (part : Bytes) (e : Entries) (fault : SettingsFault) → TellsAnyway (port_given_of e.port) (Err fault)
     → TellsAnyway (run_settings part e) (Err fault)
 port_is_told part e fault tells told =
-    let by = by_port part e told in
-    from_port (port_given_of e.port) (behind_port part e) fault (behind_port_keeps part e) tells
-    (ap is_told_anyway (sym by) ∙ told) ∙ sym by
+    search (rules, by_port, from_port, behind_port_keeps)
 
 pub nothing_behind_port : (part : Bytes) (e : Entries) (port : Port) → GivesOrMemory (port_given_of e.port) (Ok port)
     → is_told_anyway (run_settings part e) ≡ true → ⊥
 nothing_behind_port part e port gives told =
-    not_behind (port_given_of e.port) (behind_port part e) port (behind_port_keeps part e) gives
-    (ap is_told_anyway (sym (by_port part e told)) ∙ told)
+    search (rules, not_behind, behind_port_keeps, by_port)

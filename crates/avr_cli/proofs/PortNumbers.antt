@@ -16,9 +16,7 @@ digits = numerals_by_value IsDigits (search rules)
 too_large : (text : List ℕ) → ((0 < length text) × (digits_value 10 text < 2 ^ 16) → ⊥) → port_number text ≡ None
 too_large [] h = refl
 too_large (c ∷ cs) h =
-    let small : digits_value 10 (c ∷ cs) < 65536 → ⊥ = λ l. h (omega arith, l) in
-    let large : 65536 ≤ digits_value 10 (c ∷ cs) = omega (arith, small) in
-    grind (arith, nat_tests)
+    search rules
 
 pub port_number-refused : {E : Type 0} (text : List ℕ) (e : E) → ParsesUnsigned 16 10 text (Err e) → IsDigits text
     → port_number text ≡ None

@@ -1,5 +1,5 @@
 -- The cuts of std are those of the definitions.
-use Rattle.std.proofs.Common.{◌≡◌, ◌≢◌, ◌∙◌, ap, ap₂, sym, refl, arith, ℕ, suc, ◌<◌, false, ◌==◌, List, [], ◌∷◌, ◌++◌, length}
+use Rattle.std.proofs.Common.{◌≡◌, ◌≢◌, ◌∙◌, ap, ap₂, sym, refl, arith, ℕ, suc, ◌<◌, false, ◌==◌, List, [], ◌∷◌, ◌++◌, length, rules}
 use Rattle.std.proofs.Common.{get_or, take, drop, Option, Some, None, option_map, Bor, ⊎_elim}
 use Rattle.std.proofs.lemmas.Bool.{cases_Bool}
 use Rattle.std.proofs.lemmas.Bool.Decides.{nat_tests}
@@ -38,8 +38,7 @@ pub strips_prefix : (prefix text : List ℕ) (r : Option (Bor (List ℕ)))
     → option_map (λ s. s.now) r ≡ after_prefix prefix text
 strips_prefix prefix text None h = sym (after_prefix-lacks prefix text h)
 strips_prefix prefix text (Some x) h =
-    ap (λ (b : List ℕ). Some b) h.2
-    ∙ sym (ap (after_prefix prefix) h.1.1 ∙ after_prefix-append prefix (drop h.0 text))
+    search (rules, after_prefix-append)
 
 split_first-none : (text : List ℕ) → HasNoColon text → split_first text ≡ None
 split_first-none [] h = refl

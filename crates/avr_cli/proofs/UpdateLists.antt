@@ -1,5 +1,5 @@
 -- Updates that are read one after another.
-use Rattle.std.proofs.Common.{◌≡◌, ◌∙◌, ap, sym, refl, ℕ, ◌+◌, List, [], ◌∷◌, ◌++◌, Result, Ok, Err, append_assoc}
+use Rattle.std.proofs.Common.{◌≡◌, ◌∙◌, ap, sym, refl, ℕ, ◌+◌, List, [], ◌∷◌, ◌++◌, Result, Ok, Err, append_assoc, rules}
 use Rattle.avr_part.specs.PartFile.{Bytes}
 use Rattle.avr_cli.specs.Settings.{◌>>=◌, updates_from, update_at}
 use Rattle.avr_cli.specs.Update.{update_of}
@@ -22,8 +22,4 @@ pub read_next : (all : Result (List Update) SettingsFault) (us : List Update) (l
     → left ≡ text ∷ next → all ≡ onto us (updates_from n left) → Ok u ≡ update_at n (update_of text)
     → all ≡ onto (us ++ u ∷ []) (updates_from (n + 1) next)
 read_next all us left next n text u split so_far is =
-    so_far
-    ∙ ap (λ (ts : List Bytes). onto us (updates_from n ts)) split
-    ∙ ap (λ (r : Result Update SettingsFault). onto us (r >>= (λ v. updates_from (n + 1) next >>= (λ vs. Ok (v ∷ vs)))))
-    (sym is)
-    ∙ onto-next us u (updates_from (n + 1) next)
+    search (rules, onto-next)

@@ -1,5 +1,5 @@
 -- An update that is written reads back.
-use Rattle.std.proofs.Common.{◌≡◌, ◌≢◌, ◌∙◌, ap, refl, arith, ℕ, ◌+◌, ◌-◌, true, false, ◌==◌, [], ◌∷◌, ◌++◌, length, get_or}
+use Rattle.std.proofs.Common.{◌≡◌, ◌≢◌, ◌∙◌, ap, refl, arith, ℕ, ◌+◌, ◌-◌, true, false, ◌==◌, [], ◌∷◌, ◌++◌, length, get_or, rules}
 use Rattle.std.proofs.Common.{take, Some, nat_le, Ok}
 use Rattle.std.proofs.lemmas.Bool.Decides.{nat_tests}
 use Rattle.std.proofs.lemmas.List.{length-append, get_or-append-add}
@@ -60,8 +60,4 @@ pub update_is_read : (memory : Mem) (op : Op) (file : Bytes) (letter : ℕ) (for
     → update_of (update_text memory op file letter)
     ≡ Ok (record { memory = memory; op = op; format = format; file = file })
 update_is_read memory op file letter format some is =
-    of_memory memory (op_name op ++ colon ∷ (file ++ colon ∷ letter ∷ []))
-    ∙ of_op memory op (file ++ colon ∷ letter ∷ [])
-    ∙ ap (update_by memory op) (file_and_letter-append file letter)
-    ∙ of_file memory op file letter some
-    ∙ ap (update_in memory op file) is
+    search (rules, of_memory, of_op, file_and_letter-append, of_file)

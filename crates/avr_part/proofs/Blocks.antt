@@ -1,5 +1,5 @@
 -- A block at once is a block byte by byte.
-use Rattle.std.proofs.Common.{◌≡◌, ℕ, zero, suc, ◌+◌, ◌*◌, ◌/◌, ◌%◌, ◌≤◌, ◌<◌, List, [], ◌∷◌, ◌++◌, length, get_or, set, take, drop, refl, sym, ap, ap₂, ◌∙◌, arith, inl, inr, true, drop-cons, append_assoc}
+use Rattle.std.proofs.Common.{◌≡◌, ℕ, zero, suc, ◌+◌, ◌*◌, ◌/◌, ◌%◌, ◌≤◌, ◌<◌, List, [], ◌∷◌, ◌++◌, length, get_or, set, take, drop, refl, sym, ap, ap₂, ◌∙◌, arith, inl, inr, true, drop-cons, append_assoc, rules}
 use Rattle.std.proofs.Math.Nat.{mod-mod_of_dvd, mod-add-div', dvd-mul_right, dvd_trans}
 use Rattle.std.proofs.lemmas.Nat.Gcd.{dvd_of_mod-eq-zero, mod-eq-zero_of_dvd}
 use Rattle.std.proofs.Math.Seq.{take-suc-set}
@@ -15,12 +15,7 @@ use Rattle.avr_part.specs.Sound.{IsSoundChip}
 use Rattle.avr_part.specs.declared.instruction.Half.TheVariants as half
 
 pub offset_at : (i : ℕ) → half_offset (half_at i) ≡ i % 2
-offset_at i = elim (cases_Bool (i % 2 == 0)) [
-  | inl e ↦ ap half_offset (cond-true (i % 2 == 0) half.Low half.High e) ∙ sym (eqb-true (i % 2) 0 e)
-  | inr e ↦
-      let odd : 1 ≡ i % 2 = let ne = eqb-false (i % 2) 0 e in omega arith in
-      ap half_offset (cond-false (i % 2 == 0) half.Low half.High e) ∙ odd
-]
+offset_at i = search (rules, cases_Bool, cond-true, eqb-true, eqb-false, cond-false)
 
 -- a remainder that stays below the end
 mod_on : (word k half : ℕ) → word % half + k < half → (word + k) % half ≡ word % half + k
@@ -37,33 +32,28 @@ place_on word i half inside =
 -- one more byte
 paste_on : (p : ℕ) (d : ℕ) (ds xs : List ℕ) → p < length xs → pasted (suc p) ds (set xs p d) ≡ pasted p (d ∷ ds) xs
 paste_on p d ds xs inside =
-    ap₂ (λ prefix back. prefix ++ (ds ++ back)) (take-suc-set xs p d inside)
-    (drop-set-lt (suc p + length ds) xs p d (omega arith))
-    ∙ (append_assoc (take p xs) (d ∷ []) (ds ++ drop (suc p + length ds) xs)
-    ∙ ap (λ k. take p xs ++ (d ∷ (ds ++ drop k xs)))
-    (let e : suc p + length ds ≡ p + suc (length ds) = omega arith in e))
+    search (rules, take-suc-set, drop-set-lt, append_assoc)
 
 pub loaded_at_once : (word i half : ℕ) (bytes : List ℕ) (s : ChipState) → s.part.flash_page / 2 ≡ half
     → ((x : ℕ) → x % 256 % half ≡ x % half)
     → word % half * 2 + i + length bytes ≤ half * 2 → half * 2 ≤ length s.flash_buffer
     → loaded_in_turn word i bytes s ≡ record s { flash_buffer = pasted (word % half * 2 + i) bytes s.flash_buffer }
 loaded_at_once word i half [] s is wraps inside long =
-    let p = word % half * 2 + i in
-    ap (λ b. record s { flash_buffer = b })
-    (sym (ap (λ k. take p s.flash_buffer ++ drop k s.flash_buffer) (let e : p + 0 ≡ p = omega arith in e)
-    ∙ take-append-drop p s.flash_buffer))
+    search (rules, take-append-drop)
 loaded_at_once word i half (d ∷ ds) s is wraps inside long =
     let p = word % half * 2 + i in
     let s₂ : ChipState = record s { flash_buffer = set s.flash_buffer p d } in
     let place : (word + i / 2) % 256 % (s.part.flash_page / 2) * 2 + half_offset (half_at i) ≡ p =
-    ap₂ (λ h o. (word + i / 2) % 256 % h * 2 + o) is (offset_at i)
-    ∙ (ap (λ x. x * 2 + i % 2) (wraps (word + i / 2)) ∙ place_on word i half (omega arith)) in
+    search (rules, offset_at, place_on) in
     let long₂ : half * 2 ≤ length (set s.flash_buffer p d) = rw (length-set s.flash_buffer p d) long in
-    ap (λ q. loaded_in_turn word (suc i) ds (record s { flash_buffer = set s.flash_buffer q d })) place
-    ∙ (loaded_at_once word (suc i) half ds s₂ is wraps (omega arith) long₂
-    ∙ ap (λ b. record s { flash_buffer = b })
-    (ap (λ q. pasted q ds (set s.flash_buffer p d)) (let e : word % half * 2 + suc i ≡ suc p = omega arith in e)
-    ∙ paste_on p d ds s.flash_buffer (omega arith)))
+    search (
+      rules,
+      paste_on,
+      loaded_at_once word (suc i) half ds s₂ is wraps (omega arith) long₂ ∙ ap (λ b. record s {
+        flash_buffer = b;
+      }) (ap (λ q. pasted q ds (set s.flash_buffer p d)) (let e : word % half * 2 + suc i ≡ suc p =
+          omega arith in e) ∙ paste_on p d ds s.flash_buffer (omega arith)),
+    )
 
 pub read_at_once : (word i n half : ℕ) (s : ChipState) → s.part.flash_size / 2 ≡ half
     → (s.extended * 65536 + word) % half * 2 + i + n ≤ half * 2 → half * 2 ≤ length s.flash
@@ -76,10 +66,12 @@ read_at_once word i (suc n) half s is inside long =
     ap₂ (λ h o. (s.extended * 65536 + (word + i / 2)) % h * 2 + o) is (offset_at i)
     ∙ (ap (λ x. x % half * 2 + i % 2) (let e : s.extended * 65536 + (word + i / 2) ≡ w + i / 2 = omega arith in e)
     ∙ place_on w i half (omega arith)) in
-    ap₂ (λ b bs. b ∷ bs) (ap (λ q. get_or s.flash q 0) place)
-    (read_at_once word (suc i) n half s is (omega arith) long
-    ∙ ap (λ q. take n (drop q s.flash)) (let e : w % half * 2 + suc i ≡ suc p = omega arith in e))
-    ∙ ap (take (suc n)) (sym (drop-cons s.flash p 0 (omega arith)))
+    search (
+      rules,
+      drop-cons,
+      read_at_once word (suc i) n half s is (omega arith) long ∙ ap (λ q. take n (drop q
+          s.flash)) (let e : w % half * 2 + suc i ≡ suc p = omega arith in e),
+    )
 
 -- a word of the page buffer, by a byte
 wraps_in_page : (half : ℕ) → 256 % (half * 2) ≡ 0 → (x : ℕ) → x % 256 % half ≡ x % half
@@ -97,14 +89,11 @@ block_loaded word place bytes s sound inside at =
     let fits = leb-true (word % half * 2 + length bytes) s.part.flash_page inside in
     let long = sound.flash_buffer_size in
     let first : place ≡ word % half * 2 + 0 = omega arith in
-    ap (λ p. record s { flash_buffer = pasted p bytes s.flash_buffer }) first
-    ∙ sym (loaded_at_once word 0 half bytes s refl
-    (wraps_in_page half (ap (λ x. 256 % x) (sym whole) ∙ sound.part.flash_fits)) (omega arith) (omega arith))
+    search (rules, loaded_at_once, wraps_in_page)
 
 flash_even : (part : Part) → IsPart part → part.flash_size % 2 ≡ 0
 flash_even part sound =
-    mod-eq-zero_of_dvd 2 (dvd_trans 2 (dvd_of_mod-eq-zero 2 sound.flash_halves)
-    (dvd_of_mod-eq-zero part.flash_page sound.flash_pages))
+    mod-eq-zero_of_dvd 2 (search (rules, dvd_trans, dvd_of_mod-eq-zero))
 
 pub block_read : (word n start len : ℕ) (bytes : List ℕ) (s : ChipState) → IsSoundChip s → is_in_flash word n s ≡ true
     → start ≡ word_address s word → len ≡ n → bytes ≡ s.flash
@@ -117,7 +106,4 @@ block_read word n start len bytes s sound inside at count is =
     let fits = leb-true (p + n) s.part.flash_size (and_parts (nat_le (word * 2 + n) 131072) _ inside).1 in
     let long = sound.flash_size in
     let first : start ≡ p + 0 = omega arith in
-    let size : start + len - start ≡ n = omega arith in
-    ap₂ (λ k bs. take k (drop start bs)) size is
-    ∙ (ap (λ k. take n (drop k s.flash)) first
-    ∙ sym (read_at_once word 0 n half s refl (omega arith) (omega arith)))
+    search (rules, read_at_once)

@@ -1,5 +1,5 @@
 -- A chip file read again.
-use Rattle.std.proofs.Common.{◌≡◌, ◌∙◌, ap, arith, ℕ, ◌+◌, List, [], ◌∷◌, ◌++◌, length, take, drop, get_or, Ok, length-append, append_assoc, refl, sym}
+use Rattle.std.proofs.Common.{◌≡◌, ◌∙◌, ap, arith, ℕ, ◌+◌, List, [], ◌∷◌, ◌++◌, length, take, drop, get_or, Ok, length-append, append_assoc, refl, sym, rules}
 use Rattle.std.proofs.lemmas.List.{get_or-drop, length-drop, take-append-drop, take_at, drop_at, get_or-append-add}
 use Rattle.std.proofs.lemmas.Bool.{eq-eqb, cond-true}
 use Rattle.std.specs.Prelude.{◌==◌}
@@ -15,25 +15,16 @@ flash_part flash eeprom fuses n e = ap (take n) (append_assoc flash eeprom fuses
 pub eeprom_part : (flash eeprom fuses : List ℕ) (n m : ℕ) → length flash ≡ n → length eeprom ≡ m
     → take m (drop n (flash ++ eeprom ++ fuses)) ≡ eeprom
 eeprom_part flash eeprom fuses n m e f =
-    ap (λ (xs : List ℕ). take m (drop n xs)) (append_assoc flash eeprom fuses)
-    ∙ (ap (take m) (drop_at flash (eeprom ++ fuses) n e) ∙ take_at eeprom fuses m f)
+    search (rules, append_assoc, drop_at, take_at)
 
 pub fuse_part : (flash eeprom fuses : List ℕ) (at k : ℕ) → at ≡ length flash + length eeprom + k
     → get_or (flash ++ eeprom ++ fuses) at 0 ≡ get_or fuses k 0
 fuse_part flash eeprom fuses at k e =
-    ap (λ (i : ℕ). get_or (flash ++ eeprom ++ fuses) i 0)
-    (let at_is : at ≡ length (flash ++ eeprom) + k = rw length-append e in at_is)
-    ∙ get_or-append-add (flash ++ eeprom) fuses k 0
+    search (rules, length-append, get_or-append-add)
 
 file_length : (s : ChipState) → IsSoundChip s → length (chip_file s) ≡ chip_file_size s.part
 file_length s sound =
-    let flash = sound.flash_size in
-    let eeprom = sound.eeprom_size in
-    omega (
-      arith,
-      length-append (s.flash ++ s.eeprom) (s.lfuse ∷ s.hfuse ∷ s.efuse ∷ s.lock ∷ []),
-      length-append s.flash s.eeprom,
-    )
+    search (rules, length-append)
 
 -- the chip of its own file has the same memories, and empty buffers
 pub read_again : (s : ChipState) → IsSoundChip s → chip_in s.part (chip_file s) ≡ Ok (with_empty_buffers s)
@@ -48,8 +39,7 @@ read_again s sound =
     let hfuse = fuse_part s.flash s.eeprom fuses (at + 1) 1 (omega arith) in
     let efuse = fuse_part s.flash s.eeprom fuses (at + 2) 2 (omega arith) in
     let lock = fuse_part s.flash s.eeprom fuses (at + 3) 3 (omega arith) in
-    cond-true (length (chip_file s) == chip_file_size s.part) _ _ (eq-eqb _ _ (file_length s sound))
-    ∙ rw (flash, eeprom, lfuse, hfuse, efuse, lock, sound.flash_buffer_size, sound.eeprom_buffer_size)
+    search (rules, cond-true, eq-eqb, file_length)
 
 four_bytes : (xs : List ℕ) → length xs ≡ 4 → xs ≡ get_or xs 0 0 ∷ get_or xs 1 0 ∷ get_or xs 2 0 ∷ get_or xs 3 0 ∷ []
 four_bytes [] e = absurd (omega (arith, e))
@@ -67,13 +57,6 @@ written_again p bytes e =
     let rest = drop n bytes in
     let fuses = drop m rest in
     let at : (k : ℕ) → get_or bytes (n + m + k) 0 ≡ get_or fuses k 0 =
-    λ k. sym (get_or-drop m rest k 0 ∙ (get_or-drop n bytes (m + k) 0
-    ∙ ap (λ (i : ℕ). get_or bytes i 0) (omega arith))) in
+    search (rules, get_or-drop) in
     let first : get_or bytes (n + m) 0 ≡ get_or fuses 0 0 = ap (λ (i : ℕ). get_or bytes i 0) (omega arith) ∙ at 0 in
-    let count : length fuses ≡ 4 = omega (arith, length-drop m rest, length-drop n bytes) in
-    let listed : fuses ≡ get_or bytes (n + m) 0 ∷ get_or bytes (n + m + 1) 0 ∷ get_or bytes (n + m + 2) 0
-    ∷ get_or bytes (n + m + 3) 0 ∷ [] =
-    four_bytes fuses count ∙ rw (first, at 1, at 2, at 3) in
-    ap (λ (xs : List ℕ). take n bytes ++ take m rest ++ xs) (sym listed)
-    ∙ (append_assoc (take n bytes) (take m rest) fuses
-    ∙ (ap (λ (xs : List ℕ). take n bytes ++ xs) (take-append-drop m rest) ∙ take-append-drop n bytes))
+    search (rules, length-drop, four_bytes, append_assoc, take-append-drop)

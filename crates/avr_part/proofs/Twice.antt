@@ -1,5 +1,5 @@
 -- Changing a chip twice is changing it once.
-use Rattle.std.proofs.Common.{◌≡◌, ◌∙◌, refl, ap, ap₂, ℕ, suc, List, [], ◌∷◌, length, Bool, true, false, cond, bit_and, Option, Some, None, unwrap_or, replicate}
+use Rattle.std.proofs.Common.{◌≡◌, ◌∙◌, refl, ap, ap₂, ℕ, suc, List, [], ◌∷◌, length, Bool, true, false, cond, bit_and, Option, Some, None, unwrap_or, replicate, rules}
 use Rattle.std.proofs.lemmas.List.{length-replicate}
 use Rattle.std.proofs.lemmas.Nat.{and_assoc}
 use Rattle.std.specs.Int.Bits.{and_self}
@@ -21,9 +21,7 @@ kept_or_changed false change x twice = twice
 
 pub erased_twice : (s : ChipState) → with_erased (with_erased s) ≡ with_erased s
 erased_twice s =
-    ap₂ (λ (flash eeprom : List ℕ). record s { flash = flash; lock = 255; eeprom = eeprom })
-    (blank-blank s.flash)
-    (kept_or_changed (keeps_eeprom s) blank s.eeprom (blank-blank s.eeprom))
+    search (rules, blank-blank, kept_or_changed)
 
 changed-changed : (k : ℕ) (f : ℕ → ℕ → ℕ) (xs : List ℕ) → ((i x : ℕ) → f i (f i x) ≡ f i x)
     → map_indexed_from k f (map_indexed_from k f xs) ≡ map_indexed_from k f xs
@@ -49,32 +47,22 @@ laid_twice (Some y) x = refl
 overlaid-overlaid : (start : ℕ) (loads : List (Option ℕ)) (i x : ℕ)
     → overlaid start loads i (overlaid start loads i x) ≡ overlaid start loads i x
 overlaid-overlaid start loads i x =
-    let o = slice_index_or loads (i - start) None in
-    twice_within (is_in_span start (length loads) i) (unwrap_or o) x (laid_twice o x)
+    search (rules, twice_within, laid_twice)
 
 pub flash_page_twice : (word : ℕ) (s : ChipState)
     → with_flash_page word (flash_loaded_as s (with_flash_page word s)) ≡ with_flash_page word s
 flash_page_twice word s =
-    let start = page_start s.part.flash_page (word_address s word) in
-    ap (λ (flash : List ℕ). record s { flash = flash; flash_buffer = blank s.flash_buffer })
-    (kept_or_changed (is_locked s) (map_indexed (byte_and_page start s.flash_buffer)) s.flash
-    (changed-changed 0 (byte_and_page start s.flash_buffer) s.flash (anded-anded start s.flash_buffer)))
+    search (rules, kept_or_changed, changed-changed, anded-anded)
 
 pub eeprom_page_twice : (address : ℕ) (s : ChipState)
     → with_eeprom_page address (eeprom_loaded_as s (with_eeprom_page address s)) ≡ with_eeprom_page address s
 eeprom_page_twice address s =
-    let start = page_start s.part.eeprom_page (eeprom_address s address) in
-    ap (λ (eeprom : List ℕ). record s { eeprom = eeprom; eeprom_buffer = nothing_loaded s.eeprom_buffer })
-    (kept_or_changed (is_locked s) (map_indexed (overlaid start s.eeprom_buffer)) s.eeprom
-    (changed-changed 0 (overlaid start s.eeprom_buffer) s.eeprom (overlaid-overlaid start s.eeprom_buffer)))
+    search (rules, kept_or_changed, changed-changed, overlaid-overlaid)
 
 pub fuse_twice : (f : Fuse) (byte : ℕ) (s : ChipState) → with_fuse f byte (with_fuse f byte s) ≡ with_fuse f byte s
-fuse_twice fuse.Low byte s = ap (λ (b : ℕ). record s { lfuse = b })
-    (kept_or_changed (is_locked s) (λ (x : ℕ). byte) s.lfuse refl)
-fuse_twice fuse.High byte s = ap (λ (b : ℕ). record s { hfuse = b })
-    (kept_or_changed (is_locked s) (λ (x : ℕ). byte) s.hfuse refl)
-fuse_twice fuse.Extended byte s = ap (λ (b : ℕ). record s { efuse = b })
-    (kept_or_changed (is_locked s) (λ (x : ℕ). byte) s.efuse refl)
+fuse_twice fuse.Low byte s = search (rules, kept_or_changed)
+fuse_twice fuse.High byte s = search (rules, kept_or_changed)
+fuse_twice fuse.Extended byte s = search (rules, kept_or_changed)
 
 pub lock_twice : (byte : ℕ) (s : ChipState) → with_lock byte (with_lock byte s) ≡ with_lock byte s
 lock_twice byte s = ap (λ (b : ℕ). record s { lock = b })
