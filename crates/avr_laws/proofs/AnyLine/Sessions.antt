@@ -66,7 +66,8 @@ module _ (plan : Plan) (sound : IsPart plan.part) (fitted : All (IsFitted plan.p
     (True : OutputEvent → Programmer → Type 0)
     (fault_true : (fault : StepFault) (q : Programmer) → AllTrue True (fault_told plan.part fault) q)
     (done_true : (q : Programmer) → AllTrue True (closed_says plan.switches.quiet plan.part (Ok tt)) q)
-    (At : Memories → Spot → Type 0) (Fails : Type 0) (pass : Passes plan.part plan.switches At Fails) (m : Memories) (f : FitsPart plan.part m) where
+    (At : Memories → Spot → Type 0) (Fails : Type 0) (pass : Passes plan.part plan.switches At Fails) (m : Memories)
+    (f : FitsPart plan.part m) where
   abbrev part : Part
   part = plan.part
 
@@ -182,6 +183,6 @@ module _ (plan : Plan) (sound : IsPart plan.part) (fitted : All (IsFitted plan.p
       prints_then True (λ x y now. now)
       (prints_then True (λ x y now. (touched y y now.0 refl, inr (inl now.1)))
       (goes_cons part sound s True fault_true At Fails pass OpenSession (work plan) m tt f z opening_true opened
-      (λ y there. goes_actions part sound s True fault_true At Fails pass (work plan) m y (work_fits plan fitted) f work_true
-      there)) ending_prints)
+      (λ y there. goes_actions part sound s True fault_true At Fails pass (work plan) m y (work_fits plan fitted) f
+      work_true there)) ending_prints)
       (λ at said y a. stops True (AtEnd plan m Fails) (status_of at) said y a)
