@@ -1,12 +1,12 @@
 -- An address is cut at its last colon.
-use Rattle.std.proofs.Common.{◌≡◌, ◌≢◌, ◌∙◌, ap, refl, sym, ℕ, true, false, [], ◌∷◌, ◌++◌, get_or, Some, None, Ok, codes, ⊎_elim, rules}
+use Rattle.std.proofs.Common.{◌≡◌, ◌≢◌, ℕ, true, [], ◌∷◌, ◌++◌, get_or, Some, Ok, codes, rules}
 use Rattle.std.proofs.lemmas.Bool.{cases_Bool}
 use Rattle.std.proofs.lemmas.List.Sums.{AllPass-from_list_all}
 use Rattle.std.specs.List.{list_all}
 use Rattle.std.specs.Char.{is_ascii_digit}
 use Rattle.avr_part.specs.PartFile.{Bytes}
 use Rattle.avr_cli.specs.Split.{colon}
-use Rattle.avr_cli.specs.Port.{is_address, port_number, port_of}
+use Rattle.avr_cli.specs.Port.{port_number, port_of}
 use Rattle.avr_cli.specs.declared.settings.Port.TheVariants.{Network}
 use Rattle.avr_cli.proofs.UpdatesReread.{not_empty}
 use Rattle.avr_cli.proofs.TextCuts.{HasNoColon, split_last-parts}

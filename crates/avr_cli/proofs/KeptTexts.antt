@@ -1,13 +1,10 @@
 -- Which results keep a text, or follow a text that was kept.
-use Rattle.std.proofs.Common.{◌≡◌, ◌∙◌, refl, ap, sym, ℕ, ◌+◌, true, false, List, [], ◌∷◌, length, Option, Some, None, Result, Ok, Err, codes, ⊎_elim, rules}
+use Rattle.std.proofs.Common.{◌≡◌, ◌∙◌, refl, sym, ℕ, ◌+◌, true, false, List, [], ◌∷◌, length, Option, Some, None, Result, Ok, Err, ⊎_elim, rules}
 use Rattle.std.specs.Prelude.{⊤, nat_lt}
-use Rattle.std.specs.Str.{bytes_eq}
 use Rattle.std.proofs.lemmas.Bool.{cases_Bool}
 use Rattle.avr_part.specs.PartFile.{Bytes}
 use Rattle.avr_cli.specs.Port.{port_given_of}
 use Rattle.avr_cli.specs.Settings.{◌>>=◌, Entries, GivesOrMemory, TellsAnyway, checked_programmer, checked_streams, is_told_anyway, run_settings, update_at, updates_from, updates_of}
-use Rattle.avr_cli.specs.Standard.{is_taken}
-use Rattle.avr_cli.specs.Update.{update_of}
 use Rattle.avr_cli.specs.declared.settings.Port.{Port}
 use Rattle.avr_cli.specs.declared.settings.Settings.{Settings}
 use Rattle.avr_cli.specs.declared.settings.SettingsFault.{SettingsFault}

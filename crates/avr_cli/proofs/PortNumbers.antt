@@ -1,6 +1,5 @@
 -- Numbers of ports.
-use Rattle.std.proofs.Common.{◌≡◌, refl, rules, arith, ℕ, ◌<◌, ◌≤◌, ◌^◌, true, List, [], ◌∷◌, length, None, Err}
-use Rattle.std.proofs.lemmas.Bool.Decides.{nat_tests}
+use Rattle.std.proofs.Common.{◌≡◌, refl, rules, ℕ, ◌<◌, ◌^◌, true, List, [], ◌∷◌, length, None, Err}
 use Rattle.std.proofs.lemmas.Str.Parse.{IsNumeralModel, numerals_by_value, parse_digits}
 use Rattle.std.specs.List.{list_all}
 use Rattle.std.specs.Char.{is_ascii_digit}

@@ -1,5 +1,5 @@
 -- An update that is written reads back.
-use Rattle.std.proofs.Common.{◌≡◌, ◌≢◌, ◌∙◌, ap, refl, arith, ℕ, ◌+◌, ◌-◌, true, false, ◌==◌, [], ◌∷◌, ◌++◌, length, get_or, rules}
+use Rattle.std.proofs.Common.{◌≡◌, ◌≢◌, refl, arith, ℕ, ◌+◌, ◌-◌, true, false, ◌==◌, [], ◌∷◌, ◌++◌, length, get_or, rules}
 use Rattle.std.proofs.Common.{take, Some, nat_le, Ok}
 use Rattle.std.proofs.lemmas.Bool.Decides.{nat_tests}
 use Rattle.std.proofs.lemmas.List.{length-append, get_or-append-add}

@@ -1,5 +1,5 @@
 -- Texts split at a colon or after a prefix.
-use Rattle.std.specs.Prelude.{◌==◌, ℕ, List, [], ◌∷◌, Option, Some, None, option_map, if◌then◌else◌}
+use Rattle.std.specs.Prelude.{◌==◌, ℕ, [], ◌∷◌, Option, Some, None, option_map, if◌then◌else◌}
 use Rattle.avr_part.specs.PartFile.{Bytes}
 
 -- what follows this prefix, if the text begins with it

@@ -1,5 +1,5 @@
 -- Answers to bytes after others.
-use Rattle.std.proofs.Common.{◌≡◌, ℕ, ◌<◌, ◌≤◌, List, [], ◌∷◌, ◌++◌, length, refl, sym, ap, ◌∙◌, subst, append_assoc, arith, length-append, rules}
+use Rattle.std.proofs.Common.{◌≡◌, ℕ, ◌<◌, ◌≤◌, List, [], ◌∷◌, ◌++◌, length, sym, ap, ◌∙◌, append_assoc, arith, length-append, rules}
 use Rattle.std.specs.Prelude.{filter}
 use Rattle.std.proofs.lemmas.List.{append-nil}
 use Rattle.std.proofs.lemmas.List.Elements.{filter-append}
@@ -7,7 +7,7 @@ use Rattle.stk_frame.specs.Cut.{cut, rest, frames, is_frame}
 use Rattle.stk_frame.proofs.Cuts.{cut_append}
 use Rattle.stk_host.specs.Play.{IsPrefixOf}
 use Rattle.stk_emu.specs.Programmer.{Programmer}
-use Rattle.stk_emu.specs.Device.{device, answers, answer_frame, after_frames}
+use Rattle.stk_emu.specs.Device.{device, answers, after_frames}
 use Rattle.stk_emu.specs.Emulator.{Machine, IsFed, Answers, emulate}
 use Rattle.stk_emu.proofs.Answers.Texts.{answers_more, frames_fed, is_fed, emulated}
 use Rattle.avr_emulator.specs.Serving.{AnswersAll, BreaksOff}

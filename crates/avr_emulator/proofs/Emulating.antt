@@ -1,5 +1,5 @@
 -- A run over the emulated programmer, from its stages.
-use Rattle.std.proofs.Common.{◌≡◌, ℕ, [], All, ap, subst, ◌∙◌, rules}
+use Rattle.std.proofs.Common.{◌≡◌, ℕ, [], All, subst, rules}
 use Rattle.avr_emulator.specs.Holding.{Loaded}
 use Rattle.avr_cli.specs.declared.settings.Settings.{Settings}
 use Rattle.avr_desk.specs.Fault.{Follows}

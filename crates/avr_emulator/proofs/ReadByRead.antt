@@ -10,10 +10,10 @@ use Rattle.stk_host.specs.Reach.{IsQuiet}
 use Rattle.stk_host.proofs.Transcripts.Laws.{sent_append, heard_append, heard_quiet, grows_none, grows_on}
 use Rattle.stk_host.proofs.Tapes.Answers.{bytes_of_append, bytes_of_on_tape}
 use Rattle.stk_emu.specs.Programmer.{Programmer}
-use Rattle.stk_emu.specs.Emulator.{Machine, emulate}
+use Rattle.stk_emu.specs.Emulator.{Machine}
 use Rattle.avr_emulator.specs.declared.serving.Served.{Served}
 use Rattle.avr_emulator.specs.declared.serving.Served.TheVariants.{Ended, SendFailed, TooManyReads}
-use Rattle.avr_emulator.specs.Serving.{HasNoEnd, HearsUntil, AnswersInTurn, AnswersAll, BreaksOff, ServingLeaves, Serves, FailsBy}
+use Rattle.avr_emulator.specs.Serving.{HasNoEnd, HearsUntil, AnswersAll, BreaksOff, ServingLeaves, Serves, FailsBy}
 use Rattle.avr_emulator.specs.Replying.{Replies, RepliesPart}
 use Rattle.avr_emulator.proofs.Transcripts.{no_end_append, no_end_on_tape, reads_append, reads_quiet, in_turn_quiet, in_turn_append}
 use Rattle.avr_emulator.proofs.Answers.{all_nothing, all_more, breaks_more, breaks_prefix}

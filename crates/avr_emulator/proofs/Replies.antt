@@ -1,8 +1,8 @@
 -- Answers to one piece, frame by frame, and how each is sent.
-use Rattle.std.proofs.Common.{◌≡◌, ℕ, ◌+◌, List, [], ◌++◌, take, drop, refl, sym, ap, ◌∙◌, subst, rules}
+use Rattle.std.proofs.Common.{◌≡◌, ℕ, ◌+◌, List, [], ◌++◌, take, drop, sym, ap, ◌∙◌, subst, rules}
 use Rattle.std.proofs.lemmas.List.{take-append-drop}
 use Rattle.std.proofs.Math.Seq.{take-add}
-use Rattle.stk_host.specs.Transcript.{Transcript, LinkState, sent}
+use Rattle.stk_host.specs.Transcript.{Transcript, LinkState}
 use Rattle.stk_host.specs.Reach.{Says, SaysPart}
 use Rattle.stk_host.proofs.Transcripts.Laws.{sent_append, grows_none, grows_on, quiet_append}
 use Rattle.stk_emu.specs.Emulator.{Machine, Answers}

@@ -1,15 +1,15 @@
 -- Chip files that are saved.
-use Rattle.std.proofs.Common.{◌≡◌, ℕ, Err, subst, rules}
+use Rattle.std.proofs.Common.{◌≡◌, ℕ, Err, rules}
 use Rattle.std.specs.Prelude.{⊤}
 use Rattle.avr_desk.specs.Fault.{Counts}
-use Rattle.avr_desk.specs.Record.{DeskState, Record, Passes, after_replace, after_err, released, with_none_held, Bytes}
+use Rattle.avr_desk.specs.Record.{DeskState, Passes, after_replace, released, Bytes}
 use Rattle.avr_desk.specs.declared.desk.DeskFault.{DeskFault}
 use Rattle.avr_desk.specs.declared.desk.DeskFault.TheVariants.{NotFound, Failed}
 use Rattle.avr_desk.specs.declared.stream.Stream.TheVariants.{File}
 use Rattle.avr_desk.proofs.Lines.Told.{failure_told}
 use Rattle.avr_desk.specs.Lines.{memory_line, not_written_line}
 use Rattle.avr_desk.specs.Said.{Tells}
-use Rattle.avr_emulator.specs.Saving.{NoMemory, NotReplaced, Saves}
+use Rattle.avr_emulator.specs.Saving.{NoMemory, Saves}
 
 -- allocation failed for the bytes
 pub no_memory : (old new : DeskState) (file bytes : Bytes) (status : ℕ) → status ≡ 1

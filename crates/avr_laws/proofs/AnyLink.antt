@@ -1,5 +1,5 @@
 -- A session over any link that forges no answer.
-use Rattle.std.proofs.Common.{◌≡◌, ◌≤◌, ℕ, Bool, List, [], ◌++◌, All, length, take, refl, sym, ap, ◌∙◌, subst, arith, inl, inr, Some, length-append, rules}
+use Rattle.std.proofs.Common.{◌≡◌, ◌≤◌, ℕ, Bool, List, [], ◌++◌, All, length, take, sym, ap, ◌∙◌, subst, arith, inl, inr, Some, length-append, rules}
 use Rattle.std.proofs.lemmas.List.{append-nil, take-append-le, take_all}
 use Rattle.avr_desk.specs.Said.{OutputEvent, SaidPart}
 use Rattle.avr_part.specs.Sound.{IsSoundChip}
@@ -20,7 +20,7 @@ use Rattle.avr_laws.proofs.Lines.NoFrame.{no_frame_honest}
 use Rattle.stk_emu.specs.Turn.{Turn, Became}
 use Rattle.stk_emu.specs.Device.{device, after_frames}
 use Rattle.stk_emu.specs.Programmer.{Programmer, fresh_programmer}
-use Rattle.avr_laws.proofs.Lines.InTurn.{AreWhole, sends_whole, frames_prefix, frames_sent, shown_prefix}
+use Rattle.avr_laws.proofs.Lines.InTurn.{sends_whole, frames_prefix, frames_sent, shown_prefix}
 use Rattle.avr_laws.proofs.Lines.AnyTape.{goes_as, through_after}
 use Rattle.avr_laws.specs.AnyLine.{OverTurns, WholeOverTurns}
 use Rattle.avr_laws.proofs.OverTurns.{asks, over_turns, comes_over_turns}

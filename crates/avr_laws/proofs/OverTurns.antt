@@ -1,5 +1,5 @@
 -- A session that went along turns, in the words of the page.
-use Rattle.std.proofs.Common.{◌≡◌, ◌*◌, ℕ, List, All, length, sym, ap, ◌∙◌, subst, rules}
+use Rattle.std.proofs.Common.{◌≡◌, ℕ, List, All, length, sym, ap, ◌∙◌, subst, rules}
 use Rattle.avr_desk.specs.Said.{OutputEvent}
 use Rattle.avr_part.specs.Part.{IsPart}
 use Rattle.avr_part.specs.Sound.{IsSoundChip}
@@ -16,13 +16,11 @@ use Rattle.stk_emu.specs.Effect.{Memories, memories_of}
 use Rattle.stk_emu.specs.Programmer.{Programmer, fresh_programmer}
 use Rattle.stk_emu.specs.Settled.{Idle, FitsPart}
 use Rattle.stk_emu.specs.Turn.{Turn, Became}
-use Rattle.avr_laws.specs.AnyLine.{weighed, bodies_in, OverTurns, ComesOverTurns}
+use Rattle.avr_laws.specs.AnyLine.{OverTurns, ComesOverTurns}
 use Rattle.avr_laws.specs.AnyTape.{AreHonest}
-use Rattle.avr_session.specs.PlanSteps.{run_steps}
 use Rattle.avr_laws.specs.Few.{AreFew}
 use Rattle.avr_laws.specs.Foretold.{EndsAsForetold}
 use Rattle.avr_laws.specs.Outcome.{IsDone, IsExpectedRun}
-use Rattle.avr_laws.specs.Told.{IsTrue}
 use Rattle.avr_laws.proofs.AnyLine.FrameSizes.{session_asks}
 use Rattle.avr_laws.proofs.AnyLine.PageWriteOrder.{session_makes}
 use Rattle.avr_laws.proofs.Bounds.Weights.{session_weighs}

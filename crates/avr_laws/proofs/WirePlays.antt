@@ -1,5 +1,5 @@
 -- A session that ran over a wire went along the turns of its fates.
-use Rattle.std.proofs.Common.{◌≡◌, ℕ, [], List, ◌++◌, All, length, take, refl, sym, ap, ◌∙◌, subst, inl, inr, rules}
+use Rattle.std.proofs.Common.{◌≡◌, ℕ, [], List, ◌++◌, All, length, take, sym, ap, ◌∙◌, subst, inl, inr, rules}
 use Rattle.std.proofs.lemmas.List.{append-nil}
 use Rattle.avr_desk.specs.Said.{OutputEvent, after_all}
 use Rattle.avr_part.specs.Sound.{IsSoundChip}
@@ -17,14 +17,13 @@ use Rattle.avr_session.specs.Session.{session}
 use Rattle.avr_session.specs.Stopping.{IsPlayed}
 use Rattle.stk_emu.specs.Along.{along, AsksBodies}
 use Rattle.stk_emu.specs.Device.{device}
-use Rattle.stk_emu.specs.Effect.{effects, memories_of}
+use Rattle.stk_emu.specs.Effect.{effects}
 use Rattle.stk_emu.specs.Programmer.{Programmer, fresh_programmer}
 use Rattle.stk_emu.specs.Turn.{Turn}
 use Rattle.stk_emu.specs.Wire.{Wire, turns_of, becames_of, fresh_wire, tape_of, wire_after}
 use Rattle.stk_emu.specs.Wired.{WiredState, FollowsFates, ComesOf, IsFresh, wired_link}
 use Rattle.avr_laws.specs.AnyLine.{memories, events_over, Stopped, WereTrue, OverTurns, ComesOverTurns, OverAnyLine}
 use Rattle.avr_laws.specs.Outcome.{page_writes}
-use Rattle.avr_laws.specs.Told.{IsTrue}
 use Rattle.avr_laws.proofs.Lines.InTurn.{stands_along, whole_said, whole_done, honest_heard}
 use Rattle.avr_laws.proofs.AnyLink.{since_none, IsFirst, sent_first}
 use Rattle.avr_laws.proofs.OverTurns.{asks, over_turns, comes_over_turns}

@@ -1,18 +1,17 @@
 -- A block at once is a block byte by byte.
-use Rattle.std.proofs.Common.{◌≡◌, ℕ, zero, suc, ◌+◌, ◌*◌, ◌/◌, ◌%◌, ◌≤◌, ◌<◌, List, [], ◌∷◌, ◌++◌, length, get_or, set, take, drop, refl, sym, ap, ap₂, ◌∙◌, arith, inl, inr, true, drop-cons, append_assoc, rules}
+use Rattle.std.proofs.Common.{◌≡◌, ℕ, zero, suc, ◌+◌, ◌*◌, ◌/◌, ◌%◌, ◌≤◌, ◌<◌, List, [], ◌∷◌, length, set, take, drop, refl, ap, ap₂, ◌∙◌, arith, true, drop-cons, append_assoc, rules}
 use Rattle.std.proofs.Math.Nat.{mod-mod_of_dvd, mod-add-div', dvd-mul_right, dvd_trans}
 use Rattle.std.proofs.lemmas.Nat.Gcd.{dvd_of_mod-eq-zero, mod-eq-zero_of_dvd}
 use Rattle.std.proofs.Math.Seq.{take-suc-set}
 use Rattle.std.proofs.lemmas.Nat.{mod-mul-add}
 use Rattle.std.proofs.lemmas.List.{take-append-drop, drop-set-lt, length-set}
 use Rattle.std.proofs.lemmas.Bool.{eqb-true, eqb-false, cases_Bool, leb-true, cond-true, cond-false, and_parts}
-use Rattle.std.specs.Prelude.{◌==◌, ◌-◌, nat_le}
+use Rattle.std.specs.Prelude.{◌-◌, nat_le}
 use Rattle.avr_part.specs.Part.{Part, IsPart}
 use Rattle.avr_part.specs.Memory.{pasted}
 use Rattle.avr_part.specs.State.{ChipState, half_offset, word_address}
 use Rattle.avr_part.specs.Block.{half_at, loaded_in_turn, read_in_turn, is_in_page, is_in_flash}
 use Rattle.avr_part.specs.Sound.{IsSoundChip}
-use Rattle.avr_part.specs.declared.instruction.Half.TheVariants as half
 
 pub offset_at : (i : ℕ) → half_offset (half_at i) ≡ i % 2
 offset_at i = search (rules, cases_Bool, cond-true, eqb-true, eqb-false, cond-false)

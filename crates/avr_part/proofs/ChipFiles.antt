@@ -1,8 +1,7 @@
 -- A chip file read again.
-use Rattle.std.proofs.Common.{◌≡◌, ◌∙◌, ap, arith, ℕ, ◌+◌, List, [], ◌∷◌, ◌++◌, length, take, drop, get_or, Ok, length-append, append_assoc, refl, sym, rules}
+use Rattle.std.proofs.Common.{◌≡◌, ◌∙◌, ap, arith, ℕ, ◌+◌, List, [], ◌∷◌, ◌++◌, length, take, drop, get_or, Ok, length-append, append_assoc, refl, rules}
 use Rattle.std.proofs.lemmas.List.{get_or-drop, length-drop, take-append-drop, take_at, drop_at, get_or-append-add}
 use Rattle.std.proofs.lemmas.Bool.{eq-eqb, cond-true}
-use Rattle.std.specs.Prelude.{◌==◌}
 use Rattle.avr_part.specs.Part.{Part}
 use Rattle.avr_part.specs.State.{ChipState, with_empty_buffers}
 use Rattle.avr_part.specs.Sound.{IsSoundChip}

@@ -3,11 +3,11 @@ use Rattle.std.proofs.Common.{◌≡◌, ◌∙◌, refl, ap, ap₂, ℕ, suc, L
 use Rattle.std.proofs.lemmas.List.{length-replicate}
 use Rattle.std.proofs.lemmas.Nat.{and_assoc}
 use Rattle.std.specs.Int.Bits.{and_self}
-use Rattle.std.specs.Prelude.{slice_index, slice_index_or, ◌-◌}
+use Rattle.std.specs.Prelude.{slice_index, ◌-◌}
 use Rattle.avr_part.specs.declared.instruction.Fuse.{Fuse}
 use Rattle.avr_part.specs.declared.instruction.Fuse.TheVariants as fuse
-use Rattle.avr_part.specs.Memory.{map_indexed, map_indexed_from, byte_and_page, overlaid, is_in_span, blank, nothing_loaded, page_start}
-use Rattle.avr_part.specs.State.{ChipState, with_erased, with_flash_page, with_eeprom_page, with_fuse, with_lock, keeps_eeprom, is_locked, word_address, eeprom_address}
+use Rattle.avr_part.specs.Memory.{map_indexed_from, byte_and_page, overlaid, is_in_span, blank}
+use Rattle.avr_part.specs.State.{ChipState, with_erased, with_flash_page, with_eeprom_page, with_fuse, with_lock}
 use Rattle.avr_part.specs.Laws.{flash_loaded_as, eeprom_loaded_as}
 
 pub blank-blank : (xs : List ℕ) → blank (blank xs) ≡ blank xs

@@ -1,7 +1,7 @@
 -- The limits of files. Then when allocation may fail with no file open. Then wrong ends, which the contract refuses.
 -- One plan writes the file `x.hex` to flash, at a desk that shows no opened file. The other is for a part that doesn't
 -- exist.
-use Rattle.std.proofs.Common.{◌≡◌, ◌∙◌, sym, ap, subst, arith, ℕ, ◌+◌, ◌<◌, ◌≤◌, ◌-◌, ◌^◌, ◌⊎◌, inl, inr, List, [], ◌∷◌, ◌++◌, take, get_or, append-nil, refl, true, false, Option, Some, None, Ok, Err, rules}
+use Rattle.std.proofs.Common.{◌≡◌, ◌∙◌, ap, arith, ℕ, ◌+◌, ◌<◌, ◌≤◌, ◌-◌, ◌^◌, ◌⊎◌, inl, inr, List, [], ◌∷◌, ◌++◌, take, get_or, append-nil, refl, true, false, Option, Some, None, Ok, Err, rules}
 use Rattle.std.specs.Prelude.{codes}
 use Rattle.avr_cli.specs.Settings.{no_switches}
 use Rattle.avr_cli.specs.declared.settings.Port.TheVariants.{Stdio}
@@ -23,10 +23,10 @@ use Rattle.avr_plan.specs.declared.image_file.TheConstants.{LARGEST_IMAGE_FILE}
 use Rattle.avr_plan.specs.declared.part_choice.TheConstants.{LARGEST_PART_FILE}
 use Rattle.avr_plan.specs.Lines.{no_part_line}
 use Rattle.avr_plan.specs.Plan.{Plan}
-use Rattle.avr_plan.specs.Planning.{planned, parts_stage, judged_parts, file_image_stage, judged_image, warning_says}
+use Rattle.avr_plan.specs.Planning.{planned, file_image_stage, judged_image}
 use Rattle.avr_plan.specs.Taking.{AtUpdate, op_takes_memory}
 use Rattle.avr_desk.specs.Playing.{AtStart, Goes}
-use Rattle.avr_desk.specs.Stage.{Stage, StageResult, Made, Refused, next_opening, verdict_stage, output_stage, file_stage, ◌>>=◌}
+use Rattle.avr_desk.specs.Stage.{Stage, StageResult, Made, Refused, verdict_stage, file_stage, ◌>>=◌}
 use Rattle.avr_plan.specs.declared.planned.Task.{Task}
 use Rattle.avr_plan.specs.declared.planned.Task.TheVariants.{Write}
 use Rattle.avr_plan.proofs.Stages.Plans.{behind_parts}

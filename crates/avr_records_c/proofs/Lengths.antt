@@ -1,10 +1,10 @@
 -- How long a file may be: it has at most two lines for each byte, and an end record.
-use Rattle.std.proofs.Common.{◌≡◌, refl, arith, ℕ, zero, suc, ◌+◌, ◌-◌, ◌*◌, ◌/◌, ◌^◌, ◌<◌, ◌≤◌, ◌==◌, List, [], ◌∷◌, ◌++◌, length, Option, Some, None, inl, inr}
+use Rattle.std.proofs.Common.{◌≡◌, arith, ℕ, zero, suc, ◌+◌, ◌-◌, ◌*◌, ◌/◌, ◌^◌, ◌<◌, ◌≤◌, ◌==◌, List, [], ◌∷◌, ◌++◌, length, Option, Some, None, inl, inr}
 use Rattle.std.proofs.lemmas.Bool.{cases_Bool}
 use Rattle.std.proofs.lemmas.Bool.Decides.{nat_tests}
 use Rattle.std.proofs.lemmas.List.{length-append, length-take}
 use Rattle.hex.proofs.HexLemmas.{length-encode_with}
-use Rattle.avr_image.specs.Runs.{onto_runs, runs}
+use Rattle.avr_image.specs.Runs.{runs}
 use Rattle.avr_records.specs.Sparse.{image_text, rows_of}
 use Rattle.avr_records.specs.Text.{rows_behind, two, ihex_record, upper_record, ihex_rows, width_of, low_bytes, srec_record, srec_rows}
 use Rattle.avr_records.specs.declared.address_size.AddressSize.{AddressSize}

@@ -1,9 +1,9 @@
 -- Bitmaps and images, place by place.
 use Rattle.std.proofs.lemmas.Bool.Decides.{nat_tests}
-use Rattle.std.proofs.Common.{◌≡◌, ◌∙◌, ap, ap₂, refl, arith, ℕ, zero, suc, ◌+◌, ◌*◌, ◌/◌, ◌<◌, ◌≤◌, List, [], ◌∷◌, length, get_or, true, Option, Some, None, is_some}
+use Rattle.std.proofs.Common.{◌≡◌, ◌∙◌, ap, ap₂, refl, arith, ℕ, zero, suc, ◌+◌, ◌*◌, ◌/◌, ◌<◌, ◌≤◌, List, [], ◌∷◌, length, get_or, Option, Some, None}
 use Rattle.avr_image.specs.Image.{byte_at, first_from, run_end}
 use Rattle.avr_image.proofs.Lemmas.{next_held, none_held, run_is_longest}
-use Rattle.avr_records_c.specs.Bitmap.{bit, octet, octets, bitmap}
+use Rattle.avr_records_c.specs.Bitmap.{octet, octets, bitmap}
 
 -- a list of the octets of an image is its bitmap
 octets_are : (image : List (Option ℕ)) (k n : ℕ) (xs : List ℕ) → length xs ≡ n

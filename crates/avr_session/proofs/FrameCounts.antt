@@ -7,7 +7,7 @@ use Rattle.avr_plan.specs.declared.planned.Task.{Task}
 use Rattle.avr_session.specs.Actions.{Action, WriteImage, CompareImage, erase_actions, task_actions, tasks_actions}
 use Rattle.avr_session.specs.PlanSteps.{action_steps, actions_steps, run_steps}
 use Rattle.stk_frame.specs.declared.command.Command.{Command}
-use Rattle.stk_host.specs.Bound.{commands_in, opening_steps, closing_steps}
+use Rattle.stk_host.specs.Bound.{commands_in}
 use Rattle.stk_host.specs.Places.{each_from}
 use Rattle.stk_host.specs.ReadSteps.{read_steps}
 use Rattle.stk_host.specs.WriteSteps.{is_used, page_steps, write_steps}

@@ -1,6 +1,5 @@
 -- Texts that no clause knows, printed piece by piece.
 use Rattle.std.proofs.Common.{◌≡◌, ◌≢◌, ◌∙◌, ◌<◌, refl, arith, ℕ, Bool, nat_lt, true, false, [], ◌∷◌, ◌++◌, take, codes, inl, inr, subst, rules}
-use Rattle.std.proofs.lemmas.Bool.Decides.{nat_tests}
 use Rattle.ghosts.specs.Failures.{HasRisen}
 use Rattle.avr_desk.specs.Fault.{Follows, HasFailedAt, HasSameCounts}
 use Rattle.avr_desk.specs.Record.{Bytes, DeskState, Passes}

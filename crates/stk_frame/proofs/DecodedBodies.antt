@@ -1,5 +1,5 @@
 -- A body is read back as its command, and nothing else is.
-use Rattle.std.proofs.Common.{◌≡◌, ℕ, suc, ◌+◌, ◌*◌, ◌<◌, ◌/◌, ◌%◌, ◌++◌, List, [], ◌∷◌, length, slice_index, refl, sym, ap, ◌∙◌, subst, arith, cond, inl, inr, Option, Some, None, rules}
+use Rattle.std.proofs.Common.{◌≡◌, ℕ, suc, ◌<◌, ◌++◌, List, [], ◌∷◌, length, slice_index, refl, sym, ap, ◌∙◌, subst, arith, cond, Option, Some, None, rules}
 use Rattle.std.proofs.lemmas.Bool.{eqb-true, cases_Bool, cond-true, cond-false}
 use Rattle.std.specs.Prelude.{◌==◌, MatchOption, ◌↔◌, option_map}
 use Rattle.byteorder.specs.Endian.{big_bytes, big_number}

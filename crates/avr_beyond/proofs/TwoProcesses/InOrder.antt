@@ -4,7 +4,7 @@ use Rattle.std.proofs.Common.{◌≡◌, ℕ, zero, suc, ◌+◌, ◌≤◌, Lis
 use Rattle.std.proofs.lemmas.Bool.{cond-true}
 use Rattle.std.specs.List.{concat}
 use Rattle.stk_frame.specs.Frame.{frame}
-use Rattle.stk_frame.specs.Cut.{is_good, body_of}
+use Rattle.stk_frame.specs.Cut.{body_of}
 use Rattle.stk_frame.proofs.Laws.{frame_is_good, body_of_frame}
 use Rattle.stk_host.specs.Tape.{Tape, Reading, Answered, Silent, answer}
 use Rattle.stk_host.specs.Dialog.{Dialog, Done, Say, Ask, played, by_answer, next, frames_in}

@@ -5,7 +5,7 @@ use Rattle.std.proofs.lemmas.List.{append-nil}
 use Rattle.std.proofs.lemmas.List.Elements.{filter-append}
 use Rattle.std.specs.List.{concat}
 use Rattle.std.specs.Prelude.{filter}
-use Rattle.stk_frame.specs.Cut.{cut, rest, frames, is_frame, is_good, seq_of, body_of}
+use Rattle.stk_frame.specs.Cut.{cut, rest, frames, is_frame, is_good, body_of}
 use Rattle.stk_frame.proofs.Cuts.{cut_append}
 use Rattle.stk_frame.proofs.Laws.{frame_is_piece, length_frame}
 use Rattle.stk_host.specs.Dialog.{Dialog, Event, played, frames_in, bytes_sent}
@@ -14,7 +14,7 @@ use Rattle.stk_host.specs.Transcript.{Transcript, sent, heard}
 use Rattle.stk_host.specs.Tape.{Tape, bytes_of}
 use Rattle.stk_emu.specs.Along.{AsksBodies}
 use Rattle.avr_laws.specs.AnyTape.{AreHonest, after_pieces}
-use Rattle.stk_emu.specs.Device.{device, refusal, answer_body, answer_frame, after_frame, after_frames, answers}
+use Rattle.stk_emu.specs.Device.{device, refusal, answer_body, answer_frame, after_frame}
 use Rattle.stk_emu.specs.Emulator.{Machine}
 use Rattle.stk_emu.specs.Lawful.{IsBody}
 use Rattle.stk_emu.specs.Programmer.{Programmer}

@@ -1,29 +1,23 @@
 -- At most eight of a session's questions in a row go unanswered: four attempts of a step, and four to leave.
-use Rattle.std.proofs.Common.{◌≡◌, ℕ, zero, suc, ◌+◌, ◌≤◌, List, [], ◌∷◌, ◌++◌, refl, sym, subst, arith, Bool, true, false, Ok, Err, Result, Option, rules}
-use Rattle.std.specs.Prelude.{if◌then◌else◌}
+use Rattle.std.proofs.Common.{◌≡◌, ℕ, zero, suc, ◌+◌, ◌≤◌, List, [], ◌∷◌, ◌++◌, refl, sym, subst, arith, Bool, Ok, Err, Result, Option, rules}
 use Rattle.avr_cli.specs.declared.settings.Switches.{Switches}
 use Rattle.avr_desk.specs.Said.{OutputEvent}
 use Rattle.avr_part.specs.declared.part.Mem.{Mem}
-use Rattle.avr_part.specs.Mem.{is_writable}
 use Rattle.avr_part.specs.Part.{Part}
 use Rattle.avr_plan.specs.Plan.{Plan}
-use Rattle.stk_frame.specs.Commands.{judge}
-use Rattle.stk_frame.specs.HostCommands.{enter, leave, erase}
+use Rattle.stk_frame.specs.HostCommands.{leave, erase}
 use Rattle.stk_frame.specs.declared.command.Command.{Command}
-use Rattle.stk_frame.specs.declared.command.Command.TheVariants.{SignOn}
 use Rattle.stk_host.specs.declared.fault.HostFault.{HostFault}
-use Rattle.stk_host.specs.declared.fault.HostFault.TheVariants.{LinkEnded, ReadOnly}
+use Rattle.stk_host.specs.declared.fault.HostFault.TheVariants.{LinkEnded}
 use Rattle.stk_host.specs.declared.fault.StepFault.{StepFault}
 use Rattle.stk_host.specs.declared.fault.StepFault.TheVariants.{NoAnswer}
 use Rattle.stk_host.specs.Tape.{Answered, Silent}
 use Rattle.stk_host.specs.Dialog.{Dialog, Done, Say, Ask, ◌>>=◌, lifted}
-use Rattle.stk_host.specs.Steps.{exchange, Reply, Data, Again, Stop, answer_reply, with_data, attempt, StepOutcome, end_or_again, tries, step, if_done, play}
-use Rattle.stk_host.specs.WriteSteps.{write_steps}
-use Rattle.stk_host.specs.ReadSteps.{signature_steps, read_steps}
-use Rattle.stk_host.specs.Operations.{handshake, signature_judged, opening, without_bytes, closing, judged_by, operation, no_result, erasing, writing, reading, comparison, verifying}
+use Rattle.stk_host.specs.Steps.{exchange, Reply, Data, Again, Stop, with_data, attempt, StepOutcome, end_or_again, tries, step, if_done, play}
+use Rattle.stk_host.specs.Operations.{handshake, opening, without_bytes, closing, judged_by, operation, no_result, erasing, writing}
 use Rattle.avr_session.specs.Standing.{Standing, Fine, Faulty, Over}
 use Rattle.avr_session.specs.Actions.{Action, OpenSession, EraseChip, WriteImage, CompareImage, SaveMemory, LeaveOut, actions}
-use Rattle.avr_session.specs.Session.{says, standing, reported, unless_fault, fault_or, opening_says, erased_says, written_says, verified_says, closed_says, read_says, left_out_says, action_dialog, actions_dialog, ending, playing, status_of, session}
+use Rattle.avr_session.specs.Session.{says, standing, reported, unless_fault, erased_says, left_out_says, action_dialog, actions_dialog, ending, playing, status_of, session}
 use Rattle.avr_beyond.proofs.TwoProcesses.InOrder.{MissesFew}
 
 -- how many more may go unanswered now, and how many at the end

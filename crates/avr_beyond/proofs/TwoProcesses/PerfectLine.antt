@@ -18,7 +18,7 @@ use Rattle.stk_frame.proofs.Laws.{body_of_frame, frame_is_good, frame_is_piece, 
 use Rattle.stk_host.specs.Dialog.{Dialog, Done, Say, Ask, Event, Frame, Said, behind, by_answer, bytes_sent, next, played, outputs}
 use Rattle.stk_host.specs.Play.{IsPrefixOf, TurnsFrom}
 use Rattle.stk_host.specs.Transcript.{LinkState, Transcript, Sent, Got, heard, sent}
-use Rattle.stk_host.specs.Tape.{Tape, Answered, Reading, answer, bytes_of, first_answer, is_answer, limit, on_tape}
+use Rattle.stk_host.specs.Tape.{Tape, Answered, Reading, answer, bytes_of, first_answer, limit, on_tape}
 use Rattle.stk_host.specs.declared.link.Item.TheVariants.{End}
 use Rattle.stk_host.proofs.Transcripts.InDialogs.{bytes_append}
 use Rattle.stk_host.proofs.Tapes.Answers.{answer_found, answer_waits, bytes_of_append, bytes_of_on_tape}

@@ -1,10 +1,8 @@
 -- A desk over two writers and the files of a system, call after call: what it keeps of them stays true.
-use Rattle.std.proofs.Common.{inr, ◌≡◌, ◌∙◌, sym, ap, subst, refl, arith, ℕ, ◌==◌, ◌&&◌, ◌||◌, ◌≤◌, not, Bool, true, false, List, [], ◌∷◌, ◌++◌, append_assoc, append-nil, length, take, Option, None, Some, IfSome, rules}
+use Rattle.std.proofs.Common.{◌≡◌, ◌∙◌, sym, ap, subst, refl, arith, ℕ, ◌==◌, ◌&&◌, ◌||◌, ◌≤◌, not, Bool, true, false, List, [], ◌∷◌, ◌++◌, append_assoc, append-nil, length, take, Option, None, Some, IfSome, rules}
 use Rattle.std.proofs.KnownBytes.{Appends-nil, Appends-trans, Consumes-nil, Consumes-trans}
 use Rattle.avr_desk.specs.Record.{files_among, Bytes, Record, all_files, all_uses, file_of, is_nil, noted, nothing_kept, read_on, use_of, written_on, with_absent, with_open, with_replaced, after_write}
-use Rattle.avr_desk.specs.declared.record.FileUse.TheVariants.{Created, Opened}
 use Rattle.avr_desk.specs.declared.record.Open.TheVariants.{ToRead, ToWrite}
-use Rattle.avr_desk.specs.declared.record.Opening.TheVariants.{Absent}
 use Rattle.std.proofs.lemmas.Bool.{or_parts}
 use Rattle.std.proofs.lemmas.Bool.Decides.{nat_tests}
 use Rattle.std.proofs.lemmas.Grind.{common_steps}

@@ -1,7 +1,7 @@
 -- Pieces of a file that are read one after another.
-use Rattle.std.proofs.Common.{◌≡◌, ◌∙◌, ap, ap₂, refl, ℕ, ◌++◌, ◌||◌, Bool, true, false, Result, Ok, Err, append_assoc, take, ◌==◌, ◌&&◌, not, arith, rules}
+use Rattle.std.proofs.Common.{◌≡◌, ◌∙◌, ap, refl, ℕ, ◌++◌, Bool, false, Result, Ok, Err, append_assoc, take, arith, rules}
 use Rattle.std.proofs.lemmas.Bool.Decides.{nat_tests}
-use Rattle.avr_desk.specs.Record.{Record, Bytes, showing, after_open, after_read, noted, is_nil}
+use Rattle.avr_desk.specs.Record.{Record, Bytes, showing, after_open, after_read, noted}
 use Rattle.avr_desk.specs.Files.{ReadsFile, ReadsOpen, after_reading, with_read}
 use Rattle.avr_desk.specs.declared.record.Open.{Open}
 use Rattle.avr_desk.specs.declared.record.Open.TheVariants.{ToRead}

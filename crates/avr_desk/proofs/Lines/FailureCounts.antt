@@ -1,8 +1,7 @@
 -- What the counts of failures show of a write.
-use Rattle.std.proofs.Common.{◌≡◌, ℕ, Result, Ok, rules}
+use Rattle.std.proofs.Common.{◌≡◌, ℕ, Ok, rules}
 use Rattle.avr_desk.specs.Fault.{HasSameCounts, WriteCounts}
 use Rattle.avr_desk.specs.Record.{Bytes, DeskState}
-use Rattle.avr_desk.specs.declared.desk.DeskFault.{DeskFault}
 use Rattle.avr_desk.specs.declared.stream.Stream.{Stream}
 
 -- bytes were taken

@@ -3,14 +3,14 @@ use Rattle.std.proofs.lemmas.Bool.Decides.{nat_tests}
 use Rattle.std.proofs.Common.{arith, ◌≡◌, ◌∙◌, sym, ap, subst, refl, ℕ, ◌⊎◌, inl, inr, List, [], ◌∷◌, ◌++◌, drop, append-nil, append_assoc, Result, Ok, Err, true, false, rules}
 use Rattle.std.proofs.lemmas.List.{append_cancel_left}
 use Rattle.ghosts.specs.Failures.{HasStood}
-use Rattle.avr_desk.specs.Record.{DeskState, Record, showing, all_openings, opening_of, openings_among, after_err, written_on, Bytes}
+use Rattle.avr_desk.specs.Record.{DeskState, Record, showing, all_openings, opening_of, after_err, written_on, Bytes}
 use Rattle.avr_desk.specs.declared.record.Open.{Open}
-use Rattle.avr_desk.specs.declared.record.Open.TheVariants.{ToRead, ToWrite}
+use Rattle.avr_desk.specs.declared.record.Open.TheVariants.{ToWrite}
 use Rattle.avr_desk.specs.declared.record.Opening.{Opening}
 use Rattle.avr_desk.specs.declared.record.Opening.TheVariants.{Absent, Found}
 use Rattle.avr_desk.specs.declared.record.Reading.{Reading}
 use Rattle.avr_desk.specs.Lines.{memory_line, not_opened_line}
-use Rattle.avr_desk.specs.Said.{OutputEvent, Opens, Line, Creates, Writes, Outs, TellsLine, TellsFailure, IsPrefixOf, after, after_all}
+use Rattle.avr_desk.specs.Said.{OutputEvent, Opens, Line, Creates, Writes, Outs, TellsLine, TellsFailure, after, after_all}
 use Rattle.avr_desk.proofs.Stages.Outputs.{after_append}
 use Rattle.avr_desk.proofs.Lines.Told.{follows_here, not_failed}
 use Rattle.avr_desk.proofs.FileUses.Uses.{openings_absent, openings_opened}

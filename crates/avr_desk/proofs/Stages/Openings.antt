@@ -1,5 +1,5 @@
 -- Stages that begin by opening a file.
-use Rattle.std.proofs.Common.{◌≡◌, refl, subst, ap, arith, ℕ, List, [], ◌∷◌, Bool, true, false, nat_lt, ◌||◌, length, Result, Err}
+use Rattle.std.proofs.Common.{◌≡◌, refl, subst, ap, arith, ℕ, List, [], ◌∷◌, Bool, false, Result, Err}
 use Rattle.std.proofs.lemmas.Bool.Decides.{nat_tests}
 use Rattle.avr_desk.specs.Fault.{Follows, HasFailedAt, HasSameCounts}
 use Rattle.avr_desk.specs.Files.{FaultCounts, IsWhole, ReadsFile, with_read, FileBreaks, IsCounted}

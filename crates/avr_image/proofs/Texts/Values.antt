@@ -5,7 +5,7 @@ use Rattle.std.proofs.lemmas.Bool.{cases_Bool}
 use Rattle.std.proofs.lemmas.List.Sums.{prefix_len-le-length}
 use Rattle.std.proofs.lemmas.Bool.Decides.{nat_tests}
 use Rattle.std.specs.List.{enumerate_from, slice_split, position_or_len, onto_first}
-use Rattle.avr_image.specs.Image.{empty, from_zero, with_byte}
+use Rattle.avr_image.specs.Image.{empty, from_zero}
 use Rattle.avr_image.specs.Values.{is_separator, fitting, fitting_value, value_of, all_ok, onto_ok, image_of_bytes, pieces, values}
 use Rattle.avr_image.specs.Placing.{with_value, with_piece}
 use Rattle.avr_image.specs.declared.fault.ImageFault.{ImageFault}

@@ -1,14 +1,14 @@
 -- The runs of an image, and a walk over them.
 use Rattle.std.specs.List.{position_from, prefix_len, flat_map, slice_range}
-use Rattle.std.proofs.lemmas.Bool.{cases_lt, true≢false}
+use Rattle.std.proofs.lemmas.Bool.{cases_lt}
 use Rattle.std.proofs.lemmas.List.{take_all, append_assoc, drop-drop, get_or-drop, length-drop, length-append, set_at}
-use Rattle.std.proofs.Common.{◌≡◌, ◌∙◌, sym, ap, ap₂, refl, arith, ℕ, zero, suc, ◌+◌, ◌-◌, ◌<◌, ◌≤◌, ◌==◌, Bool, true, false, cond, not, List, [], ◌∷◌, ◌++◌, length, take, drop, fold, min, Option, Some, None, is_some, inl, inr, add-zero, get_or, All, ◌⊎◌, rules}
+use Rattle.std.proofs.Common.{◌≡◌, ◌∙◌, sym, ap, ap₂, refl, arith, ℕ, zero, suc, ◌+◌, ◌-◌, ◌<◌, ◌≤◌, ◌==◌, Bool, true, false, cond, not, List, [], ◌∷◌, ◌++◌, length, take, drop, fold, min, Option, Some, None, is_some, inl, inr, add-zero, All, ◌⊎◌, rules}
 use Rattle.std.proofs.lemmas.List.Recursion.{is_count_by}
 use Rattle.std.proofs.lemmas.Bool.Decides.{nat_tests}
 use Rattle.avr_image.specs.Image.{empty, byte_at, with_byte, first_from, run_end, filled_bytes, or_blank, image_of_pairs, laid_over, over, byte_count}
 use Rattle.avr_image.specs.Runs.{onto_runs, runs, lead, places_of}
 use Rattle.avr_image.proofs.Places.Laid.{laid_over_laid}
-use Rattle.avr_image.specs.Walk.{IsLongestRun, IsByteRun}
+use Rattle.avr_image.specs.Walk.{IsLongestRun}
 use Rattle.avr_image.proofs.Fields.Shown.{byte_at-past}
 use Rattle.avr_image.proofs.Walks.Places.{next_held, run_ends, is_filled}
 

@@ -9,7 +9,7 @@ use Rattle.stk_host.specs.ReadSteps.{read_count, read_step, read_steps}
 use Rattle.stk_emu.specs.Programmer.{Programmer}
 use Rattle.stk_emu.specs.Effect.{Memories, Item, effect, effects}
 use Rattle.stk_emu.specs.Settled.{Idle, FitsPart}
-use Rattle.stk_emu.specs.PageWrites.{changed, changed_by, page_write_of, steps_of, all_steps, AllFitItems}
+use Rattle.stk_emu.specs.PageWrites.{changed, changed_by, page_write_of, all_steps, AllFitItems}
 use Rattle.avr_laws.proofs.Each.{Each, each_of}
 use Rattle.avr_laws.proofs.PageWrites.Items.{items_do, changed_all, effect_sizes}
 

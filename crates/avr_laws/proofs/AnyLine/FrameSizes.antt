@@ -1,5 +1,5 @@
 -- Every body that a session asks fits a frame: if each other body weighs 1, all that it asks weighs 0.
-use Rattle.std.proofs.Common.{◌≡◌, ℕ, ◌*◌, ◌-◌, ◌≤◌, List, [], ◌∷◌, ◌++◌, map, length, subst, arith, rules}
+use Rattle.std.proofs.Common.{◌≡◌, ℕ, ◌-◌, ◌≤◌, List, [], ◌∷◌, map, length, subst, arith, rules}
 use Rattle.std.proofs.lemmas.Bool.Decides.{nat_tests}
 use Rattle.std.specs.Prelude.{All, nat_le, ◌&&◌, if◌then◌else◌}
 use Rattle.avr_part.specs.Part.{Part, IsPart}
@@ -10,7 +10,6 @@ use Rattle.stk_frame.specs.declared.command.Command.{Command}
 use Rattle.stk_host.specs.Bound.{opening_steps, erasing_steps, closing_steps}
 use Rattle.stk_host.specs.Dialog.{Dialog, Done, Say, Ask}
 use Rattle.stk_host.specs.ReadSteps.{read_steps}
-use Rattle.stk_host.specs.WriteSteps.{write_steps}
 use Rattle.stk_emu.specs.Along.{AsksBodies}
 use Rattle.stk_emu.specs.Effect.{Erase}
 use Rattle.stk_emu.specs.Lawful.{IsBody}

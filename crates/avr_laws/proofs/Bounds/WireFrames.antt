@@ -1,7 +1,6 @@
 -- What goes out over a wire weighs no more than what a dialog asks.
-use Rattle.std.proofs.Common.{◌≡◌, ℕ, ◌+◌, ◌-◌, ◌≤◌, List, map, ap, ◌∙◌, arith, Option, Some, None, rules}
+use Rattle.std.proofs.Common.{ℕ, ◌-◌, ◌≤◌, List, map, arith, Option, Some, None, rules}
 use Rattle.std.proofs.lemmas.List.{map-append}
-use Rattle.stk_frame.specs.Frame.{frame}
 use Rattle.stk_frame.specs.Cut.{body_of, frames}
 use Rattle.stk_frame.proofs.Laws.{body_of_frame}
 use Rattle.stk_host.specs.Tape.{Tape, Reading, answer}

@@ -1,5 +1,5 @@
 -- The output of a comparison without a difference, and which comparisons have none.
-use Rattle.std.proofs.Common.{◌≡◌, ℕ, zero, suc, ◌+◌, ◌<◌, List, [], ◌∷◌, get_or, refl, sym, ap, ◌∙◌, arith, inl, inr, Bool, true, false, Ok, Err, Option, Some, None, unwrap_or, bit_and, rules}
+use Rattle.std.proofs.Common.{◌≡◌, ℕ, zero, suc, ◌+◌, ◌<◌, List, [], ◌∷◌, refl, ◌∙◌, arith, Bool, true, false, Ok, Err, Option, Some, None, bit_and, rules}
 use Rattle.std.proofs.lemmas.Bool.{cases_Bool, eqb-true, eq-eqb, cond-true, cond-false}
 use Rattle.std.proofs.Math.Nat.{mod-eq_of_lt}
 use Rattle.std.proofs.lemmas.Grind.{and_numeral}

@@ -1,5 +1,5 @@
 -- A programmer at its beginning, and runs of steps from a settled one.
-use Rattle.std.proofs.Common.{◌≡◌, ℕ, List, [], ◌∷◌, refl, rules}
+use Rattle.std.proofs.Common.{◌≡◌, ℕ, List, [], ◌∷◌, rules}
 use Rattle.avr_part.specs.State as chip
 use Rattle.avr_part.specs.Sound.{IsSoundChip}
 use Rattle.avr_part.specs.Part.{Part, IsPart}
@@ -12,7 +12,7 @@ use Rattle.stk_emu.specs.Along.{along}
 use Rattle.stk_emu.specs.Effect.{Memories, memories_of}
 use Rattle.stk_emu.specs.Settled.{Idle, Settled, FitsPart}
 use Rattle.avr_laws.proofs.Leads.{AreSome, Climbs}
-use Rattle.stk_emu.specs.PageWrites.{changed_by, IsStep, Erases, ProgramsPage, ProgramsRun, ProgramsFuse, ProgramsLock, ReadsFlash, ReadsEeprom, ReadsFuse, ReadsLock, ReadsSignature, ReadsCalibration, AreSteps}
+use Rattle.stk_emu.specs.PageWrites.{changed_by, AreSteps}
 use Rattle.avr_laws.proofs.PageWrites.Conditions.{play_climbs}
 use Rattle.avr_laws.proofs.PageWrites.OutsideMode.{all_fit}
 

@@ -8,7 +8,7 @@ use Rattle.std.specs.Prelude.{nat_le as leb}
 use Rattle.stk_frame.specs.Cut.{cut, rest, body_of}
 use Rattle.stk_frame.proofs.Cuts.{cut_append, cut_joined}
 use Rattle.stk_host.specs.declared.link.Item.TheVariants.{Byte, Silence, End}
-use Rattle.stk_host.specs.Tape.{Tape, on_tape, bytes_in, answer, read_to, silence_or_end, first_answer, is_answer, further, limit, Reading, Answered, Silent, Ended, Babbled}
+use Rattle.stk_host.specs.Tape.{Tape, on_tape, bytes_in, answer, read_to, silence_or_end, first_answer, is_answer, further, limit, Reading, Answered, Babbled}
 use Rattle.stk_host.proofs.Tapes.Answers.{answer_silent, answer_ended, first_answer_stays, drop_tape, answer_by}
 
 -- a tape is its bytes, and then no byte

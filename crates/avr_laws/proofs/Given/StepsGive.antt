@@ -1,9 +1,8 @@
 -- What each step gives from a settled programmer: nothing, or the bytes of the memories.
-use Rattle.std.proofs.Common.{◌≡◌, ℕ, ◌+◌, ◌-◌, ◌*◌, ◌/◌, ◌%◌, ◌^◌, ◌≤◌, ◌<◌, List, [], ◌∷◌, ◌++◌, length, get_or, take, drop, refl, sym, ap, ◌∙◌, subst, arith, inl, inr, ◌⊎◌, true, false, cond, Ok, drop-cons, length-append, rules}
+use Rattle.std.proofs.Common.{◌≡◌, ℕ, ◌+◌, ◌*◌, ◌/◌, ◌%◌, ◌≤◌, ◌<◌, List, [], ◌∷◌, ◌++◌, length, take, drop, refl, sym, ap, ◌∙◌, subst, arith, inl, inr, ◌⊎◌, true, false, cond, Ok, drop-cons, length-append, rules}
 use Rattle.std.proofs.lemmas.Bool.{ne_eqb, eq-eqb, ltb-false, cond-true, cond-false}
 use Rattle.std.proofs.lemmas.List.{length-take, length-drop, get_or-append_right, take-append-le, take_all}
 use Rattle.std.proofs.Math.Nat.{mod-eq_of_lt}
-use Rattle.std.specs.Prelude.{◌==◌, ◌&&◌, not, slice_index}
 use Rattle.avr_part.specs.declared.part.Mem.TheVariants.{Flash, Eeprom}
 use Rattle.avr_part.specs.Part.{Part, IsPart}
 use Rattle.stk_frame.specs.declared.answer.Shape.TheVariants.{Closed}
@@ -12,10 +11,10 @@ use Rattle.stk_frame.specs.declared.host_command.Fuse.{Fuse}
 use Rattle.stk_frame.specs.declared.host_command.Fuse.TheVariants.{Low, High, Extended}
 use Rattle.stk_frame.specs.Commands.{body, data_of}
 use Rattle.stk_frame.specs.Decoding as decoding
-use Rattle.stk_frame.specs.HostCommands.{erase, program_page, program_eeprom_block, program_fuse, program_lock, read_flash_block, read_eeprom_block, read_fuse, read_lock, read_signature, read_calibration}
+use Rattle.stk_frame.specs.HostCommands.{program_page, program_eeprom_block, program_fuse, read_flash_block, read_eeprom_block, read_fuse, read_lock, read_signature, read_calibration}
 use Rattle.stk_host.specs.Tape.{Answered}
 use Rattle.stk_host.specs.Places.{flash_address, load_flash, load_eeprom}
-use Rattle.stk_host.specs.Steps.{Data, answer_reply, reading_reply}
+use Rattle.stk_host.specs.Steps.{Data, reading_reply}
 use Rattle.stk_host.proofs.ImagePlaces.PagesAndRuns.{page_most}
 use Rattle.stk_emu.specs.Programmer.{Programmer, obey_command, flash_looks, eeprom_looks}
 use Rattle.stk_emu.specs.Programmer as programmer

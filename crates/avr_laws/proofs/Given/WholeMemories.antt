@@ -6,7 +6,7 @@ use Rattle.avr_part.specs.declared.part.Mem.{Mem}
 use Rattle.avr_part.specs.declared.part.Mem.TheVariants.{Flash, Eeprom, Signature}
 use Rattle.avr_part.specs.Part.{Part, IsPart}
 use Rattle.stk_host.specs.Places.{each_from}
-use Rattle.stk_host.specs.ReadSteps.{read_count, block_size, read_step, read_steps}
+use Rattle.stk_host.specs.ReadSteps.{read_count, read_step, read_steps}
 use Rattle.stk_emu.specs.Effect.{Memories, memory_in}
 use Rattle.stk_emu.specs.Settled.{FitsPart}
 use Rattle.stk_emu.specs.Given.{all_given}

@@ -1,11 +1,10 @@
 -- A transcript in turn over a wire: the tool listens only if something comes, and the programmer goes along with the
 -- dialog.
-use Rattle.std.proofs.Common.{◌≡◌, ℕ, ◌<◌, ◌≤◌, List, [], ◌∷◌, ◌++◌, length, take, drop, refl, sym, ap, ◌∙◌, subst, append_assoc, arith, inl, inr, true, Option, Some, None, length-append, rules}
+use Rattle.std.proofs.Common.{◌≡◌, ℕ, ◌<◌, List, [], ◌∷◌, ◌++◌, length, take, drop, refl, sym, ap, ◌∙◌, subst, append_assoc, arith, inl, inr, true, Option, Some, None, length-append, rules}
 use Rattle.std.proofs.lemmas.Bool.{cases_lt, lt-leb, and_parts, cond-true}
 use Rattle.std.proofs.lemmas.List.{append-nil, take-append-le, drop-append-le, take_all, drop_all, take-append-drop}
-use Rattle.std.specs.Prelude.{filter}
 use Rattle.stk_frame.specs.Frame.{frame}
-use Rattle.stk_frame.specs.Cut.{cut, frames, is_frame, IsPiece, piece_size}
+use Rattle.stk_frame.specs.Cut.{frames, is_frame, IsPiece}
 use Rattle.stk_frame.proofs.Cuts.{cut_none, size_stays}
 use Rattle.stk_frame.proofs.Laws.{cut_first, frame_is_piece, frame_is_good}
 use Rattle.stk_host.specs.Tape.{Tape, Reading, answer, on_tape}

@@ -1,14 +1,14 @@
 -- On a link that forges no frame all that is read is honest.
-use Rattle.std.proofs.Common.{◌≡◌, ℕ, zero, suc, ◌+◌, ◌%◌, ◌≤◌, List, [], ◌∷◌, ◌++◌, length, take, drop, refl, sym, ap, ◌∙◌, arith, inl, inr, ◌⊎◌, Bool, true, false, Option, Some, None, rules}
+use Rattle.std.proofs.Common.{◌≡◌, ℕ, zero, suc, ◌+◌, ◌%◌, ◌≤◌, List, [], ◌∷◌, ◌++◌, length, take, refl, sym, ap, ◌∙◌, arith, inl, inr, ◌⊎◌, Bool, true, false, Option, Some, None, rules}
 use Rattle.std.proofs.lemmas.Bool.{cases_Bool, and_parts, eqb-true, false≢true, cond-true, cond-false}
-use Rattle.std.specs.Prelude.{◌==◌, nat_le, filter, replicate}
+use Rattle.std.specs.Prelude.{◌==◌, filter, replicate}
 use Rattle.stk_frame.specs.Cut.{cut, frames, is_good, seq_of, body_of}
 use Rattle.stk_frame.proofs.Laws.{body_of_frame}
 use Rattle.stk_host.specs.declared.link.Item.TheVariants.{Byte}
 use Rattle.stk_host.specs.Tape.{Tape, Reading, Answered, answer, read_to, silence_or_end, first_answer, is_answer, further, bytes_in, limit}
 use Rattle.stk_host.specs.Dialog.{Dialog, Done, Say, Ask, next}
 use Rattle.stk_emu.specs.Device.{Device, refusal}
-use Rattle.stk_emu.specs.Turn.{Became, Kept, Obeyed, Anew, after_became, IsHonest}
+use Rattle.stk_emu.specs.Turn.{Became, Obeyed, after_became, IsHonest}
 use Rattle.avr_laws.specs.AnyTape.{first_became, other_becames, on_answer, AreHonest, let_through, CameThrough}
 use Rattle.avr_laws.proofs.Lines.Plays.{tail_is}
 use Rattle.avr_laws.specs.NoFrame.{given, IsAmong, WasSent, WereSent, MakesNoFrame}

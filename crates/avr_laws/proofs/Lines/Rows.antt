@@ -1,9 +1,9 @@
 -- Worked links that aren't honest.
-use Rattle.std.proofs.Common.{◌≡◌, ℕ, List, [], ◌∷◌, inl, inr, rules}
+use Rattle.std.proofs.Common.{ℕ, [], ◌∷◌, inl, inr, rules}
 use Rattle.stk_frame.specs.Frame.{frame}
 use Rattle.stk_host.specs.Tape.{on_tape, answer}
 use Rattle.stk_host.specs.Dialog.{Dialog, Done, Ask}
-use Rattle.stk_emu.specs.Device.{device, refusal}
+use Rattle.stk_emu.specs.Device.{device}
 use Rattle.stk_emu.specs.Turn.{Kept, Obeyed}
 use Rattle.avr_laws.specs.AnyTape.{AreHonest}
 use Rattle.stk_emu.proofs.Rows.Answers.{start, told}

@@ -1,9 +1,9 @@
 -- A dialog run over what a wire brings runs along the turns of its fates, and nothing of the tape is left.
-use Rattle.std.proofs.Common.{◌≡◌, ◌≤◌, ℕ, zero, suc, List, [], ◌∷◌, ◌++◌, length, refl, sym, ap, ◌∙◌, subst, arith, Some, None, rules}
+use Rattle.std.proofs.Common.{◌≡◌, ◌≤◌, ℕ, List, [], ◌∷◌, ◌++◌, length, refl, sym, ap, ◌∙◌, subst, arith, Some, None, rules}
 use Rattle.std.proofs.lemmas.List.Elements.{All-head, All-tail}
 use Rattle.stk_frame.specs.Frame.{frame}
 use Rattle.stk_host.specs.Tape.{Reading, answer}
-use Rattle.stk_host.specs.Dialog.{Dialog, Done, Say, Ask, Frame, Said, played, behind, by_answer, next, frames_in}
+use Rattle.stk_host.specs.Dialog.{Dialog, Done, Say, Ask, Frame, Said, played, behind, next, frames_in}
 use Rattle.stk_host.proofs.Tapes.Answers.{answer_waits}
 use Rattle.stk_emu.specs.declared.fate.Fate.{Fate}
 use Rattle.stk_emu.specs.Device.{Device}
@@ -13,7 +13,7 @@ use Rattle.stk_emu.specs.Turn.{Turn, Right, Wrong, became_in, after_became, afte
 use Rattle.stk_emu.specs.Along.{along, AsksBodies}
 use Rattle.stk_emu.proofs.Answers.BodySizes.{AnswersBodies}
 use Rattle.stk_emu.proofs.Wires.Arrivals.{arrival_read, arrival_leaves, arrival_late}
-use Rattle.avr_laws.specs.AnyTape.{on_answer, AreHonest}
+use Rattle.avr_laws.specs.AnyTape.{AreHonest}
 use Rattle.avr_laws.proofs.Lines.AnyTape.{turn_honest}
 use Rattle.avr_laws.proofs.Lines.Plays.{played_along, head_is, tail_is, cons_none}
 

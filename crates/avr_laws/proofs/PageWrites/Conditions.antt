@@ -1,15 +1,15 @@
 -- A run of steps along a link: how many of their conditions it has climbed.
-use Rattle.std.proofs.Common.{◌≡◌, ℕ, zero, suc, ◌≤◌, List, [], ◌∷◌, ◌++◌, length, refl, sym, ap, ◌∙◌, subst, arith, ◌⊎◌, inl, inr, Ok, Err, rules}
+use Rattle.std.proofs.Common.{◌≡◌, ℕ, zero, suc, ◌≤◌, List, [], ◌∷◌, ◌++◌, length, refl, sym, ap, subst, arith, ◌⊎◌, inl, inr, Ok, Err, rules}
 use Rattle.stk_frame.specs.declared.command.Command.{Command}
-use Rattle.stk_host.specs.Dialog.{Dialog, Done, Say, Ask, ◌>>=◌}
+use Rattle.stk_host.specs.Dialog.{Dialog, Done, Say, Ask}
 use Rattle.stk_host.specs.Steps.{StepOutcome, exchange, attempt, tries, step, if_done, play}
 use Rattle.stk_emu.specs.Turn.{Turn}
 use Rattle.stk_emu.specs.Device.{Device}
 use Rattle.stk_emu.specs.Along.{LineState, along}
 use Rattle.avr_laws.proofs.Leads.{AllFit, AreSome, Climbs}
 use Rattle.avr_laws.specs.Made.{step_count, steps_done}
-use Rattle.avr_laws.proofs.Hosts.Attempts.{along_bind, onward, step_stands, Stepped, err≢ok}
-use Rattle.avr_laws.proofs.Hosts.AnyTurn.{asks≢done, done_is}
+use Rattle.avr_laws.proofs.Hosts.Attempts.{along_bind, onward, step_stands, Stepped}
+use Rattle.avr_laws.proofs.Hosts.AnyTurn.{done_is}
 
 module _ {P : Type 0} (m : Device P) where
   -- a dialog that is done with questions to spare was done without the last

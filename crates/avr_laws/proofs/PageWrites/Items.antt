@@ -1,6 +1,6 @@
 -- The steps of an item do what the item does, and fit the part.
-use Rattle.std.proofs.Common.{◌≡◌, ℕ, zero, suc, ◌+◌, ◌-◌, ◌*◌, ◌/◌, ◌%◌, ◌≤◌, ◌<◌, List, [], ◌∷◌, ◌++◌, length, get_or, replicate, refl, sym, ap, ◌∙◌, subst, arith, inl, inr, Bool, true, false, cond, Option, Some, None, is_some, unwrap_or, rules}
-use Rattle.std.proofs.lemmas.Bool.{cases_lt, false≢true, and_parts}
+use Rattle.std.proofs.Common.{◌≡◌, ℕ, zero, suc, ◌+◌, ◌-◌, ◌*◌, ◌/◌, ◌%◌, ◌≤◌, ◌<◌, List, [], ◌∷◌, ◌++◌, length, refl, sym, ap, ◌∙◌, arith, Bool, true, false, cond, Option, Some, None, is_some, unwrap_or, rules}
+use Rattle.std.proofs.lemmas.Bool.{cases_lt, and_parts}
 use Rattle.std.proofs.lemmas.List.{length-replicate, get_or-replicate}
 use Rattle.std.proofs.lemmas.Nat.{div-add-mod'}
 use Rattle.std.proofs.lemmas.List.Elements.{All-get_or, All-from_get_or}
@@ -20,7 +20,7 @@ use Rattle.stk_frame.specs.HostCommands.{program_fuse, program_lock}
 use Rattle.stk_host.specs.Places.{each_from}
 use Rattle.stk_host.specs.WriteSteps.{is_used, page_step, page_steps, page_end, begins_run, run_step, run_steps_at, byte_steps, write_steps}
 use Rattle.stk_host.specs.ReadSteps.{read_count, block_size, read_step, read_steps}
-use Rattle.stk_emu.specs.Effect.{Memories, Image, Item, Erase, Write, effect, effects, and_in, and_with, are_locked, erase_keeps_eeprom}
+use Rattle.stk_emu.specs.Effect.{Memories, Image, Item, Erase, Write, effect, effects, and_with}
 use Rattle.stk_emu.specs.Settled.{FitsPart}
 use Rattle.stk_emu.specs.PageWrites.{changed, changed_by, page_write_of, page_writes_of, IsStep, Erases, ProgramsPage, ProgramsRun, ProgramsFuse, ProgramsLock, ReadsFlash, ReadsEeprom, ReadsFuse, ReadsLock, ReadsSignature, ReadsCalibration, AreSteps, IsBlock, AreWords, steps_of, all_steps, FitsItem, AllFitItems}
 use Rattle.avr_laws.proofs.PageWrites.EachMemory.{size_stays}

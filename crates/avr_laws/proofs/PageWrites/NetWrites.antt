@@ -1,10 +1,10 @@
 -- Writes, one after another, are one write to each memory. So writing twice is writing once, also after an erase.
-use Rattle.std.proofs.Common.{◌≡◌, ℕ, zero, suc, arith, refl, sym, ap, ap₂, ◌∙◌, inl, inr, List, [], ◌∷◌, length, get_or, Bool, true, false, Option, Some, None, unwrap_or, bit_and, rules}
+use Rattle.std.proofs.Common.{◌≡◌, ℕ, zero, suc, refl, sym, ap, ap₂, ◌∙◌, List, [], ◌∷◌, length, Bool, true, false, Option, Some, None, unwrap_or, bit_and, rules}
 use Rattle.std.proofs.lemmas.Bool.{true≢false, cases_Bool, eqb-true, cond-true, or_right}
 use Rattle.std.proofs.lemmas.List.{length-replicate}
 use Rattle.std.proofs.lemmas.Nat.{and_assoc}
 use Rattle.std.proofs.lemmas.Nat.Bits.{bit_at_and}
-use Rattle.std.specs.Prelude.{⊤, ◌==◌, ◌||◌, not, if◌then◌else◌, replicate, take, drop}
+use Rattle.std.specs.Prelude.{⊤, ◌==◌, if◌then◌else◌, replicate, take, drop}
 use Rattle.std.specs.Int.{bit_at}
 use Rattle.avr_image.specs.Image.{byte_at, either}
 use Rattle.avr_part.specs.Memory.{blank}
@@ -15,7 +15,6 @@ use Rattle.stk_emu.specs.Effect.{Image, Memories, Item, Erase, Write, with_image
 use Rattle.stk_emu.proofs.Memories.LaidImages.{length-laid, laid_twice}
 use Rattle.avr_laws.proofs.PageWrites.EachMemory.{same_memories, keeps_zeros, laid, length_laid, laid_again, is_barred, spares, write_is}
 use Rattle.avr_laws.specs.Items.{has_erase}
-use Rattle.avr_laws.specs.Written.{memory_number}
 
 -- ---- two images are one
 

@@ -1,5 +1,5 @@
 -- The pages of a write do what the write does.
-use Rattle.std.proofs.Common.{◌≡◌, ℕ, zero, suc, ◌+◌, ◌-◌, ◌*◌, ◌/◌, ◌%◌, ◌≤◌, ◌<◌, List, [], ◌∷◌, ◌++◌, length, get_or, take, drop, refl, sym, ap, ◌∙◌, subst, append_assoc, arith, inl, inr, true, false, Option, Some, None, is_some, bit_and, rules}
+use Rattle.std.proofs.Common.{◌≡◌, ℕ, zero, suc, ◌+◌, ◌-◌, ◌*◌, ◌/◌, ◌%◌, ◌≤◌, ◌<◌, List, [], ◌∷◌, ◌++◌, length, get_or, refl, sym, ap, ◌∙◌, subst, append_assoc, arith, inl, inr, true, false, Option, Some, None, is_some, bit_and, rules}
 use Rattle.std.proofs.lemmas.Grind.{and_numeral}
 use Rattle.std.proofs.lemmas.Nat.{div-add-mod', and_le_l}
 use Rattle.std.proofs.lemmas.Bool.{cases_Bool, false≢true, cond-true, cond-false}

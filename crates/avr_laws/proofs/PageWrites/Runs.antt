@@ -1,5 +1,5 @@
 -- The runs of a write do what the write does.
-use Rattle.std.proofs.Common.{◌≡◌, ℕ, zero, suc, ◌+◌, ◌-◌, ◌*◌, ◌/◌, ◌%◌, ◌≤◌, ◌<◌, List, [], ◌∷◌, ◌++◌, length, get_or, refl, sym, ap, ◌∙◌, arith, inl, inr, ◌⊎◌, true, false, Option, Some, None, is_some, unwrap_or, rules}
+use Rattle.std.proofs.Common.{◌≡◌, ℕ, zero, suc, ◌+◌, ◌-◌, ◌*◌, ◌/◌, ◌%◌, ◌≤◌, ◌<◌, List, ◌∷◌, ◌++◌, length, refl, sym, ap, ◌∙◌, arith, inl, inr, ◌⊎◌, true, false, Option, Some, None, is_some, unwrap_or, rules}
 use Rattle.std.proofs.lemmas.Bool.{cases_Bool, false≢true, cond-true, cond-false}
 use Rattle.avr_image.specs.Image.{byte_at, filled_bytes, or_blank, run_end, first_from}
 use Rattle.avr_image.specs.Walk.{IsNextHeld}
@@ -8,7 +8,7 @@ use Rattle.avr_part.specs.declared.part.Mem.TheVariants.{Eeprom}
 use Rattle.avr_part.specs.Part.{Part, IsPart}
 use Rattle.stk_frame.specs.declared.command.Command.{Command}
 use Rattle.stk_host.specs.Places.{each_from}
-use Rattle.stk_host.specs.WriteSteps.{page_end, begins_run, run_step, run_steps_at}
+use Rattle.stk_host.specs.WriteSteps.{page_end, run_step, run_steps_at}
 use Rattle.stk_host.proofs.ImagePlaces.PagesAndRuns.{IsNextRun, next_run, last_run, zero_border}
 use Rattle.stk_emu.specs.Effect.{Memories, Image, Write, effect, effects, with_image, are_locked}
 use Rattle.stk_emu.specs.PageWrites.{image_at, page_writes_of}

@@ -1,5 +1,5 @@
 -- Each step of a write has one page write: steps are counted as page writes.
-use Rattle.std.proofs.Common.{◌≡◌, ℕ, zero, suc, ◌*◌, ◌/◌, List, [], ◌∷◌, ◌++◌, length, take, refl, arith, Bool, true, false, cond, Option, Some, None, rules}
+use Rattle.std.proofs.Common.{◌≡◌, ℕ, zero, suc, List, [], ◌∷◌, ◌++◌, length, take, refl, arith, Bool, true, false, cond, Option, Some, None, rules}
 use Rattle.avr_image.specs.Image.{byte_at}
 use Rattle.avr_part.specs.declared.part.Mem.{Mem}
 use Rattle.avr_part.specs.declared.part.Mem.TheVariants.{Flash, Eeprom, Lfuse, Hfuse, Efuse, Lock}
@@ -7,7 +7,7 @@ use Rattle.avr_part.specs.Part.{Part}
 use Rattle.stk_frame.specs.declared.command.Command.{Command}
 use Rattle.stk_frame.specs.declared.host_command.Fuse.TheVariants.{Low, High, Extended}
 use Rattle.stk_frame.specs.HostCommands.{program_fuse, program_lock}
-use Rattle.stk_host.specs.WriteSteps.{is_used, page_step, page_steps, begins_run, run_step, run_steps_at, byte_steps, write_steps}
+use Rattle.stk_host.specs.WriteSteps.{byte_steps, write_steps}
 use Rattle.avr_laws.proofs.Each.{Each, each_on, each_of}
 use Rattle.stk_emu.specs.Effect.{Memories, Image, Item, Erase, Write, effect, effects}
 use Rattle.stk_emu.specs.PageWrites.{page_write_of, page_writes_of, changed_by, all_steps}

@@ -1,5 +1,5 @@
 -- The items of a plan: an erase, if it has one, and then writes alone.
-use Rattle.std.proofs.Common.{◌≡◌, refl, sym, ap, ◌∙◌, subst, List, [], ◌∷◌, ◌++◌, append_assoc, drop, Bool, true, false, rules}
+use Rattle.std.proofs.Common.{◌≡◌, refl, sym, ap, ◌∙◌, subst, List, [], ◌∷◌, ◌++◌, append_assoc, Bool, true, false, rules}
 use Rattle.std.proofs.lemmas.Bool.{true≢false}
 use Rattle.std.specs.Prelude.{filter_map, if◌then◌else◌}
 use Rattle.avr_cli.specs.declared.settings.Switches.{Switches}
@@ -8,7 +8,7 @@ use Rattle.avr_part.specs.declared.part.Mem.{Mem}
 use Rattle.avr_plan.specs.Plan.{Plan}
 use Rattle.avr_plan.specs.declared.planned.Task.{Task}
 use Rattle.avr_plan.specs.declared.planned.Task.TheVariants as task
-use Rattle.avr_session.specs.Actions.{TheErase, TheWrite, Action, EraseChip, WriteImage, CompareImage, LeaveOut, is_erase_due, erase_actions, write_actions, tasks_actions}
+use Rattle.avr_session.specs.Actions.{TheErase, TheWrite, Action, EraseChip, WriteImage, CompareImage, LeaveOut, erase_actions, write_actions, tasks_actions}
 use Rattle.stk_emu.specs.Effect.{Image, Memories, Item, Erase, Write, effects}
 use Rattle.avr_laws.proofs.PageWrites.Pages.{effects_on}
 use Rattle.avr_laws.specs.Agrees.{ActionsAgree, Agrees}

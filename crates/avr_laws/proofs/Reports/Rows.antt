@@ -16,7 +16,7 @@ use Rattle.avr_session.specs.Lines.{fault_line}
 use Rattle.stk_emu.specs.Effect.{Image, Memories, Item, Erase, Write, effects}
 use Rattle.avr_laws.specs.Again.{chip_of}
 use Rattle.avr_laws.specs.Items.{items}
-use Rattle.avr_laws.specs.Told.{count_line, kept_in, IsTrue, SignatureRead, ChipErased, BytesWritten, BytesVerified, Differed, BytesSaved, BytesRead, EraseLeftOut, WriteLeftOut, StepFailed, SessionDone}
+use Rattle.avr_laws.specs.Told.{count_line, IsTrue, SignatureRead, ChipErased, BytesWritten, BytesVerified, Differed, BytesSaved, BytesRead, EraseLeftOut, WriteLeftOut, StepFailed, SessionDone}
 use Rattle.avr_laws.proofs.SecondRun.PlanRows.{tiny, erasing}
 
 abbrev image : Image

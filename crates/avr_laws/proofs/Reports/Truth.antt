@@ -2,21 +2,20 @@
 use Rattle.std.proofs.Common.{◌≡◌, ℕ, List, [], ◌∷◌, ◌++◌, length, append_assoc, refl, sym, ap, ◌∙◌, subst, arith, inl, inr, Ok, Err, Result, Bool, true, false, rules}
 use Rattle.std.proofs.lemmas.List.{append-nil}
 use Rattle.std.proofs.lemmas.List.Elements.{Contains-append_right}
-use Rattle.std.specs.Prelude.{All, Contains, ⊤, codes, decimal, nat_lt, if◌then◌else◌}
+use Rattle.std.specs.Prelude.{All, Contains, ⊤, codes, nat_lt, if◌then◌else◌}
 use Rattle.std.specs.Str.{bytes_eq}
 use Rattle.avr_desk.specs.Record.{Bytes}
 use Rattle.avr_cli.specs.declared.update.Format.{Format}
 use Rattle.avr_image.specs.Image.{byte_count}
-use Rattle.avr_desk.specs.Lines.{spaced_digits, information, warning}
+use Rattle.avr_desk.specs.Lines.{information, warning}
 use Rattle.avr_desk.specs.Said.{OutputEvent, Line, Creates, Writes, Outs}
-use Rattle.avr_part.specs.Mem.{name_of}
 use Rattle.avr_part.specs.Part.{IsPart}
 use Rattle.avr_part.specs.declared.part.Mem.{Mem}
 use Rattle.avr_plan.specs.Plan.{Plan, IsFitted}
 use Rattle.avr_session.specs.Actions.{TheErase, TheWrite, Action, OpenSession, EraseChip, WriteImage, CompareImage, SaveMemory, LeaveOut, actions}
 use Rattle.avr_session.specs.FileText.{file_text}
 use Rattle.avr_session.specs.Lines.{informs, fault_line}
-use Rattle.avr_session.specs.Session.{signature_says, warns_of_signature, opening_says, saving_says, bytes_say, written_says, verified_says, read_says, standing, session}
+use Rattle.avr_session.specs.Session.{opening_says, saving_says, bytes_say, written_says, verified_says, read_says, standing, session}
 use Rattle.stk_host.specs.Dialog.{Done}
 use Rattle.stk_host.specs.Operations.{difference_from, comparison, host_fault}
 use Rattle.stk_host.specs.declared.fault.HostFault.{HostFault}
@@ -31,7 +30,7 @@ use Rattle.stk_emu.specs.Settled.{Idle, Settled, FitsPart}
 use Rattle.avr_laws.proofs.Given.Comparisons.{no_difference}
 use Rattle.avr_laws.proofs.PageWrites.Pages.{effects_on}
 use Rattle.avr_laws.specs.Items.{action_items, actions_items, items}
-use Rattle.avr_laws.specs.Told.{TellsTrue, count_line, kept_in, IsTrue, SignatureRead, ChipErased, BytesWritten, BytesVerified, Differed, BytesSaved, BytesRead, EraseLeftOut, WriteLeftOut, StepFailed, SessionDone}
+use Rattle.avr_laws.specs.Told.{TellsTrue, count_line, kept_in, IsTrue, ChipErased, BytesWritten, BytesVerified, Differed, BytesSaved, BytesRead, EraseLeftOut, WriteLeftOut, StepFailed, SessionDone}
 use Rattle.avr_laws.proofs.AnyLine.EachAction.{Comes, Passes, ActionTrue, ActionsTrue, opening_comes}
 use Rattle.avr_laws.proofs.AnyLine.Sessions.{AtMoment, AtEnd, at_last, anyhow, session_prints}
 use Rattle.avr_laws.proofs.Given.Comparisons.{bytes_same}

@@ -1,5 +1,5 @@
 -- The output of a session is that of its expected run, up to the first action that doesn't complete.
-use Rattle.std.proofs.Common.{◌≡◌, ℕ, List, [], ◌∷◌, ◌++◌, length, append_assoc, refl, sym, ap, ◌∙◌, subst, inl, inr, All, Option, Some, None, rules}
+use Rattle.std.proofs.Common.{◌≡◌, ℕ, List, [], ◌∷◌, ◌++◌, append_assoc, refl, sym, ap, ◌∙◌, inl, inr, All, Option, Some, None, rules}
 use Rattle.avr_cli.specs.declared.settings.Switches.{Switches}
 use Rattle.avr_desk.specs.Said.{OutputEvent}
 use Rattle.avr_part.specs.Part.{Part, IsPart}
@@ -7,7 +7,7 @@ use Rattle.avr_plan.specs.Plan.{Plan, IsFitted}
 use Rattle.avr_session.specs.Actions.{Action, actions}
 use Rattle.avr_session.specs.Session.{session}
 use Rattle.avr_session.specs.Standing.{Standing, Fine}
-use Rattle.stk_host.specs.Dialog.{Done, played, frames_in, outputs}
+use Rattle.stk_host.specs.Dialog.{Done, played, outputs}
 use Rattle.stk_host.specs.Tape.{Tape}
 use Rattle.stk_emu.specs.Along.{along, said_along}
 use Rattle.stk_emu.specs.Device.{device}
@@ -18,7 +18,7 @@ use Rattle.stk_emu.specs.Turn.{Turn, Became}
 use Rattle.avr_laws.proofs.AnyLine.FrameSizes.{session_asks}
 use Rattle.avr_laws.proofs.Lines.AnyTape.{goes_as}
 use Rattle.avr_laws.proofs.Reports.Truth.{session_along}
-use Rattle.avr_laws.specs.AnyTape.{AreHonest, GoesAs, turns_heard}
+use Rattle.avr_laws.specs.AnyTape.{AreHonest, GoesAs}
 use Rattle.avr_laws.specs.ExpectedRun.{Expected, then_from, ◌then◌, action_expected, actions_expected, working_expected, ending_says, expected_run}
 use Rattle.avr_laws.specs.Foretold.{SaysFirst, IsForetold, EndsAsForetold}
 

@@ -3,15 +3,14 @@ use Rattle.std.proofs.Common.{◌≡◌, ℕ, zero, suc, ◌<◌, arith, refl, s
 use Rattle.std.proofs.lemmas.Bool.{true≢false}
 use Rattle.std.proofs.lemmas.List.{length-replicate}
 use Rattle.std.proofs.lemmas.Nat.Bits.{bit_at-zero}
-use Rattle.std.specs.Prelude.{◌==◌, if◌then◌else◌, ⊤}
-use Rattle.std.specs.Int.{bit_at}
+use Rattle.std.specs.Prelude.{if◌then◌else◌, ⊤}
 use Rattle.avr_part.specs.Memory.{blank}
 use Rattle.avr_part.specs.Part.{Part}
 use Rattle.avr_part.specs.declared.part.Mem.{Mem}
 use Rattle.avr_part.specs.declared.part.Mem.TheVariants.{Flash, Eeprom, Lfuse, Hfuse, Efuse, Lock}
 use Rattle.avr_plan.specs.Plan.{Plan}
-use Rattle.avr_session.specs.Actions.{Action, EraseChip, WriteImage, CompareImage, tasks_actions}
-use Rattle.stk_emu.specs.Effect.{Image, Memories, Erase, with_image, and_in, are_locked, erase_keeps_eeprom, write_effect, effect, effects, memory_in}
+use Rattle.avr_session.specs.Actions.{Action, EraseChip, WriteImage, CompareImage}
+use Rattle.stk_emu.specs.Effect.{Image, Memories, Erase, with_image, and_in, are_locked, write_effect, effect, effects, memory_in}
 use Rattle.stk_emu.specs.Given.{HoldsImage}
 use Rattle.stk_emu.specs.Settled.{FitsPart}
 use Rattle.avr_laws.proofs.PageWrites.EachMemory.{keeps_zeros, laid, spares, write_is}

@@ -1,21 +1,16 @@
 -- The size of an image that was read from a file.
-use Rattle.std.proofs.Common.{◌≡◌, ◌∙◌, sym, ap, arith, ℕ, ◌≤◌, List, [], length, map, flat_map, nat_le, Option, Some, None, Result, Ok, Err, inl, inr, rules}
+use Rattle.std.proofs.Common.{◌≡◌, ◌∙◌, sym, ℕ, List, length, nat_le, Option, Some, None, Result, Ok, Err, inl, inr, rules}
 use Rattle.std.proofs.lemmas.Bool.{cases_Bool}
-use Rattle.std.proofs.lemmas.Bool.Decides.{nat_tests}
 use Rattle.std.proofs.lemmas.List.{length-replicate}
-use Rattle.std.specs.List.{enumerate_from}
 use Rattle.avr_cli.specs.declared.update.Format.{Format}
 use Rattle.avr_image.proofs.Lemmas.{laid_size, from_zero_is_a_span}
-use Rattle.avr_image.specs.Image.{empty, from_zero, image_of_pairs}
+use Rattle.avr_image.specs.Image.{empty, image_of_pairs}
 use Rattle.avr_image.specs.Raw as raw_file
 use Rattle.avr_desk.specs.Record.{Bytes}
-use Rattle.avr_records.specs.Lines.{lines}
-use Rattle.avr_records.specs.Reading.{Said, image_or_fault, first_fault, in_place, up_to_end, placed_bytes, image_in_text, said_by_line, together, file_ending}
+use Rattle.avr_records.specs.Reading.{Said, image_or_fault, together}
 use Rattle.avr_records.specs.declared.kind.Ending.{Ending}
-use Rattle.avr_records.specs.declared.kind.Ending.TheVariants.{Ended}
 use Rattle.avr_records.specs.declared.kind.Found.{Found}
 use Rattle.avr_records.specs.declared.kind.Found.TheVariants as file
-use Rattle.avr_records.specs.declared.kind.Kind.TheVariants as records
 use Rattle.avr_records.specs.declared.fault.RecordFault.{RecordFault}
 use Rattle.avr_plan.specs.ImageFile.{whole_file, image_within, kind_of, of_records, of_raw}
 

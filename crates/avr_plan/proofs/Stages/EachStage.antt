@@ -12,7 +12,7 @@ use Rattle.avr_desk.specs.Stage.{Stage, ◌>>=◌, output_stage, verdict_stage, 
 use Rattle.avr_image.specs.Values.{values}
 use Rattle.avr_part.specs.BuiltIn.{part_of_id}
 use Rattle.avr_part.specs.Mem.{is_writable}
-use Rattle.avr_part.specs.Part.{Part, size_of}
+use Rattle.avr_part.specs.Part.{Part}
 use Rattle.avr_part.specs.declared.part.Mem.{Mem}
 use Rattle.avr_plan.specs.declared.image_file.TheConstants.{LARGEST_IMAGE_FILE}
 use Rattle.avr_plan.specs.declared.part_choice.TheConstants.{LARGEST_PART_FILE}

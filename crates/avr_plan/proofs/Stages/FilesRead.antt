@@ -1,5 +1,5 @@
 -- Planning over the bytes that were read of some files is planning over the whole files, stage by stage.
-use Rattle.std.proofs.Common.{◌≡◌, ◌∙◌, sym, ap, subst, refl, arith, ℕ, ◌≤◌, ◌<◌, List, [], ◌∷◌, ◌++◌, append_assoc, append-nil, length, take, drop, Bool, true, false, ◌||◌, nat_le, nat_lt, Option, Result, Ok, Err, if◌then◌else◌, length-append, rules}
+use Rattle.std.proofs.Common.{◌≡◌, ◌∙◌, sym, ap, subst, refl, arith, ℕ, ◌≤◌, ◌<◌, List, [], ◌∷◌, ◌++◌, append_assoc, append-nil, length, take, drop, Bool, true, false, ◌||◌, nat_le, nat_lt, Result, Ok, Err, length-append, rules}
 use Rattle.std.proofs.lemmas.Bool.Decides.{nat_tests}
 use Rattle.std.proofs.lemmas.List.{take-append-le, take-append-drop, length-take-le, map-append}
 use Rattle.avr_cli.specs.declared.settings.Settings.{Settings}
@@ -7,7 +7,7 @@ use Rattle.avr_cli.specs.declared.update.Format.{Format}
 use Rattle.avr_desk.specs.Memory.{Stock, stood_for}
 use Rattle.avr_desk.specs.Record.{Bytes}
 use Rattle.avr_desk.specs.Said.{OutputEvent, Opens, Line}
-use Rattle.avr_desk.specs.Stage.{Stage, StageResult, StageAnswer, Made, Refused, Unread, all_told, told_in, behind_outputs, going_on, ◌>>=◌, output_stage, verdict_stage, unread_stage, under_name, content_stage, file_stage}
+use Rattle.avr_desk.specs.Stage.{Stage, StageResult, StageAnswer, Made, Refused, Unread, all_told, told_in, behind_outputs, going_on, ◌>>=◌, output_stage, verdict_stage, under_name, content_stage, file_stage}
 use Rattle.avr_desk.specs.Truth.{IsTrueOpening}
 use Rattle.avr_desk.specs.declared.record.Opening.{Opening}
 use Rattle.avr_desk.specs.declared.record.Opening.TheVariants.{Absent, Found}
@@ -18,8 +18,7 @@ use Rattle.avr_plan.proofs.Stages.EachStage.{whole_plan}
 use Rattle.avr_records.specs.declared.kind.Found.{Found as FoundKind}
 use Rattle.avr_plan.specs.FilesRead.{files_read, read_whole, files_give, planned_of, lines_in, AreSeen}
 use Rattle.avr_plan.specs.ImageFile.{file_within, kind_of}
-use Rattle.avr_plan.specs.Plan.{Plan}
-use Rattle.avr_plan.specs.Planning.{judged_parts, warning_says, image_or_line, judged_image, planned}
+use Rattle.avr_plan.specs.Planning.{judged_parts, warning_says, judged_image, planned}
 
 -- ---- the openings
 

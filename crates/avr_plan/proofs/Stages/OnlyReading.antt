@@ -12,7 +12,7 @@ use Rattle.avr_plan.specs.Lines.{no_end_line}
 use Rattle.avr_plan.proofs.Stages.EachStage.{whole_plan}
 use Rattle.avr_plan.specs.OnlyReading.{OnlyReads}
 use Rattle.avr_plan.specs.Planning.{judged_parts, is_warned, judged_image, planned}
-use Rattle.avr_desk.specs.Stage.{Stage, StageAnswer, Made, Refused, all_told, told_in, going_on, ◌>>=◌, verdict_stage, unread_stage, open_stage, is_whole, content_stage, file_stage}
+use Rattle.avr_desk.specs.Stage.{Stage, StageAnswer, Made, Refused, all_told, told_in, going_on, ◌>>=◌, verdict_stage, content_stage, file_stage}
 
 -- a stage that only reads and reports
 abbrev Reads : {A : Type 0} → Stage A → Type 0

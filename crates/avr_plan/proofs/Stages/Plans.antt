@@ -1,5 +1,5 @@
 -- The stages of a plan, one after another.
-use Rattle.std.proofs.Common.{◌≡◌, ◌∙◌, ap, append-nil, subst, ℕ, false, List, [], ◌++◌, Result, Ok, Err, rules}
+use Rattle.std.proofs.Common.{◌≡◌, ap, append-nil, ℕ, false, List, [], ◌++◌, Result, Ok, Err, rules}
 use Rattle.avr_cli.specs.declared.settings.Settings.{Settings}
 use Rattle.avr_desk.specs.Record.{DeskState, Bytes}
 use Rattle.avr_part.specs.Part.{Part}
@@ -11,7 +11,7 @@ use Rattle.avr_plan.specs.Plan.{Plan}
 use Rattle.avr_plan.specs.Planning.{LacksPart, parts_stage, part_stage, tasks_stage, planned}
 use Rattle.avr_desk.specs.Playing.{AtStart, Goes, Taking, Went}
 use Rattle.avr_plan.specs.Taking.{AtUpdate, AtTask}
-use Rattle.avr_desk.specs.Stage.{Stage, Made, behind_outputs, going_on, ◌>>=◌, verdict_stage}
+use Rattle.avr_desk.specs.Stage.{Stage, Made, going_on, ◌>>=◌, verdict_stage}
 use Rattle.avr_plan.specs.declared.planned.Task.{Task}
 
 abbrev plan_of : Settings → Part → List Task → Plan

@@ -1,5 +1,5 @@
 -- The tasks of updates.
-use Rattle.std.proofs.Common.{◌≡◌, ◌∙◌, sym, ap, subst, arith, ℕ, zero, suc, ◌+◌, All, drop, List, [], ◌∷◌, ◌++◌, refl, Bool, true, false, if◌then◌else◌, Option, Result, Ok, Err, rules}
+use Rattle.std.proofs.Common.{◌≡◌, sym, ap, subst, arith, ℕ, zero, suc, ◌+◌, All, drop, List, [], ◌∷◌, ◌++◌, refl, Bool, true, false, if◌then◌else◌, Option, Result, Ok, Err, rules}
 use Rattle.avr_cli.specs.declared.settings.Switches.{Switches}
 use Rattle.avr_cli.specs.declared.update.Format.{Format}
 use Rattle.avr_cli.specs.declared.update.Format.TheVariants.{Immediate}
@@ -16,7 +16,7 @@ use Rattle.avr_plan.specs.Lines.{read_only_line}
 use Rattle.avr_plan.specs.Planning.{file_image_stage, image_stage, update_image, write_stage, task_stage, tasks_stage}
 use Rattle.avr_desk.specs.Playing.{AtStart, Goes, Went}
 use Rattle.avr_plan.specs.Taking.{AtTask, has_values, op_takes_memory}
-use Rattle.avr_desk.specs.Stage.{Stage, Made, behind_outputs, ◌>>=◌, verdict_stage}
+use Rattle.avr_desk.specs.Stage.{Stage, Made, ◌>>=◌, verdict_stage}
 use Rattle.avr_plan.specs.declared.planned.Task.{Task}
 use Rattle.avr_plan.specs.declared.planned.Task.TheVariants.{Write}
 

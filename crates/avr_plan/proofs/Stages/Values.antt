@@ -1,12 +1,11 @@
 -- The image of values.
-use Rattle.std.proofs.Common.{◌≡◌, refl, sym, ap, ℕ, true, List, Option, Ok, Err, inl, inr, subst, rules}
+use Rattle.std.proofs.Common.{◌≡◌, sym, ap, ℕ, true, List, Option, Ok, Err, inl, inr, rules}
 use Rattle.avr_cli.specs.declared.settings.Switches.{Switches}
 use Rattle.avr_cli.specs.declared.update.Format.TheVariants.{Immediate}
 use Rattle.avr_desk.specs.Record.{DeskState, Bytes}
 use Rattle.avr_image.specs.Fault.{OrMemory}
 use Rattle.avr_image.specs.Values.{values}
 use Rattle.avr_image.specs.declared.fault.ImageFault.{ImageFault}
-use Rattle.avr_image.specs.declared.fault.ImageFault.TheVariants.{Memory}
 use Rattle.avr_desk.specs.Lines.{memory_line}
 use Rattle.avr_desk.specs.Said.{Tells}
 use Rattle.avr_part.specs.declared.part.Mem.{Mem}
@@ -14,7 +13,7 @@ use Rattle.avr_desk.proofs.Stages.Played.{went_settled, goes_unsettled, goes_wit
 use Rattle.avr_plan.specs.Lines.{values_line}
 use Rattle.avr_plan.specs.Planning.{image_stage, values_or_line}
 use Rattle.avr_desk.specs.Playing.{AtStart, Goes, Went}
-use Rattle.avr_desk.specs.Stage.{Made, verdict_stage}
+use Rattle.avr_desk.specs.Stage.{Made}
 
 abbrev Image : Type 0
 Image = List (Option ℕ)

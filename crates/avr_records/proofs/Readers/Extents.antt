@@ -7,7 +7,7 @@ use Rattle.avr_records.specs.Lines.{lines}
 use Rattle.avr_records.specs.Needed.{largest, needed_by, needed_in_text}
 use Rattle.avr_records.specs.Progress.{IsExtentOf}
 use Rattle.avr_records.specs.Reading.{Said, up_to_end, said_by_line}
-use Rattle.avr_records.specs.Steps.{next_extent, no_lines}
+use Rattle.avr_records.specs.Steps.{next_extent}
 use Rattle.avr_records.specs.declared.extent.Extent.{Extent}
 use Rattle.avr_records.specs.declared.kind.Kind.{Kind}
 use Rattle.avr_records.specs.declared.fault.RecordFault.{RecordFault}

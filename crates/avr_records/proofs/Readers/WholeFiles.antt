@@ -1,23 +1,14 @@
 -- A fault of the closed lines is that of the whole file.
-use Rattle.std.proofs.Common.{◌+◌, rules}
-use Rattle.std.proofs.Common.{length}
-use Rattle.std.proofs.Common.{inl}
-use Rattle.std.proofs.Common.{inr}
-use Rattle.std.specs.List.{list_any}
-use Rattle.avr_records.specs.Reading.{is_end}
-use Rattle.avr_records.specs.Reading.{up_to_end}
-use Rattle.avr_records.specs.Reading.{in_place}
-use Rattle.avr_records.specs.Reading.{fault_in}
+use Rattle.std.proofs.Common.{rules}
 use Rattle.std.proofs.lemmas.Bool.Decides.{nat_tests}
 use Rattle.std.proofs.Common.{arith, ◌≡◌, ◌∙◌, sym, ap, refl, ℕ, List, [], ◌∷◌, ◌++◌, map, Option, Some, None, Err}
 use Rattle.std.proofs.lemmas.Bool.{cases_Bool}
 use Rattle.std.proofs.lemmas.List.{map-append}
 use Rattle.avr_records.specs.Lines.{lines, is_line_end}
-use Rattle.avr_records.specs.Reading.{Said, first_fault, or_later, said_by_line, image_in_text}
+use Rattle.avr_records.specs.Reading.{Said, first_fault, said_by_line, image_in_text}
 use Rattle.avr_records.specs.Closed.{all_but_last, fault_among, closed_fault, ok_unless}
 use Rattle.avr_records.specs.Reader.{ReaderState, StandsFor, IsNewReader, memory_size}
 use Rattle.avr_records.specs.declared.kind.Kind.{Kind}
-use Rattle.avr_records.specs.declared.fault.LineFault.{LineFault}
 use Rattle.avr_records.specs.declared.fault.RecordFault.{RecordFault}
 use Rattle.avr_records.proofs.Readers.Fed.{but_last}
 use Rattle.avr_records.proofs.Readers.LaterLines.{in_place-append, up_to_end-open, up_to_end-done, parts-some}

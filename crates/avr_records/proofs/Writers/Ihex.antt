@@ -1,5 +1,5 @@
 -- Records of Intel HEX, as they are written and read again.
-use Rattle.std.proofs.Common.{◌≡◌, ◌∙◌, sym, ap, refl, arith, ℕ, ◌+◌, ◌-◌, ◌*◌, ◌/◌, ◌%◌, ◌^◌, ◌<◌, ◌≤◌, ◌==◌, Bool, true, false, List, [], ◌∷◌, ◌++◌, length, take, sum, map, Result, Ok, inl, inr, rules}
+use Rattle.std.proofs.Common.{◌≡◌, ◌∙◌, ap, refl, arith, ℕ, ◌+◌, ◌-◌, ◌/◌, ◌%◌, ◌^◌, ◌<◌, ◌≤◌, ◌==◌, Bool, true, false, List, [], ◌∷◌, ◌++◌, length, take, sum, map, Ok, inl, inr, rules}
 use Rattle.std.specs.Prelude.{if◌then◌else◌}
 use Rattle.std.specs.List.{list_all, flat_map}
 use Rattle.std.proofs.lemmas.Bool.{cases_eq}
@@ -10,13 +10,11 @@ use Rattle.hex.specs.Hex.{IsBytes, encode_upper, upper_digits}
 use Rattle.hex.proofs.HexLemmas.{length-encode_with}
 use Rattle.avr_records.specs.Lines.{lines}
 use Rattle.avr_records.specs.Meaning.{Data, Rebase, End, Nothing}
-use Rattle.avr_records.specs.Record.{◌and_then◌}
 use Rattle.avr_records.specs.Ihex.{ihex_from_fields, checked_ihex, typed_ihex}
 use Rattle.avr_records.specs.Reading.{Said, said_by_line, record_meaning}
-use Rattle.avr_records.specs.Text.{two, with_sum_checksum, ihex_record, ihex_row_size, upper_record, ihex_rows}
+use Rattle.avr_records.specs.Text.{two, with_sum_checksum, ihex_row_size, upper_record, ihex_rows}
 use Rattle.avr_records.specs.declared.kind.Kind.TheVariants.{Ihex}
 use Rattle.avr_records.specs.declared.kind.AddressBase.TheVariants.{Linear}
-use Rattle.avr_records.specs.declared.fault.LineFault.{LineFault}
 use Rattle.avr_records.proofs.Rows.Cuts.{IsBytes-nil, IsBytes-cons, IsBytes-append, IsRow, Every}
 use Rattle.avr_records.proofs.Writers.Lines.{is_plain, plain-digits, encode-digits, bytes_of-encode, says-plain, lines-plain, lines-written, sum-push}
 use Rattle.avr_records.proofs.Writers.Reread.{AllGoOn, then_end, threaded, places-linear}

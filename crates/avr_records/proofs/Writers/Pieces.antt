@@ -5,12 +5,10 @@ use Rattle.std.proofs.lemmas.Bool.Decides.{nat_tests}
 use Rattle.std.proofs.lemmas.List.{append_assoc, get_or-map, get_or_past, take_min, drop_all, drop_more, map_more, set_at, get_or_at, length-map, length-take-le, length-append}
 use Rattle.std.specs.Char.{to_ascii_uppercase}
 use Rattle.std.specs.Prelude.{slice_index}
-use Rattle.std.specs.Int.{to_be_bytes, w32}
 use Rattle.hex.specs.Hex.{encode_with, encode_lower, encode_upper, lower_digits, upper_digits}
 use Rattle.avr_records.specs.Text.{rows, rows_behind, width_of, low_bytes, two, ihex_record}
 use Rattle.avr_records.specs.Sparse.{file_rows, new_upper, row_size, row_text}
 use Rattle.avr_records.specs.declared.address_size.AddressSize.{AddressSize}
-use Rattle.avr_records.specs.declared.address_size.AddressSize.TheVariants.{Two, Three, Four}
 use Rattle.avr_records.specs.declared.kind.Kind.{Kind}
 use Rattle.avr_records.specs.declared.kind.Kind.TheVariants.{Ihex, Srec}
 

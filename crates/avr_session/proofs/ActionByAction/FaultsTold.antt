@@ -1,14 +1,11 @@
 -- The state of a session after an action gives whether a fault was reported in it: laws of dialogs alone.
-use Rattle.std.proofs.Common.{◌≡◌, ℕ, Bool, true, false, ◌||◌, List, [], ◌∷◌, ◌++◌, length, drop, map, refl, sym, ap, ◌∙◌, subst, append_assoc, append-nil, nat_lt, bytes_eq, codes, decimal, if◌then◌else◌, Option, Some, None, Result, Ok, Err, inl, inr, rules}
-use Rattle.std.proofs.lemmas.Bool.{cases_Bool, or_parts}
+use Rattle.std.proofs.Common.{◌≡◌, ℕ, Bool, true, false, ◌||◌, List, [], ◌∷◌, ◌++◌, map, refl, sym, ap, ◌∙◌, subst, append-nil, nat_lt, codes, if◌then◌else◌, Option, Some, None, Result, Ok, Err, inl, inr, rules}
+use Rattle.std.proofs.lemmas.Bool.{or_parts}
 use Rattle.std.proofs.lemmas.List.Folds.{list_any-append}
-use Rattle.std.proofs.lemmas.Slice.Eq.{starts_is}
-use Rattle.std.specs.Cmp.{unsigned_Decides}
 use Rattle.avr_desk.specs.Record.{DeskState, Bytes}
 use Rattle.avr_cli.specs.declared.settings.Switches.{Switches}
 use Rattle.avr_cli.specs.declared.update.Format.{Format}
 use Rattle.avr_image.specs.Image.{byte_count}
-use Rattle.avr_part.specs.Mem.{name_of}
 use Rattle.avr_part.specs.Part.{Part}
 use Rattle.avr_part.specs.declared.part.Mem.{Mem}
 use Rattle.avr_part.specs.declared.part.Mem.TheVariants.{Flash}
@@ -18,17 +15,15 @@ use Rattle.stk_host.specs.Tape.{Tape, Reading, on_tape, answer}
 use Rattle.stk_host.specs.Play.{Progress}
 use Rattle.stk_host.specs.Transcript.{heard}
 use Rattle.stk_host.specs.Dialog.{Dialog, Done, Say, Ask, ◌>>=◌, lifted, Event, Frame, Said, Played, played, by_answer, next, outputs}
-use Rattle.stk_host.specs.Operations.{opening, erasing, writing, reading, verifying}
 use Rattle.avr_desk.specs.Lines.{information, warning}
-use Rattle.avr_desk.specs.Said.{OutputEvent, Line, Creates, Writes, Outs, IsPrefixOf}
+use Rattle.avr_desk.specs.Said.{OutputEvent, Line, Writes, Outs, IsPrefixOf}
 use Rattle.avr_session.specs.Standing.{Standing, Fine}
 use Rattle.avr_session.specs.Actions.{LeftOut, TheErase, TheWrite, Action, OpenSession, EraseChip, WriteImage, CompareImage, SaveMemory, LeaveOut}
-use Rattle.avr_session.specs.FileText.{file_text}
-use Rattle.avr_session.specs.Lines.{informs, warns, other_signature, fault_line}
+use Rattle.avr_session.specs.Lines.{warns, fault_line}
 use Rattle.avr_session.specs.Performing.{is_told}
 use Rattle.avr_session.specs.Runs.{Devices, Cause, OfSending, OfListening, OfFile, OfPrinting, OfMemory, NotCreated, NotWritten, is_error, tells_fault, Ran, AtFrame, StopsAt}
 use Rattle.avr_session.specs.Reporting.{SaysPrefix}
-use Rattle.avr_session.specs.Session.{says, standing, reported, unless_fault, fault_or, opening_says, warns_of_signature, signature_says, bytes_say, saving_says, kept_of, erased_says, written_says, verified_says, read_says, left_out_says, action_dialog, actions_dialog}
+use Rattle.avr_session.specs.Session.{says, standing, reported, unless_fault, fault_or, opening_says, signature_says, bytes_say, read_says, left_out_says, action_dialog, actions_dialog}
 use Rattle.avr_session.proofs.Runs.Stops.{outputs_by}
 
 -- ---- along every path of a dialog

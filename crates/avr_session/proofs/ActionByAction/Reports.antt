@@ -1,5 +1,5 @@
 -- Reports, one after another.
-use Rattle.std.proofs.Common.{◌≡◌, ◌≤◌, ℕ, arith, List, [], ◌∷◌, ◌++◌, Result, Ok, Err, refl, sym, ap, ◌∙◌, subst, inl, inr, IfErr, append-nil, nat_lt, false, rules}
+use Rattle.std.proofs.Common.{◌≡◌, ◌≤◌, ℕ, arith, List, [], ◌∷◌, ◌++◌, Result, Ok, Err, refl, sym, ap, ◌∙◌, inl, inr, IfErr, append-nil, nat_lt, false, rules}
 use Rattle.std.proofs.lemmas.Bool.Decides.{nat_tests}
 use Rattle.avr_desk.specs.Record.{Record, DeskState, Passes, after_err}
 use Rattle.avr_desk.specs.Fault.{Counts, Follows, HasFailedAt, HasFailedToSay, HasSameCounts}
@@ -9,7 +9,7 @@ use Rattle.avr_desk.specs.declared.stream.Stream.TheVariants.{File, Messages}
 use Rattle.stk_host.specs.Dialog.{outputs}
 use Rattle.avr_desk.specs.Said.{OutputEvent, Line, IsPrefixOf, IsPrinted, Tells, after_all}
 use Rattle.avr_desk.proofs.Stages.Outputs.{kept_append}
-use Rattle.avr_desk.proofs.Lines.Told.{failure_since, failure_told, follows_on, same_on, unsaid_since}
+use Rattle.avr_desk.proofs.Lines.Told.{failure_since, follows_on, same_on, unsaid_since}
 use Rattle.avr_session.specs.Runs.{cause_line, Cause, OfFile, OfPrinting, FileTrouble}
 use Rattle.avr_session.specs.Reporting.{SaysPrefix, SaidSome, SaysOrStops, Reports, PrintStops, FileStops, DeskStops}
 use Rattle.avr_session.specs.Saving.{SaveStops}

@@ -9,8 +9,8 @@ use Rattle.avr_desk.specs.declared.stream.Stream.TheVariants.{File, Messages, Ou
 use Rattle.avr_desk.specs.declared.desk.DeskFault.{DeskFault}
 use Rattle.stk_host.specs.Dialog.{Said}
 use Rattle.avr_desk.specs.Said.{OutputEvent, Creates, Writes, Outs, Tells, after_all}
-use Rattle.avr_desk.proofs.Stages.Outputs.{kept_append, kept_none}
-use Rattle.avr_desk.proofs.Lines.Told.{failure_told, follows_on, same_on}
+use Rattle.avr_desk.proofs.Stages.Outputs.{kept_none}
+use Rattle.avr_desk.proofs.Lines.Told.{follows_on}
 use Rattle.avr_session.specs.Runs.{Cause, OfFile, NotCreated, NotWritten, cause_line}
 use Rattle.avr_session.specs.Reporting.{SaysPrefix, SaysOrStops, Reports, DeskStops}
 use Rattle.avr_session.specs.Session.{saving_says}

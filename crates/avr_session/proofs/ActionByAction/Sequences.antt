@@ -1,5 +1,5 @@
 -- Actions of a session, one after another.
-use Rattle.std.proofs.Common.{◌≡◌, ℕ, Bool, true, false, ◌||◌, ◌++◌, ◌≤◌, arith, List, [], ◌∷◌, length, refl, sym, ap, ◌∙◌, subst, subst₂, append_assoc, Some, None, Result, Ok, Err, inl, get_or, take, drop, ◌<◌, ◌-◌, rules}
+use Rattle.std.proofs.Common.{◌≡◌, ℕ, Bool, true, false, ◌||◌, ◌++◌, ◌≤◌, arith, List, [], ◌∷◌, length, refl, ap, ◌∙◌, subst, append_assoc, None, Result, Ok, Err, inl, get_or, take, drop, ◌<◌, ◌-◌, rules}
 use Rattle.std.proofs.Math.Bool.{or-false}
 use Rattle.std.specs.List.{list_any}
 use Rattle.std.proofs.lemmas.Grind.{common_steps}
@@ -20,7 +20,7 @@ use Rattle.stk_host.specs.Tape.{Tape, on_tape}
 use Rattle.stk_host.proofs.Transcripts.InDialogs.{followed, played_bind}
 use Rattle.stk_host.proofs.Transcripts.Laws.{heard_append}
 use Rattle.stk_host.specs.Calls.{IsBroken, Calls, CallsBy, given_or_fault}
-use Rattle.stk_host.specs.Dialog.{Dialog, Done, ◌>>=◌, Event, Played, played, behind, outputs}
+use Rattle.stk_host.specs.Dialog.{Dialog, Done, ◌>>=◌, played, outputs}
 use Rattle.avr_desk.specs.Said.{OutputEvent, Tells}
 use Rattle.avr_plan.specs.Plan.{Plan}
 use Rattle.avr_plan.specs.declared.planned.Task.{Task}
@@ -30,7 +30,7 @@ use Rattle.avr_session.specs.declared.ending.End.TheVariants as ends
 use Rattle.avr_session.specs.Actions.{Action, action_takes_memory, actions, takes_memory}
 use Rattle.avr_session.specs.Concluding.{HostServes, conclusion, stands}
 use Rattle.avr_session.specs.Session.{says, standing, reported, unless_fault, fault_or, action_dialog, actions_dialog, ending, playing, session, status_of}
-use Rattle.avr_session.specs.Runs.{Cause, OfFile, OfPrinting, cause_line, tells_fault, Devices, devices, start, Terms, untold, TellsCause, StopsBehind, Lacking, BrokeOff, Ran}
+use Rattle.avr_session.specs.Runs.{Cause, OfFile, OfPrinting, cause_line, tells_fault, Devices, devices, start, Terms, untold, TellsCause, StopsBehind, Lacking, Ran}
 use Rattle.avr_session.specs.Reporting.{DeskStops, PrintStops, ReadStops, Reports}
 use Rattle.avr_session.specs.Run.{StopsSession}
 use Rattle.avr_session.specs.Stopping.{IsPlayed}
@@ -38,7 +38,7 @@ use Rattle.avr_session.specs.Taking.{AtOnce, AtTaking}
 use Rattle.avr_session.specs.Performing.{is_told, PerformsBehind, Performs, Does, LeavesOut, Runs}
 use Rattle.avr_session.proofs.ActionByAction.Reports.{kept_nothing}
 use Rattle.avr_desk.proofs.Stages.Outputs.{kept_none}
-use Rattle.avr_desk.proofs.Lines.Told.{follows_here, follows_on, same_here}
+use Rattle.avr_desk.proofs.Lines.Told.{follows_here, same_here}
 use Rattle.avr_session.proofs.Runs.Calls.{none_failed_here, came_here, came_said, came_part, ran_from, ran_on, stops_in, stops_since, broke_on, broke_part, broke_output, LacksLater, StopsReport, ToldBy}
 use Rattle.avr_session.proofs.ActionByAction.FaultsTold.{Foretells, foretold, prefix_tells_none, actions_foretells}
 use Rattle.avr_session.proofs.ActionByAction.Actions.{actions_dialog-one, actions_dialog-append}

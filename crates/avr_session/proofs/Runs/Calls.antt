@@ -1,6 +1,6 @@
 -- How a call over a link and a desk goes on in its dialog.
-use Rattle.std.proofs.Common.{◌≡◌, ℕ, ◌≤◌, Bool, true, ◌||◌, List, [], ◌∷◌, ◌++◌, append_assoc, append-nil, length, map, refl, sym, ap, ◌∙◌, subst, Option, None, rules}
-use Rattle.std.proofs.Math.Bool.{or_assoc, or-false}
+use Rattle.std.proofs.Common.{◌≡◌, ℕ, ◌≤◌, Bool, true, ◌||◌, List, [], ◌∷◌, ◌++◌, append_assoc, append-nil, length, map, refl, sym, ap, ◌∙◌, subst, Option, rules}
+use Rattle.std.proofs.Math.Bool.{or_assoc}
 use Rattle.std.proofs.lemmas.List.Folds.{list_any-append}
 use Rattle.ghosts.specs.Failures.{HasRisen}
 use Rattle.avr_desk.specs.Fault.{HasSameCounts}
@@ -9,18 +9,18 @@ use Rattle.stk_host.specs.declared.fault.Broken.{Broken}
 use Rattle.stk_host.specs.declared.fault.Broken.TheVariants.{Send, Recv}
 use Rattle.stk_host.specs.Tape.{Tape, on_tape}
 use Rattle.stk_host.specs.Transcript.{Transcript, LinkState, Grows, heard, sent}
-use Rattle.stk_host.specs.Dialog.{Dialog, Done, ◌>>=◌, lifted, Event, Frame, Said, Played, played, bytes_sent, outputs}
+use Rattle.stk_host.specs.Dialog.{Dialog, Done, ◌>>=◌, lifted, Event, Said, Played, played, bytes_sent, outputs}
 use Rattle.stk_host.specs.Play.{Progress, InTurn, played_over, PlaysOver, FailsOver}
 use Rattle.stk_host.specs.Reach.{TranscriptLeads}
 use Rattle.stk_host.proofs.Transcripts.Laws.{grows_none, grows_on}
-use Rattle.stk_host.proofs.Transcripts.InDialogs.{continued, played_bind, leads_here, leads_on, leads_bind, leads_say, leads_from, plays_from, breaks_on, breaks_bind}
+use Rattle.stk_host.proofs.Transcripts.InDialogs.{continued, played_bind, leads_here, leads_on, leads_bind, leads_say, leads_from, breaks_on, breaks_bind}
 use Rattle.stk_host.proofs.Dialogs.Lifted.{raised, plays_lifted, by_lifted, outputs_raised}
 use Rattle.stk_host.proofs.Transcripts.Laws.{heard_append}
 use Rattle.avr_desk.specs.Said.{OutputEvent, SaidPart, after_all}
 use Rattle.avr_desk.proofs.Stages.Outputs.{kept_on, kept_none, after_append}
 use Rattle.avr_desk.proofs.Lines.Told.{failed_since, follows_on, follows_same, same_here, same_on, unsaid_since}
 use Rattle.avr_session.specs.Session.{says}
-use Rattle.avr_session.specs.Runs.{Devices, devices, NoneFailed, Cause, OfSending, OfListening, OfFile, OfPrinting, OfMemory, is_error, tells_fault, HasCome, TellsCause, StopsAt, Listens, Lacking, Terms, StopsBehind, Ran, BrokeOff}
+use Rattle.avr_session.specs.Runs.{Devices, devices, NoneFailed, Cause, OfSending, OfListening, OfFile, OfPrinting, OfMemory, tells_fault, HasCome, StopsAt, Listens, Lacking, Terms, StopsBehind, Ran, BrokeOff}
 use Rattle.avr_session.specs.Reporting.{IsOfDesk, SaysPrefix, SaidSome}
 use Rattle.avr_session.proofs.Runs.Stops.{place_more, place_behind, desk_says, desk_listens, outputs_said, map_append}
 

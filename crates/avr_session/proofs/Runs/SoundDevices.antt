@@ -1,21 +1,16 @@
 -- If no device failed, a run was complete, or its messages report that allocation failed.
-use Rattle.std.proofs.Common.{◌≡◌, arith, ℕ, Bool, true, false, List, ◌++◌, ◌∙◌, refl, ap, subst, inl, inr, rules}
-use Rattle.ghosts.proofs.Failures.{stood_has_not_risen}
-use Rattle.ghosts.specs.Failures.{HasStood}
-use Rattle.avr_desk.specs.Fault.{Follows}
-use Rattle.stk_host.specs.Transcript as link
-use Rattle.avr_desk.specs.Record.{Record, DeskState, after_err, Bytes}
+use Rattle.std.proofs.Common.{◌≡◌, ℕ, Bool, false, List, ◌++◌, inl, inr, rules}
+use Rattle.avr_desk.specs.Record.{Record, after_err, Bytes}
 use Rattle.avr_plan.specs.Plan.{Plan}
 use Rattle.stk_host.specs.Play.{Progress}
 use Rattle.stk_host.specs.Transcript.{LinkState}
 use Rattle.stk_host.specs.Dialog.{Dialog, outputs}
 use Rattle.avr_desk.specs.Said.{OutputEvent, after_all}
 use Rattle.avr_session.specs.Actions.{takes_memory}
-use Rattle.avr_session.specs.Runs.{Cause, OfSending, OfListening, OfMemory, Devices, devices, start, cause_line, tells_fault, HasCome, TellsCause, untold, StopsBehind, Lacking, BrokeOff}
+use Rattle.avr_session.specs.Runs.{Cause, OfMemory, Devices, devices, start, cause_line, untold, StopsBehind, Lacking, BrokeOff}
 use Rattle.avr_session.specs.Run.{RunsSession}
 use Rattle.avr_session.specs.Session.{session}
 use Rattle.avr_session.specs.Stopping.{keeping, IsSound, LacksMemory, IsPlayed}
-use Rattle.avr_desk.proofs.Lines.Told.{follows_here, not_failed}
 
 -- sound devices leave only allocation as a cause
 

@@ -1,12 +1,11 @@
 -- Where a run stops: what is before it and what follows it changes nothing.
-use Rattle.std.proofs.Common.{ℕ, ◌≡◌, ◌∙◌, List, [], ◌∷◌, ◌++◌, map, refl, sym, ap, subst, append_assoc, take, drop, Option, inl, inr, codes, rules}
+use Rattle.std.proofs.Common.{ℕ, ◌≡◌, ◌∙◌, List, [], ◌∷◌, ◌++◌, map, refl, sym, ap, append_assoc, take, drop, Option, inl, inr, codes, rules}
 use Rattle.std.proofs.lemmas.List.{take-append-drop}
 use Rattle.avr_desk.specs.Record.{DeskState, Passes, Bytes}
 use Rattle.avr_desk.specs.Stream.{SendsPart}
 use Rattle.avr_desk.specs.declared.stream.Stream.TheVariants.{File, Output, Messages}
 use Rattle.stk_host.specs.Dialog.{Event, Said, outputs}
-use Rattle.stk_host.specs.Play as play
-use Rattle.avr_desk.specs.Said.{OutputEvent, Line, Creates, Writes, Outs, SaidPart, after_all}
+use Rattle.avr_desk.specs.Said.{OutputEvent, Line, Creates, Writes, Outs, after_all}
 use Rattle.avr_desk.proofs.Stages.Outputs.{kept_append}
 use Rattle.avr_session.specs.Runs.{Cause, OfSending, OfListening, OfFile, OfPrinting, OfMemory, NotCreated, NotWritten, AtFrame, AtPart, StopsAt, Listens}
 use Rattle.avr_session.specs.Reporting.{IsOfDesk, SaysPrefix}

@@ -4,9 +4,6 @@ use Rattle.avr_desk.specs.Record.{DeskState, Record, Passes}
 use Rattle.avr_desk.specs.Said.{OutputEvent, after_all}
 use Rattle.avr_part.specs.Part.{IsPart}
 use Rattle.avr_plan.specs.Plan.{Plan, IsFitted}
-use Rattle.avr_session.specs.Runs.{start}
-use Rattle.avr_session.specs.Actions.{takes_memory}
-use Rattle.avr_session.specs.Session.{session}
 use Rattle.avr_session.specs.Stopping.{IsSound, LacksMemory, keeping}
 use Rattle.avr_session.proofs.Runs.SoundDevices.{broke_lacks}
 use Rattle.stk_host.specs.Dialog.{Event, outputs}
@@ -16,7 +13,7 @@ use Rattle.avr_laws.specs.Few.{AreFew}
 use Rattle.stk_emu.specs.Programmer.{Programmer}
 use Rattle.stk_emu.specs.Settled.{FitsPart}
 use Rattle.stk_emu.specs.Turn.{Turn}
-use Rattle.stk_emu.specs.Wired.{WiredState, wired_link}
+use Rattle.stk_emu.specs.Wired.{WiredState}
 use Rattle.avr_laws.specs.Again.{AreKeeping, AgreesAnyway}
 use Rattle.avr_laws.specs.AnyLine.{Stopped, OverAnyLine, OverTurns, WholeOverTurns, memories, events_over, wire_and_desk}
 use Rattle.avr_laws.specs.Items.{items, asked_items, has_erase}

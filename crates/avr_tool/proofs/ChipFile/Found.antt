@@ -1,16 +1,14 @@
 -- A run over the emulator finds the chip of its file, and leaves it there.
-use Rattle.std.proofs.Common.{◌≡◌, ◌∙◌, ap, subst, sym, refl, arith, ℕ, ◌==◌, ◌||◌, Bool, true, false, not, nat_le, nat_lt, length, List, [], ◌∷◌, ◌++◌, append_assoc, append-nil, Some, Result, Ok, Err, if◌then◌else◌, rules}
-use Rattle.std.proofs.lemmas.Bool.Decides.{nat_tests}
+use Rattle.std.proofs.Common.{◌≡◌, ◌∙◌, ap, subst, sym, refl, ℕ, ◌||◌, Bool, true, false, not, List, [], ◌∷◌, ◌++◌, append_assoc, append-nil, Ok, Err, if◌then◌else◌, rules}
 use Rattle.std.proofs.lemmas.Grind.{common_steps}
-use Rattle.avr_emulator.specs.Loading.{chip_given, chip_stage, judged_chip}
+use Rattle.avr_emulator.specs.Loading.{chip_given, chip_stage}
 use Rattle.avr_cli.specs.declared.settings.Settings.{Settings}
 use Rattle.avr_desk.proofs.Desks.InMemory.{all_true, true_behind}
 use Rattle.avr_desk.proofs.FileUses.Uses.{files_append, files_used}
-use Rattle.avr_desk.specs.Lines.{too_long_line}
 use Rattle.avr_desk.specs.Memory.{MemDeskState, Stock, memory_state, stood_for}
 use Rattle.avr_desk.specs.Playing.{Went}
 use Rattle.avr_desk.specs.Record.{Bytes, DeskState, all_files, all_uses, files_among}
-use Rattle.avr_desk.specs.Said.{OutputEvent, Opens, after_all, after_opening}
+use Rattle.avr_desk.specs.Said.{after_opening}
 use Rattle.avr_desk.specs.Stage.{Made, StageResult, next_opening, unread_stage, verdict_stage}
 use Rattle.avr_desk.specs.Truth.{AreTrue, HoldsTrue, IsTrueOpening}
 use Rattle.avr_desk.specs.declared.record.FileUse.{FileUse}
@@ -19,9 +17,8 @@ use Rattle.avr_desk.specs.declared.record.Opening.{Opening}
 use Rattle.avr_desk.specs.declared.record.Opening.TheVariants.{Absent, Found}
 use Rattle.avr_desk.specs.declared.record.Writing.{Writing}
 use Rattle.avr_emulator.specs.Emulated.{RunsOverEmulator}
-use Rattle.avr_part.specs.ChipFile.{chip_file_size, state_in}
 use Rattle.avr_part.specs.Part.{Part}
-use Rattle.avr_part.specs.State.{ChipState as Chip, fresh_state}
+use Rattle.avr_part.specs.State.{ChipState as Chip}
 use Rattle.avr_plan.proofs.Stages.OnlyReading.{only_reads}
 use Rattle.avr_plan.specs.OnlyReading.{OnlyReads}
 use Rattle.avr_plan.specs.Plan.{Plan}

@@ -6,8 +6,8 @@ use Rattle.avr_cli.specs.declared.settings.Settings.{Settings}
 use Rattle.avr_desk.proofs.FileUses.Names.{newest_append}
 use Rattle.avr_desk.proofs.FileUses.Uses.{files_replaced}
 use Rattle.avr_desk.specs.Memory.{MemDeskState, Stock, file_named, memory_state, stood_for}
-use Rattle.avr_desk.specs.Named.{is_dash, newest}
-use Rattle.avr_desk.specs.Record.{Bytes, DeskState, Record, all_files, with_replaced}
+use Rattle.avr_desk.specs.Named.{is_dash}
+use Rattle.avr_desk.specs.Record.{Bytes, DeskState, Record, with_replaced}
 use Rattle.avr_desk.specs.Truth.{HoldsTrue}
 use Rattle.avr_desk.specs.declared.record.Writing.{Writing}
 use Rattle.avr_laws.proofs.SecondRun.EveryChip.{agrees_anyway}

@@ -1,5 +1,5 @@
 -- What a run leaves over known files and a known tape.
-use Rattle.std.proofs.Common.{◌≡◌, ◌∙◌, ◌+◌, ℕ, sym, ap, refl, arith, List, [], ◌∷◌, ◌++◌, append_assoc, map, append-nil, replicate, Option, Some, None, rules}
+use Rattle.std.proofs.Common.{◌≡◌, ◌∙◌, ℕ, sym, ap, refl, List, [], ◌∷◌, ◌++◌, append_assoc, map, append-nil, replicate, Option, Some, None, rules}
 use Rattle.std.proofs.lemmas.List.{replicate-append-replicate}
 use Rattle.avr_cli.specs.declared.settings.Settings.{Settings}
 use Rattle.avr_desk.specs.Memory.{Stock}

@@ -1,7 +1,6 @@
 -- A run over a desk in memory and a tape is the function of its files and that tape.
-use Rattle.std.proofs.Common.{◌≡◌, ◌∙◌, ◌⊎◌, inl, inr, ℕ, sym, ap, ap₂, subst, refl, List, [], ◌∷◌, ◌++◌, append_assoc, append-nil, map, replicate, Option, Some, rules}
+use Rattle.std.proofs.Common.{◌≡◌, ◌∙◌, ◌⊎◌, inl, inr, ℕ, sym, ap, subst, refl, List, [], ◌∷◌, ◌++◌, append_assoc, append-nil, map, Option, rules}
 use Rattle.std.proofs.lemmas.List.{map-append}
-use Rattle.std.specs.Io.KnownBytes.{Appends, Consumes}
 use Rattle.ghosts.specs.Stays.{Stays}
 use Rattle.avr_cli.specs.declared.settings.Settings.{Settings}
 use Rattle.avr_desk.proofs.Stages.Breaks.{openings_in, openings_shown}
@@ -23,7 +22,7 @@ use Rattle.avr_desk.specs.declared.record.Opening.TheVariants.{Absent, Found}
 use Rattle.avr_desk.specs.declared.record.Writing.{Writing}
 use Rattle.avr_plan.proofs.Stages.FilesRead.{seen_first, seen_is_planned}
 use Rattle.avr_plan.proofs.Stages.OnlyReading.{only_reads}
-use Rattle.avr_plan.specs.FilesRead.{AreSeen, files_give, files_read, lines_in, planned_of}
+use Rattle.avr_plan.specs.FilesRead.{AreSeen, lines_in, planned_of}
 use Rattle.avr_plan.specs.OnlyReading.{OnlyReads}
 use Rattle.avr_plan.specs.Plan.{Plan}
 use Rattle.avr_plan.specs.Planning.{planned}
@@ -31,14 +30,12 @@ use Rattle.avr_session.specs.Run.{RunsSettings}
 use Rattle.avr_session.specs.Runs.{devices}
 use Rattle.avr_session.specs.Session.{session}
 use Rattle.avr_session.specs.Stopping.{IsPlayed}
-use Rattle.stk_host.specs.Dialog.{Event, Said, behind, bytes_sent, outputs}
+use Rattle.stk_host.specs.Dialog.{Event, Said, bytes_sent, outputs}
 use Rattle.stk_host.specs.Links.{IsOfTape, IsTrueSince, StreamState, TapeState, stream_state, tape_state}
 use Rattle.stk_host.specs.Transcript.{LinkState, Transcript, heard, sent}
-use Rattle.stk_host.specs.Tape.{Tape, bytes_of}
-use Rattle.stk_host.specs.declared.link.Item.TheVariants.{End}
 use Rattle.avr_tool.proofs.Runs.Joined.{said_outputs, said_bytes}
-use Rattle.avr_tool.specs.Headline.{after_answer, IsStopped}
-use Rattle.avr_tool.specs.InMemory.{RunOutcome, run_outcome, run_of, shown_by, AreUnused, IsLeft, Leaves, LeavesStreams}
+use Rattle.avr_tool.specs.Headline.{IsStopped}
+use Rattle.avr_tool.specs.InMemory.{RunOutcome, shown_by, AreUnused, IsLeft, Leaves, LeavesStreams}
 
 -- ---- the files were seen as they were before the run
 

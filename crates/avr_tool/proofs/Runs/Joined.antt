@@ -12,7 +12,7 @@ use Rattle.avr_desk.specs.Playing.{Went, WentRefused}
 use Rattle.avr_desk.specs.Stage.{Made, StageResult}
 use Rattle.stk_host.specs.Dialog.{Event, Played, Said, behind, bytes_sent, outputs}
 use Rattle.stk_host.specs.Transcript.{LinkState, heard, Grows}
-use Rattle.stk_host.specs.Tape.{Tape, on_tape}
+use Rattle.stk_host.specs.Tape.{Tape}
 use Rattle.stk_host.specs.Play.{IsPrefixOfEvents}
 use Rattle.stk_host.proofs.Transcripts.Laws.{grows_none}
 use Rattle.avr_session.specs.Run.{RunsSession, RunsSettings, StopsSession}

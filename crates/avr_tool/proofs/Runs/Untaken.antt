@@ -1,14 +1,11 @@
 -- Arguments that request no run, and the error that is left of them.
-use Rattle.std.proofs.Common.{◌≡◌, refl, sym, ◌∙◌, subst, ℕ, List, Result, Ok, Err, inr, rules}
+use Rattle.std.proofs.Common.{◌≡◌, refl, sym, ◌∙◌, subst, ℕ, List, Result, Ok, Err, rules}
 use Rattle.clap.specs.Words.{fault_of, kind_of, HasKind}
 use Rattle.clap.specs.declared.error.Error.{Error}
 use Rattle.clap.specs.declared.error.kind.ErrorKind.TheVariants.{OutOfMemory}
 use Rattle.avr_cli.specs.Command.{avrstk}
-use Rattle.avr_cli.specs.declared.settings.SettingsFault.TheVariants.{Memory}
 use Rattle.avr_desk.specs.Record.{DeskState, Bytes}
-use Rattle.avr_desk.specs.Said.{Tells}
 use Rattle.avr_tool.specs.Sockets.{Peers}
-use Rattle.avr_session.specs.Refusal.{refusal_line}
 use Rattle.avr_session.specs.Runs.{devices}
 use Rattle.avr_tool.specs.Asked.{Asks, LeavesWords}
 use Rattle.avr_tool.specs.Program.{ActsOnWords}

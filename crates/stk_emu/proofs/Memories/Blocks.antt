@@ -1,5 +1,5 @@
 -- Blocks, byte by byte.
-use Rattle.std.proofs.Common.{true, if◌then◌else◌, ◌≡◌, ℕ, suc, ◌+◌, ◌<◌, Bool, List, [], ◌∷◌, ◌++◌, length, get_or, drop, refl, ap, ap₂, sym, ◌∙◌, add-one, drop-cons, append_assoc, rules}
+use Rattle.std.proofs.Common.{true, if◌then◌else◌, ◌≡◌, ℕ, suc, ◌+◌, ◌<◌, Bool, List, [], ◌∷◌, ◌++◌, length, get_or, drop, refl, add-one, drop-cons, append_assoc, rules}
 use Rattle.std.proofs.lemmas.Bool.{cond-true}
 use Rattle.avr_part.specs.State.{ChipState, spi_of}
 use Rattle.stk_emu.specs.Programmer.{Programmer, in_mode, fail, with_address_moved, with_instructions, sent_to, flash_loads, flash_looks, eeprom_looks, extension, look, at_address, for_half, word_at, byte_address}

@@ -1,13 +1,12 @@
 -- Blocks of flash at once are blocks instruction by instruction.
-use Rattle.std.proofs.Common.{◌≡◌, ℕ, zero, suc, ◌+◌, ◌-◌, ◌*◌, ◌/◌, ◌%◌, ◌≤◌, ◌<◌, List, [], ◌∷◌, length, get_or, refl, sym, ap, ap₂, ◌∙◌, arith, Bool, true, false, cond, Some, None, rules}
-use Rattle.std.specs.Prelude.{nat_le}
+use Rattle.std.proofs.Common.{◌≡◌, ℕ, zero, suc, ◌+◌, ◌-◌, ◌*◌, ◌/◌, ◌%◌, ◌≤◌, ◌<◌, List, [], ◌∷◌, length, refl, sym, ap, ◌∙◌, arith, Bool, true, false, cond, Some, None, rules}
 use Rattle.std.proofs.lemmas.Bool.{leb-true, false≢true, and_parts}
 use Rattle.avr_part.specs.State as chip
 use Rattle.avr_part.specs.State.{half_offset}
 use Rattle.avr_part.specs.declared.instruction.Instruction.TheVariants.{LoadFlash}
-use Rattle.avr_part.specs.Block.{half_at, loaded_in_turn, read_in_turn, load_block, flash_block, is_in_page, is_in_flash}
+use Rattle.avr_part.specs.Block.{half_at, loaded_in_turn, read_in_turn, load_block, flash_block, is_in_flash}
 use Rattle.avr_part.proofs.Blocks.{offset_at}
-use Rattle.stk_emu.specs.Programmer.{sent_to, extension, flash_loads, flash_looks, for_half, word_at, at_address, high, low}
+use Rattle.stk_emu.specs.Programmer.{sent_to, extension, flash_loads, flash_looks, word_at, high, low}
 use Rattle.stk_emu.proofs.Memories.Blocks.{sent-append}
 use Rattle.stk_emu.proofs.Memories.Pages.{extended_is, load_byte}
 use Rattle.stk_emu.proofs.Memories.BlocksRead.{look_by, look_byte}

@@ -1,5 +1,5 @@
 -- A page of flash is loaded and written.
-use Rattle.std.proofs.Common.{◌≡◌, ℕ, suc, ◌+◌, ◌*◌, ◌/◌, ◌%◌, ◌≤◌, ◌<◌, List, [], ◌∷◌, ◌++◌, length, set, map, refl, sym, ap, ◌∙◌, subst, arith, inl, inr, Bool, true, false, cond, replicate, rules}
+use Rattle.std.proofs.Common.{◌≡◌, ℕ, suc, ◌+◌, ◌*◌, ◌/◌, ◌%◌, ◌<◌, List, [], ◌∷◌, ◌++◌, length, set, map, refl, ap, ◌∙◌, arith, Bool, true, false, cond, replicate, rules}
 use Rattle.std.proofs.lemmas.Nat.{mod-mul-add}
 use Rattle.std.proofs.lemmas.Nat.Gcd.{dvd_of_mod-eq-zero}
 use Rattle.std.proofs.Math.Nat.{mod-mod_of_dvd, mod-eq_of_lt, mul-div_cancel, mul_assoc, dvd-mul_right, dvd_trans}
@@ -7,7 +7,7 @@ use Rattle.std.proofs.lemmas.Bool.{ne_eqb, eq-eqb, eqb-true, eqb-false, and_from
 use Rattle.std.proofs.lemmas.List.{append-nil, map-id}
 use Rattle.std.specs.Prelude.{◌==◌, ◌&&◌, not, nat_lt, bit_or}
 use Rattle.avr_part.specs.Part.{Part, IsPart}
-use Rattle.avr_part.specs.Memory.{map_indexed, byte_and_page, page_start, blank}
+use Rattle.avr_part.specs.Memory.{map_indexed, byte_and_page, blank}
 use Rattle.avr_part.specs.State as chip
 use Rattle.stk_frame.specs.declared.command.Command.TheVariants.{LoadAddress}
 use Rattle.stk_frame.specs.Commands.{body}

@@ -1,5 +1,5 @@
 -- A run of EEPROM bytes is loaded and written.
-use Rattle.std.proofs.Common.{◌≡◌, ℕ, suc, ◌+◌, ◌*◌, ◌/◌, ◌%◌, ◌<◌, List, [], ◌∷◌, ◌++◌, length, set, refl, sym, ap, ◌∙◌, subst, arith, true, false, cond, replicate, Option, Some, None, rules}
+use Rattle.std.proofs.Common.{◌≡◌, ℕ, suc, ◌+◌, ◌*◌, ◌/◌, ◌%◌, ◌<◌, List, [], ◌∷◌, ◌++◌, length, set, refl, ap, ◌∙◌, arith, true, false, cond, replicate, Some, None, rules}
 use Rattle.std.proofs.lemmas.Nat.{div-add-mod', mod-mul-add}
 use Rattle.std.proofs.Math.Nat.{mod-mod_of_dvd, dvd_of_mod-eq-zero, mod-eq_of_lt}
 use Rattle.std.proofs.lemmas.Bool.{ne_eqb, eq-eqb, and_from, lt-leb, cond-true}
@@ -11,7 +11,7 @@ use Rattle.avr_part.specs.State as chip
 use Rattle.stk_frame.specs.declared.command.Command.TheVariants.{LoadAddress}
 use Rattle.stk_frame.specs.Commands.{body}
 use Rattle.stk_frame.specs.HostCommands.{program_eeprom_block}
-use Rattle.stk_emu.specs.Programmer.{Programmer, sent_to, eeprom_loads, eeprom_writes, byte_address, with_address_moved, with_instructions, high, low}
+use Rattle.stk_emu.specs.Programmer.{Programmer, sent_to, eeprom_loads, eeprom_writes, byte_address, with_address_moved, with_instructions, low}
 use Rattle.stk_emu.specs.Device.{device}
 use Rattle.stk_emu.specs.Effect.{Memories, with_image}
 use Rattle.stk_emu.specs.Settled.{Ready}

@@ -1,15 +1,14 @@
 -- What a wire keeps, as frames pass and items are received.
-use Rattle.std.proofs.Common.{◌≡◌, ℕ, List, [], ◌∷◌, ◌++◌, length, drop, refl, ap, sym, ◌∙◌, subst, append_assoc, rules}
+use Rattle.std.proofs.Common.{◌≡◌, ℕ, List, [], ◌∷◌, ◌++◌, length, drop, refl, ap, sym, ◌∙◌, append_assoc, rules}
 use Rattle.std.proofs.lemmas.List.{append-nil, take-append-drop}
 use Rattle.stk_frame.specs.Cut.{frames}
-use Rattle.stk_frame.specs.Reader.{MayHold}
 use Rattle.stk_host.specs.Tape.{Tape}
 use Rattle.stk_host.specs.Transcript.{Transcript, Sent, Got, sent, heard}
 use Rattle.stk_host.proofs.Transcripts.Laws.{sent_append, heard_append}
 use Rattle.stk_emu.specs.declared.fate.Fate.{Fate}
 use Rattle.stk_emu.specs.Programmer.{Programmer}
-use Rattle.stk_emu.specs.Device.{Device, device}
-use Rattle.stk_emu.specs.Wire.{Wire, fresh_wire, arrival, wire_behind, tape_of, wire_after}
+use Rattle.stk_emu.specs.Device.{Device}
+use Rattle.stk_emu.specs.Wire.{Wire, arrival, wire_behind, tape_of, wire_after}
 use Rattle.stk_emu.specs.Wired.{WiredState, FollowsFates, NeverIdle, PassesBytes, IsNext, after_hearing}
 use Rattle.stk_emu.proofs.Answers.Texts.{frames_fed}
 

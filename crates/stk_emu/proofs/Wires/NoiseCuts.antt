@@ -1,11 +1,11 @@
 -- Noise, cut piece by piece.
-use Rattle.std.proofs.Common.{◌≡◌, ◌≢◌, ℕ, ◌+◌, ◌-◌, subst, arith, length-drop, List, [], ◌∷◌, ◌++◌, length, take, drop, refl, ap, sym, ◌∙◌, true, inl, inr, rules}
+use Rattle.std.proofs.Common.{◌≡◌, ◌≢◌, ℕ, ◌+◌, ◌-◌, length-drop, List, [], ◌∷◌, ◌++◌, length, take, drop, refl, ap, sym, ◌∙◌, true, inl, inr, rules}
 use Rattle.std.specs.Prelude.{filter}
 use Rattle.std.proofs.lemmas.Bool.{cases_Bool, cond-true}
 use Rattle.std.proofs.lemmas.List.{take-append-drop, take_all}
 use Rattle.std.proofs.Math.Seq.{take-add}
 use Rattle.std.proofs.lemmas.List.Elements.{filter-append}
-use Rattle.stk_frame.specs.Cut.{cut, rest, is_frame, is_good}
+use Rattle.stk_frame.specs.Cut.{cut, is_frame, is_good}
 use Rattle.stk_frame.specs.Reader.{MayHold, Fed}
 use Rattle.stk_frame.proofs.Cuts.{cut_append}
 

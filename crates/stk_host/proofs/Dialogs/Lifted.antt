@@ -1,10 +1,10 @@
 -- A dialog without output, as a part of one with output: laws for the crates above.
-use Rattle.std.proofs.Common.{◌≡◌, ℕ, List, [], ◌∷◌, ◌++◌, refl, sym, ap, ◌∙◌, Some, None, rules}
+use Rattle.std.proofs.Common.{◌≡◌, ℕ, List, [], ◌∷◌, ◌++◌, refl, ap, ◌∙◌, Some, None, rules}
 use Rattle.stk_frame.specs.Frame.{frame}
 use Rattle.stk_host.specs.declared.fault.Broken.{Broken}
 use Rattle.stk_host.specs.declared.fault.Broken.TheVariants as broken
-use Rattle.stk_host.specs.Tape.{Tape, on_tape, answer}
-use Rattle.stk_host.specs.Transcript.{Transcript, heard}
+use Rattle.stk_host.specs.Tape.{Tape, answer}
+use Rattle.stk_host.specs.Transcript.{Transcript}
 use Rattle.stk_host.specs.Dialog.{Dialog, Done, Say, Ask, lifted, Event, Frame, Said, Played, played, behind, by_answer, next, bytes_sent, outputs}
 use Rattle.stk_host.specs.Play.{Progress, IsDue, InTurn, Plays, BreaksBy}
 use Rattle.stk_host.proofs.Transcripts.InDialogs.{turns_behind}

@@ -1,5 +1,5 @@
 -- A call breaks off in one way: laws of every dialog, and LEAVE as a worked call.
-use Rattle.std.proofs.Common.{◌≡◌, ℕ, ◌<◌, List, [], ◌∷◌, ◌++◌, length, length-append, refl, sym, ap, ◌∙◌, subst, arith, Err, rules}
+use Rattle.std.proofs.Common.{◌≡◌, ℕ, ◌<◌, List, [], ◌∷◌, length, length-append, refl, sym, subst, arith, Err, rules}
 use Rattle.stk_host.specs.declared.fault.Broken.TheVariants as broken
 use Rattle.stk_host.specs.declared.fault.HostFault.TheVariants.{SendFailed, RecvFailed}
 use Rattle.stk_host.specs.declared.link.Item.TheVariants.{Silence}

@@ -1,5 +1,5 @@
 -- The bytes in front of a tape.
-use Rattle.std.proofs.Common.{◌≡◌, ◌∙◌, ◌-◌, min, drop, length-append, length-drop, sym, set, add-one, ◌≤◌, ◌<◌, ◌+◌, ℕ, zero, suc, List, [], ◌∷◌, ◌++◌, length, take, slice_get, Some, None, refl, ap, arith, rules}
+use Rattle.std.proofs.Common.{◌≡◌, ◌∙◌, ◌-◌, min, drop, length-append, length-drop, set, add-one, ◌≤◌, ◌<◌, ◌+◌, ℕ, zero, suc, List, [], ◌∷◌, ◌++◌, length, take, slice_get, Some, None, refl, ap, arith, rules}
 use Rattle.std.proofs.lemmas.List.{take_all, take_more_set, take-append-le, length-take, take_rest}
 use Rattle.stk_host.specs.declared.link.Heard.{Heard}
 use Rattle.stk_host.specs.declared.link.Heard.TheVariants as heard

@@ -9,7 +9,7 @@ use Rattle.stk_frame.proofs.FedReaders.{rest_whole}
 use Rattle.stk_host.specs.declared.link.Heard.{Heard}
 use Rattle.stk_host.specs.declared.link.Heard.TheVariants as heard
 use Rattle.stk_host.specs.declared.link.Item.{Item}
-use Rattle.stk_host.specs.declared.link.Item.TheVariants.{Byte, Silence, End}
+use Rattle.stk_host.specs.declared.link.Item.TheVariants.{Silence, End}
 use Rattle.stk_host.specs.Tape.{Tape, Reading, on_tape, answer, first_answer, is_answer, limit, Answered, Silent, Ended, Babbled}
 use Rattle.stk_host.specs.Transcript.{Transcript, LinkState, Got, heard as heard_in, Grows}
 use Rattle.stk_host.specs.Reach.{WaitsFrom, Hears, HearsNone}

@@ -1,11 +1,11 @@
 -- A log with one more mark.
-use Rattle.std.proofs.Common.{◌≡◌, ℕ, zero, suc, ◌+◌, ◌≤◌, List, [], ◌∷◌, ◌++◌, length, take, drop, refl, ap, ◌∙◌, arith, length-append, rules}
+use Rattle.std.proofs.Common.{◌≡◌, ℕ, zero, suc, ◌+◌, ◌≤◌, List, [], ◌∷◌, ◌++◌, length, take, drop, refl, ap, arith, length-append, rules}
 use Rattle.std.proofs.lemmas.List.{take-append-le, take-append-drop, length-drop}
 use Rattle.stk_host.specs.declared.log.Mark.{Mark}
 use Rattle.stk_host.specs.declared.log.Mark.TheVariants as mark
 use Rattle.stk_host.specs.declared.link.Item.TheVariants as item
 use Rattle.stk_host.specs.Tape.{on_tape, bytes_of}
-use Rattle.stk_host.specs.Transcript.{Transcript, Sent, Got, sent, heard}
+use Rattle.stk_host.specs.Transcript.{Transcript, Got, sent, heard}
 use Rattle.stk_host.specs.Log.{transcript_of, out_count, back_count}
 use Rattle.stk_host.proofs.Tapes.Answers.{bytes_of_append, bytes_of_on_tape}
 

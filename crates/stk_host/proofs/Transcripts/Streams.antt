@@ -1,12 +1,12 @@
 -- What a writer with known bytes has taken, and a reader with known bytes has given.
-use Rattle.std.proofs.Common.{◌≡◌, ◌∙◌, ℕ, List, [], ◌∷◌, ◌++◌, take, Option, None, Some, sym, ap, append_assoc, append-nil, arith, rules}
-use Rattle.std.proofs.KnownBytes.{Consumes-nil, Consumes-trans, Consumes-kept, Appends-nil, Appends-trans}
+use Rattle.std.proofs.Common.{◌≡◌, ◌∙◌, ℕ, List, [], ◌∷◌, ◌++◌, take, Option, None, Some, append_assoc, append-nil, rules}
+use Rattle.std.proofs.KnownBytes.{Consumes-nil, Consumes-kept}
 use Rattle.std.specs.Io.KnownBytes.{Keeps, Appends, Consumes}
 use Rattle.stk_host.specs.declared.link.Heard.{Heard}
 use Rattle.stk_host.specs.declared.link.Heard.TheVariants as hears
 use Rattle.stk_host.specs.Links.{StreamState, IsTrueSince, HearsKnown, AppendsPrefix}
 use Rattle.stk_host.specs.Tape.{bytes_of}
-use Rattle.stk_host.specs.Transcript.{Transcript, Sent, Got, heard, items_of}
+use Rattle.stk_host.specs.Transcript.{Sent, Got, items_of}
 use Rattle.stk_host.proofs.Transcripts.Laws.{sent_append, heard_append}
 use Rattle.stk_host.proofs.Tapes.Answers.{bytes_of_append, bytes_of_on_tape}
 

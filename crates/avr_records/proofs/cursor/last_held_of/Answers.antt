@@ -1,6 +1,5 @@
 use Rattle.std.proofs.Common.{◌∙◌}
 use Rattle.std.proofs.Common.{sym}
-use Rattle.std.proofs.Common.{ap}
 use Rattle.std.proofs.Common.{refl}
 use Rattle.std.proofs.Common.{ℕ}
 use Rattle.std.proofs.Common.{◌+◌}
@@ -8,9 +7,7 @@ use Rattle.std.proofs.Common.{◌-◌}
 use Rattle.std.proofs.Common.{◌<◌}
 use Rattle.std.proofs.Common.{List}
 use Rattle.std.proofs.Common.{length}
-use Rattle.std.proofs.Common.{drop}
 use Rattle.std.proofs.Common.{Option}
-use Rattle.avr_records.specs.Sparse.{last_held}
 use Rattle.avr_records.proofs.Writers.SparseWalk.{Walked}
 use Rattle.std.proofs.lemmas.Bool.Decides.{nat_tests}
 use Rattle.std.proofs.Common.{arith}

@@ -1,6 +1,4 @@
 use Rattle.std.proofs.Common.{inl}
-use Rattle.std.proofs.lemmas.Bool.Decides.{nat_tests}
-use Rattle.std.proofs.Common.{arith}
 use Rattle.std.proofs.lemmas.Result.{err_from_is_err_and}
 use Rattle.avr_records.proofs.Readers.WholeFiles.{new-told}
 use Rattle.avr_records.proofs.reader.read_records.Goals as goal
