@@ -26,11 +26,6 @@ use Rattle.avr_laws.specs.AnyLine.{OverTurns, WholeOverTurns}
 use Rattle.avr_laws.proofs.OverTurns.{asks, over_turns, comes_over_turns}
 use Rattle.avr_laws.proofs.Reports.OverTape.{by_tape}
 
--- a transcript that began empty is what passed since
-pub since_none : (old now during transcript : Transcript) → old ≡ [] → now ≡ transcript → Grows old during now
-    → during ≡ transcript
-since_none old now during transcript none is grows = sym (subst (λ o. Grows o during now) none grows) ∙ is
-
 -- the transcript of a session is in turn, and the bytes sent are a prefix of what it sends over what was received
 abbrev pub IsFirst : Plan → Transcript → Type 0
 IsFirst plan transcript = InTurn (session plan) start transcript
@@ -60,7 +55,7 @@ sent_first plan old new status silent runs = elim runs [
     now : (during : Transcript) → Grows old.link.transcript during new.link.transcript → IsFirst plan during
         → IsFirst plan new.link.transcript
     now during grows first =
-        search (rules, since_none)
+        search rules
 
 module _ (plan : Plan) (s : chips.ChipState) (is_sound : IsSoundChip s) (part_is : s.part ≡ plan.part)
     (fitted : All (IsFitted plan.part) plan.tasks) where

@@ -25,7 +25,7 @@ use Rattle.stk_emu.specs.Wired.{WiredState, FollowsFates, ComesOf, IsFresh, wire
 use Rattle.avr_laws.specs.AnyLine.{memories, events_over, Stopped, WereTrue, OverTurns, ComesOverTurns, OverAnyLine}
 use Rattle.avr_laws.specs.Outcome.{page_writes}
 use Rattle.avr_laws.proofs.Lines.InTurn.{stands_along, whole_said, whole_done, honest_heard}
-use Rattle.avr_laws.proofs.AnyLink.{since_none, IsFirst, sent_first}
+use Rattle.avr_laws.proofs.AnyLink.{IsFirst, sent_first}
 use Rattle.avr_laws.proofs.OverTurns.{asks, over_turns, comes_over_turns}
 use Rattle.avr_laws.proofs.Reports.OverTape.{by_fates, said_prefix}
 
@@ -80,7 +80,7 @@ module _ (plan : Plan) (w v : WiredState) (fresh : IsFresh w) (stays : Stays Com
       × Passes (after_all (outputs (events_over plan v))) old now
   came whole =
       let plays : Plays (session plan) start v.transcript whole.1.events status whole.0 =
-      search (rules, since_none)
+      search rules
       in
       let same : whole.1.events ≡ events_over plan v =
       sym (ap (λ t. (played (session plan) 1 t).events) (sym (append-nil (heard v.transcript)))
@@ -125,9 +125,9 @@ module _ (plan : Plan) (w v : WiredState) (d e : DeskState) (status : ℕ) (sile
       → AreTrue whole.1.events
   played_truly whole =
       let over_heard = ap (λ t. (played (session plan) 1 t).events)
-      (search (rules, since_none, append-nil)) in
+      (search (rules, append-nil)) in
       subst AreTrue (over_heard ∙ ap (λ x. x.events) (whole.1.plays.plays [])) over.line.believable
 
   pub stopped_truly : (stopped : Stopped plan w v d e) → AreTrue stopped.breaks.prefix.whole
   stopped_truly stopped =
-      search (rules, since_none, said_prefix, over)
+      search (rules, said_prefix, over)

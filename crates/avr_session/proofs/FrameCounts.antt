@@ -38,7 +38,7 @@ pub plan_commands : (plan : Plan) → commands_in (run_steps plan)
     ≡ 6 + commands_in (actions_steps plan.part (erase_actions plan.switches plan.tasks))
     + commands_in (actions_steps plan.part (tasks_actions plan.switches plan.tasks))
 plan_commands plan =
-    search (rules, commands_append, actions_append)
+    search (rules, commands_append)
 
 pub two_used : (part : Part) (image : List (Option ℕ)) (page : ℕ)
     → is_used part.flash_page image (page * part.flash_page) ≡ true → 2 ≡ commands_in (page_steps part image page)
@@ -87,16 +87,13 @@ pub counts_first : (plan : Plan) (erase : ℕ)
 counts_first plan erase is =
     ap (min most) (ap (λ (n : ℕ). 6 + n + left plan 0) is ∙ sym (plan_commands plan))
 
-saturates : (m a b rest : ℕ) → min m (min (a + b) m + rest) ≡ min m (a + (b + rest))
-saturates m a b rest = omega arith
-
 pub counts_on : (plan : Plan) (i count more next : ℕ) (task : Task)
     → drop i plan.tasks ≡ task ∷ drop (i + 1) plan.tasks
     → more ≡ commands_in (actions_steps plan.part (task_actions plan.switches task))
     → next ≡ min (count + more) most → min most (count + left plan i) ≡ min most (all plan)
     → min most (next + left plan (i + 1)) ≡ min most (all plan)
 counts_on plan i count more next task cut more_is next_is counted =
-    search (rules, actions_append, saturates)
+    search (rules, actions_append)
 
 pub counts_all : (plan : Plan) (i count : ℕ) → drop i plan.tasks ≡ [] → count ≤ most
     → min most (count + left plan i) ≡ min most (all plan) → count ≡ min most (all plan)

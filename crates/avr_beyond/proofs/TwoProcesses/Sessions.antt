@@ -39,7 +39,7 @@ use Rattle.avr_beyond.specs.TwoProcesses.{EndCall, of_host, of_server, IsJoined,
 use Rattle.avr_beyond.proofs.TwoProcesses.Meeting.{meet_honest, meet_leaves, meet_sent, meet_ends, meet_straight, has_served}
 use Rattle.avr_beyond.proofs.TwoProcesses.NeverSilent.{prompt_stalls}
 use Rattle.avr_beyond.proofs.TwoProcesses.Misses.{session_few}
-use Rattle.avr_laws.proofs.AnyLink.{since_none, over_any_line, over_any_end, IsFirst, sent_first}
+use Rattle.avr_laws.proofs.AnyLink.{over_any_line, over_any_end, IsFirst, sent_first}
 
 -- whenever something is received, all earlier answers had been sent
 answered_at : (p : Programmer) (text answered : List ℕ) (before after : Transcript) (items : Tape)
@@ -214,13 +214,13 @@ module _ (plan : Plan) (s : chips.ChipState) (is_sound : IsSoundChip s) (part_is
         → (serves : ServesChip s file most server_old server_new served_status)
         → HasServed (fresh_programmer s) (of_server calls) serves.left.programmer
     served_all none some serves =
-        search (rules, since_none, has_served)
+        search (rules, has_served)
 
     played_all : (after : Progress) → old.link.transcript ≡ [] → new.link.transcript ≡ of_host calls
         → (ran : Ran (session plan) start old new status after)
         → Plays (session plan) start (of_host calls) ran.events status after
     played_all after none some ran =
-        search (rules, since_none)
+        search rules
 
     pub one_run : (after : Progress) → IsOrdered calls → StallsBetweenAnswers (heard (of_host calls))
         → old.link.transcript ≡ [] → new.link.transcript ≡ of_host calls → server_old.link.transcript ≡ []

@@ -120,13 +120,6 @@ abbrev pub Reads : ℕ → ℕ → ℕ → Tape → List ℕ → List (List ℕ)
 Reads n c count t last more answers = Finds n t last more answers
     ⊎ (FindsNone n c count t last more answers ⊎ Waits n t more answers)
 
-few_more : (n c count : ℕ) (t : Tape) (last : List ℕ) (more answers : List (List ℕ))
-    → Reads n c count t last more answers → Reads n c (suc count) t last more answers
-few_more n c count t last more answers (inl r) = inl r
-few_more n c count t last more answers (inr (inl r)) =
-    search rules
-few_more n c count t last more answers (inr (inr r)) = inr (inr r)
-
 old_length : (n c : ℕ) (piece : List ℕ) → IsOld n c piece → length piece ≤ 281
 old_length n c piece o = let few = o.carried.few in rw (o.is, length_frame o.seq o.bytes) (omega (arith, few))
 
@@ -160,7 +153,7 @@ module _ (n c : ℕ) (most : c ≤ 255) (last : List ℕ) (stub : IsStub last) (
       let inner = reads (prefix ++ first) slots old answers (passed_on n c prefix first most passed are_old.0)
       (rw (length-append prefix first) (omega (arith, short, length_is))) are_old.1 own
       (tail_is piece first (came slots ++ more) (old ++ answers) e) in
-      search (rules, few_more, on_tape_append, append_assoc)
+      search (rules, on_tape_append, append_assoc)
   reads prefix (Came piece ∷ slots) [] [] passed short are_old own e =
       absurd (cons_none piece (came slots ++ more) (sym e))
   reads prefix (Came piece ∷ slots) [] (first ∷ later) passed short are_old own e =

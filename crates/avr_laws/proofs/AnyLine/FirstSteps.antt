@@ -94,10 +94,6 @@ module _ (part : Part) where
         stands = search (rules, changed_behind, all_changed);
       })
 
-  pub fits_on : (xs ys : List Item) → AllFitItems part xs → AllFitItems part ys → AllFitItems part (xs ++ ys)
-  fits_on [] ys f g = g
-  fits_on (item ∷ xs) ys f g = (f.0, fits_on xs ys f.1 g)
-
 -- steps that write nothing
 abbrev IsQuiet : List Command → Type 0
 IsQuiet commands = page_write_of commands ≡ []

@@ -54,12 +54,6 @@ steps_light (commands ∷ steps) s =
     let more = steps_light steps s.1 in
     search (rules, weighed_append)
 
-reads_sendable : (place : ℕ) → AreSendable (read_signature place ∷ [])
-reads_sendable place = (record { some = omega arith; few = omega arith }, tt)
-
-opening_sendable : EachSendable opening_steps
-opening_sendable = search (rules, reads_sendable)
-
 closing_sendable : EachSendable closing_steps
 closing_sendable = ((record { some = omega arith; few = omega arith }, tt), tt)
 
@@ -82,7 +76,7 @@ module _ (part : Part) (sound : IsPart part) where
 
 run_sendable : (plan : Plan) → IsPart plan.part → All (IsFitted plan.part) plan.tasks → EachSendable (run_steps plan)
 run_sendable plan sound fitted =
-    search (rules, work, each_on, opening_sendable, actions_sendable, work_fits, closing_sendable)
+    search (rules, work, each_on, actions_sendable, work_fits, closing_sendable)
 
 -- every question of a session
 pub session_asks : (plan : Plan) → IsPart plan.part → All (IsFitted plan.part) plan.tasks → AsksBodies (session plan)

@@ -57,17 +57,12 @@ makes_none part m d p turns After l = record {
   complete = λ k e. refl;
 }
 
-counted_most : (d : Dialog ⊥ StepOutcome) (n total : ℕ) → n ≤ total → step_count d n ≤ suc total
-counted_most (Done (Ok bytes)) n total l = omega (arith, l)
-counted_most (Say s d) n total l = absurd s
-counted_most d n total l = omega arith
-
 steps_most : (steps : List (List Command)) (k : ℕ) (p : Programmer) (turns : List Turn)
     → steps_done device steps k p turns ≤ length steps
 steps_most [] k p turns = omega arith
 steps_most (commands ∷ steps) k p turns =
     let s = along device k (step commands) p turns in
-    search (rules, counted_most, steps_most steps s.left s.programmer s.turns)
+    search (rules, steps_most steps s.left s.programmer s.turns)
 
 module _ (part : Part) (sound : IsPart part) where
   -- the steps of items

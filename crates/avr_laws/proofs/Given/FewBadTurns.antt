@@ -180,17 +180,9 @@ some_bad : (became : Became) → 1 ≤ bad_became became
 some_bad Kept = omega arith
 some_bad became = omega arith
 
-few_stands : (became : Became) → bad_became became ≤ 3 → Stands became
-few_stands (Anew became) le = omega (arith, le)
-few_stands became le = tt
-
-few_goes_on : (instead : Instead) → bad_instead instead ≤ 2 → GoesOn instead
-few_goes_on Ending le = omega (arith, le)
-few_goes_on instead le = tt
-
 not_four : (turn : Turn) → bad turn ≤ 3 → IsSteady turn
 not_four Right le = tt
-not_four (Wrong became instead) le = search (rules, few_stands, few_goes_on, some_bad)
+not_four (Wrong became instead) le = search (rules, some_bad)
 
 -- if few turns go wrong, none restarts the programmer
 few_steady : (turns : List Turn) → AreFew turns → AreSteady turns

@@ -22,15 +22,10 @@ fresh_idle s sound = search rules
 pub fresh_fits : (s : chip.ChipState) → IsSoundChip s → FitsPart s.part (memories_of s)
 fresh_fits s sound = record { flash = sound.flash_size; eeprom = sound.eeprom_size; bytes = sound.flash }
 
-one_some : (commands : List Command) (c : Command) (more : List Command) (steps : List (List Command))
-    → commands ≡ c ∷ more → AreSome steps → AreSome (commands ∷ steps)
-one_some [] c more steps e some = cc
-one_some (d ∷ commands) c more steps e some = some
-
 -- a step has a command
 pub are_some : (part : Part) (steps : List (List Command)) → AreSteps part steps → AreSome steps
 are_some part [] are = tt
-are_some part (commands ∷ steps) are = search (rules, one_some, are_some part steps are.1)
+are_some part (commands ∷ steps) are = search (rules, are_some part steps are.1)
 
 pub steps_climb : (part : Part) (steps : List (List Command)) (m : Memories) (k : ℕ) (before : List ℕ) (p : Programmer)
     (turns : List Turn)

@@ -20,22 +20,12 @@ use Rattle.stk_emu.proofs.Memories.BlocksRead.{Left, flash_left, eeprom_left}
 flash_test : (n : ℕ) → 0 < n → n % 2 ≡ 0 → n ≤ 256 → (not (n == 0) && (n % 2 == 0) && nat_le n 272) ≡ true
 flash_test n some even few = search (rules, and_from, ne_eqb, eq-eqb, le-leb)
 
-eeprom_test : (n : ℕ) → 0 < n → n ≤ 256 → (not (n == 0) && nat_le n 272) ≡ true
-eeprom_test n some few = and_from _ _ (ap not (ne_eqb n 0 (λ e. omega (arith, e)))) (le-leb n 272 (omega arith))
-
 -- a block of flash
 pub flash_block : (count : ℕ) (p : Programmer) → p.mode ≡ true → 0 < count → count % 2 ≡ 0 → count ≤ 256
     → (device.answer (body (read_flash_block count)) p, device.after (body (read_flash_block count)) p)
     ≡ block 0x14 (flash_looks p.wide 0x20 p.address 0 count p.chip) (with_address_moved (count / 2) p)
 flash_block count p mode some even few =
     search (rules, obeys, cond-true, flash_test)
-
--- a block of EEPROM
-pub eeprom_block : (count : ℕ) (p : Programmer) → p.mode ≡ true → 0 < count → count ≤ 256
-    → (device.answer (body (read_eeprom_block count)) p, device.after (body (read_eeprom_block count)) p)
-    ≡ block 0x16 (eeprom_looks 0xA0 p.address 0 count p.chip) (with_address_moved count p)
-eeprom_block count p mode some few =
-    search (rules, obeys, cond-true, eeprom_test)
 
 module _ (part : Part) (sound : IsPart part) where
   narrow_test : IsNarrow part → is_wide part ≡ false
@@ -57,4 +47,4 @@ module _ (part : Part) (sound : IsPart part) where
       → Ready part m p
       → Ready part m (device.after (body (read_eeprom_block count)) (device.after (body (load_eeprom start)) p))
   eeprom_read_keeps start count m p is_block s =
-      search (rules, narrow_loaded, eeprom_block, eeprom_left)
+      search (rules, narrow_loaded, eeprom_left)

@@ -25,9 +25,9 @@ use Rattle.stk_emu.specs.PageWrites.{changed, page_write_of, IsStep, Erases, Pro
 use Rattle.stk_emu.specs.Given.{given_by, on_data, reply_to, joined_reply, Gives}
 use Rattle.stk_emu.proofs.Answers.Commands.{obeys, load_keeps, settled_ready}
 use Rattle.stk_emu.proofs.Memories.Pages.{is_wide, flash_loaded_at, flash_address_back, flash_test}
-use Rattle.stk_emu.proofs.Memories.Runs.{narrow_loaded, program_test}
+use Rattle.stk_emu.proofs.Memories.Runs.{narrow_loaded}
 use Rattle.stk_emu.proofs.Memories.BlocksRead.{Looked, flash_looked, eeprom_looked}
-use Rattle.avr_laws.proofs.Given.ReadAnswers.{flash_block, eeprom_block}
+use Rattle.avr_laws.proofs.Given.ReadAnswers.{flash_block}
 use Rattle.avr_laws.proofs.PageWrites.Steps.{address_fits}
 use Rattle.avr_laws.proofs.PageWrites.OutsideMode.{in_mode_by_data, load_reply}
 use Rattle.avr_laws.proofs.PageWrites.Items.{effect_sizes, flash_even}
@@ -42,11 +42,6 @@ module _ {P : Type 0} (m : Device P) where
   two_gathered c d p bytes e f =
       search rules
 
--- the answer to a command in programming mode
-reply_is : (c : Command) (p : Programmer) → decoding.FieldsFit c
-    → reply_to device c p ≡ reading_reply c (Answered (obey_command c p).0)
-reply_is c p fits = ap (λ (z : programmer.Response). reading_reply c (Answered z.0)) (obeys c p fits)
-
 in_mode_reply : (c : Command) (p : Programmer) (x y : programmer.Response) → p.mode ≡ true
     → reading_reply c (Answered (cond p.mode x y).0) ≡ reading_reply c (Answered x.0)
 in_mode_reply c p x y e = ap (λ (z : programmer.Response). reading_reply c (Answered z.0)) (cond-true p.mode x y e)
@@ -55,16 +50,6 @@ in_mode_reply c p x y e = ap (λ (z : programmer.Response). reading_reply c (Ans
 closed_data : (n : ℕ) (bytes : List ℕ) → length bytes ≡ n → data_of (Closed n) (bytes ++ 0 ∷ []) ≡ Ok bytes
 closed_data n bytes len =
     search (rules, length-append, get_or-append_right, take-append-le, take_all, cond-true, eq-eqb)
-
-page_reply : (page : List ℕ) (p : Programmer) → p.mode ≡ true → 0 < length page → length page < 65536
-    → length page % 2 ≡ 0 → reply_to device (program_page page) p ≡ Data []
-page_reply page p mode some few even =
-    search (rules, reply_is, in_mode_reply, cond-true, flash_test)
-
-run_reply : (run : List ℕ) (p : Programmer) → p.mode ≡ true → 0 < length run → length run < 65536
-    → reply_to device (program_eeprom_block run) p ≡ Data []
-run_reply run p mode some few =
-    search (rules, reply_is, in_mode_reply, cond-true, program_test)
 
 fuse_reply : (f : Fuse) (v : ℕ) (p : Programmer) → p.mode ≡ true → reply_to device (program_fuse f v) p ≡ Data []
 fuse_reply Low v p e = in_mode_reply (program_fuse Low v) p _ _ e
@@ -80,7 +65,7 @@ eeprom_read_reply : (count : ℕ) (bytes : List ℕ) (p : Programmer) → p.mode
     → (eeprom_looks 0xA0 p.address 0 count p.chip).0 ≡ bytes → length bytes ≡ count
     → reply_to device (read_eeprom_block count) p ≡ Data bytes
 eeprom_read_reply count bytes p mode some few is len =
-    search (rules, eeprom_block, closed_data)
+    search (rules, closed_data)
 
 module _ (part : Part) (sound : IsPart part) where
   block_length : (start count size : ℕ) (xs : List ℕ) → length xs ≡ size → start + count ≤ size
@@ -162,12 +147,12 @@ module _ (part : Part) (sound : IsPart part) where
   page_given : (number : ℕ) (bytes : List ℕ) (m : Memories) (p : Programmer) → IsPage part number bytes → Ready part m p
       → joined_reply device (load_flash part (number * part.flash_page) ∷ program_page bytes ∷ []) [] p ≡ Data []
   page_given number bytes m p is_page s =
-      search (rules, page_most, address_fits, load_keeps, two_gathered, load_reply, page_reply)
+      search (rules, page_most, address_fits, two_gathered, load_reply)
 
   run_given : (address : ℕ) (bytes : List ℕ) (m : Memories) (p : Programmer) → FitsEepromPage part address bytes
       → Ready part m p → joined_reply device (load_eeprom address ∷ program_eeprom_block bytes ∷ []) [] p ≡ Data []
   run_given address bytes m p is_run s =
-      search (rules, load_keeps, two_gathered, load_reply, run_reply)
+      search (rules, two_gathered, load_reply)
 
   -- all commands of a step, each obeyed and answered
   pub step_data : (commands : List Command) (m : Memories) (p : Programmer) → IsStep part commands → FitsPart part m

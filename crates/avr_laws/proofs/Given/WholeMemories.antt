@@ -39,10 +39,9 @@ module _ (part : Part) (sound : IsPart part) (m : Memories) (f : FitsPart part m
       let next : (n + 1) * 256 ≡ n * 256 + 256 = omega arith in
       search (
         rules,
-        flash_address_back,
         block_join,
-        flash_blocks (n + 1) k (let g : n + 1 + k ≡ n + suc k = omega
-            arith in g ∙ e) ∙ ap (λ j. drop j m.flash) next,
+        flash_blocks (n + 1) k (let g : n + 1 + k ≡ n + suc k = omega arith in g ∙ e)
+            ∙ ap (λ j. drop j m.flash) next,
       )
 
   eeprom_blocks : (n k : ℕ) → n + k ≡ read_count part Eeprom

@@ -18,30 +18,11 @@ use Rattle.avr_laws.specs.AnyTape.{first_became, other_becames, on_answer, AreHo
 use Rattle.avr_laws.proofs.Given.LaterAnswers.{answer_extends}
 use Rattle.avr_laws.proofs.Lines.Plays.{played_along, said_played, done_played, waits_played}
 
--- every turn is honest
-pub turn_honest : {P : Type 0} (m : Device P) (bytes : List ℕ) (p : P) (turn : Turn)
-    → IsHonest m bytes p (became_in turn) (turn_reading turn (m.answer bytes p))
-turn_honest m bytes p Right = inl (refl, refl)
-turn_honest m bytes p (Wrong became Refusal) = inr refl
-turn_honest m bytes p (Wrong became instead) = tt
-
 -- every honest reading is a turn
 abbrev IsTurn : {P : Type 0} → Device P → List ℕ → P → Became → Reading → Turn → Type 0
 IsTurn m bytes p became reading turn =
     (turn_reading turn (m.answer bytes p) ≡ reading)
     × (after_turn turn (m.after bytes p) p m.reset ≡ after_became became (m.after bytes p) p m.reset)
-
-by_own : {P : Type 0} (m : Device P) (bytes : List ℕ) (p : P) (body : List ℕ) (told : Bool)
-    → (told ≡ true → body ≡ refusal) → (told ≡ false → body ≡ m.answer bytes p)
-    → IsTurn m bytes p Obeyed (Answered body) (if told then Wrong Obeyed Refusal else Right)
-by_own m bytes p body true cond-false own = (ap (λ x. Answered x) (sym (cond-false refl)), refl)
-by_own m bytes p body false cond-false own = (ap (λ x. Answered x) (sym (own refl)), refl)
-
-own_or_refused : {P : Type 0} (m : Device P) (bytes : List ℕ) (p : P) (body : List ℕ)
-    → IsHonest m bytes p Obeyed (Answered body) → bytes_eq body refusal ≡ false → body ≡ m.answer bytes p
-own_or_refused m bytes p body (inl own) other = own.1
-own_or_refused m bytes p body (inr is) other =
-    search (rules, bytes_eq-Decides)
 
 never_own : (became : Became) → became ≡ Obeyed → became ≡ Kept → ⊥
 never_own became e is = cc
@@ -52,7 +33,7 @@ not_anew became e = cc
 pub honest_turn : {P : Type 0} (m : Device P) (bytes : List ℕ) (p : P) (became : Became) (reading : Reading)
     → IsHonest m bytes p became reading → IsTurn m bytes p became reading (turn_by became reading)
 honest_turn m bytes p Obeyed (Answered body) h =
-    search (rules, by_own, bytes_eq-Decides, own_or_refused)
+    search (rules, bytes_eq-Decides)
 honest_turn m bytes p Kept (Answered body) (inl own) = absurd (never_own Kept own.0 refl)
 honest_turn m bytes p Kept (Answered body) (inr e) = (ap (λ x. Answered x) (sym e), refl)
 honest_turn m bytes p (Anew became) (Answered body) (inl own) = absurd (not_anew became own.0)

@@ -14,13 +14,7 @@ use Rattle.stk_emu.specs.Along.{along, AsksBodies}
 use Rattle.stk_emu.proofs.Answers.BodySizes.{AnswersBodies}
 use Rattle.stk_emu.proofs.Wires.Arrivals.{arrival_read, arrival_leaves, arrival_late}
 use Rattle.avr_laws.specs.AnyTape.{AreHonest}
-use Rattle.avr_laws.proofs.Lines.AnyTape.{turn_honest}
 use Rattle.avr_laws.proofs.Lines.Plays.{played_along, head_is, tail_is, cons_none}
-
-pub turn_leaves : {P : Type 0} (turn : Turn) (obeyed kept : P) (reset : P → P)
-    → after_turn turn obeyed kept reset ≡ after_became (became_in turn) obeyed kept reset
-turn_leaves Right obeyed kept reset = refl
-turn_leaves (Wrong became instead) obeyed kept reset = refl
 
 first_lawful : (fates : List Fate) → AreLawful fates → IsLawfulFate (first_fate fates)
 first_lawful [] l = tt
@@ -51,7 +45,7 @@ module _ {P : Type 0} (m : Device P) (answers : AnswersBodies m) where
       (wire_behind m (frame n bytes) w) sent
       (after_turn (turn_of (first_fate w.fates)) (m.after bytes w.programmer) w.programmer m.reset) turns
       → GoesOver m (Ask bytes go_on) n w (frame n bytes ∷ sent) w.programmer (turn_of (first_fate w.fates) ∷ turns)
-  answered bytes go_on n w sent turns read goes = search (rules, turn_honest, turn_leaves)
+  answered bytes go_on n w sent turns read goes = search rules
 
   -- along the turns of fates the first fate's turn comes first
   by_fates : {E R : Type 0} (bytes : List ℕ) (go_on : Reading → Dialog E R) (n : ℕ) (w : Wire P) (f : List ℕ)

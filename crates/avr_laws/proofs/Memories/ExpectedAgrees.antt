@@ -67,13 +67,9 @@ turns_working : (plan : Plan) (m : Memories)
     → Turns (working_expected plan m) (Agrees plan m) (effects plan.part (items plan) m)
 turns_working plan m = turns_actions plan.part plan.switches (actions plan) m
 
-fine_of_status : (s : Standing) → status_of s ≡ 0 → s ≡ Fine
-fine_of_status Fine e = refl
-fine_of_status at e = absurd (let no : ⊥ = omega (arith, e) in no)
-
 pub expected_status : (plan : Plan) (m : Memories) → (expected_run plan m).status ≡ 0 ↔ Agrees plan m
 expected_status plan m =
-    let turns = turns_working plan m in search (rules, fine_of_status)
+    let turns = turns_working plan m in search rules
 
 pub expected_memories : (plan : Plan) (m : Memories) → Agrees plan m
     → (expected_run plan m).memories ≡ effects plan.part (items plan) m

@@ -17,15 +17,11 @@ are_later : (item : Item) (xs : List Item) (addr : ℕ) (bytes : List ℕ) → A
 are_later item xs addr [] are = tt
 are_later item xs addr (b ∷ bytes) are = (inr are.0, are_later item xs addr bytes are.1)
 
-erase_later : (item : Item) (xs : List Item) → has_erase xs ≡ true → has_erase (item ∷ xs) ≡ true
-erase_later Erase xs has = refl
-erase_later (Write mem image) xs has = has
-
 -- an earlier item that the byte has nothing of
 later : (item : Item) (xs : List Item) (addr before after : ℕ) → IsMade xs addr before after
     → IsMade (item ∷ xs) addr before after
 later item xs addr before after m =
-    search (rules, erase_later, are_later)
+    search (rules, are_later)
 
 -- an erase
 erased : (xs : List Item) (addr before mid after : ℕ) → mid ≡ 255 → IsMade xs addr mid after

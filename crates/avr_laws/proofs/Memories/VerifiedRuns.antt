@@ -136,4 +136,4 @@ shown_succeeds part s image_of m mems kept shown =
     let tasks = map (λ mem. task.Verify mem (image_of mem)) mems in
     let plan : Plan = record { part = part; tasks = tasks; switches = s } in
     (expected_status plan m).1
-    (search (rules, plan_agrees, no_erase, none_writes, shown_agree))
+    (search (rules, no_erase, none_writes, shown_agree))

@@ -41,13 +41,6 @@ module _ {P : Type 0} (m : Device P) where
         (count : ℕ) × (done ≤ count) × (count ≤ suc before) × (At count s.programmer)
         × ((bytes : List ℕ) → s.dialog ≡ Done (Ok bytes) → count ≡ total)
 
-    first_rest : (total before : ℕ) (p : P) (s : LineState ⊥ StepOutcome P) → s.programmer ≡ p
-        → ((bytes : List ℕ) → s.dialog ≡ Done (Ok bytes) → ⊥) → At 0 p ⊎ At 1 p → Rest total s 0 before
-    first_rest total before p s is none (inl b) =
-        (0, omega arith, omega arith, subst (At 0) (sym is) b, λ bytes e. absurd (none bytes e))
-    first_rest total before p s is none (inr a) =
-        (1, omega arith, omega arith, subst (At 1) (sym is) a, λ bytes e. absurd (none bytes e))
-
     -- the rest after a step that gave data, by how many questions are left
     behind : (left k : ℕ) (steps : List (List Command)) (commands : List Command) (p : P) (turns : List Turn)
         (bytes : List ℕ) (t : LineState ⊥ StepOutcome P)
@@ -85,10 +78,10 @@ module _ {P : Type 0} (m : Device P) where
         behind (along m (suc k) (step commands) p turns).left k steps commands p turns bytes _ e refl
         (rest bytes (stepped.whole bytes e))
     climbs_from k steps commands p turns go_on (Done (Err fault)) e stepped rest =
-        search (rules, first_rest)
+        search rules
     climbs_from k steps commands p turns go_on (Say said dialog) e stepped rest = absurd said
     climbs_from k steps commands p turns go_on (Ask bytes more) e stepped rest =
-        search (rules, first_rest, onward)
+        search (rules, onward)
 
     -- before the first question
     none_asked : (command : Command) (commands : List Command) (steps : List (List Command)) (before : List ℕ) (p : P)

@@ -112,12 +112,6 @@ module _ {P : Type 0} (m : Device P) where
     at_most_from k (Done a) e = done_most k (along m k d p turns).left a e refl
     at_most_from k x e = let l = t.at_most k in let b = first_below (k - 1) in omega (arith, l, b)
 
-    stands_from : (k : ℕ) (x : Dialog E A) (e : (along m k d p turns).dialog ≡ x)
-        → At (total k x e) (onward m next (along m k d p turns).left (along m k d p turns).turns
-        (along m k d p turns).programmer x).programmer
-    stands_from k (Done a) e = (follow k a e).rest.stands (along m k d p turns).left
-    stands_from k x e = t.stands k
-
     -- a dialog, then the next one
     pub tallies_bind : Tallies m (d >>= next) (then_count m d first more) At p turns
     tallies_bind = record {
@@ -125,7 +119,7 @@ module _ {P : Type 0} (m : Device P) where
       none = none_from (along m 0 d p turns).dialog refl;
       at_least = λ k. at_least_from k (along m k d p turns).dialog refl;
       at_most = λ k. at_most_from k (along m k d p turns).dialog refl;
-      stands = search (rules, along_bind, stands_from);
+      stands = search (rules, along_bind);
     }
 
   -- all steps of a completed run are done

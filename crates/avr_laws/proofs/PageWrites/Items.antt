@@ -53,14 +53,6 @@ below_all xs bytes = λ i l. All-get_or (λ b. b < 256) xs i 0 l bytes
 all_below : (xs : List ℕ) → AllBelow xs → AreBytes xs
 all_below xs below = All-from_get_or (λ b. b < 256) xs 0 below
 
-either_bytes : (b : Bool) (xs ys : List ℕ) → AreBytes xs → AreBytes ys → AreBytes (cond b xs ys)
-either_bytes true xs ys f g = f
-either_bytes false xs ys f g = g
-
-either_length : (b : Bool) (xs ys : List ℕ) (n : ℕ) → length xs ≡ n → length ys ≡ n → length (cond b xs ys) ≡ n
-either_length true xs ys n f g = f
-either_length false xs ys n f g = g
-
 blank_below : (xs : List ℕ) → AllBelow (blank xs)
 blank_below xs i l =
     search (rules, length-replicate, get_or-replicate)
@@ -68,11 +60,11 @@ blank_below xs i l =
 module _ (part : Part) (sound : IsPart part) where
   flash_bytes : (mem : Mem) (image : Image) (m : Memories) → AreBytes m.flash
       → AreBytes (effect part (Write mem image) m).flash
-  flash_bytes Flash image m bytes = search (rules, either_bytes, all_below, below_and_in, below_all)
+  flash_bytes Flash image m bytes = search (rules, all_below, below_and_in, below_all)
   flash_bytes mem image m bytes = bytes
 
   pub effect_sizes : (item : Item) (m : Memories) → FitsPart part m → FitsPart part (effect part item m)
-  effect_sizes Erase m f = search (rules, length-replicate, either_length, all_below, blank_below)
+  effect_sizes Erase m f = search (rules, length-replicate, all_below, blank_below)
   effect_sizes (Write mem image) m f = record {
     flash = size_stays part mem Flash image m ∙ f.flash;
     eeprom = size_stays part mem Eeprom image m ∙ f.eeprom;

@@ -64,12 +64,6 @@ page_changed image start page old below =
     search (rules, filled_is, length-and_in, get_and_in, placed_before, placed_within, and_blank, placed_behind)
 
 module _ (part : Part) (sound : IsPart part) (image : Image) where
-  -- the page write of the step
-  flash_page_write : (start : ℕ) (m : Memories) → start < 4294967296 → start % 2 ≡ 0
-      → effects part (page_write_of (page_step part image start)) m
-      ≡ effect part (Write Flash (image_at start (filled_bytes image start part.flash_page))) m
-  flash_page_write start m few even = search (rules, flash_address_back)
-
   -- flash after the page writes of these steps
   pub record Flashed (steps : List (List Command)) (m : Memories) (from : ℕ) (old : List ℕ) : Type 0 where
     pub new : List ℕ
@@ -95,7 +89,7 @@ module _ (part : Part) (sound : IsPart part) (image : Image) where
             cond-true (is_used page image start) (page_step part image start ∷ []) [] used in
             record {
               new = r.new;
-              is = search (rules, effects_on, flash_page_write, page_even, cond-false);
+              is = search (rules, effects_on, page_even, cond-false);
               written = changed_first and_with image start (start + page) old mid r.new
                   (page_changed image start page old below)
                   (subst (λ to. Written and_with image to mid r.new) next r.written);
@@ -132,7 +126,7 @@ module _ (part : Part) (sound : IsPart part) (image : Image) where
       → n * part.flash_page < 4294967296 → effects part (page_writes_of others) m ≡ m
       → effects part (page_writes_of (page_steps part image n ++ others)) m ≡ m
   page_locked n others m lock few rest =
-      search (rules, cases_Bool, cond-true, effects_on, flash_page_write, page_even, cond-false)
+      search (rules, cases_Bool, cond-true, effects_on, page_even, cond-false)
 
   pages_locked : (n k : ℕ) (m : Memories) → are_locked m ≡ true → (n + k) * part.flash_page ≤ 262144
       → effects part (page_writes_of (each_from (page_steps part image) n k)) m ≡ m

@@ -15,18 +15,13 @@ use Rattle.stk_emu.specs.PageWrites.{image_at, page_writes_of}
 use Rattle.stk_emu.proofs.Memories.LaidImages.{get_laid, length-laid}
 use Rattle.avr_laws.proofs.PageWrites.Places.{Written, Changed, changed_first, gap_first, nothing_left, all_laid, placed_before, placed_within, placed_behind}
 
--- a byte that is held is the one of the page write
-held_byte : (o : Option ℕ) (x : ℕ) → is_some o ≡ true → or_blank o ≡ unwrap_or o x
-held_byte (Some b) x e = refl
-held_byte None x e = absurd (false≢true e)
-
 -- the page write of a run
 run_changed : (image : Image) (start end : ℕ) (old : List ℕ) → start ≤ end
     → ((k : ℕ) → start ≤ k → k < end → is_some (byte_at image k) ≡ true)
     → Changed (λ b x. unwrap_or b x) image start end old
     (with_image (image_at start (filled_bytes image start (end - start))) old)
 run_changed image start end old order held =
-    search (rules, filled_is, length-laid, get_laid, placed_before, placed_within, held_byte, placed_behind)
+    search (rules, filled_is, length-laid, get_laid, placed_before, placed_within, placed_behind)
 
 module _ (part : Part) (sound : IsPart part) (image : Image) where
   -- EEPROM after the page writes of these steps
@@ -92,16 +87,10 @@ module _ (part : Part) (sound : IsPart part) (image : Image) where
       runs_from next (first_from image next) m old free fits border refl
       (λ end mid longer inside b. runs_free fuel end m mid free fits (omega (arith, longer, enough)) b)
 
-  -- if EEPROM is locked, nothing changes
-  run_locked : (addr : ℕ) (others : List (List Command)) (m : Memories) → are_locked m ≡ true
-      → effects part (page_writes_of others) m ≡ m
-      → effects part (page_writes_of (run_steps_at part image addr ++ others)) m ≡ m
-  run_locked addr others m lock rest = search (rules, cases_Bool, cond-true, cond-false)
-
   runs_locked : (addr count : ℕ) (m : Memories) → are_locked m ≡ true
       → effects part (page_writes_of (each_from (run_steps_at part image) addr count)) m ≡ m
   runs_locked addr zero m lock = refl
-  runs_locked addr (suc count) m lock = search (rules, run_locked, runs_locked (addr + 1) count m lock)
+  runs_locked addr (suc count) m lock = search (rules, runs_locked (addr + 1) count m lock)
 
   -- the runs of an image do what its write does
   pub runs_effect : (m : Memories) → length image ≤ part.eeprom_size

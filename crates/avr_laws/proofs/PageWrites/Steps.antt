@@ -17,7 +17,7 @@ use Rattle.stk_emu.specs.Settled.{Idle, Settled, Ready}
 use Rattle.stk_emu.specs.Fits.{Fits}
 use Rattle.stk_emu.specs.PageWrites.{changed, IsStep, Erases, ProgramsPage, ProgramsRun, ProgramsFuse, ProgramsLock, ReadsFlash, ReadsEeprom, ReadsFuse, ReadsLock, ReadsSignature, ReadsCalibration, IsPage, FitsEepromPage, IsBlock, AreWords}
 use Rattle.avr_laws.proofs.PageWrites.NetWrites.{written_again, erased_again}
-use Rattle.stk_emu.proofs.Answers.Commands.{one_fits, steady, one_steady, two_steady, settled_idle, ready_settled, ready_idle, anew_idle, anew_settled, sign_on_keeps, enter_does, leave_keeps, load_keeps, fuse_does, lock_does, erase_does, fuse_read_after, lock_read_after, signature_read_after, calibration_read_after}
+use Rattle.stk_emu.proofs.Answers.Commands.{one_fits, steady, one_steady, two_steady, settled_idle, ready_settled, ready_idle, anew_idle, anew_settled, enter_does, leave_keeps, load_keeps, fuse_does, lock_does, erase_does, fuse_read_after, lock_read_after, calibration_read_after}
 use Rattle.stk_emu.proofs.Memories.Runs.{run_does}
 use Rattle.stk_emu.proofs.Memories.Pages.{page_does}
 use Rattle.avr_laws.proofs.Given.ReadAnswers.{flash_read_keeps, eeprom_read_keeps}
@@ -42,7 +42,7 @@ module _ (part : Part) where
   quiet c m keeps = one_steady c _ _ (λ p s. keeps p s) (λ p s. keeps p s)
 
   pub sign_on_fits : (m : Memories) → Fits device (SignOn ∷ []) (Idle part m) (Idle part m)
-  sign_on_fits m = search (rules, one_fits, sign_on_keeps, anew_idle)
+  sign_on_fits m = search (rules, one_fits, anew_idle)
 
   pub enter_fits : (m : Memories) → Fits device (enter ∷ []) (Idle part m) (Settled part m)
   enter_fits m =
@@ -53,13 +53,13 @@ module _ (part : Part) where
 
   -- the same if nothing restarts
   pub sign_on_steady : (m : Memories) → Fits steady (SignOn ∷ []) (Idle part m) (Idle part m)
-  sign_on_steady m = search (rules, one_steady, sign_on_keeps)
+  sign_on_steady m = search (rules, one_steady)
 
   pub enter_ready : (m : Memories) → Fits steady (enter ∷ []) (Idle part m) (Ready part m)
   enter_ready m = search (rules, one_steady, enter_does, ready_idle)
 
   pub leave_steady : (m : Memories) → Fits steady (leave ∷ []) (Idle part m) (Idle part m)
-  leave_steady m = search (rules, one_steady, leave_keeps)
+  leave_steady m = search (rules, one_steady)
 
   module _ (sound : IsPart part) where
     -- what is repeated
@@ -135,7 +135,7 @@ module _ (part : Part) where
     step_ready commands m (ReadsLock e) = by_commands _ commands m e
         (quiet read_lock m (λ p s. subst (Ready part m) (sym (lock_read_after p s.mode)) s))
     step_ready commands m (ReadsSignature place few e) =
-        by_commands _ commands m e (search (rules, quiet, signature_read_after))
+        by_commands _ commands m e (search (rules, quiet))
     step_ready commands m (ReadsCalibration e) =
         by_commands _ commands m e (quiet read_calibration m
         (λ p s. subst (Ready part m) (sym (calibration_read_after p s.mode)) s))

@@ -13,7 +13,6 @@ use Rattle.stk_emu.specs.PageWrites.{AllFitItems}
 use Rattle.avr_laws.specs.Items.{action_items, actions_items}
 use Rattle.avr_laws.proofs.Each.{Each, each_on}
 use Rattle.avr_laws.proofs.Plans.Items.{by_erase, by_write}
-use Rattle.avr_laws.proofs.AnyLine.FirstSteps.{fits_on}
 
 -- what follows the opening of a session
 abbrev pub work : Plan → List Action
@@ -53,7 +52,7 @@ module _ (part : Part) where
   pub items_fit : (actions : List Action) → AllFitActions part actions → AllFitItems part (actions_items actions)
   items_fit [] fits = tt
   items_fit (action ∷ actions) fits =
-      search (rules, fits_on, action_items_fit, items_fit actions fits.1)
+      search (rules, action_items_fit, items_fit actions fits.1)
 
 pub work_fits : (plan : Plan) → All (IsFitted plan.part) plan.tasks → AllFitActions plan.part (work plan)
 work_fits plan fitted =

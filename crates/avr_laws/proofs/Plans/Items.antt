@@ -73,19 +73,6 @@ erase_first plan first later e =
 
 -- ---- by the tasks
 
-write_items : (dry left_out : Bool) (mem : Mem) (image : Image) (more : List Action)
-    → actions_items ((if dry then LeaveOut (TheWrite mem image) ∷ []
-    else WriteImage mem image ∷ (if left_out then [] else CompareImage mem image ∷ [])) ++ more)
-    ≡ (if dry then actions_items more else Write mem image ∷ actions_items more)
-write_items true left_out mem image more = refl
-write_items false true mem image more = refl
-write_items false false mem image more = refl
-
-write_unless : (dry : Bool) (item : Item) (xs ys : List Item) → xs ≡ (if dry then [] else ys)
-    → (if dry then xs else item ∷ xs) ≡ (if dry then [] else item ∷ ys)
-write_unless true item xs ys e = e
-write_unless false item xs ys e = ap (λ more. item ∷ more) e
-
 none_unless : (dry : Bool) → ◌≡◌ {A = List Item} [] (if dry then [] else [])
 none_unless true = refl
 none_unless false = refl
@@ -94,44 +81,22 @@ writes_by_tasks : (s : Switches) (tasks : List Task)
     → actions_items (tasks_actions s tasks) ≡ (if s.dry then [] else filter_map task_item tasks)
 writes_by_tasks s [] = none_unless s.dry
 writes_by_tasks s (task.Write mem image ∷ tasks) =
-    search (rules, write_items, write_unless, writes_by_tasks s tasks)
+    search (rules, writes_by_tasks s tasks)
 writes_by_tasks s (task.Verify mem image ∷ tasks) = writes_by_tasks s tasks
 writes_by_tasks s (task.Read mem format file ∷ tasks) = writes_by_tasks s tasks
 
-behind_erase : (dry asked due : Bool) (xs ys : List Item) → xs ≡ (if dry then [] else ys)
-    → actions_items (if dry then (if asked then LeaveOut TheErase ∷ [] else [])
-    else if due then EraseChip ∷ [] else []) ++ xs
-    ≡ (if dry then [] else (if due then Erase ∷ [] else []) ++ ys)
-behind_erase true true due xs ys e = e
-behind_erase true false due xs ys e = e
-behind_erase false asked true xs ys e = ap (λ more. Erase ∷ more) e
-behind_erase false asked false xs ys e = e
-
 pub items_by_tasks : (plan : Plan) → items plan ≡ asked_items plan
 items_by_tasks plan =
-    search (rules, items_on, behind_erase, writes_by_tasks)
+    search (rules, items_on, writes_by_tasks)
 
 -- ---- what they compare
 
 module _ (part : Part) where
-  -- an erase compares nothing
-  erasing_agrees : (s : Switches) (tasks : List Task) (m : Memories) → ActionsAgree part (erase_actions s tasks) m
-  erasing_agrees s tasks m = by_erase (λ xs. ActionsAgree part xs m) s tasks tt (tt, tt) (tt, tt)
-
   agree_behind : (xs ys : List Action) (m : Memories) → ActionsAgree part (xs ++ ys) m
       → ActionsAgree part ys (effects part (actions_items xs) m)
   agree_behind [] ys m agree = agree
   agree_behind (x ∷ xs) ys m agree =
       search (rules, effects_on, agree_behind xs ys (effects part (action_items x) m) agree.1)
-
-  agree_joined : (xs ys : List Action) (m : Memories) → ActionsAgree part xs m
-      → ActionsAgree part ys (effects part (actions_items xs) m) → ActionsAgree part (xs ++ ys) m
-  agree_joined [] ys m first more = more
-  agree_joined (x ∷ xs) ys m first more = (
-    first.0,
-    agree_joined xs ys (effects part (action_items x) m) first.1
-        (subst (ActionsAgree part ys) (effects_on part (action_items x) (actions_items xs) m) more),
-  )
 
 -- the comparisons of a plan are those of its tasks, after the erase
 pub tasks_agree : (plan : Plan) (m : Memories) → Agrees plan m
@@ -143,4 +108,4 @@ tasks_agree plan m agree =
 pub plan_agrees : (plan : Plan) (m : Memories)
     → ActionsAgree plan.part (tasks_actions plan.switches plan.tasks)
     (effects plan.part (actions_items (erase_actions plan.switches plan.tasks)) m) → Agrees plan m
-plan_agrees plan m agree = search (rules, agree_joined, erasing_agrees)
+plan_agrees plan m agree = search rules

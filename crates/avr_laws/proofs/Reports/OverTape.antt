@@ -13,7 +13,6 @@ use Rattle.stk_emu.specs.Turn.{Turn, Right, Wrong, Refusal, Became, Kept, Obeyed
 use Rattle.stk_emu.specs.Wire.{turns_of, becames_of}
 use Rattle.avr_laws.specs.AnyTape.{first_became, other_becames, on_answer, AreHonest, turn_by, turns_from, turns_heard}
 use Rattle.avr_laws.proofs.Lines.AnyTape.{honest_turn, obeyed_frame}
-use Rattle.avr_laws.proofs.Lines.WireTapes.{turn_leaves}
 use Rattle.avr_laws.specs.Told.{TellsTrue, SaidTrue}
 
 -- ---- what happened to the programmer at the first frames, and their turns
@@ -85,7 +84,7 @@ module _ {P : Type 0} (m : Device P) where
       λ k turns. subst (λ r. TellsTrue m T k (go_on reading) r turns) t.1
       (subst (λ x. TellsTrue m T k (go_on x) (after_turn (turn_by became reading) (m.after bytes p) p m.reset) turns)
       t.0 (tells (suc k) (turn_by became reading ∷ turns))) in
-      search (rules, turn_leaves, obeyed_frame)
+      search (rules, obeyed_frame)
 
   pub told_any : {E R : Type 0} (T : P → E → Type 0) (d : Dialog E R) (n : ℕ) (tape : Tape) (p : P)
       (becames : List Became) (turns : List Turn) → AsksBodies d → AlwaysTrue T d p

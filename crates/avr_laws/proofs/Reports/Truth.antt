@@ -52,11 +52,6 @@ hold_unless : (T : OutputEvent → Programmer → Type 0) (b : Bool) (x : Output
 hold_unless T true x q t = tt
 hold_unless T false x q t = (t, tt)
 
-hold_not : (T : OutputEvent → Programmer → Type 0) (b : Bool) (xs : List OutputEvent) (q : Programmer) → b ≡ true
-    → AllTrue T (if b then [] else xs) q
-hold_not T true xs q e = tt
-hold_not T false xs q e = absurd (cc)
-
 module _ (plan : Plan) (sound : IsPart plan.part) (m0 : Memories) (f0 : FitsPart plan.part m0) where
   abbrev pub T : OutputEvent → Programmer → Type 0
   T output q = IsTrue plan m0 (memories_of q.chip) output
@@ -76,7 +71,7 @@ module _ (plan : Plan) (sound : IsPart plan.part) (m0 : Memories) (f0 : FitsPart
 
   own_signature : (quiet : ℕ) (q : Programmer) → AllTrue T (opening_says quiet plan.part (Ok plan.part.signature)) q
   own_signature quiet q =
-      search (rules, hold_on, informs_hold, hold_not, bytes_same)
+      search (rules, hold_on, informs_hold, bytes_same)
 
   -- ---- the actions after it
 

@@ -141,11 +141,6 @@ module _ (part : Part) where
   any_third (suc n) (m ∷ ms) e = (no_third m, any_third n ms (omega (arith, e)))
   any_third n ms e = absurd (omega (arith, e))
 
-  kept_zeros : (keeps : Bool) (n : ℕ) → keeps ≡ true
-      → (if keeps then replicate n 0 else blank (replicate n 0)) ≡ replicate n 0
-  kept_zeros true n e = refl
-  kept_zeros false n e = absurd (true≢false (sym e))
-
   kept_ones : (keeps : Bool) (n : ℕ) → (if keeps then replicate n 255 else blank (replicate n 255)) ≡ replicate n 255
   kept_ones true n = refl
   kept_ones false n = ap (λ (k : ℕ). replicate k 255) (length-replicate {A = ℕ} n 255)
@@ -154,16 +149,13 @@ module _ (part : Part) where
   kept_size true xs n e = e
   kept_size false xs n e = length-replicate {A = ℕ} (length xs) 255 ∙ e
 
-  blank_as : (a b : List ℕ) (n : ℕ) → length a ≡ n → length b ≡ n → blank a ≡ blank b
-  blank_as a b n e f = ap (λ (k : ℕ). replicate k 255) (e ∙ sym f)
-
   erased_between : (m : Memories) → FitsPart part m → (mem : Mem)
       → Alike (keeps_zeros mem) (memory_in part mem (effect part Erase (chip_of part 0)))
       (memory_in part mem (effect part Erase (chip_of part 255))) (memory_in part mem (effect part Erase m))
   erased_between m f Flash =
-      search (rules, blank_as, length-replicate)
+      search (rules, length-replicate)
   erased_between m f Eeprom =
-      search (rules, kept_zeros, bit_at-zero, kept_ones, any_third, kept_size)
+      search (rules, bit_at-zero, kept_ones, any_third, kept_size)
   erased_between m f Lfuse = (no_third m.lfuse, tt)
   erased_between m f Hfuse = (no_third m.hfuse, tt)
   erased_between m f Efuse = (no_third m.efuse, tt)
@@ -172,4 +164,4 @@ module _ (part : Part) where
 pub agrees_anyway : (plan : Plan) (m : Memories) → FitsPart plan.part m → has_erase (items plan) ≡ true
     → AgreesAnyway plan → Agrees plan m
 agrees_anyway plan m f erases both =
-    search (rules, erase_if, tasks_agree, plan_agrees, begins, actions_between, tasks_write, erased_between)
+    search (rules, erase_if, plan_agrees, begins, actions_between, tasks_write, erased_between)

@@ -38,18 +38,13 @@ lengthened kind text more =
       lines_are = goes-on text more cut.0 cut.1 next.0 next.1 is next.2;
     }
 
-own_fault : (kind : Kind) (text more : List ℕ) (size : ℕ) (fault : RecordFault) (l : Lengthened kind text more)
-    → closed_fault kind text size ≡ Some fault → fault_among size (map (said_by_line kind) l.prefix) ≡ Some fault
-own_fault kind text more size fault l is =
-    ap (λ (zs : List (List ℕ)). fault_among size (map (said_by_line kind) zs)) (sym l.closed) ∙ is
-
 -- a fault of a line that has ended stays the first one when more bytes come
 pub closed_fault-more : (kind : Kind) (text more : List ℕ) (size : ℕ) (fault : RecordFault)
     → closed_fault kind text size ≡ Some fault
     → closed_fault kind (text ++ more) size ≡ Some fault
 closed_fault-more kind text more size fault is =
     let l = lengthened kind text more in
-    search (rules, closed-prefix, map-append, among-stands, own_fault)
+    search (rules, closed-prefix, map-append, among-stands)
 
 -- and it is the fault of the whole file
 pub closed_fault-whole : (kind : Kind) (text more : List ℕ) (size : ℕ) (fault : RecordFault)
@@ -57,4 +52,4 @@ pub closed_fault-whole : (kind : Kind) (text more : List ℕ) (size : ℕ) (faul
     → image_in_text kind (text ++ more) size ≡ Err fault
 closed_fault-whole kind text more size fault is =
     let l = lengthened kind text more in
-    search (rules, map-append, among-stands, own_fault)
+    search (rules, map-append, among-stands)

@@ -23,14 +23,6 @@ use Rattle.avr_plan.specs.declared.intake.Intake.{Intake}
 
 -- ---- a call of `read`
 
-noted-none : (o : Open) → o ≡ noted [] false o
-noted-none Closed = refl
-noted-none (ToRead x) = search (rules, append-nil, or-false)
-noted-none (ToWrite x) = refl
-
-pub read_nothing : (d : Record) → d ≡ after_reading [] false d
-read_nothing d = ap (λ (o : Open). record d { current = o }) (noted-none d.current)
-
 pub read_end : (old now new : Record) (a buf : Bytes) (n : ℕ) → now ≡ after_reading a false old
     → new ≡ after_read buf (Ok n) now
     → n ≡ 0 → 0 < length buf → new ≡ after_reading a true old
@@ -40,21 +32,11 @@ read_end old now new a buf n first then zero some =
 -- ---- the rest of a file
 
 pub going_begins : (d : DeskState) (intake : Intake) (room : ℕ) → Going d d intake intake room room
-going_begins d intake room = search (rules, read_nothing, append-nil)
+going_begins d intake room = search (rules, append-nil)
 
 within : (limit : ℕ) (found : Found) (bytes : Bytes) (size : ℕ) → length bytes ≤ limit
     → whole_file found bytes size ≡ file_within limit found bytes size
 within limit found bytes size len = search rules
-
-rest-is : (limit : ℕ) (found : Found) (size : ℕ) (before : Bytes) (old new : DeskState) (given : Given)
-    (result : ImageOrFault)
-    → IsGiven given result
-    → ReadsRest limit found size before old new given → RestIsRead limit found size before old new result
-rest-is limit found size before old new given (Ok good) is reads =
-    subst (ReadsRest limit found size before old new) (sym is) reads
-rest-is limit found size before old new given (Err (Image bad)) is reads =
-    subst (ReadsRest limit found size before old new) (sym is) reads
-rest-is limit found size before old new given (Err (File fault)) is reads = absurd is
 
 take-prefix : (all buf : Bytes) (limit left n : ℕ) → length all + left ≡ limit → left ≤ n
     → take limit (all ++ take n buf) ≡ all ++ take left buf
@@ -83,7 +65,7 @@ module _ (old now new : DeskState) (first last : Intake) (room left n : ℕ) (bu
         → IsGiven (whole_file found text size) result)
         → RestIsRead limit found size before old new result
     rest_ends result zero some gives =
-        search (rules, length-append, rest-is, read_end, within)
+        search (rules, length-append, read_end, within)
 
     -- more bytes came than the limit allows
     pub rest_long : (bad : BadFile) → left < n → n ≤ length buf → length buf ≤ 4096

@@ -17,16 +17,12 @@ use Rattle.avr_plan.specs.ImageFile.{whole_file, image_within, kind_of, of_recor
 abbrev Image : Type 0
 Image = List (Option ℕ)
 
-good-is : (fault : Option RecordFault) (good p : Image × Ending) → image_or_fault fault good ≡ Ok p → good ≡ p
-good-is (Some fault) good p is = cc
-good-is None good p is = cc
-
 laid-size : (places : List (ℕ × ℕ)) (size : ℕ) → length (image_of_pairs size places) ≡ size
 laid-size places size = laid_size (empty size) places ∙ length-replicate {A = Option ℕ} size None
 
 together-size : (said : List Said) (size : ℕ) (p : Image × Ending) → together size said ≡ Ok p → length p.0 ≡ size
 together-size said size p is =
-    search (rules, good-is, laid-size)
+    search (rules, laid-size)
 
 of-records-is : (r : Result (Image × Ending) RecordFault) (p : Image × Ending) → of_records r ≡ Ok p → r ≡ Ok p
 of-records-is (Ok good) p is = cc

@@ -121,14 +121,6 @@ module _ (stock : Stock) where
   abbrev IsLimited : {A : Type 0} → ℕ → (Bytes → Result A Bytes) → Type 0
   IsLimited limit judge = (bytes more : Bytes) → limit < length bytes → judge (bytes ++ more) ≡ judge bytes
 
-  same_judged : {A : Type 0} (limit : ℕ) (judge : Bytes → Result A Bytes) → IsLimited limit judge
-      → (bytes unread : Bytes) (ended : Bool)
-      → (ended ≡ true → unread ≡ []) → (ended || nat_lt limit (length bytes)) ≡ true
-      → judge (bytes ++ unread) ≡ judge bytes
-  same_judged limit judge limited bytes unread true ends whole =
-      ap (λ (more : Bytes). judge (bytes ++ more)) (ends refl) ∙ ap judge (append-nil bytes)
-  same_judged limit judge limited bytes unread false ends whole = limited bytes unread (grind (arith, nat_tests, whole))
-
   module _ {A : Type 0} (name : Bytes) (limit : ℕ) (judge : Bytes → Result A Bytes)
       (limited : IsLimited limit judge) where
     -- the bytes seen of it, and the whole of it
@@ -139,7 +131,7 @@ module _ (stock : Stock) where
     of_opening (Absent other) openings rest is read =
         rw is (record { answer = refl; lines = refl; left = λ made e. refl })
     of_opening (Found x) openings rest is read =
-        search (rules, same_verdict, same_judged)
+        search (rules, same_verdict)
 
     -- the same, after its opening
     behind_opening : (opening : Opening) (openings rest : List Opening)

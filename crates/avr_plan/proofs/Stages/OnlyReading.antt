@@ -37,13 +37,8 @@ is_settled : {A : Type 0} (result : Result A Bytes) → Reads (verdict_stage res
 is_settled (Ok a) openings = tt
 is_settled (Err line) openings = tt
 
-is_judged : {A : Type 0} (name : Bytes) (limit : ℕ) (judge : Bytes → Result A Bytes) (opening : Opening)
-    → Reads (content_stage name limit judge opening)
-is_judged {A = A} name limit judge (Absent other) openings = tt
-is_judged {A = A} name limit judge (Found reading) openings = search (rules, is_settled)
-
 file : {A : Type 0} (name : Bytes) (limit : ℕ) (judge : Bytes → Result A Bytes) → Reads (file_stage name limit judge)
-file name limit judge = search (rules, onward, is_judged)
+file name limit judge = search (rules, onward)
 
 warns : (b : Bool) (name : Bytes) → OnlyReads (if b then Line (no_end_line name) ∷ [] else [])
 warns true name = tt

@@ -28,7 +28,7 @@ pub goes_without_parts : (s : Settings) (old new : DeskState) (status : ℕ)
     → Goes (AtUpdate s) (planned s) old new (Err status)
 goes_without_parts s old new status goes =
     goes_no_further (AtUpdate s) (parts_stage s.parts) (behind_parts s) old new status
-    (search (rules, goes_within, taken_never))
+    (search (rules, taken_never))
 
 pub goes_without_part : (s : Settings) (old mid new : DeskState) (status : ℕ) (parts : List Part)
     → Went (parts_stage s.parts) old mid (Made parts)
@@ -67,7 +67,7 @@ at_due s old first mid parts part went found passed said due = record {
     planned_so : planned before (went.passed ++ (found.passed ++ passed))
         ≡ record { says = went.says ++ (found.says ++ said); answer = Made (plan_of s part due.made); left = [] }
     planned_so =
-        search (rules, made_then, append-nil)
+        search (rules, append-nil)
 
 -- what allocates after the part file
 abbrev Behind : Settings → List Opening → List OutputEvent → Taking

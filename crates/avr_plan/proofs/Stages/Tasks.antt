@@ -100,7 +100,7 @@ module _ (switches : Switches) (part : Part) (tasks : List Task) (u : Update) (u
     takes = later.takes;
     made = later.made;
     are_made =
-        search (rules, made_then);
+        search rules;
   }
 
 module _ (switches : Switches) (part : Part) (tasks : List Task) (updates : List Update) (i : ℕ) (u : Update) where

@@ -34,13 +34,6 @@ Along P (Done r) = P [] r
 Along P (Say e dialog) = Along (λ said r. P (e ∷ said) r) dialog
 Along {R = R} P (Ask body answered) = (reading : Reading) → Along P (answered reading)
 
-pub along_more : {R : Type 0} (P Q : List OutputEvent → R → Type 0) (dialog : Dialog OutputEvent R)
-    → ((said : List OutputEvent) (r : R) → P said r → Q said r) → Along P dialog → Along Q dialog
-along_more P Q (Done r) why f = why [] r f
-along_more P Q (Say e dialog) why f = along_more (λ said r. P (e ∷ said) r) (λ said r. Q (e ∷ said) r) dialog
-    (λ said r p. why (e ∷ said) r p) f
-along_more P Q (Ask body answered) why f = λ reading. along_more P Q (answered reading) why (f reading)
-
 pub along_bind : {A R : Type 0} (P : List OutputEvent → A → Type 0) (Q : List OutputEvent → R
     → Type 0) (dialog : Dialog OutputEvent A)
     (go_on : A → Dialog OutputEvent R)
@@ -102,7 +95,7 @@ foretold {dialog = dialog} {m = m} f ran =
 -- one action after another
 pub foretells_then : (first more : Dialog OutputEvent Standing) → Foretells first → Foretells more
     → Foretells (first >>= unless_fault more)
-foretells_then first more f g = search (rules, along_bind, along_more, list_any-append, append-nil)
+foretells_then first more f g = search (rules, along_bind, list_any-append, append-nil)
 
 -- an operation and its report
 foretells_reported : {A : Type 0} (operation : Dialog ⊥ (Result A HostFault))
@@ -134,18 +127,12 @@ unless_quiet : (b : Bool) (line : Bytes) → is_error (Line line) ≡ false
 unless_quiet true line none = refl
 unless_quiet false line none = ap (λ x. x || false) none
 
-both_none : (x y : List OutputEvent) → tells_fault x ≡ false → tells_fault y ≡ false → tells_fault (x ++ y) ≡ false
-both_none x y f g = list_any-append is_error x y ∙ (ap (λ b. b || tells_fault y) f ∙ g)
-
 warns_none : (quiet : ℕ) (pieces : List Bytes) → tells_fault (warns quiet pieces) ≡ false
 warns_none quiet pieces = unless_quiet (nat_lt 1 quiet) (warning pieces) refl
 
 bytes_none : (quiet : ℕ) (mem : Mem) (count : ℕ) (done : Bytes) → tells_fault (bytes_say quiet mem count done) ≡ false
 bytes_none quiet Flash count done = search rules
 bytes_none quiet mem count done = search rules
-
-signature_none : (quiet : ℕ) (found : Bytes) → tells_fault (signature_says quiet found) ≡ false
-signature_none quiet found = unless_quiet (nat_lt 0 quiet) (information (codes "device signature = " ∷ _ ∷ [])) refl
 
 pub read_none : (s : Switches) (mem : Mem) (format : Format) (file bytes : Bytes)
     → tells_fault (read_says s mem format file bytes) ≡ false
@@ -161,7 +148,7 @@ opening_tells : (quiet : ℕ) (part : Part) (outcome : Result Bytes HostFault)
     → tells_fault (opening_says quiet part outcome) ≡ is_told (standing outcome)
 opening_tells quiet part (Ok found) = search rules
 opening_tells quiet part (Err (WrongSignature found)) =
-    search (rules, list_any-append, signature_none, fault_tells)
+    search (rules, list_any-append, fault_tells)
 opening_tells quiet part (Err fault) = fault_tells part fault
 
 left_out_none : (quiet : ℕ) (what : LeftOut) → tells_fault (left_out_says quiet what) ≡ false
@@ -189,9 +176,6 @@ actions_foretells part s (action ∷ actions) =
 
 -- ---- a prefix of output without a fault has none
 
-line_none : (part whole : Bytes) → IsPrefixOf part whole → is_error (Line whole) ≡ false → is_error (Line part) ≡ false
-line_none part whole is none = search rules
-
 quiet_by : (begun : List OutputEvent) (events : List (Event OutputEvent)) → map Said begun ≡ events
     → tells_fault (outputs events) ≡ false → tells_fault begun ≡ false
 quiet_by begun events is none = ap tells_fault (outputs_by begun events is) ∙ none
@@ -210,11 +194,11 @@ begun_none (OfFile file NotWritten) whole begun later (inl x) none =
 begun_none (OfFile file NotWritten) whole begun later (inr x) none =
     quiet_by begun (Said (Outs x.1.done) ∷ []) x.1.part refl
 begun_none OfPrinting whole begun later x none =
-    search (rules, outputs_by, line_none, or_parts, quiet_by)
+    search (rules, outputs_by, or_parts, quiet_by)
 begun_none OfMemory whole begun later x none = quiet_by begun [] x refl
 
 pub prefix_tells_none : {cause : Cause} {old new : DeskState} {outputs : List OutputEvent}
     (prefix : SaysPrefix cause old new outputs) → tells_fault outputs ≡ false
     → tells_fault (prefix.whole ++ prefix.begun) ≡ false
 prefix_tells_none {cause = cause} prefix none =
-    search (rules, or_parts, list_any-append, both_none, begun_none)
+    search (rules, or_parts, list_any-append, begun_none)

@@ -160,16 +160,6 @@ stop_goes (Broke Send) (Ok ok) is = ap (λ x. stands (after_outcome x)) is
 stop_goes (Broke Recv) (Ok ok) is = ap (λ x. stands (after_outcome x)) is
 stop_goes Lacks (Ok ok) is = ap (λ x. stands (after_outcome x)) is
 
--- the host serves after any outcome that leaves the link
-pub serves_after : {A : Type 0} (outcome : Result A HostFault) (said : Result (Unit {0}) DeskFault)
-    (broken : Option HostFault) → broken ≡ lasting_fault outcome → HostServes (stands (conclusion outcome said)) broken
-serves_after outcome (Err _) broken is = tt
-serves_after (Err LinkEnded) (Ok done) broken is = tt
-serves_after (Err SendFailed) (Ok done) broken is = tt
-serves_after (Err RecvFailed) (Ok done) broken is = tt
-serves_after (Err Memory) (Ok done) broken is = tt
-serves_after outcome (Ok done) broken is = is
-
 -- the link fails only if the outcome says so
 unbroken : {A P : Type 0} (outcome : Result A HostFault) → stands (after_outcome outcome) ≡ Ok (standing outcome)
     → UnlessBroken outcome P → P

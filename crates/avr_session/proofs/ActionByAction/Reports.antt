@@ -20,11 +20,6 @@ pub print_stops_later : (a b c : DeskState) → HasSameCounts a b → (cause : C
 print_stops_later a b c same OfPrinting told stops = (unsaid_since a b c same stops.0, stops.1)
 print_stops_later a b c same cause told stops = absurd stops
 
-pub print_is_desk : (a b : DeskState) (cause : Cause) (told : List ℕ) → PrintStops a b cause told
-    → DeskStops a b cause told
-print_is_desk a b (OfFile file trouble) told stops = absurd stops
-print_is_desk a b cause told stops = stops
-
 pub file_stops_in : (a b c : DeskState) (file : List ℕ) (trouble : FileTrouble) (told : List ℕ) → HasSameCounts a b
     → FileStops b c file trouble told → FileStops a c file trouble told
 file_stops_in a b c file trouble told same stops =
@@ -71,14 +66,14 @@ said_then By old mid new first more (Err _) why was then = search (rules, prefix
 pub reports_then : (old mid new : DeskState) (first more : List OutputEvent) {done : Unit {0}}
     (result : Result (Unit {0}) DeskFault) → Reports PrintStops old mid first (Ok done)
     → Reports PrintStops mid new more result → Reports PrintStops old new (first ++ more) result
-reports_then old mid new first more result was then = search (rules, said_then, print_stops_later, follows_on)
+reports_then old mid new first more result was then = search (rules, said_then, follows_on)
 
 -- something is saved, then a line is printed
 pub saves_then : (old mid new : DeskState) (file : List ℕ) (first more : List OutputEvent) {done : Unit {0}}
     (result : Result (Unit {0}) DeskFault) → Reports (SaveStops file) old mid first (Ok done)
     → Reports PrintStops mid new more result → Reports DeskStops old new (first ++ more) result
 saves_then old mid new file first more result was then =
-    search (rules, said_then, print_is_desk, print_stops_later, follows_on)
+    search (rules, said_then, print_stops_later, follows_on)
 
 -- the first report was the last
 pub reports_until : (By Then : DeskState → DeskState → Cause → List ℕ → Type 0) {old new : DeskState}

@@ -39,10 +39,10 @@ use Rattle.avr_session.specs.Performing.{is_told, PerformsBehind, Performs, Does
 use Rattle.avr_session.proofs.ActionByAction.Reports.{kept_nothing}
 use Rattle.avr_desk.proofs.Stages.Outputs.{kept_none}
 use Rattle.avr_desk.proofs.Lines.Told.{follows_here, same_here}
-use Rattle.avr_session.proofs.Runs.Calls.{none_failed_here, came_here, came_said, came_part, ran_from, ran_on, stops_in, stops_since, broke_on, broke_part, broke_output, LacksLater, StopsReport, ToldBy}
+use Rattle.avr_session.proofs.Runs.Calls.{none_failed_here, came_here, came_said, came_part, ran_from, ran_on, stops_in, broke_on, broke_part, broke_output, LacksLater, StopsReport, ToldBy}
 use Rattle.avr_session.proofs.ActionByAction.FaultsTold.{Foretells, foretold, prefix_tells_none, actions_foretells}
 use Rattle.avr_session.proofs.ActionByAction.Actions.{actions_dialog-one, actions_dialog-append}
-use Rattle.avr_session.proofs.ActionByAction.Operations.{call_ended, closing_lacks_none, Stop, Broke, Lacks, cause_at, StopsAs, StopsOver, Ended, operation_runs, serves_after, stop_come, told_of}
+use Rattle.avr_session.proofs.ActionByAction.Operations.{call_ended, closing_lacks_none, Stop, Broke, Lacks, cause_at, StopsAs, StopsOver, Ended, operation_runs, stop_come, told_of}
 
 -- a desk that failed in printing stops the run, whatever was reported
 printing_tells : (flag : Bool) (told : List ℕ) (d : DeskState) → told ≡ [] → TellsCause flag OfPrinting told d d
@@ -100,7 +100,7 @@ module _ {A : Type 0} (operation : Dialog ⊥ (Result A HostFault)) (outcome_say
       → Ended terms.takes operation old.progress o p outcome new.progress) → result ≡ conclusion outcome told
       → PerformsBehind terms (AtOnce terms.takes) (reported operation outcome_says) old new (devices o d) (devices p e)
       (stands result)
-  action_performs terms why tells sound calls ends is = search (rules, operation_runs, serves_after)
+  action_performs terms why tells sound calls ends is = search (rules, operation_runs)
 
   pub operation_performs : (takes : Bool) → StopsReport (untold takes) p d e (outcome_says outcome) By
       → ((stop : Stop) → StopsAs outcome stop → Tells d e (cause_line (cause_at stop)))
@@ -125,7 +125,7 @@ pub left_out_performs : (takes : Bool) (outputs : List OutputEvent) {host : Host
     (result : Result (Unit {0}) End) → host.broken ≡ None → LeavesOut outputs d e result
     → Performs takes (says outputs (Done Fine)) host host (devices o d) (devices o e) (stands result)
 left_out_performs takes outputs {host = host} {o = o} {d = d} {e = e} result sound leaves =
-    search (rules, left_out_runs, serves_after)
+    search (rules, left_out_runs)
 
 -- nothing
 pub nothing_performs : {terms : Terms} {L : Lacking} (standing : Standing) (host : HostState) (o : Devices)
@@ -162,10 +162,6 @@ performs_as done runs serves =
 
 -- memory is allocated in the one or in the other
 
-or_first : (b c : Bool) → b ≡ true → (b || c) ≡ true
-or_first true c is = refl
-or_first false c is = absurd (cc)
-
 or_then : (b c : Bool) → c ≡ true → (b || c) ≡ true
 or_then true c is = refl
 or_then false c is = is
@@ -178,7 +174,7 @@ module _ (takes more_takes : Bool) where
       → PerformsBehind (untold takes) M first x y o p (stands (Err end))
       → PerformsBehind (untold (takes || more_takes)) L (first >>= unless_fault more) x y o p (stands (Err end))
   performs_last more {o = o} {p = p} ends.Stopped lack done =
-      search (rules, broke_part, stops_since, or_first, none_failed_here)
+      search (rules, broke_part, none_failed_here)
   performs_last more end lack done =
       performs_as done (ran_from (came_part (unless_fault more) done.runs)) done.serves
 

@@ -22,7 +22,7 @@ use Rattle.avr_desk.proofs.Lines.Told.{failed_since, follows_on, follows_same, s
 use Rattle.avr_session.specs.Session.{says}
 use Rattle.avr_session.specs.Runs.{Devices, devices, NoneFailed, Cause, OfSending, OfListening, OfFile, OfPrinting, OfMemory, tells_fault, HasCome, StopsAt, Listens, Lacking, Terms, StopsBehind, Ran, BrokeOff}
 use Rattle.avr_session.specs.Reporting.{IsOfDesk, SaysPrefix, SaidSome}
-use Rattle.avr_session.proofs.Runs.Stops.{place_more, place_behind, desk_says, desk_listens, outputs_said, map_append}
+use Rattle.avr_session.proofs.Runs.Stops.{place_behind, desk_says, desk_listens, outputs_said, map_append}
 
 -- a point of a call: the rest of its dialog, the progress of its conversation, and the devices' states
 pub record Point (R : Type 0) : Type 0 where
@@ -126,28 +126,12 @@ abbrev pub LacksLater : Lacking → Progress → Transcript → List (Event Outp
 LacksLater L m transcript events M n = (during : Transcript) (shown : List (Event OutputEvent)) → M n during shown
     → L m (transcript ++ during) (events ++ shown)
 
--- a cause that comes in a part comes in the whole
-has_come_in : (some all : Bool) (o p then : Devices) → (some ≡ true → all ≡ true) → NoneFailed o p → (cause : Cause)
-    → HasCome some p then cause → HasCome all o then cause
-has_come_in some all o p then takes same (OfFile file trouble) come =
-    (failed_since o.desk p.desk then.desk same.1 come.0, come.1 ∙ same.0)
-has_come_in some all o p then takes same OfPrinting come =
-    (unsaid_since o.desk p.desk then.desk same.1 come.0, come.1 ∙ same.0)
-has_come_in some all o p then takes same OfMemory come = (takes come.0, none_failed_on o p then same come.1)
-has_come_in some all o p then takes same cause come =
-    (subst (λ n. HasRisen n then.link.failures) same.0 come.0, same_on o.desk p.desk then.desk same.1 come.1)
-
 -- after other output events, if these report as the terms assume
 pub stops_in : (some all : Terms) (before : List OutputEvent) (o p q : Devices) → (some.takes ≡ true → all.takes ≡ true)
     → NoneFailed o p → (all.was_told || tells_fault before) ≡ some.was_told
     → StopsWhole some all before o p q
 stops_in some all before o p q takes sound same said cause told stops =
-    search (rules, or_assoc, list_any-append, has_come_in, follows_on, follows_same)
-
--- since before, or if more may allocate
-pub stops_since : (takes more told : Bool) (o p q : Devices) → (takes ≡ true → more ≡ true) → NoneFailed o p
-    → StopsWhole (record { takes = takes; was_told = told }) (record { takes = more; was_told = told }) [] o p q
-stops_since takes more told o p q also sound = search rules
+    search (rules, or_assoc, list_any-append, follows_on, follows_same)
 
 -- the events that happened, up to where the cause stopped them
 record Placed (cause : Cause) (shown events : List (Event OutputEvent)) : Type 0 where
@@ -171,7 +155,7 @@ placed_behind {cause = cause} before f = record {
 
 placed_more : {cause : Cause} {shown events : List (Event OutputEvent)} (more : List (Event OutputEvent))
     → (cause ≡ OfListening → more ≡ []) → Placed cause shown events → Placed cause shown (events ++ more)
-placed_more {cause = cause} more none f = search (rules, append_assoc, place_more)
+placed_more {cause = cause} more none f = search (rules, append_assoc)
 
 -- this was reported of a cause, with no output before it
 abbrev pub ToldBy : Terms → Cause → Devices → Devices → Type 0

@@ -12,26 +12,6 @@ use Rattle.avr_session.specs.Reporting.{IsOfDesk, SaysPrefix}
 
 -- ---- events
 
-frame_more : {begun later : List (Event OutputEvent)} (more : List (Event OutputEvent)) → AtFrame begun later
-    → AtFrame begun (later ++ more)
-frame_more more x = search rules
-
-part_more : {event : Bytes → OutputEvent} {begun later : List (Event OutputEvent)} (more : List (Event OutputEvent))
-    → AtPart event begun later → AtPart event begun (later ++ more)
-part_more more x = search rules
-
--- more that is due after it, unless it listens
-pub place_more : (cause : Cause) (whole begun later more : List (Event OutputEvent)) → (cause ≡ OfListening → more ≡ [])
-    → StopsAt cause whole begun later → StopsAt cause whole begun (later ++ more)
-place_more OfSending whole begun later more none x = frame_more more x
-place_more OfListening whole begun later more none x = (x.0, ap (λ es. es ++ more) x.1 ∙ none refl)
-place_more (OfFile file NotCreated) whole begun later more none x =
-    record { more = x.more ++ more; due = ap (λ es. es ++ more) x.due; none = x.none }
-place_more (OfFile file NotWritten) whole begun later more none (inl x) = inl (x.0, part_more more x.1)
-place_more (OfFile file NotWritten) whole begun later more none (inr x) = inr (x.0, part_more more x.1)
-place_more OfPrinting whole begun later more none x = part_more more x
-place_more OfMemory whole begun later more none x = x
-
 -- more that happened before it
 pub place_behind : (cause : Cause) (before whole begun later : List (Event OutputEvent))
     → StopsAt cause whole begun later
@@ -83,7 +63,7 @@ prefix_behind {cause = cause} {d = d} {e = e} {f = f} done more kept x = record 
 -- a prefix of some output events is a prefix of more
 pub prefix_of : {cause : Cause} {d e : DeskState} (some more : List OutputEvent) → SaysPrefix cause d e some
     → SaysPrefix cause d e (some ++ more)
-prefix_of {cause = cause} some more x = search (rules, append_assoc, map_append, place_more, desk_says)
+prefix_of {cause = cause} some more x = search (rules, append_assoc, map_append, desk_says)
 
 part_due : (event : Bytes → OutputEvent) (n : ℕ) (bytes : Bytes)
     → AtPart event (Said (event (take n bytes)) ∷ []) (Said (event bytes) ∷ [])

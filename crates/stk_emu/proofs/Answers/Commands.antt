@@ -106,9 +106,6 @@ module _ (part : Part) where
   anew_settled m p s =
       search (rules, settled_idle)
 
-  pub sign_on_keeps : (m : Memories) (p : Programmer) → Idle part m p → Idle part m (device.after (body SignOn) p)
-  sign_on_keeps m p s = s
-
   -- ENTER puts the mode on, and empties the buffers
   pub enter_does : (m : Memories) (p : Programmer) → Idle part m p → Ready part m (device.after (body enter) p)
   enter_does m p s = search rules
@@ -124,7 +121,7 @@ module _ (part : Part) where
 
   pub load_keeps : (address : ℕ) (m : Memories) (p : Programmer) → address < 2 ^ 32 → Ready part m p
       → Ready part m (device.after (body (LoadAddress address)) p)
-  load_keeps address m p fits s = search (rules, obeys, ready_with)
+  load_keeps address m p fits s = search (rules, obeys)
 
   -- the fuses
   pub fuse_does : (f : Fuse) (v : ℕ) (m : Memories) (p : Programmer) → Ready part m p
@@ -134,12 +131,12 @@ module _ (part : Part) where
 
   pub lock_does : (v : ℕ) (m : Memories) (p : Programmer) → Ready part m p
       → Ready part (changed part (program_lock v ∷ []) m) (device.after (body (program_lock v)) p)
-  lock_does v m p s = search (rules, in_mode_is, ready_with)
+  lock_does v m p s = search (rules, in_mode_is)
 
   -- the EESAVE bit is the part's
   pub erase_does : (m : Memories) (p : Programmer) → Ready part m p
       → Ready part (changed part (erase ∷ []) m) (device.after (body erase) p)
-  erase_does m p s = search (rules, in_mode_is, ready_with)
+  erase_does m p s = search (rules, in_mode_is)
 
 -- reading a byte changes nothing
 pub fuse_read_after : (f : Fuse) (p : Programmer) → p.mode ≡ true → device.after (body (read_fuse f)) p ≡ p
@@ -148,10 +145,6 @@ fuse_read_after _ p e = in_mode_is p _ _ e
 
 pub lock_read_after : (p : Programmer) → p.mode ≡ true → device.after (body read_lock) p ≡ p
 lock_read_after p e = in_mode_is p _ _ e
-
-pub signature_read_after : (place : ℕ) (p : Programmer) → p.mode ≡ true
-    → device.after (body (read_signature place)) p ≡ p
-signature_read_after place p e = in_mode_is p _ _ e
 
 pub calibration_read_after : (p : Programmer) → p.mode ≡ true → device.after (body read_calibration) p ≡ p
 calibration_read_after p e = in_mode_is p _ _ e

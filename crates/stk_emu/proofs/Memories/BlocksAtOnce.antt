@@ -11,10 +11,6 @@ use Rattle.stk_emu.proofs.Memories.Blocks.{sent-append}
 use Rattle.stk_emu.proofs.Memories.Pages.{extended_is, load_byte}
 use Rattle.stk_emu.proofs.Memories.BlocksRead.{look_by, look_byte}
 
-cond_twice : (b : Bool) (y x e : ℕ) → cond b y (cond b x e) ≡ cond b y e
-cond_twice true y x e = refl
-cond_twice false y x e = refl
-
 -- a load and an extended address don't affect each other
 loads_apart : (word i x y : ℕ) (bytes : List ℕ) (s : chip.ChipState)
     → record (loaded_in_turn word i bytes (record s { extended = x })) { extended = y }
@@ -58,13 +54,7 @@ all_loads wide a i d (b ∷ bs) s =
     ∙ (all_loads wide a (suc i) b bs s₂
     ∙ (loads_apart (a % 256) (suc i) x y (b ∷ bs) s₁
     ∙ ap (λ e. record (loaded_in_turn (a % 256) (suc i) (b ∷ bs) s₁) { extended = e })
-    (search (rules, cond_twice))))
-
--- a chip that loaded a block
-load_answer : (test : Bool) (whole s : chip.ChipState) (answer : Bool × chip.ChipState)
-    → answer ≡ cond test (true, whole) (false, s) → answer.0 ≡ true → answer.1 ≡ whole
-load_answer true whole s answer e t = ap (λ z. z.1) e
-load_answer false whole s answer e t = absurd (false≢true (sym (ap (λ z. z.0) e) ∙ t))
+    (search rules)))
 
 -- the block was loaded, and the extended address of its last word is sent
 pub block_is_loads : (wide : Bool) (cmd a last : ℕ) (bytes : List ℕ) (s loaded new : chip.ChipState) (done : Bool)
@@ -74,7 +64,7 @@ pub block_is_loads : (wide : Bool) (cmd a last : ℕ) (bytes : List ℕ) (s load
     → new ≡ sent_to (flash_loads wide cmd a 0 bytes) s
 block_is_loads wide cmd a last [] s loaded new done c some l answer is ext = absurd (omega arith)
 block_is_loads wide cmd a last (d ∷ ds) s loaded new done c some l answer is ext =
-    search (rules, load_answer, extended_is, keeps_extended, all_loads)
+    search (rules, extended_is, keeps_extended, all_loads)
 
 -- if the extended address is right already, reading changes nothing
 all_looks : (wide : Bool) (a i n : ℕ) (s : chip.ChipState) → cond wide (a / 65536 % 256) s.extended ≡ s.extended
@@ -88,18 +78,12 @@ all_looks wide a i (suc n) s right few inside =
     let inner : high w * 256 + low w ≡ a % 65536 + i / 2 = search rules in
     search (rules, extended_is, look_byte, offset_at, look_by, all_looks wide a (suc i) n s right few (omega arith))
 
--- an extended address that is sent twice
-extended_twice : (wide : Bool) (a b : ℕ) (s : chip.ChipState) → a / 65536 % 256 ≡ b / 65536 % 256
-    → sent_to (extension wide b) (sent_to (extension wide a) s) ≡ sent_to (extension wide b) s
-extended_twice true a b s e = refl
-extended_twice false a b s e = refl
-
 looks_again : (wide : Bool) (cmd a n : ℕ) (s new : chip.ChipState) → a < 2147483648 → 0 < n
     → new ≡ sent_to (extension wide a) s
     → flash_looks wide cmd a 0 n new ≡ flash_looks wide cmd a 0 n s
 looks_again wide cmd a zero s new few some ext = absurd (omega arith)
 looks_again wide cmd a (suc n) s new few some ext =
-    search (rules, extended_twice)
+    search rules
 
 in_flash : (test : Bool) (bytes whole : List ℕ) → Some bytes ≡ cond test (Some whole) None
     → (test ≡ true) × (bytes ≡ whole)
@@ -116,7 +100,7 @@ block_is_looks wide cmd a word n bytes s new c few some w ext given =
     let extended : new.extended ≡ cond wide (a / 65536 % 256) s.extended =
     ap (λ (t : chip.ChipState). t.extended) (ext ∙ extended_is wide a s) in
     let right : cond wide (a / 65536 % 256) new.extended ≡ new.extended =
-    search (rules, cond_twice) in
+    search rules in
     ap (λ k. flash_looks wide k a 0 n s) c
     ∙ (sym (looks_again wide 0x20 a n s new few some ext)
     ∙ (search (rules, all_looks)))

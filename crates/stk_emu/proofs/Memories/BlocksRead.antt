@@ -5,7 +5,7 @@ use Rattle.std.proofs.lemmas.Bool.{cond-false}
 use Rattle.std.specs.Prelude.{slice_index}
 use Rattle.avr_part.specs.State as chip
 use Rattle.stk_emu.specs.Programmer.{sent_to, extension, flash_looks, eeprom_looks, look, for_half, word_at, byte_address, at_address, high, low}
-use Rattle.stk_emu.proofs.Memories.Pages.{extended_is, by_half, word_whole}
+use Rattle.stk_emu.proofs.Memories.Pages.{extended_is, word_whole}
 
 -- a memory from a place on, by its first byte
 one_more : (xs : List ℕ) (j n : ℕ) → j < length xs → get_or xs j 0 ∷ take n (drop (suc j) xs) ≡ take (suc n) (drop j xs)
@@ -25,7 +25,7 @@ pub look_byte : (i h lo : ℕ) (s : chip.ChipState) → chip.spi_of (for_half 0x
       s,
     )
 look_byte i h lo s =
-    search (rules, by_half)
+    search rules
 
 -- the bytes of a block, and the chip with some extended address
 pub record Looked (wide : Bool) (j n : ℕ) (s : chip.ChipState) (looked : List ℕ × chip.ChipState) : Type 0 where

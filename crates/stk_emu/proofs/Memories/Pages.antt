@@ -29,11 +29,6 @@ use Rattle.stk_emu.proofs.Memories.Runs.{narrow_loaded}
 abbrev pub is_wide : Part → Bool
 is_wide part = nat_lt 131072 part.flash_size
 
-pub wide_loaded : (address : ℕ) (p : Programmer) → address < 2147483648
-    → device.after (body (LoadAddress (address + 2147483648))) p ≡ record p { address = address; wide = true }
-wide_loaded address p few =
-    search (rules, obeys, le-leb)
-
 -- the words of a page whose number is given
 words_twice : (n page : ℕ) → page % 2 ≡ 0 → n * (page / 2) * 2 ≡ n * page
 words_twice n page even = mul_assoc n (page / 2) 2 ∙ ap (λ x. n * x) (omega arith)
@@ -45,7 +40,7 @@ page_even part sound n = omega (arith, words_twice n part.flash_page sound.flash
 -- the address that is loaded for a place in flash
 pub flash_loaded_at : (part : Part) (start : ℕ) (p : Programmer) → start < 4294967296
     → device.after (body (load_flash part start)) p ≡ record p { address = start / 2; wide = is_wide part }
-flash_loaded_at part start p few = search (rules, cases_Bool, wide_loaded, narrow_loaded)
+flash_loaded_at part start p few = search (rules, cases_Bool, narrow_loaded)
 
 -- and the byte of that address
 pub flash_address_back : (part : Part) (start : ℕ) → start < 4294967296 → start % 2 ≡ 0
@@ -57,16 +52,12 @@ pub extended_is : (wide : Bool) (a : ℕ) (s : chip.ChipState)
 extended_is true a s = refl
 extended_is false a s = refl
 
--- what holds of both halves of a word holds of each byte's
-pub by_half : (cmd i : ℕ) (P : ℕ → ℕ → Type 0) → P cmd 0 → P (bit_or cmd 8) 1 → P (for_half cmd i) (i % 2)
-by_half cmd i P low_one high_one = search (rules, cases_Bool, eqb-true, eqb-false)
-
 -- one byte is loaded
 pub load_byte : (i h lo d : ℕ) (s : chip.ChipState)
     → (chip.spi_of (for_half 0x40 i ∷ h ∷ lo ∷ d ∷ []) s).1
     ≡ record s { flash_buffer = set s.flash_buffer (lo % (s.part.flash_page / 2) * 2 + i % 2) d }
 load_byte i h lo d s =
-    search (rules, by_half)
+    search rules
 
 -- the buffer after the loads, and some extended address
 record Loaded (wide : Bool) (i : ℕ) (ds : List ℕ) (s t : chip.ChipState) : Type 0 where
@@ -131,14 +122,6 @@ flash_written wide s a start size page pe se few inside narrow at =
 pub flash_test : (n : ℕ) → 0 < n → n % 2 ≡ 0 → (not (n == 0) && (n % 2 == 0) && (n == n) && true) ≡ true
 flash_test n some even = search (rules, and_from, ne_eqb, eq-eqb)
 
-flash_after : (page : List ℕ) (p : Programmer) → p.mode ≡ true → 0 < length page → length page < 65536
-    → length page % 2 ≡ 0
-    → device.after (body (program_page page)) p
-    ≡ with_address_moved (length page / 2) (with_instructions
-    (flash_loads p.wide 0x40 p.address 0 page ++ flash_writes p.wide 0x4C p.address true) p)
-flash_after page p mode some few even =
-    search (rules, obeys, in_mode_is, cond-true, flash_test)
-
 module _ (part : Part) (sound : IsPart part) where
   -- the chip after a page
   record Paged (n : ℕ) (page : List ℕ) (s t : chip.ChipState) : Type 0 where
@@ -181,7 +164,7 @@ module _ (part : Part) (sound : IsPart part) where
       → changed part (load_flash part (n * part.flash_page) ∷ program_page page ∷ []) m
       ≡ effects part (Write Flash (image_at (n * part.flash_page) page) ∷ []) m
   page_changed n page m is_page =
-      search (rules, flash_address_back, page_even)
+      search (rules, page_even)
 
   pub page_does : (n : ℕ) (page : List ℕ) (m : Memories) (p : Programmer) → IsPage part n page → Ready part m p
       → Ready part (changed part (load_flash part (n * part.flash_page) ∷ program_page page ∷ []) m)
@@ -198,7 +181,7 @@ module _ (part : Part) (sound : IsPart part) where
       let q : Programmer = record p { address = a; wide = wide } in
       let paged =
       page_chip p.chip n page s.part_is s.flash_buffer (λ w. s.extended (ltb-false 131072 part.flash_size w)) is_page in
-      search (rules, flash_loaded_at, words_twice, flash_after, page_changed)
+      search (rules, flash_loaded_at, words_twice, page_changed)
     where
       narrow_test : IsNarrow part → is_wide part ≡ false
       narrow_test is_narrow = le-ltb 131072 part.flash_size is_narrow

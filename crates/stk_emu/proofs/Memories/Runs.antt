@@ -56,16 +56,12 @@ eeprom_written : (s : chip.ChipState) (a : ℕ) → a < 65536 → a < s.part.eep
 eeprom_written s a few inside =
     search (rules, mod-eq_of_lt)
 
--- a run of the program command, by its count
-pub program_test : (n : ℕ) → 0 < n → (not (n == 0) && (n == n)) ≡ true
-program_test n some = and_from _ _ (ap not (ne_eqb n 0 (λ e. omega (arith, e)))) (eq-eqb n n refl)
-
 eeprom_after : (run : List ℕ) (p : Programmer) → p.mode ≡ true → 0 < length run → length run < 65536
     → device.after (body (program_eeprom_block run)) p
     ≡ with_address_moved (length run) (with_instructions
     (eeprom_loads 0xC1 p.address 0 run ++ eeprom_writes 0xC2 p.address true) p)
 eeprom_after run p mode some few =
-    search (rules, obeys, in_mode_is, cond-true, program_test)
+    search (rules, obeys, in_mode_is, cond-true)
 
 module _ (part : Part) (sound : IsPart part) where
   -- the chip after a run

@@ -29,10 +29,6 @@ none_good n (piece ∷ pieces) e = elim (cases_Bool (is_good piece)) [
 frame_cut : (n : ℕ) (bytes more : List ℕ) → IsBody bytes → cut (frame n bytes ++ more) ≡ frame n bytes ∷ cut more
 frame_cut n bytes more b = cut_first (frame n bytes) more (frame_is_piece n bytes b.some b.few)
 
--- a frame of another sequence is skipped
-other_frame : (n seq : ℕ) (bytes : List ℕ) → seq ≢ n → is_answer n (frame seq bytes) ≡ false
-other_frame n seq bytes other = and_right (is_good (frame seq bytes)) (seq == n) (ne_eqb seq n other)
-
 own_frame : (n : ℕ) (bytes : List ℕ) → IsBody bytes → is_answer n (frame n bytes) ≡ true
 own_frame n bytes b = and_from _ _ (frame_is_good n bytes b.some) (eq-eqb n n refl)
 
@@ -45,7 +41,7 @@ pub none_skipped : (n : ℕ) → Skipped n []
 none_skipped n = record { first = λ more. further_zero (first_answer n (cut more)) }
 
 pub frame_skipped : (n seq : ℕ) (bytes : List ℕ) → seq ≢ n → IsBody bytes → Skipped n (frame seq bytes)
-frame_skipped n seq bytes other carried = search (rules, frame_cut, cond-false, other_frame)
+frame_skipped n seq bytes other carried = search (rules, frame_cut, cond-false)
 
 pub both_skipped : (n : ℕ) (x y : List ℕ) → Skipped n x → Skipped n y → Skipped n (x ++ y)
 both_skipped n x y f g = record {
@@ -58,10 +54,6 @@ late_skipped : (k n : ℕ) (late : List ℕ) → ((seq : ℕ) → later k seq �
 late_skipped k n late other (inl e) = rw e (none_skipped n)
 late_skipped k n late other (inr l) = rw l.is (frame_skipped n l.seq l.bytes (other l.seq l.before) l.carried)
 
-late_length : (k n : ℕ) (late : List ℕ) → IsPast k n late → length late ≤ LARGEST_FRAME
-late_length k n late (inl e) = rw e (omega arith)
-late_length k n late (inr l) = rw (l.is, length_frame l.seq l.bytes) (let f = l.carried.few in omega arith)
-
 -- all that wait
 clear_skipped : (n : ℕ) (late : Late) → IsClear n late → Skipped n (waiting late)
 clear_skipped n late c =
@@ -72,7 +64,7 @@ clear_skipped n late c =
 
 clear_length : (n : ℕ) (late : Late) → IsClear n late → length (waiting late) ≤ 3 * LARGEST_FRAME
 clear_length n late c =
-    search (rules, late_length, length-append)
+    search (rules, length-append)
 
 -- the answer itself
 pub found_frame : (n : ℕ) (bytes : List ℕ) → IsBody bytes

@@ -59,18 +59,11 @@ frames_append [] y = refl
 frames_append (Frame bytes ∷ x) y = ap (λ frames. bytes ∷ frames) (frames_append x y)
 frames_append (Said e ∷ x) y = frames_append x y
 
-begun_most : {E : Type 0} (SaidPart : E → E → Type 0) (begun later : List (Event E)) → IsBegun SaidPart begun later
-    → length (frames_in begun) ≤ length (frames_in later)
-begun_most SaidPart [] later f = omega arith
-begun_most SaidPart (Frame part ∷ []) (Frame whole ∷ later) f = omega arith
-begun_most SaidPart (Said part ∷ []) (Said whole ∷ later) f = omega arith
-begun_most SaidPart _ _ f = absurd f
-
 -- a prefix of events has no more frames
 pub prefix_most : {E : Type 0} {SaidPart : E → E → Type 0} {shown events : List (Event E)}
     → IsPrefixOfEvents SaidPart shown events → length (frames_in shown) ≤ length (frames_in events)
 prefix_most {SaidPart = SaidPart} {shown = shown} {events = events} f =
-    search (rules, begun_most, frames_append, length-append)
+    search (rules, frames_append, length-append)
 
 -- what a dialog asks bounds what it sends
 pub sends_asked : {E R : Type 0} (SaidPart : E → E → Type 0) (n : ℕ) (d : Dialog E R) → AsksAtMost n d

@@ -134,16 +134,10 @@ turns_asking body answered seq u x y quiet is waits =
 
 -- prefixes of events
 
-begun_more : {E : Type 0} (SaidPart : E → E → Type 0) (begun later more : List (Event E)) → IsBegun SaidPart begun later
-    → IsBegun SaidPart begun (later ++ more)
-begun_more SaidPart [] later more part = tt
-begun_more SaidPart (e ∷ []) (x ∷ later) more part = part
-begun_more SaidPart _ _ more part = absurd part
-
 -- a prefix of the events is a prefix if more follow
 pub prefix_more : {E : Type 0} (SaidPart : E → E → Type 0) {shown events : List (Event E)} (more : List (Event E))
     → IsPrefixOfEvents SaidPart shown events → IsPrefixOfEvents SaidPart shown (events ++ more)
-prefix_more SaidPart more f = search (rules, append_assoc, begun_more)
+prefix_more SaidPart more f = search (rules, append_assoc)
 
 -- and a prefix after events that happened whole
 pub prefix_behind : {E : Type 0} (SaidPart : E → E → Type 0) {shown events : List (Event E)} (before : List (Event E))
