@@ -5,9 +5,8 @@ use Rattle.std.specs.Prelude.{All, nat_le, ◌&&◌, if◌then◌else◌}
 use Rattle.avr_part.specs.Part.{Part, IsPart}
 use Rattle.avr_plan.specs.Plan.{Plan, IsFitted}
 use Rattle.stk_frame.specs.Commands.{body}
-use Rattle.stk_frame.specs.HostCommands.{read_signature}
 use Rattle.stk_frame.specs.declared.command.Command.{Command}
-use Rattle.stk_host.specs.Bound.{opening_steps, erasing_steps, closing_steps}
+use Rattle.stk_host.specs.Bound.{erasing_steps, closing_steps}
 use Rattle.stk_host.specs.Dialog.{Dialog, Done, Say, Ask}
 use Rattle.stk_host.specs.ReadSteps.{read_steps}
 use Rattle.stk_emu.specs.Along.{AsksBodies}

@@ -1,5 +1,5 @@
 -- The actions of a session, by the page writes that they make one after another.
-use Rattle.std.proofs.Common.{◌≡◌, ℕ, zero, suc, ◌+◌, ◌-◌, ◌≤◌, List, [], ◌∷◌, ◌++◌, length, refl, sym, ap, ◌∙◌, subst, arith, inl, inr, Ok, Result, rules}
+use Rattle.std.proofs.Common.{◌≡◌, ℕ, zero, suc, ◌+◌, ◌-◌, ◌≤◌, List, [], ◌∷◌, ◌++◌, length, refl, sym, ap, ◌∙◌, subst, arith, inl, inr, Result, rules}
 use Rattle.std.proofs.lemmas.List.{length-append}
 use Rattle.std.specs.Prelude.{min}
 use Rattle.avr_desk.specs.Said.{OutputEvent}
@@ -7,7 +7,7 @@ use Rattle.avr_part.specs.Part.{Part, IsPart}
 use Rattle.stk_frame.specs.declared.command.Command.{Command}
 use Rattle.stk_host.specs.declared.fault.HostFault.{HostFault}
 use Rattle.stk_host.specs.Dialog.{Dialog, Done, Say, Ask, ◌>>=◌}
-use Rattle.stk_host.specs.Steps.{StepOutcome, step, play}
+use Rattle.stk_host.specs.Steps.{step, play}
 use Rattle.stk_host.specs.Operations.{operation}
 use Rattle.stk_emu.specs.Turn.{Turn}
 use Rattle.stk_emu.specs.Programmer.{Programmer}
@@ -25,7 +25,7 @@ use Rattle.stk_emu.proofs.Answers.Commands.{settled_idle}
 use Rattle.avr_laws.proofs.PageWrites.Counts.{tallies_none, tallies_as, tallies_bind, steps_all, tallies_play, none_left}
 use Rattle.avr_session.specs.Standing.{Standing, Fine}
 use Rattle.avr_session.specs.Session.{reported, unless_fault}
-use Rattle.avr_laws.specs.Made.{none_made, made_unless_fault, step_count, steps_done}
+use Rattle.avr_laws.specs.Made.{none_made, made_unless_fault, steps_done}
 use Rattle.avr_laws.proofs.AnyLine.FirstSteps.{Rests, quiet_stays, changed_min, changed_prefix, changed_behind, all_on, all_changed}
 use Rattle.avr_laws.proofs.AnyLine.Calls.{says≢done, told_programmer, told_fine}
 

@@ -18,7 +18,7 @@ use Rattle.stk_emu.specs.Programmer.{Programmer}
 use Rattle.stk_emu.specs.Device.{device}
 use Rattle.stk_emu.specs.Along.{along}
 use Rattle.stk_emu.specs.Effect.{Memories}
-use Rattle.avr_laws.specs.Few.{bad, bad_became, bad_instead, bad_in, FewOf, AreFew, lost, each_second, AreGood}
+use Rattle.avr_laws.specs.Few.{bad, bad_became, bad_in, FewOf, AreFew, lost, each_second, AreGood}
 use Rattle.stk_emu.specs.Fits.{Fits}
 use Rattle.stk_emu.specs.Settled.{Ready, FitsPart}
 use Rattle.stk_emu.specs.PageWrites.{changed, changed_by, IsStep, Erases, ProgramsPage, ProgramsRun, ProgramsFuse, ProgramsLock, ReadsFlash, ReadsEeprom, ReadsFuse, ReadsLock, ReadsSignature, ReadsCalibration, AreSteps}

@@ -1,5 +1,5 @@
 -- A programmer at its beginning, and runs of steps from a settled one.
-use Rattle.std.proofs.Common.{◌≡◌, ℕ, List, [], ◌∷◌, rules}
+use Rattle.std.proofs.Common.{ℕ, List, [], ◌∷◌, rules}
 use Rattle.avr_part.specs.State as chip
 use Rattle.avr_part.specs.Sound.{IsSoundChip}
 use Rattle.avr_part.specs.Part.{Part, IsPart}

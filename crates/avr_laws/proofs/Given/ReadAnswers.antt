@@ -1,5 +1,5 @@
 -- The programmer's answers to the commands that read, and its state after them.
-use Rattle.std.proofs.Common.{◌≡◌, ℕ, ◌/◌, ◌%◌, ◌≤◌, ◌<◌, ap, arith, true, false, rules}
+use Rattle.std.proofs.Common.{◌≡◌, ℕ, ◌/◌, ◌%◌, ◌≤◌, ◌<◌, true, false, rules}
 use Rattle.std.proofs.lemmas.Bool.{ne_eqb, eq-eqb, and_from, le-leb, le-ltb, cond-true}
 use Rattle.std.specs.Prelude.{◌==◌, ◌&&◌, not, nat_le}
 use Rattle.avr_part.specs.declared.part.Mem.TheVariants.{Flash, Eeprom}
@@ -7,7 +7,7 @@ use Rattle.avr_part.specs.Part.{Part, IsPart}
 use Rattle.stk_frame.specs.Commands.{body}
 use Rattle.stk_frame.specs.HostCommands.{read_flash_block, read_eeprom_block}
 use Rattle.stk_host.specs.Places.{load_flash, load_eeprom}
-use Rattle.stk_emu.specs.Programmer.{Programmer, with_address_moved, block, flash_looks, eeprom_looks}
+use Rattle.stk_emu.specs.Programmer.{Programmer, with_address_moved, block, flash_looks}
 use Rattle.stk_emu.specs.Device.{device}
 use Rattle.stk_emu.specs.Effect.{Memories}
 use Rattle.stk_emu.specs.Settled.{Ready, IsNarrow}

@@ -10,7 +10,6 @@ use Rattle.stk_frame.specs.declared.command.Command.{Command}
 use Rattle.stk_frame.specs.declared.host_command.Fuse.{Fuse}
 use Rattle.stk_frame.specs.declared.host_command.Fuse.TheVariants.{Low, High, Extended}
 use Rattle.stk_frame.specs.Commands.{body, data_of}
-use Rattle.stk_frame.specs.Decoding as decoding
 use Rattle.stk_frame.specs.HostCommands.{program_page, program_eeprom_block, program_fuse, read_flash_block, read_eeprom_block, read_fuse, read_lock, read_signature, read_calibration}
 use Rattle.stk_host.specs.Tape.{Answered}
 use Rattle.stk_host.specs.Places.{flash_address, load_flash, load_eeprom}
@@ -23,8 +22,8 @@ use Rattle.stk_emu.specs.Effect.{Memories, effect, effects, Item}
 use Rattle.stk_emu.specs.Settled.{Settled, Ready, FitsPart}
 use Rattle.stk_emu.specs.PageWrites.{changed, page_write_of, IsStep, Erases, ProgramsPage, ProgramsRun, ProgramsFuse, ProgramsLock, ReadsFlash, ReadsEeprom, ReadsFuse, ReadsLock, ReadsSignature, ReadsCalibration, IsPage, FitsEepromPage, IsBlock, AreWords}
 use Rattle.stk_emu.specs.Given.{given_by, on_data, reply_to, joined_reply, Gives}
-use Rattle.stk_emu.proofs.Answers.Commands.{obeys, load_keeps, settled_ready}
-use Rattle.stk_emu.proofs.Memories.Pages.{is_wide, flash_loaded_at, flash_address_back, flash_test}
+use Rattle.stk_emu.proofs.Answers.Commands.{settled_ready}
+use Rattle.stk_emu.proofs.Memories.Pages.{is_wide, flash_loaded_at, flash_address_back}
 use Rattle.stk_emu.proofs.Memories.Runs.{narrow_loaded}
 use Rattle.stk_emu.proofs.Memories.BlocksRead.{Looked, flash_looked, eeprom_looked}
 use Rattle.avr_laws.proofs.Given.ReadAnswers.{flash_block}

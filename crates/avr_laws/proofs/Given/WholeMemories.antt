@@ -10,7 +10,6 @@ use Rattle.stk_host.specs.ReadSteps.{read_count, read_step, read_steps}
 use Rattle.stk_emu.specs.Effect.{Memories, memory_in}
 use Rattle.stk_emu.specs.Settled.{FitsPart}
 use Rattle.stk_emu.specs.Given.{all_given}
-use Rattle.stk_emu.proofs.Memories.Pages.{flash_address_back}
 
 -- a block, then the rest
 block_join : (xs : List ℕ) (start size : ℕ) → length xs ≡ size

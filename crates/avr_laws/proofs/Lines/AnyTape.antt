@@ -3,16 +3,15 @@ use Rattle.std.proofs.Common.{◌≡◌, ◌≤◌, ℕ, zero, suc, List, [], �
 use Rattle.std.proofs.lemmas.Bool.{cases_Bool, cond-true, cond-false}
 use Rattle.std.proofs.lemmas.Slice.Eq.{bytes_eq-Decides}
 use Rattle.std.proofs.lemmas.Option.{none-some}
-use Rattle.std.specs.Prelude.{filter, if◌then◌else◌}
-use Rattle.std.specs.Str.{bytes_eq}
+use Rattle.std.specs.Prelude.{filter}
 use Rattle.stk_frame.specs.Frame.{frame}
 use Rattle.stk_frame.specs.Cut.{frames, is_good}
 use Rattle.stk_frame.proofs.Laws.{frame_is_good, body_of_frame}
 use Rattle.stk_host.specs.Tape.{Tape, Reading, Answered, Silent, answer}
 use Rattle.stk_host.specs.Dialog.{Dialog, Done, Say, Ask, Frame, Played, played, behind, by_answer, next, frames_in}
-use Rattle.stk_emu.specs.Device.{Device, after_frame, after_frames, refusal}
+use Rattle.stk_emu.specs.Device.{Device, after_frame, after_frames}
 use Rattle.stk_emu.specs.Lawful.{IsBody}
-use Rattle.stk_emu.specs.Turn.{Became, Kept, Obeyed, Anew, Refusal, Nothing, Turn, Right, Wrong, after_became, after_turn, became_in, turn_reading, IsHonest}
+use Rattle.stk_emu.specs.Turn.{Became, Kept, Obeyed, Anew, Nothing, Turn, Wrong, after_became, after_turn, turn_reading, IsHonest}
 use Rattle.stk_emu.specs.Along.{along, AsksBodies}
 use Rattle.avr_laws.specs.AnyTape.{first_became, other_becames, on_answer, AreHonest, after_pieces, turn_by, turns_from, turns_heard, GoesAs, let_through, CameThrough, became_by}
 use Rattle.avr_laws.proofs.Given.LaterAnswers.{answer_extends}

@@ -9,7 +9,7 @@ use Rattle.stk_emu.specs.declared.fate.Fate.{Fate}
 use Rattle.stk_emu.specs.Device.{Device}
 use Rattle.stk_emu.specs.Wire.{first_fate, other_fates, turn_of, turns_of, becames_of, IsLawfulFate, AreLawful, Wire, wire_behind, wire_after, tape_of}
 use Rattle.stk_emu.specs.Lawful.{IsClear}
-use Rattle.stk_emu.specs.Turn.{Turn, Right, Wrong, became_in, after_became, after_turn, turn_reading}
+use Rattle.stk_emu.specs.Turn.{Turn, after_turn, turn_reading}
 use Rattle.stk_emu.specs.Along.{along, AsksBodies}
 use Rattle.stk_emu.proofs.Answers.BodySizes.{AnswersBodies}
 use Rattle.stk_emu.proofs.Wires.Arrivals.{arrival_read, arrival_leaves, arrival_late}

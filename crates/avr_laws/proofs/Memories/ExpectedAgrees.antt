@@ -1,5 +1,5 @@
 -- An expected run is fine exactly if its comparisons agree.
-use Rattle.std.proofs.Common.{◌≡◌, arith, refl, sym, subst, List, [], ◌∷◌, Option, Some, None, rules}
+use Rattle.std.proofs.Common.{◌≡◌, refl, sym, subst, List, [], ◌∷◌, Option, Some, None, rules}
 use Rattle.std.specs.Prelude.{⊤, ◌↔◌}
 use Rattle.avr_cli.specs.declared.settings.Switches.{Switches}
 use Rattle.avr_part.specs.Part.{Part}
@@ -7,7 +7,7 @@ use Rattle.avr_part.specs.declared.part.Mem.{Mem}
 use Rattle.avr_plan.specs.Plan.{Plan}
 use Rattle.avr_session.specs.Standing.{Standing, Fine}
 use Rattle.avr_session.specs.Actions.{Action, CompareImage, actions}
-use Rattle.avr_session.specs.Session.{standing, status_of}
+use Rattle.avr_session.specs.Session.{standing}
 use Rattle.stk_host.specs.Operations.{Difference, differs}
 use Rattle.stk_emu.specs.Effect.{Memories, effects}
 use Rattle.avr_laws.proofs.Given.Comparisons.{no_difference, held_same}

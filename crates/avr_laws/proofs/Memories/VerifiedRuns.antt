@@ -21,7 +21,7 @@ use Rattle.avr_laws.specs.Items.{actions_items, items, asked_items, has_erase}
 use Rattle.avr_laws.specs.Outcome.{IsDone}
 use Rattle.avr_laws.specs.Written.{IsWritten, written_to}
 use Rattle.avr_laws.proofs.Plans.Fits.{tasks_fit}
-use Rattle.avr_laws.proofs.Plans.Items.{writes, erase_if, items_are, tasks_agree, plan_agrees, items_by_tasks}
+use Rattle.avr_laws.proofs.Plans.Items.{writes, erase_if, items_are, tasks_agree, items_by_tasks}
 use Rattle.avr_laws.proofs.Memories.ExpectedAgrees.{expected_status}
 use Rattle.avr_laws.proofs.Memories.LaidImages.{Left, tasks_left}
 use Rattle.avr_laws.proofs.AnyLine.FirstSteps.{effects_sizes}

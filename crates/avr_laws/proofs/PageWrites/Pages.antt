@@ -1,5 +1,5 @@
 -- The pages of a write do what the write does.
-use Rattle.std.proofs.Common.{◌≡◌, ℕ, zero, suc, ◌+◌, ◌-◌, ◌*◌, ◌/◌, ◌%◌, ◌≤◌, ◌<◌, List, [], ◌∷◌, ◌++◌, length, get_or, refl, sym, ap, ◌∙◌, subst, append_assoc, arith, inl, inr, true, false, Option, Some, None, is_some, bit_and, rules}
+use Rattle.std.proofs.Common.{◌≡◌, ℕ, zero, suc, ◌+◌, ◌-◌, ◌*◌, ◌/◌, ◌≤◌, ◌<◌, List, [], ◌∷◌, ◌++◌, length, get_or, refl, sym, ap, ◌∙◌, subst, append_assoc, arith, inl, inr, true, false, Option, Some, None, is_some, bit_and, rules}
 use Rattle.std.proofs.lemmas.Grind.{and_numeral}
 use Rattle.std.proofs.lemmas.Nat.{div-add-mod', and_le_l}
 use Rattle.std.proofs.lemmas.Bool.{cases_Bool, false≢true, cond-true, cond-false}
@@ -14,9 +14,9 @@ use Rattle.stk_frame.specs.declared.command.Command.{Command}
 use Rattle.stk_host.specs.Places.{each_from}
 use Rattle.stk_host.specs.WriteSteps.{is_used, page_step, page_steps}
 use Rattle.stk_emu.specs.Effect.{Memories, Image, Item, Write, effect, effects, and_in, and_with, are_locked}
-use Rattle.stk_emu.specs.PageWrites.{image_at, page_write_of, page_writes_of}
+use Rattle.stk_emu.specs.PageWrites.{image_at, page_writes_of}
 use Rattle.stk_emu.proofs.Memories.LaidImages.{get_and_in, length-and_in}
-use Rattle.stk_emu.proofs.Memories.Pages.{flash_address_back, page_even}
+use Rattle.stk_emu.proofs.Memories.Pages.{page_even}
 use Rattle.avr_laws.proofs.PageWrites.Places.{Written, Changed, changed_first, gap_first, nothing_left, all_anded, placed_before, placed_within, placed_behind}
 
 pub page_writes_on : (xs ys : List (List Command)) → page_writes_of (xs ++ ys) ≡ page_writes_of xs ++ page_writes_of ys

@@ -1,7 +1,7 @@
 -- The runs of a write do what the write does.
-use Rattle.std.proofs.Common.{◌≡◌, ℕ, zero, suc, ◌+◌, ◌-◌, ◌*◌, ◌/◌, ◌%◌, ◌≤◌, ◌<◌, List, ◌∷◌, ◌++◌, length, refl, sym, ap, ◌∙◌, arith, inl, inr, ◌⊎◌, true, false, Option, Some, None, is_some, unwrap_or, rules}
-use Rattle.std.proofs.lemmas.Bool.{cases_Bool, false≢true, cond-true, cond-false}
-use Rattle.avr_image.specs.Image.{byte_at, filled_bytes, or_blank, run_end, first_from}
+use Rattle.std.proofs.Common.{◌≡◌, ℕ, zero, suc, ◌+◌, ◌-◌, ◌*◌, ◌/◌, ◌%◌, ◌≤◌, ◌<◌, List, ◌∷◌, length, refl, sym, ap, ◌∙◌, arith, inl, inr, ◌⊎◌, true, false, Option, Some, None, is_some, unwrap_or, rules}
+use Rattle.std.proofs.lemmas.Bool.{cases_Bool, cond-true, cond-false}
+use Rattle.avr_image.specs.Image.{byte_at, filled_bytes, run_end, first_from}
 use Rattle.avr_image.specs.Walk.{IsNextHeld}
 use Rattle.avr_image.proofs.Lemmas.{filled_is, run_is_longest, next_held, none_held}
 use Rattle.avr_part.specs.declared.part.Mem.TheVariants.{Eeprom}

@@ -17,7 +17,7 @@ use Rattle.avr_laws.proofs.PageWrites.EachMemory.{keeps_zeros, laid, spares, wri
 use Rattle.avr_laws.specs.Again.{chip_of, AgreesAnyway}
 use Rattle.avr_laws.specs.Agrees.{Agrees, ActionAgrees, ActionsAgree}
 use Rattle.avr_laws.specs.Items.{action_items, actions_items, items, has_erase}
-use Rattle.avr_laws.proofs.Plans.Items.{begins, erase_if, tasks_write, tasks_agree, plan_agrees}
+use Rattle.avr_laws.proofs.Plans.Items.{begins, erase_if, tasks_write, plan_agrees}
 
 -- ---- bytes: if two agree, the third agrees with them
 

@@ -1,12 +1,12 @@
 -- The first fault of a record file stays its fault, whatever follows.
-use Rattle.std.proofs.Common.{◌≡◌, ◌∙◌, sym, ap, refl, ℕ, List, [], ◌∷◌, ◌++◌, map, Some, Err, rules}
+use Rattle.std.proofs.Common.{◌≡◌, ◌∙◌, ap, refl, ℕ, List, [], ◌∷◌, ◌++◌, Some, Err, rules}
 use Rattle.std.proofs.lemmas.List.{append-nil, map-append}
 use Rattle.avr_records.proofs.Readers.LaterLines.{parts-some}
 use Rattle.avr_records.proofs.Readers.Fed.{goes-on, closed-prefix}
 use Rattle.avr_records.proofs.Readers.WholeFiles.{among-stands}
-use Rattle.avr_records.specs.Closed.{all_but_last, fault_among, closed_fault}
+use Rattle.avr_records.specs.Closed.{all_but_last, closed_fault}
 use Rattle.avr_records.specs.Lines.{lines, is_line_end}
-use Rattle.avr_records.specs.Reading.{said_by_line, image_in_text}
+use Rattle.avr_records.specs.Reading.{image_in_text}
 use Rattle.avr_records.specs.declared.kind.Kind.{Kind}
 use Rattle.avr_records.specs.declared.fault.RecordFault.{RecordFault}
 

@@ -1,6 +1,5 @@
 -- An image file that is read in pieces.
-use Rattle.std.proofs.Common.{◌≡◌, ◌∙◌, sym, ap, refl, arith, ℕ, ◌+◌, ◌≤◌, ◌<◌, [], ◌++◌, length, take, true, false, nat_le, Ok, Err, append_assoc, append-nil, subst, length-append, rules}
-use Rattle.std.proofs.Math.Bool.{or-false}
+use Rattle.std.proofs.Common.{◌≡◌, ◌∙◌, sym, ap, refl, arith, ℕ, ◌+◌, ◌≤◌, ◌<◌, ◌++◌, length, take, true, false, nat_le, Ok, Err, append_assoc, append-nil, length-append, rules}
 use Rattle.std.proofs.Math.Seq.{take-append-add}
 use Rattle.std.proofs.lemmas.Bool.Decides.{nat_tests}
 use Rattle.std.proofs.lemmas.List.{take-take, length-take-le, take-append-le}
@@ -8,9 +7,7 @@ use Rattle.avr_desk.proofs.FileUses.Pieces.{read_next, read_piece, opened_read}
 use Rattle.avr_cli.specs.declared.update.Format.{Format}
 use Rattle.avr_cli.specs.declared.update.Format.TheVariants as letter
 use Rattle.avr_desk.specs.Files.{after_reading}
-use Rattle.avr_desk.specs.Record.{DeskState, Record, Passes, after_open, after_read, noted, Bytes}
-use Rattle.avr_desk.specs.declared.record.Open.{Open}
-use Rattle.avr_desk.specs.declared.record.Open.TheVariants.{Closed, ToRead, ToWrite}
+use Rattle.avr_desk.specs.Record.{DeskState, Record, Passes, after_open, after_read, Bytes}
 use Rattle.avr_desk.specs.declared.files.FileFault.TheVariants.{NotRead, Memory}
 use Rattle.avr_records.specs.Detect.{kind_of_file}
 use Rattle.avr_records.specs.declared.kind.Found.{Found}

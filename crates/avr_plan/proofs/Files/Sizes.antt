@@ -1,5 +1,5 @@
 -- The size of an image that was read from a file.
-use Rattle.std.proofs.Common.{◌≡◌, ◌∙◌, sym, ℕ, List, length, nat_le, Option, Some, None, Result, Ok, Err, inl, inr, rules}
+use Rattle.std.proofs.Common.{◌≡◌, ◌∙◌, sym, ℕ, List, length, nat_le, Option, None, Result, Ok, Err, inl, inr, rules}
 use Rattle.std.proofs.lemmas.Bool.{cases_Bool}
 use Rattle.std.proofs.lemmas.List.{length-replicate}
 use Rattle.avr_cli.specs.declared.update.Format.{Format}
@@ -7,7 +7,7 @@ use Rattle.avr_image.proofs.Lemmas.{laid_size, from_zero_is_a_span}
 use Rattle.avr_image.specs.Image.{empty, image_of_pairs}
 use Rattle.avr_image.specs.Raw as raw_file
 use Rattle.avr_desk.specs.Record.{Bytes}
-use Rattle.avr_records.specs.Reading.{Said, image_or_fault, together}
+use Rattle.avr_records.specs.Reading.{Said, together}
 use Rattle.avr_records.specs.declared.kind.Ending.{Ending}
 use Rattle.avr_records.specs.declared.kind.Found.{Found}
 use Rattle.avr_records.specs.declared.kind.Found.TheVariants as file

@@ -3,7 +3,6 @@ use Rattle.std.proofs.Common.{ℕ, List, [], ◌∷◌, ◌++◌, Bool, true, fa
 use Rattle.std.specs.Prelude.{if◌then◌else◌}
 use Rattle.avr_cli.specs.declared.settings.Settings.{Settings}
 use Rattle.avr_desk.specs.declared.record.Opening.{Opening}
-use Rattle.avr_desk.specs.declared.record.Opening.TheVariants.{Absent, Found}
 use Rattle.avr_desk.specs.Record.{Bytes}
 use Rattle.avr_desk.specs.Said.{OutputEvent, Opens, Line}
 use Rattle.avr_plan.specs.declared.image_file.TheConstants.{LARGEST_IMAGE_FILE}
@@ -12,7 +11,7 @@ use Rattle.avr_plan.specs.Lines.{no_end_line}
 use Rattle.avr_plan.proofs.Stages.EachStage.{whole_plan}
 use Rattle.avr_plan.specs.OnlyReading.{OnlyReads}
 use Rattle.avr_plan.specs.Planning.{judged_parts, is_warned, judged_image, planned}
-use Rattle.avr_desk.specs.Stage.{Stage, StageAnswer, Made, Refused, all_told, told_in, going_on, ◌>>=◌, verdict_stage, content_stage, file_stage}
+use Rattle.avr_desk.specs.Stage.{Stage, StageAnswer, Made, Refused, all_told, told_in, going_on, ◌>>=◌, verdict_stage, file_stage}
 
 -- a stage that only reads and reports
 abbrev Reads : {A : Type 0} → Stage A → Type 0

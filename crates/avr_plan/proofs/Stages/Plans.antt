@@ -6,7 +6,7 @@ use Rattle.avr_part.specs.Part.{Part}
 use Rattle.avr_desk.specs.Said.{OutputEvent}
 use Rattle.avr_desk.specs.declared.record.Opening.{Opening}
 use Rattle.avr_desk.proofs.Stages.Files.{taken_never}
-use Rattle.avr_desk.proofs.Stages.Played.{goes_on, goes_no_further, goes_within, made_then, went_went, went_into}
+use Rattle.avr_desk.proofs.Stages.Played.{goes_on, goes_no_further, went_went, went_into}
 use Rattle.avr_plan.specs.Plan.{Plan}
 use Rattle.avr_plan.specs.Planning.{LacksPart, parts_stage, part_stage, tasks_stage, planned}
 use Rattle.avr_desk.specs.Playing.{AtStart, Goes, Taking, Went}

@@ -11,7 +11,7 @@ use Rattle.avr_desk.specs.declared.record.Opening.{Opening}
 use Rattle.avr_part.specs.Mem.{is_writable}
 use Rattle.avr_part.specs.Part.{Part}
 use Rattle.avr_part.specs.declared.part.Mem.{Mem}
-use Rattle.avr_desk.proofs.Stages.Played.{goes_refused, goes_on, goes_no_further, goes_within, made_then}
+use Rattle.avr_desk.proofs.Stages.Played.{goes_refused, goes_on, goes_no_further, goes_within}
 use Rattle.avr_plan.specs.Lines.{read_only_line}
 use Rattle.avr_plan.specs.Planning.{file_image_stage, image_stage, update_image, write_stage, task_stage, tasks_stage}
 use Rattle.avr_desk.specs.Playing.{AtStart, Goes, Went}

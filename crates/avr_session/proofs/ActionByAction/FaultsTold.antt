@@ -15,15 +15,15 @@ use Rattle.stk_host.specs.Tape.{Tape, Reading, on_tape, answer}
 use Rattle.stk_host.specs.Play.{Progress}
 use Rattle.stk_host.specs.Transcript.{heard}
 use Rattle.stk_host.specs.Dialog.{Dialog, Done, Say, Ask, ◌>>=◌, lifted, Event, Frame, Said, Played, played, by_answer, next, outputs}
-use Rattle.avr_desk.specs.Lines.{information, warning}
-use Rattle.avr_desk.specs.Said.{OutputEvent, Line, Writes, Outs, IsPrefixOf}
+use Rattle.avr_desk.specs.Lines.{warning}
+use Rattle.avr_desk.specs.Said.{OutputEvent, Line, Writes, Outs}
 use Rattle.avr_session.specs.Standing.{Standing, Fine}
 use Rattle.avr_session.specs.Actions.{LeftOut, TheErase, TheWrite, Action, OpenSession, EraseChip, WriteImage, CompareImage, SaveMemory, LeaveOut}
 use Rattle.avr_session.specs.Lines.{warns, fault_line}
 use Rattle.avr_session.specs.Performing.{is_told}
 use Rattle.avr_session.specs.Runs.{Devices, Cause, OfSending, OfListening, OfFile, OfPrinting, OfMemory, NotCreated, NotWritten, is_error, tells_fault, Ran, AtFrame, StopsAt}
 use Rattle.avr_session.specs.Reporting.{SaysPrefix}
-use Rattle.avr_session.specs.Session.{says, standing, reported, unless_fault, fault_or, opening_says, signature_says, bytes_say, read_says, left_out_says, action_dialog, actions_dialog}
+use Rattle.avr_session.specs.Session.{says, standing, reported, unless_fault, fault_or, opening_says, bytes_say, read_says, left_out_says, action_dialog, actions_dialog}
 use Rattle.avr_session.proofs.Runs.Stops.{outputs_by}
 
 -- ---- along every path of a dialog

@@ -4,7 +4,7 @@ use Rattle.avr_desk.specs.Record.{DeskState}
 use Rattle.avr_desk.specs.declared.desk.DeskFault.{DeskFault}
 use Rattle.avr_part.specs.Part.{Part}
 use Rattle.stk_host.specs.declared.fault.HostFault.{HostFault}
-use Rattle.stk_host.specs.declared.fault.HostFault.TheVariants.{LinkEnded, SendFailed, ReadOnly, Memory, RecvFailed}
+use Rattle.stk_host.specs.declared.fault.HostFault.TheVariants.{SendFailed, ReadOnly, Memory, RecvFailed}
 use Rattle.stk_host.specs.Transcript as link
 use Rattle.stk_host.specs.declared.fault.StepFault.TheVariants as of_step
 use Rattle.stk_host.specs.declared.fault.StepFault.{StepFault}
@@ -21,12 +21,11 @@ use Rattle.stk_host.specs.Dialog.{Dialog, Done, ◌>>=◌, lifted, Played, playe
 use Rattle.stk_host.specs.declared.fault.Broken.{Broken}
 use Rattle.stk_host.specs.declared.fault.Broken.TheVariants.{Send, Recv}
 use Rattle.stk_host.specs.Play.{Progress, PlaysOver, FailsOver}
-use Rattle.stk_host.specs.State.{lasting_fault}
 use Rattle.stk_host.specs.Calls.{EndsCall, EndsOrLacks, IsBroken, UnlessBroken}
 use Rattle.stk_host.proofs.Dialogs.Lifted.{outputs_raised}
 use Rattle.stk_host.proofs.Transcripts.InDialogs.{continued, played_bind}
 use Rattle.avr_desk.specs.Said.{OutputEvent, Line, Tells}
-use Rattle.avr_session.specs.Concluding.{HostServes, after_outcome, conclusion, stands}
+use Rattle.avr_session.specs.Concluding.{after_outcome, conclusion, stands}
 use Rattle.avr_session.specs.Lines.{fault_line}
 use Rattle.avr_session.specs.Session.{says, standing, reported, opening_says}
 use Rattle.avr_session.specs.Taking.{AtOnce}

@@ -1,8 +1,7 @@
 -- How a call over a link and a desk goes on in its dialog.
-use Rattle.std.proofs.Common.{◌≡◌, ℕ, ◌≤◌, Bool, true, ◌||◌, List, [], ◌∷◌, ◌++◌, append_assoc, append-nil, length, map, refl, sym, ap, ◌∙◌, subst, Option, rules}
+use Rattle.std.proofs.Common.{◌≡◌, ℕ, ◌≤◌, true, ◌||◌, List, [], ◌∷◌, ◌++◌, append_assoc, append-nil, length, map, refl, sym, ap, ◌∙◌, subst, Option, rules}
 use Rattle.std.proofs.Math.Bool.{or_assoc}
 use Rattle.std.proofs.lemmas.List.Folds.{list_any-append}
-use Rattle.ghosts.specs.Failures.{HasRisen}
 use Rattle.avr_desk.specs.Fault.{HasSameCounts}
 use Rattle.avr_desk.specs.Record.{Record, DeskState, Passes, after_err}
 use Rattle.stk_host.specs.declared.fault.Broken.{Broken}
@@ -18,9 +17,9 @@ use Rattle.stk_host.proofs.Dialogs.Lifted.{raised, plays_lifted, by_lifted, outp
 use Rattle.stk_host.proofs.Transcripts.Laws.{heard_append}
 use Rattle.avr_desk.specs.Said.{OutputEvent, SaidPart, after_all}
 use Rattle.avr_desk.proofs.Stages.Outputs.{kept_on, kept_none, after_append}
-use Rattle.avr_desk.proofs.Lines.Told.{failed_since, follows_on, follows_same, same_here, same_on, unsaid_since}
+use Rattle.avr_desk.proofs.Lines.Told.{follows_on, follows_same, same_here, same_on}
 use Rattle.avr_session.specs.Session.{says}
-use Rattle.avr_session.specs.Runs.{Devices, devices, NoneFailed, Cause, OfSending, OfListening, OfFile, OfPrinting, OfMemory, tells_fault, HasCome, StopsAt, Listens, Lacking, Terms, StopsBehind, Ran, BrokeOff}
+use Rattle.avr_session.specs.Runs.{Devices, devices, NoneFailed, Cause, OfSending, OfListening, OfMemory, tells_fault, StopsAt, Listens, Lacking, Terms, StopsBehind, Ran, BrokeOff}
 use Rattle.avr_session.specs.Reporting.{IsOfDesk, SaysPrefix, SaidSome}
 use Rattle.avr_session.proofs.Runs.Stops.{place_behind, desk_says, desk_listens, outputs_said, map_append}
 

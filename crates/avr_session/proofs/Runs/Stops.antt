@@ -7,7 +7,7 @@ use Rattle.avr_desk.specs.declared.stream.Stream.TheVariants.{File, Output, Mess
 use Rattle.stk_host.specs.Dialog.{Event, Said, outputs}
 use Rattle.avr_desk.specs.Said.{OutputEvent, Line, Creates, Writes, Outs, after_all}
 use Rattle.avr_desk.proofs.Stages.Outputs.{kept_append}
-use Rattle.avr_session.specs.Runs.{Cause, OfSending, OfListening, OfFile, OfPrinting, OfMemory, NotCreated, NotWritten, AtFrame, AtPart, StopsAt, Listens}
+use Rattle.avr_session.specs.Runs.{Cause, OfListening, OfFile, OfPrinting, NotWritten, AtPart, StopsAt, Listens}
 use Rattle.avr_session.specs.Reporting.{IsOfDesk, SaysPrefix}
 
 -- ---- events

@@ -4,12 +4,12 @@ use Rattle.std.proofs.lemmas.List.{length-replicate}
 use Rattle.std.proofs.lemmas.Bool.{cond-true}
 use Rattle.avr_part.specs.Part.{Part}
 use Rattle.stk_frame.specs.declared.command.Command.{Command}
-use Rattle.stk_frame.specs.declared.command.Command.TheVariants.{SignOn, LoadAddress}
+use Rattle.stk_frame.specs.declared.command.Command.TheVariants.{LoadAddress}
 use Rattle.stk_frame.specs.declared.host_command.Fuse.{Fuse}
 use Rattle.stk_frame.specs.declared.host_command.Fuse.TheVariants.{Low}
 use Rattle.stk_frame.specs.Commands.{body}
 use Rattle.stk_frame.specs.Decoding as decoding
-use Rattle.stk_frame.specs.HostCommands.{enter, leave, erase, program_fuse, program_lock, read_fuse, read_lock, read_signature, read_calibration}
+use Rattle.stk_frame.specs.HostCommands.{enter, leave, erase, program_fuse, program_lock, read_fuse, read_lock, read_calibration}
 use Rattle.stk_frame.proofs.DecodedBodies.{read_back}
 use Rattle.stk_emu.specs.Programmer.{Programmer, Response, obey, obey_command, read_as}
 use Rattle.stk_emu.specs.Device.{Device, device}

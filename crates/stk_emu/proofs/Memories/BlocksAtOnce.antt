@@ -1,6 +1,6 @@
 -- Blocks of flash at once are blocks instruction by instruction.
 use Rattle.std.proofs.Common.{◌≡◌, ℕ, zero, suc, ◌+◌, ◌-◌, ◌*◌, ◌/◌, ◌%◌, ◌≤◌, ◌<◌, List, [], ◌∷◌, length, refl, sym, ap, ◌∙◌, arith, Bool, true, false, cond, Some, None, rules}
-use Rattle.std.proofs.lemmas.Bool.{leb-true, false≢true, and_parts}
+use Rattle.std.proofs.lemmas.Bool.{leb-true, and_parts}
 use Rattle.avr_part.specs.State as chip
 use Rattle.avr_part.specs.State.{half_offset}
 use Rattle.avr_part.specs.declared.instruction.Instruction.TheVariants.{LoadFlash}

@@ -3,18 +3,17 @@ use Rattle.std.proofs.Common.{◌≡◌, ℕ, suc, ◌+◌, ◌*◌, ◌/◌, �
 use Rattle.std.proofs.lemmas.Nat.{mod-mul-add}
 use Rattle.std.proofs.lemmas.Nat.Gcd.{dvd_of_mod-eq-zero}
 use Rattle.std.proofs.Math.Nat.{mod-mod_of_dvd, mod-eq_of_lt, mul-div_cancel, mul_assoc, dvd-mul_right, dvd_trans}
-use Rattle.std.proofs.lemmas.Bool.{ne_eqb, eq-eqb, eqb-true, eqb-false, and_from, cases_Bool, ltb-false, le-ltb, le-leb, cond-true, cond-false}
+use Rattle.std.proofs.lemmas.Bool.{ne_eqb, eq-eqb, and_from, cases_Bool, ltb-false, le-ltb, cond-false}
 use Rattle.std.proofs.lemmas.List.{append-nil, map-id}
-use Rattle.std.specs.Prelude.{◌==◌, ◌&&◌, not, nat_lt, bit_or}
+use Rattle.std.specs.Prelude.{◌==◌, ◌&&◌, not, nat_lt}
 use Rattle.avr_part.specs.Part.{Part, IsPart}
 use Rattle.avr_part.specs.Memory.{map_indexed, byte_and_page, blank}
 use Rattle.avr_part.specs.State as chip
-use Rattle.stk_frame.specs.declared.command.Command.TheVariants.{LoadAddress}
 use Rattle.stk_frame.specs.Commands.{body}
 use Rattle.stk_frame.specs.HostCommands.{program_page}
 use Rattle.stk_host.specs.Places.{flash_address, load_flash}
 use Rattle.stk_host.proofs.ImagePlaces.PagesAndRuns.{page_most}
-use Rattle.stk_emu.specs.Programmer.{Programmer, sent_to, extension, flash_loads, flash_writes, for_half, word_at, with_address_moved, with_instructions, high, low}
+use Rattle.stk_emu.specs.Programmer.{Programmer, sent_to, extension, flash_loads, flash_writes, for_half, word_at, high, low}
 use Rattle.stk_emu.specs.Device.{device}
 use Rattle.avr_part.specs.declared.part.Mem.TheVariants.{Flash}
 use Rattle.stk_emu.specs.Effect.{Memories, Write, and_in, effects}
@@ -22,7 +21,6 @@ use Rattle.stk_emu.specs.Settled.{Ready, IsNarrow}
 use Rattle.stk_emu.specs.PageWrites.{image_at, changed, IsPage}
 use Rattle.stk_emu.proofs.Memories.Blocks.{sent-append}
 use Rattle.stk_emu.proofs.Memories.LaidImages.{put, put_is, anded_in}
-use Rattle.stk_emu.proofs.Answers.Commands.{in_mode_is, obeys}
 use Rattle.stk_emu.proofs.Memories.Runs.{narrow_loaded}
 
 -- whether the part needs the extended address

@@ -2,9 +2,8 @@
 use Rattle.std.proofs.Common.{◌≡◌, ℕ, suc, ◌+◌, ◌*◌, ◌/◌, ◌%◌, ◌<◌, List, [], ◌∷◌, ◌++◌, length, set, refl, ap, ◌∙◌, arith, true, false, cond, replicate, Some, None, rules}
 use Rattle.std.proofs.lemmas.Nat.{div-add-mod', mod-mul-add}
 use Rattle.std.proofs.Math.Nat.{mod-mod_of_dvd, dvd_of_mod-eq-zero, mod-eq_of_lt}
-use Rattle.std.proofs.lemmas.Bool.{ne_eqb, eq-eqb, and_from, lt-leb, cond-true}
+use Rattle.std.proofs.lemmas.Bool.{lt-leb, cond-true}
 use Rattle.std.proofs.lemmas.List.{length-replicate}
-use Rattle.std.specs.Prelude.{◌==◌, ◌&&◌, not}
 use Rattle.avr_part.specs.Part.{Part, IsPart}
 use Rattle.avr_part.specs.Memory.{map_indexed, overlaid}
 use Rattle.avr_part.specs.State as chip

@@ -1,7 +1,7 @@
 -- What a frame brings over the wire, as it is read.
-use Rattle.std.proofs.Common.{◌≡◌, ℕ, suc, ◌*◌, ◌≤◌, ◌<◌, ◌≢◌, List, [], ◌∷◌, ◌++◌, length, refl, sym, ap, ◌∙◌, append_assoc, arith, true, false, inl, inr, Some, None, length-append, rules}
-use Rattle.std.proofs.lemmas.Bool.{cases_Bool, ne_eqb, eq-eqb, and_from, and_right, cond-true, cond-false}
-use Rattle.std.specs.Prelude.{filter, ◌==◌}
+use Rattle.std.proofs.Common.{◌≡◌, ℕ, suc, ◌*◌, ◌≤◌, ◌<◌, ◌≢◌, List, [], ◌∷◌, ◌++◌, length, refl, sym, ap, ◌∙◌, append_assoc, arith, true, inl, inr, Some, None, length-append, rules}
+use Rattle.std.proofs.lemmas.Bool.{cases_Bool, eq-eqb, and_from, cond-true, cond-false}
+use Rattle.std.specs.Prelude.{filter}
 use Rattle.stk_frame.specs.declared.protocol.TheConstants.{LARGEST_FRAME}
 use Rattle.stk_frame.specs.Frame.{frame}
 use Rattle.stk_frame.specs.Cut.{cut, is_good}

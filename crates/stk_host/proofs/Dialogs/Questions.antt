@@ -10,7 +10,7 @@ use Rattle.stk_host.specs.declared.fault.StepFault.{StepFault}
 use Rattle.stk_host.specs.declared.fault.StepFault.TheVariants.{NoAnswer}
 use Rattle.stk_host.specs.Tape.{Tape, Reading, answer}
 use Rattle.stk_host.specs.Dialog.{Dialog, Done, Say, Ask, ◌>>=◌, Event, Frame, Said, Played, played, by_answer, next, frames_in}
-use Rattle.stk_host.specs.Play.{IsBegun, IsPrefixOfEvents, NoPart}
+use Rattle.stk_host.specs.Play.{IsPrefixOfEvents, NoPart}
 use Rattle.stk_host.specs.Steps.{exchange, Reply, Data, Again, Stop, reading_reply, with_data, attempt, StepOutcome, end_or_again, tries, step, if_done, play}
 use Rattle.stk_host.specs.WriteSteps.{write_steps}
 use Rattle.stk_host.specs.Operations.{handshake, opening, without_bytes, closing, judged_by, operation, writing}

@@ -7,7 +7,7 @@ use Rattle.stk_host.specs.declared.fault.Broken.TheVariants as broken
 use Rattle.stk_host.specs.Tape.{Tape, Reading, on_tape, answer}
 use Rattle.stk_host.specs.Transcript.{Transcript, Sent, Got, sent, heard}
 use Rattle.stk_host.specs.Dialog.{Dialog, Done, Say, Ask, ◌>>=◌, Event, Frame, Said, Played, played, behind, by_answer, next, bytes_sent}
-use Rattle.stk_host.specs.Play.{Progress, progress_at, IsDue, TurnsFrom, InTurn, played_over, Plays, Breaks, BreaksSending, BreaksListening, BreaksBy, IsPrefixOfEvents, IsBegun}
+use Rattle.stk_host.specs.Play.{Progress, progress_at, IsDue, TurnsFrom, InTurn, played_over, Plays, Breaks, BreaksSending, BreaksListening, BreaksBy, IsPrefixOfEvents}
 use Rattle.stk_host.specs.Reach.{TranscriptLeads, IsQuiet, WaitsFrom}
 use Rattle.stk_host.proofs.Transcripts.Laws.{sent_append, heard_append, heard_both, heard_quiet, sent_waiting}
 
