@@ -179,9 +179,10 @@ def count_all(room):
         room.clear()
         front = ["valgrind", "--tool=callgrind", "--callgrind-out-file=/dev/null"]
         ran = subprocess.run([*front, *command], cwd=room.folder, stdin=subprocess.DEVNULL, capture_output=True, text=True)
-        if ran.returncode != wanted:
-            sys.exit(f"{command}: {ran.stderr}")
-        count = int(re.search(r"Collected : (\d+)", ran.stderr)[1])
+        collected = re.search(r"Collected : (\d+)", ran.stderr)
+        if ran.returncode != wanted or not collected:
+            sys.exit(f"{command}: status {ran.returncode}: {ran.stderr}\n(valgrind runs only the proved program)")
+        count = int(collected[1])
         share = f", {count / len(room.read(sizes[label])):.1f} for each byte of text" if label in sizes else ""
         written = re.match(r"(\d+) kB written", label)
         share = f", {count / KILO / int(written[1]):.0f} for each byte of flash" if written else share

@@ -3,8 +3,8 @@
 
     tests/all.py             builds the program without proofs, and runs the quick scripts with it
     tests/all.py NAME ..     runs these scripts, with the program that AVRSTK names, or the one that is built
-    tests/all.py --all       proves everything (rt ci), with the quick scripts beside it; then runs all scripts with the
-                             proved program
+    tests/all.py --all       proves everything (rt ci); beside it runs the scripts that need no proved program and, from the
+                             moment that the program is proved, all scripts with it
 
 A script's output is printed when the script has ended. All steps run even if one fails; the status is then 1. Some
 scripts measure timeouts, so a script that failed beside others is run once more alone. That run counts, and the summary
@@ -17,6 +17,7 @@ import os
 import re
 import subprocess
 import sys
+import threading
 import time
 from collections import Counter
 from concurrent.futures import ThreadPoolExecutor
@@ -31,11 +32,16 @@ PROVED = TOP / "crates/avrstk/out/avrstk"
 CHECKED = ("measure --check", "reach --check")
 # scripts that run no program of this project, or compile it themselves; the longest first
 SOURCES = ("rattle tests", "rattle programs", "rattle refused", "rattle documentation", "vendor", "build", *CHECKED)
+# the same, but it proves what it compiles, so only --all runs it
+PROVING = ("from_c",)
 # scripts that take seconds
 SHORT = ("made_frames", "manual", "programmer")
-# scripts run with the unproved program, and with the proved one; the longest first
+# scripts that ./test runs with the unproved program; the longest first
 QUICK = ("serial", "parts", "avrdude", "runs", "chips", "package", "serve", "recipes", "why", "claims", "lines", "hostile", *SHORT)
-PROGRAM = ("faults", "cuts_and_stalls", "mega", "from_c", "others", "vendor proof", "calls", *QUICK)
+# those that --all runs with both programs: two compilers made what these compare byte for byte
+BOTH = ("runs", "lines", "programmer")
+# scripts that --all runs with the proved program; the longest first
+PROGRAM = ("faults", "cuts_and_stalls", "mega", "others", "vendor proof", "calls", *QUICK)
 
 LANES = len(os.sched_getaffinity(0))
 # the most memory that a check needs, in kB
@@ -49,6 +55,9 @@ COUNTS = re.compile(r".*?(\d+) passed, (\d+) failed")
 # the lines in which a script or rt reports a failure, and how many of them the summary repeats
 FAILURE = re.compile(r"(?:rt: )?FAILED: |.*(?:NOT PROVED|NOT REFUSED|BAD EDIT)")
 MOST_FAILURES = 20
+
+# rt's line once the program is proved and built
+PROVED_LINE = re.compile(r"rt: avrstk (?:proved|is kept)\b")
 
 # rt's line for a refused mutant, and the kinds of refusal; the first match counts. rt cuts a line after 160 characters,
 # so these words may be incomplete
@@ -99,8 +108,8 @@ def say(lines):
     sys.stdout.flush()
 
 
-def run(what, command, comes=False, **environment):
-    """Runs a command. Its output is printed as it `comes`, or when it has ended."""
+def run(what, command, each=None, **environment):
+    """Runs a command. Its output is printed when it has ended, or `each` gets each line as it comes."""
     say([f"== {what}"])
     begun, lines = time.monotonic(), []
     try:
@@ -108,15 +117,15 @@ def run(what, command, comes=False, **environment):
         with subprocess.Popen(command, **how, text=True, errors="replace", env=os.environ | environment) as started:
             for line in started.stdout:
                 lines.append(line.rstrip())
-                if comes:
-                    say(lines[-1:])
+                if each:
+                    each(lines[-1])
             _, ended, used = os.wait4(started.pid, 0)
             started.returncode = status = os.waitstatus_to_exitcode(ended)
         processor = used.ru_utime + used.ru_stime
     except OSError as fault:
         status, processor, lines = 127, 0, [f"cannot be run: {fault}"]
     done = Done(what, status, time.monotonic() - begun, processor, [it for it in lines if it.strip()])
-    say([*([] if comes else lines), f"== {done.end()}: {what}, {done.took()}"])
+    say([*([] if each else lines), f"== {done.end()}: {what}, {done.took()}"])
     return done
 
 
@@ -144,45 +153,56 @@ def current():
     return subprocess.run(["./avrstk", "--which"], cwd=TOP, capture_output=True).returncode == 0
 
 
-def ci():
-    """Proves everything, with one task per processor if there is enough memory for each."""
+def ci(is_proved):
+    """Proves everything, with one task per processor if there is enough memory for each. Sets `is_proved` once the program
+    is there, and in any case at the end."""
+
+    def each(line):
+        say([line])
+        if PROVED_LINE.match(line):
+            is_proved.set()
+
     free = int(re.search(r"MemAvailable: +(\d+)", Path("/proc/meminfo").read_text())[1])
     jobs = os.environ.get("RT_JOBS") or str(max(1, min(LANES, free // CHECK)))
-    return run("rt ci", ["rt", "ci"], comes=True, RT_JOBS=jobs)
+    try:
+        return run("rt ci", ["rt", "ci"], each, RT_JOBS=jobs)
+    finally:
+        is_proved.set()
 
 
-def quick(lanes):
-    """Starts the build of the unproved program, the scripts that need no program, and those that use it."""
+def unproved(lanes, sources, names):
+    """Starts the build of the unproved program, the scripts that need no program, and the named ones, which use it."""
     built = lanes.submit(build)
 
     def over_it(name):
         return [script(name, "unproved: ", AVRSTK=str(UNPROVED))] if built.result().status == 0 else []
 
-    begun = [lanes.submit(lambda it: [script(it)], name) for name in SOURCES]
-    begun += [lanes.submit(over_it, name) for name in QUICK]
+    begun = [lanes.submit(lambda it: [script(it)], name) for name in sources]
+    begun += [lanes.submit(over_it, name) for name in names]
     return lambda: [built.result(), *(done for it in begun for done in it.result())]
 
 
 def few():
     """Runs the quick scripts, one per processor."""
     with ThreadPoolExecutor(LANES) as lanes:
-        done = quick(lanes)()
+        done = unproved(lanes, SOURCES, QUICK)()
     return settled(done)
 
 
 def everything():
-    """Runs rt ci with the quick scripts beside it, then all scripts with the proved program."""
+    """Runs rt ci, and beside it, with half of the processors, first what needs no proved program and then all scripts."""
+    is_proved = threading.Event()
     with ThreadPoolExecutor(1) as beside, ThreadPoolExecutor(max(1, LANES // 2)) as lanes:
-        proving, others = beside.submit(ci), quick(lanes)
-        done = [*others(), proving.result()]
-    with ThreadPoolExecutor(LANES) as lanes:
-        done += lanes.map(lambda it: script(it, "proved: ", AVRSTK=str(PROVED)), PROGRAM)
+        proving, others = beside.submit(ci, is_proved), unproved(lanes, (*PROVING, *SOURCES), BOTH)
+        is_proved.wait()
+        over_it = [lanes.submit(script, it, "proved: ", AVRSTK=str(PROVED)) for it in PROGRAM]
+        done = [*others(), proving.result(), *(it.result() for it in over_it)]
     return settled(done)
 
 
 def chosen(names):
     """Runs the scripts of these names, with the built program."""
-    known = list(dict.fromkeys([*SOURCES, *PROGRAM]))
+    known = list(dict.fromkeys([*SOURCES, *PROVING, *PROGRAM]))
     steps = [it for it in known if it in names or it.split()[0] in set(names) - set(known)]
     built = [] if os.environ.get("AVRSTK") or current() else [build()]
     with ThreadPoolExecutor(LANES) as lanes:
@@ -215,7 +235,7 @@ def summary(done):
 def main(words):
     if words in ([], ["--all"]):
         return summary(everything() if words else few())
-    known = {it.split()[0] for it in (*SOURCES, *PROGRAM)} | {*SOURCES, *PROGRAM}
+    known = {it.split()[0] for it in (*SOURCES, *PROVING, *PROGRAM)} | {*SOURCES, *PROVING, *PROGRAM}
     if set(words) - known:
         print(__doc__.strip(), "", "Scripts:", *(f"    {it}" for it in sorted(known)), sep="\n")
         return 2

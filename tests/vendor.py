@@ -1,10 +1,12 @@
 #!/usr/bin/env python3
 """Copies crates into other repositories by tools/vendor.sh, and builds a crate there that uses them. The case `proof`, which
-runs only if named, proves that crate too. That takes minutes if rt ci has not proved the same files on this machine.
+runs only if named, proves that crate too, and the program of examples/library that implements a trait of these crates.
+That takes minutes if rt ci has not proved the same files on this machine.
 
     tests/vendor.py [CASE ..]
 """
 
+import re
 import shutil
 import subprocess
 import sys
@@ -17,6 +19,7 @@ from cases import named, run_cases, same, see
 TOP = Path(__file__).resolve().parent.parent
 PARTS = ("src", "specs", "proofs", "README.md")
 FOREIGN = "serial_patch"
+EXAMPLE = "a_link_of_ones_own"
 
 
 def line_of(name, top=TOP):
@@ -142,8 +145,23 @@ def build():
         see("its tests pass", status == 0 and "1 passed" in text, text[-600:])
 
 
+def add_example(top):
+    """Adds the example as a program, which must print what its lines `//= LINE` state."""
+    source = (TOP / f"examples/library/{EXAMPLE}.rs").read_text()
+    needs = re.match("// crates: (.*)", source)[1]
+    vendor(*filter(line_of, needs.split()), top)
+    crate = top / "crates" / EXAMPLE
+    (crate / "src").mkdir(parents=True)
+    (crate / "src/main.rt").write_text(source)
+    (crate / "stdout").write_text("".join(f"{it}\n" for it in re.findall("^//= (.*)", source, re.M)))
+    with (top / "crates.txt").open("a") as lines:
+        lines.write(f"{EXAMPLE}: {needs}\n")
+    same("the example's layout", rt(["fmt"], crate)[0], 0)
+
+
 def proof():
     with foreign() as top:
+        add_example(top)
         status, text = rt(["ci"], top)
         see("it is proved", status == 0 and " passed, 0 failed" in text.splitlines()[-1], text[-600:])
 

@@ -16,6 +16,7 @@ use crate::data::digits::OPENING;
 /// A run without failures, and the number of calls that it makes of its devices.
 #[derive(Drop)]
 struct SoundRun {
+    part: &'static str,
     row: Row,
     /// The size of the file `e.bin`. At the end the EEPROM begins with its bytes.
     size: u32,
@@ -33,6 +34,7 @@ type OverFailing = Over<FailingDesk<MemDesk>, FailingLink<Wired>>;
 
 /// A session without updates.
 const SESSION: SoundRun = SoundRun {
+    part: "m328p",
     row: Row {
         words: &["-p", "m328p"],
         output: "",
@@ -46,14 +48,14 @@ const SESSION: SoundRun = SoundRun {
     told: &[],
 };
 
-/// Writes an empty file to flash: five frames open the session, then come the erase, 256 frames of verifying, and
-/// LEAVE.
+/// Writes an empty file to flash: five frames open the session, then come the erase, 64 frames of verifying, and LEAVE.
 const EMPTY_FLASH: SoundRun = SoundRun {
+    part: "t85",
     row: Row {
-        words: &["-p", "m328p", "-U", "flash:w:e.bin:r"],
+        words: &["-p", "t85", "-U", "flash:w:e.bin:r"],
         output: "",
         messages: &[
-            "device signature = 1E 95 0F",
+            "device signature = 1E 93 0B",
             "chip erased",
             "flash: 0 bytes written",
             "flash: 0 bytes verified",
@@ -63,7 +65,7 @@ const EMPTY_FLASH: SoundRun = SoundRun {
     },
     size: 0,
     is_late: false,
-    link_calls: 2 * 263,
+    link_calls: 2 * 71,
     desk_calls: 2 + 5,
     told: &[
         (1, &["error: e.bin: cannot be opened"]),
@@ -73,6 +75,7 @@ const EMPTY_FLASH: SoundRun = SoundRun {
 
 /// Writes, verifies and reads a fuse. The fourth call of the desk writes its value to standard output.
 const FUSE: SoundRun = SoundRun {
+    part: "m328p",
     row: Row {
         words: &["-p", "m328p", "-U", "lfuse:w:0xE2:m", "-U", "lfuse:r:-:h"],
         output: "0xe2\n",
@@ -92,21 +95,22 @@ const FUSE: SoundRun = SoundRun {
     told: &[(4, &["error: -: cannot be written"])],
 };
 
-/// Writes the whole EEPROM, over a wire on which the reply to frame 255 is late.
+/// Writes half of the EEPROM, over a wire on which the reply to frame 255 is late.
 const EEPROM: SoundRun = SoundRun {
+    part: "m328p",
     row: Row {
         words: &["-p", "m328p", "-V", "-U", "eeprom:w:e.bin:r"],
         output: "",
         messages: &[
             "device signature = 1E 95 0F",
-            "eeprom: 1024 bytes written",
+            "eeprom: 512 bytes written",
             "done",
         ],
         status: 0,
     },
-    size: 1_024,
+    size: 512,
     is_late: true,
-    link_calls: 2 * 520,
+    link_calls: 2 * 264,
     desk_calls: 3 + 3,
     told: &[
         (1, &["error: e.bin: cannot be opened"]),
@@ -124,9 +128,9 @@ fn desk_of(alloc: Global, run: &SoundRun) -> Result<MemDesk, Fail> {
 
 fn wire_of(alloc: Global, run: &SoundRun) -> Result<Wired, Fail> {
     if run.is_late {
-        wire_to(alloc, "m328p", fates(alloc, 254, Fate::LateAnswer)?)
+        wire_to(alloc, run.part, fates(alloc, 254, Fate::LateAnswer)?)
     } else {
-        wire_to(alloc, "m328p", Fates::none(alloc))
+        wire_to(alloc, run.part, Fates::none(alloc))
     }
 }
 
@@ -199,7 +203,7 @@ fn fail_each_link_call(rt: &impl Abort, alloc: Global, run: &SoundRun) -> Result
     let sound = sound(rt, alloc, run)?;
     let mut failures = 0u64;
     let mut sent = 0usize;
-    for n in 1..2_000u64 {
+    for n in 1..1_000u64 {
         let broken = failing(alloc, run, n, 0, 281)?;
         if broken.status == 0 {
             break;
@@ -232,7 +236,7 @@ fn each_call_of_the_link_fails_over_an_empty_flash(rt: HostRuntime) -> Result<()
 }
 
 #[test]
-fn each_call_of_the_link_fails_over_the_whole_eeprom(rt: HostRuntime) -> Result<(), Fail> {
+fn each_call_of_the_link_fails_over_half_of_the_eeprom(rt: HostRuntime) -> Result<(), Fail> {
     fail_each_link_call(&rt, rt.alloc(), &EEPROM)
 }
 

@@ -413,16 +413,7 @@ impl Image {
         self.get(addr) == other.get(addr)
     }
 
-    /// Returns whether both images have the same size, bytes and gaps.
-    ///
-    /// ```text
-    /// let mut image = Image::new(alloc, 64)?;
-    /// let other = Image::new(alloc, 64)?;
-    /// assert!(rt; image.holds_same(&other));
-    /// image.put(8, 0xFF)?;
-    /// assert!(rt; !image.holds_same(&other));
-    /// ```
-    pub fn holds_same(&self, other: &Image) -> bool
+    fn holds_same(&self, other: &Image) -> bool
         ensures { IsTrue result ↔ (self.now ≡ other.now) }
     {
         let size = self.size();
