@@ -19,6 +19,8 @@ fn runs_cross_the_words_of_present_bits(rt: HostRuntime) -> Result<(), Fail> {
     assert_eq!(rt; image.first_from(65), None);
     image.put(131071, 7)?;
     assert_eq!(rt; image.run_from(131071, 131072), 131072);
+    assert!(rt; image.holds_any(131071, u32::MAX) && image.holds_any(0, 64));
+    assert!(rt; !image.holds_any(u32::MAX, u32::MAX) && !image.holds_any(63, 0));
     assert_eq!(rt; image.put(131072, 7), Err(ImageFault::OutOfRange(131072)));
     assert_eq!(rt; image.len(), 3);
     Ok(())
@@ -136,6 +138,10 @@ fn an_image_is_as_an_ordered_map(rt: HostRuntime) -> Result<(), Fail> {
             run_of_keys(&map, addr, 200),
             "run from {addr}"
         );
+        for count in [0, 1, 5, 64, 300] {
+            let wanted = first_key(&map, addr).is_some_and(|key| key < addr + count);
+            assert_eq!(rt; image.holds_any(addr, count), wanted, "{count} from {addr}");
+        }
         image.fill(addr, &mut page);
         for i in 0..32 {
             let want = map.get(&(addr + i)).copied().unwrap_or(255);

@@ -2,7 +2,7 @@
 use Rattle.std.specs.Prelude.{◌≡◌, ◌<◌, ◌^◌, ℕ, zero, suc, Bool, true, nat_le, length, ◌+◌, ◌-◌, List, [], ◌∷◌, ◌++◌, map, take, drop, replicate, Option, Some, None, is_some, nat_eq, unwrap_or, slice_index_or, slice_set, fold, count_by}
 use Rattle.std.specs.Cmp.Lexicographic.{pointwise}
 use Rattle.std.specs.Option.{option_eq}
-use Rattle.std.specs.List.{position_from, prefix_len}
+use Rattle.std.specs.List.{list_any, position_from, prefix_len}
 
 abbrev pub empty : ℕ → List (Option ℕ)
 empty size = replicate size None
@@ -51,6 +51,10 @@ byte_count = count_by is_some
 -- the least address from `addr` on that holds a byte
 abbrev pub first_from : List (Option ℕ) → ℕ → Option ℕ
 first_from image addr = position_from is_some addr (drop addr image)
+
+-- one of `count` addresses from `start` on holds a byte
+abbrev pub holds_any : List (Option ℕ) → ℕ → ℕ → Bool
+holds_any image start count = list_any is_some (take count (drop start image))
 
 -- the end of the run of held addresses that begins at `addr`, at most `end`
 abbrev pub run_end : List (Option ℕ) → ℕ → ℕ → ℕ

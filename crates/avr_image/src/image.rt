@@ -3,7 +3,7 @@
 ghost use Rattle.std.specs.Prelude.{◌≡◌, ◌==◌, ◌+◌, ◌*◌, ◌^◌, ◌<◌, ◌≤◌, ◌↔◌, ℕ, List, length, max, nat_lt, Ok, Err, OnOk, OnErr, MatchOption, MatchResult, IfOk, IsTrue, replicate, slice_index, slice_index_or, if◌then◌else◌};
 ghost use Rattle.std.specs.Cmp.{nat_eq_equiv, partial_equiv_from_equiv};
 ghost use Rattle.std.specs.Cmp.Lexicographic.{lists_equiv, options_equiv};
-ghost use Rattle.avr_image.specs.Image.{empty, is_same, byte_at, with_byte, without_byte, byte_count, filled_bytes, first_from, run_end, fits, laid_over, over, IsImage};
+ghost use Rattle.avr_image.specs.Image.{empty, is_same, byte_at, with_byte, without_byte, byte_count, filled_bytes, first_from, holds_any, run_end, fits, laid_over, over, IsImage};
 ghost use Rattle.avr_image.specs.Runs.{runs};
 ghost use Rattle.avr_image.specs.Walk.{HoldsNone, IsLastHeld};
 ghost use Rattle.std.specs.List.{enumerate_from};
@@ -384,6 +384,23 @@ impl Image {
         } else {
             None
         }
+    }
+
+    /// Returns whether one of `count` byte addresses from `start` on holds a byte. They may be outside the memory.
+    ///
+    /// ```text
+    /// let mut image = Image::new(alloc, 64)?;
+    /// image.put_slice(8, &[0x12, 0x34])?;
+    /// assert!(rt; image.holds_any(0, 9));
+    /// assert!(rt; !image.holds_any(10, 100));
+    /// ```
+    pub fn holds_any(&self, start: u32, count: u32) -> bool
+        ensures { result ≡ holds_any self.now start count }
+    {
+        let size = self.bytes.len();
+        let from = size.min(start as usize);
+        let end = from + (size - from).min(count as usize);
+        find(self.words.as_slice(), true, from, end) < end
     }
 
     /// Returns the highest byte address that holds a byte.

@@ -1,5 +1,6 @@
 -- How many commands the steps of a plan have.
 use Rattle.std.proofs.Common.{◌≡◌, ◌∙◌, refl, ap, sym, arith, ℕ, zero, suc, ◌+◌, ◌*◌, ◌-◌, ◌<◌, ◌≤◌, true, false, Option, List, [], ◌∷◌, ◌++◌, drop, min, ◌^◌, rules}
+use Rattle.avr_image.specs.Image.{holds_any}
 use Rattle.avr_part.specs.Part.{Part}
 use Rattle.avr_part.specs.declared.part.Mem.{Mem}
 use Rattle.avr_plan.specs.Plan.{Plan}
@@ -10,7 +11,7 @@ use Rattle.stk_frame.specs.declared.command.Command.{Command}
 use Rattle.stk_host.specs.Bound.{commands_in}
 use Rattle.stk_host.specs.Places.{each_from}
 use Rattle.stk_host.specs.ReadSteps.{read_steps}
-use Rattle.stk_host.specs.WriteSteps.{is_used, page_steps, write_steps}
+use Rattle.stk_host.specs.WriteSteps.{page_steps, write_steps}
 
 pub commands_append : (first second : List (List Command))
     → commands_in (first ++ second) ≡ commands_in first + commands_in second
@@ -41,11 +42,11 @@ plan_commands plan =
     search (rules, commands_append)
 
 pub two_used : (part : Part) (image : List (Option ℕ)) (page : ℕ)
-    → is_used part.flash_page image (page * part.flash_page) ≡ true → 2 ≡ commands_in (page_steps part image page)
+    → holds_any image (page * part.flash_page) part.flash_page ≡ true → 2 ≡ commands_in (page_steps part image page)
 two_used part image page is = rw is refl
 
 pub none_used : (part : Part) (image : List (Option ℕ)) (page : ℕ)
-    → is_used part.flash_page image (page * part.flash_page) ≡ false → 0 ≡ commands_in (page_steps part image page)
+    → holds_any image (page * part.flash_page) part.flash_page ≡ false → 0 ≡ commands_in (page_steps part image page)
 none_used part image page is = rw is refl
 
 module _ (steps_at : ℕ → List (List Command)) where

@@ -41,10 +41,10 @@ fn page_frames(part: &Part, image: &Image, page: u32) -> u64
     ensures few { result ≤ 2 }
 {
     let size = part.page_of(Mem::Flash);
-    let start = page * size;
-    match image.first_from(start) {
-        Some(addr) if addr < start + size => 2,
-        _ => 0,
+    if image.holds_any(page * size, size) {
+        2
+    } else {
+        0
     }
 }
 

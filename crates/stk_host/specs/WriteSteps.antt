@@ -1,7 +1,6 @@
 -- The steps that write an image to a memory.
-use Rattle.std.specs.Prelude.{ℕ, Bool, ◌+◌, ◌-◌, ◌*◌, ◌/◌, ◌%◌, List, [], ◌∷◌, take, drop, ◌==◌, ◌&&◌, ◌||◌, not, Option, Some, None, is_some, if◌then◌else◌}
-use Rattle.std.specs.List.{list_any}
-use Rattle.avr_image.specs.Image.{byte_at, filled_bytes, run_end}
+use Rattle.std.specs.Prelude.{ℕ, Bool, ◌+◌, ◌-◌, ◌*◌, ◌/◌, ◌%◌, List, [], ◌∷◌, ◌==◌, ◌&&◌, ◌||◌, not, Option, Some, None, is_some, if◌then◌else◌}
+use Rattle.avr_image.specs.Image.{byte_at, filled_bytes, holds_any, run_end}
 use Rattle.avr_part.specs.declared.part.Mem.{Mem}
 use Rattle.avr_part.specs.declared.part.Mem.TheVariants.{Flash, Eeprom, Lfuse, Hfuse, Efuse, Lock, Signature, Calibration}
 use Rattle.avr_part.specs.Part.{Part}
@@ -10,17 +9,14 @@ use Rattle.stk_frame.specs.declared.host_command.Fuse.TheVariants.{Low, High, Ex
 use Rattle.stk_frame.specs.HostCommands.{program_page, program_eeprom_block, program_fuse, program_lock}
 use Rattle.stk_host.specs.Places.{each_from, load_flash, load_eeprom}
 
--- The image holds a byte in the page that begins here.
-abbrev pub is_used : ℕ → List (Option ℕ) → ℕ → Bool
-is_used page image start = list_any is_some (take page (drop start image))
-
 -- Programs the whole page of flash that begins here, with FF in gaps.
 abbrev pub page_step : Part → List (Option ℕ) → ℕ → List Command
 page_step part image start = load_flash part start ∷ program_page (filled_bytes image start part.flash_page) ∷ []
 
+-- Programs a page in which the image holds a byte.
 abbrev pub page_steps : Part → List (Option ℕ) → ℕ → List (List Command)
 page_steps part image number =
-    if is_used part.flash_page image (number * part.flash_page)
+    if holds_any image (number * part.flash_page) part.flash_page
     then page_step part image (number * part.flash_page) ∷ []
     else []
 

@@ -5,7 +5,7 @@ ghost use Rattle.stk_host.specs.Steps.{play};
 ghost use Rattle.stk_host.specs.Calls.{EndsSteps, AsksLink, with_step, with_steps, without_step, EndsInnerStep, MayAsk};
 ghost use Rattle.ghosts.specs.Stays.{Stays};
 ghost use Rattle.avr_image.specs.Image.{byte_at, filled_bytes};
-ghost use Rattle.stk_host.specs.WriteSteps.{page_step, page_steps, is_used, begins_run, run_steps_at, byte_steps, place_steps, place_count, write_steps};
+ghost use Rattle.stk_host.specs.WriteSteps.{page_step, page_steps, begins_run, run_steps_at, byte_steps, place_steps, place_count, write_steps};
 ghost use Rattle.stk_frame.specs.HostCommands as host;
 ghost use Rattle.stk_host.specs.Places.{each_from};
 ghost use Rattle.stk_host.specs.Places as places;
@@ -85,19 +85,6 @@ fn program_run<L: Link>(
     play_step(conversation, link, &Some(load), &program)
 }
 
-/// Returns whether the image holds a byte in the page that begins at `start`.
-fn is_used(page: u32, image: &Image, start: u32) -> bool
-    requires { start + page < 2 ^ 32 }
-    ensures { result ≡ is_used page image.now start }
-{
-    for addr in start..start + page {
-        if image.get(addr).is_some() {
-            return true;
-        }
-    }
-    false
-}
-
 /// Returns whether a run of the image's bytes begins at this address of EEPROM.
 fn begins_run(page: u32, image: &Image, addr: u32) -> bool
     requires { 0 < page }
@@ -121,7 +108,7 @@ fn write_page<L: Link>(
 {
     let size = page_size(part, Mem::Flash);
     let start = number * size;
-    if !is_used(size, image, start) {
+    if !image.holds_any(start, size) {
         return Ok(());
     }
     program_page(conversation, link, part, image, start)

@@ -1,13 +1,14 @@
 -- The fields of an image, as an image.
 use Rattle.std.proofs.lemmas.Bool.Decides.{nat_tests}
-use Rattle.std.proofs.Common.{◌≡◌, ◌≢◌, ◌∙◌, sym, ap, ap₂, refl, arith, ℕ, suc, zero, ◌+◌, ◌*◌, ◌/◌, ◌%◌, ◌^◌, ◌<◌, ◌≤◌, List, [], ◌∷◌, length, get_or, set, Bool, true, false, Option, Some, None, replicate, bit_or, is_some, inl, inr, w64, min, take, drop, ◌++◌, ◌-◌, rules}
+use Rattle.std.proofs.Common.{◌≡◌, ◌≢◌, ◌∙◌, sym, ap, ap₂, refl, arith, ℕ, suc, zero, ◌+◌, ◌*◌, ◌/◌, ◌%◌, ◌^◌, ◌<◌, ◌≤◌, List, [], ◌∷◌, length, get_or, set, Bool, true, false, Option, Some, None, replicate, bit_or, is_some, inl, inr, nat_lt, w64, min, take, drop, ◌++◌, ◌-◌, rules}
 use Rattle.std.proofs.Math.ListN.{get_or-eq_default}
-use Rattle.std.proofs.lemmas.Bool.{cases_eq, cases_lt, cases_Bool}
+use Rattle.std.proofs.lemmas.Bool.{cases_eq, cases_lt, cases_Bool, lt-ltb, le-ltb}
 use Rattle.std.proofs.lemmas.List.{get_or-set_same, get_or-set_other, length-set, length-drop, length-take, get_or-take, get_or-drop, drop_all}
 use Rattle.std.proofs.lemmas.Nat.Bits.{bit_at_set_same, bit_at_set_other, bit_at-zero}
 use Rattle.std.proofs.lemmas.List.Sums.{prefix_len_is}
-use Rattle.std.specs.List.{position_from, prefix_len}
-use Rattle.avr_image.specs.Image.{byte_at, or_blank, filled_bytes, first_from, run_end, HoldsBytes}
+use Rattle.std.specs.List.{list_any, position_from, prefix_len}
+use Rattle.std.proofs.lemmas.List.Folds.{list_any_at}
+use Rattle.avr_image.specs.Image.{byte_at, or_blank, filled_bytes, first_from, holds_any, run_end, HoldsBytes}
 use Rattle.avr_image.specs.Present.{is_present, with_mark, FirstPlace}
 use Rattle.avr_image.specs.Dense.{shown_byte, shown_from, dense_image, with_span}
 
@@ -200,6 +201,40 @@ first_none words bytes {image} addr from seen le found =
     (λ k j. ap is_some (get_or-drop addr image k None)
     ∙ presence words bytes (addr + k) seen (omega (arith, j, left, size))
     ∙ found.others (addr + k) (omega (arith, le)) (omega (arith, j, left, size)))
+
+-- whether some addresses hold a byte
+none_held : (bytes : List (Option ℕ)) → ((k : ℕ) → k < length bytes → is_some (get_or bytes k None) ≡ false)
+    → list_any is_some bytes ≡ false
+none_held [] none = refl
+none_held (b ∷ bytes) none =
+    rw (none 0 (omega arith)) (none_held bytes (λ k l. none (suc k) (omega (arith, l))))
+
+pub any_is : (words bytes : List ℕ) {image : List (Option ℕ)} (start count from end place : ℕ)
+    → dense_image words bytes ≡ image → from ≡ min (length bytes) start → end ≡ from + min (length bytes - from) count
+    → FirstPlace words true from end place → nat_lt place end ≡ holds_any image start count
+any_is words bytes {image} start count from end place seen from_is end_is found =
+    let size : length image ≡ length bytes = sized words bytes seen in
+    let left = length-drop start image in
+    let row = take count (drop start image) in
+    let row_len = length-take count (drop start image) in
+    let held : (k : ℕ) → k < count → start + k < length bytes
+    → is_some (get_or row k None) ≡ is_present words (start + k) =
+    λ k j l. ap is_some (get_or-take count (drop start image) k None j ∙ get_or-drop start image k None)
+    ∙ presence words bytes (start + k) seen l in
+    elim (cases_lt place end) [
+      | inl l ↦
+          let there : start + (place - start) ≡ place = omega (arith, found.after, from_is, end_is, l) in
+          let inside : place - start < count = omega (arith, found.after, from_is, end_is, l) in
+          let within : start + (place - start) < length bytes = omega (arith, found.after, from_is, end_is, l) in
+          rw (lt-ltb place end l) (sym (list_any_at is_some row (place - start) None
+          (omega (arith, row_len, left, size, inside, within))
+          (held (place - start) inside within ∙ ap (is_present words) there ∙ found.here l)))
+      | inr past ↦ rw (le-ltb place end past) (sym (none_held row (λ k j.
+          let few : k < count = omega (arith, row_len, j) in
+          let within : start + k < length bytes = omega (arith, row_len, left, size, j) in
+          held k few within
+          ∙ found.others (start + k) (omega (arith, from_is)) (omega (arith, from_is, end_is, past, few, within)))))
+    ]
 
 -- the end of a run
 pub run_is : (words bytes : List ℕ) {image : List (Option ℕ)} (addr end place : ℕ) → dense_image words bytes ≡ image

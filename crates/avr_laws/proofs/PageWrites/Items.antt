@@ -9,7 +9,7 @@ use Rattle.avr_part.specs.Memory.{AreBytes, blank}
 use Rattle.stk_emu.proofs.Memories.Pages.{page_even}
 use Rattle.std.proofs.Math.Nat.{suc-mul, mul-le-mul_right}
 use Rattle.std.specs.Prelude.{◌==◌, ◌||◌, not, min}
-use Rattle.avr_image.specs.Image.{byte_at, filled_bytes, run_end}
+use Rattle.avr_image.specs.Image.{byte_at, filled_bytes, holds_any, run_end}
 use Rattle.avr_image.proofs.Lemmas.{held_within, filled_is, run_is_longest}
 use Rattle.avr_part.specs.declared.part.Mem.{Mem}
 use Rattle.avr_part.specs.declared.part.Mem.TheVariants.{Flash, Eeprom, Lfuse, Hfuse, Efuse, Lock, Signature, Calibration}
@@ -18,7 +18,7 @@ use Rattle.stk_frame.specs.declared.command.Command.{Command}
 use Rattle.stk_frame.specs.declared.host_command.Fuse.TheVariants.{Low, High, Extended}
 use Rattle.stk_frame.specs.HostCommands.{program_fuse, program_lock}
 use Rattle.stk_host.specs.Places.{each_from}
-use Rattle.stk_host.specs.WriteSteps.{is_used, page_step, page_steps, page_end, begins_run, run_step, run_steps_at, byte_steps, write_steps}
+use Rattle.stk_host.specs.WriteSteps.{page_step, page_steps, page_end, begins_run, run_step, run_steps_at, byte_steps, write_steps}
 use Rattle.stk_host.specs.ReadSteps.{read_count, block_size, read_step, read_steps}
 use Rattle.stk_emu.specs.Effect.{Memories, Image, Item, Erase, Write, effect, effects, and_with}
 use Rattle.stk_emu.specs.Settled.{FitsPart}
@@ -126,7 +126,7 @@ either_steps part false x y f g = g
 module _ (part : Part) (sound : IsPart part) where
   page_is_step : (image : Image) (n : ℕ) → n < part.flash_size / part.flash_page
       → AreSteps part (page_steps part image n)
-  page_is_step image n l = either_steps part (is_used part.flash_page image (n * part.flash_page))
+  page_is_step image n l = either_steps part (holds_any image (n * part.flash_page) part.flash_page)
       (page_step part image (n * part.flash_page) ∷ []) [] (λ used. (is_page, tt)) tt
     where
       is_page : IsStep part (page_step part image (n * part.flash_page))

@@ -6,13 +6,13 @@ use Rattle.std.proofs.lemmas.Bool.{cases_Bool, false≢true, cond-true, cond-fal
 use Rattle.std.proofs.lemmas.List.{get_or-take, get_or-drop}
 use Rattle.std.proofs.Math.Nat.{mod-eq_of_lt, suc-mul, zero-mul, mul-le-mul_right}
 use Rattle.std.specs.List.{list_any}
-use Rattle.avr_image.specs.Image.{byte_at, filled_bytes, or_blank}
+use Rattle.avr_image.specs.Image.{byte_at, filled_bytes, holds_any, or_blank}
 use Rattle.avr_image.proofs.Lemmas.{filled_is}
 use Rattle.avr_part.specs.declared.part.Mem.TheVariants.{Flash}
 use Rattle.avr_part.specs.Part.{Part, IsPart}
 use Rattle.stk_frame.specs.declared.command.Command.{Command}
 use Rattle.stk_host.specs.Places.{each_from}
-use Rattle.stk_host.specs.WriteSteps.{is_used, page_step, page_steps}
+use Rattle.stk_host.specs.WriteSteps.{page_step, page_steps}
 use Rattle.stk_emu.specs.Effect.{Memories, Image, Item, Write, effect, effects, and_in, and_with, are_locked}
 use Rattle.stk_emu.specs.PageWrites.{image_at, page_writes_of}
 use Rattle.stk_emu.proofs.Memories.LaidImages.{get_and_in, length-and_in}
@@ -51,7 +51,7 @@ none_any (Some b ∷ xs) k e = absurd (false≢true (sym e))
 none_any (None ∷ xs) zero e = refl
 none_any (None ∷ xs) (suc k) e = none_any xs k e
 
-unused_gap : (page : ℕ) (image : Image) (start : ℕ) → is_used page image start ≡ false → (i : ℕ) → start ≤ i
+unused_gap : (page : ℕ) (image : Image) (start : ℕ) → holds_any image start page ≡ false → (i : ℕ) → start ≤ i
     → i < start + page → byte_at image i ≡ None
 unused_gap page image start unused i from to =
     ap (byte_at image) (let e : i ≡ start + (i - start) = omega arith in e)
@@ -79,14 +79,14 @@ module _ (part : Part) (sound : IsPart part) (image : Image) where
       let start = n * part.flash_page in
       let page = part.flash_page in
       let next : (n + 1) * page ≡ start + page = let e = suc-mul n page in search rules in
-      elim (cases_Bool (is_used page image start)) [
+      elim (cases_Bool (holds_any image start page)) [
         | inl used ↦
             let bytes = filled_bytes image start page in
             let mid = and_in (image_at start bytes) old in
             let r : Flashed others m ((n + 1) * page) mid =
             rest mid (below_and_in (image_at start bytes) old below) (length-and_in (image_at start bytes) old) in
             let steps_are : page_steps part image n ≡ page_step part image start ∷ [] =
-            cond-true (is_used page image start) (page_step part image start ∷ []) [] used in
+            cond-true (holds_any image start page) (page_step part image start ∷ []) [] used in
             record {
               new = r.new;
               is = search (rules, effects_on, page_even, cond-false);
@@ -97,7 +97,7 @@ module _ (part : Part) (sound : IsPart part) (image : Image) where
         | inr unused ↦
             let r : Flashed others m ((n + 1) * page) old = rest old below refl in
             let steps_are : page_steps part image n ≡ [] =
-            cond-false (is_used page image start) (page_step part image start ∷ []) [] unused in
+            cond-false (holds_any image start page) (page_step part image start ∷ []) [] unused in
             record {
               new = r.new;
               is = ap (λ ss. effects part (page_writes_of (ss ++ others)) (record m { flash = old })) steps_are ∙ r.is;

@@ -5,13 +5,13 @@ use Rattle.std.proofs.lemmas.List.{length-drop, length-take, get_or-drop, get_or
 use Rattle.std.proofs.lemmas.List.Folds.{list_any_at}
 use Rattle.std.proofs.Math.Nat.{mul-mod_left, zero-mod}
 use Rattle.std.specs.List.{list_any}
-use Rattle.avr_image.specs.Image.{byte_at, run_end}
+use Rattle.avr_image.specs.Image.{byte_at, holds_any, run_end}
 use Rattle.avr_image.specs.Walk.{IsNextHeld, IsByteRun}
 use Rattle.avr_image.proofs.Lemmas.{held_within, run_is_longest}
 use Rattle.avr_part.specs.Part.{Part}
 use Rattle.stk_frame.specs.declared.command.Command.{Command}
 use Rattle.stk_host.specs.Places.{each_from}
-use Rattle.stk_host.specs.WriteSteps.{is_used, page_steps, page_end, begins_run, run_step, run_steps_at}
+use Rattle.stk_host.specs.WriteSteps.{page_steps, page_end, begins_run, run_step, run_steps_at}
 use Rattle.std.proofs.lemmas.Bool.Decides.{nat_tests}
 
 -- no place has steps
@@ -31,31 +31,6 @@ next_place steps_at place end before =
 pub page_most : (page : ℕ) → 0 < page → 256 % page ≡ 0 → page ≤ 256
 page_most page some fits = search rules
 
--- whether a page is used
-
-none_any : (bytes : List (Option ℕ)) → ((k : ℕ) → k < length bytes → get_or bytes k None ≡ None)
-    → list_any is_some bytes ≡ false
-none_any [] none = refl
-none_any (b ∷ bytes) none = rw (none 0 (omega arith)) (none_any bytes (λ k l. none (suc k) (omega (arith, l))))
-
-pub unused : (page : ℕ) (image : List (Option ℕ)) (start : ℕ)
-    → ((i : ℕ) → start ≤ i → i < start + page → byte_at image i ≡ None) → is_used page image start ≡ false
-unused page image start none =
-    search (rules, length-take, none_any, get_or-take, get_or-drop)
-
-pub used : (page : ℕ) (image : List (Option ℕ)) (start addr : ℕ) → start ≤ addr
-    → addr < start + page → addr < length image
-    → is_some (byte_at image addr) ≡ true → is_used page image start ≡ true
-used page image start addr from before within held =
-    let k = addr - start in
-    let short = length-take page (drop start image) in
-    let left = length-drop start image in
-    let there : start + (addr - start) ≡ addr = omega arith in
-    let inside : addr - start < page = omega arith in
-    list_any_at is_some (take page (drop start image)) (addr - start) None
-    (omega (arith, short, left, inside, within, from))
-    (search (rules, get_or-take, get_or-drop))
-
 -- where runs begin
 
 begun : (page : ℕ) (image : List (Option ℕ)) (addr : ℕ) → is_some (byte_at image addr) ≡ true
@@ -70,7 +45,7 @@ not_begun page image addr inside before = search rules
 -- whether a place has a step
 
 pub no_page : (part : Part) (image : List (Option ℕ)) (number : ℕ)
-    → is_used part.flash_page image (number * part.flash_page) ≡ false → page_steps part image number ≡ []
+    → holds_any image (number * part.flash_page) part.flash_page ≡ false → page_steps part image number ≡ []
 no_page part image number is = rw is refl
 
 pub no_run : (part : Part) (image : List (Option ℕ)) (addr : ℕ) → begins_run part.eeprom_page image addr ≡ false
