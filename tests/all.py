@@ -17,6 +17,7 @@ import os
 import re
 import subprocess
 import sys
+import tempfile
 import threading
 import time
 from collections import Counter
@@ -32,8 +33,8 @@ PROVED = TOP / "crates/avrstk/out/avrstk"
 CHECKED = ("measure --check", "reach --check")
 # scripts that run no program of this project, or compile it themselves; the longest first
 SOURCES = ("rattle tests", "rattle programs", "rattle refused", "rattle documentation", "vendor", "build", *CHECKED)
-# the same, but it proves what it compiles, so only --all runs it
-PROVING = ("from_c",)
+# scripts over the library for C, which takes minutes to prove and build, so that only --all runs them
+LIBRARY = ("from_c", "others")
 # scripts that take seconds
 SHORT = ("made_frames", "manual", "programmer")
 # scripts that ./test runs with the unproved program; the longest first
@@ -41,7 +42,7 @@ QUICK = ("serial", "parts", "avrdude", "runs", "chips", "package", "serve", "rec
 # those that --all runs with both programs: two compilers made what these compare byte for byte
 BOTH = ("runs", "lines", "programmer")
 # scripts that --all runs with the proved program; the longest first
-PROGRAM = ("faults", "cuts_and_stalls", "mega", "others", "vendor proof", "calls", *QUICK)
+PROGRAM = ("faults", "cuts_and_stalls", "mega", "vendor proof", "calls", *QUICK)
 
 LANES = len(os.sched_getaffinity(0))
 # the most memory that a check needs, in kB
@@ -170,14 +171,20 @@ def ci(is_proved):
         is_proved.set()
 
 
-def unproved(lanes, sources, names):
+def library():
+    """Runs the scripts over the library for C, which is built once for all."""
+    with tempfile.TemporaryDirectory() as folder:
+        return [script(it, AVR_RECORDS_C=folder) for it in LIBRARY]
+
+
+def unproved(lanes, names):
     """Starts the build of the unproved program, the scripts that need no program, and the named ones, which use it."""
     built = lanes.submit(build)
 
     def over_it(name):
         return [script(name, "unproved: ", AVRSTK=str(UNPROVED))] if built.result().status == 0 else []
 
-    begun = [lanes.submit(lambda it: [script(it)], name) for name in sources]
+    begun = [lanes.submit(lambda it: [script(it)], name) for name in SOURCES]
     begun += [lanes.submit(over_it, name) for name in names]
     return lambda: [built.result(), *(done for it in begun for done in it.result())]
 
@@ -185,7 +192,7 @@ def unproved(lanes, sources, names):
 def few():
     """Runs the quick scripts, one per processor."""
     with ThreadPoolExecutor(LANES) as lanes:
-        done = unproved(lanes, SOURCES, QUICK)()
+        done = unproved(lanes, QUICK)()
     return settled(done)
 
 
@@ -193,16 +200,16 @@ def everything():
     """Runs rt ci, and beside it, with half of the processors, first what needs no proved program and then all scripts."""
     is_proved = threading.Event()
     with ThreadPoolExecutor(1) as beside, ThreadPoolExecutor(max(1, LANES // 2)) as lanes:
-        proving, others = beside.submit(ci, is_proved), unproved(lanes, (*PROVING, *SOURCES), BOTH)
+        proving, over_c, others = beside.submit(ci, is_proved), lanes.submit(library), unproved(lanes, BOTH)
         is_proved.wait()
         over_it = [lanes.submit(script, it, "proved: ", AVRSTK=str(PROVED)) for it in PROGRAM]
-        done = [*others(), proving.result(), *(it.result() for it in over_it)]
+        done = [*others(), *over_c.result(), proving.result(), *(it.result() for it in over_it)]
     return settled(done)
 
 
 def chosen(names):
     """Runs the scripts of these names, with the built program."""
-    known = list(dict.fromkeys([*SOURCES, *PROVING, *PROGRAM]))
+    known = list(dict.fromkeys([*SOURCES, *LIBRARY, *PROGRAM]))
     steps = [it for it in known if it in names or it.split()[0] in set(names) - set(known)]
     built = [] if os.environ.get("AVRSTK") or current() else [build()]
     with ThreadPoolExecutor(LANES) as lanes:
@@ -235,7 +242,7 @@ def summary(done):
 def main(words):
     if words in ([], ["--all"]):
         return summary(everything() if words else few())
-    known = {it.split()[0] for it in (*SOURCES, *PROVING, *PROGRAM)} | {*SOURCES, *PROVING, *PROGRAM}
+    known = {it.split()[0] for it in (*SOURCES, *LIBRARY, *PROGRAM)} | {*SOURCES, *LIBRARY, *PROGRAM}
     if set(words) - known:
         print(__doc__.strip(), "", "Scripts:", *(f"    {it}" for it in sorted(known)), sep="\n")
         return 2

@@ -1,6 +1,7 @@
 #!/usr/bin/env python3
 """Tests the library for C: runs examples/c and examples/python on the examples' files, on random images with gaps, and on
-damaged files. Without a C compiler all is left out.
+damaged files. Without a C compiler all is left out. AVR_RECORDS_C may name a folder for the library, which is built there
+if it has none.
 
     tests/from_c.py [CASE ..]
 """
@@ -112,7 +113,7 @@ def shown(image):
 
 
 def build(folder):
-    """Builds the library in a copy of its crates, because `rt lib` waits while an rt ci is at work on them."""
+    """Builds the library there, in a copy of its crates, because `rt lib` waits while an rt ci is at work on these."""
     copy = folder / "copy"
     shutil.copytree(ROOT / "examples/c", copy / "examples/c")
     shutil.copy(ROOT / "VERSION", copy)
@@ -123,7 +124,10 @@ def build(folder):
 class Library:
     def __init__(self, folder):
         self.folder = folder
-        build(folder)
+        built = Path(os.environ.get("AVR_RECORDS_C") or folder / "built")
+        if not (built / "libavr_records.a").exists():
+            build(built)
+        shutil.copytree(built, folder, symlinks=True, dirs_exist_ok=True, ignore=shutil.ignore_patterns("copy"))
         self.program = self.compiled(ROOT / "examples/c/records.c")
 
     def compiled(self, source):

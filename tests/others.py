@@ -2,7 +2,7 @@
 """Exchanges record files with other programs: srec_cat, avr-objcopy and python3-intelhex. A tool that isn't installed is
 left out, and reported.
 
-    tests/others.py [TOOL ..]        needs a C compiler, for examples/c/records.c with the library for C
+    tests/others.py [TOOL ..]        needs a C compiler, for examples/c/records.c with the library for C (from_c.py)
 
 This project writes random images with gaps, from fixed seeds, as Intel HEX and S-records, and each other program reads
 them. Each other program writes them too, and this project reads them. Every byte must be at its address, and there must

@@ -1,7 +1,7 @@
 #!/usr/bin/env python3
 """Copies crates into other repositories by tools/vendor.sh, and builds a crate there that uses them. The case `proof`, which
-runs only if named, proves that crate too, and the program of examples/library that implements a trait of these crates.
-That takes minutes if rt ci has not proved the same files on this machine.
+runs only if named, proves that crate too, and the link of examples/library, whose ghost members only a proof reads. That
+takes minutes if rt ci has not proved the same files on this machine.
 
     tests/vendor.py [CASE ..]
 """
@@ -146,14 +146,13 @@ def build():
 
 
 def add_example(top):
-    """Adds the example as a program, which must print what its lines `//= LINE` state."""
+    """Adds the example as a library, without its `main`, which tests/rattle.py runs."""
     source = (TOP / f"examples/library/{EXAMPLE}.rs").read_text()
     needs = re.match("// crates: (.*)", source)[1]
     vendor(*filter(line_of, needs.split()), top)
     crate = top / "crates" / EXAMPLE
     (crate / "src").mkdir(parents=True)
-    (crate / "src/main.rt").write_text(source)
-    (crate / "stdout").write_text("".join(f"{it}\n" for it in re.findall("^//= (.*)", source, re.M)))
+    (crate / "src/lib.rt").write_text(source.partition("\nfn main(")[0])
     with (top / "crates.txt").open("a") as lines:
         lines.write(f"{EXAMPLE}: {needs}\n")
     same("the example's layout", rt(["fmt"], crate)[0], 0)
