@@ -3,8 +3,8 @@
 
     tests/all.py             builds the program without proofs, and runs the quick scripts with it
     tests/all.py NAME ..     runs these scripts, with the program that AVRSTK names, or the one that is built
-    tests/all.py --all       proves everything (rt ci); beside it runs the scripts that need no proved program and, from the
-                             moment that the program is proved, all scripts with it
+    tests/all.py --all       proves everything (rt ci); beside it runs the scripts that need no proved program and, once
+                             the program is proved, all scripts with it
 
 A script's output is printed when the script has ended. All steps run even if one fails; the status is then 1. Some
 scripts measure timeouts, so a script that failed beside others is run once more alone. That run counts, and the summary
@@ -155,8 +155,8 @@ def current():
 
 
 def ci(is_proved):
-    """Proves everything, with one task per processor if there is enough memory for each. Sets `is_proved` once the program
-    is there, and in any case at the end."""
+    """Proves everything, with one task per processor if there is enough memory for each. Sets `is_proved` once the
+    program is built, and in any case at the end."""
 
     def each(line):
         say([line])
@@ -171,13 +171,12 @@ def ci(is_proved):
         is_proved.set()
 
 
-def library():
-    """Runs the scripts over the library for C, which is built once for all."""
-    with tempfile.TemporaryDirectory() as folder:
-        return [script(it, AVR_RECORDS_C=folder) for it in LIBRARY]
+def over_library(folder):
+    """Runs the scripts over the library for C. The first one builds it in this folder, and the others find it there."""
+    return [script(it, AVR_RECORDS_C=folder) for it in LIBRARY]
 
 
-def unproved(lanes, names):
+def start_unproved(lanes, names):
     """Starts the build of the unproved program, the scripts that need no program, and the named ones, which use it."""
     built = lanes.submit(build)
 
@@ -192,19 +191,22 @@ def unproved(lanes, names):
 def few():
     """Runs the quick scripts, one per processor."""
     with ThreadPoolExecutor(LANES) as lanes:
-        done = unproved(lanes, QUICK)()
+        done = start_unproved(lanes, QUICK)()
     return settled(done)
 
 
 def everything():
     """Runs rt ci, and beside it, with half of the processors, first what needs no proved program and then all scripts."""
     is_proved = threading.Event()
-    with ThreadPoolExecutor(1) as beside, ThreadPoolExecutor(max(1, LANES // 2)) as lanes:
-        proving, over_c, others = beside.submit(ci, is_proved), lanes.submit(library), unproved(lanes, BOTH)
-        is_proved.wait()
-        over_it = [lanes.submit(script, it, "proved: ", AVRSTK=str(PROVED)) for it in PROGRAM]
-        done = [*others(), *over_c.result(), proving.result(), *(it.result() for it in over_it)]
-    return settled(done)
+    # (a script that is run again finds the library for C too)
+    with tempfile.TemporaryDirectory() as folder:
+        with ThreadPoolExecutor(1) as beside, ThreadPoolExecutor(max(1, LANES // 2)) as lanes:
+            proving, over_c = beside.submit(ci, is_proved), lanes.submit(over_library, folder)
+            others = start_unproved(lanes, BOTH)
+            is_proved.wait()
+            over_it = [lanes.submit(script, it, "proved: ", AVRSTK=str(PROVED)) for it in PROGRAM]
+            done = [*others(), *over_c.result(), proving.result(), *(it.result() for it in over_it)]
+        return settled(done)
 
 
 def chosen(names):

@@ -115,7 +115,7 @@ def shown(image):
 def build(folder):
     """Builds the library there, in a copy of its crates, because `rt lib` waits while an rt ci is at work on these."""
     copy = folder / "copy"
-    shutil.copytree(ROOT / "examples/c", copy / "examples/c")
+    shutil.copytree(ROOT / "examples/c", copy / "examples/c", dirs_exist_ok=True)
     shutil.copy(ROOT / "VERSION", copy)
     for command in [[ROOT / "tools/vendor.sh", "avr_records_c", copy], [copy / "examples/c/build.sh", folder]]:
         subprocess.run(command, check=True, stdout=subprocess.DEVNULL)
