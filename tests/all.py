@@ -8,9 +8,11 @@
 
 A script's output is printed when the script has ended. All steps run even if one fails; the status is then 1. Some
 scripts measure timeouts, so a script that failed beside others is run once more alone. That run counts, and the summary
-names it. The summary has each step's status, minutes and last line, the lines that report failures, and how the mutants
-were refused. It lists checks that were left out because a tool isn't installed (`./test --tools` installs the tools);
-with NEED_ALL=1 in the environment these are failures. Its last line counts passed and failed checks of all steps.
+names it. The summary has each step's status, minutes, processor seconds and last line, the lines that report failures,
+and how the mutants were refused. It lists checks that were left out because a tool isn't installed (`./test --tools`
+installs the tools); with NEED_ALL=1 in the environment these are failures. --all also prints the processor seconds of
+each crate's checks, and of the whole as a ratio to those of stk_frame's first check: this ratio is the same on a slow
+machine. The last line counts passed and failed checks of all steps.
 """
 
 import os
@@ -24,6 +26,8 @@ from collections import Counter
 from concurrent.futures import ThreadPoolExecutor
 from dataclasses import dataclass
 from pathlib import Path
+
+from checks import Checks
 
 TOP = Path(__file__).resolve().parent.parent
 UNPROVED = TOP / "out/unproved/avrstk"
@@ -45,6 +49,8 @@ BOTH = ("runs", "lines", "programmer")
 PROGRAM = ("faults", "cuts_and_stalls", "mega", "vendor proof", "calls", *QUICK)
 
 LANES = len(os.sched_getaffinity(0))
+# scripts that no proof waits for take the processors that rt ci leaves idle
+LAST = ("nice", "-n", "10")
 # the most memory that a check needs, in kB
 CHECK = 3_000_000
 BEGUN = time.monotonic()
@@ -57,8 +63,12 @@ COUNTS = re.compile(r".*?(\d+) passed, (\d+) failed")
 FAILURE = re.compile(r"(?:rt: )?FAILED: |.*(?:NOT PROVED|NOT REFUSED|BAD EDIT)")
 MOST_FAILURES = 20
 
-# rt's line once the program is proved and built
-PROVED_LINE = re.compile(r"rt: avrstk (?:proved|is kept)\b")
+# rt's line once a crate is proved and built
+PROVED_LINE = re.compile(r"rt: (\w+) (?:proved|is kept)\b")
+
+# the crate whose first check is the measure of a machine, and the whole in such checks that --all may take
+MEASURE = "stk_frame"
+MOST = 70
 
 # rt's line for a refused mutant, and the kinds of refusal; the first match counts. rt cuts a line after 160 characters,
 # so these words may be incomplete
@@ -130,10 +140,11 @@ def run(what, command, each=None, **environment):
     return done
 
 
-def script(name, kind="", **environment):
+def script(name, kind="", before=(), **environment):
     """Runs a script. The log names it with the `kind` of program that it runs."""
     file, *words = name.split()
     command = [TOP / "bench/run.py", "--calls"] if file == "calls" else [TOP / f"tests/{file}.py", *words]
+    command = [*before, *command]
     once = lambda again="": run(f"{kind}{name}{again}", command, PYTHONUNBUFFERED="1", **environment)
     done = once()
     done.again = lambda: once(" (again, alone)")
@@ -154,26 +165,47 @@ def current():
     return subprocess.run(["./avrstk", "--which"], cwd=TOP, capture_output=True).returncode == 0
 
 
-def ci(is_proved):
-    """Proves everything, with one task per processor if there is enough memory for each. Sets `is_proved` once the
-    program is built, and in any case at the end."""
+class Proving:
+    """The run of rt ci: what it has proved so far, and its checks."""
 
-    def each(line):
+    def __init__(self):
+        self.proved, self.changed, self.is_over, self.checks = [], threading.Condition(), False, Checks()
+
+    def see(self, line):
         say([line])
-        if PROVED_LINE.match(line):
-            is_proved.set()
+        found = PROVED_LINE.match(line)
+        with self.changed:
+            self.proved += [found[1]] if found else []
+            self.changed.notify_all()
 
-    free = int(re.search(r"MemAvailable: +(\d+)", Path("/proc/meminfo").read_text())[1])
-    jobs = os.environ.get("RT_JOBS") or str(max(1, min(LANES, free // CHECK)))
-    try:
-        return run("rt ci", ["rt", "ci"], each, RT_JOBS=jobs)
-    finally:
-        is_proved.set()
+    def wait_for(self, crate):
+        """Waits until the crate is proved or rt ci has ended. Returns all crates that are proved, for tests/proved.py."""
+        with self.changed:
+            self.changed.wait_for(lambda: crate in self.proved or self.is_over)
+            return " ".join(self.proved)
+
+    def run(self):
+        """Proves everything, with one task per processor if there is enough memory for each."""
+        jobs = os.environ.get("RT_JOBS") or str(max(1, min(LANES, free_memory() // CHECK)))
+        self.checks.start()
+        try:
+            return run("rt ci", ["rt", "ci"], self.see, RT_JOBS=jobs)
+        finally:
+            self.checks.ended.set()
+            with self.changed:
+                self.is_over = True
+                self.changed.notify_all()
 
 
-def over_library(folder):
+def free_memory():
+    """Returns the free memory in kB."""
+    return int(re.search(r"MemAvailable: +(\d+)", Path("/proc/meminfo").read_text())[1])
+
+
+def over_library(folder, proving):
     """Runs the scripts over the library for C. The first one builds it in this folder, and the others find it there."""
-    return [script(it, AVR_RECORDS_C=folder) for it in LIBRARY]
+    proved = proving.wait_for("avr_records")
+    return [script(it, before=LAST, AVR_RECORDS_C=folder, PROVED_BY_CI=proved) for it in LIBRARY]
 
 
 def start_unproved(lanes, names):
@@ -183,7 +215,7 @@ def start_unproved(lanes, names):
     def over_it(name):
         return [script(name, "unproved: ", AVRSTK=str(UNPROVED))] if built.result().status == 0 else []
 
-    begun = [lanes.submit(lambda it: [script(it)], name) for name in SOURCES]
+    begun = [lanes.submit(lambda it: [script(it, before=LAST)], name) for name in SOURCES]
     begun += [lanes.submit(over_it, name) for name in names]
     return lambda: [built.result(), *(done for it in begun for done in it.result())]
 
@@ -196,17 +228,18 @@ def few():
 
 
 def everything():
-    """Runs rt ci, and beside it, with half of the processors, first what needs no proved program and then all scripts."""
-    is_proved = threading.Event()
+    """Runs rt ci, and beside it, with half of the processors, first what needs no proved program and then all scripts.
+    Returns the outcome of all steps, and the checks of rt ci."""
+    proving = Proving()
     # (a script that is run again finds the library for C too)
     with tempfile.TemporaryDirectory() as folder:
-        with ThreadPoolExecutor(1) as beside, ThreadPoolExecutor(max(1, LANES // 2)) as lanes:
-            proving, over_c = beside.submit(ci, is_proved), lanes.submit(over_library, folder)
+        with ThreadPoolExecutor(2) as beside, ThreadPoolExecutor(max(1, LANES // 2)) as lanes:
+            proof, over_c = beside.submit(proving.run), beside.submit(over_library, folder, proving)
             others = start_unproved(lanes, BOTH)
-            is_proved.wait()
-            over_it = [lanes.submit(script, it, "proved: ", AVRSTK=str(PROVED)) for it in PROGRAM]
-            done = [*others(), *over_c.result(), proving.result(), *(it.result() for it in over_it)]
-        return settled(done)
+            with_it = {"AVRSTK": str(PROVED), "PROVED_BY_CI": proving.wait_for("avrstk")}
+            over_it = [lanes.submit(script, it, "proved: ", **with_it) for it in PROGRAM]
+            done = [*others(), *over_c.result(), proof.result(), *(it.result() for it in over_it)]
+        return settled(done), proving.checks
 
 
 def chosen(names):
@@ -219,9 +252,27 @@ def chosen(names):
     return settled(done)
 
 
-def summary(done):
+def machine():
+    """Returns what the times depend on."""
+    says = lambda word: subprocess.run(["rt", word], capture_output=True, text=True)
+    kit, told = says("version").stdout.strip(), says("help")
+    # (a kit whose rt ci takes names remembers what passed)
+    keeps = "keeps what passed" if re.search(r"rt ci \[?NAME", told.stdout + told.stderr) else "proves everything anew in each rt ci"
+    return f"{LANES} processors, {free_memory() / 1e6:.0f} GB free; {kit}, which {keeps}"
+
+
+def costs(done, checks):
+    """Returns the table of processor seconds, and the whole in first checks of one crate."""
+    whole, (measure, _) = sum(it.processor for it in done), checks.of(MEASURE)
+    two = f"reckoned for two processors: {whole / 2 / 60:.0f} minutes"
+    ratio = f"{whole / measure:.0f} times {MEASURE}'s first check of {measure:.0f} s" if measure else f"{MEASURE} was not proved anew"
+    over = f"; more than {MOST}" if measure and whole / measure > MOST else ""
+    return [*checks.table(), f"the whole: {whole:.0f} s of a processor, {ratio}{over}; {two}"]
+
+
+def summary(done, checks=None):
     """Prints the outcome of all steps, and returns the status."""
-    print("== summary")
+    print("== summary", *(costs(done, checks) if checks else []), sep="\n")
     for it in done:
         print(f"{it.end():10} {it.seconds / 60:5.1f} min {it.processor:6.0f} s  {it.what}: {it.last()}")
         for line in [it.strip() for it in it.lines if FAILURE.match(it)][:MOST_FAILURES] if it.status else []:
@@ -242,8 +293,11 @@ def summary(done):
 
 
 def main(words):
-    if words in ([], ["--all"]):
-        return summary(everything() if words else few())
+    if words == ["--all"]:
+        say([machine()])
+        return summary(*everything())
+    if not words:
+        return summary(few())
     known = {it.split()[0] for it in (*SOURCES, *LIBRARY, *PROGRAM)} | {*SOURCES, *LIBRARY, *PROGRAM}
     if set(words) - known:
         print(__doc__.strip(), "", "Scripts:", *(f"    {it}" for it in sorted(known)), sep="\n")

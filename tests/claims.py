@@ -478,6 +478,20 @@ def avrdude():
 # ---- the toolchain
 
 
+def the_time_of_the_whole():
+    """README and CONTRIBUTING give the time of `./test --all` in one sentence, by the limit of tests/all.py."""
+    most = re.search(r"^MOST = (\d+)$", text("tests/all.py"), re.M)[1]
+    sentence = f"From nothing, `./test --all` takes at most the processor time of {most} first checks of stk_frame"
+    for document in ("README.md", "CONTRIBUTING.md"):
+        see(f"{document}: the time of the whole", sentence in " ".join(text(document).split()))
+
+
+def the_mutants():
+    most = re.search(r"All crates together have at most (\d+)", text("CONTRIBUTING.md"))
+    edits = len(list(TOP.glob("crates/*/must-fail/*.edit")))
+    see("CONTRIBUTING: the number of mutants", most and edits <= int(most[1]), edits)
+
+
 def the_logic():
     """The checksum of the logic in the documents is that of the installed kit."""
     if not shutil.which("rt"):
@@ -492,6 +506,8 @@ def the_logic():
 
 CASES = named(
     the_logic,
+    the_time_of_the_whole,
+    the_mutants,
     written_is_no_more_than_answered,
     what_is_written_is_there,
     a_locked_chip_without_an_erase,

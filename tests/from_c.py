@@ -6,6 +6,7 @@ if it has none.
     tests/from_c.py [CASE ..]
 """
 
+import functools
 import importlib.util
 import os
 import random
@@ -17,6 +18,7 @@ import tempfile
 import time
 from pathlib import Path
 
+import proved
 from cases import leave_out, named, run_cases, same
 
 ROOT = Path(__file__).resolve().parent.parent
@@ -117,8 +119,10 @@ def build(folder):
     copy = folder / "copy"
     shutil.copytree(ROOT / "examples/c", copy / "examples/c", dirs_exist_ok=True)
     shutil.copy(ROOT / "VERSION", copy)
-    for command in [[ROOT / "tools/vendor.sh", "avr_records_c", copy], [copy / "examples/c/build.sh", folder]]:
-        subprocess.run(command, check=True, stdout=subprocess.DEVNULL)
+    run = functools.partial(subprocess.run, check=True, stdout=subprocess.DEVNULL)
+    run([ROOT / "tools/vendor.sh", "avr_records_c", copy])
+    proved.lend(copy)
+    run([copy / "examples/c/build.sh", folder])
 
 
 class Library:
