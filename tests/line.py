@@ -33,8 +33,10 @@ def spoiled(frame):
 class Peer:
     """Serves one caller at a port, in its own thread."""
 
+    host = "127.0.0.1"
+
     def __init__(self):
-        self.listener = socket.create_server(("127.0.0.1", 0))
+        self.listener = socket.create_server((self.host, 0))
         self.listener.settimeout(PATIENCE)
         self.port = self.listener.getsockname()[1]
         self.heard = []
@@ -54,7 +56,7 @@ class Peer:
     def end(self):
         """Returns what was received, once the caller has gone."""
         # if there was no caller, this is one that sends nothing; otherwise it isn't accepted
-        socket.create_connection(("127.0.0.1", self.port), PATIENCE).close()
+        socket.create_connection((self.host, self.port), PATIENCE).close()
         self.thread.join()
         self.listener.close()
         return self.heard

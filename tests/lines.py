@@ -14,8 +14,8 @@ import sys
 import time
 
 from cases import PATIENCE, chosen, leave_out, named, run_cases, same, see
-from line import Peer, frames_of
-from program import ANSWERS, CHIP_FILE, PROGRAM, TOP, Room, frame, kept_port, lines, port_of
+from line import FrontOfAnswers, Peer, frames_of
+from program import ANSWERS, CHIP_FILE, FRAMES, PROGRAM, TOP, Room, Server, frame, kept_port, lines, port_of
 
 PART = ["-p", "m328p"]
 EMULATED = [*PART, "-P", "emu:chip.bin"]
@@ -37,6 +37,14 @@ ELSEWHERE = {
     "error: FILE: cannot be written": "tests/hostile.py names a full device",
     "error: FILE: cannot be read": "tests/hostile.py names folders",
     "error: FILE: in use by another run": "tests/chips.py has runs at once",
+}
+
+# words that each option's text has in the help
+HELP = {
+    **{"-p": "part", "-c": "programmer", "-P": "stdio:, emu:CHIPFILE or net:HOST:PORT", "-U": "16 times", "-e": "Erase the chip"},
+    **{"-D": "erase the chip before flash", "-V": "read back what was written", "-n": "nothing", "-F": "signature", "-A": "trailing FF", "-h": "help"},
+    **{"-q": "information lines; twice: warnings too", "-b": "no effect", "-v": "no effect"},
+    **{"--parts": "TOML", "--serve": "emulated programmer at this port of 127.0.0.1", "--chip": "chip file"},
 }
 
 room = Room()
@@ -101,18 +109,16 @@ def settings_are_refused():
 
 
 def help_is_printed():
-    """Help goes to standard output, with status 0; it names every option."""
-    texts = set()
+    """Help goes to standard output, with status 0. It has a text for each option, and each text of its source whole."""
+    source = (TOP / "crates/avr_cli/src/command.rt").read_text().replace("\\\n", "")
+    texts = [it for it in re.findall(r'"([^"]*)"', source) if " " in it]
     for word in ["-h", "--help"]:
         status, output, messages = room.run([word])
         same(f"{word}: status and messages", (status, messages), (0, b""))
         text = output.decode()
-        for option in [*"pcPUeDVnFAqbvh"]:
-            see(f"{word}: -{option}", re.search(rf"^\s+-{option}\b", text, re.M), text)
-        for option in ["parts", "serve", "chip"]:
-            see(f"{word}: --{option}", f"--{option}" in text, text)
-        texts.add(text.splitlines()[0])
-    same("both begin alike", len(texts), 1)
+        for option, told in HELP.items():
+            see(f"{word}: {option}", re.search(rf"^ +{option}\b.*{told}", text, re.M), text)
+        same(f"{word}: texts that are cut", [it for it in texts if it not in text], [])
 
 
 def words_are_refused():
@@ -201,6 +207,16 @@ def images_are_taken():
     late = with_file("late.hex", "\n" * 1014 + record)
     size = 1014 + len(record)
     run("a mark that is cut", [*EMULATED, "-U", f"flash:w:{late}"], [*ERASED, f"flash: {size} bytes written", f"flash: {size} bytes verified", DONE], 0)
+
+
+def names_are_taken_whole():
+    """A blank at either end of a name belongs to it."""
+    for name, content in [("two.bin", bytes(1)), (" two.bin ", bytes(2)), ("two.bin ", bytes(3)), (" two.bin", bytes(4))]:
+        told = [SIGNATURE, f"eeprom: {len(content)} bytes written", "eeprom: 1024 bytes read", DONE]
+        updates = ["-U", f"eeprom:w:{with_file(name, content)}:r", "-U", f"eeprom:r:{name}.back:r"]
+        run(f"the file {name!r}", [*PART, "-P", f"emu:{name}.chip ", "-V", *updates], told, 0)
+        same(f"the file {name!r}: read back", room.read(f"{name}.back"), content.ljust(1024, b"\xff"))
+        same(f"the file {name!r}: the chip", len(room.read(f"{name}.chip ") or b""), CHIP_FILE)
 
 
 def part_files():
@@ -296,6 +312,57 @@ def a_silence_is_a_second():
     see("each timeout takes a second", all(0.9 <= gap <= 1.9 for gap in gaps), gaps)
 
 
+class Elsewhere(FrontOfAnswers):
+    """Replies at another address of this machine, where no process listens at 127.0.0.1."""
+
+    host = "127.0.0.2"
+
+
+def the_named_host_is_called():
+    peer = Elsewhere(ANSWERS, resets=False)
+    run("another host", [*PART, "-P", f"net:127.0.0.2:{peer.port}"], [SIGNATURE, DONE], 0)
+    same("what it received", peer.end(), FRAMES)
+
+
+def tracing(calls):
+    """Returns how to start a run whose system calls of this kind go to the file `calls`. (The unproved program's leak
+    detector can't run there.)"""
+    return {"front": ["strace", "-o", "calls", "-e", f"trace={calls}"], "env": os.environ | {"ASAN_OPTIONS": "detect_leaks=0"}}
+
+
+def traced(call):
+    """Returns the system calls that match, with the part that is in parentheses."""
+    return re.findall(call, (room.read("calls") or b"").decode(), re.M)
+
+
+def nobody_else_is_called():
+    """Only `net:` makes a connection, and one, and only `--serve` listens. Bytes are sent without delay."""
+    if not shutil.which("strace"):
+        return leave_out("which connections are made", "strace is not installed")
+    peer = FrontOfAnswers(ANSWERS, resets=False)
+    named = [("socket", "AF_INET"), ("connect", f"htons({peer.port})"), ("setsockopt", "TCP_NODELAY, [1], 4) = 0")]
+    for words, given, wanted in [(SESSION, ANSWERS, []), (EMULATED, b"", []), ([*PART, "-P", f"net:127.0.0.1:{peer.port}"], b"", named)]:
+        room.clear()
+        started = room.start(words, subprocess.PIPE, **tracing("socket,connect,bind,listen,accept,accept4,setsockopt"))
+        same(f"{words}", started.communicate(given, PATIENCE)[1], lines(SIGNATURE, DONE))
+        found = [it for it in traced(r"^(\w+\(.*)") if "SO_RCVTIMEO" not in it]
+        see(f"{words}: its calls", len(found) == len(wanted), found)
+        for it, (call, told) in zip(found, wanted):
+            see(f"{words}: {call}", it.startswith(f"{call}(") and told in it, it)
+    same("what the peer received", peer.end(), FRAMES)
+
+
+def replies_are_not_delayed():
+    """A served programmer sends without delay, too."""
+    if not shutil.which("strace"):
+        return leave_out("how replies are sent", "strace is not installed")
+    room.clear()
+    with Server(room, **tracing("setsockopt")) as server:
+        server.call().close()
+        same("a caller that says nothing", server.end()[0], 0)
+    same("without delay", len(traced(r"TCP_NODELAY, \[1\], 4\) = 0")), 1)
+
+
 def ports_are_refused():
     with socket.create_server(("127.0.0.1", 0)) as other:
         taken = other.getsockname()[1]
@@ -321,12 +388,10 @@ def a_line_is_one_write():
     """Each line is one write, in a run that succeeds and in one that is refused for a long name."""
     if not shutil.which("strace"):
         return leave_out("how lines are written", "strace is not installed")
-    # (the unproved program's leak detector can't run under strace)
-    more = {"front": ["strace", "-o", "calls", "-e", "trace=write"], "env": os.environ | {"ASAN_OPTIONS": "detect_leaks=0"}}
     for words, count in [([*EMULATED, "-e", "-n", "-U", "lfuse:w:0x62:m"], 4), ([*EMULATED, "-U", f"flash:w:{'x' * 4000}"], 1)]:
         room.clear()
-        messages = room.start(words, **more).communicate(timeout=PATIENCE)[1].splitlines(keepends=True)
-        written = re.findall(r"^write\(2, .* = (\d+)$", (room.read("calls") or b"").decode(), re.M)
+        messages = room.start(words, **tracing("write")).communicate(timeout=PATIENCE)[1].splitlines(keepends=True)
+        written = traced(r"^write\(2, .* = (\d+)$")
         same(f"the writes of {words[4]}", [int(it) for it in written], [len(it) for it in messages])
         same(f"the lines of {words[4]}", len(messages), count)
 
@@ -388,11 +453,15 @@ CASES = named(
     words_are_refused,
     images_are_refused,
     images_are_taken,
+    names_are_taken_whole,
     part_files,
     chip_files,
     nothing_is_written,
     answers_are_bad,
     a_silence_is_a_second,
+    the_named_host_is_called,
+    nobody_else_is_called,
+    replies_are_not_delayed,
     ports_are_refused,
     long_lines,
     a_line_is_one_write,

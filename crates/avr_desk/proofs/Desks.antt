@@ -2,3 +2,4 @@
 pub mod Writers
 pub mod InMemory
 pub mod TwoWriters
+pub mod Held

@@ -2,3 +2,4 @@
 pub mod Pieces
 pub mod Names
 pub mod Uses
+pub mod Calls

@@ -5,6 +5,7 @@ use Rattle.std.specs.Io.KnownBytes.{Appends, Consumes}
 use Rattle.std.specs.List.{All}
 use Rattle.std.specs.declared.io.Read.{Ghosts as Reads}
 use Rattle.std.specs.declared.io.Write.{Ghosts as Writes}
+use Rattle.avr_desk.specs.Journal.{done_by}
 use Rattle.avr_desk.specs.Named.{is_dash}
 use Rattle.avr_desk.specs.Record.{Bytes, Record}
 use Rattle.avr_desk.specs.declared.file_system.FileSystem.{Ghosts}
@@ -23,25 +24,26 @@ pub record HasGiven {H : Type 0} (reads : Reads H) (first now : H) (reading : Re
   pub gave : Consumes (reads.remaining first) (reads.remaining now) reading.bytes
   pub ends : reading.ended ≡ true → IfSome (reads.remaining first) (λ bytes. length bytes ≤ length reading.bytes)
 
--- `-` is standard input, and any other name a file that was opened by it
-abbrev pub GaveInput : {I : Type 0} → Reads I → I → Reading → Type 0
-GaveInput {I = I} input now reading = (is_dash reading.name ≡ true) × (first : I) × HasGiven input first now reading
+-- `-` is standard input from where the system gave it, and any other name a file that was opened by it
+abbrev pub GaveInput : {S F I H : Type 0} → Ghosts S F I H → Reads I → I → Reading → Type 0
+GaveInput {I = I} system input now reading =
+    (is_dash reading.name ≡ true) × (first : I) × system.is_input first × HasGiven input first now reading
 
-abbrev pub GaveFile : {S F H : Type 0} → Ghosts S F H → Reads F → F → Reading → Type 0
+abbrev pub GaveFile : {S F I H : Type 0} → Ghosts S F I H → Reads F → F → Reading → Type 0
 GaveFile {F = F} system reads now reading =
     (first : F) × system.is_of first reading.name × HasGiven reads first now reading
 
 -- what was written to a file is what it took since it was created by this name; `-` is the output
-abbrev pub TookFile : {S F H : Type 0} → Ghosts S F H → Writes F → F → Writing → Type 0
+abbrev pub TookFile : {S F I H : Type 0} → Ghosts S F I H → Writes F → F → Writing → Type 0
 TookFile {F = F} system writes now writing =
     (first : F) × system.is_of first writing.name
     × Appends (writes.contents first) (writes.contents now) writing.bytes
 
 -- what is open is what the record says
-abbrev pub IsTrueOpen : {S F H I : Type 0} → Ghosts S F H → Reads F → Writes F → Reads I → OpenFile F I → Open → Type 0
+abbrev pub IsTrueOpen : {S F I H : Type 0} → Ghosts S F I H → Reads F → Writes F → Reads I → OpenFile F I → Open → Type 0
 IsTrueOpen system reads writes input Nothing current = current ≡ is.Closed
 IsTrueOpen system reads writes input (Input now) current =
-    (reading : Reading) × (current ≡ is.ToRead reading) × GaveInput input now reading
+    (reading : Reading) × (current ≡ is.ToRead reading) × GaveInput system input now reading
 IsTrueOpen system reads writes input (ToRead now) current =
     (reading : Reading) × (current ≡ is.ToRead reading) × GaveFile system reads now reading
 IsTrueOpen system reads writes input (ToWrite now) current =
@@ -49,24 +51,26 @@ IsTrueOpen system reads writes input (ToWrite now) current =
 IsTrueOpen system reads writes input Output current =
     (writing : Writing) × (current ≡ is.ToWrite writing) × (is_dash writing.name ≡ true)
 
--- a use that is over: the handle was left as it was then
-abbrev pub IsTrueUse : {S F H I : Type 0} → Ghosts S F H → Reads F → Writes F → Reads I → FileUse → Type 0
+-- a use that is over: a file that was written was closed as it was then
+abbrev pub IsTrueUse : {S F I H : Type 0} → Ghosts S F I H → Reads F → Writes F → Reads I → FileUse → Type 0
 IsTrueUse system reads writes input (Opened (Absent name)) = system.lacks name
 IsTrueUse {F = F} {I = I} system reads writes input (Opened (Found reading)) =
-    ((now : I) × GaveInput input now reading) ⊎ ((now : F) × GaveFile system reads now reading)
+    ((now : I) × GaveInput system input now reading) ⊎ ((now : F) × GaveFile system reads now reading)
 IsTrueUse {F = F} system reads writes input (Created writing) =
-    (is_dash writing.name ≡ true) ⊎ ((now : F) × TookFile system writes now writing)
+    (is_dash writing.name ≡ true) ⊎ ((now : F) × system.closed now × TookFile system writes now writing)
     ⊎ system.replaced writing.name writing.bytes
 
-abbrev pub IsHeldBy : {S F H : Type 0} → Ghosts S F H → Option H → Option Bytes → Type 0
+abbrev pub IsHeldBy : {S F I H : Type 0} → Ghosts S F I H → Option H → Option Bytes → Type 0
 IsHeldBy system None None = Unit {0}
 IsHeldBy system (Some hold) (Some name) = system.holds hold name
 IsHeldBy system hold name = ⊥
 
--- All that the record says of files and standard input is what the system returned for the names asked.
-pub record IsTrueRecord {S F H I : Type 0} (system : Ghosts S F H) (reads : Reads F) (writes : Writes F)
-    (input : Reads I) (opened : OpenFile F I) (hold : Option H) (kept : Record) : Type 0 where
+-- All that the record says of files and standard input is what the system returned for the names asked, and the
+-- system did nothing else: its calls are those of the uses, in their order, and it holds what the record says.
+pub record IsTrueRecord {S F I H : Type 0} (system : Ghosts S F I H) (reads : Reads F) (writes : Writes F)
+    (input : Reads I) (now : S) (opened : OpenFile F I) (hold : Option H) (kept : Record) : Type 0 where
   pub uses : All (IsTrueUse system reads writes input) kept.uses
   pub current : IsTrueOpen system reads writes input opened kept.current
   pub denied : All system.denies kept.denied
   pub held : IsHeldBy system hold kept.held
+  pub did : system.did (done_by kept) now

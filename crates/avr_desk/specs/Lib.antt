@@ -8,6 +8,7 @@ pub mod Memory
 pub mod Truth
 pub mod Failing
 pub mod Watching
+pub mod Journal
 pub mod Handles
 pub mod Shown
 pub mod Calls

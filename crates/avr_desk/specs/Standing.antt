@@ -43,3 +43,8 @@ FileGivesNone {I = I} reads input (Input old) new =
 FileGivesNone {F = F} reads input (ToRead old) new =
     (now : F) × (new ≡ ToRead now) × Keeps (reads.remaining old) (reads.remaining now)
 FileGivesNone reads input old new = new ≡ old
+
+-- a file that was written was closed as it is
+abbrev pub IsClosed : {F I : Type 0} → (F → Type 0) → OpenFile F I → Type 0
+IsClosed closed (ToWrite f) = closed f
+IsClosed closed opened = Unit {0}

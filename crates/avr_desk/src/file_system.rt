@@ -1,7 +1,9 @@
 //! The files of a system by their names, as a program's desk uses them.
-ghost use Rattle.std.specs.Prelude.{◌≡◌, ⊤, true, IfOk, IfErr, OnOk, MatchOption};
+ghost use Rattle.std.specs.Prelude.{◌≡◌, ⊤, IfOk, IfErr, OnOk, OnErr, MatchOption, true};
 ghost use Rattle.std.specs.IoError.{error_kind};
+ghost use Rattle.avr_desk.specs.Journal.{Does, Done, giving_input, holding, making, opening};
 ghost use Rattle.avr_desk.specs.Record.{Bytes};
+ghost use Rattle.ghosts.specs.Stays.{Stays};
 
 use crate::bounded::{Bounded, create};
 use crate::replacing::Replacement;
@@ -10,19 +12,32 @@ use std::io::{ErrorKind, Read, Write};
 use std::rt::Files;
 use std::{fs, io};
 
-/// Opens, creates and replaces a system's files by their names. Only a call here yields what the ghost members state.
-/// So a desk can record of a name only what the system returned for it.
+/// Opens, creates and replaces a system's files by their names, and gives standard input. Only a call here yields what
+/// the ghost members state. So a desk can record of a name only what the system returned for it, and its record has
+/// every call that the system did.
 ///
-/// A runtime with the system's files is a `FileSystem`. That it does as asked with a name is only tested.
+/// A reference to a runtime with the system's files and input is a `FileSystem`. That it does as asked is only tested.
 pub trait FileSystem {
     /// A file that was opened or created.
     type File: Read + Write + Drop;
 
+    /// Standard input.
+    type Input: Read + Drop;
+
     /// Holds a file that is to be replaced.
     type Hold: Drop;
 
+    /// This is all that it did since it was new. A failed call did nothing.
+    ghost did: { Done → Self → Type 0 };
+
+    /// The reader is as the system gives it for standard input.
+    ghost is_input: { Self.Input → Type 0 };
+
     /// The file was opened or created by this name.
     ghost is_of: { Self.File → Bytes → Type 0 };
+
+    /// The file was closed as it is.
+    ghost closed: { Self.File → Type 0 };
 
     /// No file had this name.
     ghost lacks: { Bytes → Type 0 };
@@ -36,30 +51,47 @@ pub trait FileSystem {
     /// The file of this name was replaced with these bytes.
     ghost replaced: { Bytes → Bytes → Type 0 };
 
+    /// Gives standard input.
+    fn input(&mut self) -> Self::Input
+        ensures begins { is_input result }
+        ensures gives { Does did giving_input self.old self.new };
+
     /// Opens a file to read.
     ///
     /// # Errors
     ///
     /// The system's error, `NotFound` if there is no such file.
-    fn open_named(&self, name: &str) -> io::Result<Self::File>
+    fn open_named(&mut self, name: &str) -> io::Result<Self::File>
         ensures named { IfOk result (λ file. is_of file name.now) }
-        ensures absent { IfErr result (λ error. error_kind error ≡ ErrorKind.NotFound → lacks name.now) };
+        ensures absent { IfErr result (λ error. error_kind error ≡ ErrorKind.NotFound → lacks name.now) }
+        ensures opens { OnOk result (Does did (opening name.now) self.old self.new) }
+        ensures fails { OnErr result (Stays did self.old self.new) };
 
     /// Creates a file, or empties an existing one.
     ///
     /// # Errors
     ///
     /// The system's error.
-    fn create_named(&self, name: &str) -> io::Result<Self::File>
-        ensures named { IfOk result (λ file. is_of file name.now) };
+    fn create_named(&mut self, name: &str) -> io::Result<Self::File>
+        ensures named { IfOk result (λ file. is_of file name.now) }
+        ensures creates { OnOk result (Does did (making name.now) self.old self.new) }
+        ensures fails { OnErr result (Stays did self.old self.new) };
+
+    /// Closes a file that was written.
+    fn close_file(&mut self, file: Self::File)
+        ensures closes { closed file }
+        ensures stays { Stays did self.old self.new };
 
     /// Locks the file of this name, which is to be replaced. Returns `None` if another process has locked it.
     ///
     /// # Errors
     ///
     /// The system's error.
-    fn hold_named(&self, name: &str) -> io::Result<Option<Self::Hold>>
-        ensures held { IfOk result (λ answer. MatchOption answer (denies name.now) (λ hold. holds hold name.now)) };
+    fn hold_named(&mut self, name: &str) -> io::Result<Option<Self::Hold>>
+        ensures held { IfOk result (λ answer. MatchOption answer (denies name.now) (λ hold. holds hold name.now)) }
+        ensures locks { IfOk result (λ answer. MatchOption answer (Stays did self.old self.new)
+            (λ hold. Does did holding self.old self.new)) }
+        ensures fails { OnErr result (Stays did self.old self.new) };
 
     /// Returns whether `hold` is of the file of this name.
     fn is_held(&self, hold: &Self::Hold, name: &str) -> bool
@@ -70,20 +102,31 @@ pub trait FileSystem {
     /// # Errors
     ///
     /// The system's error.
-    fn put_held(&self, hold: &mut Self::Hold, bytes: &[u8]) -> io::Result<()>
+    fn put_held(&mut self, hold: &mut Self::Hold, bytes: &[u8]) -> io::Result<()>
         ensures put { OnOk result ((name : Bytes) → holds hold.old name → replaced name bytes.now) }
+        ensures makes { OnOk result ((name : Bytes) → holds hold.old name → Does did (making name) self.old self.new) }
+        ensures fails { OnErr result (Stays did self.old self.new) }
         ensures stays { (name : Bytes) → holds hold.old name → holds hold.new name };
 
     /// Unlocks the file.
-    fn leave_held(&self, hold: Self::Hold);
+    fn leave_held(&mut self, hold: Self::Hold)
+        ensures leaves { (done : Done) → did (holding done) self.old → did done self.new };
 }
 
-impl<R: Files<File = fs::File> + Alloc<A = Global>> FileSystem for R {
+impl<'a, R: Files<File = fs::File> + Input + Alloc<A = Global>> FileSystem for &'a R {
     type File = Bounded<fs::File>;
+
+    type Input = R::Reader;
 
     type Hold = Replacement;
 
+    ghost did = { λ done system. ⊤ };
+
+    ghost is_input = { λ input. ⊤ };
+
     ghost is_of = { λ file name. ⊤ };
+
+    ghost closed = { λ file. ⊤ };
 
     ghost lacks = { λ name. ⊤ };
 
@@ -93,27 +136,35 @@ impl<R: Files<File = fs::File> + Alloc<A = Global>> FileSystem for R {
 
     ghost replaced = { λ name bytes. ⊤ };
 
-    fn open_named(&self, name: &str) -> io::Result<Bounded<fs::File>> {
-        Ok(Bounded::new(fs::open(self, name)?, None))
+    fn input(&mut self) -> R::Reader {
+        self.reader()
     }
 
-    fn create_named(&self, name: &str) -> io::Result<Bounded<fs::File>> {
-        create(self, name)
+    fn open_named(&mut self, name: &str) -> io::Result<Bounded<fs::File>> {
+        Ok(Bounded::new(fs::open(*self, name)?, None))
     }
 
-    fn hold_named(&self, name: &str) -> io::Result<Option<Replacement>> {
-        Replacement::begin(self, name)
+    fn create_named(&mut self, name: &str) -> io::Result<Bounded<fs::File>> {
+        create(*self, name)
+    }
+
+    fn close_file(&mut self, file: Bounded<fs::File>) {
+        drop(file);
+    }
+
+    fn hold_named(&mut self, name: &str) -> io::Result<Option<Replacement>> {
+        Replacement::begin(*self, name)
     }
 
     fn is_held(&self, hold: &Replacement, name: &str) -> bool {
         hold.is_of(name)
     }
 
-    fn put_held(&self, hold: &mut Replacement, bytes: &[u8]) -> io::Result<()> {
-        hold.put(self, bytes)
+    fn put_held(&mut self, hold: &mut Replacement, bytes: &[u8]) -> io::Result<()> {
+        hold.put(*self, bytes)
     }
 
-    fn leave_held(&self, hold: Replacement) {
-        hold.leave(self)
+    fn leave_held(&mut self, hold: Replacement) {
+        hold.leave(*self)
     }
 }

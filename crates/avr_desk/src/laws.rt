@@ -2,9 +2,10 @@
 ghost use Rattle.std.specs.Prelude.{◌≡◌, [], None};
 ghost use Rattle.ghosts.specs.Stays.{Stays};
 ghost use Rattle.avr_desk.specs.Handles.{IsTrueRecord};
+ghost use Rattle.avr_desk.specs.Journal.{none_done};
 ghost use Rattle.avr_desk.specs.Memory.{MemDeskState, Stock, stock_of};
 ghost use Rattle.avr_desk.specs.Record.{all_uses, nothing_kept};
-ghost use Rattle.avr_desk.specs.Shown.{IsTrueSince};
+ghost use Rattle.avr_desk.specs.Shown.{IsTrueSince, TellsAll};
 ghost use Rattle.avr_desk.specs.Truth.{AreTrue, HoldsTrue};
 ghost use Rattle.avr_desk.specs.declared.system.OpenFile.TheVariants.{Nothing};
 
@@ -28,16 +29,17 @@ pub fn what_a_desk_in_memory_gives_is_true(before: &MemDesk, after: &MemDesk)
 
 /// Whatever was done with a program's desk, its record is true. A writer's known bytes grew by what was sent to the
 /// messages, or to the output while no file is the output too. For files and standard input the record is what the
-/// system returned for the names asked.
+/// system returned for the names asked, and the system did nothing else.
 pub fn what_a_desk_of_a_program_keeps_is_true<
-    'a,
-    R: FileSystem + Input,
+    R: FileSystem + Drop,
     O: Write + Drop,
     E: Write + Drop,
->(before: &SystemDesk<'a, R, O, E>, after: &SystemDesk<'a, R, O, E>)
-    requires { Stays (IsTrueSince R.FileSystem R.File.Read R.File.Write R.Reader.Read O.Write E.Write)
+>(before: &SystemDesk<R, O, E>, after: &SystemDesk<R, O, E>)
+    requires { Stays (IsTrueSince R.FileSystem R.File.Read R.File.Write R.Input.Read O.Write E.Write)
         before.now after.now }
-    ensures since { IsTrueSince R.FileSystem R.File.Read R.File.Write R.Reader.Read O.Write E.Write
+    ensures since { IsTrueSince R.FileSystem R.File.Read R.File.Write R.Input.Read O.Write E.Write
         before.now after.now }
-    ensures begins { IsTrueRecord R.FileSystem R.File.Read R.File.Write R.Reader.Read Nothing None nothing_kept }
+    ensures begins { (fresh : R) → R.did none_done fresh
+        → IsTrueRecord R.FileSystem R.File.Read R.File.Write R.Input.Read fresh Nothing None nothing_kept }
+    ensures all { TellsAll R.FileSystem R.File.Read R.File.Write R.Input.Read before.now after.now }
 {}

@@ -5,9 +5,11 @@
 //!
 //! A new file is empty until its bytes are written, and marked while they are. Any other file was not made here, and
 //! is left alone.
-ghost use Rattle.std.specs.Prelude.{Option, OnOk};
+ghost use Rattle.std.specs.Prelude.{Option, OnErr, OnOk};
 ghost use Rattle.avr_desk.specs.Handles.{IsHeldBy};
+ghost use Rattle.avr_desk.specs.Journal.{Does, making};
 ghost use Rattle.avr_desk.specs.Record.{Bytes};
+ghost use Rattle.ghosts.specs.Stays.{Stays};
 
 use crate::bounded::{create, longest_file};
 use crate::file_system::FileSystem;
@@ -305,29 +307,33 @@ impl Replacement {
 }
 
 /// Replaces a file that is not held here.
-fn replace_at_once<R: FileSystem>(rt: &R, name: &str, bytes: &[u8]) -> io::Result<()>
-    ensures { OnOk result (R.replaced name.now bytes.now) }
+fn replace_at_once<R: FileSystem>(system: &mut R, name: &str, bytes: &[u8]) -> io::Result<()>
+    ensures put { OnOk result (R.replaced name.now bytes.now) }
+    ensures makes { OnOk result (Does R.did (making name.now) system.old system.new) }
+    ensures fails { OnErr result (Stays R.did system.old system.new) }
 {
-    let Some(mut hold) = rt.hold_named(name)? else {
+    let Some(mut hold) = system.hold_named(name)? else {
         return Err(io::Error::from(ErrorKind::WouldBlock));
     };
-    let put = rt.put_held(&mut hold, bytes);
-    rt.leave_held(hold);
+    let put = system.put_held(&mut hold, bytes);
+    system.leave_held(hold);
     put
 }
 
 /// Replaces the file of this name with these bytes, through `held` if that holds it.
 pub(crate) fn replace_named<R: FileSystem>(
-    rt: &R,
+    system: &mut R,
     held: &mut Option<R::Hold>,
     name: &str,
     bytes: &[u8],
 ) -> io::Result<()>
     ensures put { OnOk result (R.replaced name.now bytes.now) }
+    ensures makes { OnOk result (Does R.did (making name.now) system.old system.new) }
+    ensures fails { OnErr result (Stays R.did system.old system.new) }
     ensures stays { (name : Option Bytes) → IsHeldBy R.FileSystem held.old name → IsHeldBy R.FileSystem held.new name }
 {
     match held {
-        Some(hold) if rt.is_held(hold, name) => rt.put_held(hold, bytes),
-        _ => replace_at_once(rt, name, bytes),
+        Some(hold) if system.is_held(hold, name) => system.put_held(hold, bytes),
+        _ => replace_at_once(system, name, bytes),
     }
 }

@@ -5,9 +5,10 @@ ghost use Rattle.std.specs.IoError.{error_kind};
 ghost use Rattle.ghosts.specs.Failures.{HasRisen};
 ghost use Rattle.ghosts.specs.Stays.{Stays};
 ghost use Rattle.avr_desk.specs.Fault.{Counts, WriteCounts};
+ghost use Rattle.avr_desk.specs.Journal.{Leaves};
 ghost use Rattle.avr_desk.specs.Record.{HasOpen, Passes, after_open, after_create, after_hold, after_read, after_replace, released, is_to_read, is_to_write, nothing_kept};
 ghost use Rattle.avr_desk.specs.Shown.{AppendsTaken, IsTrueSince, KeepsError, Shown, TakesTruly, shown_state, to_output, to_output_opened, to_output_created, to_output_replaced};
-ghost use Rattle.avr_desk.specs.Standing.{FileGives, FileGivesNone};
+ghost use Rattle.avr_desk.specs.Standing.{FileGives, FileGivesNone, IsClosed};
 ghost use Rattle.avr_desk.specs.Stream.{SendsTaken};
 ghost use Rattle.avr_desk.specs.declared.desk.DeskFault.TheVariants.{Failed};
 ghost use Rattle.avr_desk.specs.declared.stream.Stream.TheVariants.{File, Output, Messages};
@@ -22,7 +23,7 @@ use ghosts::Outlet;
 use ghosts::retry::{flush, read_some, write_some};
 use std::io::{ErrorKind, Read, Write};
 use std::marker::Model;
-use std::{fmt, io};
+use std::{fmt, io, mem};
 
 /// What a desk has open.
 #[derive(Drop)]
@@ -34,7 +35,7 @@ enum OpenFile<F, I> {
     Output,
 }
 
-/// The desk of a program: the files of `rt`, its standard input, and two writers, for output and messages. Its record
+/// The desk of a program: a system's files, its standard input, and two writers, for output and messages. Its record
 /// is kept for proofs alone and takes no memory.
 ///
 /// `-` is standard input to `open`, and the output to `create`. Files are written without a buffer, and each call
@@ -45,11 +46,11 @@ enum OpenFile<F, I> {
 /// lock on the new file holds the old one. Anything but a regular file, and a link to no file, is written in place
 /// and not locked.
 #[derive(Drop)]
-pub struct SystemDesk<'a, R: FileSystem + Input, O: Write + Drop, E: Write + Drop> {
-    rt: &'a R,
+pub struct SystemDesk<R: FileSystem + Drop, O: Write + Drop, E: Write + Drop> {
+    system: R,
     output: O,
     messages: E,
-    opened: OpenFile<R::File, R::Reader>,
+    opened: OpenFile<R::File, R::Input>,
     replacement: Option<R::Hold>,
     failures: u64,
     unsaid: u64,
@@ -57,14 +58,14 @@ pub struct SystemDesk<'a, R: FileSystem + Input, O: Write + Drop, E: Write + Dro
     journal: Journal,
 }
 
-impl<'a, R: FileSystem + Input, O: Write + Drop, E: Write + Drop> Model
-    for SystemDesk<'a, R, O, E> {
+impl<R: FileSystem + Drop, O: Write + Drop, E: Write + Drop> Model for SystemDesk<R, O, E> {
     ghost use Rattle.avr_desk.specs.Shown.{Shown};
     ghost use Rattle.avr_desk.specs.Standing.{Stands};
 
-    ghost Value = { Shown R.File R.Hold R.Reader O E };
+    ghost Value = { Shown R R.File R.Hold R.Input O E };
 
     ghost view = { λ desk. record {
+      system = desk.system;
       output = desk.output;
       messages = desk.messages;
       failures = desk.failures;
@@ -87,6 +88,21 @@ fn read_opened<F: Read, I: Read>(opened: &mut OpenFile<F, I>, buf: &mut [u8]) ->
         OpenFile::Input(input) => read_some(input, buf),
         OpenFile::ToRead(file) => read_some(file, buf),
         _ => Err(io::Error::from(ErrorKind::NotFound)),
+    }
+}
+
+/// Opens the next file, and closes the last one if it was written.
+fn open_next<R: FileSystem>(
+    system: &mut R,
+    opened: &mut OpenFile<R::File, R::Input>,
+    next: OpenFile<R::File, R::Input>,
+)
+    ensures opened { opened.new ≡ next }
+    ensures closed { IsClosed R.closed opened.old }
+    ensures did { Stays R.did system.old system.new }
+{
+    if let OpenFile::ToWrite(file) = mem::replace(opened, next) {
+        system.close_file(file);
     }
 }
 
@@ -128,10 +144,11 @@ fn fail(failures: &mut u64, last: &mut Option<ErrorKind>, error: &io::Error) -> 
     DeskFault::Failed
 }
 
-impl<'a, R: FileSystem + Input, O: Write + Drop, E: Write + Drop> SystemDesk<'a, R, O, E> {
+impl<R: FileSystem + Drop, O: Write + Drop, E: Write + Drop> SystemDesk<R, O, E> {
     /// Creates a desk with nothing open.
-    pub fn new(rt: &'a R, output: O, messages: E) -> SystemDesk<'a, R, O, E>
+    pub fn new(system: R, output: O, messages: E) -> SystemDesk<R, O, E>
         ensures { result ≡ record {
+          system = system;
           output = output;
           messages = messages;
           failures = 0;
@@ -143,7 +160,7 @@ impl<'a, R: FileSystem + Input, O: Write + Drop, E: Write + Drop> SystemDesk<'a,
         } }
     {
         SystemDesk {
-            rt,
+            system,
             output,
             messages,
             opened: OpenFile::Nothing,
@@ -165,26 +182,27 @@ impl<'a, R: FileSystem + Input, O: Write + Drop, E: Write + Drop> SystemDesk<'a,
     }
 
     fn leave_replacement(&mut self)
-        ensures { self.new ≡ record self.old { hold = None } }
+        ensures none { self.new ≡ record self.old { system = self.new.system; hold = None } }
+        ensures left { Leaves R.did self.old.hold self.old.system self.new.system }
     {
         if let Some(hold) = self.replacement.take() {
-            self.rt.leave_held(hold);
+            self.system.leave_held(hold);
         }
     }
 }
 
-impl<'a, R: FileSystem + Input, O: Outlet + Drop, E: Outlet + Drop> Desk
-    for SystemDesk<'a, R, O, E> {
+impl<R: FileSystem + Drop, O: Outlet + Drop, E: Outlet + Drop> Desk for SystemDesk<R, O, E> {
     ghost view = { shown_state };
 
-    ghost Start = { Shown R.File R.Hold R.Reader O E };
+    ghost Start = { Shown R R.File R.Hold R.Input O E };
 
-    ghost comes_of = { IsTrueSince R.FileSystem R.File.Read R.File.Write R.Reader.Read O.Write E.Write };
+    ghost comes_of = { IsTrueSince R.FileSystem R.File.Read R.File.Write R.Input.Read O.Write E.Write };
 
     fn open(&mut self, name: &str) -> Result<(), DeskFault>
         ensures kept { Passes (after_open name.now result) (shown_state self.old) (shown_state self.new) }
         ensures counts { Counts File (shown_state self.old) (shown_state self.new) result }
         ensures quiet { self.new ≡ record self.old {
+          system = self.new.system;
           failures = self.new.failures;
           last_error = self.new.last_error;
           opened = self.new.opened;
@@ -192,22 +210,23 @@ impl<'a, R: FileSystem + Input, O: Outlet + Drop, E: Outlet + Drop> Desk
         } }
         ensures goes { to_output self.new ≡ to_output_opened result (to_output self.old) }
         ensures error { KeepsError self.old.last_error self.new.last_error result }
-        ensures stays { Stays (IsTrueSince R.FileSystem R.File.Read R.File.Write R.Reader.Read O.Write E.Write)
+        ensures stays { Stays (IsTrueSince R.FileSystem R.File.Read R.File.Write R.Input.Read O.Write E.Write)
             self.old self.new }
     {
         if name == "-" {
-            self.opened = OpenFile::Input(self.rt.reader());
+            let input = self.system.input();
+            open_next(&mut self.system, &mut self.opened, OpenFile::Input(input));
             self.journal = self.journal.then(&Call::Opened(name.as_bytes()));
             return Ok(());
         }
-        match self.rt.open_named(name) {
+        match self.system.open_named(name) {
             Ok(file) => {
-                self.opened = OpenFile::ToRead(file);
+                open_next(&mut self.system, &mut self.opened, OpenFile::ToRead(file));
                 self.journal = self.journal.then(&Call::Opened(name.as_bytes()));
                 Ok(())
             }
             Err(error) if error.kind() == ErrorKind::NotFound => {
-                self.opened = OpenFile::Nothing;
+                open_next(&mut self.system, &mut self.opened, OpenFile::Nothing);
                 self.journal = self.journal.then(&Call::Absent(name.as_bytes()));
                 Err(DeskFault::NotFound)
             }
@@ -220,6 +239,7 @@ impl<'a, R: FileSystem + Input, O: Outlet + Drop, E: Outlet + Drop> Desk
         ensures counts { Counts File (shown_state self.old) (shown_state self.new) result }
         ensures fault { IfErr result (λ e. e ≡ Failed) }
         ensures quiet { self.new ≡ record self.old {
+          system = self.new.system;
           failures = self.new.failures;
           last_error = self.new.last_error;
           opened = self.new.opened;
@@ -227,17 +247,17 @@ impl<'a, R: FileSystem + Input, O: Outlet + Drop, E: Outlet + Drop> Desk
         } }
         ensures goes { to_output self.new ≡ to_output_created name.now result (to_output self.old) }
         ensures error { KeepsError self.old.last_error self.new.last_error result }
-        ensures stays { Stays (IsTrueSince R.FileSystem R.File.Read R.File.Write R.Reader.Read O.Write E.Write)
+        ensures stays { Stays (IsTrueSince R.FileSystem R.File.Read R.File.Write R.Input.Read O.Write E.Write)
             self.old self.new }
     {
         if name == "-" {
-            self.opened = OpenFile::Output;
+            open_next(&mut self.system, &mut self.opened, OpenFile::Output);
             self.journal = self.journal.then(&Call::Created(name.as_bytes()));
             return Ok(());
         }
-        match self.rt.create_named(name) {
+        match self.system.create_named(name) {
             Ok(file) => {
-                self.opened = OpenFile::ToWrite(file);
+                open_next(&mut self.system, &mut self.opened, OpenFile::ToWrite(file));
                 self.journal = self.journal.then(&Call::Created(name.as_bytes()));
                 Ok(())
             }
@@ -250,16 +270,17 @@ impl<'a, R: FileSystem + Input, O: Outlet + Drop, E: Outlet + Drop> Desk
         ensures counts { Counts File (shown_state self.old) (shown_state self.new) result }
         ensures fault { IfErr result (λ e. e ≡ Failed) }
         ensures quiet { self.new ≡ record self.old {
+          system = self.new.system;
           failures = self.new.failures;
           last_error = self.new.last_error;
           hold = self.new.hold;
           kept = self.new.kept;
         } }
         ensures error { KeepsError self.old.last_error self.new.last_error result }
-        ensures stays { Stays (IsTrueSince R.FileSystem R.File.Read R.File.Write R.Reader.Read O.Write E.Write)
+        ensures stays { Stays (IsTrueSince R.FileSystem R.File.Read R.File.Write R.Input.Read O.Write E.Write)
             self.old self.new }
     {
-        match self.rt.hold_named(name) {
+        match self.system.hold_named(name) {
             Ok(Some(hold)) => {
                 self.leave_replacement();
                 self.replacement = Some(hold);
@@ -276,8 +297,8 @@ impl<'a, R: FileSystem + Input, O: Outlet + Drop, E: Outlet + Drop> Desk
 
     fn release(&mut self)
         ensures released { shown_state self.new ≡ released (shown_state self.old) }
-        ensures quiet { self.new ≡ record self.old { hold = None; kept = self.new.kept } }
-        ensures stays { Stays (IsTrueSince R.FileSystem R.File.Read R.File.Write R.Reader.Read O.Write E.Write)
+        ensures quiet { self.new ≡ record self.old { system = self.new.system; hold = None; kept = self.new.kept } }
+        ensures stays { Stays (IsTrueSince R.FileSystem R.File.Read R.File.Write R.Input.Read O.Write E.Write)
             self.old self.new }
     {
         self.leave_replacement();
@@ -289,6 +310,7 @@ impl<'a, R: FileSystem + Input, O: Outlet + Drop, E: Outlet + Drop> Desk
         ensures counts { Counts File (shown_state self.old) (shown_state self.new) result }
         ensures fault { IfErr result (λ e. e ≡ Failed) }
         ensures quiet { self.new ≡ record self.old {
+          system = self.new.system;
           failures = self.new.failures;
           last_error = self.new.last_error;
           opened = self.new.opened;
@@ -297,13 +319,13 @@ impl<'a, R: FileSystem + Input, O: Outlet + Drop, E: Outlet + Drop> Desk
         } }
         ensures goes { to_output self.new ≡ to_output_replaced result (to_output self.old) }
         ensures error { KeepsError self.old.last_error self.new.last_error result }
-        ensures stays { Stays (IsTrueSince R.FileSystem R.File.Read R.File.Write R.Reader.Read O.Write E.Write)
+        ensures stays { Stays (IsTrueSince R.FileSystem R.File.Read R.File.Write R.Input.Read O.Write E.Write)
             self.old self.new }
     {
-        match replace_named(self.rt, &mut self.replacement, name, bytes) {
+        match replace_named(&mut self.system, &mut self.replacement, name, bytes) {
             Ok(()) => {
                 self.leave_replacement();
-                self.opened = OpenFile::Nothing;
+                open_next(&mut self.system, &mut self.opened, OpenFile::Nothing);
                 self.journal = self.journal.then(&Call::Replaced(name.as_bytes(), bytes));
                 Ok(())
             }
@@ -325,7 +347,7 @@ impl<'a, R: FileSystem + Input, O: Outlet + Drop, E: Outlet + Drop> Desk
         } }
         ensures goes { to_output self.new ≡ to_output self.old }
         ensures error { KeepsError self.old.last_error self.new.last_error result }
-        ensures stays { Stays (IsTrueSince R.FileSystem R.File.Read R.File.Write R.Reader.Read O.Write E.Write)
+        ensures stays { Stays (IsTrueSince R.FileSystem R.File.Read R.File.Write R.Input.Read O.Write E.Write)
             self.old self.new }
     {
         match read_opened(&mut self.opened, buf) {
@@ -358,7 +380,7 @@ impl<'a, R: FileSystem + Input, O: Outlet + Drop, E: Outlet + Drop> Desk
         } }
         ensures goes { to_output self.new ≡ to_output self.old }
         ensures error { KeepsError self.old.last_error self.new.last_error result }
-        ensures stays { Stays (IsTrueSince R.FileSystem R.File.Read R.File.Write R.Reader.Read O.Write E.Write)
+        ensures stays { Stays (IsTrueSince R.FileSystem R.File.Read R.File.Write R.Input.Read O.Write E.Write)
             self.old self.new }
     {
         match &mut self.opened {
@@ -401,7 +423,7 @@ impl<'a, R: FileSystem + Input, O: Outlet + Drop, E: Outlet + Drop> Desk
           kept = self.new.kept;
         } }
         ensures error { KeepsError self.old.last_error self.new.last_error result }
-        ensures stays { Stays (IsTrueSince R.FileSystem R.File.Read R.File.Write R.Reader.Read O.Write E.Write)
+        ensures stays { Stays (IsTrueSince R.FileSystem R.File.Read R.File.Write R.Input.Read O.Write E.Write)
             self.old self.new }
     {
         match write_through(&mut self.output, Stream::Output, bytes, &mut self.journal) {
@@ -427,7 +449,7 @@ impl<'a, R: FileSystem + Input, O: Outlet + Drop, E: Outlet + Drop> Desk
           kept = self.new.kept;
         } }
         ensures error { KeepsError self.old.last_error self.new.last_error result }
-        ensures stays { Stays (IsTrueSince R.FileSystem R.File.Read R.File.Write R.Reader.Read O.Write E.Write)
+        ensures stays { Stays (IsTrueSince R.FileSystem R.File.Read R.File.Write R.Input.Read O.Write E.Write)
             self.old self.new }
     {
         match write_through(
@@ -446,8 +468,7 @@ impl<'a, R: FileSystem + Input, O: Outlet + Drop, E: Outlet + Drop> Desk
 }
 
 /// Shows the failures, those at the messages and the last error, but neither the writers nor what is open.
-impl<'a, R: FileSystem + Input, O: Write + Drop, E: Write + Drop> fmt::Debug
-    for SystemDesk<'a, R, O, E> {
+impl<R: FileSystem + Drop, O: Write + Drop, E: Write + Drop> fmt::Debug for SystemDesk<R, O, E> {
     fn fmt<F: fmt::Write>(&self, f: &mut fmt::Formatter<F>) -> fmt::Result {
         f.debug_struct("SystemDesk")
             .field("failures", &self.failures)

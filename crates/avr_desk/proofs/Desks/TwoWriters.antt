@@ -1,5 +1,5 @@
 -- A desk over two writers and the files of a system, call after call: what it keeps of them stays true.
-use Rattle.std.proofs.Common.{◌≡◌, ◌∙◌, sym, ap, subst, refl, arith, ℕ, ◌==◌, ◌&&◌, ◌||◌, ◌≤◌, not, Bool, true, false, List, [], ◌∷◌, ◌++◌, append_assoc, append-nil, length, take, Option, None, Some, IfSome, rules}
+use Rattle.std.proofs.Common.{◌≡◌, ◌∙◌, inl, inr, sym, ap, subst, refl, arith, ℕ, ◌==◌, ◌&&◌, ◌||◌, ◌≤◌, not, Bool, true, false, List, [], ◌∷◌, ◌++◌, append_assoc, append-nil, length, take, Option, None, Some, IfSome, rules}
 use Rattle.std.proofs.KnownBytes.{Appends-nil, Appends-trans, Consumes-nil, Consumes-trans}
 use Rattle.avr_desk.specs.Record.{files_among, Bytes, Record, all_files, all_uses, file_of, is_nil, noted, nothing_kept, read_on, use_of, written_on, with_absent, with_open, with_replaced, after_write}
 use Rattle.avr_desk.specs.declared.record.Open.TheVariants.{ToRead, ToWrite}
@@ -14,12 +14,16 @@ use Rattle.std.specs.declared.io.Read.{Ghosts as Reads}
 use Rattle.std.specs.declared.io.Write.{Ghosts as Writes}
 use Rattle.ghosts.specs.Stays.{Stays}
 use Rattle.avr_desk.specs.Named.{is_dash}
+use Rattle.avr_desk.proofs.FileUses.Calls.{calls_absent, calls_noted, calls_opened, calls_replaced, calls_written, made_dash, opened_dash, opened_named}
 use Rattle.avr_desk.proofs.FileUses.Uses.{files_absent, files_opened, files_replaced}
+use Rattle.avr_desk.specs.Journal.{Does, FileCall, Leaves, calling, count_of, done_by, giving_input, holding, making, none_done, opened, opening}
 use Rattle.avr_desk.specs.Handles.{IsTrueRecord, HasGiven, IsHeldBy, IsTrueOpen, IsTrueUse}
-use Rattle.avr_desk.specs.Standing.{FileGives, GivesBytes, FileGivesNone, is_output}
-use Rattle.avr_desk.specs.Shown.{Shown, IsTrueSince, has_dash, to_output}
+use Rattle.avr_desk.specs.Standing.{FileGives, GivesBytes, FileGivesNone, IsClosed, is_output}
+use Rattle.avr_desk.specs.Shown.{Shown, IsTrueSince, TellsAll, has_dash, to_output}
 use Rattle.avr_desk.specs.declared.file_system.FileSystem.{Ghosts}
 use Rattle.avr_desk.specs.declared.record.FileUse.{FileUse}
+use Rattle.avr_desk.specs.declared.record.FileUse.TheVariants.{Created, Opened}
+use Rattle.avr_desk.specs.declared.record.Opening.TheVariants.{Found}
 use Rattle.avr_desk.specs.declared.record.Open.{Open}
 use Rattle.avr_desk.specs.declared.record.Reading.{Reading}
 use Rattle.avr_desk.specs.declared.record.Writing.{Writing}
@@ -101,10 +105,10 @@ module _ {H : Type 0} (reads : Reads H) where
 
 -- ---- one call
 
-module _ {S F H I O E : Type 0} (system : Ghosts S F H) (reads : Reads F) (writes : Writes F) (input : Reads I)
+module _ {S F I H O E : Type 0} (system : Ghosts S F I H) (reads : Reads F) (writes : Writes F) (input : Reads I)
     (output_of : Writes O) (messages_of : Writes E) where
   abbrev Desk : Type 0
-  Desk = Shown F H I O E
+  Desk = Shown S F H I O E
 
   abbrev Since : Desk → Desk → Type 0
   Since = IsTrueSince system reads writes input output_of messages_of
@@ -115,26 +119,58 @@ module _ {S F H I O E : Type 0} (system : Ghosts S F H) (reads : Reads F) (write
   abbrev TrueUse : FileUse → Type 0
   TrueUse = IsTrueUse system reads writes input
 
-  abbrev Files : OpenFile F I → Option H → Record → Type 0
+  abbrev Files : S → OpenFile F I → Option H → Record → Type 0
   Files = IsTrueRecord system reads writes input
 
-  -- what is open is a use too
-  of_open : (opened : OpenFile F I) (o : Open) → TrueOpen opened o → All TrueUse (use_of o)
-  of_open open_file.Nothing o same = rw same (All-nil TrueUse)
-  of_open (open_file.Input i) o (x, same, was) = grind (arith, nat_tests)
-  of_open (open_file.ToRead f) o (x, same, was) = grind (arith, nat_tests)
-  of_open (open_file.ToWrite f) o (x, same, was) = grind (arith, nat_tests)
-  of_open open_file.Output o (x, same, was) = grind (arith, nat_tests)
+  abbrev Closed : OpenFile F I → Type 0
+  Closed = IsClosed system.closed
 
-  uses_true : (opened : OpenFile F I) (hold : Option H) (r : Record) → Files opened hold r → All TrueUse (all_uses r)
-  uses_true opened hold r are =
-      All-append TrueUse r.uses (use_of r.current) are.uses (of_open opened r.current are.current)
+  -- what is open is a use too, once it is closed
+  of_open : (opened : OpenFile F I) (o : Open) → TrueOpen opened o → Closed opened → All TrueUse (use_of o)
+  of_open open_file.Nothing o same closed = rw same (All-nil TrueUse)
+  of_open (open_file.Input i) o (x, same, was) closed = grind (arith, nat_tests)
+  of_open (open_file.ToRead f) o (x, same, was) closed = grind (arith, nat_tests)
+  of_open (open_file.ToWrite f) o (x, same, was) closed =
+      rw same (All-cons TrueUse (Created x) [] (inr (inl (f, closed, was))) (All-nil TrueUse))
+  of_open open_file.Output o (x, same, was) closed = grind (arith, nat_tests)
+
+  uses_true : (s : S) (opened : OpenFile F I) (hold : Option H) (r : Record) → Files s opened hold r → Closed opened
+      → All TrueUse (all_uses r)
+  uses_true s opened hold r are closed =
+      All-append TrueUse r.uses (use_of r.current) are.uses (of_open opened r.current are.current closed)
 
   -- one more use, after all others
-  more_true : (opened : OpenFile F I) (hold : Option H) (r : Record) (u : FileUse) → TrueUse u → Files opened hold r
-      → All TrueUse (all_uses r ++ u ∷ [])
-  more_true opened hold r u is are = All-append TrueUse (all_uses r) (u ∷ []) (uses_true opened hold r are)
+  more_true : (s : S) (opened : OpenFile F I) (hold : Option H) (r : Record) (u : FileUse) → TrueUse u
+      → Files s opened hold r → Closed opened → All TrueUse (all_uses r ++ u ∷ [])
+  more_true s opened hold r u is are closed =
+      All-append TrueUse (all_uses r) (u ∷ []) (uses_true s opened hold r are closed)
       (All-cons TrueUse u [] is (All-nil TrueUse))
+
+  -- ---- what the system did
+
+  abbrev Did : List FileCall → Option Bytes → S → Type 0
+  Did calls held now = system.did (record { calls = calls; holds = count_of held }) now
+
+  did_as : {one other : List FileCall} (held : Option Bytes) (now : S) → one ≡ other → Did other held now
+      → Did one held now
+  did_as held now same did = subst (λ (calls : List FileCall). Did calls held now) (sym same) did
+
+  -- a held file is left
+  left_none : {old new : S} (hold : Option H) (held : Option Bytes) (calls : List FileCall)
+      → IsHeldBy system hold held → Leaves system.did hold old new → Did calls held old → Did calls None new
+  left_none None None calls is leaves did = leaves _ did
+  left_none (Some h) (Some name) calls is leaves did = leaves (record { calls = calls; holds = 0 }) did
+  left_none None (Some name) calls is leaves did = elim is [ ]
+  left_none (Some h) None calls is leaves did = elim is [ ]
+
+  -- another one is held, and then it is left
+  left_one : {old new : S} (hold : Option H) (held : Option Bytes) (calls : List FileCall) (name : Bytes)
+      → IsHeldBy system hold held → Leaves system.did hold old new
+      → system.did (holding (record { calls = calls; holds = count_of held })) old → Did calls (Some name) new
+  left_one None None calls name is leaves did = leaves _ did
+  left_one (Some h) (Some own) calls name is leaves did = leaves (record { calls = calls; holds = 1 }) did
+  left_one None (Some own) calls name is leaves did = elim is [ ]
+  left_one (Some h) None calls name is leaves did = elim is [ ]
 
   true_on : (a b c : Desk) → Since a b → Since b c → Since a c
   true_on a b c f g = record {
@@ -160,16 +196,20 @@ module _ {S F H I O E : Type 0} (system : Ghosts S F H) (reads : Reads F) (write
   from_inside {inside = inside} {new = new} is then =
       λ start first. true_on start inside new (subst (Since start) (sym is) first) then
 
-  -- a desk after a call that sent nothing
-  abbrev Next : Desk → ℕ → ℕ → Option ErrorKind → OpenFile F I → Option H → Record → Desk
-  Next b f u e o h k = record b { failures = f; unsaid = u; last_error = e; opened = o; hold = h; kept = k }
+  pub from_now : {now new : Desk} → Since now new → Stays Since now new
+  from_now {now = now} {new = new} then = λ start first. true_on start now new first then
 
-  quiet : {b : Desk} {f u : ℕ} {e : Option ErrorKind} {o : OpenFile F I} {h : Option H} {k : Record}
+  -- a desk after a call that sent nothing
+  abbrev Next : Desk → S → ℕ → ℕ → Option ErrorKind → OpenFile F I → Option H → Record → Desk
+  Next b s f u e o h k =
+      record b { system = s; failures = f; unsaid = u; last_error = e; opened = o; hold = h; kept = k }
+
+  quiet : {b : Desk} {s : S} {f u : ℕ} {e : Option ErrorKind} {o : OpenFile F I} {h : Option H} {k : Record}
       → k.output ≡ b.kept.output → k.messages ≡ b.kept.messages
       → (has_dash (all_files k) ≡ false → has_dash (all_files b.kept) ≡ false)
       → (has_dash (all_files k) ≡ false → to_output b ≡ false → is_output o ≡ false)
-      → (Files b.opened b.hold b.kept → Files o h k)
-      → Since b (Next b f u e o h k)
+      → (Files b.system b.opened b.hold b.kept → Files s o h k)
+      → Since b (Next b s f u e o h k)
   quiet {b = b} put said dashes elsewhere files = record {
     said = [];
     messages = said ∙ sym (append-nil b.kept.messages);
@@ -184,86 +224,187 @@ module _ {S F H I O E : Type 0} (system : Ghosts S F H) (reads : Reads F) (write
   pub true_now : (a : Desk) → Since a a
   true_now a = quiet refl refl (λ none. none) (λ none was. was) (λ are. are)
 
+  -- a call failed, which did nothing
+  pub failed_true : {b : Desk} {s : S} {f u : ℕ} {e : Option ErrorKind} → Stays system.did b.system s
+      → Since b (Next b s f u e b.opened b.hold b.kept)
+  failed_true {b = b} stays = quiet refl refl (λ none. none) (λ none was. was) (λ are. record {
+    uses = are.uses;
+    current = are.current;
+    denied = are.denied;
+    held = are.held;
+    did = stays _ are.did;
+  })
+
   -- only the uses and the open file change
-  files_now : {o p : OpenFile F I} {h : Option H} {r : Record} {uses : List FileUse} {current : Open} → Files o h r
-      → All TrueUse uses → TrueOpen p current → Files p h (record r { uses = uses; current = current })
-  files_now are uses current = record { uses = uses; current = current; denied = are.denied; held = are.held }
+  files_now : {s t : S} {o p : OpenFile F I} {h : Option H} {r : Record} {uses : List FileUse} {current : Open}
+      → Files s o h r → All TrueUse uses → TrueOpen p current
+      → system.did (done_by (record r { uses = uses; current = current })) t
+      → Files t p h (record r { uses = uses; current = current })
+  files_now are uses current did =
+      record { uses = uses; current = current; denied = are.denied; held = are.held; did = did }
 
   -- it was opened
-  opened_true : {b : Desk} {f u : ℕ} {e : Option ErrorKind} {o : OpenFile F I} {k : Record} (x : Reading)
-      → k ≡ with_open (ToRead x) b.kept → is_output o ≡ false → TrueOpen o (ToRead x)
-      → Since b (Next b f u e o b.hold k)
-  opened_true {b = b} x kept elsewhere is = search (rules, quiet, no_dash_in_front, files_opened, files_now, uses_true)
+  opened_true : {b : Desk} {s : S} {f u : ℕ} {e : Option ErrorKind} {o : OpenFile F I} {k : Record} (x : Reading)
+      → k ≡ with_open (ToRead x) b.kept → is_output o ≡ false → TrueOpen o (ToRead x) → Closed b.opened
+      → Does system.did (calling (opened x.name ∷ [])) b.system s → Since b (Next b s f u e o b.hold k)
+  opened_true {b = b} {s = s} x kept elsewhere is closed does =
+      let files = ap has_dash (files_opened (ToRead x) b.kept) in
+      rw kept (quiet refl refl
+      (λ none. no_dash_in_front (all_files b.kept) [] (sym files ∙ none)) (λ none was. elsewhere)
+      (λ are. files_now are (uses_true b.system b.opened b.hold b.kept are closed) is
+      (did_as b.kept.held s (calls_opened (ToRead x) (Opened (Found x)) b.kept refl) (does _ are.did))))
 
-  pub input_true : {b : Desk} {f u : ℕ} {e : Option ErrorKind} {k : Record} {name own : Bytes} {i : I} → own ≡ name
-      → true ≡ is_dash name → k ≡ with_open (ToRead (record { name = own; bytes = []; ended = false })) b.kept
-      → Since b (Next b f u e (open_file.Input i) b.hold k)
-  input_true {own = own} {i = i} same dash kept =
+  pub input_true : {b : Desk} {s t : S} {f u : ℕ} {e : Option ErrorKind} {o : OpenFile F I} {k : Record}
+      {name own : Bytes} {i : I} → o ≡ open_file.Input i → own ≡ name → true ≡ is_dash name → k ≡ with_open (ToRead (record { name = own; bytes = []; ended = false })) b.kept
+      → Closed b.opened → system.is_input i → Does system.did giving_input b.system s → Stays system.did s t
+      → Since b (Next b t f u e o b.hold k)
+  input_true {own = own} {i = i} is_open same dash kept closed begins does stays =
       let x : Reading = record { name = own; bytes = []; ended = false } in
-      opened_true x kept refl
-      (x, refl, (sym (dash ∙ ap is_dash (sym same)), i, given_none input i own))
+      let is : is_dash own ≡ true = sym (dash ∙ ap is_dash (sym same)) in
+      rw is_open (opened_true x kept refl (x, refl, (is, i, begins, given_none input i own)) closed
+      (λ done did. rw (opened_dash own is) (stays _ (does done did))))
 
-  pub file_true : {b : Desk} {f u : ℕ} {e : Option ErrorKind} {k : Record} {name own : Bytes} {h : F} → own ≡ name
-      → system.is_of h name → k ≡ with_open (ToRead (record { name = own; bytes = []; ended = false })) b.kept
-      → Since b (Next b f u e (open_file.ToRead h) b.hold k)
-  file_true {own = own} {h = h} same named kept =
+  pub file_true : {b : Desk} {s t : S} {f u : ℕ} {e : Option ErrorKind} {o : OpenFile F I} {k : Record}
+      {name own : Bytes} {h : F} → o ≡ open_file.ToRead h → own ≡ name → false ≡ is_dash name → system.is_of h name
+      → k ≡ with_open (ToRead (record { name = own; bytes = []; ended = false })) b.kept
+      → Closed b.opened → Does system.did (opening name) b.system s → Stays system.did s t
+      → Since b (Next b t f u e o b.hold k)
+  file_true {own = own} {h = h} is_open same no_dash named kept closed does stays =
       let x : Reading = record { name = own; bytes = []; ended = false } in
-      opened_true x kept refl
-      (x, refl, (h, subst (system.is_of h) (sym same) named, given_none reads h own))
+      rw is_open (opened_true x kept refl
+      (x, refl, (h, subst (system.is_of h) (sym same) named, given_none reads h own)) closed
+      (λ done did. rw (opened_named own (sym (no_dash ∙ ap is_dash (sym same))), same) (stays _ (does done did))))
 
   -- there was no such file
-  pub absent_true : {b : Desk} {f u : ℕ} {e : Option ErrorKind} {k : Record} {name own : Bytes} → own ≡ name
-      → system.lacks name → k ≡ with_absent own b.kept → Since b (Next b f u e open_file.Nothing b.hold k)
-  absent_true {b = b} {own = own} same lacks kept =
-      search (rules, quiet, files_absent, files_now, more_true)
+  pub absent_true : {b : Desk} {s t : S} {f u : ℕ} {e : Option ErrorKind} {o : OpenFile F I} {k : Record}
+      {name own : Bytes} → o ≡ open_file.Nothing → own ≡ name
+      → system.lacks name → k ≡ with_absent own b.kept → Closed b.opened → Stays system.did b.system s
+      → Stays system.did s t → Since b (Next b t f u e o b.hold k)
+  absent_true {b = b} {t = t} {own = own} is_open same lacks kept closed fails stays =
+      rw (is_open, kept) (quiet refl refl
+      (λ none. sym (ap has_dash (files_absent own b.kept)) ∙ none) (λ none was. refl)
+      (λ are. files_now are
+      (more_true b.system b.opened b.hold b.kept _ (subst system.lacks (sym same) lacks) are closed) refl
+      (did_as b.kept.held t (calls_absent own b.kept) (stays _ (fails _ are.did)))))
 
   -- it was created
-  create_true : {b : Desk} {f u : ℕ} {e : Option ErrorKind} {o : OpenFile F I} {k : Record} (x : Writing)
-      → k ≡ with_open (ToWrite x) b.kept → is_output o ≡ is_dash x.name → TrueOpen o (ToWrite x)
-      → Since b (Next b f u e o b.hold k)
-  create_true {b = b} x kept to_output is =
-      grind (arith, nat_tests, files_opened, quiet, no_dash_in_front, or_parts, no_dash_behind, files_now, uses_true)
+  create_true : {b : Desk} {s : S} {f u : ℕ} {e : Option ErrorKind} {o : OpenFile F I} {k : Record} (x : Writing)
+      → k ≡ with_open (ToWrite x) b.kept → is_output o ≡ is_dash x.name → TrueOpen o (ToWrite x) → Closed b.opened
+      → Does system.did (making x.name) b.system s → Since b (Next b s f u e o b.hold k)
+  create_true {b = b} {s = s} {o = o} x kept to_output is closed does =
+      let did : (are : Files b.system b.opened b.hold b.kept) → system.did (done_by (with_open (ToWrite x) b.kept)) s =
+      λ are. did_as b.kept.held s (calls_opened (ToWrite x) (Created x) b.kept refl) (does _ are.did) in
+      grind (arith, nat_tests, files_opened, quiet, no_dash_in_front, or_parts, no_dash_behind, files_now, uses_true, did)
 
-  pub output_true : {b : Desk} {f u : ℕ} {e : Option ErrorKind} {k : Record} {name own : Bytes} → own ≡ name
-      → true ≡ is_dash name → k ≡ with_open (ToWrite (record { name = own; bytes = [] })) b.kept
-      → Since b (Next b f u e open_file.Output b.hold k)
-  output_true {own = own} same dash kept =
+  pub output_true : {b : Desk} {s : S} {f u : ℕ} {e : Option ErrorKind} {o : OpenFile F I} {k : Record}
+      {name own : Bytes} → o ≡ open_file.Output → own ≡ name
+      → true ≡ is_dash name → k ≡ with_open (ToWrite (record { name = own; bytes = [] })) b.kept → Closed b.opened
+      → Stays system.did b.system s → Since b (Next b s f u e o b.hold k)
+  output_true {own = own} is_open same dash kept closed stays =
       let is : true ≡ is_dash own = dash ∙ ap is_dash (sym same) in
       let x : Writing = record { name = own; bytes = [] } in
-      create_true x kept is (x, refl, sym is)
+      rw is_open (create_true x kept is (x, refl, sym is) closed
+      (λ done did. rw (made_dash own (sym is), append-nil done.calls) (stays _ did)))
 
-  pub created_true : {b : Desk} {f u : ℕ} {e : Option ErrorKind} {k : Record} {name own : Bytes} {h : F}
-      → own ≡ name → false ≡ is_dash name → system.is_of h name
+  pub created_true : {b : Desk} {s t : S} {f u : ℕ} {e : Option ErrorKind} {o : OpenFile F I} {k : Record}
+      {name own : Bytes} {h : F} → o ≡ open_file.ToWrite h → own ≡ name → false ≡ is_dash name → system.is_of h name
       → k ≡ with_open (ToWrite (record { name = own; bytes = [] })) b.kept
-      → Since b (Next b f u e (open_file.ToWrite h) b.hold k)
-  created_true {own = own} {h = h} same no_dash named kept =
+      → Closed b.opened → Does system.did (making name) b.system s → Stays system.did s t
+      → Since b (Next b t f u e o b.hold k)
+  created_true {own = own} {h = h} is_open same no_dash named kept closed does stays =
       let x : Writing = record { name = own; bytes = [] } in
-      create_true x kept (no_dash ∙ ap is_dash (sym same))
-      (x, refl, (h, subst (system.is_of h) (sym same) named, Appends-nil (writes.contents h)))
+      rw is_open (create_true x kept (no_dash ∙ ap is_dash (sym same))
+      (x, refl, (h, subst (system.is_of h) (sym same) named, Appends-nil (writes.contents h))) closed
+      (λ done did. rw same (stays _ (does done did))))
 
   -- a file was replaced, and the held file released
-  pub replace_true : {b c : Desk} {name own bytes : Bytes} → own ≡ name → c.output ≡ b.output
+  pub replace_true : {b c : Desk} {s t u : S} {name own bytes : Bytes} (h : Option H) → own ≡ name
+      → c.output ≡ b.output
       → c.messages ≡ b.messages → c.hold ≡ None → c.opened ≡ open_file.Nothing → c.kept ≡ with_replaced own bytes b.kept
-      → system.replaced name bytes → Since b c
-  replace_true {b = b} {c = c} {own = own} {bytes = bytes} same output messages hold opened kept replaced =
+      → system.replaced name bytes
+      → ((name : Option Bytes) → IsHeldBy system b.hold name → IsHeldBy system h name)
+      → (o : OpenFile F I) → o ≡ b.opened → Closed o → Does system.did (making name) b.system s
+      → Leaves system.did h s t → u ≡ t
+      → Stays system.did u c.system → Since b c
+  replace_true {b = b} {c = c} {u = u} {own = own} {bytes = bytes} h same output messages hold is_open kept replaced
+      still o was closed does leaves last stays =
       let x : Writing = record { name = own; bytes = bytes } in
       let files = ap has_dash (files_replaced own bytes b.kept) in
-      let now = Next b c.failures c.unsaid c.last_error open_file.Nothing None (with_replaced own bytes b.kept) in
-      let is : c ≡ now = rw (← output, ← messages, ← hold, ← opened, ← kept) refl in
-      search (rules, quiet, no_dash_in_front, more_true)
+      let now = Next b c.system c.failures c.unsaid c.last_error open_file.Nothing None (with_replaced own bytes b.kept) in
+      let is : c ≡ now = rw (← output, ← messages, ← hold, ← is_open, ← kept) refl in
+      rw is (quiet refl refl
+      (λ none. no_dash_in_front (all_files b.kept) (x ∷ []) (sym files ∙ none)) (λ none was. refl)
+      (λ are. record {
+        uses = more_true b.system b.opened b.hold b.kept (Created x)
+            (inr (inr (subst (λ (n : Bytes). system.replaced n bytes) (sym same) replaced))) are (subst Closed was closed);
+        current = refl;
+        denied = are.denied;
+        held = tt;
+        did = did_as None c.system (calls_replaced own bytes b.kept)
+            (stays _ (rw last (left_none h b.kept.held _ (still b.kept.held are.held) leaves
+            (rw same (does _ are.did)))));
+      }))
 
-  pub unreplaced_true : {b : Desk} {f u : ℕ} {e : Option ErrorKind} {h : Option H}
-      → ((name : Option Bytes) → IsHeldBy system b.hold name → IsHeldBy system h name)
-      → Since b (Next b f u e b.opened h b.kept)
-  unreplaced_true {b = b} {h = h} still =
-      quiet refl refl (λ none. none) (λ none was. was)
-      (λ are. search rules)
+  pub unreplaced_true : {b : Desk} {s : S} {f u : ℕ} {e : Option ErrorKind} {h : Option H}
+      → ((name : Option Bytes) → IsHeldBy system b.hold name → IsHeldBy system h name) → Stays system.did b.system s
+      → Since b (Next b s f u e b.opened h b.kept)
+  unreplaced_true {b = b} {h = h} still stays =
+      quiet refl refl (λ none. none) (λ none was. was) (λ are. record {
+        uses = are.uses;
+        current = are.current;
+        denied = are.denied;
+        held = still b.kept.held are.held;
+        did = stays _ are.did;
+      })
+
+  -- a file is held, and the one held before is left
+  pub held_true : {b c : Desk} {s t : S} {h : H} {name own : Bytes} → own ≡ name → c.output ≡ b.output
+      → c.messages ≡ b.messages → c.opened ≡ b.opened → c.hold ≡ Some h → c.kept ≡ record b.kept { held = Some own }
+      → c.system ≡ t → system.holds h name → Does system.did holding b.system s → Leaves system.did b.hold s t
+      → Since b c
+  held_true {b = b} {c = c} {h = h} {own = own} same output messages is_open hold kept last holds does leaves =
+      let now = Next b c.system c.failures c.unsaid c.last_error b.opened (Some h) (record b.kept { held = Some own }) in
+      let is : c ≡ now = rw (← output, ← messages, ← hold, ← is_open, ← kept) refl in
+      rw is (quiet refl refl (λ none. none) (λ none was. was) (λ are. record {
+        uses = are.uses;
+        current = are.current;
+        denied = are.denied;
+        held = subst (system.holds h) (sym same) holds;
+        did = rw last (left_one b.hold b.kept.held _ own are.held leaves (does _ are.did));
+      }))
+
+  pub denied_true : {b : Desk} {s : S} {f u : ℕ} {e : Option ErrorKind} {k : Record} {name own : Bytes}
+      → own ≡ name → system.denies name → k ≡ record b.kept { denied = b.kept.denied ++ own ∷ [] }
+      → Stays system.did b.system s → Since b (Next b s f u e b.opened b.hold k)
+  denied_true {b = b} {own = own} same denies kept stays =
+      rw kept (quiet refl refl (λ none. none) (λ none was. was) (λ are. record {
+        uses = are.uses;
+        current = are.current;
+        denied = All-append system.denies b.kept.denied (own ∷ []) are.denied
+            (All-cons system.denies own [] (subst system.denies (sym same) denies) (All-nil system.denies));
+        held = are.held;
+        did = stays _ are.did;
+      }))
+
+  pub released_true : {b c : Desk} {t : S} → c.output ≡ b.output → c.messages ≡ b.messages → c.opened ≡ b.opened
+      → c.hold ≡ None → c.kept ≡ record b.kept { held = None } → c.system ≡ t
+      → Leaves system.did b.hold b.system t → Since b c
+  released_true {b = b} {c = c} output messages is_open hold kept last leaves =
+      let now = Next b c.system c.failures c.unsaid c.last_error b.opened None (record b.kept { held = None }) in
+      let is : c ≡ now = rw (← output, ← messages, ← hold, ← is_open, ← kept) refl in
+      rw is (quiet refl refl (λ none. none) (λ none was. was) (λ are. record {
+        uses = are.uses;
+        current = are.current;
+        denied = are.denied;
+        held = tt;
+        did = rw last (left_none b.hold b.kept.held _ are.held leaves are.did);
+      }))
 
   -- bytes of the open file were read
   read_on_open : (old new : OpenFile F I) (buf : Bytes) (n : ℕ) (o : Open) → FileGives reads input old new buf n
       → TrueOpen old o → TrueOpen new (read_on buf n o)
-  read_on_open (open_file.Input i) new buf n o (now, is, gives) (x, same, (dash, first, given)) =
-      rw is (_, ap (read_on buf n) same, (dash, first, given_more input first i now x buf n given gives))
+  read_on_open (open_file.Input i) new buf n o (now, is, gives) (x, same, (dash, first, begins, given)) =
+      rw is (_, ap (read_on buf n) same, (dash, first, begins, given_more input first i now x buf n given gives))
   read_on_open (open_file.ToRead h) new buf n o (now, is, gives) (x, same, (first, named, given)) =
       rw is (_, ap (read_on buf n) same, (first, named, given_more reads first h now x buf n given gives))
   read_on_open open_file.Nothing new buf n o gives was = elim gives [ ]
@@ -272,27 +413,28 @@ module _ {S F H I O E : Type 0} (system : Ghosts S F H) (reads : Reads F) (write
 
   pub read_true : {b : Desk} {f u : ℕ} {e : Option ErrorKind} {o : OpenFile F I} {k : Record} (buf : Bytes) (n : ℕ)
       → k ≡ record b.kept { current = read_on buf n b.kept.current } → is_output o ≡ is_output b.opened
-      → FileGives reads input b.opened o buf n → Since b (Next b f u e o b.hold k)
+      → FileGives reads input b.opened o buf n → Since b (Next b b.system f u e o b.hold k)
   read_true {b = b} {o = o} buf n kept same gives =
       let now : Record = record b.kept { current = read_on buf n b.kept.current } in
       let files : has_dash (all_files now) ≡ has_dash (all_files b.kept) =
       ap (λ (fs : List Writing). has_dash (files_among b.kept.uses ++ fs)) (noted_files _ _ b.kept.current) in
       rw kept (quiet refl refl (λ none. sym files ∙ none) (λ none was. same ∙ was)
-      (λ are. files_now are are.uses (read_on_open b.opened o buf n b.kept.current gives are.current)))
+      (λ are. files_now are are.uses (read_on_open b.opened o buf n b.kept.current gives are.current)
+      (did_as b.kept.held b.system (calls_noted b.kept.uses _ _ b.kept.current) are.did)))
 
   -- or none were
   kept_open : (old new : OpenFile F I) (o : Open) → FileGivesNone reads input old new → TrueOpen old o → TrueOpen new o
-  kept_open (open_file.Input i) new o (now, is, kept) (x, same, (dash, first, given)) =
-      rw is (x, same, (dash, first, given_kept input first i now x given kept))
+  kept_open (open_file.Input i) new o (now, is, kept) (x, same, (dash, first, begins, given)) =
+      rw is (x, same, (dash, first, begins, given_kept input first i now x given kept))
   kept_open (open_file.ToRead h) new o (now, is, kept) (x, same, (first, named, given)) =
       rw is (x, same, (first, named, given_kept reads first h now x given kept))
   kept_open x new o same was = rw same was
 
   pub unread_true : {b : Desk} {f u : ℕ} {e : Option ErrorKind} {o : OpenFile F I} → is_output o ≡ is_output b.opened
-      → FileGivesNone reads input b.opened o → Since b (Next b f u e o b.hold b.kept)
+      → FileGivesNone reads input b.opened o → Since b (Next b b.system f u e o b.hold b.kept)
   unread_true {b = b} {o = o} same none =
       quiet refl refl (λ none. none) (λ none was. same ∙ was)
-      (λ are. files_now are are.uses (kept_open b.opened o b.kept.current none are.current))
+      (λ are. files_now are are.uses (kept_open b.opened o b.kept.current none are.current) are.did)
 
   -- bytes went to a file other than the output
   write_on : (old new : F) (bytes : Bytes) (o : Open) → Appends (writes.contents old) (writes.contents new) bytes
@@ -309,12 +451,13 @@ module _ {S F H I O E : Type 0} (system : Ghosts S F H) (reads : Reads F) (write
 
   pub write_true : {b : Desk} {f u : ℕ} {e : Option ErrorKind} {k : Record} {old new : F} (bytes : Bytes)
       → b.opened ≡ open_file.ToWrite old → Appends (writes.contents old) (writes.contents new) bytes
-      → k ≡ after_write bytes b.kept → Since b (Next b f u e (open_file.ToWrite new) b.hold k)
+      → k ≡ after_write bytes b.kept → Since b (Next b b.system f u e (open_file.ToWrite new) b.hold k)
   write_true {b = b} {old = old} {new = new} bytes was took kept =
       rw kept (quiet refl refl
       (λ none. sym (written_dashes bytes b.kept) ∙ none) (λ none elsewhere. refl)
       (λ are. files_now are are.uses (write_on old new bytes b.kept.current took
-      (subst (λ (h : OpenFile F I). TrueOpen h b.kept.current) was are.current))))
+      (subst (λ (h : OpenFile F I). TrueOpen h b.kept.current) was are.current))
+      (did_as b.kept.held b.system (calls_written b.kept.uses bytes b.kept.current) are.did)))
 
   -- a desk after a call that sent to the output
   abbrev Put : Desk → O → ℕ → ℕ → Option ErrorKind → Record → Desk
@@ -343,6 +486,7 @@ module _ {S F H I O E : Type 0} (system : Ghosts S F H) (reads : Reads F) (write
           (subst (λ (h : OpenFile F I). TrueOpen h b.kept.current) was are.current));
       denied = are.denied;
       held = are.held;
+      did = did_as b.kept.held b.system (calls_written b.kept.uses bytes b.kept.current) are.did;
     };
   })
 
@@ -357,7 +501,13 @@ module _ {S F H I O E : Type 0} (system : Ghosts S F H) (reads : Reads F) (write
     output = refl;
     dashes = λ none. none;
     out = λ none was. (was, took);
-    files = λ are. record { uses = are.uses; current = are.current; denied = are.denied; held = are.held };
+    files = λ are. record {
+      uses = are.uses;
+      current = are.current;
+      denied = are.denied;
+      held = are.held;
+      did = are.did;
+    };
   })
 
   -- a desk after a call that sent to the messages
@@ -371,6 +521,23 @@ module _ {S F H I O E : Type 0} (system : Ghosts S F H) (reads : Reads F) (write
 
 -- ---- a new desk
 
-module _ {S F H I : Type 0} (system : Ghosts S F H) (reads : Reads F) (writes : Writes F) (input : Reads I) where
-  pub none_kept_true : IsTrueRecord system reads writes input open_file.Nothing None nothing_kept
-  none_kept_true = grind (arith, nat_tests)
+module _ {S F I H : Type 0} (system : Ghosts S F I H) (reads : Reads F) (writes : Writes F) (input : Reads I) where
+  pub none_kept_true : (fresh : S) → system.did none_done fresh
+      → IsTrueRecord system reads writes input fresh open_file.Nothing None nothing_kept
+  none_kept_true fresh did = record {
+    uses = All-nil (IsTrueUse system reads writes input);
+    current = refl;
+    denied = All-nil system.denies;
+    held = tt;
+    did = did;
+  }
+
+-- what it has come to
+module _ {S F I H O E : Type 0} (system : Ghosts S F I H) (reads : Reads F) (writes : Writes F) (input : Reads I)
+    (output_of : Writes O) (messages_of : Writes E) where
+  pub told_all : {old new : Shown S F H I O E}
+      → Stays (IsTrueSince system reads writes input output_of messages_of) old new
+      → TellsAll system reads writes input old new
+  told_all {old = old} stays is =
+      (stays old (true_now system reads writes input output_of messages_of old)).files
+      (rw (is.opened, is.hold, is.kept) (none_kept_true system reads writes input old.system is.fresh))

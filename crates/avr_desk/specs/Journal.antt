@@ -1,0 +1,71 @@
+-- What a system did with files, and the part of it that a desk's record tells.
+use Rattle.std.specs.Prelude.{ℕ, ◌+◌, List, [], ◌∷◌, ◌++◌, Option, Some, None, if◌then◌else◌}
+use Rattle.avr_desk.specs.Named.{is_dash}
+use Rattle.avr_desk.specs.Record.{Bytes, Record, all_uses}
+use Rattle.avr_desk.specs.declared.record.FileUse.{FileUse}
+use Rattle.avr_desk.specs.declared.record.FileUse.TheVariants.{Opened, Created}
+use Rattle.avr_desk.specs.declared.record.Opening.TheVariants.{Absent, Found}
+use Rattle.ghosts.specs.Stays.{Stays}
+
+-- It gave standard input, opened the file of this name to read, or created or replaced it.
+pub data FileCall : Type 0 where
+  Gives : FileCall
+  Opens : Bytes → FileCall
+  Makes : Bytes → FileCall
+
+-- its calls, in order, and how many files it holds
+pub record Done : Type 0 where
+  pub calls : List FileCall
+  pub holds : ℕ
+
+abbrev pub none_done : Done
+none_done = record { calls = []; holds = 0 }
+
+-- a file named `-` is not counted among those made, since the record has the output under this name
+abbrev pub made : Bytes → List FileCall
+made name = if is_dash name then [] else Makes name ∷ []
+
+abbrev pub calling : List FileCall → Done → Done
+calling calls done = record done { calls = done.calls ++ calls }
+
+abbrev pub giving_input : Done → Done
+giving_input done = calling (Gives ∷ []) done
+
+abbrev pub opening : Bytes → Done → Done
+opening name done = calling (Opens name ∷ []) done
+
+abbrev pub making : Bytes → Done → Done
+making name done = calling (made name) done
+
+abbrev pub holding : Done → Done
+holding done = record done { holds = done.holds + 1 }
+
+-- what it did has changed like this
+abbrev pub Does : {S : Type 0} → (Done → S → Type 0) → (Done → Done) → S → S → Type 0
+Does did change old new = (done : Done) → did done old → did (change done) new
+
+-- a held file was left, if there was one
+abbrev pub Leaves : {S H : Type 0} → (Done → S → Type 0) → Option H → S → S → Type 0
+Leaves did None old new = Stays did old new
+Leaves did (Some hold) old new = (done : Done) → did (holding done) old → did done new
+
+-- ---- what the record tells of it
+
+abbrev pub opened : Bytes → FileCall
+opened name = if is_dash name then Gives else Opens name
+
+abbrev pub calls_of : FileUse → List FileCall
+calls_of (Opened (Absent name)) = []
+calls_of (Opened (Found reading)) = opened reading.name ∷ []
+calls_of (Created writing) = made writing.name
+
+abbrev pub all_calls : List FileUse → List FileCall
+all_calls [] = []
+all_calls (used ∷ uses) = calls_of used ++ all_calls uses
+
+abbrev pub count_of : Option Bytes → ℕ
+count_of None = 0
+count_of (Some name) = 1
+
+abbrev pub done_by : Record → Done
+done_by r = record { calls = all_calls (all_uses r); holds = count_of r.held }
