@@ -4,12 +4,12 @@ ghost use Rattle.std.specs.Prelude.{◌+◌, ◌^◌, ◌≤◌, length};
 
 use arrayvec::ArrayVec;
 use avr_image::Pieces;
-use avr_records::{Kind, Run, Writer, what_is_written_reads_back};
-use std::alloc::{AllocError, Global};
+use avr_records::{IhexWriter, Kind, Run, SrecWriter, Writer, what_is_written_reads_back};
+use std::alloc::Global;
 use std::test::Fail;
 
-/// Writes these bytes as a record file, and joins its pieces.
-fn text_of(alloc: Global, kind: Kind, base: u32, bytes: &[u8]) -> Result<Vec<u8>, AllocError>
+/// Writes these bytes as a record file by the writer of its kind. The writer of any memory has to write the same.
+fn text_of(alloc: Global, kind: Kind, base: u32, bytes: &[u8]) -> Result<Vec<u8>, Fail>
     requires { base + length bytes.now ≤ 2 ^ 32 }
 {
     let mut text = Vec::new(alloc);
@@ -19,7 +19,15 @@ fn text_of(alloc: Global, kind: Kind, base: u32, bytes: &[u8]) -> Result<Vec<u8>
     while writer.next_piece(&mut piece) {
         text.extend_from_slice(piece.as_slice())?;
     }
-    Ok(text)
+    let of_kind = match kind {
+        Kind::Ihex => IhexWriter::new(base, bytes).to_vec(alloc)?,
+        Kind::Srec => SrecWriter::new(base, bytes).to_vec(alloc)?,
+    };
+    if of_kind.as_slice() == text.as_slice() {
+        Ok(of_kind)
+    } else {
+        Err(Fail::from("the writers differ"))
+    }
 }
 
 #[test]

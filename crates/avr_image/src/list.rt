@@ -1,5 +1,5 @@
 //! Lists of numbers.
-ghost use Rattle.std.specs.Prelude.{◌≡◌, ◌==◌, ◌+◌, ◌<◌, ◌≤◌, ◌++◌, ℕ, List, [], length, not, nat_lt, IsTrue};
+ghost use Rattle.std.specs.Prelude.{◌≡◌, ◌==◌, ◌+◌, ◌<◌, ◌≤◌, ◌↔◌, ◌++◌, ℕ, List, [], length, not, nat_lt, IsTrue};
 ghost use Rattle.arrayvec.specs.ArrayVec.{array_vec_len};
 ghost use Rattle.avr_image.specs.Lists.{list_text};
 
@@ -76,6 +76,15 @@ impl<'a> ListWriter<'a> {
             rest: bytes,
             ended: false,
         }
+    }
+
+    /// Puts the next piece into `out` and returns true, or empties `out` and returns false if no text is left.
+    pub fn next_piece(&mut self, out: &mut ArrayVec<u8, 80>) -> bool
+        ensures joined { self.old ≡ out.new.items ++ self.new }
+        ensures some { IsTrue result ↔ (0 < length out.new.items) }
+        ensures ends { IsTrue result ↔ (0 < length self.old) }
+    {
+        Pieces::next_piece(self, out)
     }
 
     fn is_done(&self) -> bool
