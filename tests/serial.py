@@ -576,6 +576,8 @@ def on_a_terminal(words, answer=None):
     it = Board(answer=answer)
     line, slave = pty.openpty()
     started = start([*words, "-P", it.device], stderr=slave)
+    kills = threading.Timer(60, started.kill)
+    kills.start()
     os.close(slave)
     got = b""
     try:
@@ -583,6 +585,7 @@ def on_a_terminal(words, answer=None):
             got += heard
     except OSError:
         pass
+    kills.cancel()
     it.end()
     os.close(line)
     return got.decode(), started.wait(PATIENCE)
@@ -613,6 +616,45 @@ def progress():
     see("a part file of one's own", status == 0 and "\ravrstk-serial: writing flash: 128 bytes\r" in got, got)
     got, status = on_a_terminal([*FLASH, "-q"])
     same("-q", (status, got), (0, ""))
+
+
+def images_that_are_read_once():
+    """An image may be a pipe, which only avrstk opens, and once. Only the port is replaced on the command line."""
+    wanted, text = flashed(), room.read("blink.hex")
+    room.clear()
+    os.mkfifo(room.folder / "pipe")
+    writer = threading.Thread(target=lambda: room.put("pipe", text), daemon=True)
+    writer.start()
+    got, status = on_a_terminal(["-p", "m328p", "-U", "flash:w:pipe:i"])
+    rows = [it.decode() for it in lines(*FIRMWARE).splitlines()]
+    same("a named pipe", (status, screen(got)), (0, [*rows, ""]))
+    reader, writer = os.pipe()
+    os.write(writer, text)
+    os.close(writer)
+    it = Board()
+    words = ["-p", "m328p", "-U", f"flash:w:/dev/fd/{reader}:i", "-P", it.device]
+    status, _, told, own = run(words, pass_fds=[reader])
+    os.close(reader)
+    same("a shell's pipe", (status, told, own, it.end() == wanted), (0, lines(*FIRMWARE), [], True))
+    room.put("net:", text)
+    line, device = terminal()
+    told = "sys.stderr.write('avrstk: error: ' + ' '.join(sys.argv[1:]).replace(str(port), 'PORT') + '\\n')\nsys.exit(1)\n"
+    _, _, told, _ = run(["net:", "-p", "m328p", "-P", device, "-U", "net:"], env=stand_in(told))
+    os.close(line)
+    same("net: elsewhere", told.split()[2:], b"-P net:127.0.0.1:PORT -c stk500v2 -p m328p net: -U net:".split())
+    for word in ["--wait=\u0663", "-b\u0661\u0662\u0660\u0660"]:
+        status, _, told, own = run([*FLASH, "-P", device, word])
+        see(f"{word}: other digits", (status, told) == (1, b"") and ": not a " in own[0], (told, own))
+
+
+def a_child_that_is_not_waited_for():
+    """The status is avrstk's, also if SIGCHLD is ignored at the start, as some daemons leave it."""
+    line, device = terminal()
+    fails = stand_in("sys.stderr.write('avrstk: error: no answer\\n')\nsys.exit(1)\n")
+    ignores = lambda: signal.signal(signal.SIGCHLD, signal.SIG_IGN)
+    status, _, told, own = run([*FLASH, "-P", device], env=fails, preexec_fn=ignores)
+    same("its status and hint", (status, told, len(own)), (1, b"avrstk: error: no answer\n", 1))
+    os.close(line)
 
 
 def changes(command, body):
@@ -1125,6 +1167,8 @@ CASES = named(
     hints,
     hints_that_are_followed,
     progress,
+    images_that_are_read_once,
+    a_child_that_is_not_waited_for,
     signals,
     cut_lines,
     closed_streams,
