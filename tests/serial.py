@@ -29,9 +29,10 @@ from functools import lru_cache
 from pathlib import Path
 
 from cases import PATIENCE, leave_out, named, run_cases, same, see
-from program import PROGRAM, TOP, Room, Server, forks, free_port, has_avrdude, lines
+from line import frames_of
+from program import PROGRAM, TOP, Room, Server, forks, frame, free_port, has_avrdude, lines
 
-SCRIPT = TOP / "avrstk-serial"
+SCRIPT, SHARED = TOP / "avrstk-serial", TOP / "avrstk_common.py"
 PYTHON = shutil.which("python3", path="/usr/bin:/bin") or sys.executable
 SIGNATURE = "device signature = 1E 95 0F"
 FIRMWARE = [SIGNATURE, "chip erased", "flash: 228 bytes written", "flash: 228 bytes verified", "done"]
@@ -54,10 +55,12 @@ class Board:
     programmer and sends this text all the time. The device disappears after `vanish` replies. `answer` changes the
     bytes of each reply."""
 
-    def __init__(self, deaf=0.0, gone=None, part="m328p", talk=None, vanish=None, answer=None, words=()):
+    def __init__(
+        self, deaf=0.0, gone=None, part="m328p", talk=None, vanish=None, answer=None, words=(), chip=None, server=None
+    ):
         self.deaf, self.gone, self.talk, self.vanish, self.answer = deaf, gone, talk, vanish, answer
-        self.opened, self.heard, self.chip = 0, b"", f"served{next(boards)}.bin"
-        self.server = None if talk else Server(room, self.chip, part, words)
+        self.opened, self.heard, self.chip = 0, b"", chip or f"served{next(boards)}.bin"
+        self.server = None if talk else server or Server(room, self.chip, part, words)
         self.line, self.device = terminal()
         self.stopped = threading.Event()
         self.thread = threading.Thread(target=self.live, daemon=True)
@@ -113,6 +116,44 @@ class Board:
         return room.read(self.chip)
 
 
+class Bootloader:
+    """A bootloader as docs/BOARDS describes it, on an ATmega328P. It refuses an erase and fuses. For each page that is
+    written it erases one, from address 0 on."""
+
+    def __init__(self, flash):
+        self.flash = bytearray(flash)
+
+    def call(self):
+        ours, caller = socket.socketpair()
+        threading.Thread(target=self.live, args=(ours,), daemon=True).start()
+        return caller
+
+    def live(self, caller):
+        self.address = self.erased = 0
+        with caller:
+            for it in frames_of(caller):
+                caller.sendall(frame(it[1], it[5:6] + self.reply(it[5], it[6:-1])))
+
+    def reply(self, command, body):
+        count = int.from_bytes(body[:2], "big")
+        if command in (0x13, 0x14):
+            at, self.address = self.address, self.address + count
+        if command == 0x13:
+            self.flash[self.erased : self.erased + 128] = b"\xff" * 128
+            self.erased += 128
+            self.flash[at : at + count] = bytes(old & new for old, new in zip(self.flash[at:], body[9 : 9 + count]))
+        if command == 0x06:
+            self.address = 2 * (int.from_bytes(body[:4], "big") & 0x7FFFFFFF)
+        replies = {0x01: b"\0\x08AVRISP_2", 0x14: b"\0" + self.flash[self.address - count : self.address] + b"\0"}
+        replies[0x1B] = bytes([0, (0x1E, 0x95, 0x0F)[body[3] % 3] if command == 0x1B else 0, 0])
+        return bytes(replies.get(command, b"\0" if command in (0x06, 0x10, 0x11, 0x13) else b"\xc0"))
+
+    def stop(self):
+        """(It has no server to stop.)"""
+
+    end = stop
+
+
 def start(words, **more):
     """Starts avrstk-serial with these options, in the room."""
     how = {"cwd": room.folder, "stdin": subprocess.DEVNULL, "stdout": subprocess.PIPE, "stderr": subprocess.PIPE} | more
@@ -148,8 +189,11 @@ def speed(line):
 def run_as_anyone(words, program):
     """Runs the script as nobody if this is root, who may do everything. (PYTHON must not be one that only root can run.)"""
     how = {"user": 65534, "group": 65534, "extra_groups": []} if os.geteuid() == 0 else {}
-    how |= {"input": SCRIPT.read_bytes(), "capture_output": True, "cwd": "/", "timeout": PATIENCE}
-    return subprocess.run([PYTHON, "-", *words], env=os.environ | {"AVRSTK": str(program)}, **how)
+    with tempfile.TemporaryDirectory(dir="/tmp") as folder:
+        os.chmod(folder, 0o755)
+        copied = [shutil.copy(it, folder) for it in [SCRIPT, SHARED]]
+        how |= {"stdin": subprocess.DEVNULL, "capture_output": True, "cwd": "/", "timeout": PATIENCE}
+        return subprocess.run([PYTHON, copied[0], *words], env=os.environ | {"AVRSTK": str(program)}, **how)
 
 
 def terminal():
@@ -313,6 +357,7 @@ def refused():
     room.put("x.elf", b"\x7fELF\x01\x01\x01")
     room.put("note.hex", b"# a note\n" + room.read("blink.hex"))
     room.put("empty.hex", b"")
+    room.put("big.hex", hex_of([(32_768, b"x")]))
     (room.folder / "gone.hex").symlink_to("nowhere")
     cases = [
         (["-B", "10"], "-B is not supported: the programmer has its own clock"),
@@ -344,7 +389,10 @@ def refused():
         (["-U", "fuse:w:1:m"], "-U fuse:w:1:m: the memories are flash, eeprom, lfuse, "),
         (["-U", "lfuse:r:-:h", "-U", "fl:r:x:i"], "-U fl:r:x:i: the memories are flash, eeprom, lfuse, "),
         (["-U", "flash:x:1:m"], note),
-        (["-U", "flash:w:note.hex"], "the format was named by the end of the file's name: :a detects it, :r is raw"),
+        (["-U", "flash:w:note.hex"], f"it is not Intel HEX, or something stands above its first record; {note}"),
+        (["-U", "flash:w:big.hex"], f"flash of m328p has 32,768 bytes; is -p right?; {note}"),
+        (["-U", "eeprom:w:0,0,0.hex"], f"there is no such file; {note}"),
+        (["-U", "lfuse:w:0,0:m"], f"lfuse of m328p has 1 byte; is -p right?; {note}"),
         (["-U", "empty.hex"], f"empty.hex is empty (did its build fail?): {note}"),
         (["-U", "flash:w:empty.hex:i"], f"empty.hex is empty (did its build fail?): {note}"),
         (["-U", "eeprom:w:empty.bin:r"], f"empty.bin is empty (did its build fail?): {note}"),
@@ -426,11 +474,17 @@ def what_is_missing():
     status, _, _, own = run(["-p", "m328p", "-P", device], env={"AVRSTK": "/nowhere/avrstk"})
     see("no avrstk", status == 1 and own[0].startswith("/nowhere/avrstk is not there, or can't be run"), own)
     alone = room.folder / "alone"
-    alone.mkdir()
-    shutil.copy(SCRIPT, alone)
+    (alone / "bin").mkdir(parents=True)
+    (alone / "lib/avrstk").mkdir(parents=True)
+    shutil.copy(SCRIPT, alone / "bin")
+    # (a link to the script finds the module too)
+    (alone / "avrstk-serial").symlink_to("bin/avrstk-serial")
     words = [sys.executable, str(alone / "avrstk-serial"), "-p", "atmega328p", "-P", device]
-    ran = subprocess.run(words, capture_output=True, text=True, env=os.environ | {"AVRSTK": str(PROGRAM)})
-    see("no part file", "atmega328p: the part file classic.toml is not there" in ran.stderr, ran.stderr)
+    for wanted in ["avrstk_common.py is not there", "atmega328p: the part file classic.toml is not there"]:
+        ran = subprocess.run(words, capture_output=True, text=True, env=os.environ | {"AVRSTK": str(PROGRAM)})
+        see(wanted, ran.returncode == 1 and ran.stderr.startswith(f"avrstk-serial: {wanted}"), ran.stderr)
+        shutil.copy(SHARED, alone / "lib/avrstk")
+    same("no file is written", sorted(it.name for it in alone.rglob("*.pyc")), [])
     shutil.rmtree(alone)
     os.close(slave)
     os.close(line)
@@ -474,6 +528,7 @@ def programs():
     for it in [proved, unproved]:
         it.parent.mkdir(parents=True)
     shutil.copy(SCRIPT, folder)
+    shutil.copy(SHARED, folder)
     environment = {name: value for name, value in os.environ.items() if name != "AVRSTK"}
 
     def ran(*words):
@@ -521,6 +576,8 @@ def on_a_terminal(words, answer=None):
     it = Board(answer=answer)
     line, slave = pty.openpty()
     started = start([*words, "-P", it.device], stderr=slave)
+    kills = threading.Timer(60, started.kill)
+    kills.start()
     os.close(slave)
     got = b""
     try:
@@ -528,6 +585,7 @@ def on_a_terminal(words, answer=None):
             got += heard
     except OSError:
         pass
+    kills.cancel()
     it.end()
     os.close(line)
     return got.decode(), started.wait(PATIENCE)
@@ -558,6 +616,45 @@ def progress():
     see("a part file of one's own", status == 0 and "\ravrstk-serial: writing flash: 128 bytes\r" in got, got)
     got, status = on_a_terminal([*FLASH, "-q"])
     same("-q", (status, got), (0, ""))
+
+
+def images_that_are_read_once():
+    """An image may be a pipe, which only avrstk opens, and once. Only the port is replaced on the command line."""
+    wanted, text = flashed(), room.read("blink.hex")
+    room.clear()
+    os.mkfifo(room.folder / "pipe")
+    writer = threading.Thread(target=lambda: room.put("pipe", text), daemon=True)
+    writer.start()
+    got, status = on_a_terminal(["-p", "m328p", "-U", "flash:w:pipe:i"])
+    rows = [it.decode() for it in lines(*FIRMWARE).splitlines()]
+    same("a named pipe", (status, screen(got)), (0, [*rows, ""]))
+    reader, writer = os.pipe()
+    os.write(writer, text)
+    os.close(writer)
+    it = Board()
+    words = ["-p", "m328p", "-U", f"flash:w:/dev/fd/{reader}:i", "-P", it.device]
+    status, _, told, own = run(words, pass_fds=[reader])
+    os.close(reader)
+    same("a shell's pipe", (status, told, own, it.end() == wanted), (0, lines(*FIRMWARE), [], True))
+    room.put("net:", text)
+    line, device = terminal()
+    told = "sys.stderr.write('avrstk: error: ' + ' '.join(sys.argv[1:]).replace(str(port), 'PORT') + '\\n')\nsys.exit(1)\n"
+    _, _, told, _ = run(["net:", "-p", "m328p", "-P", device, "-U", "net:"], env=stand_in(told))
+    os.close(line)
+    same("net: elsewhere", told.split()[2:], b"-P net:127.0.0.1:PORT -c stk500v2 -p m328p net: -U net:".split())
+    for word in ["--wait=\u0663", "-b\u0661\u0662\u0660\u0660"]:
+        status, _, told, own = run([*FLASH, "-P", device, word])
+        see(f"{word}: other digits", (status, told) == (1, b"") and ": not a " in own[0], (told, own))
+
+
+def a_child_that_is_not_waited_for():
+    """The status is avrstk's, also if SIGCHLD is ignored at the start, as some daemons leave it."""
+    line, device = terminal()
+    fails = stand_in("sys.stderr.write('avrstk: error: no answer\\n')\nsys.exit(1)\n")
+    ignores = lambda: signal.signal(signal.SIGCHLD, signal.SIG_IGN)
+    status, _, told, own = run([*FLASH, "-P", device], env=fails, preexec_fn=ignores)
+    same("its status and hint", (status, told, len(own)), (1, b"avrstk: error: no answer\n", 1))
+    os.close(line)
 
 
 def changes(command, body):
@@ -598,7 +695,7 @@ def hints():
         ("command 17", fuse, "a bootloader can't write fuses", "command 17 refused", instead(0x17, 0xC0)),
         ("a bit", fuse, bit, "expected, F2 found", instead(0x18, 0, 0xF2, 0)),
         ("flash", FLASH, "run the same command again; if it always", found, instead(0x14, 0, *bytes(256), 0)),
-        ("flash with -D", [*FLASH, "-D"], "without an erase old bytes remain", found, instead(0x14, 0, *bytes(256), 0)),
+        ("flash with -D", [*FLASH, "-D"], "a bootloader erases pages from 0 on", found, instead(0x14, 0, *bytes(256), 0)),
         ("a bad answer", FLASH, "something else sends data", "command 12: bad answer", instead(0x12, 0, 0)),
         ("a folder", [*reading, "lfuse:r:no/where:h"], f"check the folder and free space; {stays}", "no/where", {}),
         ("leaving", FLASH, "everything above was done; only the last", "flash: 228 bytes verified", silent(0x11)),
@@ -618,6 +715,137 @@ def hints():
     it.end()
     wanted = f"avrstk-serial: standard output is closed or full; {stays}"
     same("a closed output", (ran.returncode, "-: cannot be written" in ran.stderr, last), (1, True, wanted))
+
+
+def hex_of(runs):
+    """Returns an Intel HEX file with these bytes at these addresses."""
+    rows, high = [], 0
+    for at, held in [(at + place, held[place : place + 16]) for at, held in runs for place in range(0, len(held), 16)]:
+        if at >> 16 != high:
+            high = at >> 16
+            rows.append(bytes([2, 0, 0, 4, *high.to_bytes(2, "big")]))
+        rows.append(bytes([len(held), *(at & 0xFFFF).to_bytes(2, "big"), 0]) + held)
+    rows.append(bytes([0, 0, 0, 1]))
+    return "".join(f":{(it + bytes([-sum(it) & 0xFF])).hex().upper()}\n" for it in rows).encode()
+
+
+def without(words, left_out):
+    return [it for it in words if it != left_out]
+
+
+def other_part(words, part):
+    at = words.index("-p") + 1
+    return [*words[:at], part, *words[at + 1 :]]
+
+
+def renamed(words, given):
+    """Replaces the update of the same file."""
+    file = given.split(":")[2]
+    return [given if file in it.split(":") else it for it in words]
+
+
+# What a reader does after a hint: the words that he finds in it, and the next command with the files of its case. After a
+# hint without a next command the walk ends.
+FOLLOWED = [
+    (r"damaged or cut short: build or download it again", lambda words, case, _: case["again"]() or words),
+    (r"something stands above its first record", lambda words, case, _: case["again"]() or words),
+    (r"make it again, by avr-objcopy -O ihex -R .eeprom", lambda words, case, _: case["again"]() or words),
+    (r"begins at 0 and leaves out no page$", lambda words, case, _: case["again"]() or words),
+    (r"With a programmer leave out -D", lambda words, case, _: case["old"](words)),
+    (r"is -p right\?", lambda words, case, _: other_part(words, case["part"])),
+    (r"use -p (\w+)", lambda words, _, found: other_part(words, found[1])),
+    (r": give (\S+:[is]);", lambda words, _, found: renamed(words, found[1])),
+    (r"a value needs :m after it, as lfuse:w:0xE2:m", lambda words, *_: renamed(words, "lfuse:w:0xE2:m")),
+    (r": use -D$", lambda words, *_: [*words, "-D"]),
+    (r"leave out -e, and use -D$", lambda words, *_: [*without(words, "-e"), "-D"]),
+    (r"removes a lock: -e, which", lambda words, *_: [*words, "-e"]),
+    (r"run the same command again", lambda words, *_: words),
+    (r"holds something else than [^;]*$", lambda *_: None),
+]
+
+
+def walk(name, words, end, board=None, **case):
+    """Follows each hint until a run ends well or a hint gives no command. Returns the hints. The chip must be as `end`
+    has it, and no hint names a format that takes each text for bytes."""
+    hints, chip = [], f"walk{next(boards)}.bin"
+    if "chip" in case:
+        room.put(chip, case["chip"])
+    for _ in range(6):
+        it = Board(**{"chip": chip, "part": case.get("has", "m328p"), **(board or {})})
+        status, _, told, own = run([*words, "-P", it.device])
+        it.end()
+        if status == 0:
+            break
+        hints.append(own[-1])
+        see(f"{name}: no other format", not re.search(r":[ar](?![\w:])", own[-1]), own)
+        rules = [(text, act) for text, act in FOLLOWED if re.search(text, own[-1])]
+        if not see(f"{name}: the hint can be followed", rules, (own, told)):
+            break
+        words = rules[0][1](words, case, re.search(rules[0][0], own[-1]))
+        if words is None:
+            break
+    see(f"{name}: it ends well", status == 0 or words is None, hints)
+    found = bytes(board["server"].flash) if board else room.read(chip) or b""
+    see(f"{name}: the chip", found == end(found), [at for at in range(len(found)) if found[at] != end(found)[at]][:9])
+    return hints
+
+
+def with_flash(held, at=0):
+    """Returns a function that puts these bytes into a flash that is erased else."""
+    return lambda chip: (b"\xff" * at + held + b"\xff" * 32_768)[:32_768] + chip[32_768:]
+
+
+def hints_that_are_followed():
+    """Follows each hint as typed until a run ends well. It never ends with status 0 and another image in the chip."""
+    firmware, good = flashed(), room.read("blink.hex")
+    room.clear()
+    image = bytes(it % 251 for it in range(700))
+    old = bytes(it % 241 for it in range(32_768))
+    rows = good.splitlines(True)
+    again = lambda file, text=good: {"again": lambda: room.put(file, text)}
+    ends = lambda chip: firmware
+    flash = lambda file, *more: ["-p", "m328p", "-U", f"flash:w:{file}", *more]
+    bad = {
+        "sum.hex": good.replace(rows[1][9:11], b"00" if rows[1][9:11] != b"00" else b"01", 1),
+        "cut.hex": good[:-25],
+        "digit.hex": good.replace(b":10", b":1G", 1),
+        "comment.hex": b"; made by x\n" + good,
+        "page.hex": b"<!DOCTYPE html>\n<html>\n" + good,
+        "amid.hex": rows[0] + b"# a note\n" + b"".join(rows[1:]),
+        "long.hex": rows[0].strip() + b"0" * 600 + b"\n" + b"".join(rows[1:]),
+        "both.hex": b"".join(rows[:-1]) + hex_of([(0x810000, b"eeprom")]),
+    }
+    for name, text in bad.items():
+        room.put(name, text)
+        for words in [flash(name), flash(f"{name}:i"), flash(name, "-D", "-V")]:
+            same(f"{name}: one hint", len(walk(name, words, ends, **again(name))), 1)
+            room.put(name, text)
+    room.put("srec.hex", room.read("blink.srec"))
+    walk("srec.hex", flash("srec.hex"), ends)
+    room.put("hex.srec", good)
+    walk("hex.srec", flash("hex.srec"), ends)
+    room.put("big.hex", hex_of([(32_768, image)]))
+    big = lambda chip: b"\xff" * 32_768 + image + b"\xff" * (len(chip) - 32_768 - len(image))
+    found = walk("big.hex", flash("big.hex"), big, part="m2560", has="m2560")
+    same("big.hex", found[0][:45], "flash of m328p has 32,768 bytes; is -p right?")
+    walk("another part", other_part(flash("blink.hex"), "t85"), ends)
+    walk("a value", ["-p", "m328p", "-U", "lfuse:w:0xE2"], lambda chip: chip[:-4] + b"\xe2" + chip[-3:])
+    locked = firmware[:-1] + b"\xfc"
+    walk("a lock", ["-p", "m328p", "-U", "lock:w:0xFF:m"], lambda chip: b"\xff" * len(chip), chip=locked)
+    for memory in ["flash:v:blink.hex", "eeprom:v:0x01:m", "lfuse:v:0xE2:m", "lock:v:0x00:m"]:
+        walk(memory, ["-p", "m328p", "-U", memory], lambda chip: old + b"\xff" * 1028, chip=old + b"\xff" * 1028)
+    late = hex_of([(0x1000, image)])
+    merged = b"\xff" * 0x1000 + image
+    erases = lambda words: without(words, "-D")
+    for words in [[], ["-D"], ["-e"], ["-c", "wiring"], ["-c", "wiring", "-D"]]:
+        room.put("late.hex", late)
+        board = {"server": Bootloader(old)}
+        wanted = lambda chip: merged[: 0x1000 + 768].ljust(0x1300, b"\xff") + old[0x1300:]
+        case = again("late.hex", hex_of([(0, merged)])) | {"old": lambda it: room.put("late.hex", case["whole"]) or it}
+        case["whole"] = hex_of([(0, merged)])
+        walk(f"a bootloader {words}", flash("late.hex", *words), wanted, board=board, **case)
+    room.put("late.hex", late)
+    walk("-D", flash("late.hex", "-D"), with_flash(image, 0x1000), chip=old + b"\xff" * 1028, old=erases)
 
 
 def signals():
@@ -937,7 +1165,10 @@ CASES = named(
     ports_of_avrstk,
     programs,
     hints,
+    hints_that_are_followed,
     progress,
+    images_that_are_read_once,
+    a_child_that_is_not_waited_for,
     signals,
     cut_lines,
     closed_streams,
