@@ -1,0 +1,99 @@
+//! Serves an emulated programmer with an emulated part to one client, over standard input and output.
+//!
+//! It takes avrstk's options `-p`, `--parts` and `-P emu:CHIPFILE`. With `-n` it only checks that this part and chip
+//! file can be served, and writes nothing.
+#![tactic(auto)]
+
+ghost use Rattle.std.specs.Prelude.{◌≡◌, map, string_bytes};
+ghost use Rattle.avr_session.specs.Runs.{devices};
+ghost use Rattle.avrstk_session.specs.Session.{JudgesOnly, ServesPort, ServesWords, StartsSession};
+
+use avr_emulator::{judge_part, serve};
+use avr_tool::{
+    Bounded, Desk, Link, NotAsked, Port, Settings, StreamLink, SystemDesk, asked, refuse_text,
+};
+use std::alloc::Global;
+use std::env::Env;
+use std::fs::File;
+use std::process::ExitCode;
+use std::{env, fs, io};
+
+fn main(rt: HostRuntime) -> ExitCode {
+    let _taken = take_closed_streams(&rt);
+    let output = || Bounded::new(rt.stdout(), None);
+    let messages = Bounded::new(rt.stderr(), None);
+    let mut desk = SystemDesk::new(&rt, output(), messages);
+    let mut link = StreamLink::new(rt.stdin(), output());
+    ExitCode::from(run(&rt, &mut desk, &mut link))
+}
+
+/// Opens a folder in place of each closed standard stream, and keeps it open while the program runs. Otherwise the chip
+/// file would take that place, and answers would go there. A folder can be neither read nor written.
+fn take_closed_streams(rt: &HostRuntime) -> [io::Result<File>; 3] {
+    [fs::open(rt, "/"), fs::open(rt, "/"), fs::open(rt, "/")]
+}
+
+/// Checks that the part and this chip file can be served, and returns the status.
+fn judge<D: Desk>(alloc: Global, settings: &Settings, file: &str, desk: &mut D) -> u8
+    ensures { JudgesOnly settings.now file.now (D.view desk.old) (D.view desk.new) result }
+{
+    match judge_part(alloc, settings, file, desk) {
+        Ok(_) => 0,
+        Err(status) => status,
+    }
+}
+
+/// Serves the chip file of these settings over the link, or only checks it; refuses any other port.
+fn serve_port<D: Desk, L: Link>(
+    alloc: Global,
+    settings: &Settings,
+    desk: &mut D,
+    link: &mut L,
+) -> u8
+    ensures { ServesPort settings.now.port settings.now (devices (L.view link.old) (D.view desk.old))
+        (devices (L.view link.new) (D.view desk.new)) result }
+{
+    match &settings.port {
+        Port::Emulated(file) => {
+            if settings.switches.dry {
+                judge(alloc, settings, file.as_str(), desk)
+            } else {
+                serve(alloc, settings, file.as_str(), desk, link)
+            }
+        }
+        _ => refuse_text(desk, &"-P emu:CHIPFILE is needed"),
+    }
+}
+
+/// Serves what a command line asks for. Its first element is the program's name.
+fn serve_words<D: Desk, L: Link>(
+    alloc: Global,
+    words: &[String],
+    desk: &mut D,
+    link: &mut L,
+) -> u8
+    ensures { ServesWords (map string_bytes words.now) (devices (L.view link.old) (D.view desk.old))
+        (devices (L.view link.new) (D.view desk.new)) result }
+{
+    match asked(alloc, words, desk) {
+        Ok(settings) => serve_port(alloc, &settings, desk, link),
+        Err(NotAsked::Refused(status)) => status,
+        Err(NotAsked::Words(error)) => refuse_text(desk, &error),
+    }
+}
+
+/// Serves what the process's command line asks for.
+fn run<E: Env + Alloc<A = Global>, D: Desk, L: Link>(rt: &E, desk: &mut D, link: &mut L) -> u8
+    ensures { StartsSession (devices (L.view link.old) (D.view desk.old))
+        (devices (L.view link.new) (D.view desk.new)) result }
+{
+    match read_arguments(rt) {
+        Ok(words) => serve_words(rt.alloc(), words.as_slice(), desk, link),
+        Err(error) => refuse_text(desk, &error),
+    }
+}
+
+/// Returns the command line, whose first element is the program's name.
+fn read_arguments<E: Env + Alloc<A = Global>>(rt: &E) -> io::Result<Vec<String>> {
+    Ok(env::args(rt)?.collect(rt.alloc())?)
+}
