@@ -4,6 +4,7 @@ pub mod Told
 pub mod Parts
 pub mod Values
 pub mod Tasks
+pub mod Fitted
 pub mod Plans
 pub mod EachStage
 pub mod OnlyReading

@@ -1,5 +1,5 @@
 //! Laws of planning, over the definitions alone; no code.
-ghost use Rattle.std.specs.Prelude.{◌≡◌, ◌++◌, ℕ, List, Some, Err};
+ghost use Rattle.std.specs.Prelude.{◌≡◌, ◌++◌, ℕ, List, All, Some, Err};
 ghost use Rattle.avr_cli.specs.declared.settings.Settings.{Settings};
 ghost use Rattle.ghosts.specs.Failures.{HasStood};
 ghost use Rattle.avr_desk.specs.Record.{Record, showing, Bytes};
@@ -11,7 +11,8 @@ ghost use Rattle.avr_plan.specs.OnlyReading.{OnlyReads};
 ghost use Rattle.avr_plan.specs.Planning.{planned};
 ghost use Rattle.avr_plan.specs.Taking.{AtUpdate};
 ghost use Rattle.avr_desk.specs.Playing.{Goes, WentRefused};
-ghost use Rattle.avr_desk.specs.Stage.{Unread, told_in};
+ghost use Rattle.avr_desk.specs.Stage.{Made, Unread, told_in};
+ghost use Rattle.avr_plan.specs.Plan.{Plan, IsFitted};
 
 /// States that planning only opens files for reading and prints lines, whatever the files give. Nothing is created,
 /// written or output. It sends nothing by its type: a stage knows of no link.
@@ -35,4 +36,11 @@ pub fn a_plan_is_of_whole_files()
         → ((planned s openings).answer ≡ Unread → ⊥)
         → ((planned_of s stock).answer ≡ (planned s openings).answer)
         × (lines_in (told_in (planned_of s stock)) ≡ lines_in (told_in (planned s openings))) }
+{}
+
+/// States that a plan that was made fits its part. The images are of the sizes of their memories, and it writes to no
+/// memory that can't be written.
+pub fn a_plan_fits_its_part()
+    ensures { (s : Settings) (openings : List Opening) (plan : Plan)
+        → (planned s openings).answer ≡ Made plan → All (IsFitted plan.part) plan.tasks }
 {}
