@@ -2,12 +2,13 @@
 """Compares parts/classic.toml with two sources: the configuration of an installed AVRDUDE, and the headers of avr-libc. The
 file has exactly the parts that both describe alike and that the program describes fully, each with both its names. The
 program loads each name. AVRDUDE writes flash, EEPROM and fuses of a dozen parts by `--serve`; the chip must be the same
-as after the program's own run over `emu:`.
+as after the program's own run over `emu:`. Holds the two other files of parts/ to their sources: bits.txt to AVRDUDE's
+configuration, and unsupported.txt to docs/PARTS.
 
     tests/parts.py [CASE ..]  needs a built program (program.py); checks that need avrdude, or avr-gcc
                               with avr-libc, are left out without them
     tests/parts.py --all      runs a session for each part
-    tests/parts.py --write    writes parts/classic.toml from the two sources
+    tests/parts.py --write    writes the three files of parts/
 """
 
 import random
@@ -22,6 +23,7 @@ from cases import PATIENCE, leave_out, named, run_cases, see
 from program import TOP, Room, Server
 
 CLASSIC = TOP / "parts/classic.toml"
+BITS, UNSUPPORTED = TOP / "parts/bits.txt", TOP / "parts/unsupported.txt"
 PAGE = TOP / "docs/PARTS.md"
 HEADERS = Path("/usr/lib/avr/include/avr")
 FIELDS = ["signature", "flash_size", "flash_page", "eeprom_size", "eeprom_page", "eesave_bit"]
@@ -33,6 +35,15 @@ HEAD = """\
 # and which are not and why.
 
 [parts]
+"""
+
+HEAD_OF_BITS = """\
+# The bits that the fuses and the lock of the parts in classic.toml have: lfuse, hfuse, efuse, lock. Made by
+# tests/parts.py --write of the write instructions in the configuration of AVRDUDE 7.1, which gives the others as 1.
+# A memory whose other bits are read as 0 there has a dash.
+"""
+HEAD_OF_UNSUPPORTED = """\
+# Parts that classic.toml doesn't have, with the reason. Made by tests/parts.py --write of docs/PARTS.
 """
 
 # the first bytes of the instructions that the program sends, by AVRDUDE's names for memories and operations
@@ -200,6 +211,32 @@ def made(parts):
     return HEAD + "".join(row(*it) for it in names)
 
 
+def mask(memory):
+    """Returns the bits of a fuse or lock that a write gives, in hexadecimal digits; a dash if another is read as 0."""
+    given, read = (bits(memory[it])[24:] for it in ("write", "read"))
+    return "-" if "0" in read else f"{sum(1 << (7 - at) for at, it in enumerate(given) if it == 'i'):02X}"
+
+
+def made_bits(parts):
+    """Returns the text of bits.txt."""
+    rows = {}
+    for long, _, part in sorted(parts.values(), key=lambda it: it[0]):
+        masks = " ".join(mask(part[it]) for it in ("lfuse", "hfuse", "efuse", "lock"))
+        rows.setdefault(masks, []).append(long)
+    return HEAD_OF_BITS + "".join(f"{' '.join(names)}: {masks}\n" for masks, names in sorted(rows.items()))
+
+
+def made_unsupported():
+    """Returns the text of unsupported.txt."""
+    rows = re.findall(r"^\| (.*) \| \d+ \| (.*) \|$", PAGE.read_text().split("## The others")[1], re.M)
+    return HEAD_OF_UNSUPPORTED + "".join(f"{names.replace(',', '')}: {why.replace('`', '')}\n" for why, names in rows)
+
+
+def notes():
+    """The parts that aren't in are named with their reason."""
+    see("unsupported.txt is as docs/PARTS has it", UNSUPPORTED.read_text() == made_unsupported(), UNSUPPORTED)
+
+
 def against_the_sources(parts, without):
     """Compares every line with both sources, and checks that no part is missing."""
     file = tomllib.loads(CLASSIC.read_text())["parts"]
@@ -212,6 +249,9 @@ def against_the_sources(parts, without):
         for field, value in fields.items():
             see(f"{name}: {field}, by avr-libc", found.get(field) == value, (found.get(field), value))
     see("the text is as it is made", CLASSIC.read_text() == made(parts))
+    see("the bits are as they are made", BITS.read_text() == made_bits(parts))
+    known = re.findall(r"^([^#].*): ((?:[0-9A-F]{2}|-) ?){4}$", BITS.read_text(), re.M)
+    see("each part has its bits", sum(len(names.split()) for names, _ in known) == len(parts), known)
     page = PAGE.read_text()
     listed, others = page.split("## The others")
     names = [it[2][""]["desc"].split()[0] for it in parts.values()]
@@ -303,18 +343,20 @@ def write():
         return 1
     parts, without = sources()
     CLASSIC.write_text(made(parts))
+    BITS.write_text(made_bits(parts))
+    UNSUPPORTED.write_text(made_unsupported())
     print(f"{len(parts)} parts, {len(CLASSIC.read_text())} bytes")
     for why, names in without.items():
         print(f"{why} ({len(names)}): {', '.join(names)}")
     return 0
 
 
-CASES = named(loaded, lines_of_the_file, sessions)
+CASES = named(loaded, notes, lines_of_the_file, sessions)
 
 if __name__ == "__main__":
     if sys.argv[1:] == ["--write"]:
         sys.exit(write())
     if sys.argv[1:] == ["--all"]:
         sys.argv.pop()
-        CASES = named(loaded, lines_of_the_file, all_sessions)
+        CASES = named(loaded, notes, lines_of_the_file, all_sessions)
     sys.exit(run_cases(CASES, __doc__))

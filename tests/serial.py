@@ -360,12 +360,14 @@ def refused():
     room.put("big.hex", hex_of([(32_768, b"x")]))
     (room.folder / "gone.hex").symlink_to("nowhere")
     cases = [
-        (["-B", "10"], "-B is not supported: the programmer has its own clock"),
+        (["-B", "10"], "-B is not supported: leave it out; the programmer has its own clock"),
         (["-B10"], "-B is not supported"),
         (["-E", "noreset"], "-E is not supported: the pins of a parallel port"),
         (["-O"], "-O is not supported: the oscillator is not calibrated"),
         (["-i", "10"], "-i is not supported: the programmer has its own clock"),
         (["-t"], "-t is not supported"),
+        (["-T", "read flash 0 16"], "-T is not supported"),
+        (["-Y", "1"], "-Y is not supported: erase cycles are not counted"),
         (["-x", "vtarg=5"], "-x is not supported"),
         (["-y"], "-y is not supported: erase cycles are not counted"),
         (["-c", "arduino"], "-c arduino is the bootloader of Uno and Nano"),
@@ -381,14 +383,25 @@ def refused():
         (["-U"], "-U: its value is missing"),
         (["--serve", "5000"], "--serve is for a programmer without a device"),
         (["-P", "usb"], "-P usb is for programmers without a serial device: use avrdude"),
-        (["-p", "m8"], f"-p ? lists the parts; others need a part file (--parts); {note}"),
+        (["-p", "m9"], f"-p ? lists the parts; others need a part file (--parts); {note}"),
+        (["-p", "m8"], "atmega8 is not supported: EEPROM is written by the byte, and the program writes it by the page"),
+        (["-p", "ATtiny13"], "attiny13 is not supported: no extended fuse, two calibration bytes"),
+        (["-p", "1200"], f"at90s1200 is not supported: no flash pages, but the program writes pages. Use avrdude; {note}"),
+        (["-p", "c32", "-p", "lgt8f88p"], "lgt8f88p is not supported: avr-libc doesn't say"),
+        (["blink.hex"], "blink.hex has no option before it: a file is given as -U flash:w:blink.hex"),
+        (["-U", "flash:r:no/where/x.hex:i"], f"no/where/x.hex cannot be created, since no/where is no folder: {note}"),
+        (["-U", "flash:r:.:i"], f". is a folder: {note}"),
+        (["-U", "lfuse:w:E2:m"], f"a value is written as 0xE2, 0b11100010, 0342 or 226; {note}"),
+        (["-U", "flash:w:blink.hex:I"], "-U flash:w:blink.hex:I: the formats are i, s, r, a and m to write and comp"),
+        (["-U", "flash:w:x.elf:e"], "avr-objcopy"),
+        (["-U", "flash:w:"], f"-U flash:w:: a file comes last, as flash:w:firmware.hex:i; {note}"),
         (["-U", "nofile"], f"there is no such file; {note}"),
         (["-U", "flash:w:gone.hex:i"], f"it is a symbolic link to a missing file; {note}"),
         (["-U", "lfuse:w:0xE2"], f"a value needs :m after it, as lfuse:w:0xE2:m; {note}"),
         (["-U", "flash:w:x.elf"], "avr-objcopy"),
         (["-U", "fuse:w:1:m"], "-U fuse:w:1:m: the memories are flash, eeprom, lfuse, "),
         (["-U", "lfuse:r:-:h", "-U", "fl:r:x:i"], "-U fl:r:x:i: the memories are flash, eeprom, lfuse, "),
-        (["-U", "flash:x:1:m"], note),
+        (["-U", "flash:x:1:m"], f"-U flash:x:1:m: the operations are w (write), v (compare) and r (read); {note}"),
         (["-U", "flash:w:note.hex"], f"it is not Intel HEX, or something stands above its first record; {note}"),
         (["-U", "flash:w:big.hex"], f"flash of m328p has 32,768 bytes; is -p right?; {note}"),
         (["-U", "eeprom:w:0,0,0.hex"], f"there is no such file; {note}"),
@@ -443,7 +456,7 @@ def devices():
         see(f"device {words}", (status, len(own)) == (1, 1) and own[0].startswith(wanted), own)
     os.chmod(device, 0)
     # (group 5 is `tty`, the owner of terminals, in every Linux)
-    cure, belongs = "(often: sudo adduser ", "(its owner is "
+    cure, belongs = "(often: sudo usermod -aG ", "(its owner is "
     for mode, group, wanted in [(0o660, 5, cure), (0o600, 5, belongs), (0o660, 0, belongs)]:
         if os.geteuid() == 0:
             os.chown(device, 0, group)
@@ -497,6 +510,7 @@ def failing(cases):
     """Makes runs that fail. Each has a name, options, a part of its one hint, a line of avrstk, and a board. Returns the
     chips."""
     room.clear()
+    room.put("mine.toml", (TOP / "parts/classic.toml").read_bytes())
 
     def ran(case):
         _, words, _, _, board = case
@@ -518,6 +532,73 @@ def failing(cases):
         see(f"{name}: {wanted}: {told}", is_right(case, found), found[:3])
         chips.append(found[3])
     return chips
+
+
+# runs a script, and prints each request that sets or clears lines of a modem
+PULSES = """
+import fcntl, runpy, sys, termios, time
+sys.argv[:1] = []
+do, begun = fcntl.ioctl, time.monotonic()
+def ioctl(device, request, *given):
+    if request in (termios.TIOCMBIC, termios.TIOCMBIS):
+        print(request == termios.TIOCMBIS, given[0][0], time.monotonic(), flush=True)
+        raise OSError({fault}, "")
+    return do(device, request, *given)
+fcntl.ioctl = ioctl
+runpy.run_path(sys.argv[0], run_name="__main__")
+"""
+
+
+def lines_of_a_board():
+    """With -c wiring DTR and RTS are released, and after 50 ms asserted, as AVRDUDE does. Other programmers are not reset."""
+    room.clear()
+    for words, fault, wanted in [
+        (["-c", "wiring"], "25", 2),
+        (["-cWiring"], "22", 2),
+        (["-c", "wiring"], "5", 1),
+        ([], "25", 0),
+        (["-c", "stk500"], "25", 0),
+    ]:
+        it = Board()
+        script = ["-c", PULSES.replace("{fault}", fault), str(SCRIPT), "-p", "m328p", "-P", it.device, *words]
+        how = {"env": os.environ | {"AVRSTK": str(PROGRAM)}, "capture_output": True, "timeout": PATIENCE}
+        ran = subprocess.run([sys.executable, *script], cwd=room.folder, **how)
+        it.end()
+        pulses = [row.split() for row in ran.stdout.decode().splitlines()]
+        same(f"{words} {fault}: the status", ran.returncode, int(fault == "5"))
+        lines_set = [(asserts, int(given)) for asserts, given, _ in pulses]
+        both = termios.TIOCM_DTR | termios.TIOCM_RTS
+        same(f"{words} {fault}: the lines", lines_set, [("False", both), ("True", both)][:wanted])
+        see(f"{words} {fault}: 50 ms", wanted < 2 or float(pulses[1][2]) - float(pulses[0][2]) >= 0.05, pulses)
+
+
+def bits_that_do_not_exist():
+    """Bits of a fuse or the lock that the part doesn't have are named before anything is sent, and given as 1."""
+    room.clear()
+    note = "of atmega328p has no bits"
+    recipe = ["-e", "-Ulock:w:0x3F:m", "-Uefuse:w:05:m", "-Uhfuse:w:0xDE:m", "-Ulfuse:w:255:m"]
+    shown = [f"lock {note} 6, 7; given as 1: lock:w:0xFF:m", f"efuse {note} 3, 4, 5, 6, 7; given as 1: efuse:w:0xFD:m"]
+    it = Board()
+    status, _, _, own = run(["-patmega328p", "-P", it.device, *recipe])
+    same("a recipe of the Arduino IDE", (status, own, it.end()[-4:].hex()), (0, shown, "ffdefdff"))
+    status, _, _, own = run(["-patmega328p", "-P", "emu:chip.bin", *recipe, "-Uefuse:v:0b101:m"])
+    shown.append(f"efuse {note} 3, 4, 5, 6, 7; given as 1: efuse:v:0xFD:m")
+    same("the same over emu:", (status, own, room.read("chip.bin")[-4:].hex()), (0, shown, "ffdefdff"))
+    room.put("mine.toml", (TOP / "parts/classic.toml").read_bytes())
+    status, _, _, own = run(["--parts", "mine.toml", "-pm328p", "-P", "emu:own.bin", *recipe])
+    same("a part file of one's own", (status, own, room.read("own.bin")[-4:].hex()), (0, [], "ffde053f"))
+    words = ["-p", "atmega16u4", "-P", "emu:u4.bin", "-U", "lock:w:0x3F:m", "-U", "lfuse:w:0x1FF:m"]
+    same("bits that are read as 0", run(words)[3], [])
+
+
+def lists():
+    """Tests -P ? and --version."""
+    status, output, told, own = run(["-P", "?"])
+    found = [row.split()[0] for row in output.decode().splitlines()]
+    here = sorted(str(it) for kind in ("ACM", "USB") for it in Path("/dev").glob(f"tty{kind}*"))
+    same("-P ?", (status, told, own, found), (0, b"", [], here or ["there"]))
+    version = (TOP / "VERSION").read_text().strip()
+    same("--version", run(["--version"]), (0, f"avrstk {version}\n".encode(), b"", []))
 
 
 def programs():
@@ -604,13 +685,20 @@ def progress():
     read = itertools.count()
     got, status = on_a_terminal(FLASH, slow)
     same("the lines that stay", (status, screen(got)), (0, [*rows, ""]))
-    for text in ["writing flash: 128 bytes, 50 %", "writing flash: 256 bytes, 100 %", "reading flash: 256 bytes, 0 %"]:
+    for text in ["writing flash: 128 bytes, 50 %", "writing flash: 256 bytes, 100 %", "verifying flash: 256 bytes, 0 %"]:
         see(text, f"\ravrstk-serial: {text}" in got, got)
-    left = re.search(r"\ravrstk-serial: reading flash: 1,\d+ bytes, \d %, (\d+) s left", got)
+    left = re.search(r"\ravrstk-serial: verifying flash: 1,\d+ bytes, \d %, (\d+) s left", got)
     see("the time that is left", left and int(left[1]) > 20, got)
     got, status = on_a_terminal(["-p", "m328p", "-U", "eeprom:w:whole.bin:r", "-U", "flash:w:blink.srec", "-V"])
     see("each write has its own", status == 0 and "writing eeprom: 4 bytes, 0 %" in got, got)
     see("by its image", "writing flash: 128 bytes, 50 %" in got, got)
+    names = lambda: re.findall(r"\ravrstk-serial: (\w+ \w+)", got)
+    updates = ["flash:r:back.hex:i", "eeprom:w:whole.bin:r", "flash:v:ff.bin:r", "eeprom:r:back.bin"]
+    room.put("ff.bin", b"\xff" * 4)
+    got, status = on_a_terminal(["-p", "m328p", *(word for it in updates for word in ("-U", it))])
+    wanted = ["reading flash", "writing eeprom", "verifying eeprom", "verifying flash", "reading eeprom"]
+    same("each has its name", (status, list(dict.fromkeys(names()))), (0, wanted))
+    see("no time when none is left", " 0 s left" not in got, got)
     room.put("mine.toml", (TOP / "parts/classic.toml").read_bytes())
     got, status = on_a_terminal(["--parts", "mine.toml", *FLASH])
     see("a part file of one's own", status == 0 and "\ravrstk-serial: writing flash: 128 bytes\r" in got, got)
@@ -639,9 +727,9 @@ def images_that_are_read_once():
     room.put("net:", text)
     line, device = terminal()
     told = "sys.stderr.write('avrstk: error: ' + ' '.join(sys.argv[1:]).replace(str(port), 'PORT') + '\\n')\nsys.exit(1)\n"
-    _, _, told, _ = run(["net:", "-p", "m328p", "-P", device, "-U", "net:"], env=stand_in(told))
+    _, _, told, _ = run(["-p", "m328p", "-P", device, "-U", "net:"], env=stand_in(told))
     os.close(line)
-    same("net: elsewhere", told.split()[2:], b"-P net:127.0.0.1:PORT -c stk500v2 -p m328p net: -U net:".split())
+    same("net: elsewhere", told.split()[2:], b"-P net:127.0.0.1:PORT -c stk500v2 -p m328p -U net:".split())
     for word in ["--wait=\u0663", "-b\u0661\u0662\u0660\u0660"]:
         status, _, told, own = run([*FLASH, "-P", device, word])
         see(f"{word}: other digits", (status, told) == (1, b"") and ": not a " in own[0], (told, own))
@@ -680,6 +768,7 @@ def hints():
     stopped = "the programmer stopped replying: check the cable and the power"
     another = "the chip is m328p or atmega328p (1E 95 0F): use -p m328p"
     bit = "may not have such a bit: read the value with -U lfuse:r:-:h"
+    locked, nobit = "run the same command again; if it fails again, a lock protects it", "only bits differ that the part"
     fuse, found = ["-p", "m328p", "-U", "lfuse:w:0xE2:m"], "expected, 00 found"
     reading = ["-p", "m328p", "-U"]
     stays = "everything reported above was done. The chip stays in programming mode: power-cycle the board"
@@ -693,11 +782,13 @@ def hints():
         ("command 12", FLASH, f"can't erase the chip, which is unchanged: use -D", "command 12", instead(0x12, 0xC0)),
         ("command 13", FLASH, f"the programmer refused the command: {partly}", "command 13", instead(0x13, 0xC0)),
         ("command 17", fuse, "a bootloader can't write fuses", "command 17 refused", instead(0x17, 0xC0)),
-        ("a bit", fuse, bit, "expected, F2 found", instead(0x18, 0, 0xF2, 0)),
+        ("a bit", fuse, locked, "expected, F2 found", instead(0x18, 0, 0xF2, 0)),
+        ("no bit", [*fuse[:3], "efuse:w:0xFD:m"], nobit, "expected, 05 found", instead(0x18, 0, 0x05, 0)),
+        ("an unknown part's", ["--parts", "mine.toml", *fuse], bit, "expected, F2 found", instead(0x18, 0, 0xF2, 0)),
         ("flash", FLASH, "run the same command again; if it always", found, instead(0x14, 0, *bytes(256), 0)),
         ("flash with -D", [*FLASH, "-D"], "a bootloader erases pages from 0 on", found, instead(0x14, 0, *bytes(256), 0)),
         ("a bad answer", FLASH, "something else sends data", "command 12: bad answer", instead(0x12, 0, 0)),
-        ("a folder", [*reading, "lfuse:r:no/where:h"], f"check the folder and free space; {stays}", "no/where", {}),
+        ("a full disk", [*reading, "lfuse:r:/dev/full:h"], f"check the folder and free space; {stays}", "/dev/full", {}),
         ("leaving", FLASH, "everything above was done; only the last", "flash: 228 bytes verified", silent(0x11)),
         ("silent later", FLASH, f"{stopped}; {partly}", "error: no answer", silent(0x13)),
         ("silent early", FLASH, f"{stopped}; {whole}", "error: no answer", silent(0x1B)),
@@ -755,6 +846,10 @@ FOLLOWED = [
     (r"is -p right\?", lambda words, case, _: other_part(words, case["part"])),
     (r"use -p (\w+)", lambda words, _, found: other_part(words, found[1])),
     (r": give (\S+:[is]);", lambda words, _, found: renamed(words, found[1])),
+    (r"the operations are w \(write\)", lambda words, *_: renamed(words, "flash:w:blink.hex:i")),
+    (r"the formats are i, s, r, a and m to write", lambda words, *_: renamed(words, "flash:w:blink.hex:i")),
+    (r"a value is written as 0xE2", lambda words, *_: [it.replace(":E2:", ":0xE2:") for it in words]),
+    (r"has no option before it: a file is given as (-U) (\S+)$", lambda words, _, found: [*words[:-1], found[1], found[2]]),
     (r"a value needs :m after it, as lfuse:w:0xE2:m", lambda words, *_: renamed(words, "lfuse:w:0xE2:m")),
     (r": use -D$", lambda words, *_: [*words, "-D"]),
     (r"leave out -e, and use -D$", lambda words, *_: [*without(words, "-e"), "-D"]),
@@ -830,6 +925,11 @@ def hints_that_are_followed():
     same("big.hex", found[0][:45], "flash of m328p has 32,768 bytes; is -p right?")
     walk("another part", other_part(flash("blink.hex"), "t85"), ends)
     walk("a value", ["-p", "m328p", "-U", "lfuse:w:0xE2"], lambda chip: chip[:-4] + b"\xe2" + chip[-3:])
+    fused = lambda chip: chip[:-4] + b"\xe2" + chip[-3:]
+    walk("no number", ["-p", "m328p", "-U", "lfuse:w:E2:m"], fused)
+    for text in ["flash:write:blink.hex:i", "flash:w:blink.hex:I"]:
+        walk(text, ["-p", "m328p", "-U", text], ends)
+    walk("a file alone", ["-p", "m328p", "blink.hex"], ends)
     locked = firmware[:-1] + b"\xfc"
     walk("a lock", ["-p", "m328p", "-U", "lock:w:0xFF:m"], lambda chip: b"\xff" * len(chip), chip=locked)
     for memory in ["flash:v:blink.hex", "eeprom:v:0x01:m", "lfuse:v:0xE2:m", "lock:v:0x00:m"]:
@@ -1163,6 +1263,9 @@ CASES = named(
     devices,
     what_is_missing,
     ports_of_avrstk,
+    lines_of_a_board,
+    bits_that_do_not_exist,
+    lists,
     programs,
     hints,
     hints_that_are_followed,
