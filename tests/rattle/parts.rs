@@ -1,5 +1,5 @@
 //! What no contract covers: texts, and that calls succeed.
-use avr_part::{Chip, Field, Mem, Part, PartFault, Parts, parse_parts};
+use avr_part::{Chip, Field, Mem, Part, PartFault, Parts, parse_part_file};
 use std::alloc::Global;
 use std::process::Abort;
 use std::test::Fail;
@@ -20,7 +20,7 @@ fn obeys(rt: &impl Abort, chip: &mut Chip, rows: &[([u8; 4], [u8; 4])]) {
 
 /// Returns the fault of a part file.
 fn fault_of(alloc: Global, text: &[u8]) -> Option<PartFault> {
-    let refused = parse_parts(alloc, text).err()?;
+    let refused = parse_part_file(alloc, text).err()?;
     Some(refused.fault())
 }
 
@@ -30,7 +30,7 @@ fn a_part_file_is_read(rt: HostRuntime) -> Result<(), Fail> {
         "title = \"mine\"\n[parts.x1]\nsignature = \"1E950f\"\nflash_size = 32768\nflash_page = 128\n\
         eeprom_size = 1024\neeprom_page = 4\neesave_bit = 3\n\
         [parts.t85]\nsignature = \"000001\"\nflash_size = 2\nflash_page = 2\neeprom_size = 1\neeprom_page = 1\neesave_bit = 0\n";
-    let parts = parse_parts(rt.alloc(), text.as_bytes())?;
+    let parts = parse_part_file(rt.alloc(), text.as_bytes())?;
     let part = parts.find("x1")?;
     assert_eq!(rt; part.signature(), [0x1E, 0x95, 0x0F]);
     assert_eq!(rt; part.size_of(Mem::Flash), 32_768);
@@ -162,7 +162,7 @@ fn damaged_part_files(rt: HostRuntime) -> Result<(), Fail> {
 
 /// Returns the line of a part file's fault.
 fn line_of(alloc: Global, text: &[u8]) -> Option<usize> {
-    let refused = parse_parts(alloc, text).err()?;
+    let refused = parse_part_file(alloc, text).err()?;
     refused.line()
 }
 
@@ -238,8 +238,24 @@ fn the_longest_id_has_31_bytes(rt: HostRuntime) -> Result<(), Fail> {
         "[parts.{id}]\nsignature = \"1E950F\"\nflash_size = 2\nflash_page = 2\neeprom_size = 1\n\
         eeprom_page = 1\neesave_bit = 0\n"
     )?;
-    let parts = parse_parts(rt.alloc(), text.as_str().as_bytes())?;
+    let parts = parse_part_file(rt.alloc(), text.as_str().as_bytes())?;
     assert_eq!(rt; parts.find(id)?.id(), id);
+    Ok(())
+}
+
+/// The lock FE has bit 0 clear: EEPROM is neither written nor read until a chip erase.
+#[test]
+fn a_locked_chip_keeps_its_eeprom(rt: HostRuntime) -> Result<(), Fail> {
+    let mut chip = Chip::fresh(rt.alloc(), built_in(&rt, "m328p"))?;
+    let rows = [
+        ([0xAC, 0xE0, 0, 0xFE], [0, 0xAC, 0xE0, 0]),
+        ([0xC0, 0, 0, 0x11], [0, 0xC0, 0, 0]),
+        ([0xA0, 0, 0, 0], [0, 0xA0, 0, 0xFF]),
+        ([0xAC, 0x80, 0, 0], [0, 0xAC, 0x80, 0]),
+        ([0xC0, 0, 0, 0x11], [0, 0xC0, 0, 0]),
+        ([0xA0, 0, 0, 0], [0, 0xA0, 0, 0x11]),
+    ];
+    obeys(&rt, &mut chip, &rows);
     Ok(())
 }
 
@@ -344,17 +360,17 @@ fn a_short_chip_file_is_no_chip(rt: HostRuntime) {
 
 #[test]
 fn faults_are_told_apart(rt: HostRuntime) -> Result<(), Fail> {
-    let refused = parse_parts(rt.alloc(), b"[parts.x1]");
+    let refused = parse_part_file(rt.alloc(), b"[parts.x1]");
     assert!(rt; refused.is_err());
     if let Err(fault) = &refused {
         assert_eq!(rt; fault.part(), Some("x1"));
         assert_eq!(rt; fault.fault(), PartFault::Missing(Field::Signature));
     }
-    if let Err(fault) = parse_parts(rt.alloc(), b"parts = 3") {
+    if let Err(fault) = parse_part_file(rt.alloc(), b"parts = 3") {
         assert_eq!(rt; fault.part(), None);
         assert_eq!(rt; fault.fault(), PartFault::BadValue(Field::Parts));
     }
-    if let Err(fault) = parse_parts(rt.alloc(), b"a = 1\na = 2\n") {
+    if let Err(fault) = parse_part_file(rt.alloc(), b"a = 1\na = 2\n") {
         assert_eq!(rt; fault.line(), Some(2));
         assert_eq!(rt; fault.fault(), PartFault::NotToml);
     }

@@ -138,6 +138,10 @@ abbrev pub unplaced : {T : Type 0} → Result T PlacedFault → Result T NamedFa
 unplaced (Ok t) = Ok t
 unplaced (Err f) = Err f.why
 
+abbrev pub unnamed : {T : Type 0} → Result T NamedFault → Result T PartFault
+unnamed (Ok t) = Ok t
+unnamed (Err f) = Err f.fault
+
 abbrev pub utf8_text : Bytes → Option Bytes
 utf8_text bytes = if is_utf8 bytes then Some bytes else None
 

@@ -60,7 +60,7 @@ impl NamedFault {
 /// Why a part file is refused, with the id of the part at fault and the line at which the text stops being TOML.
 ///
 /// ```text
-/// let refused = parse_parts(alloc, b"[parts.x1]");
+/// let refused = parse_part_file(alloc, b"[parts.x1]");
 /// if let Err(fault) = &refused {
 ///     assert_eq!(rt; fault.part(), Some("x1"));
 ///     assert_eq!(rt; fault.fault(), PartFault::Missing(Field::Signature));
@@ -100,7 +100,7 @@ impl PartFileFault {
     /// the part's key is no id, or allocation failed.
     ///
     /// ```text
-    /// if let Err(fault) = parse_parts(alloc, b"parts = 3") {
+    /// if let Err(fault) = parse_part_file(alloc, b"parts = 3") {
     ///     assert_eq!(rt; fault.part(), None);
     /// }
     /// ```
@@ -113,7 +113,7 @@ impl PartFileFault {
     /// Returns the fault.
     ///
     /// ```text
-    /// if let Err(fault) = parse_parts(alloc, b"parts = 3") {
+    /// if let Err(fault) = parse_part_file(alloc, b"parts = 3") {
     ///     assert_eq!(rt; fault.fault(), PartFault::BadValue(Field::Parts));
     /// }
     /// ```
@@ -130,7 +130,7 @@ impl PartFileFault {
     /// line.
     ///
     /// ```text
-    /// if let Err(fault) = parse_parts(alloc, b"a = 1\na = 2\n") {
+    /// if let Err(fault) = parse_part_file(alloc, b"a = 1\na = 2\n") {
     ///     assert_eq!(rt; fault.line(), Some(2));
     /// }
     /// ```

@@ -35,5 +35,5 @@ pub use fault::{Field, PartFault};
 pub use file_fault::PartFileFault;
 pub use instruction::{Fuse, Half, Instruction};
 pub use part::{Mem, Part};
-pub use part_file::parse_parts;
+pub use part_file::{parse_part_file, parse_parts};
 pub use parts::{PartIter, Parts};

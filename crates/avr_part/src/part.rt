@@ -76,9 +76,9 @@ impl Mem {
     /// Returns whether serial programming can write the memory: all but the signature and the calibration.
     ///
     /// ```text
-    /// assert!(rt; Mem::Lock.is_writable() && !Mem::Signature.is_writable());
+    /// assert!(rt; Mem::Lock.writable() && !Mem::Signature.writable());
     /// ```
-    pub fn is_writable(self) -> bool
+    pub fn writable(self) -> bool
         ensures { result ≡ is_writable self }
     {
         !matches!(self, Mem::Signature | Mem::Calibration)

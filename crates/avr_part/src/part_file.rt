@@ -4,7 +4,7 @@ ghost use Rattle.std.specs.Str.{is_utf8};
 ghost use Rattle.std.specs.Str.Lossy.{utf8_valid_len};
 ghost use Rattle.toml.specs.View.{table_view};
 ghost use Rattle.toml.specs.Parse.{parse_document};
-ghost use Rattle.avr_part.specs.PartFile.{ReadsOrMemory, listed_items, parts_in, document_parts, parts_of, utf8_text, ReadsDocument, IsPlaced, line_at, not_toml_at, unplaced};
+ghost use Rattle.avr_part.specs.PartFile.{ReadsOrMemory, listed_items, parts_in, document_parts, parts_of, GivesChipOrMemory, unnamed, utf8_text, ReadsDocument, IsPlaced, line_at, not_toml_at, unplaced};
 
 use crate::fault::{Field, PartFault};
 use crate::file_fault::{NamedFault, PartFileFault};
@@ -86,10 +86,10 @@ fn utf8_text(bytes: &[u8]) -> Result<&str, PartFileFault>
 /// ```text
 /// let text = "[parts.x1]\nsignature = \"1E950F\"\nflash_size = 32768\nflash_page = 128\n\
 ///     eeprom_size = 1024\neeprom_page = 4\neesave_bit = 3\n";
-/// let parts = parse_parts(alloc, text.as_bytes())?;
+/// let parts = parse_part_file(alloc, text.as_bytes())?;
 /// assert_eq!(rt; parts.find("x1")?.signature(), [0x1E, 0x95, 0x0F]);
 /// ```
-pub fn parse_parts(alloc: Global, text: &[u8]) -> Result<Parts, PartFileFault>
+pub fn parse_part_file(alloc: Global, text: &[u8]) -> Result<Parts, PartFileFault>
     ensures reads { ReadsOrMemory (parts_of text.now) (unplaced result) }
     ensures line { IfErr result (IsPlaced text.now) }
     ensures no_text { is_utf8 text.now ≡ false → result ≡ Err
@@ -99,4 +99,22 @@ pub fn parse_parts(alloc: Global, text: &[u8]) -> Result<Parts, PartFileFault>
     let document = read_document(alloc, text)?;
     let parts = judge_document(alloc, &document).map_err(PartFileFault::lineless)?;
     Ok(Parts::of_file(parts))
+}
+
+/// Reads a part file, as [`parse_part_file`] does.
+///
+/// # Errors
+///
+/// The fault of [`parse_part_file`], without part and line.
+///
+/// ```text
+/// assert_eq!(rt; parse_parts(alloc, b"").err(), Some(PartFault::Missing(Field::Parts)));
+/// ```
+pub fn parse_parts(alloc: Global, text: &[u8]) -> Result<Parts, PartFault>
+    ensures { GivesChipOrMemory (unnamed (parts_of text.now)) result }
+{
+    match parse_part_file(alloc, text) {
+        Ok(parts) => Ok(parts),
+        Err(refused) => Err(refused.fault()),
+    }
 }

@@ -4,6 +4,12 @@ use Rattle.avr_plan.specs.declared.intake.BadFile.{BadFile}
 use Rattle.avr_plan.specs.declared.intake.BadFile.TheVariants.{Record, Raw, Elf, TooLong}
 use Rattle.avr_plan.specs.declared.image_file.ReadFault.{ReadFault}
 use Rattle.avr_plan.specs.declared.image_file.ReadFault.TheVariants.{File, Image}
+use Rattle.avr_plan.specs.declared.plan_fault.PartsFault.{PartsFault}
+use Rattle.avr_plan.specs.declared.plan_fault.PartsFault.TheVariants as of_parts
+use Rattle.avr_plan.specs.declared.plan_fault.TaskFault.{TaskFault}
+use Rattle.avr_plan.specs.declared.plan_fault.TaskFault.TheVariants as of_task
+use Rattle.avr_plan.specs.declared.plan_fault.PlanFault.{PlanFault}
+use Rattle.avr_plan.specs.declared.plan_fault.PlanFault.TheVariants as of_plan
 
 abbrev pub bad_file_number : BadFile → ℕ
 bad_file_number (Record fault) = 1
@@ -14,3 +20,20 @@ bad_file_number TooLong = 4
 abbrev pub read_fault_number : ReadFault → ℕ
 read_fault_number (File fault) = 1
 read_fault_number (Image bad) = 2
+
+abbrev pub parts_fault_number : PartsFault → ℕ
+parts_fault_number (of_parts.File fault) = 1
+parts_fault_number of_parts.TooLong = 2
+parts_fault_number (of_parts.Parts fault) = 3
+
+abbrev pub task_fault_number : TaskFault → ℕ
+task_fault_number of_task.ReadOnly = 1
+task_fault_number (of_task.Values fault) = 2
+task_fault_number (of_task.File fault) = 3
+task_fault_number of_task.Memory = 4
+task_fault_number of_task.Unwarned = 5
+
+abbrev pub plan_fault_number : PlanFault → ℕ
+plan_fault_number (of_plan.PartFile fault) = 1
+plan_fault_number of_plan.NoPart = 2
+plan_fault_number (of_plan.Update index fault) = 3

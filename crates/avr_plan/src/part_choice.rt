@@ -9,7 +9,7 @@ use crate::messages::{no_part_message, part_file_message};
 use crate::plan_fault::PartsFault;
 use avr_cli::Text;
 use avr_desk::{Desk, FileFault, file_message, read_file, refuse, too_long_message};
-use avr_part::{Part, PartFault, Parts, parse_parts};
+use avr_part::{Part, PartFault, Parts, parse_part_file};
 use std::alloc::Global;
 
 const LARGEST_PART_FILE: usize = 65_536;
@@ -32,7 +32,7 @@ fn file_parts<D: Desk>(alloc: Global, desk: &mut D, file: &str) -> Result<Parts,
         refuse(desk, &too_long_message(file, LARGEST_PART_FILE as u32));
         return Err(PartsFault::TooLong);
     }
-    match parse_parts(alloc, contents.bytes.as_slice()) {
+    match parse_part_file(alloc, contents.bytes.as_slice()) {
         Ok(parts) => Ok(parts),
         Err(refused) => {
             let fault = refused.fault();

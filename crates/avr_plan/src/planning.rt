@@ -36,7 +36,7 @@ fn write_task<D: Desk>(
     ensures room { OnOk result (vec_len tasks.new < vec_capacity tasks.new) }
     ensures stays { Stays D.comes_of desk.old desk.new }
 {
-    if !update.memory.is_writable() {
+    if !update.memory.writable() {
         refuse(desk, &read_only_message(update.memory));
         return Err(TaskFault::ReadOnly);
     }

@@ -241,7 +241,7 @@ impl Host {
         ensures comes { Stays L.comes_of link.old link.new }
     {
         self.check()?;
-        if !mem.is_writable() {
+        if !mem.writable() {
             return Err(HostFault::ReadOnly(mem));
         }
         let written = write_memory(&mut self.conversation, link, &self.part, mem, image);

@@ -25,22 +25,22 @@ returns-then-not-contents-clause-goes g c =
     c.in-Ok.ensures.counts.1 refl
     (rw c.too_long_message.ensures at c.refuse-then-not-contents.ensures.told)
 
-pub returns-in-Ok-parse_parts-clause-goes : goal.returns-in-Ok-parse_parts-clause-goes
-returns-in-Ok-parse_parts-clause-goes g c =
-    let gives = subst (λ (b : Bytes). ReadsOrMemory (parts_of b) (unplaced c.parse_parts.result)) c.as_slice.ensures
-    c.parse_parts.ensures.reads in
-    went_parts c.args.file.now c.in-Ok.contents.bytes c.in-Ok.contents.ended _ _ c.in-Ok-parse_parts.parts
+pub returns-in-Ok-parse_part_file-clause-goes : goal.returns-in-Ok-parse_part_file-clause-goes
+returns-in-Ok-parse_part_file-clause-goes g c =
+    let gives = subst (λ (b : Bytes). ReadsOrMemory (parts_of b) (unplaced c.parse_part_file.result)) c.as_slice.ensures
+    c.parse_part_file.ensures.reads in
+    went_parts c.args.file.now c.in-Ok.contents.bytes c.in-Ok.contents.ended _ _ c.in-Ok-parse_part_file.parts
     c.in-Ok.ensures.kept
     c.in-Ok.ensures.whole c.if-not-contents.false c.in-Ok.ensures.counts.1
-    (rw c.in-Ok-parse_parts.is at gives)
+    (rw c.in-Ok-parse_part_file.is at gives)
 
 pub returns-clause-goes : goal.returns-clause-goes
 returns-clause-goes g c =
-    let gives = subst (λ (b : Bytes). ReadsOrMemory (parts_of b) (unplaced c.parse_parts.result)) c.as_slice.ensures
-    c.parse_parts.ensures.reads in
+    let gives = subst (λ (b : Bytes). ReadsOrMemory (parts_of b) (unplaced c.parse_part_file.result)) c.as_slice.ensures
+    c.parse_part_file.ensures.reads in
     goes_bad_parts c.args.file.now c.in-Ok.contents.bytes c.in-Ok.contents.ended _ _ _ _
-    c.in-Err-parse_parts.refused.why c.in-Ok.ensures.kept
+    c.in-Err-parse_part_file.refused.why c.in-Ok.ensures.kept
     c.in-Ok.ensures.whole
-    c.if-not-contents.false c.in-Ok.ensures.counts.1 (rw c.in-Err-parse_parts.is at gives)
+    c.if-not-contents.false c.in-Ok.ensures.counts.1 (rw c.in-Err-parse_part_file.is at gives)
     refl
-    (rw (c.part_file_message.ensures, c.fault-fault.ensures) at c.refuse-in-Err-parse_parts.ensures.told)
+    (rw (c.part_file_message.ensures, c.fault-fault.ensures) at c.refuse-in-Err-parse_part_file.ensures.told)

@@ -8,16 +8,16 @@ use Rattle.avr_desk.specs.Stage.{verdict_stage}
 use Rattle.avr_plan.specs.declared.planned.Task.TheVariants.{Write}
 use Rattle.avr_plan.proofs.planning.write_task.Goals as goal
 
-pub returns-then-not-is_writable-clause-goes : goal.returns-then-not-is_writable-clause-goes
-returns-then-not-is_writable-clause-goes g c =
-    goes_read_only c.args.switches c.args.part.now c.args.update.now _ _ _ c.if-not-is_writable.ensures
+pub returns-then-not-writable-clause-goes : goal.returns-then-not-writable-clause-goes
+returns-then-not-writable-clause-goes g c =
+    goes_read_only c.args.switches c.args.part.now c.args.update.now _ _ _ c.if-not-writable.ensures
     refl
     (rw c.read_only_message.ensures at c.refuse.ensures.told)
 
 pub returns-in-Err-clause-goes : goal.returns-in-Err-clause-goes
 returns-in-Err-clause-goes g c =
     let u = c.args.update.now in
-    goes_writable c.args.switches c.args.part.now u _ _ (Err 1) c.if-not-is_writable.ensures
+    goes_writable c.args.switches c.args.part.now u _ _ (Err 1) c.if-not-writable.ensures
     (goes_no_further (AtStart (has_values u.format)) (update_image c.args.switches c.args.part.now u)
     (λ image. verdict_stage (Ok (Write u.memory image))) _ _ 1
     c.in-Err.ensures.goes)
@@ -25,5 +25,5 @@ returns-in-Err-clause-goes g c =
 pub returns-in-Ok-clause-goes : goal.returns-in-Ok-clause-goes
 returns-in-Ok-clause-goes g c =
     let u = c.args.update.now in
-    goes_writable c.args.switches c.args.part.now u _ _ (Ok (Write u.memory c.in-Ok.image)) c.if-not-is_writable.ensures
+    goes_writable c.args.switches c.args.part.now u _ _ (Ok (Write u.memory c.in-Ok.image)) c.if-not-writable.ensures
     (went_into (update_image c.args.switches c.args.part.now u) (Write u.memory) _ _ c.in-Ok.image c.in-Ok.ensures.goes)
