@@ -31,7 +31,7 @@ from pathlib import Path
 from cases import PATIENCE, leave_out, named, run_cases, same, see
 from program import PROGRAM, TOP, Room, Server, forks, free_port, has_avrdude, lines
 
-SCRIPT = TOP / "avrstk-serial"
+SCRIPT, SHARED = TOP / "avrstk-serial", TOP / "avrstk_common.py"
 PYTHON = shutil.which("python3", path="/usr/bin:/bin") or sys.executable
 SIGNATURE = "device signature = 1E 95 0F"
 FIRMWARE = [SIGNATURE, "chip erased", "flash: 228 bytes written", "flash: 228 bytes verified", "done"]
@@ -148,8 +148,11 @@ def speed(line):
 def run_as_anyone(words, program):
     """Runs the script as nobody if this is root, who may do everything. (PYTHON must not be one that only root can run.)"""
     how = {"user": 65534, "group": 65534, "extra_groups": []} if os.geteuid() == 0 else {}
-    how |= {"input": SCRIPT.read_bytes(), "capture_output": True, "cwd": "/", "timeout": PATIENCE}
-    return subprocess.run([PYTHON, "-", *words], env=os.environ | {"AVRSTK": str(program)}, **how)
+    with tempfile.TemporaryDirectory(dir="/tmp") as folder:
+        os.chmod(folder, 0o755)
+        copied = [shutil.copy(it, folder) for it in [SCRIPT, SHARED]]
+        how |= {"stdin": subprocess.DEVNULL, "capture_output": True, "cwd": "/", "timeout": PATIENCE}
+        return subprocess.run([PYTHON, copied[0], *words], env=os.environ | {"AVRSTK": str(program)}, **how)
 
 
 def terminal():
@@ -426,11 +429,17 @@ def what_is_missing():
     status, _, _, own = run(["-p", "m328p", "-P", device], env={"AVRSTK": "/nowhere/avrstk"})
     see("no avrstk", status == 1 and own[0].startswith("/nowhere/avrstk is not there, or can't be run"), own)
     alone = room.folder / "alone"
-    alone.mkdir()
-    shutil.copy(SCRIPT, alone)
+    (alone / "bin").mkdir(parents=True)
+    (alone / "lib/avrstk").mkdir(parents=True)
+    shutil.copy(SCRIPT, alone / "bin")
+    # (a link to the script finds the module too)
+    (alone / "avrstk-serial").symlink_to("bin/avrstk-serial")
     words = [sys.executable, str(alone / "avrstk-serial"), "-p", "atmega328p", "-P", device]
-    ran = subprocess.run(words, capture_output=True, text=True, env=os.environ | {"AVRSTK": str(PROGRAM)})
-    see("no part file", "atmega328p: the part file classic.toml is not there" in ran.stderr, ran.stderr)
+    for wanted in ["avrstk_common.py is not there", "atmega328p: the part file classic.toml is not there"]:
+        ran = subprocess.run(words, capture_output=True, text=True, env=os.environ | {"AVRSTK": str(PROGRAM)})
+        see(wanted, ran.returncode == 1 and ran.stderr.startswith(f"avrstk-serial: {wanted}"), ran.stderr)
+        shutil.copy(SHARED, alone / "lib/avrstk")
+    same("no file is written", sorted(it.name for it in alone.rglob("*.pyc")), [])
     shutil.rmtree(alone)
     os.close(slave)
     os.close(line)
@@ -474,6 +483,7 @@ def programs():
     for it in [proved, unproved]:
         it.parent.mkdir(parents=True)
     shutil.copy(SCRIPT, folder)
+    shutil.copy(SHARED, folder)
     environment = {name: value for name, value in os.environ.items() if name != "AVRSTK"}
 
     def ran(*words):

@@ -1,0 +1,102 @@
+"""What avrstk-serial and avrstk-serve share. Both scripts load this module before they do anything else."""
+
+import _signal
+import os
+import sys
+
+# Until a run handles Ctrl-C, it ends the script at once and silently: loading `signal` takes a while
+if _signal.getsignal(_signal.SIGINT) is _signal.default_int_handler:
+    _signal.signal(_signal.SIGINT, _signal.SIG_DFL)
+# (some daemons leave this signal ignored; then the system keeps no status of a program that has ended)
+_signal.signal(_signal.SIGCHLD, _signal.SIG_DFL)
+
+# the folder and the name of the script that loads this module
+HERE, NAME = os.path.split(os.path.realpath(sys.argv[0]))
+
+if sys.version_info < (3, 8):
+    sys.exit("%s: Python 3.8 or later is needed, this is %d.%d" % (NAME, *sys.version_info[:2]))
+
+import re
+import shutil
+
+BUILT_IN = {"m328p": "1E950F", "t85": "1E930B", "m2560": "1E9801"}
+
+
+class Fault(Exception):
+    """Ends the script with an error line."""
+
+
+def readable(text):
+    """Returns a text that is safe to print: control bytes, and bytes that are not UTF-8, become \\xNN."""
+    shown = lambda it: "".join(f"\\x{byte:02x}" for byte in os.fsencode(it))
+    return "".join(it if it.isprintable() else shown(it) for it in text)
+
+
+def message(text):
+    """Returns a line for standard error, as bytes."""
+    return f"{NAME}: {readable(text)}\n".encode()
+
+
+def say(text):
+    """Prints a line on standard error."""
+    try:
+        os.write(2, message(text))
+    except OSError:
+        pass
+
+
+def show(text):
+    """Prints on standard output."""
+    rest = f"{text}\n".encode()
+    try:
+        while rest:
+            rest = rest[os.write(1, rest) :]
+    except OSError as fault:
+        raise Fault(f"standard output cannot be written: {os.strerror(fault.errno)}")
+
+
+def take_closed_streams():
+    """Opens standard streams that are closed. Otherwise a device or a connection gets such a stream's number, and
+    messages go there. Using these streams still fails, in avrstk too."""
+    for stream, way in [(0, os.O_WRONLY), (1, os.O_RDONLY), (2, os.O_RDONLY)]:
+        try:
+            os.fstat(stream)
+        except OSError:
+            os.set_inheritable(os.open("/dev/null", way), True)
+
+
+def data_file(name):
+    """Returns the path of a file that comes with avrstk: in the repository, or where install.sh puts it."""
+    for file in [os.path.join(HERE, "parts", name), os.path.join(HERE, "../share/avrstk", name)]:
+        if os.path.isfile(file):
+            return os.path.normpath(file)
+    return None
+
+
+def parts():
+    """Returns the parts of avrstk's part file, each with its fields."""
+    file = data_file("classic.toml")
+    if not file:
+        return {}
+    with open(file, encoding="ascii") as rows:
+        found = re.findall(r"^([\w-]+) = \{ (.*) \}$", rows.read(), re.M)
+    return {name: dict(re.findall(r'(\w+) = "?(\w+)', fields)) for name, fields in found}
+
+
+def part_words(part):
+    """Returns avrstk's options for a part. One that isn't built in is looked up in the part file that comes with it."""
+    known = parts()
+    name = next((it for it in (part, part.lower()) if it in BUILT_IN or it in known), part)
+    if name in BUILT_IN:
+        return ["-p", name]
+    if not known:
+        raise Fault(f"{part}: the part file classic.toml is not there (install.sh puts it under share/avrstk)")
+    return ["--parts", data_file("classic.toml"), "-p", name]
+
+
+def program(default=None):
+    """Returns the program that AVRSTK names, or the default, which is the one beside the script."""
+    found = os.environ.get("AVRSTK") or default or os.path.join(HERE, "avrstk")
+    if not shutil.which(found):
+        raise Fault(f"{found} is not there, or can't be run: avrstk is needed beside this script, or named by AVRSTK")
+    return found
