@@ -1,13 +1,14 @@
 #!/usr/bin/env bash
-# Installs the built program, avrstk-serial, avrstk-serve, the part file, the man pages and the bash completions, or removes
+# Installs the built program, avrstk-serial, avrstk-serve, the part file, the man pages and the completions, or removes
 # them again. The program is the proved one, or else the one without proofs, and then a line reports that. With --with-c
 # the library for C is installed too: archive, shared library, header, pkg-config's file.
 #
 #     ./install.sh [--with-c] [PREFIX]      PREFIX is /usr/local by default
-#     ./install.sh --remove [PREFIX]        removes what it installed there, and the folders that it made
+#     ./install.sh --remove [PREFIX]        removes what any version of this script installed there, and the folders that
+#                                           it made, by the manifest share/avrstk/manifest
 #
 # The environment variable AVRSTK names another program to install. With DESTDIR, for packages, all files go under
-# $DESTDIR/PREFIX, without the note of folders that --remove needs.
+# $DESTDIR/PREFIX, without the manifest.
 set -euo pipefail
 
 top=$(dirname "$(readlink -f "$0")")
@@ -38,39 +39,36 @@ if [ -n "$destination" ]; then
 else
     prefix=$(realpath -m -- "$prefix")
 fi
-# (the note of folders has one folder per line)
+# (the manifest has one name per line)
 [[ $given$prefix != *$'\n'* ]] || fail "the folder's name has a newline"
 
-program=$prefix/bin/avrstk
-serial=$prefix/bin/avrstk-serial
-serve=$prefix/bin/avrstk-serve
-parts=$prefix/share/avrstk/classic.toml
-completions=$prefix/share/bash-completion/completions/avrstk
-# bash looks for a command's completions under its name
-of_serial=$prefix/share/bash-completion/completions/avrstk-serial
-of_serve=$prefix/share/bash-completion/completions/avrstk-serve
-tool=("$program" "$serial" "$serve" "$parts" "$completions" "$of_serial" "$of_serve")
-for page in "$top"/docs/*.1; do
-    tool+=("$prefix/share/man/man1/${page##*/}")
-done
-archive=$prefix/lib/libavr_records.a
 # (examples/c/build.sh explains the number)
 version=$(cat "$top/VERSION")
 number=${version%%.*}
 [ "$number" != 0 ] || number=${version%.*}
 shared=libavr_records.so.$number
-link=$prefix/lib/libavr_records.so
-config=$prefix/lib/pkgconfig/avr_records.pc
-header=$prefix/include/avr_records.h
-library=("$archive" "$header" "$config" "$link" "$prefix/lib/$shared")
 
-# the note of folders that this script made: --remove removes only these
-folders=$prefix/share/avrstk/folders
+# the files to install: mode, source, place under the prefix
+files=() places=()
+add() {
+    files+=("$1" "$2" "$3")
+    places+=("$3")
+}
 
-# Fails if a file can't be installed, before anything is written.
+# the links to make: what each leads to, place
+links=()
+add_link() {
+    links+=("$1" "$2")
+    places+=("$2")
+}
+
+# the names of installed files, and of the folders that were made for them (these end with a slash), under the prefix
+manifest=$prefix/share/avrstk/manifest
+
+# Fails if one of these names can't be installed, before anything is written.
 check() {
     local file folder
-    for file; do
+    for file in "$manifest" "${@/#/"$prefix/"}"; do
         [ ! -d "$file" ] || fail "$file is a folder"
         folder=$(dirname "$file")
         while [ ! -e "$folder" ] && [ ! -L "$folder" ]; do
@@ -79,67 +77,74 @@ check() {
         [ -d "$folder" ] || fail "$folder is not a folder"
         [ -w "$folder" ] || fail "$folder cannot be written"
     done
+    if [ -L "$manifest" ] || { [ -e "$manifest" ] && [ ! -f "$manifest" ]; }; then
+        fail "$manifest is no manifest of this script"
+    fi
 }
 
-# Installs a file, whole or not at all, with the folders that it needs.
-put() {
-    local folder made=()
-    folder=$(dirname "$3")
-    while [ ! -d "$folder" ]; do
-        made+=("$folder")
-        folder=$(dirname "$folder")
+# Prints the names of all folders of the files to install that aren't there yet.
+lacking() {
+    local folder
+    for folder in share/avrstk/manifest "${places[@]}"; do
+        while [ "$folder" != . ]; do
+            folder=$(dirname "$folder")
+            [ -d "$prefix/$folder" ] || echo "$folder/"
+        done
     done
-    install -d -m 755 "$(dirname "$3")"
-    if [ -z "$destination" ]; then
-        # (the note exists even if no folder was made: it marks the files as installed by this script)
-        printf '%s\n' "${made[@]}" | sed '/^$/d' >>"$folders"
-    fi
-    unfinished=$3.new
-    install -m "$1" "$2" "$unfinished"
+}
+
+# Adds the names to the manifest, before any of them is there.
+note() {
+    local names
+    names=$({ [ ! -e "$manifest" ] || cat "$manifest" && printf '%s\n' "${places[@]}" && lacking; } | LC_ALL=C sort -u)
+    install -d -m 755 "$(dirname "$manifest")"
+    place 644 /dev/stdin "$manifest" <<<"$names"
+}
+
+# Installs a file, whole or not at all. Its unfinished copy has a name that nobody else has.
+place() {
+    unfinished=$(mktemp "$(dirname "$3")/.avrstk.XXXXXX")
+    install -T -m "$1" "$2" "$unfinished"
     mv -fT "$unfinished" "$3"
     unfinished=
-    echo "installed $3"
 }
 
-put_link() {
-    ln -sfn "$1" "$2"
-    echo "installed $2"
-}
-
-# Prints the folders of all installed files up to the prefix, each after its subfolders.
-folders_of_all() {
-    local file folder
-    for file in "${tool[@]}" "${library[@]}"; do
-        folder=$file
-        while [ "$folder" != "$prefix" ] && [ "$folder" != / ]; do
-            folder=$(dirname "$folder")
-            echo "$folder"
-        done
-    done | LC_ALL=C sort -ru
-}
-
-# Removes the installed files, and those of their folders that the note names. Fails if a file is left.
-remove() {
-    local file folder noted status=0 found=()
-    for file in "${tool[@]}" "${library[@]}"; do
-        [ ! -e "$file" ] && [ ! -L "$file" ] || found+=("$file")
+# Installs all files, with their folders.
+put() {
+    local at
+    for ((at = 0; at < ${#files[@]}; at += 3)); do
+        set -- "${files[at]}" "${files[at + 1]}" "$prefix/${files[at + 2]}"
+        install -d -m 755 "$(dirname "$3")"
+        place "$@"
+        echo "installed $3"
     done
-    if [ ! -f "$folders" ]; then
-        [ ${#found[@]} -eq 0 ] || fail "${found[0]} is there, but not by this script: nothing is removed"
+    for ((at = 0; at < ${#links[@]}; at += 2)); do
+        ln -sfT "${links[at]}" "$prefix/${links[at + 1]}"
+        echo "installed $prefix/${links[at + 1]}"
+    done
+}
+
+# Removes the files that the manifest names, and those of its folders that are empty then. Fails if a file is left.
+remove() {
+    local name status=0 names=()
+    if [ ! -f "$manifest" ] || [ -L "$manifest" ]; then
+        [ ! -e "$prefix/bin/avrstk" ] || fail "$prefix/bin/avrstk is there, but not by this script: nothing is removed"
         return 0
     fi
-    for file in "${found[@]}"; do
-        { rm -f -- "$file" && echo "removed $file"; } || status=1
+    mapfile -t names <"$manifest"
+    for name in "${names[@]}"; do
+        # (only names under the prefix)
+        [[ $name == ./ || /${name%/}/ != */@(|.|..)/* ]] || fail "$manifest: '$name' is no installed file: nothing is removed"
     done
-    [ "$status" = 0 ] || return 1
-    noted=$(cat "$folders")
-    rm -f "$folders" || return 1
-    while IFS= read -r folder; do
-        if grep -qxF -- "$folder" <<<"$noted"; then
-            # (a folder with other files stays)
-            rmdir "$folder" 2>/dev/null || true
-        fi
-    done < <(folders_of_all)
+    for name in "${names[@]}"; do
+        [[ $name != */ && (-e $prefix/$name || -L $prefix/$name) ]] || continue
+        { rm -f -- "$prefix/$name" && echo "removed $prefix/$name"; } || status=1
+    done
+    [ "$status" = 0 ] && rm -f -- "$manifest" || return 1
+    # (subfolders first; a folder with other files stays)
+    printf '%s\n' "${names[@]}" | LC_ALL=C sort -r | while IFS= read -r name; do
+        [[ $name != */ ]] || rmdir -- "$prefix/${name#./}" 2>/dev/null || true
+    done
 }
 
 if [ -n "$remove" ]; then
@@ -148,10 +153,10 @@ if [ -n "$remove" ]; then
 fi
 
 # A started command runs in a process group of its own, which ends with this script.
-started='' unfinished=''
+started='' unfinished='' front=''
 finish() {
     [ -z "$started" ] || kill -- "-$started" 2>/dev/null || true
-    [ -z "$unfinished" ] || rm -f "$unfinished"
+    rm -f ${unfinished:+"$unfinished"} ${front:+"$front"}
 }
 trap finish EXIT
 trap 'exit 1' INT TERM HUP
@@ -166,35 +171,68 @@ start() {
     return "$status"
 }
 
+# Prints the path of the second program, which avrstk-serve runs: beside the first one, or in its crate's folder.
+session_of() {
+    local folder file
+    folder=$(dirname "$(readlink -f "$1")")
+    for file in "$folder/avrstk_session" "$folder/../lib/avrstk/avrstk_session" "$folder/../../avrstk_session/out/avrstk_session"; do
+        [ ! -f "$file" ] || { echo "$file" && break; }
+    done
+}
+
 # (if no program is built, ./avrstk reports it)
 built=${AVRSTK:-$("$top/avrstk" --which)}
 [ -f "$built" ] || fail "$built is not a file"
-check "$folders" "${tool[@]}"
-[ -z "$with_c" ] || check "${library[@]}"
-# (the part file first: the note of folders is beside it)
-put 644 "$top/parts/classic.toml" "$parts"
-put 755 "$built" "$program"
-put 755 "$top/avrstk-serial" "$serial"
-put 755 "$top/avrstk-serve" "$serve"
-for page in "$top"/docs/*.1; do
-    put 644 "$page" "$prefix/share/man/man1/${page##*/}"
+session=$(session_of "$built")
+if [ -z "$session" ] && [ -d "$top/crates/avrstk_session" ]; then
+    echo "avrstk_session, which avrstk-serve needs, is not beside $built"
+fi
+front=$(mktemp)
+{
+    cat "$top/tools/hint.sh"
+    # shellcheck disable=SC2016
+    printf '\nrun "$(dirname "$(readlink -f "$0")")/../lib/avrstk/avrstk" "$@"\n'
+} >"$front"
+add 755 "$built" lib/avrstk/avrstk
+[ -z "$session" ] || add 755 "$session" lib/avrstk/avrstk_session
+add 755 "$front" bin/avrstk
+add 755 "$top/avrstk-serial" bin/avrstk-serial
+add 755 "$top/avrstk-serve" bin/avrstk-serve
+add 644 "$top/avrstk_common.py" lib/avrstk/avrstk_common.py
+for file in "$top"/parts/*; do
+    add 644 "$file" "share/avrstk/${file##*/}"
 done
-put 644 "$top/completions/avrstk.bash" "$completions"
-put_link avrstk "$of_serial"
-put_link avrstk "$of_serve"
+for file in "$top"/docs/*.1; do
+    add 644 "$file" "share/man/man1/${file##*/}"
+done
+# (bash and fish look for a command's completions under its name)
+add 644 "$top/completions/avrstk.bash" share/bash-completion/completions/avrstk
+add 644 "$top/completions/_avrstk" share/zsh/site-functions/_avrstk
+add 644 "$top/completions/avrstk.fish" share/fish/vendor_completions.d/avrstk.fish
+for file in avrstk-serial avrstk-serve; do
+    add_link avrstk "share/bash-completion/completions/$file"
+    add_link avrstk.fish "share/fish/vendor_completions.d/$file.fish"
+done
+library=(lib/libavr_records.a include/avr_records.h lib/pkgconfig/avr_records.pc lib/libavr_records.so "lib/$shared")
+check "${places[@]}" ${with_c:+"${library[@]}"}
+[ -n "$destination" ] || note
+put
 command -v python3 >/dev/null || echo "avrstk-serial and avrstk-serve need python3, which is not on the path"
 [ -n "$with_c" ] || exit 0
 if ! command -v rt >/dev/null || ! command -v ar >/dev/null; then
-    fail "$archive and $header need rt of Rattle's kit, and ar"
+    fail "the library for C needs rt of Rattle's kit, and ar"
 fi
 echo "proves and builds the library for C, in several minutes"
 start "$top/examples/c/build.sh" "$top/out/c"
-put 644 "$top/out/c/libavr_records.a" "$archive"
-put 644 "$top/include/avr_records.h" "$header"
-put 644 "$top/out/c/avr_records.pc" "$config"
+files=() links=() places=()
+add 644 "$top/out/c/libavr_records.a" "${library[0]}"
+add 644 "$top/include/avr_records.h" "${library[1]}"
+add 644 "$top/out/c/avr_records.pc" "${library[2]}"
 if [ -e "$top/out/c/$shared" ]; then
-    put 644 "$top/out/c/$shared" "$prefix/lib/$shared"
-    put_link "$shared" "$link"
+    add_link "$shared" "${library[3]}"
+    add 644 "$top/out/c/$shared" "${library[4]}"
 else
     echo "no shared library was made, because there is no C compiler"
 fi
+[ -n "$destination" ] || note
+put

@@ -55,10 +55,21 @@ class Clone:
                 shutil.copy(TOP / name, self.top / name)
         self.was = self.status()
         (self.top / "out/unproved").mkdir(parents=True)
-        shutil.copyfile(PROGRAM, self.top / "out/unproved/avrstk")
-        (self.top / "out/unproved/avrstk").chmod(0o755)
+        for name in [it.name for it in (self.top / "crates").glob("avrstk*")]:
+            # (beside it, or each in its crate's folder)
+            there = [PROGRAM.parent / name, PROGRAM.parents[2] / name / "out" / name]
+            found = PROGRAM if name == "avrstk" else next(it for it in there if it.is_file())
+            shutil.copyfile(found, self.top / "out/unproved" / name)
+            (self.top / "out/unproved" / name).chmod(0o755)
+        self.stamp("unproved")
         (self.folder / "bin/rt").write_text(RT)
         (self.folder / "bin/rt").chmod(0o755)
+
+    def stamp(self, kind):
+        """Stamps the programs there as built from the clone's sources."""
+        environment = os.environ | {"PATH": f"{self.folder}/bin:{os.environ['PATH']}"}
+        sources = subprocess.run([self.top / "avrstk", "--sources"], capture_output=True, text=True, check=True).stdout
+        subprocess.run([self.top / "avrstk", "--stamp", kind, sources.strip()], check=True, env=environment)
 
     def git(self, *words, at=TOP):
         environment = os.environ | {"HOME": str(self.folder / "home")}

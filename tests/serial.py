@@ -610,6 +610,9 @@ def programs():
         it.parent.mkdir(parents=True)
     shutil.copy(SCRIPT, folder)
     shutil.copy(SHARED, folder)
+    (folder / "tools").mkdir()
+    shutil.copy(TOP / "tools/hint.sh", folder / "tools")
+    (folder / "crates.txt").touch()
     environment = {name: value for name, value in os.environ.items() if name != "AVRSTK"}
 
     def ran(*words):
@@ -620,6 +623,11 @@ def programs():
     def put(file):
         file.write_text(f"#!/bin/sh\necho {file} $1\n")
         file.chmod(0o755)
+
+    def stamp(file, kind):
+        put(file)
+        sources = subprocess.run([front, "--sources"], capture_output=True, text=True, check=True).stdout.strip()
+        subprocess.run([front, "--stamp", kind, sources], check=True)
 
     port = ["-p", "m328p", "-P", "emu:x"]
     needed = "avrstk is needed beside this script, or named by AVRSTK"
@@ -632,9 +640,9 @@ def programs():
     status, _, told = ran("-p", "m328p", "-P", device)
     see("not built", status == 1 and all(f"{front} {it} " in told for it in ["--unproved", "--build"]), told)
     os.close(line)
-    put(unproved)
+    stamp(unproved, "unproved")
     same("the unproved one", ran(*port), (0, f"{unproved} -P\n", "avrstk: unproved: nothing of this program was proved\n"))
-    put(proved)
+    stamp(proved, "proved")
     same("the proved one", ran(*port), (0, f"{proved} -P\n", ""))
     shutil.rmtree(folder)
 

@@ -1,0 +1,46 @@
+#!/bin/sh
+# Runs avrstk's program, and hints at avrstk-serial if that takes the options. ./avrstk of a clone reads this file, and
+# install.sh makes the installed avrstk from it.
+
+# Whether avrstk refuses one of these options but avrstk-serial takes it: a device, a part that isn't built in, another
+# programmer, an option of AVRDUDE that it ignores. Such a run opens no file and sends nothing, so it can run as a child.
+is_for_serial() {
+    local letter part=m328p port= programmer=stk500v2 has_parts= ignored= OPTIND=1
+    while getopts ":p:c:P:U:b:C:l:-:eDVnFAqvhsu" letter; do
+        case $letter in
+            # (as in clap, an equals sign may come before a value)
+            p) part=${OPTARG#=} ;;
+            c) programmer=${OPTARG#=} ;;
+            P) port=${OPTARG#=} ;;
+            C | l | s | u) ignored=yes ;;
+            [:?]) return 1 ;;
+            -)
+                case $OPTARG in
+                    serve* | help) return 1 ;;
+                    parts) has_parts=yes OPTIND=$((OPTIND + 1)) ;;
+                    parts=*) has_parts=yes ;;
+                    chip) OPTIND=$((OPTIND + 1)) ;;
+                esac
+                ;;
+        esac
+    done
+    [ -z "$ignored" ] && [ "$programmer" = stk500v2 ] || return 0
+    case $port in
+        /dev/* | tty* | COM[0-9]* | usb*) return 0 ;;
+    esac
+    [ -z "$has_parts" ] || return 1
+    case $part in
+        m328p | t85 | m2560) return 1 ;;
+    esac
+}
+
+# Runs the program $1 with the other arguments.
+run() {
+    local program=$1 status=0
+    shift
+    is_for_serial "$@" || exec "$program" "$@"
+    "$program" "$@" || status=$?
+    [ "$status" != 1 ] ||
+        echo "avrstk: hint: avrstk-serial, with the same options, takes serial devices, AVRDUDE's part names, -p '?' and -c wiring" >&2 || true
+    exit "$status"
+}
