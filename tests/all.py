@@ -32,6 +32,8 @@ from checks import Checks
 TOP = Path(__file__).resolve().parent.parent
 UNPROVED = TOP / "out/unproved/avrstk"
 PROVED = TOP / "crates/avrstk/out/avrstk"
+# the crates that are programs
+PROGRAMS = {it.parent.parent.name: it.parent.parent / "out" for it in TOP.glob("crates/*/src/main.rt")}
 
 # scripts that only read
 CHECKED = ("measure --check", "reach --check")
@@ -178,10 +180,10 @@ class Proving:
             self.proved += [found[1]] if found else []
             self.changed.notify_all()
 
-    def wait_for(self, crate):
-        """Waits until the crate is proved or rt ci has ended. Returns all crates that are proved, for tests/proved.py."""
+    def wait_for(self, *crates):
+        """Waits until the crates are proved or rt ci has ended. Returns all crates that are proved, for tests/proved.py."""
         with self.changed:
-            self.changed.wait_for(lambda: crate in self.proved or self.is_over)
+            self.changed.wait_for(lambda: self.is_over or set(crates) <= set(self.proved))
             return " ".join(self.proved)
 
     def run(self):
@@ -208,6 +210,14 @@ def over_library(folder, proving):
     return [script(it, before=LAST, AVR_RECORDS_C=folder, PROVED_BY_CI=proved) for it in LIBRARY]
 
 
+def stamper():
+    """Returns what stamps the programs that rt ci proves from now on, for `./avrstk` and packages. No older ones are left."""
+    for name, folder in PROGRAMS.items():
+        (folder / name).unlink(missing_ok=True)
+    sources = subprocess.run(["./avrstk", "--sources"], cwd=TOP, stdout=subprocess.PIPE, text=True).stdout.strip()
+    return lambda: run("./avrstk --stamp proved", ["./avrstk", "--stamp", "proved", sources])
+
+
 def start_unproved(lanes, names):
     """Starts the build of the unproved program, the scripts that need no program, and the named ones, which use it."""
     built = lanes.submit(build)
@@ -230,15 +240,16 @@ def few():
 def everything():
     """Runs rt ci, and beside it, with half of the processors, first what needs no proved program and then all scripts.
     Returns the outcome of all steps, and the checks of rt ci."""
-    proving = Proving()
+    proving, stamp = Proving(), stamper()
     # (a script that is run again finds the library for C too)
     with tempfile.TemporaryDirectory() as folder:
         with ThreadPoolExecutor(2) as beside, ThreadPoolExecutor(max(1, LANES // 2)) as lanes:
             proof, over_c = beside.submit(proving.run), beside.submit(over_library, folder, proving)
             others = start_unproved(lanes, BOTH)
-            with_it = {"AVRSTK": str(PROVED), "PROVED_BY_CI": proving.wait_for("avrstk")}
+            with_it = {"AVRSTK": str(PROVED), "PROVED_BY_CI": proving.wait_for(*PROGRAMS)}
+            stamped = stamp()
             over_it = [lanes.submit(script, it, "proved: ", **with_it) for it in PROGRAM]
-            done = [*others(), *over_c.result(), proof.result(), *(it.result() for it in over_it)]
+            done = [*others(), *over_c.result(), proof.result(), stamped, *(it.result() for it in over_it)]
         return settled(done), proving.checks
 
 
