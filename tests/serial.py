@@ -56,12 +56,22 @@ class Board:
     bytes of each reply."""
 
     def __init__(
-        self, deaf=0.0, gone=None, part="m328p", talk=None, vanish=None, answer=None, words=(), chip=None, server=None
+        self,
+        deaf=0.0,
+        gone=None,
+        part="m328p",
+        talk=None,
+        vanish=None,
+        answer=None,
+        words=(),
+        chip=None,
+        server=None,
+        ends=None,
     ):
         self.deaf, self.gone, self.talk, self.vanish, self.answer = deaf, gone, talk, vanish, answer
         self.opened, self.heard, self.chip = 0, b"", chip or f"served{next(boards)}.bin"
         self.server = None if talk else server or Server(room, self.chip, part, words)
-        self.line, self.device = terminal()
+        self.line, self.device = ends or terminal()
         self.stopped = threading.Event()
         self.thread = threading.Thread(target=self.live, daemon=True)
         self.thread.start()
@@ -601,6 +611,152 @@ def lists():
     same("--version", run(["--version"]), (0, f"avrstk {version}\n".encode(), b"", []))
 
 
+class Boards:
+    """One chip behind one device, named `device` in the room: a board for each time that it is opened."""
+
+    def __init__(self, *each):
+        self.chip, self.each, self.device = f"served{next(boards)}.bin", each, room.folder / f"device{next(boards)}"
+        self.ends = terminal()
+        self.device.symlink_to(self.ends[1])
+        self.count = 0
+        self.thread = threading.Thread(target=self.live, daemon=True)
+        self.thread.start()
+
+    def live(self):
+        for board in self.each:
+            it = Board(chip=self.chip, ends=self.ends, **board)
+            it.thread.join(PATIENCE)
+            it.server.end()
+            self.count += 1
+            if it.vanish is not None:
+                self.device.unlink()
+                time.sleep(0.5)
+                self.ends = terminal()
+                self.device.symlink_to(self.ends[1])
+
+    def end(self):
+        """Waits until all boards were opened, and returns the chip."""
+        self.thread.join(PATIENCE)
+        os.close(self.ends[0])
+        self.device.unlink()
+        return room.read(self.chip)
+
+
+def silent(command):
+    return {"answer": lambda answer: b"" if answer[5] == command else answer}
+
+
+def retries():
+    """With --retry the same command is given again after no answer, a lost link or a mismatch."""
+    wanted = flashed()
+    room.clear()
+    again = lambda error, *numbers: [f"{error}: the same command again, {it} of 2" for it in numbers]
+    wrong = {"answer": lambda it: changes(0x14, bytes([0x14, 0, *bytes(256), 0]))(it) if it[2:4] == b"\1\3" else it}
+    compared = "flash: address 00000000: 0C expected, 00 found"
+    partly = "the chip is erased or partly written, and may be held in reset: run the same command again"
+    stopped = f"the programmer stopped replying: check the cable and the power; {partly}"
+    cases = [
+        ([silent(0x13), {}], again("no answer", 1), None),
+        ([silent(0x01), silent(0x12), {}], again("no answer", 1, 2), None),
+        ([wrong, {}], again(compared, 1), None),
+        ([{"vanish": 8}, {}], again("link ended", 1), None),
+        ([silent(0x13)] * 3, again("no answer", 1, 2), stopped),
+        ([silent(0x13), silent(0x01), silent(0x01)], again("no answer", 1, 2), partly),
+        ([silent(0x13), {"answer": changes(0x10, b"\x10\xc0")}], again("no answer", 1), partly),
+        ([{}], [], None),
+    ]
+
+    def ran(case):
+        each, _, _ = case
+        it = Boards(*each)
+        status, _, _, own = run([*FLASH, "--retry", "2", "-P", str(it.device)])
+        return status, own, it.end() == wanted
+
+    for case, (status, own, is_flashed) in zip(cases, side_by_side(ran, cases)):
+        _, lines_wanted, hint = case
+        # (whichever byte differs first)
+        found = (status, [re.sub(r"address .*? expected", "address 00000000: 0C expected", it) for it in own])
+        same(f"{lines_wanted} {hint}", found, (int(hint is not None), lines_wanted + [hint] * (hint is not None)))
+        see("the chip", is_flashed == (hint is None), own)
+
+
+def retries_that_are_refused():
+    """--retry is refused at the beginning for a command that a second run may not heal."""
+    flashed()
+    room.clear()
+    text = room.read("blink.hex")
+    room.put("late.hex", hex_of([(0x4000, b"late")]))
+    os.mkfifo(room.folder / "pipe")
+    line, device = terminal()
+    fails = stand_in("sys.exit(1)\n")
+
+    def ran(*words):
+        status, _, _, own = run(["-p", "m328p", "-P", device, "--retry", "1", *words], env=fails)
+        return status, own[0].partition("may not heal this one: ")[2]
+
+    whole, kept = ["-U", "flash:w:blink.hex:i"], "a second one may erase EEPROM that this one keeps"
+    for words, why in [
+        (["-U", "lfuse:v:0xE2:m"], "it compares lfuse, which it didn't write before"),
+        (["-U", "flash:v:blink.hex:i", *whole], "it compares flash, which it didn't write before"),
+        (["-U", "lock:w:0xFC:m", *whole], "it writes after the lock"),
+        (["-U", "lock:w:0xFC:m", "-U", "lock:w:0xFF:m"], "it writes after the lock"),
+        ([*whole, *whole], "it writes flash twice at the same address"),
+        ([*whole, "-U", "flash:w:1,2:m"], "it writes flash twice at the same address"),
+        (["-U", "flash:w:pipe:i"], "pipe can't be read twice"),
+        (["-U", "flash:w:-:i"], "- can't be read twice"),
+        (["-U", "lfuse:r:-:h"], "- would get what was read twice"),
+        (["-U", "lfuse:r:/dev/stdout:h"], "/dev/stdout would get what was read twice"),
+        ([*whole, "-U", "hfuse:w:0xD9:m"], kept),
+        (["-e", "-U", "hfuse:w:0xD9:m"], kept),
+        (["-e", "-U", "hfuse:w:late.hex:i"], kept),
+        (["-P", "emu:chip.bin"], "avrstk's own ports are run once"),
+        ([], ""),
+        (whole, ""),
+        ([*whole, "-D"], ""),
+        ([*whole, "-U", "flash:w:late.hex:i", "-U", "eeprom:w:1:m", "-U", "lock:w:0xFC:m"], ""),
+        ([*whole, "-U", "flash:v:blink.hex:i", "-U", "flash:r:back.hex:i"], ""),
+        ([*whole, "-U", "hfuse:w:0xD1:m"], ""),
+        (["-U", "hfuse:w:0xD9:m"], ""),
+        ([*whole, "-D", "-U", "hfuse:w:0xD9:m"], ""),
+    ]:
+        same(f"--retry {words}", ran(*words), (1, why))
+    for text in ["-1", "x", "100", "\u0663"]:
+        status, _, _, own = run([*FLASH, "-P", device, f"--retry={text}"])
+        same(f"--retry {text}", (status, own), (1, [f"--retry {text}: not a number from 0 to 99"]))
+    os.close(line)
+
+
+def the_part_of_the_chip():
+    """-p auto reads the signature first, and takes the one part that has it."""
+    wanted = flashed()
+    room.clear()
+    words = ["-p", "auto", "-U", "flash:w:blink.hex:i", "-U", "lock:w:0x3F:m"]
+    it = Boards({}, {})
+    status, _, told, own = run([*words, "-P", str(it.device)])
+    note = "lock of m328p has no bits 6, 7; given as 1: lock:w:0xFF:m"
+    same("its lines", (status, own), (0, ["the chip is m328p (1E 95 0F)", note]))
+    see("the run's own lines alone", told.startswith(lines(SIGNATURE, "chip erased")), told)
+    same("the chip", it.end(), wanted)
+    classic = ["--parts", str(TOP / "parts/classic.toml")]
+    none = "-p auto: the programmer finds no chip: check the wires and the power; nothing was written"
+    given = {"part": "m88p", "words": classic}
+    two = "several parts have: give one of them by -p: m88p, m88pa; nothing was written"
+    for board, hint in [
+        ({"answer": changes(0x1B, b"\x1b\0\0\0")}, none),
+        ({"answer": changes(0x1B, b"\x1b\0\x12\0")}, "-p auto: the chip has the signature 12 12 12, which no part here has"),
+        (given, f"-p auto: the chip has the signature 1E 93 0F, which {two}"),
+        (silent(0x01), "no reply; the chip is unchanged. Check: the speed"),
+    ]:
+        it = Boards(board)
+        status, _, told, own = run([*words, "-P", str(it.device)])
+        see(hint, (status, len(own)) == (1, 1) and own[0].startswith(hint), (status, told, own))
+        chip = it.end()
+        see(f"{hint}: the chip", set(chip) == {0xFF}, chip[-4:])
+    for more in [["-P", "emu:chip.bin"], ["--parts", classic[1], "-P", os.devnull]]:
+        status, _, told, own = run([*words, *more])
+        see(f"{more}", (status, told) == (1, b"") and own[-1].startswith("-p auto is for a device"), own)
+
+
 def programs():
     """If no program is named, it runs the one beside it, and in a clone the one that ./avrstk runs without building."""
     room.clear()
@@ -770,7 +926,6 @@ def changes(command, body):
 
 def hints():
     """Tests the hint after each error."""
-    silent = lambda command: {"answer": lambda answer: b"" if answer[5] == command else answer}
     instead = lambda command, *body: {"answer": changes(command, bytes([command, *body]))}
     whole, partly = "the chip is unchanged", "the chip is erased or partly written, and may be held in reset: run the"
     stopped = "the programmer stopped replying: check the cable and the power"
@@ -1274,6 +1429,9 @@ CASES = named(
     lines_of_a_board,
     bits_that_do_not_exist,
     lists,
+    retries,
+    retries_that_are_refused,
+    the_part_of_the_chip,
     programs,
     hints,
     hints_that_are_followed,
