@@ -1,10 +1,12 @@
 #!/usr/bin/env python3
-"""Tests avrstk-serve: clients in turn, clients that send nothing, reset the connection or are idle, and how it ends.
+"""Tests avrstk-serve: clients in turn, clients that send nothing, reset the connection or are idle, a device in place of
+a port, the log, what fails in a session, and how it ends.
 
     tests/serve.py [CASE ..]        needs a built program (program.py)
 """
 
 import os
+import resource
 import shutil
 import signal
 import socket
@@ -14,7 +16,7 @@ import sys
 import time
 from pathlib import Path
 
-from cases import PATIENCE, named, run_cases, same, see
+from cases import PATIENCE, leave_out, named, run_cases, same, see
 from program import ANSWERS, CHIP_FILE, ENDS, FRAMES, PROGRAM, TOP, Room, free_port, kept_port, lines, port_of
 
 SCRIPT = TOP / "avrstk-serve"
@@ -26,15 +28,16 @@ room = Room()
 class Serving:
     """The script with these options at a port of its own, once it listens. Its messages are in a file."""
 
-    def __init__(self, *words, port="0", chip=M328P):
+    def __init__(self, *words, port="0", chip=M328P, program=PROGRAM, before=None):
         self.messages = room.folder / "messages"
         with self.messages.open("wb") as messages:
             how = {"stdin": subprocess.DEVNULL, "stdout": subprocess.PIPE, "stderr": messages, "cwd": room.folder}
             # (a process group of its own, as from a shell)
-            command = [SCRIPT, port, *chip, *words]
-            self.started = subprocess.Popen(command, env=environment(), start_new_session=True, **how)
+            command = [SCRIPT, *([port] if port else []), *chip, *words]
+            how |= {"env": environment(program), "start_new_session": True, "preexec_fn": before}
+            self.started = subprocess.Popen(command, **how)
         self.said = self.started.stdout.readline()
-        self.port = int(self.said.rpartition(b":")[2] or 0)
+        self.port = int(self.said.rpartition(b":")[2] or 0) if port else None
 
     def call(self):
         return socket.create_connection(("127.0.0.1", self.port), PATIENCE)
@@ -63,17 +66,17 @@ class Serving:
         self.started.stdout.close()
 
 
-def environment():
-    return os.environ | {"AVRSTK": str(PROGRAM)}
+def environment(program=PROGRAM):
+    return os.environ | {"AVRSTK": str(program)}
 
 
 def runs():
-    """Returns the runs of the program in the room."""
+    """Returns the numbers of the runs in the room."""
     found = []
     for it in Path("/proc").glob("[0-9]*"):
         try:
-            if (it / "cwd").resolve() == room.folder.resolve() and b"--serve" in (it / "cmdline").read_bytes().split(b"\0"):
-                found.append(it.name)
+            if (it / "cwd").resolve() == room.folder.resolve() and b"avrstk_session" in (it / "cmdline").read_bytes():
+                found.append(int(it.name))
         except OSError:
             pass
     return found
@@ -208,6 +211,10 @@ def clients_that_reset():
         same("the last one's fuse is there", fuse(), 0x67)
 
 
+def failed(how):
+    return f"avrstk-serve: a session failed ({how}): its changes may not be in the chip file\n"
+
+
 def a_chip_in_use():
     """If another run holds the chip, the client's connection is closed, and the next client is served."""
     room.clear()
@@ -221,7 +228,8 @@ def a_chip_in_use():
         holder.kill()
         holder.communicate()
         same("the next client", it.writes_fuse(0x65)[0], 0)
-        same("the messages", it.end(), (0, lines("error: chip.bin: in use by another run").decode()))
+        told = lines("error: chip.bin: in use by another run").decode() + failed("status 1")
+        same("the messages", it.end(), (1, told))
 
 
 def idle_clients():
@@ -299,7 +307,16 @@ def refused():
         (["0", *M328P, "--idle", "a"], 1, "avrstk-serve: --idle a: not a number of seconds\n"),
         (["0", *M328P, "-e"], 1, "avrstk-serve: option -e not recognized\n"),
         (["0", "--chip", "chip.bin"], 1, "avrstk: error: no part given (-p)\n"),
-        (["0", "-p", "m328p"], 1, "avrstk: error: no chip file given (--chip)\n"),
+        (["0", "-p", "m328p"], 1, "avrstk-serve: no chip file given (--chip)\n"),
+        (["0", "-p", "m328p", "--chip", "-"], 1, "avrstk: error: standard streams are taken\n"),
+        (["0", *M328P, "--pty", "link"], 1, "avrstk-serve: a port and --pty: give one of the two\n"),
+        (["--pty", "link", *M328P, "--listen", "::1"], 1, "avrstk-serve: a port and --pty: give one of the two\n"),
+        (["--pty", "blink.hex", *M328P], 1, "avrstk-serve: blink.hex: File exists\n"),
+        (["0", *M328P, "--listen", "192.0.2.1"], 1, "avrstk-serve: 192.0.2.1, port 0: Cannot assign requested address\n"),
+        (["0", *M328P, "--listen", ""], 1, None),
+        (["0", *M328P, "--listen", "\udcff" * 100], 1, None),
+        (["0", *M328P, "--log", "nowhere/log"], 1, "avrstk-serve: nowhere/log: No such file or directory\n"),
+        (["\x1b[31m\udcff", *M328P], 1, "avrstk-serve: \\x1b[31m\\xff: not a port from 0 to 65535\n"),
         (["0", "-p", "none", "--chip", "chip.bin"], 1, "avrstk: error: no part none\n"),
         (["0", "-p", "m328p", "--chip", "blink.hex"], 1, None),
         (["0", *M328P, "--parts", "nowhere"], 1, "avrstk: error: nowhere: cannot be opened\n"),
@@ -330,9 +347,12 @@ def installed():
     room.clear()
     (room.folder / "bin").mkdir()
     (room.folder / "share/avrstk").mkdir(parents=True)
+    (room.folder / "lib/avrstk").mkdir(parents=True)
     shutil.copy(SCRIPT, room.folder / "bin/avrstk-serve")
+    shutil.copy(TOP / "avrstk_common.py", room.folder / "lib/avrstk")
     shutil.copy(TOP / "parts/classic.toml", room.folder / "share/avrstk/classic.toml")
     shutil.copy(PROGRAM, room.folder / "bin/avrstk")
+    shutil.copy(session_program(), room.folder / "lib/avrstk")
     clean = {name: it for name, it in os.environ.items() if name != "AVRSTK"}
     words = ["0", "-p", "atmega32u4", "--chip", "chip.bin"]
     how = {"cwd": room.folder, "env": clean, "stdout": subprocess.PIPE}
@@ -340,13 +360,277 @@ def installed():
         see("it serves", started.stdout.readline().startswith(b"serving at 127.0.0.1:"))
         started.terminate()
     same("its status", started.returncode, 0)
-    for name in ["bin", "share"]:
+    for name in ["bin", "share", "lib"]:
         shutil.rmtree(room.folder / name)
+
+
+def session_program():
+    """Returns the program of a run, beside the built avrstk."""
+    found = PROGRAM.parent / "avrstk_session"
+    return found if found.exists() else PROGRAM.parents[2] / "avrstk_session/out/avrstk_session"
+
+
+def changes_fuse(it, value):
+    """Writes the low fuse and returns the connection, whose session goes on, and the run."""
+    client = it.call()
+    for frame in [*FRAMES[:2], programs_fuse(3, value)]:
+        client.sendall(frame)
+        see("a reply", heard(client, 6)[:1] == b"\x1b")
+        client.recv(100)
+    (run,) = runs()
+    return client, run
+
+
+def status_of_sessions():
+    """Status 0 means that the chip of each session is saved, however the server is ended. Otherwise a line reports it."""
+    term, hold, on, kill = signal.SIGTERM, signal.SIGSTOP, signal.SIGCONT, signal.SIGKILL
+
+    def to_all(it, run, client):
+        os.kill(run, term)
+        os.kill(it.started.pid, term)
+
+    def twice(it, run, client):
+        os.kill(it.started.pid, term)
+        time.sleep(0.004)
+        os.kill(it.started.pid, term)
+
+    def twice_and_slow(it, run, client):
+        os.kill(run, hold)
+        for _ in range(2):
+            os.kill(it.started.pid, term)
+            time.sleep(0.3)
+        os.kill(run, on)
+
+    def killed(it, run, client):
+        os.kill(run, kill)
+        same("its client is hung up on", client.recv(1), b"")
+        os.kill(it.started.pid, term)
+
+    def lost(it, run, client):
+        (room.folder / "chip.bin.avrstk-new").unlink()
+        client.close()
+        wait_for(lambda: not runs())
+        os.kill(it.started.pid, term)
+
+    def lost_before(it, run, client):
+        (room.folder / "chip.bin.avrstk-new").unlink()
+        os.kill(it.started.pid, term)
+
+    def stuck(it, run, client):
+        os.kill(run, hold)
+        os.kill(it.started.pid, term)
+
+    unsaved = lines("error: chip.bin: cannot be written").decode() + failed("status 1")
+    rows = [
+        ("one SIGTERM", lambda it, run, client: os.kill(it.started.pid, term), 0, ""),
+        ("SIGTERM to each process of a service", to_all, 0, ""),
+        ("two, 4 ms apart", twice, 0, ""),
+        ("two, and a slow run", twice_and_slow, 0, ""),
+        ("the run is killed", killed, 1, failed("ended by signal 9")),
+        ("the new file is removed", lost, 1, unsaved),
+        ("the same, and SIGTERM in the session", lost_before, 1, unsaved),
+        ("a run that doesn't end", stuck, 1, failed("ended by signal 9")),
+    ]
+    for name, act, status, told in rows:
+        room.clear()
+        same("a chip", room.run(["-p", "m328p", "-P", "emu:chip.bin", "-q", "-U", "lfuse:w:0x11:m"])[0], 0)
+        with Serving() as it:
+            client, run = changes_fuse(it, 0x22)
+            with client:
+                act(it, run, client)
+                same(f"{name}: the status", it.started.wait(timeout=PATIENCE), status)
+        same(f"{name}: its messages", it.messages.read_text(), told)
+        same(f"{name}: the fuse", fuse(), 0x11 if status else 0x22)
+        same(f"{name}: no run is left", runs(), [])
+
+
+def the_recipe_of_a_script():
+    """A script's `kill` and `wait` give the server's status, also if a session has failed before."""
+    text = """"$0" 0 -p m328p --chip chip.bin >serving 2>messages & server=$!
+        until [ -s serving ]; do sleep 0.1; done; read -r _ _ address <serving
+        "$AVRSTK" -p m328p -P net:$address -q -U lfuse:w:$1:m || exit 9
+        [ "$2" = 0 ] || { rm chip.bin; mkdir chip.bin chip.bin/in; "$AVRSTK" -p m328p -P net:$address -q; }
+        kill $server; wait $server"""
+    for value, status in [(0x60, 0), (0x61, 1)]:
+        room.clear()
+        words = ["bash", "-c", text, SCRIPT, str(value), str(status)]
+        ran = subprocess.run(words, cwd=room.folder, env=environment(), stderr=subprocess.DEVNULL, timeout=PATIENCE)
+        same(f"{value}: the status", ran.returncode, status)
+        if status == 0:
+            same(f"{value}: the fuse", fuse(), value)
+    shutil.rmtree(room.folder / "chip.bin")
+
+
+def no_inner_port():
+    """Nobody can come between a client and its run: the run has no socket of the network."""
+    room.clear()
+    with Serving() as it:
+        client, run = changes_fuse(it, 0x60)
+        rows = "".join(Path(f"/proc/net/{name}").read_text() for name in ["tcp", "tcp6", "udp", "udp6"])
+        network = {row.split()[9] for row in rows.splitlines() if row.split()[0] != "sl"}
+        held = [os.readlink(file) for file in Path(f"/proc/{run}/fd").iterdir()]
+        sockets = [name for name in held if name.startswith("socket:")]
+        see("its client is a socket", sockets)
+        same("none is of the network", [name for name in sockets if name[8:-1] in network], [])
+        client.close()
+        same("its status", it.end(), (0, ""))
+
+
+def errors_end_one_session():
+    """If a run can't be started, the client is hung up on, and the next one is served."""
+    room.clear()
+    for name in [PROGRAM, session_program()]:
+        shutil.copy(name, room.folder / name.name)
+    copy = room.folder / "avrstk_session"
+    with Serving(program=room.folder / PROGRAM.name) as it:
+        same("a client", it.writes_fuse(0x60)[0], 0)
+        copy.rename(room.folder / "moved")
+        with it.call() as client:
+            client.sendall(FRAMES[0])
+            same("one without a program is hung up on", client.recv(1), b"")
+        (room.folder / "moved").rename(copy)
+        same("the next client", it.writes_fuse(0x61)[0], 0)
+        told = "avrstk-serve: a client can't be served: No such file or directory\n"
+        same("it ends", it.end(), (1, told))
+    same("its chip", fuse(), 0x61)
+
+
+def limited_files():
+    resource.setrlimit(resource.RLIMIT_NOFILE, (20, 20))
+
+
+def few_files():
+    """If it may open few files, it hangs up on clients that send nothing, and waits without using the processor."""
+    room.clear()
+    with Serving(before=limited_files) as it:
+        silent = [it.call() for _ in range(40)]
+        time.sleep(0.5)
+        spent = lambda: sum(int(time) for time in Path(f"/proc/{it.started.pid}/stat").read_text().split()[13:15])
+        before = spent()
+        time.sleep(1)
+        see("it rests", spent() - before < 30, str(spent() - before))
+        for client in silent:
+            client.close()
+        same("the next client", it.writes_fuse(0x60)[0], 0)
+        same("it ends", it.end(), (0, ""))
+
+
+def two_at_once():
+    """If two servers begin at one port at the same moment, one of them ends with a line."""
+    for _ in range(3):
+        room.clear()
+        how = {"cwd": room.folder, "env": environment(), "stdout": subprocess.PIPE, "stderr": subprocess.PIPE}
+        port = str(free_port())
+        both = [subprocess.Popen([SCRIPT, port, *M328P[:3], f"chip{number}.bin"], **how) for number in (1, 2)]
+        wait_for(lambda: any(it.poll() is not None for it in both))
+        refused, other = sorted(both, key=lambda it: it.poll() is None)
+        see("one serves", other.stdout.readline().startswith(b"serving at "))
+        told = f"avrstk-serve: port {port}: Address already in use\n".encode()
+        same("the other one ends", (*refused.communicate(), refused.returncode), (b"", told, 1))
+        other.terminate()
+        other.communicate()
+
+
+def nothing_hangs():
+    """A chip file that is a pipe, and signals that were ignored when it began, hold up no end and change no status."""
+    room.clear()
+    os.mkfifo(room.folder / "pipe")
+    how = {"cwd": room.folder, "env": environment(), "stdout": subprocess.PIPE, "stderr": subprocess.PIPE}
+    started = subprocess.Popen([SCRIPT, "0", "-p", "m328p", "--chip", "pipe"], **how)
+    wait_for(runs)
+    started.terminate()
+    same("a pipe as chip file", (*started.communicate(timeout=PATIENCE), started.returncode), (b"", b"", 0))
+    same("no run is left", runs(), [])
+    how["preexec_fn"] = lambda: signal.signal(signal.SIGCHLD, signal.SIG_IGN)
+    words = [SCRIPT, "0", "-p", "none", "--chip", "chip.bin"]
+    ran = subprocess.run(words, **how, timeout=PATIENCE)
+    same("SIGCHLD was ignored", (ran.returncode, ran.stderr), (1, lines("error: no part none")))
+    with Serving(before=lambda: signal.signal(signal.SIGTERM, signal.SIG_IGN)) as it:
+        same("SIGTERM was ignored", it.writes_fuse(0x60)[0], 0)
+        same("another signal ends it", it.end(signal.SIGINT), (0, ""))
+
+
+def other_addresses():
+    """With --listen it serves at another address of this machine, and there alone."""
+    for address, shown in [("127.0.0.2", "127.0.0.2"), ("0.0.0.0", "0.0.0.0"), ("::1", "[::1]"), ("localhost", None)]:
+        room.clear()
+        with Serving("--listen", address) as it:
+            if address == "::1" and not it.said:
+                leave_out("::1", "this machine has no such address")
+                continue
+            if shown:
+                same(f"{address}: its line", it.said, f"serving at {shown}:{it.port}\n".encode())
+            place = shown if shown and shown != "0.0.0.0" else "127.0.0.1"
+            ran = room.run(["-p", "m328p", "-P", f"net:{place}:{it.port}", "-q", "-U", "lfuse:w:0x60:m"])
+            same(f"{address}: a client", (ran[0], ran[2]), (0, b""))
+            if address == "127.0.0.2":
+                try:
+                    it.call().close()
+                    see(f"{address}: nobody listens elsewhere", False)
+                except ConnectionRefusedError:
+                    see(f"{address}: nobody listens elsewhere", True)
+            same(f"{address}: it ends", it.end(), (0, ""))
+        same(f"{address}: the fuse", fuse(), 0x60)
+
+
+def devices():
+    """With --pty a client opens a link to a terminal, and is served as at a port."""
+    room.clear()
+    link = room.folder / "device"
+    with Serving("--pty", "device", "--idle", "0.5", port=None) as it:
+        same("its line", it.said, b"serving at device\n")
+        os.close(os.open(link, os.O_RDWR | os.O_NOCTTY))
+        words = [TOP / "avrstk-serial", "-p", "m328p", "-P", link, "--wait", "0", "-q"]
+        for name in ["blink.hex:i", "whole.bin:r"]:
+            how = {"cwd": room.folder, "env": environment(), "capture_output": True, "timeout": PATIENCE}
+            ran = subprocess.run([*words, "-U", f"flash:w:{name}"], **how)
+            same(f"{name}: a client", (ran.returncode, ran.stderr), (0, b""))
+            wait_for(lambda: not runs() and link.is_symlink())
+        same("the chip", room.read("chip.bin")[:1024], room.read("whole.bin"))
+        idle = os.open(link, os.O_RDWR | os.O_NOCTTY)
+        os.write(idle, FRAMES[0])
+        got = b""
+        try:
+            while piece := os.read(idle, 100):
+                got += piece
+        except OSError:
+            pass
+        same("an idle client is hung up on after its reply", got, ANSWERS[: ENDS[0]])
+        os.close(idle)
+        told = "avrstk-serve: a client sent nothing for 0.5 seconds: hung up\n"
+        same("it ends", it.end(), (0, told))
+        see("its link is removed", not link.is_symlink())
+    with Serving("--pty", "device", port=None) as it:
+        link.unlink()
+        link.symlink_to("blink.hex")
+        same("another link", it.end(), (0, ""))
+        same("stays", os.readlink(link), "blink.hex")
+
+
+def logged():
+    """With --log each command of a client has a line; noise has none."""
+    room.clear()
+    with Serving("--log", "log") as it:
+        with it.call() as client:
+            client.sendall(b"noise" + FRAMES[0] + FRAMES[1])
+            see("replies", len(heard(client, ENDS[1])) == ENDS[1])
+        with it.call() as client:
+            see("another client", begins(client))
+        wait_for(lambda: len(room.read("log").splitlines()) == 3)
+        same("it ends", it.end(), (0, ""))
+    rows = [row.partition(" client ")[2] for row in room.read("log").decode().splitlines()]
+    wanted = [
+        "1, 1: SIGN_ON 01",
+        "1, 2: ENTER_PROGMODE 10 c8 64 19 20 00 53 03 ac 53 00 00",
+        "2, 1: SIGN_ON 01",
+    ]
+    same("its lines", rows, wanted)
 
 
 CASES = named(
     *(listens, clients_that_send_nothing, one_after_another, half_closed, clients_that_reset, a_chip_in_use),
-    *(idle_clients, ends_at_a_signal, refused, installed),
+    *(idle_clients, ends_at_a_signal, refused, installed, status_of_sessions, the_recipe_of_a_script),
+    *(no_inner_port, errors_end_one_session, few_files, two_at_once, nothing_hangs, other_addresses, devices, logged),
 )
 
 if __name__ == "__main__":
