@@ -3,11 +3,14 @@
 
 # Completes after a prefix that ends with a colon: with one of these words, or without words with a file's name.
 _avrstk_behind() {
-    local front=$1 words=${2-}
+    local front=$1 words=${2-} file
     if [ -n "$words" ]; then
         compgen -P "$front" -W "$words" -- "${value#"$front"}"
     else
-        compgen -P "$front" -f -- "${value#"$front"}"
+        compgen -P "$front" -f -- "${value#"$front"}" | while IFS= read -r file; do
+            [ ! -d "${file#"$front"}" ] || file+=/
+            printf '%s\n' "$file"
+        done
     fi
 }
 
@@ -56,19 +59,20 @@ _avrstk_parts() {
             [ ! -f "$found" ] || { file=$found && break; }
         done
     fi
-    [ ! -f "$file" ] || built_in+=" $(sed -nE 's/^\[parts\.([[:alnum:]_-]+)\].*/\1/p; s/^([[:alnum:]_-]+) = \{.*/\1/p' "$file")"
+    [ ! -f "$file" ] || built_in+=" $(sed -nE 's/^\[parts\.([[:alnum:]_-]+)\].*/\1/p; s/^([[:alnum:]_-]+) = \{.*/\1/p' <"$file")"
     compgen -W "$built_in" -- "$value" | awk '!seen[$0]++'
 }
 
 # Completes the value of an option.
 _avrstk_value() {
+    local device
     case $1 in
         -p) _avrstk_parts ;;
         -c) _avrstk_behind "" "stk500v2$([ "$script" = avrstk ] || echo " wiring avrispv2 stk500")" ;;
         -P)
-            if [ "$script" = avrstk-serial ]; then
-                compgen -W "$(compgen -G "/dev/ttyACM*"; compgen -G "/dev/ttyUSB*")" -- "$value"
-            fi
+            for device in /dev/ttyACM* /dev/ttyUSB* /dev/serial/by-id/*; do
+                [[ $script != avrstk-serial || ! -e $device || $device != "$value"* ]] || echo "$device"
+            done
             case $value in
                 emu:*) _avrstk_behind emu: ;;
                 *) _avrstk_behind "" "stdio: emu: net:" ;;
@@ -116,12 +120,14 @@ _avrstk() {
     COMPREPLY=()
     [ -n "$found" ] || return 0
     mapfile -t COMPREPLY <<<"$found"
-    [[ $found != *: ]] || compopt -o nospace 2>/dev/null
-    [ ! -e "${COMPREPLY[0]#"${value%"${value##*:}"}"}" ] || compopt -o filenames 2>/dev/null
+    [[ $found != *[:/] ]] || compopt -o nospace 2>/dev/null
     # bash ends a word at an equals sign and at a colon, so only the text after the last one is returned
     [[ $front != --* || $COMP_WORDBREAKS == *=* ]] || COMPREPLY=("${COMPREPLY[@]/#/$front}")
     [[ $front == --* ]] || COMPREPLY=("${COMPREPLY[@]/#/$front}")
     [[ $COMP_WORDBREAKS != *:* ]] || COMPREPLY=("${COMPREPLY[@]#"${typed%"${typed##*:}"}"}")
+    # bash puts a reply on the line as it is, so a name with special characters is quoted here
+    mapfile -t COMPREPLY < <(printf '%q\n' "${COMPREPLY[@]}")
+    [[ $typed != "~"* ]] || COMPREPLY=("${COMPREPLY[@]#\\}")
 }
 
 complete -F _avrstk avrstk avrstk-serial avrstk-serve

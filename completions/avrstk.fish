@@ -1,0 +1,74 @@
+# fish completions for avrstk, avrstk-serial and avrstk-serve: options, parts, ports, devices, and updates piece by piece.
+# fish reads this file under the name of each command.
+
+# Prints the names of files that begin with the text after a prefix, each with that prefix.
+function __avrstk_files
+    for it in (__fish_complete_path (string sub -s (math (string length -- $argv[1]) + 1) -- $argv[2]))
+        printf '%s%s\n' $argv[1] $it
+    end
+end
+
+# Prints the built-in parts, and those of the part file that is given or, for the scripts, comes with them.
+function __avrstk_parts
+    set -l words (commandline -opc)
+    set -l file (string match -rg -- '--parts[= ](\S+)' "$words")
+    if not set -q file[1]; and test (path basename -- $words[1]) != avrstk
+        set -l top (path dirname -- (path resolve -- (command -s -- $words[1])))
+        set file (path filter -f -- $top/parts/classic.toml $top/../share/avrstk/classic.toml)
+    end
+    printf '%s\n' m328p t85 m2560
+    if test -f "$file[1]"
+        sed -nE 's/^\[parts\.([[:alnum:]_-]+)\].*/\1/p; s/^([[:alnum:]_-]+) = \{.*/\1/p' <$file[1]
+    end
+end
+
+function __avrstk_ports
+    set -l typed (string replace -r '^-P' '' -- (commandline -ct))
+    printf '%s\n' stdio: emu: net: $argv
+    string match -q 'emu:*' -- $typed; and __avrstk_files emu: $typed
+end
+
+function __avrstk_updates
+    set -l typed (string replace -r '^-U' '' -- (commandline -ct))
+    if set -l front (string match -r '^[a-z]+:r:[^:]*:' -- $typed)
+        printf "$front%s\n" r i s d h o b
+    else if set -l front (string match -r '^[a-z]+:[wv]:[^:]*:' -- $typed)
+        printf "$front%s\n" a i s r m
+    else if set -l front (string match -r '^[a-z]+:[rwv]:' -- $typed)
+        __avrstk_files $front $typed
+    else if set -l front (string match -r '^(?:signature|calibration):' -- $typed)
+        printf '%s\n' {$front}{r,v}:
+    else if set -l front (string match -r '^[a-z]+:' -- $typed)
+        printf '%s\n' {$front}{r,w,v}:
+    else
+        printf '%s:\n' flash eeprom lfuse hfuse efuse lock signature calibration
+        # a file alone is flash:w:FILE:a
+        __avrstk_files '' $typed
+    end
+end
+
+for command in avrstk avrstk-serial avrstk-serve
+    complete -c $command -f
+    complete -c $command -s p -x -a '(__avrstk_parts)' -d part
+    complete -c $command -l parts -r -F -d 'part file'
+    complete -c $command -s h -l help -d 'print help'
+end
+for command in avrstk avrstk-serial
+    complete -c $command -s U -x -a '(__avrstk_updates)' -d update
+    complete -c $command -s b -x -a '9600 19200 38400 57600 115200 250000' -d speed
+    for flag in e:'erase the chip' D:"don't erase it before flash is written" V:"don't read back" n:'write nothing' \
+            F:'ignore the signature' A:'keep trailing FF' q:quiet v:'no effect'
+        complete -c $command -s (string split -f 1 : -- $flag) -d (string split -f 2 : -- $flag)
+    end
+end
+complete -c avrstk -s c -x -a stk500v2 -d programmer
+complete -c avrstk -s P -x -a '(__avrstk_ports)' -d port
+complete -c avrstk -l serve -x -d 'serve at a port'
+complete -c avrstk -l chip -r -F -d 'chip file'
+complete -c avrstk-serial -s c -x -a 'stk500v2 wiring avrispv2 stk500' -d programmer
+complete -c avrstk-serial -s P -x -a '(__avrstk_ports (path filter -- /dev/ttyACM* /dev/ttyUSB* /dev/serial/by-id/*))' -d port
+complete -c avrstk-serial -l wait -x -d 'time for a reset'
+complete -c avrstk-serial -s C -r -F -d ignored
+complete -c avrstk-serial -s l -r -F -d ignored
+complete -c avrstk-serve -l chip -r -F -d 'chip file'
+complete -c avrstk-serve -l idle -x -d 'idle timeout'
