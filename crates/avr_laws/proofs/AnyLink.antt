@@ -3,7 +3,6 @@ use Rattle.std.proofs.Common.{◌≡◌, ◌≤◌, ℕ, Bool, List, [], ◌++�
 use Rattle.std.proofs.lemmas.List.{append-nil, take-append-le, take_all}
 use Rattle.avr_desk.specs.Said.{OutputEvent, SaidPart}
 use Rattle.avr_part.specs.Sound.{IsSoundChip}
-use Rattle.avr_part.specs.State as chips
 use Rattle.avr_plan.specs.Plan.{Plan, IsFitted}
 use Rattle.avr_session.specs.Run.{RunsSession}
 use Rattle.avr_session.specs.Runs.{Devices, start}
@@ -19,7 +18,7 @@ use Rattle.avr_laws.specs.NoFrame.{MakesNoFrame}
 use Rattle.avr_laws.proofs.Lines.NoFrame.{no_frame_honest}
 use Rattle.stk_emu.specs.Turn.{Turn, Became}
 use Rattle.stk_emu.specs.Device.{device, after_frames}
-use Rattle.stk_emu.specs.Programmer.{Programmer, fresh_programmer}
+use Rattle.stk_emu.specs.Programmer.{Programmer}
 use Rattle.avr_laws.proofs.Lines.InTurn.{sends_whole, frames_prefix, frames_sent, shown_prefix}
 use Rattle.avr_laws.proofs.Lines.AnyTape.{goes_as, through_after}
 use Rattle.avr_laws.specs.AnyLine.{OverTurns, WholeOverTurns}
@@ -57,13 +56,10 @@ sent_first plan old new status silent runs = elim runs [
     now during grows first =
         search rules
 
-module _ (plan : Plan) (s : chips.ChipState) (is_sound : IsSoundChip s) (part_is : s.part ≡ plan.part)
+module _ (plan : Plan) (begun : Programmer) (is_sound : IsSoundChip begun.chip) (part_is : begun.chip.part ≡ plan.part)
     (fitted : All (IsFitted plan.part) plan.tasks) where
-  abbrev begun : Programmer
-  begun = fresh_programmer s
-
   asks_bodies : AsksBodies (session plan)
-  asks_bodies = asks plan s is_sound part_is fitted
+  asks_bodies = asks plan begun is_sound part_is fitted
 
   module _ (tape : Tape) (becames : List Became) (honest : AreHonest device (session plan) 1 tape begun becames) where
     abbrev turns : List Turn
@@ -120,8 +116,8 @@ module _ (plan : Plan) (s : chips.ChipState) (is_sound : IsSoundChip s) (part_is
       over_any_line = (
         subst (OverTurns plan begun (after_pieces device (frames bytes) becames begun) turns bytes)
             (ap (λ p. p.events) is) (over_any_end bytes all_sent),
-        comes_over_turns plan s is_sound part_is fitted turns (after_pieces device (frames bytes) becames begun) bytes
-            (stands bytes all_sent) (outputs events) status comes said,
+        comes_over_turns plan begun is_sound part_is fitted turns (after_pieces device (frames bytes) becames begun)
+            bytes (stands bytes all_sent) (outputs events) status comes said,
       )
 
   -- over a link that forges no frame, from the bytes that the programmer got

@@ -3,7 +3,6 @@ use Rattle.std.proofs.Common.{◌≡◌, ℕ, List, All, length, sym, ap, ◌∙
 use Rattle.avr_desk.specs.Said.{OutputEvent}
 use Rattle.avr_part.specs.Part.{IsPart}
 use Rattle.avr_part.specs.Sound.{IsSoundChip}
-use Rattle.avr_part.specs.State as chips
 use Rattle.avr_plan.specs.Plan.{Plan, IsFitted}
 use Rattle.avr_session.specs.Session.{session}
 use Rattle.stk_frame.specs.Cut.{frames}
@@ -13,7 +12,7 @@ use Rattle.stk_host.specs.Tape.{Tape}
 use Rattle.stk_emu.specs.Along.{along, said_along, AsksBodies}
 use Rattle.stk_emu.specs.Device.{device}
 use Rattle.stk_emu.specs.Effect.{Memories, memories_of}
-use Rattle.stk_emu.specs.Programmer.{Programmer, fresh_programmer}
+use Rattle.stk_emu.specs.Programmer.{Programmer}
 use Rattle.stk_emu.specs.Settled.{Idle, FitsPart}
 use Rattle.stk_emu.specs.Turn.{Turn, Became}
 use Rattle.avr_laws.specs.AnyLine.{OverTurns, ComesOverTurns}
@@ -26,29 +25,26 @@ use Rattle.avr_laws.proofs.AnyLine.PageWriteOrder.{session_makes}
 use Rattle.avr_laws.proofs.Bounds.Weights.{session_weighs}
 use Rattle.avr_laws.proofs.Bounds.WireFrames.{prefix_weighs}
 use Rattle.avr_laws.proofs.FewBad.Sessions.{session_ends}
-use Rattle.avr_laws.proofs.Given.FirstSteps.{fresh_idle, fresh_fits}
+use Rattle.avr_laws.proofs.Given.FirstSteps.{sound_idle, sound_fits}
 use Rattle.avr_laws.proofs.Memories.VerifiedRuns.{run_written}
 use Rattle.avr_laws.proofs.Reports.OverTape.{ByTurns, told_any}
 use Rattle.avr_laws.proofs.Reports.Truth.{session_leaves, session_succeeds, session_tells}
 use Rattle.avr_laws.proofs.Reports.UpToFault.{foretold_end, foretold_on_tape}
 use Rattle.avr_laws.proofs.SecondRun.Status.{succeeds}
 
-module _ (plan : Plan) (s : chips.ChipState) (is_sound : IsSoundChip s) (part_is : s.part ≡ plan.part)
+module _ (plan : Plan) (begun : Programmer) (is_sound : IsSoundChip begun.chip) (part_is : begun.chip.part ≡ plan.part)
     (fitted : All (IsFitted plan.part) plan.tasks) where
-  abbrev begun : Programmer
-  begun = fresh_programmer s
-
   abbrev before : Memories
-  before = memories_of s
+  before = memories_of begun.chip
 
   sound : IsPart plan.part
   sound = subst IsPart part_is is_sound.part
 
   sizes : FitsPart plan.part before
-  sizes = subst (λ part. FitsPart part before) part_is (fresh_fits s is_sound)
+  sizes = subst (λ part. FitsPart part before) part_is (sound_fits begun.chip is_sound)
 
   idle : Idle plan.part before begun
-  idle = subst (λ part. Idle part before begun) part_is (fresh_idle s is_sound)
+  idle = subst (λ part. Idle part before begun) part_is (sound_idle begun is_sound)
 
   pub asks : AsksBodies (session plan)
   asks = session_asks plan sound fitted

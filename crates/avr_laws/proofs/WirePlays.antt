@@ -51,7 +51,7 @@ module _ (plan : Plan) (w v : WiredState) (fresh : IsFresh w) (stays : Stays Com
   turns = turns_of w.wire.fates
 
   asks_bodies : AsksBodies (session plan)
-  asks_bodies = asks plan w.wire.programmer.chip is_sound part_is fitted
+  asks_bodies = asks plan begun is_sound part_is fitted
 
   keeps : FollowsFates begun w.wire.fates v
   keeps = stays (record { programmer = begun; fates = w.wire.fates }) (fresh_follows w fresh)
@@ -70,7 +70,7 @@ module _ (plan : Plan) (w v : WiredState) (fresh : IsFresh w) (stays : Stays Com
   over : Runs → OverTurns plan begun v.wire.programmer turns (sent v.transcript) (events_over plan v)
   over runs =
       let all = length (frames_in (events_over plan v)) in
-      over_turns plan w.wire.programmer.chip is_sound part_is fitted turns v.wire.programmer (sent v.transcript)
+      over_turns plan begun is_sound part_is fitted turns v.wire.programmer (sent v.transcript)
       (stands runs) (heard v.transcript) (becames_of all w.wire.fates) (first runs).1
       (honest_heard (session plan) 1 begun w.wire.fates v asks_bodies fresh.lawful keeps (first runs).0 (first runs).1)
       (by_fates all w.wire.fates)
@@ -86,7 +86,7 @@ module _ (plan : Plan) (w v : WiredState) (fresh : IsFresh w) (stays : Stays Com
       sym (ap (λ t. (played (session plan) 1 t).events) (sym (append-nil (heard v.transcript)))
       ∙ ap (λ x. x.events) (plays.plays [])) in
       let prefix = (first (inl whole)).1 in (
-        comes_over_turns plan w.wire.programmer.chip is_sound part_is fitted turns v.wire.programmer (sent v.transcript)
+        comes_over_turns plan begun is_sound part_is fitted turns v.wire.programmer (sent v.transcript)
             (stands (inl whole)) (outputs (events_over plan v)) status
             (search (rules, whole_done, asks_bodies, keeps))
             (ap outputs (sym same) ∙ whole_said (session plan) 1 begun w.wire.fates v asks_bodies fresh.lawful keeps

@@ -21,7 +21,6 @@ ghost use Rattle.stk_emu.specs.Turn.{Turn, Became};
 ghost use Rattle.avr_laws.specs.AnyTape.{AreHonest, CameThrough, after_pieces, became_by, turns_heard};
 ghost use Rattle.avr_laws.specs.NoFrame.{MakesNoFrame};
 ghost use Rattle.avr_part.specs.Sound.{IsSoundChip};
-ghost use Rattle.avr_part.specs.State.{ChipState as Chip};
 ghost use Rattle.avr_session.specs.Run.{RunsSession};
 ghost use Rattle.stk_frame.specs.Cut.{frames};
 ghost use Rattle.stk_host.specs.Play.{IsPrefixOf};
@@ -103,37 +102,39 @@ pub fn a_session_outputs_its_expected_run_up_to_a_fault()
         → (later : List OutputEvent) × ((expected_run plan m).says ≡ says ++ later) }
 {}
 
-/// States what a session does over any link that forges no answer. The link may lose, spoil, cut, delay, hold and
-/// repeat anything. The session goes along the turns of its questions, which follow from what was read and what
-/// happened to the programmer. It does what the page says.
+/// States what a session does over any link that forges no answer, with a programmer in any state. The link may lose,
+/// spoil, cut, delay and hold anything, and repeat answers. The session goes along the turns of its questions, which
+/// follow from what was read and what happened to the programmer. It does what the page says.
 ///
 /// `bytes` states this in bytes. The programmer may have got any bytes whose good frames are some of those sent, in
-/// order. The tape that came back is any on which each good frame that the host cuts is one of the programmer's last
-/// answers, or a refusal. `end` holds however a session ends, so that any prefix of its bytes was sent. The memories
-/// are those of its first writes. Its output is the expected run's, up to the line of a failed step.
+/// order, each at most once: a frame that arrives twice is forged. The tape that came back is any on which each good
+/// frame that the host cuts is one of the programmer's last answers, or a refusal.
+///
+/// `end` holds however a session ends, so that any prefix of its bytes was sent. The memories are those of its first
+/// writes. Its output is the expected run's, up to the line of a failed step.
 pub fn a_session_over_any_line()
-    ensures turns { (plan : Plan) (s : Chip) (becames : List Became) (bytes : List ℕ)
+    ensures turns { (plan : Plan) (p : Programmer) (becames : List Became) (bytes : List ℕ)
         (tape left : Tape) (events : List (Event OutputEvent)) (status next : ℕ)
-        → IsSoundChip s → s.part ≡ plan.part → All (IsFitted plan.part) plan.tasks
-        → AreHonest device (session plan) 1 tape (fresh_programmer s) becames
+        → IsSoundChip p.chip → p.chip.part ≡ plan.part → All (IsFitted plan.part) plan.tasks
+        → AreHonest device (session plan) 1 tape p becames
         → played (session plan) 1 tape ≡ record { events = events; outcome = Some (status, next, left) }
         → bytes_sent events ≡ bytes
-        → WholeOverTurns plan (fresh_programmer s) (after_pieces device (frames bytes) becames (fresh_programmer s))
+        → WholeOverTurns plan p (after_pieces device (frames bytes) becames p)
         (turns_heard (session plan) 1 tape becames) bytes events status }
-    ensures bytes { (plan : Plan) (s : Chip) (got bytes : List ℕ) (through : List Bool) (tape left : Tape)
+    ensures bytes { (plan : Plan) (p : Programmer) (got bytes : List ℕ) (through : List Bool) (tape left : Tape)
         (events : List (Event OutputEvent)) (status next : ℕ)
-        → IsSoundChip s → s.part ≡ plan.part → All (IsFitted plan.part) plan.tasks
+        → IsSoundChip p.chip → p.chip.part ≡ plan.part → All (IsFitted plan.part) plan.tasks
         → CameThrough got (frames bytes) through
-        → MakesNoFrame device (session plan) 1 tape (fresh_programmer s) (became_by through) []
+        → MakesNoFrame device (session plan) 1 tape p (became_by through) []
         → played (session plan) 1 tape ≡ record { events = events; outcome = Some (status, next, left) }
         → bytes_sent events ≡ bytes
-        → WholeOverTurns plan (fresh_programmer s) (after_frames device (frames got) (fresh_programmer s))
+        → WholeOverTurns plan p (after_frames device (frames got) p)
         (turns_heard (session plan) 1 tape (became_by through)) bytes events status }
-    ensures end { (plan : Plan) (s : Chip) (becames : List Became) (bytes : List ℕ) (tape : Tape)
-        → IsSoundChip s → s.part ≡ plan.part → All (IsFitted plan.part) plan.tasks
-        → AreHonest device (session plan) 1 tape (fresh_programmer s) becames
+    ensures end { (plan : Plan) (p : Programmer) (becames : List Became) (bytes : List ℕ) (tape : Tape)
+        → IsSoundChip p.chip → p.chip.part ≡ plan.part → All (IsFitted plan.part) plan.tasks
+        → AreHonest device (session plan) 1 tape p becames
         → IsPrefixOf bytes (bytes_sent (played (session plan) 1 tape).events)
-        → OverTurns plan (fresh_programmer s) (after_pieces device (frames bytes) becames (fresh_programmer s))
+        → OverTurns plan p (after_pieces device (frames bytes) becames p)
         (turns_heard (session plan) 1 tape becames) bytes (played (session plan) 1 tape).events }
 {}
 
@@ -141,12 +142,12 @@ pub fn a_session_over_any_line()
 /// nothing had passed. If no frame is forged, the memories are those of its first writes: as many as were completed
 /// by what was received, and at most one more. Its output is the expected run's, up to the line of a failed step.
 pub fn whatever_becomes_of_a_session_its_first_page_writes_were_made()
-    ensures { (plan : Plan) (s : Chip) (got : List ℕ) (through : List Bool) (old new : Devices) (status : ℕ)
-        → IsSoundChip s → s.part ≡ plan.part → All (IsFitted plan.part) plan.tasks
+    ensures { (plan : Plan) (p : Programmer) (got : List ℕ) (through : List Bool) (old new : Devices) (status : ℕ)
+        → IsSoundChip p.chip → p.chip.part ≡ plan.part → All (IsFitted plan.part) plan.tasks
         → old.link.transcript ≡ [] → RunsSession plan old new status
         → CameThrough got (frames (sent new.link.transcript)) through
-        → MakesNoFrame device (session plan) 1 (heard new.link.transcript) (fresh_programmer s) (became_by through) []
-        → OverTurns plan (fresh_programmer s) (after_frames device (frames got) (fresh_programmer s))
+        → MakesNoFrame device (session plan) 1 (heard new.link.transcript) p (became_by through) []
+        → OverTurns plan p (after_frames device (frames got) p)
         (turns_heard (session plan) 1 (heard new.link.transcript) (became_by through)) (sent new.link.transcript)
         (played (session plan) 1 (heard new.link.transcript)).events }
 {}

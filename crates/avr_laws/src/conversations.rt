@@ -7,17 +7,20 @@ ghost use Rattle.stk_frame.specs.declared.command.Command.{Command};
 ghost use Rattle.stk_frame.specs.Frame.{frame};
 ghost use Rattle.stk_frame.specs.Cut.{frames, is_good};
 ghost use Rattle.stk_host.specs.Tape.{Tape, answer};
-ghost use Rattle.stk_host.specs.Dialog.{Dialog, played, frames_in, Done};
+ghost use Rattle.stk_host.specs.Dialog.{Dialog, Event, played, bytes_sent, frames_in, outputs, Done};
+ghost use Rattle.stk_host.specs.Play.{Progress, progress_at, InTurn, IsPrefixOf, Plays};
 ghost use Rattle.stk_host.specs.Steps.{StepOutcome, step, play};
-ghost use Rattle.stk_host.specs.Transcript.{sent};
+ghost use Rattle.stk_host.specs.Transcript.{Transcript, sent, heard};
 ghost use Rattle.stk_emu.specs.Programmer.{Programmer};
 ghost use Rattle.stk_emu.specs.Device.{device, after_frames};
 ghost use Rattle.avr_laws.specs.NoFrame.{MakesNoFrame};
 ghost use Rattle.avr_laws.specs.AnyTape.{AreHonest, GoesAs, CameThrough, after_pieces, became_by};
 ghost use Rattle.stk_emu.specs.Lawful.{IsClear};
-ghost use Rattle.stk_emu.specs.Wire.{Wire, AreLawful, becames_of, tape_of};
+ghost use Rattle.stk_emu.specs.Wire.{Wire, AreLawful, becames_of, tape_of, turns_of};
+ghost use Rattle.stk_emu.specs.Wired.{WiredState, FollowsFates, NeverIdle};
+ghost use Rattle.stk_emu.specs.declared.fate.Fate.{Fate};
 ghost use Rattle.stk_emu.specs.Turn.{Became, Turn};
-ghost use Rattle.stk_emu.specs.Along.{along, AsksBodies};
+ghost use Rattle.stk_emu.specs.Along.{along, said_along, AsksBodies};
 ghost use Rattle.stk_emu.specs.Effect.{Memories};
 ghost use Rattle.stk_emu.specs.Settled.{Ready, FitsPart};
 ghost use Rattle.stk_emu.specs.PageWrites.{IsStep, AreSteps};
@@ -77,4 +80,27 @@ pub fn a_wire_is_an_honest_line<E, R>()
         → AreHonest device d n (tape_of device sent w) w.programmer (becames_of (length sent) w.fates) }
     ensures prefix { (got : List ℕ) (sent others : List (List ℕ)) → sent ≡ frames got ++ others
         → filter is_good sent ≡ sent → CameThrough got sent (replicate (length (frames got)) true) }
+{}
+
+/// States that a conversation over a wire never receives while nothing waits, if it receives only when it is due.
+pub fn a_conversation_in_turn_is_never_idle<E, R>()
+    ensures { (d : Dialog E R) (n : ℕ) (p : Programmer) (fates : List Fate) (transcript : Transcript)
+        → AsksBodies d → AreLawful fates → InTurn d (progress_at n []) transcript → NeverIdle p fates transcript }
+{}
+
+/// States that a conversation over a wire goes along the turns of its fates, one for each frame sent. The programmer is
+/// the one along them, also if the conversation broke off: then its bytes are a prefix of what it sends over what it
+/// received. A whole conversation has the same result and output as along them.
+pub fn over_a_wire_a_conversation_goes_along_turns<E, R>()
+    ensures programmer { (d : Dialog E R) (n : ℕ) (p : Programmer) (fates : List Fate) (w : WiredState)
+        → AsksBodies d → AreLawful fates → FollowsFates p fates w → InTurn d (progress_at n []) w.transcript
+        → IsPrefixOf (sent w.transcript) (bytes_sent (played d n (heard w.transcript)).events)
+        → w.wire.programmer ≡ (along device (length (frames (sent w.transcript))) d p (turns_of fates)).programmer }
+    ensures whole { (d : Dialog E R) (n : ℕ) (p : Programmer) (fates : List Fate) (w : WiredState)
+        (events : List (Event E)) (r : R) (after : Progress)
+        → AsksBodies d → AreLawful fates → FollowsFates p fates w
+        → Plays d (progress_at n []) w.transcript events r after
+        → IsPrefixOf (sent w.transcript) (bytes_sent (played d n (heard w.transcript)).events)
+        × ((along device (length (frames (sent w.transcript))) d p (turns_of fates)).dialog ≡ Done r)
+        × (outputs events ≡ said_along device (length (frames (sent w.transcript))) d p (turns_of fates)) }
 {}

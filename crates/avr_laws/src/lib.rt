@@ -26,8 +26,9 @@ pub use any_line::{
     whatever_becomes_of_a_session_its_first_page_writes_were_made,
 };
 pub use conversations::{
-    a_line_that_makes_no_frame_is_honest, a_wire_is_an_honest_line, few_bad_fates_bring_all_data,
-    over_any_tape_a_conversation_goes_along_turns,
+    a_conversation_in_turn_is_never_idle, a_line_that_makes_no_frame_is_honest,
+    a_wire_is_an_honest_line, few_bad_fates_bring_all_data,
+    over_a_wire_a_conversation_goes_along_turns, over_any_tape_a_conversation_goes_along_turns,
 };
 pub use few_bad_frames::a_run_with_few_bad_frames_is_its_expected_run;
 pub use written::{

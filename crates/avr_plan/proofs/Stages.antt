@@ -7,5 +7,6 @@ pub mod Tasks
 pub mod Fitted
 pub mod Plans
 pub mod EachStage
+pub mod AskedPlan
 pub mod OnlyReading
 pub mod FilesRead

@@ -1,11 +1,12 @@
 //! Laws of planning, over the definitions alone; no code.
-ghost use Rattle.std.specs.Prelude.{◌≡◌, ◌++◌, ℕ, List, All, Some, Err};
+ghost use Rattle.std.specs.Prelude.{◌≡◌, ◌++◌, ℕ, List, [], All, Some, Err};
 ghost use Rattle.avr_cli.specs.declared.settings.Settings.{Settings};
 ghost use Rattle.ghosts.specs.Failures.{HasStood};
 ghost use Rattle.avr_desk.specs.Record.{Record, showing, Bytes};
 ghost use Rattle.avr_desk.specs.declared.record.Opening.{Opening};
 ghost use Rattle.avr_desk.specs.Lines.{memory_line};
-ghost use Rattle.avr_desk.specs.Memory.{Stock};
+ghost use Rattle.avr_desk.specs.Memory.{Stock, stood_for};
+ghost use Rattle.avr_plan.specs.AskedPlan.{IsAsked};
 ghost use Rattle.avr_plan.specs.FilesRead.{AreSeen, lines_in, planned_of};
 ghost use Rattle.avr_plan.specs.OnlyReading.{OnlyReads};
 ghost use Rattle.avr_plan.specs.Planning.{planned};
@@ -43,4 +44,12 @@ pub fn a_plan_is_of_whole_files()
 pub fn a_plan_fits_its_part()
     ensures { (s : Settings) (openings : List Opening) (plan : Plan)
         → (planned s openings).answer ≡ Made plan → All (IsFitted plan.part) plan.tasks }
+{}
+
+/// States that a plan that was made is the one that the settings and the files ask for, if each opening was true of the
+/// files.
+pub fn a_plan_is_the_one_asked_for()
+    ensures { (s : Settings) (stock : Stock) (openings : List Opening) (plan : Plan)
+        → AreSeen stock (planned s openings).says → (planned s openings).answer ≡ Made plan
+        → IsAsked s (stood_for stock []) plan }
 {}

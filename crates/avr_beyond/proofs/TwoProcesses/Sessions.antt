@@ -19,7 +19,7 @@ use Rattle.stk_host.proofs.Tapes.Answers.{bytes_of_append}
 use Rattle.stk_emu.specs.Along.{along, AsksBodies}
 use Rattle.stk_emu.specs.Effect.{memories_of}
 use Rattle.stk_emu.specs.Settled.{Idle, FitsPart}
-use Rattle.avr_laws.proofs.Given.FirstSteps.{fresh_idle, fresh_fits}
+use Rattle.avr_laws.proofs.Given.FirstSteps.{sound_idle, sound_fits}
 use Rattle.avr_laws.specs.ExpectedRun.{expected_run}
 use Rattle.avr_laws.proofs.FewBad.Sessions.{session_ends}
 use Rattle.avr_laws.specs.AnyTape.{AreHonest, after_pieces, turns_heard}
@@ -163,8 +163,8 @@ module _ (plan : Plan) (s : chips.ChipState) (is_sound : IsSoundChip s) (part_is
           endless
           stalls prompt status after.next (on_tape after.unread ++ []) (ap (λ x. x.outcome) over) in
           let came = session_ends plan (subst IsPart part_is is_sound.part) fitted (memories_of s) p []
-          (subst (λ part. FitsPart part (memories_of s)) part_is (fresh_fits s is_sound))
-          (subst (λ part. Idle part (memories_of s) p) part_is (fresh_idle s is_sound)) tt (length fs) status
+          (subst (λ part. FitsPart part (memories_of s)) part_is (sound_fits s is_sound))
+          (subst (λ part. Idle part (memories_of s) p) part_is (sound_idle p is_sound)) tt (length fs) status
           goes.dialog in
           let stands : (along device (length fs) (session plan) p []).programmer ≡ left =
           goes.programmer ∙ leaves left serves joined prefix in (

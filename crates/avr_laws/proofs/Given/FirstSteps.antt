@@ -1,12 +1,12 @@
--- A programmer at its beginning, and runs of steps from a settled one.
-use Rattle.std.proofs.Common.{ℕ, List, [], ◌∷◌, rules}
+-- A programmer in any state, and runs of steps from a settled one.
+use Rattle.std.proofs.Common.{ℕ, List, [], ◌∷◌, refl, rules}
 use Rattle.avr_part.specs.State as chip
 use Rattle.avr_part.specs.Sound.{IsSoundChip}
 use Rattle.avr_part.specs.Part.{Part, IsPart}
 use Rattle.stk_frame.specs.declared.command.Command.{Command}
 use Rattle.stk_host.specs.Steps.{play}
 use Rattle.stk_emu.specs.Turn.{Turn}
-use Rattle.stk_emu.specs.Programmer.{Programmer, fresh_programmer}
+use Rattle.stk_emu.specs.Programmer.{Programmer}
 use Rattle.stk_emu.specs.Device.{device}
 use Rattle.stk_emu.specs.Along.{along}
 use Rattle.stk_emu.specs.Effect.{Memories, memories_of}
@@ -16,11 +16,16 @@ use Rattle.stk_emu.specs.PageWrites.{changed_by, AreSteps}
 use Rattle.avr_laws.proofs.PageWrites.Conditions.{play_climbs}
 use Rattle.avr_laws.proofs.PageWrites.OutsideMode.{all_fit}
 
-pub fresh_idle : (s : chip.ChipState) → IsSoundChip s → Idle s.part (memories_of s) (fresh_programmer s)
-fresh_idle s sound = search rules
+pub sound_idle : (p : Programmer) → IsSoundChip p.chip → Idle p.chip.part (memories_of p.chip) p
+sound_idle p sound = record {
+  memories = refl;
+  part_is = refl;
+  flash_buffer = sound.flash_buffer_size;
+  eeprom_buffer = sound.eeprom_buffer_size;
+}
 
-pub fresh_fits : (s : chip.ChipState) → IsSoundChip s → FitsPart s.part (memories_of s)
-fresh_fits s sound = record { flash = sound.flash_size; eeprom = sound.eeprom_size; bytes = sound.flash }
+pub sound_fits : (s : chip.ChipState) → IsSoundChip s → FitsPart s.part (memories_of s)
+sound_fits s sound = record { flash = sound.flash_size; eeprom = sound.eeprom_size; bytes = sound.flash }
 
 -- a step has a command
 pub are_some : (part : Part) (steps : List (List Command)) → AreSteps part steps → AreSome steps

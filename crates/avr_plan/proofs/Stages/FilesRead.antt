@@ -28,7 +28,7 @@ seen_first stock [] second seen = tt
 seen_first stock (Opens opening ∷ first) second seen = (seen.0, seen_first stock first second seen.1)
 seen_first stock (output ∷ first) second seen = seen_first stock first second seen
 
-seen_second : (stock : Stock) (first second : List OutputEvent) → AreSeen stock (first ++ second) → AreSeen stock second
+pub seen_second : (stock : Stock) (first second : List OutputEvent) → AreSeen stock (first ++ second) → AreSeen stock second
 seen_second stock [] second seen = seen
 seen_second stock (Opens opening ∷ first) second seen = seen_second stock first second seen.1
 seen_second stock (output ∷ first) second seen = seen_second stock first second seen
@@ -118,7 +118,7 @@ module _ (stock : Stock) where
   -- ---- a file
 
   -- past its limit a file is judged by the bytes that were read
-  abbrev IsLimited : {A : Type 0} → ℕ → (Bytes → Result A Bytes) → Type 0
+  abbrev pub IsLimited : {A : Type 0} → ℕ → (Bytes → Result A Bytes) → Type 0
   IsLimited limit judge = (bytes more : Bytes) → limit < length bytes → judge (bytes ++ more) ≡ judge bytes
 
   module _ {A : Type 0} (name : Bytes) (limit : ℕ) (judge : Bytes → Result A Bytes)
@@ -147,7 +147,7 @@ module _ (stock : Stock) where
     file [] rest seen read = behind_opening (Absent name) [] rest seen.0 read
     file (opening ∷ openings) rest seen read = behind_opening opening openings rest seen.0 read
 
-  limited_parts : (name : Bytes) → IsLimited LARGEST_PART_FILE (judged_parts name)
+  pub limited_parts : (name : Bytes) → IsLimited LARGEST_PART_FILE (judged_parts name)
   limited_parts name bytes more past =
       search (rules, length-append)
 
@@ -160,7 +160,7 @@ module _ (stock : Stock) where
       let whole : prefix ++ back ≡ bytes = take-append-drop 1024 bytes in
       search (rules, kind-prefix, append_assoc)
 
-  limited_image : (name : Bytes) (kind : Format) (size : ℕ) → IsLimited LARGEST_IMAGE_FILE (judged_image name kind size)
+  pub limited_image : (name : Bytes) (kind : Format) (size : ℕ) → IsLimited LARGEST_IMAGE_FILE (judged_image name kind size)
   limited_image name kind size bytes more past =
       let one : nat_le (length bytes) LARGEST_IMAGE_FILE ≡ false = grind (arith, nat_tests, past) in
       let other : nat_le (length (bytes ++ more)) LARGEST_IMAGE_FILE ≡ false = search (rules, length-append) in

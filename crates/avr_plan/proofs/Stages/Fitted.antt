@@ -1,5 +1,5 @@
 -- A plan that was made fits its part.
-use Rattle.std.proofs.Common.{◌≡◌, ◌∙◌, sym, ap, subst, arith, ℕ, suc, ◌+◌, ◌≤◌, ◌<◌, ◌⊎◌, inl, inr, All, List, [], ◌∷◌, ◌++◌, length, map, refl, Bool, true, false, if◌then◌else◌, Option, Some, None, Result, Ok, Err, ◌==◌, rules}
+use Rattle.std.proofs.Common.{◌≡◌, ◌∙◌, sym, ap, subst, arith, ℕ, ◌+◌, ◌≤◌, ◌<◌, ◌⊎◌, inl, inr, All, List, [], ◌∷◌, ◌++◌, length, map, refl, Bool, true, false, if◌then◌else◌, Option, Some, None, Result, Ok, Err, ◌==◌, rules}
 use Rattle.std.specs.List.{enumerate_from}
 use Rattle.std.proofs.lemmas.Bool.{cases_Bool}
 use Rattle.std.proofs.lemmas.List.{length-replicate}
@@ -12,12 +12,12 @@ use Rattle.avr_cli.specs.declared.update.Op.{Op}
 use Rattle.avr_cli.specs.declared.update.Op.TheVariants as op
 use Rattle.avr_cli.specs.declared.update.Update.{Update}
 use Rattle.avr_image.specs.declared.fault.ImageFault.{ImageFault}
-use Rattle.avr_image.specs.Image.{empty, image_of_pairs, from_zero}
+use Rattle.avr_image.specs.Image.{empty, from_zero}
 use Rattle.avr_image.specs.Values.{values, all_ok, onto_ok, fitting, fitting_value, image_of_bytes, pieces, value_of}
 use Rattle.avr_image.proofs.Lemmas.{laid_size, from_zero_is_a_span}
 use Rattle.avr_desk.specs.Record.{Bytes}
 use Rattle.avr_desk.specs.Said.{OutputEvent}
-use Rattle.avr_desk.specs.Stage.{Stage, StageAnswer, Made, Refused, Unread, going_on, ◌>>=◌, verdict_stage, open_stage, file_stage, content_stage, is_whole, unread_stage, output_stage, next_opening}
+use Rattle.avr_desk.specs.Stage.{Stage, StageAnswer, Made, Refused, Unread, going_on, ◌>>=◌, verdict_stage, open_stage, file_stage, content_stage, is_whole, unread_stage, output_stage}
 use Rattle.avr_desk.specs.declared.record.Opening.{Opening}
 use Rattle.avr_desk.specs.declared.record.Opening.TheVariants.{Absent, Found}
 use Rattle.avr_part.specs.Mem.{is_writable}
@@ -33,7 +33,7 @@ use Rattle.avr_plan.specs.declared.image_file.TheConstants.{LARGEST_IMAGE_FILE}
 use Rattle.avr_plan.specs.declared.planned.Task.{Task}
 use Rattle.avr_plan.specs.declared.planned.Task.TheVariants.{Write, Verify, Read}
 
-abbrev Image : Type 0
+abbrev pub Image : Type 0
 Image = List (Option ℕ)
 
 -- ---- what a stage made, an earlier one made on the way
@@ -54,7 +54,7 @@ earlier : {A B : Type 0} (stage : Stage A) (go_on : A → Stage B) (openings : L
 earlier stage go_on openings b is =
     let p = stage openings in going_made p.says p.left go_on p.answer b is
 
-settled : {A : Type 0} (r : Result A Bytes) (openings : List Opening) (a : A)
+pub settled : {A : Type 0} (r : Result A Bytes) (openings : List Opening) (a : A)
     → (verdict_stage r openings).answer ≡ Made a → r ≡ Ok a
 settled (Ok a) openings b is = cc
 settled (Err line) openings b is = cc
@@ -74,7 +74,7 @@ content name limit judge (Found reading) openings a is =
     by_end true made = (reading.bytes, settled (judge reading.bytes) openings a made)
     by_end false made = cc
 
-given : (file : Bytes) (r : Given) (p : Image × Ending) → image_or_line file r ≡ Ok p → r ≡ Ok p
+pub given : (file : Bytes) (r : Given) (p : Image × Ending) → image_or_line file r ≡ Ok p → r ≡ Ok p
 given file (Ok good) p is = cc
 given file (Err bad) p is = cc
 
@@ -121,7 +121,7 @@ sized : (size : ℕ) (r : Result (List ℕ) ImageFault) (image : Image)
 sized size (Ok bytes) image few is =
     let same : from_zero bytes size ≡ image = cc in
     ap length (sym same ∙ from_zero_is_a_span bytes size (few bytes refl))
-        ∙ (laid_size (empty size) (enumerate_from 0 bytes) ∙ length-replicate {A = Option ℕ} size None)
+    ∙ (laid_size (empty size) (enumerate_from 0 bytes) ∙ length-replicate {A = Option ℕ} size None)
 sized size (Err fault) image few is = cc
 
 value_size : (text : Bytes) (size : ℕ) (image : Image) → values text size ≡ Ok image → length image ≡ size
@@ -139,7 +139,7 @@ value_size text size image is =
       | inr fits ↦ omega (arith, fits)
     ]
 
-line_or : (memory : Mem) (r : Result Image ImageFault) (image : Image) → values_or_line memory r ≡ Ok image
+pub line_or : (memory : Mem) (r : Result Image ImageFault) (image : Image) → values_or_line memory r ≡ Ok image
     → r ≡ Ok image
 line_or memory (Ok good) image is = cc
 line_or memory (Err fault) image is = cc
@@ -158,14 +158,13 @@ module _ (switches : Switches) (part : Part) where
       → ((update_image switches part u >>= λ image. verdict_stage (Ok (make image))) openings).answer ≡ Made task
       → (image : Image) × ((length image ≡ size_of u.memory part) × (task ≡ make image))
   imaged u make openings task is =
-      let first = earlier (update_image switches part u) (λ image. verdict_stage (Ok (make image))) openings task is in
-      (
+      let first = earlier (update_image switches part u) (λ image. verdict_stage (Ok (make image))) openings task is in (
         first.0,
         (image_size switches u.memory (size_of u.memory part) u.file u.format openings first.0 first.1.0, cc),
       )
 
-  write : (u : Update) (openings : List Opening) (task : Task) → (write_stage switches part u openings).answer ≡ Made task
-      → IsFitted part task
+  write : (u : Update) (openings : List Opening) (task : Task)
+      → (write_stage switches part u openings).answer ≡ Made task → IsFitted part task
   write u openings task is = elim (cases_Bool (is_writable u.memory)) [
     | inl may ↦
         let made = imaged u (Write u.memory) openings task (rw may at is) in

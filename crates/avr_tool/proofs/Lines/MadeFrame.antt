@@ -36,7 +36,7 @@ pub frame_made : (s : chips.ChipState) (got : List â„•) (through : List Bool) â†
 frame_made s got through sound part other came none =
     let events = (played (session fuse_plan) 1 made_answers).events in
     promise_void (fresh_programmer s) _ _ _ events other
-    (over_bytes fuse_plan s sound part (All-cons (IsFitted fuse_plan.part) _ [] refl
+    (over_bytes fuse_plan (fresh_programmer s) sound part (All-cons (IsFitted fuse_plan.part) _ [] refl
     (All-nil (IsFitted fuse_plan.part))) got (bytes_sent events) through made_answers came none [] events 0 8
     (ended (played (session fuse_plan) 1 made_answers) made_done) refl)
   where

@@ -1,0 +1,14 @@
+use Rattle.avr_laws.proofs.Lines.InTurn.{plays_prefix, stands_along, whole_said, whole_done}
+use Rattle.avr_laws.proofs.conversations.over_a_wire_a_conversation_goes_along_turns.Goals as goal
+
+pub returns-clause-programmer : goal.returns-clause-programmer
+returns-clause-programmer g c = λ d n p fates w asks lawful keeps turns prefix. stands_along d n p fates w asks lawful
+    keeps turns prefix
+
+pub returns-clause-whole : goal.returns-clause-whole
+returns-clause-whole g c = λ d n p fates w events r after asks lawful keeps plays.
+    let prefix = plays_prefix d n w.transcript events r after plays in (
+      prefix,
+      whole_done d n p fates w asks lawful keeps plays.in_turn events r after plays prefix,
+      whole_said d n p fates w asks lawful keeps plays.in_turn events r after plays prefix,
+    )
