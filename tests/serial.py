@@ -364,7 +364,7 @@ def refused():
     """A refused run opens no device, and reports why."""
     note = "nothing was sent, and the device was not opened"
     room.clear()
-    room.put("x.elf", b"\x7fELF\x01\x01\x01")
+    room.put("an x.elf", b"\x7fELF\x01\x01\x01")
     room.put("note.hex", b"# a note\n" + room.read("blink.hex"))
     room.put("empty.hex", b"")
     room.put("big.hex", hex_of([(32_768, b"x")]))
@@ -394,6 +394,7 @@ def refused():
         (["--serve", "5000"], "--serve is for a programmer without a device"),
         (["-P", "usb"], "-P usb is for programmers without a serial device: use avrdude"),
         (["-p", "m9"], f"-p ? lists the parts; others need a part file (--parts); {note}"),
+        (["-e"], f"-p ? lists the parts, and -p auto reads which one it is; others need a part file (--parts); {note}"),
         (["-p", "m8"], "atmega8 is not supported: EEPROM is written by the byte, and the program writes it by the page"),
         (["-p", "ATtiny13"], "attiny13 is not supported: no extended fuse, two calibration bytes"),
         (["-p", "1200"], f"at90s1200 is not supported: no flash pages, but the program writes pages. Use avrdude; {note}"),
@@ -403,12 +404,12 @@ def refused():
         (["-U", "flash:r:.:i"], f". is a folder: {note}"),
         (["-U", "lfuse:w:E2:m"], f"a value is written as 0xE2, 0b11100010, 0342 or 226; {note}"),
         (["-U", "flash:w:blink.hex:I"], "-U flash:w:blink.hex:I: the formats are i, s, r, a and m to write and comp"),
-        (["-U", "flash:w:x.elf:e"], "avr-objcopy"),
+        (["-U", "flash:w:x.elf:e"], "avr-objcopy -O ihex -R .eeprom -R .fuse -R .lock x.elf x.hex makes a file that can be"),
         (["-U", "flash:w:"], f"-U flash:w:: a file comes last, as flash:w:firmware.hex:i; {note}"),
         (["-U", "nofile"], f"there is no such file; {note}"),
         (["-U", "flash:w:gone.hex:i"], f"it is a symbolic link to a missing file; {note}"),
         (["-U", "lfuse:w:0xE2"], f"a value needs :m after it, as lfuse:w:0xE2:m; {note}"),
-        (["-U", "flash:w:x.elf"], "avr-objcopy"),
+        (["-U", "flash:w:an x.elf"], "avr-objcopy -O ihex -R .eeprom -R .fuse -R .lock 'an x.elf' 'an x.hex' makes a"),
         (["-U", "fuse:w:1:m"], "-U fuse:w:1:m: the memories are flash, eeprom, lfuse, "),
         (["-U", "lfuse:r:-:h", "-U", "fl:r:x:i"], "-U fl:r:x:i: the memories are flash, eeprom, lfuse, "),
         (["-U", "flash:x:1:m"], f"-U flash:x:1:m: the operations are w (write), v (compare) and r (read); {note}"),
@@ -423,7 +424,8 @@ def refused():
 
     def ran(words):
         it = Board()
-        status, output, _, own = run(["-p", "m328p", "-P", it.device, *words])
+        part = [] if words[:1] == ["-e"] else ["-p", "m328p"]
+        status, output, _, own = run([*part, "-P", it.device, *words])
         own = [row for row in own if not row.endswith("is read as Intel HEX (:i)")]
         opened = it.opened
         it.end()
@@ -704,8 +706,8 @@ def retries_that_are_refused():
         ([*whole, "-U", "flash:w:1,2:m"], "it writes flash twice at the same address"),
         (["-U", "flash:w:pipe:i"], "pipe can't be read twice"),
         (["-U", "flash:w:-:i"], "- can't be read twice"),
-        (["-U", "lfuse:r:-:h"], "- would get what was read twice"),
-        (["-U", "lfuse:r:/dev/stdout:h"], "/dev/stdout would get what was read twice"),
+        (["-U", "lfuse:r:-:h"], "- can't be written twice"),
+        (["-U", "lfuse:r:/dev/stdout:h"], "/dev/stdout can't be written twice"),
         ([*whole, "-U", "hfuse:w:0xD9:m"], kept),
         (["-e", "-U", "hfuse:w:0xD9:m"], kept),
         (["-e", "-U", "hfuse:w:late.hex:i"], kept),
@@ -992,10 +994,16 @@ def other_part(words, part):
     return [*words[:at], part, *words[at + 1 :]]
 
 
-def renamed(words, given):
+def renamed(words, given, by=None):
     """Replaces the update of the same file."""
     file = given.split(":")[2]
-    return [given if file in it.split(":") else it for it in words]
+    return [by or given if file in it.split(":") else it for it in words]
+
+
+def made_hex(words, _, found):
+    """Types the command that makes an Intel HEX file, and gives that file."""
+    subprocess.run(found[1], shell=True, cwd=room.folder, check=True)
+    return renamed(words, words[-1], f"flash:w:{found[2]}")
 
 
 # What a reader does after a hint: the words that he finds in it, and the next command with the files of its case. After a
@@ -1006,6 +1014,7 @@ FOLLOWED = [
     (r"make it again, by avr-objcopy -O ihex -R .eeprom", lambda words, case, _: case["again"]() or words),
     (r"begins at 0 and leaves out no page$", lambda words, case, _: case["again"]() or words),
     (r"With a programmer leave out -D", lambda words, case, _: case["old"](words)),
+    (r"^(avr-objcopy .* (\S+)) makes a file that can be read", made_hex),
     (r"is -p right\?", lambda words, case, _: other_part(words, case["part"])),
     (r"use -p (\w+)", lambda words, _, found: other_part(words, found[1])),
     (r": give (\S+:[is]);", lambda words, _, found: renamed(words, found[1])),
@@ -1093,6 +1102,13 @@ def hints_that_are_followed():
     for text in ["flash:write:blink.hex:i", "flash:w:blink.hex:I"]:
         walk(text, ["-p", "m328p", "-U", text], ends)
     walk("a file alone", ["-p", "m328p", "blink.hex"], ends)
+    if shutil.which("avr-objcopy"):
+        made = ["avr-objcopy", "-I", "ihex", "-O", "elf32-avr", "blink.hex", "made.elf"]
+        subprocess.run(made, cwd=room.folder, check=True)
+        for text in ["flash:w:made.elf", "flash:w:made.elf:a", "flash:w:made.elf:e"]:
+            walk(text, ["-p", "m328p", "-U", text], ends)
+    else:
+        leave_out("ELF", "avr-objcopy is not installed")
     locked = firmware[:-1] + b"\xfc"
     walk("a lock", ["-p", "m328p", "-U", "lock:w:0xFF:m"], lambda chip: b"\xff" * len(chip), chip=locked)
     for memory in ["flash:v:blink.hex", "eeprom:v:0x01:m", "lfuse:v:0xE2:m", "lock:v:0x00:m"]:
