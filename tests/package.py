@@ -6,6 +6,7 @@ removed.
     tests/package.py [CASE ..]
 """
 
+import copy
 import functools
 import os
 import re
@@ -18,7 +19,7 @@ from pathlib import Path
 
 from cases import PATIENCE, leave_out, named, run_cases, same, see
 from program import PROGRAM, TOP
-from recipes import Clone
+from recipes import Clone, blocks
 
 VERSION = (TOP / "VERSION").read_text().strip()
 MAJOR, MINOR, _ = VERSION.split(".")
@@ -41,6 +42,7 @@ case $1 in
 esac
 """
 
+DOCUMENTS = ["BOARDS", "FORMATS", "PART", "PARTS", "PROTOCOL", "README", "USAGE", "WHY"]
 UNPROVED = "UNPROVED: this build was compiled without its proofs"
 PROVED = "Its behaviour is proved"
 DEVELOPMENT = [
@@ -60,6 +62,7 @@ class Packager(Clone):
         self.made = self.folder / "made"
         self.made.mkdir()
         (self.folder / "bin/rt").write_text(RT)
+        self.stamp("unproved")
         (self.folder / "kit/c").mkdir(parents=True)
         kit = {"cwd": self.folder / "kit/c", "check": True}
         subprocess.run(["gcc", "-fPIC", "-x", "c", "-c", "-o", "heap.pic.o", "-"], input=b"int heap;", **kit)
@@ -76,8 +79,8 @@ class Packager(Clone):
         kept = {name: it for name, it in os.environ.items() if name not in ("AVRSTK", "SOURCE_DATE_EPOCH")}
         own = {"PATH": f"{self.folder}/bin:{os.environ['PATH']}", "HOME": str(self.folder / "home")}
         how = {"stdout": subprocess.PIPE, "stderr": subprocess.STDOUT, "text": True}
-        command = [*front, self.top / "tools/package.sh", *words, self.made]
-        return subprocess.Popen(command, env=kept | own | more, **how)
+        command = [*front, self.top / "tools/package.sh", *words, self.made.name]
+        return subprocess.Popen(command, env=kept | own | more, cwd=self.folder, **how)
 
     def commit(self):
         return self.git("rev-parse", "HEAD").strip()
@@ -114,7 +117,8 @@ def made():
     if NOBODY:
         clones[1].give_to("65534:65534")
     private = ["sh", "-c", 'umask 077 && exec "$0" "$@"']
-    started = [clones[0].start("--with-c", TZ="Asia/Tokyo", XZ_DEFAULTS="--check=none")]
+    # (CDPATH makes `cd` print the folder's name)
+    started = [clones[0].start("--with-c", TZ="Asia/Tokyo", XZ_DEFAULTS="--check=none", CDPATH=".")]
     # (so the files of the two clones have different times)
     time.sleep(1.1)
     started.append(clones[1].start("--with-c", front=[*NOBODY, *private], LC_ALL="C.UTF-8"))
@@ -164,9 +168,12 @@ def a_proved_program_is_not_marked():
     """The proved program of a clone is packaged as proved. If there are changes since the commit, the package states that."""
     clone = made()[0]
     shutil.rmtree(clone.made)
+    for name in [it.name for it in (clone.top / "crates").glob("avrstk*")]:
+        program = clone.top / "crates" / name / "out" / name
+        program.parent.mkdir(exist_ok=True)
+        subprocess.run(["gcc", "-x", "c", "-o", program, "-"], input=b"int main(void) { return 0; }", check=True)
+    clone.stamp("proved")
     program = clone.top / "crates/avrstk/out/avrstk"
-    program.parent.mkdir(exist_ok=True)
-    subprocess.run(["gcc", "-x", "c", "-o", program, "-"], input=b"int main(void) { return 0; }", check=True)
     with open(clone.top / "README.md", "a") as readme:
         readme.write("changed\n")
     status, told = ended(clone.start())
@@ -178,9 +185,11 @@ def a_proved_program_is_not_marked():
     flat = " ".join(description.split())
     see("it states that it is proved", f"{PROVED}, by {KIT}." in flat, description)
     see("and of changes", f"Commit {made()[0].commit()}, with changes since." in flat, description)
-    os.utime(program, (0, 0))
-    ended(clone.start(AVRSTK=str(program)))
-    see("a program older than the sources is marked", list(clone.made.glob("avrstk_*~unproved_*.deb")))
+    shutil.copy(clone.top / "out/unproved/avrstk", program)
+    status, told = ended(clone.start(AVRSTK=str(program)))
+    (found,) = clone.made.glob("avrstk_*~unproved_*.deb")
+    description = " ".join(field(found, "Description").split())
+    see("the unproved program in the proved one's place is marked", UNPROVED in description and PROVED not in description, told)
 
 
 def unpacked(name, folder):
@@ -194,15 +203,16 @@ def packages_hold_what_is_installed():
         prefix = Path(folder, "installed")
         environment = os.environ | {"AVRSTK": str(PROGRAM)}
         subprocess.run([TOP / "install.sh", prefix], env=environment, check=True, stdout=subprocess.DEVNULL)
-        (prefix / "share/avrstk/folders").unlink()
+        (prefix / "share/avrstk/manifest").unlink()
         wanted = [f"usr/{it}.gz" if it.endswith(".1") else f"usr/{it}" for it in files(prefix)]
-        docs = ["BOARDS.md", "README.md", "USAGE.md", "built-from", "changelog.gz", "copyright"]
+        docs = ["built-from", "changelog.gz", "copyright"]
+        own = [*docs, "examples/blink.hex", *(f"{it}.md" for it in DOCUMENTS)]
         found = unpacked("avrstk", Path(folder, "avrstk"))
-        same("avrstk", found, sorted([*wanted, *(f"usr/share/doc/avrstk/{it}" for it in docs)]))
+        same("avrstk", found, sorted([*wanted, *(f"usr/share/doc/avrstk/{it}" for it in own)]))
         name = f"libavr-records{NUMBER}"
-        wanted = [f"usr/lib/libavr_records.so.{NUMBER}", *(f"usr/share/doc/{name}/{it}" for it in docs[3:])]
+        wanted = [f"usr/lib/libavr_records.so.{NUMBER}", *(f"usr/share/doc/{name}/{it}" for it in docs)]
         same(name, unpacked(name, Path(folder, "shared")), wanted)
-        wanted = [*DEVELOPMENT, *(f"usr/share/doc/libavr-records-dev/{it}" for it in docs[3:])]
+        wanted = [*DEVELOPMENT, *(f"usr/share/doc/libavr-records-dev/{it}" for it in docs)]
         same("libavr-records-dev", unpacked("libavr-records-dev", Path(folder, "dev")), wanted)
         copyright = Path(folder, "avrstk/usr/share/doc/avrstk/copyright").read_text()
         see("the package states that there is no licence", "There is no licence yet." in copyright, copyright)
@@ -210,7 +220,10 @@ def packages_hold_what_is_installed():
         see("and what it was built from", all(it in told for it in [KIT, made()[0].commit(), UNPROVED]), told)
         modes = {it: oct((Path(folder, "avrstk") / it).stat().st_mode & 0o777) for it in found}
         programs = {it for it, mode in modes.items() if mode == "0o755"}
-        same("programs alone can be run", programs, {it for it in found if it.startswith("usr/bin/")})
+        wanted = {it for it in found if it.startswith(("usr/bin/", "usr/lib/")) and not it.endswith(".py")}
+        same("programs alone can be run", programs, wanted)
+        first = {(Path(folder, "avrstk/usr/bin") / it).read_text().split("\n")[0] for it in ["avrstk-serial", "avrstk-serve"]}
+        same("the scripts name Debian's Python", first, {"#!/usr/bin/python3"})
         same("all others can be read by everybody", {modes[it] for it in found if it not in programs}, {"0o644"})
 
 
@@ -226,6 +239,35 @@ def runs(prefix, folder):
         see(f"{script} --help", ran.returncode == 0 and script in ran.stdout, ran)
     ran = subprocess.run([prefix / "bin/avrstk-serial", "-p", "?"], **how, env=environment)
     see("avrstk-serial finds the part file", "ATmega32U4" in ran.stdout, ran)
+
+
+def documents_are_the_packages_own():
+    """The package's README has about twenty lines, and types commands that work outside a clone. Every link leads to a
+    document of the package, and to a heading there."""
+    clone = copy.copy(made()[0])
+    with tempfile.TemporaryDirectory() as folder:
+        unpacked("avrstk", Path(folder, "root"))
+        docs = Path(folder, "root/usr/share/doc/avrstk")
+        slug = lambda it: re.sub(r"[^\w -]", "", it.lower()).replace(" ", "-")
+        headings = {it.name: {slug(head) for head in re.findall(r"^#+ (.*)$", it.read_text(), re.M)} for it in docs.glob("*.md")}
+        for name in headings:
+            for target in re.findall(r"\]\(([^)]*)\)", (docs / name).read_text()):
+                file, _, heading = target.partition("#")
+                is_there = heading in headings.get(file or name, {}) if heading else file in headings
+                see(f"the link to {target} in {name}", is_there)
+        see("commands name no repository", "$ ./" not in "".join((docs / it).read_text() for it in headings))
+        readme = (docs / "README.md").read_text()
+        see("its README is short", 15 <= readme.count("\n") <= 35, readme.count("\n"))
+        # the place of /usr in PATH; a folder that is no clone, with the firmware of the board
+        Path(folder, "home").mkdir()
+        Path(folder, "root/usr").rename(Path(folder, "home/.local"))
+        (Path(folder, "bin")).mkdir()
+        clone.folder, clone.top, clone.noted = Path(folder), Path(folder, "work"), Path(folder, "noted")
+        (clone.top / "examples").mkdir(parents=True)
+        shutil.copy(TOP / "examples/blink.hex", clone.top / "examples")
+        Path(folder, "README.md").write_text(readme.replace("/usr/share", f"{folder}/home/.local/share"))
+        for commands in blocks(Path(folder, "README.md")):
+            clone.tries(commands)
 
 
 def package_is_installed_and_removed():
@@ -279,7 +321,7 @@ def refusals():
     same("no program", (status, "avrstk: error: not built yet" in told), (1, True))
 
 
-FROM_BOTH = [packages_are_the_same, packages_say_what_they_are, packages_hold_what_is_installed]
+FROM_BOTH = [packages_are_the_same, packages_say_what_they_are, packages_hold_what_is_installed, documents_are_the_packages_own]
 RUN = [package_is_installed_and_removed, archive_runs_anywhere, lintian_finds_no_error]
 # (the last change the clones)
 CASES = named(*FROM_BOTH, *RUN, a_proved_program_is_not_marked, refusals)

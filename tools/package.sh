@@ -1,6 +1,7 @@
 #!/usr/bin/env bash
 # Makes Debian packages, and an archive for other systems, of what install.sh installs. The program is the one that
-# AVRSTK names, or the built one. If it isn't proved, its version ends with ~unproved, and its description states that.
+# AVRSTK names, or the built one. It is proved if its stamp says so (./avrstk --stamp-of); else its version ends with
+# ~unproved, and its description states that.
 #
 #     tools/package.sh [--with-c] FOLDER
 #
@@ -8,7 +9,7 @@
 # and libavr-records-dev_VERSION_ARCH.deb contain the library for C, which is always proved.
 #
 # The packages are reproducible: the same commit, program, dpkg-deb and xz make the same bytes on every machine.
-# Needs git, rt of Rattle's kit, dpkg-dev, binutils, xz.
+# Needs git, dpkg-dev, binutils, xz; the library for C needs rt of Rattle's kit.
 set -euo pipefail
 umask 022
 export LC_ALL=C TZ=UTC
@@ -28,11 +29,11 @@ fi
 if [ $# -ne 1 ] || [[ $1 == -* ]]; then
     fail "usage: tools/package.sh [--with-c] FOLDER"
 fi
-for it in git rt dpkg-deb dpkg-shlibdeps strip xz; do
+for it in git ${with_c:+rt} dpkg-deb dpkg-shlibdeps strip xz; do
     command -v "$it" >/dev/null || fail "$it is not on the path"
 done
-mkdir -p "$1"
-folder=$(cd "$1" && pwd)
+mkdir -p -- "$1"
+folder=$(realpath -- "$1")
 named=${AVRSTK:-$("$top/avrstk" --which)}
 program=$(readlink -e "$named") || fail "$named is not there"
 
@@ -40,7 +41,6 @@ program=$(readlink -e "$named") || fail "$named is not there"
 in_git() { git -C "$top" "$@"; }
 commit=$(in_git rev-parse HEAD)
 [ -z "$(in_git status --porcelain --untracked-files=no)" ] || commit+=", with changes since"
-kit=$(rt version)
 maintainer=$(in_git log -1 --format='%an <%ae>')
 SOURCE_DATE_EPOCH=${SOURCE_DATE_EPOCH:-$(in_git log -1 --format=%ct)}
 export SOURCE_DATE_EPOCH
@@ -48,17 +48,8 @@ release=$(cat "$top/VERSION")
 # (examples/c/build.sh explains the number)
 number=${release%%.*}
 [ "$number" != 0 ] || number=${release%.*}
-proved="Its behaviour is proved, by $kit."
-# (of the program)
-version=$release
-proof=$proved
-mark=""
-if [ "$program" != "$top/crates/avrstk/out/avrstk" ] || [ "$("$top/avrstk" --which 2>/dev/null)" != "$program" ]; then
-    proof="UNPROVED: this build was compiled without its proofs, by $kit. Nothing of it was proved."
-    mark=" (unproved build)"
-    # (dpkg takes a proved package of the same version as newer)
-    version+="~unproved"
-fi
+[ -z "$with_c" ] || rt=$(rt version)
+proved="Its behaviour is proved, by"
 arch=$(dpkg --print-architecture)
 
 work=$(mktemp -d)
@@ -78,9 +69,9 @@ described() {
     done
 }
 
-# Writes a package's documents, with its version and proof, under a folder.
+# Writes a package's documents, with its version, proof and kit, under a folder.
 document() {
-    local docs=$2/usr/share/doc/$1 version=$3 proof=$4
+    local docs=$2/usr/share/doc/$1 version=$3 proof=$4 kit=$5
     mkdir -p "$docs"
     cat >"$docs/copyright" <<END
 avrstk is written by the $maintainer.
@@ -140,36 +131,60 @@ touched() {
 
 [ -z "$with_c" ] || echo "proves and builds the library for C, in several minutes, if it isn't built" >&2
 AVRSTK=$program DESTDIR=$all "$top/install.sh" ${with_c:+"$with_c"} /usr >/dev/null
+# what the stamp says of the programs as they are installed
+programs=("$all/usr/lib/avrstk/avrstk")
+[ ! -e "${programs[0]}_session" ] || programs+=("${programs[0]}_session")
+stamp=$("$top/avrstk" --stamp-of "${programs[@]}") || stamp="unknown"
+kit=$(sed -n 's/^kit: //p' <<<"$stamp")
+kit=${kit:-an unknown kit}
+version=$release
+proof="$proved $kit."
+mark=""
+if [[ $stamp != proved* ]]; then
+    proof="UNPROVED: this build was compiled without its proofs, by $kit. Nothing of it was proved."
+    mark=" (unproved build)"
+    # (dpkg takes a proved package of the same version as newer)
+    version+="~unproved"
+fi
 mkdir "$all/DEBIAN"
-strip --remove-section=.comment --remove-section=.note "$all/usr/bin/avrstk"
+strip --remove-section=.comment --remove-section=.note "${programs[@]}"
 gzip -9n "$all"/usr/share/man/man1/*.1
-document avrstk "$all" "$version" "$proof"
-install -m 644 "$top/README.md" "$top/docs/USAGE.md" "$top/docs/BOARDS.md" "$all/usr/share/doc/avrstk/"
-(cd "$all" && sha256sum usr/bin/avrstk) >>"$all/usr/share/doc/avrstk/built-from"
+document avrstk "$all" "$version" "$proof" "$kit"
+docs=$all/usr/share/doc/avrstk
+install -D -m 644 -t "$docs/examples" "$top/examples/blink.hex"
+install -m 644 "$top/docs/PACKAGE.md" "$docs/README.md"
+# (the commands as an installed program has them; only the text of a link to what the package doesn't have)
+for it in USAGE BOARDS WHY PART PARTS PROTOCOL FORMATS; do
+    sed -E 's,^(    \$ )\./,\1,; s,examples/blink.hex,/usr/share/doc/avrstk/&,
+        s,\[([^]]*)\]\((\.\.|PROOFS|ARCHITECTURE|LIBRARY|DECISIONS)[^)]*\),\1,g' "$top/docs/$it.md" >"$docs/$it.md"
+done
+(cd "$all" && sha256sum "${programs[@]#"$all/"}") >>"$docs/built-from"
 
 if [ -n "$with_c" ]; then
     shared=$work/shared
     dev=$work/dev
     mkdir -p "$shared/usr/lib" "$shared/DEBIAN" "$dev/usr"
     mv "$all/usr/lib/libavr_records.so.$number" "$shared/usr/lib/"
-    mv "$all/usr/lib" "$all/usr/include" "$dev/usr/"
+    mkdir "$dev/usr/lib"
+    mv "$all"/usr/lib/{libavr_records.*,pkgconfig} "$dev/usr/lib/"
+    mv "$all/usr/include" "$dev/usr/"
     strip --strip-unneeded --remove-section=.comment --remove-section=.note "$shared/usr/lib/"*
-    document "libavr-records$number" "$shared" "$release" "$proved"
+    document "libavr-records$number" "$shared" "$release" "$proved $rt." "$rt"
     echo "activate-noawait ldconfig" >"$shared/DEBIAN/triggers"
     echo "libavr_records $number libavr-records$number (>= $release)" >"$shared/DEBIAN/shlibs"
-    document libavr-records-dev "$dev" "$release" "$proved"
+    document libavr-records-dev "$dev" "$release" "$proved $rt." "$rt"
     reads="reads Intel HEX and Motorola S-records into a memory, and writes them from one"
     depends=$(shared_by "$shared/usr/lib/libavr_records.so.$number")
     package "libavr-records$number" "$shared" "$release" <<END
 Section: libs
 Depends: $depends
-$(described "Intel HEX and S-records for C" "The library $reads." "$proved" "Commit $commit.")
+$(described "Intel HEX and S-records for C" "The library $reads." "$proved $rt." "Commit $commit.")
 END
     package libavr-records-dev "$dev" "$release" <<END
 Section: libdevel
 Depends: libavr-records$number (= $release)
 $(described "Intel HEX and S-records for C, to develop with" \
-        "The header, the archive and the file for pkg-config of a library that $reads." "$proved" "Commit $commit.")
+        "The header, the archive and the file for pkg-config of a library that $reads." "$proved $rt." "Commit $commit.")
 END
 fi
 
@@ -182,7 +197,8 @@ tar -C "$work" --sort=name --format=gnu --owner=0 --group=0 --numeric-owner -cf 
     XZ_DEFAULTS='' XZ_OPT='' xz -3 --threads=1 >"$folder/$name.tar.xz"
 echo "made $folder/$name.tar.xz"
 
-depends=$(shared_by "$all/usr/bin/avrstk")
+sed -i '1s,^#!/usr/bin/env python3$,#!/usr/bin/python3,' "$all"/usr/bin/avrstk-*
+depends=$(shared_by "${programs[@]}")
 package avrstk "$all" "$version" <<END
 Section: electronics
 Depends: $depends, python3 (>= 3.8)

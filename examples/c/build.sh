@@ -3,10 +3,11 @@
 # DIR gets libavr_records.a, and avr_records.pc for pkg-config, which looks for the library beside itself. If there is a C
 # compiler, it also gets the shared library libavr_records.so.N, and the symbolic link libavr_records.so to it. N changes
 # with each incompatible version: it is MAJOR, or 0.MINOR before version 1.0. `rt lib` makes the archive from
-# crates/avr_records_c if a source is newer than the last one; the kit's calls of malloc, realloc and free are added. Both
+# crates/avr_records_c, unless the last one was made from the same sources; the kit's calls of malloc, realloc and free are added. Both
 # libraries export only the functions of include/avr_records.h.
 set -eu
-dir=$(mkdir -p "$1" && cd "$1" && pwd)
+mkdir -p "$1"
+dir=$(realpath "$1")
 top=$(dirname "$(readlink -f "$0")")/../..
 version=$(cat "$top/VERSION")
 number=${version%%.*}
@@ -14,13 +15,15 @@ number=${version%%.*}
 shared=libavr_records.so.$number
 cd "$top/crates/avr_records_c"
 proved=$PWD/out/libavr_records_c.a
-sources=(../../crates.txt ../*/{src,specs,proofs})
-if [ ! -e "$proved" ] || [ -n "$(find "${sources[@]}" -newer "$proved" -print -quit 2>/dev/null)" ]; then
-    # the archive gets the time at which its build began, so that an edit during the build is seen
-    touch "$dir/begun"
+# Prints the sum of the sources.
+sum() {
+    find ../../crates.txt ../*/{src,specs,proofs} -type f -print0 2>/dev/null | LC_ALL=C sort -z | xargs -0 sha256sum | sha256sum
+}
+sources=$(sum)
+if [ ! -e "$proved" ] || [ "$(cat out/built-from 2>/dev/null)" != "$sources $(sha256sum <"$proved")" ]; then
     rt lib
-    touch -r "$dir/begun" "$proved"
-    rm "$dir/begun"
+    [ "$(sum)" = "$sources" ] || { echo "build.sh: error: the sources changed during the build: build it again" >&2 && exit 1; }
+    echo "$sources $(sha256sum <"$proved")" >out/built-from
 fi
 cd "$dir"
 ar x "$(dirname "$(rt doc)")/c/liblibc_c.a" heap.pic.o
