@@ -509,10 +509,10 @@ def few_files():
         before = spent()
         time.sleep(1)
         see("it rests", spent() - before < 30, str(spent() - before))
+        same("a client beside them", it.writes_fuse(0x60)[0], 0)
+        same("it ends", it.end(), (0, ""))
         for client in silent:
             client.close()
-        same("the next client", it.writes_fuse(0x60)[0], 0)
-        same("it ends", it.end(), (0, ""))
 
 
 def two_at_once():
