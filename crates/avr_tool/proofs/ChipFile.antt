@@ -1,4 +1,5 @@
 -- Runs over the emulator and its chip file.
 pub mod FewBadThenAgain
 pub mod Found
+pub mod Promised
 pub mod SecondRun

@@ -1,4 +1,5 @@
 -- Planning and session as one run.
 pub mod Joined
+pub mod Promise
 pub mod Refused
 pub mod Untaken

@@ -53,6 +53,7 @@ pub mod ServedNet
 pub mod Headline
 pub mod InMemory
 pub mod ChipFound
+pub mod Promise
 pub mod Worked
 pub mod Asked
 pub mod Texts

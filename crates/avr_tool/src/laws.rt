@@ -3,12 +3,12 @@
 ghost use Rattle.std.specs.Prelude.{◌≡◌, ◌<◌, ◌*◌, ◌⊎◌, ℕ, Bool, true, false, List, [], All, Some, map};
 ghost use Rattle.avr_cli.specs.declared.settings.Settings.{Settings as AnySettings};
 ghost use Rattle.avr_desk.specs.Fault.{Follows};
-ghost use Rattle.avr_desk.specs.Memory.{MemDeskState, Stock, memory_state};
+ghost use Rattle.avr_desk.specs.Memory.{MemDeskState, Stock, memory_state, stood_for};
 ghost use Rattle.avr_desk.specs.Named.{is_dash};
 ghost use Rattle.avr_desk.specs.Playing.{Went};
 ghost use Rattle.avr_desk.specs.Stage.{Made};
 ghost use Rattle.avr_desk.specs.Truth.{HoldsTrue};
-ghost use Rattle.avr_desk.specs.Record.{DeskState, Passes, Record, Bytes};
+ghost use Rattle.avr_desk.specs.Record.{DeskState, Passes, Record, Bytes, nothing_kept};
 ghost use Rattle.avr_laws.specs.Again.{AgreesAnyway, AreKeeping};
 ghost use Rattle.avr_laws.specs.AnyLine.{Stopped, OverAnyLine, OverTurns, WholeOverTurns, Weight, weighed, bodies_in, memories, events_over, wire_and_desk};
 ghost use Rattle.avr_session.specs.PlanSteps.{run_steps};
@@ -29,10 +29,11 @@ ghost use Rattle.avr_session.specs.Session.{session};
 ghost use Rattle.avr_session.specs.Stopping.{IsSound, LacksMemory, keeping, link_state};
 ghost use Rattle.ghosts.specs.Stays.{Stays};
 ghost use Rattle.avr_tool.specs.ChipFound.{IsChipOf, file_held};
-ghost use Rattle.avr_tool.specs.Headline.{IsRun, IsStopped, StoppedPlaying, IsPrefixOfRun};
+ghost use Rattle.avr_tool.specs.Headline.{IsRun, IsStopped, IsPrefixOfRun};
 ghost use Rattle.avr_tool.specs.InMemory.{Leaves, RunOutcome};
+ghost use Rattle.avr_tool.specs.Promise.{Promised};
 ghost use Rattle.avr_tool.specs.Worked.{absent_outcome, absent_settings, frames_due, fuse_plan, lines_due, made_answers, no_stock, worked_answers, worked_outcome, worked_settings};
-ghost use Rattle.stk_emu.specs.Device.{device};
+ghost use Rattle.stk_emu.specs.Device.{device, after_frames};
 ghost use Rattle.avr_part.specs.ChipFile.{chip_file};
 ghost use Rattle.stk_emu.specs.Effect.{memories_of, erase_keeps_eeprom, effects};
 ghost use Rattle.avr_laws.specs.Few.{AreFew};
@@ -48,6 +49,25 @@ ghost use Rattle.stk_host.specs.Dialog.{Event, played, bytes_sent, outputs};
 ghost use Rattle.stk_host.specs.Transcript.{Transcript, heard, sent};
 ghost use Rattle.stk_host.specs.Tape.{Tape};
 
+/// States what status 0 means, over any link over which nothing had passed: a plan was made, and the chip holds its
+/// images.
+///
+/// The programmer may be in any state. It received any bytes whose good frames are some of those sent, and no reply was
+/// forged. Then the memories of its chip are what the plan's writes make of them. If the run was verified, each holds
+/// its images. Elsewhere it holds what it held before, or the FF of an erase.
+pub fn status_0_means_the_images()
+    ensures plan { (s : AnySettings) (before now : Devices) (r : IsRun s before now 0)
+        → (plan : Plan) × ((planned s r.openings).answer ≡ Made plan) }
+    ensures images { (s : AnySettings) (plan : Plan) (before now : Devices) (r : IsRun s before now 0)
+        → (planned s r.openings).answer ≡ Made plan → before.link.transcript ≡ []
+        → (p : Programmer) (got : List ℕ) (through : List Bool) → IsSoundChip p.chip → p.chip.part ≡ plan.part
+        → CameThrough got (frames (sent now.link.transcript)) through
+        → MakesNoFrame device (session plan) 1 (heard now.link.transcript) p (became_by through) []
+        → (memories_of (after_frames device (frames got) p).chip ≡ effects plan.part (items plan) (memories_of p.chip))
+        × (plan.switches.no_verify ≡ false → IsWritten plan.part (asked_items plan) (memories_of p.chip)
+        (memories_of (after_frames device (frames got) p).chip)) }
+{}
+
 /// States that a run of settings is the one function `run`, or that it stopped. So is the session of a plan that was
 /// made, over the same openings; the counts of the desk's failures never fall.
 pub fn a_run_is_one_function()
@@ -59,9 +79,10 @@ pub fn a_run_is_one_function()
         ⊎ (StopsSession plan (devices x.link between) y × (status ≡ 1))) }
 {}
 
-/// States that a run which stopped did a prefix of the whole run, and that a run has one status.
+/// States that a run which stopped, in planning or in its session, did a prefix of the whole run, and that a run has
+/// one status.
 pub fn a_stop_is_a_prefix()
-    ensures prefix { (s : AnySettings) (x y : Devices) → StoppedPlaying s x y → IsPrefixOfRun s x y }
+    ensures prefix { (s : AnySettings) (x y : Devices) (status : ℕ) → IsStopped s x y status → IsPrefixOfRun s x y }
     ensures one { (s : AnySettings) (h i j k : Devices) (m n : ℕ) (x : IsRun s h i m) (y : IsRun s j k n)
         → x.openings ≡ y.openings → heard x.during ≡ heard y.during → m ≡ n }
 {}
@@ -138,6 +159,15 @@ pub fn a_run_finds_and_leaves_the_chip_of_its_file()
         → is_dash file ≡ false → status ≡ 0
         → (r : RunsOverEmulator settings file (memory_state old) (memory_state new) status)
         → file_held stock new.kept file ≡ Some (chip_file r.after.wire.programmer.chip) }
+{}
+
+/// States the promise over files alone, for a run over the emulator with status 0 and a desk in memory. The settings
+/// and files ask for a plan; the chip file held a chip of its part, and holds one that has the images.
+pub fn the_chip_file_holds_the_images()
+    ensures { (settings : AnySettings) (file : Bytes) (stock : Stock) (old new : MemDeskState)
+        → is_dash file ≡ false → old.kept ≡ nothing_kept → HoldsTrue stock new
+        → RunsOverEmulator settings file (memory_state old) (memory_state new) 0
+        → Promised settings (stood_for stock []) (stood_for stock [] file) (file_held stock new.kept file) }
 {}
 
 /// States that a further run over its chip file heals, for a plan as in [`a_further_run_heals`], however the first

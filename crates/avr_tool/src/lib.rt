@@ -47,7 +47,8 @@ pub use laws::{
     a_further_run_heals, a_further_run_over_its_chip_file_heals, a_made_frame_voids_the_promise,
     a_run_finds_and_leaves_the_chip_of_its_file, a_run_in_memory_has_one_outcome,
     a_run_is_one_function, a_sound_run_is_its_expected_run, a_stop_is_a_prefix,
-    a_worked_run_has_one_outcome, a_wrong_outcome_is_refused,
+    a_worked_run_has_one_outcome, a_wrong_outcome_is_refused, status_0_means_the_images,
+    the_chip_file_holds_the_images,
 };
 // what a run reads and writes beside its link
 pub use avr_desk::{

@@ -12,7 +12,7 @@ use Rattle.avr_desk.specs.Said.{after_opening}
 use Rattle.avr_desk.specs.Stage.{Made, StageResult, next_opening, unread_stage, verdict_stage}
 use Rattle.avr_desk.specs.Truth.{AreTrue, HoldsTrue, IsTrueOpening}
 use Rattle.avr_desk.specs.declared.record.FileUse.{FileUse}
-use Rattle.avr_desk.specs.declared.record.FileUse.TheVariants.{Opened}
+use Rattle.avr_desk.specs.declared.record.FileUse.TheVariants.{Opened, Created}
 use Rattle.avr_desk.specs.declared.record.Opening.{Opening}
 use Rattle.avr_desk.specs.declared.record.Opening.TheVariants.{Absent, Found}
 use Rattle.avr_desk.specs.declared.record.Writing.{Writing}
@@ -85,6 +85,13 @@ module _ (part : Part) (file : Bytes) (old new : DeskState) (chip : Chip)
 
 -- ---- a run
 
+-- the first uses were true by themselves
+true_front : (stock : Stock) (made : List Writing) (first last : List FileUse) → AreTrue stock made (first ++ last)
+    → AreTrue stock made first
+true_front stock made [] last are = tt
+true_front stock made (Opened opening ∷ first) last are = (are.0, true_front stock made first last are.1)
+true_front stock made (Created file ∷ first) last are = true_front stock (made ++ file ∷ []) first last are
+
 module _ (settings : Settings) (file : Bytes) (stock : Stock) (old new : MemDeskState) (status : ℕ)
     (holds : HoldsTrue stock new)
     (r : RunsOverEmulator settings file (memory_state old) (memory_state new) status) where
@@ -125,14 +132,19 @@ module _ (settings : Settings) (file : Bytes) (stock : Stock) (old new : MemDesk
   first_files =
       search (rules, files_append, opened, before, none_made, append-nil, files_used)
 
+  every : AreTrue stock [] (first_uses ++ Opened opening ∷ ended.0)
+  every = subst (AreTrue stock []) (ended.1 ∙ append_assoc first_uses (Opened opening ∷ []) ended.0)
+      (all_true stock new holds)
+
+  -- so were all uses when the plan was made
+  pub planned_true : AreTrue stock [] (all_uses r.planned_desk.kept)
+  planned_true = subst (AreTrue stock []) (sym before.1) (true_front stock [] first_uses (Opened opening ∷ ended.0) every)
+
   -- its opening was true by the files before the run
   gave : IsTrueOpening stock (all_files old.kept) opening
   gave =
-      let all : AreTrue stock [] ((first_uses ++ Opened opening ∷ []) ++ ended.0) =
-      subst (AreTrue stock []) ended.1 (all_true stock new holds) in
       let later : AreTrue stock (files_among first_uses) (Opened opening ∷ ended.0) =
-      true_behind stock [] first_uses (Opened opening ∷ ended.0)
-      (subst (AreTrue stock []) (append_assoc first_uses (Opened opening ∷ []) ended.0) all) in
+      true_behind stock [] first_uses (Opened opening ∷ ended.0) every in
       subst (λ fs. IsTrueOpening stock fs opening) first_files later.0
 
   pub chip_found : IsChipOf r.plan.part (file_held stock old.kept file) r.chip

@@ -9,7 +9,7 @@ use Rattle.avr_desk.proofs.Desks.InMemory.{all_true, begins_true}
 use Rattle.avr_desk.proofs.FileUses.Uses.{absent_used, files_used, openings_used}
 use Rattle.avr_desk.specs.Memory.{MemDeskState, Stock, memory_state, stock_of}
 use Rattle.avr_desk.specs.Playing.{Went, WentRefused}
-use Rattle.avr_desk.specs.Record.{Bytes, Record, all_files, all_openings, all_uses, file_of, files_among, nothing_kept, openings_among, written_on}
+use Rattle.avr_desk.specs.Record.{Bytes, DeskState, Record, all_files, all_openings, all_uses, file_of, files_among, nothing_kept, openings_among, written_on}
 use Rattle.avr_desk.specs.Said.{OutputEvent, Opens, Line, Creates, Writes, Outs, after, after_all}
 use Rattle.avr_desk.specs.Stage.{StageAnswer, Made, Refused, Unread, StageResult, all_told, told_in}
 use Rattle.avr_desk.specs.Truth.{AreTrue, HoldsTrue, IsTrueOpening}
@@ -137,9 +137,9 @@ seen_before stock says (Made plan) seen = seen
 seen_before stock says (Refused line) seen = seen_first stock says (Line line ∷ []) seen
 seen_before stock says Unread seen = seen
 
-module _ (settings : Settings) (stock : Stock) (old m : MemDeskState) (answer : StageAnswer Plan)
-    (unused : old.kept ≡ nothing_kept) (holds : HoldsTrue stock m)
-    (judged : answer ≡ Unread → ⊥) (went : Went (planned settings) (memory_state old) (memory_state m) answer) where
+module _ (settings : Settings) (stock : Stock) (old m : DeskState) (answer : StageAnswer Plan)
+    (unused : old.kept ≡ nothing_kept) (are : AreTrue stock [] (all_uses m.kept))
+    (judged : answer ≡ Unread → ⊥) (went : Went (planned settings) old m answer) where
   planned_is : planned settings (went.passed ++ []) ≡ record { says = went.says; answer = answer; left = [] }
   planned_is = went.comes []
 
@@ -159,9 +159,9 @@ module _ (settings : Settings) (stock : Stock) (old m : MemDeskState) (answer : 
   opened : all_openings m.kept ≡ openings_in told
   opened = ap all_openings kept_is ∙ openings_shown told nothing_kept
 
-  seen : AreSeen stock told
+  pub seen : AreSeen stock told
   seen = seen_outputs stock told (subst (AreOpened stock) (openings_used m.kept ∙ opened)
-      (opened_uses stock (all_uses m.kept) (files_used m.kept ∙ no_files) (all_true stock m holds)))
+      (opened_uses stock (all_uses m.kept) (files_used m.kept ∙ no_files) are))
 
   both : ((planned_of settings stock).answer ≡ (planned settings (went.passed ++ [])).answer)
       × (lines_in (told_in (planned_of settings stock)) ≡ lines_in (told_in (planned settings (went.passed ++ []))))
@@ -211,8 +211,11 @@ module _ (settings : Settings) (old new : MemDeskState) (before after : LinkStat
       let ran = played_whole.1 in
       let p = planned_of settings stock in
       let judged : ◌≡◌ {A = StageAnswer Plan} (Made plan) Unread → ⊥ = λ e. cc in
-      let answer : p.answer ≡ Made plan = search (rules, same_answer) in
-      let alike = same_left settings stock old between (Made plan) unused.desk_is holds judged went in
+      let are = all_true stock between holds in
+      let answer : p.answer ≡ Made plan =
+      same_answer settings stock (memory_state old) (memory_state between) (Made plan) unused.desk_is are judged went in
+      let alike = same_left settings stock (memory_state old) (memory_state between) (Made plan) unused.desk_is are
+      judged went in
       let during : after.transcript ≡ ran.during =
       ran.grows ∙ ap (λ transcript. transcript ++ ran.during) silent_before in
       let left : left_by (map Said p.says ++ ran.events) status ≡ shown_by status (sent after.transcript) new.kept =
@@ -227,8 +230,11 @@ module _ (settings : Settings) (old new : MemDeskState) (before after : LinkStat
   refused holds silent (line, went) more =
       let p = planned_of settings stock in
       let judged : ◌≡◌ {A = StageAnswer Plan} (Refused line) Unread → ⊥ = λ e. cc in
-      let answer : p.answer ≡ Refused line = search (rules, same_answer) in
-      let alike = same_left settings stock old new (Refused line) unused.desk_is holds judged went in
+      let are = all_true stock new holds in
+      let answer : p.answer ≡ Refused line =
+      same_answer settings stock (memory_state old) (memory_state new) (Refused line) unused.desk_is are judged went in
+      let alike = same_left settings stock (memory_state old) (memory_state new) (Refused line) unused.desk_is are
+      judged went in
       let events : map Said (p.says ++ Line line ∷ []) ++ [] ≡ map Said p.says ++ Said (Line line) ∷ [] =
       append-nil (map Said (p.says ++ Line line ∷ [])) ∙ map-append Said p.says (Line line ∷ []) in
       let left : left_by (map Said p.says ++ Said (Line line) ∷ []) 1 ≡ shown_by 1 (sent after.transcript) new.kept =

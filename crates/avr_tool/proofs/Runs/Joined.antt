@@ -9,7 +9,7 @@ use Rattle.avr_desk.proofs.Lines.Told.{follows_on, follows_same, same_on}
 use Rattle.avr_plan.specs.Plan.{Plan}
 use Rattle.avr_plan.specs.Planning.{planned}
 use Rattle.avr_desk.specs.Playing.{Went, WentRefused}
-use Rattle.avr_desk.specs.Stage.{Made, StageResult}
+use Rattle.avr_desk.specs.Stage.{Made, Refused, Unread, StageAnswer, StageResult}
 use Rattle.stk_host.specs.Dialog.{Event, Played, Said, behind, bytes_sent, outputs}
 use Rattle.stk_host.specs.Transcript.{LinkState, heard, Grows}
 use Rattle.stk_host.specs.Tape.{Tape}
@@ -19,7 +19,7 @@ use Rattle.avr_session.specs.Run.{RunsSession, RunsSettings, StopsSession}
 use Rattle.avr_session.specs.Runs.{Devices, devices}
 use Rattle.avr_session.specs.Session.{session}
 use Rattle.avr_session.specs.Stopping.{IsPlayed}
-use Rattle.avr_tool.specs.Headline.{run, after_answer, IsInTurn, IsRun, IsPrefixOfRun, StoppedPlaying, IsStopped}
+use Rattle.avr_tool.specs.Headline.{run, after_answer, IsInTurn, IsRun, IsPrefixOfRun, StoppedPlaying, StoppedPlanning, IsStopped}
 
 pub said_outputs : (says : List OutputEvent) (events : List (Event OutputEvent))
     → outputs (map Said says ++ events) ≡ says ++ outputs events
@@ -131,7 +131,8 @@ behind_prefix says f = record {
   part = f.part;
 }
 
-pub stopped_prefix : (settings : Settings) (x y : Devices) → StoppedPlaying settings x y → IsPrefixOfRun settings x y
+-- a stop in the session
+stopped_prefix : (settings : Settings) (x y : Devices) → StoppedPlaying settings x y → IsPrefixOfRun settings x y
 stopped_prefix settings x y stopped = record {
   openings = stopped.made.passed;
   during = stopped.then_is.during;
@@ -145,6 +146,44 @@ stopped_prefix settings x y stopped = record {
   all_sent = said_bytes stopped.made.says stopped.then_is.shown ∙ stopped.then_is.breaks.all_sent;
   grows = stopped.then_is.grows;
 }
+
+said_append : (whole later : List OutputEvent) (events : List (Event OutputEvent))
+    → map Said (whole ++ later) ++ events ≡ map Said whole ++ (map Said later ++ events)
+said_append [] later events = refl
+said_append (output ∷ whole) later events = ap (λ rest. Said output ∷ rest) (said_append whole later events)
+
+silent_turn : (answer : StageAnswer Plan) → IsInTurn answer []
+silent_turn (Made plan) = tt
+silent_turn (Refused line) = refl
+silent_turn Unread = refl
+
+-- a stop in planning
+planned_prefix : (settings : Settings) (x y : Devices) → StoppedPlanning settings x y → IsPrefixOfRun settings x y
+planned_prefix settings x y stopped = record {
+  openings = stopped.broke.passed;
+  during = [];
+  shown = map Said stopped.broke.whole ++ [];
+  prefix = λ later.
+      let rest = stopped.broke.rest later in
+      let events = (after_answer (planned settings (stopped.broke.passed ++ later)).answer []).events in record {
+        whole = map Said stopped.broke.whole;
+        begun = [];
+        later = map Said rest.later ++ events;
+        shown_is = refl;
+        events_are = ap (λ says. map Said says ++ events) rest.says_are
+            ∙ said_append stopped.broke.whole rest.later events;
+        part = tt;
+      };
+  in_turn = λ later. silent_turn (planned settings (stopped.broke.passed ++ later)).answer;
+  all_sent = said_bytes stopped.broke.whole [];
+  grows = subst (λ (l : LinkState). Grows x.link.transcript [] l.transcript) (sym stopped.same)
+      (grows_none x.link.transcript);
+}
+
+pub stop_prefix : (settings : Settings) (x y : Devices) (status : ℕ) → IsStopped settings x y status
+    → IsPrefixOfRun settings x y
+stop_prefix settings x y status (inl playing, one) = stopped_prefix settings x y playing
+stop_prefix settings x y status (inr planning, one) = planned_prefix settings x y planning
 
 some_is : {A : Type 0} (a b : A) → Some a ≡ Some b → a ≡ b
 some_is a b e = cc

@@ -1,0 +1,90 @@
+-- Status 0 means the images, over any link that forges no frame.
+use Rattle.std.proofs.Common.{◌≡◌, ℕ, Bool, false, List, [], ◌++◌, map, Some, refl, sym, ap, ◌∙◌, subst, arith, Option, None}
+use Rattle.std.proofs.lemmas.List.{append-nil}
+use Rattle.avr_cli.specs.declared.settings.Settings.{Settings}
+use Rattle.avr_desk.specs.Said.{OutputEvent}
+use Rattle.avr_desk.specs.Stage.{Made, Refused, Unread, StageAnswer}
+use Rattle.avr_part.specs.Sound.{IsSoundChip}
+use Rattle.avr_plan.specs.Plan.{Plan}
+use Rattle.avr_plan.specs.Planning.{planned}
+use Rattle.avr_plan.proofs.Stages.Fitted.{plan_fitted}
+use Rattle.avr_session.specs.Runs.{Devices}
+use Rattle.avr_session.specs.Session.{session}
+use Rattle.avr_laws.specs.AnyLine.{WholeOverTurns}
+use Rattle.avr_laws.specs.AnyTape.{CameThrough, became_by, turns_heard}
+use Rattle.avr_laws.specs.Items.{items, asked_items}
+use Rattle.avr_laws.specs.NoFrame.{MakesNoFrame}
+use Rattle.avr_laws.specs.Written.{IsWritten}
+use Rattle.avr_laws.proofs.AnyLink.{over_bytes}
+use Rattle.stk_emu.specs.Device.{device, after_frames}
+use Rattle.stk_emu.specs.Effect.{effects, memories_of}
+use Rattle.stk_emu.specs.Programmer.{Programmer}
+use Rattle.stk_frame.specs.Cut.{frames}
+use Rattle.stk_host.specs.Dialog.{Event, Played, Said, behind, bytes_sent, played}
+use Rattle.stk_host.specs.Tape.{Tape, on_tape}
+use Rattle.stk_host.specs.Transcript.{Transcript, heard, sent}
+use Rattle.avr_tool.specs.Headline.{run, after_answer, IsRun}
+use Rattle.avr_tool.proofs.Runs.Joined.{said_bytes}
+
+-- a refusal has status 1, and a file that was not read to its end has none
+abbrev status_in : Option (ℕ × ℕ × Tape) → ℕ
+status_in None = 2
+status_in (Some end) = end.0
+
+by_answer : (answer : StageAnswer Plan) (tape : Tape) {next : ℕ} {left : Tape}
+    → (after_answer answer tape).outcome ≡ Some (0, next, left) → (plan : Plan) × (answer ≡ Made plan)
+by_answer (Made plan) tape is = (plan, refl)
+by_answer (Refused line) tape is = let one : 1 ≡ 0 = ap status_in is in absurd (omega (arith, one))
+by_answer Unread tape is = let none : 2 ≡ 0 = ap status_in is in absurd (omega (arith, none))
+
+module _ (s : Settings) (x y : Devices) (r : IsRun s x y 0) where
+  abbrev tape : Tape
+  tape = heard r.during
+
+  abbrev left_over : Tape
+  left_over = on_tape r.left ++ []
+
+  abbrev before : List (Event OutputEvent)
+  before = map Said (planned s r.openings).says
+
+  -- the run over exactly what was opened and received
+  over : behind before (after_answer (planned s r.openings).answer tape)
+      ≡ record { events = r.events; outcome = Some (0, r.next, left_over) }
+  over = sym (ap (λ openings. run s openings tape) (append-nil r.openings))
+      ∙ (sym (ap (run s (r.openings ++ [])) (append-nil tape)) ∙ r.is [] [])
+
+  pub made : (plan : Plan) × ((planned s r.openings).answer ≡ Made plan)
+  made = by_answer (planned s r.openings).answer tape (ap (λ (p : Played OutputEvent ℕ). p.outcome) over)
+
+  module _ (plan : Plan) (made_is : (planned s r.openings).answer ≡ Made plan) (silent : x.link.transcript ≡ []) where
+    same : y.link.transcript ≡ r.during
+    same = r.grows ∙ ap (λ (t : Transcript). t ++ r.during) silent
+
+    abbrev done : List (Event OutputEvent)
+    done = (played (session plan) 1 tape).events
+
+    over_plan : behind before (played (session plan) 1 tape)
+        ≡ record { events = r.events; outcome = Some (0, r.next, left_over) }
+    over_plan = sym (ap (λ (answer : StageAnswer Plan). behind before (after_answer answer tape)) made_is) ∙ over
+
+    played_is : played (session plan) 1 tape ≡ record { events = done; outcome = Some (0, r.next, left_over) }
+    played_is = ap (λ (p : Played OutputEvent ℕ). record { events = done; outcome = p.outcome }) over_plan
+
+    sent_is : bytes_sent done ≡ sent r.during
+    sent_is = sym (said_bytes (planned s r.openings).says done)
+        ∙ (ap (λ (p : Played OutputEvent ℕ). bytes_sent p.events) over_plan ∙ r.all_sent)
+
+    pub promise : (p : Programmer) (got : List ℕ) (through : List Bool) → IsSoundChip p.chip → p.chip.part ≡ plan.part
+        → CameThrough got (frames (sent y.link.transcript)) through
+        → MakesNoFrame device (session plan) 1 (heard y.link.transcript) p (became_by through) []
+        → (memories_of (after_frames device (frames got) p).chip ≡ effects plan.part (items plan) (memories_of p.chip))
+        × (plan.switches.no_verify ≡ false → IsWritten plan.part (asked_items plan) (memories_of p.chip)
+        (memories_of (after_frames device (frames got) p).chip))
+    promise p got through sound part_is came none =
+        let whole : WholeOverTurns plan p (after_frames device (frames got) p)
+        (turns_heard (session plan) 1 tape (became_by through)) (sent r.during) done 0 =
+        over_bytes plan p sound part_is (plan_fitted s r.openings plan made_is) got (sent r.during) through tape
+        (subst (λ (t : Transcript). CameThrough got (frames (sent t)) through) same came)
+        (subst (λ (t : Transcript). MakesNoFrame device (session plan) 1 (heard t) p (became_by through) []) same none)
+        left_over done 0 r.next played_is sent_is in
+        ((whole.1.done refl).memories, whole.1.images refl)
