@@ -1,4 +1,4 @@
--- The limits of a chip file and of reads. Then worked outcomes that contracts refuse: of holding, of saving, and of
+-- The limit of a chip file. Then worked outcomes that contracts refuse: of holding, of saving, and of
 -- answers to a frame with a command that no programmer knows.
 use Rattle.std.proofs.Common.{◌≡◌, ◌≤◌, refl, ap, ℕ, List, [], ◌∷◌, length, Ok, Err, arith, rules}
 use Rattle.ghosts.specs.Failures.{HasRisen}
@@ -12,14 +12,10 @@ use Rattle.stk_host.specs.declared.link.Item.TheVariants.{End}
 use Rattle.stk_host.specs.Tape.{on_tape}
 use Rattle.stk_host.specs.Transcript.{Transcript, Sent, Got}
 use Rattle.stk_emu.specs.Programmer.{Programmer}
-use Rattle.avr_emulator.specs.declared.served_run.TheConstants.{READS}
 use Rattle.avr_emulator.specs.Serving.{AnswersInTurn}
 
-largest_chip_file : LARGEST_CHIP_FILE ≡ 4194304
-largest_chip_file = refl
-
-most_reads : READS ≡ 16777216
-most_reads = refl
+limits : LARGEST_CHIP_FILE ≡ 4194304
+limits = refl
 
 -- a desk of no requests and no failures, and one that shows this and has failed this often
 abbrev begun : DeskState

@@ -18,7 +18,6 @@ use Rattle.avr_session.specs.Runs.{Devices, devices}
 use Rattle.stk_emu.specs.Programmer.{fresh_programmer}
 use Rattle.stk_emu.specs.Emulator.{Machine}
 use Rattle.avr_emulator.specs.Serving.{Serves, AnswersInTurn, ServingLeaves, FailsBy}
-use Rattle.avr_emulator.specs.declared.served_run.TheConstants.{READS}
 use Rattle.avr_emulator.specs.declared.serving.Served.{Served}
 use Rattle.avr_emulator.specs.declared.serving.Served.TheVariants.{Ended, RecvFailed, SendFailed, TooManyReads}
 
@@ -111,9 +110,9 @@ ServesPart part file turns old new status =
     ServesLoaded part file turns old new status
     ⊎ (HoldsAndLoads part file old.desk new.desk (Err status) × (new.link ≡ old.link))
 
--- The part of the settings was served in at most `READS` reads. Or there is no part: this was reported, and nothing
+-- The part of the settings was served in at most 16,777,216 reads. Or there is no part: this was reported, and nothing
 -- was received or sent.
 abbrev pub RunsServed : Settings → Bytes → Devices → Devices → ℕ → Type 0
 RunsServed settings file old new status =
-    WithPart settings old.desk (λ part desk. ServesPart part file READS (devices old.link desk) new status)
+    WithPart settings old.desk (λ part desk. ServesPart part file 16777216 (devices old.link desk) new status)
     ⊎ (FindsNoPart settings old.desk new.desk status × (new.link ≡ old.link))
