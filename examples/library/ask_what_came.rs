@@ -30,7 +30,7 @@ fn main(rt: HostRuntime) -> Result<()> {
         bail!("there is no plan");
     };
     let chip = Chip::fresh(alloc, Parts::none().find("m328p")?)?;
-    let mut wire = Wired::new(alloc, chip, Fates::none(alloc));
+    let mut wire = Wired::with_fates(alloc, chip, Fates::none(alloc));
     let outcome = drive_outcome(alloc, &plan, &mut desk, &mut wire);
     match outcome {
         Outcome::Done => println!(rt; "the chip has the file's bytes")?,

@@ -45,7 +45,7 @@ fn main(rt: HostRuntime) -> Result<()> {
         bail!("this is no command line of avrstk");
     };
     let chip = Chip::fresh(alloc, Parts::none().find("m328p")?)?;
-    let mut wire = Wired::new(alloc, chip, Fates::none(alloc));
+    let mut wire = Wired::with_fates(alloc, chip, Fates::none(alloc));
     let status = run(alloc, &settings, &mut desk, &mut wire);
     println!(rt; "status {status}")?;
     let mut out = io::writer(&rt);

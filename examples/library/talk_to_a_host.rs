@@ -23,7 +23,7 @@ fn main(rt: HostRuntime) -> Result<()> {
     let chip = Chip::fresh(alloc, part.copied())?;
     let mut fates = Fates::none(alloc);
     fates.push(Fate::LostAnswer)?;
-    let mut wire = Wired::new(alloc, chip, fates);
+    let mut wire = Wired::with_fates(alloc, chip, fates);
     let mut host = Host::new(&part);
     let [first, second, third] = host.open(&mut wire, false)?;
     println!(rt; "signature: {first:02X} {second:02X} {third:02X}")?;

@@ -77,7 +77,7 @@ fn main(rt: HostRuntime) -> Result<()> {
         bail!("there is no plan");
     };
     let mut link = WatchedLink {
-        link: Wired::new(alloc, chip, Fates::none(alloc)),
+        link: Wired::with_fates(alloc, chip, Fates::none(alloc)),
         watcher: Progress { out: io::writer(&rt), sent: 0, all: frame_count(&plan) },
     };
     let outcome = drive_outcome(alloc, &plan, &mut desk, &mut link);

@@ -126,6 +126,21 @@ fn commands_are_obeyed(rt: HostRuntime) -> Result<(), Fail> {
     Ok(())
 }
 
+/// The frames of the commands and of their replies, byte for byte.
+#[test]
+fn a_parameter_is_given_back(rt: HostRuntime) -> Result<(), Fail> {
+    let mut e = emulator(rt.alloc(), "m328p")?;
+    let mut out = ArrayVec::new();
+    for (frame, reply) in [
+        ("1B0300030E0298058A", "1B0300020E020016"),
+        ("1B0400020E039888", "1B0400030E03000514"),
+    ] {
+        e.feed(hex::decode(rt.alloc(), frame)?.as_slice(), &mut out);
+        assert_eq!(rt; out.as_slice(), hex::decode(rt.alloc(), reply)?.as_slice());
+    }
+    Ok(())
+}
+
 #[test]
 fn flash_above_the_extended_address_is_written(rt: HostRuntime) -> Result<(), Fail> {
     let mut e = emulator(rt.alloc(), "m2560")?;
@@ -225,7 +240,7 @@ fn m328p(alloc: Global) -> Result<Chip, avr_part::PartFault> {
 #[test]
 fn a_refused_command_is_sent_again(rt: HostRuntime) -> Result<(), Fail> {
     let fates = fates(rt.alloc(), 0, 0, Fate::CommandRefused)?;
-    let mut link = Wired::new(rt.alloc(), m328p(rt.alloc())?, fates);
+    let mut link = Wired::with_fates(rt.alloc(), m328p(rt.alloc())?, fates);
     let mut host = Host::new(&Parts::none().find("m328p")?);
     assert_eq!(rt; host.open(&mut link, false), Ok([0x1E, 0x95, 0x0F]));
     assert_eq!(rt; host.close(&mut link), Ok(()));
@@ -238,7 +253,7 @@ fn a_refused_command_is_sent_again(rt: HostRuntime) -> Result<(), Fail> {
 #[test]
 fn nothing_is_obeyed_where_all_is_lost(rt: HostRuntime) -> Result<(), Fail> {
     let fates = fates(rt.alloc(), 0, 3, Fate::LostCommand)?;
-    let mut link = Wired::new(rt.alloc(), m328p(rt.alloc())?, fates);
+    let mut link = Wired::with_fates(rt.alloc(), m328p(rt.alloc())?, fates);
     let mut host = Host::new(&Parts::none().find("m328p")?);
     assert_eq!(rt; host.open(&mut link, false), Err(HostFault::NoAnswer));
     assert_eq!(rt; host.close(&mut link), Ok(()));
@@ -251,7 +266,7 @@ fn nothing_is_obeyed_where_all_is_lost(rt: HostRuntime) -> Result<(), Fail> {
 #[test]
 fn a_programmer_that_begins_anew_is_outside_the_mode(rt: HostRuntime) -> Result<(), Fail> {
     let fates = fates(rt.alloc(), 2, 0, Fate::Reset)?;
-    let mut link = Wired::new(rt.alloc(), m328p(rt.alloc())?, fates);
+    let mut link = Wired::with_fates(rt.alloc(), m328p(rt.alloc())?, fates);
     let mut host = Host::new(&Parts::none().find("m328p")?);
     assert_eq!(rt;
         host.open(&mut link, false),
@@ -275,7 +290,7 @@ fn gets_through(alloc: Global, place: usize, kind: usize) -> Result<bool, Fail> 
             Fate::AnswerSpoiled(Vec::from_slice(alloc, &noise)?)
         }
     };
-    let mut link = Wired::new(alloc, m328p(alloc)?, fates(alloc, place, 0, fate)?);
+    let mut link = Wired::with_fates(alloc, m328p(alloc)?, fates(alloc, place, 0, fate)?);
     let mut host = Host::new(&Parts::none().find("m328p")?);
     let opened = host.open(&mut link, false) == Ok([0x1E, 0x95, 0x0F]);
     let closed = host.close(&mut link) == Ok(());
@@ -298,7 +313,7 @@ fn a_session_gets_through_every_fate(rt: HostRuntime) -> Result<(), Fail> {
 #[test]
 fn a_late_answer_comes_before_the_next(rt: HostRuntime) -> Result<(), Fail> {
     let alloc = rt.alloc();
-    let mut link = Wired::new(alloc, m328p(alloc)?, fates(alloc, 0, 0, Fate::LateAnswer)?);
+    let mut link = Wired::with_fates(alloc, m328p(alloc)?, fates(alloc, 0, 0, Fate::LateAnswer)?);
     let mut buffer = [0; 64];
     assert_eq!(rt; link.recv(&mut buffer), Ok(Heard::Silence));
     assert_eq!(rt; link.send(&FRAMES), Ok(7));
@@ -327,7 +342,7 @@ fn brought(alloc: Global, letters: &str, count: usize) -> Result<String, Fail> {
     for letter in letters.bytes() {
         fates.push(fate(letter))?;
     }
-    let mut link = Wired::new(alloc, m328p(alloc)?, fates);
+    let mut link = Wired::with_fates(alloc, m328p(alloc)?, fates);
     for number in 1..6u8 {
         let mut frame = ArrayVec::new();
         put_frame(number, &[0x05], &mut frame);

@@ -2,13 +2,14 @@
 ghost use Rattle.std.specs.Prelude.{◌≡◌, length, IfOk};
 ghost use Rattle.avr_part.specs.Part.{size_of};
 
+use crate::support::joined;
 use arrayvec::ArrayVec;
 use avr_image::{Image, ImageFault};
 use avr_part::{Mem, Part, PartFault, Parts};
 use std::alloc::{AllocError, Global};
 use std::process::Abort;
 use std::test::Fail;
-use stk_frame::put_frame;
+use stk_frame::{Command, put_frame};
 use stk_host::{Host, HostFault, Item, TapeLink};
 
 fn part() -> Result<Part, PartFault> {
@@ -84,5 +85,126 @@ fn reads_a_fuse_and_finds_it_different(rt: HostRuntime) -> Result<(), Fail> {
     assert_eq!(rt; bytes.as_slice(), [0x62].as_slice());
     assert!(rt; host.read(&mut link, Mem::Lfuse, &mut bytes) == Err(HostFault::LinkEnded));
     assert!(rt; bytes.is_empty());
+    Ok(())
+}
+
+/// Returns a link that gives these bytes, then ends.
+fn giving(alloc: Global, digits: &str) -> Result<TapeLink, Fail> {
+    let mut items = Vec::new(alloc);
+    for byte in hex::decode(alloc, digits)? {
+        items.push(Item::Byte(byte))?;
+    }
+    Ok(TapeLink::new(alloc, items, 281))
+}
+
+/// A fuse differs, or the reading of it is refused. One frame is sent, number 1.
+#[test]
+fn a_fuse_is_verified_by_a_new_host(rt: HostRuntime) -> Result<(), Fail> {
+    let alloc = rt.alloc();
+    let part = part()?;
+    let image = image(alloc, &part, Mem::Lfuse, 0xE2)?;
+    let rows = [
+        (
+            "1B0100040E180062006A",
+            HostFault::Differs { mem: Mem::Lfuse, addr: 0, want: 0xE2, found: 0x62 },
+        ),
+        ("1B0100040E1880000088", HostFault::Refused { command: 0x18, status: 0x80 }),
+    ];
+    for (reply, fault) in rows {
+        let mut link = giving(alloc, reply)?;
+        let verified = Host::new(&part).verify(alloc, &mut link, Mem::Lfuse, &image);
+        assert!(rt; verified == Err(fault));
+        assert_eq!(rt; link.sent(), joined(alloc, &["1B0100060E1804500000005E"])?.as_slice());
+    }
+    Ok(())
+}
+
+#[test]
+fn the_signature_is_read_only(rt: HostRuntime) -> Result<(), Fail> {
+    let alloc = rt.alloc();
+    let part = part()?;
+    let mut link = giving(alloc, "")?;
+    let written = Host::new(&part).write(&mut link, Mem::Signature, &Image::new(alloc, 3)?);
+    assert!(rt; written == Err(HostFault::ReadOnly(Mem::Signature)));
+    assert!(rt; link.sent().is_empty());
+    Ok(())
+}
+
+/// Puts a frame at the end of these bytes.
+fn push_frame(bytes: &mut Vec<u8>, seq: u8, body: &[u8]) -> Result<(), Fail> {
+    let mut frame = ArrayVec::new();
+    put_frame(seq, body, &mut frame);
+    Ok(bytes.extend_from_slice(frame.as_slice())?)
+}
+
+/// Four blocks of 256 bytes, each after its address.
+#[test]
+fn an_eeprom_is_read_in_eight_frames(rt: HostRuntime) -> Result<(), Fail> {
+    let alloc = rt.alloc();
+    let mut replies = Vec::new(alloc);
+    let mut wanted = Vec::new(alloc);
+    let mut block_reply = [0xFF; 259];
+    block_reply[0] = 0x16;
+    block_reply[1] = 0;
+    block_reply[258] = 0;
+    for block in 0..4u8 {
+        push_frame(&mut replies, 2 * block + 1, &[0x06, 0x00])?;
+        push_frame(&mut replies, 2 * block + 2, &block_reply)?;
+        push_frame(&mut wanted, 2 * block + 1, &[0x06, 0x00, 0x00, block, 0x00])?;
+        push_frame(&mut wanted, 2 * block + 2, &[0x16, 0x01, 0x00, 0xA0])?;
+    }
+    let mut items = Vec::new(alloc);
+    for byte in replies {
+        items.push(Item::Byte(byte))?;
+    }
+    let mut link = TapeLink::new(alloc, items, 281);
+    let mut bytes = Vec::new(alloc);
+    assert!(rt; Host::new(&part()?).read(&mut link, Mem::Eeprom, &mut bytes) == Ok(()));
+    assert_eq!(rt; bytes.as_slice(), [0xFFu8; 1024].as_slice());
+    assert!(rt; link.sent() == wanted.as_slice());
+    Ok(())
+}
+
+#[test]
+fn after_the_end_no_call_sends_anything(rt: HostRuntime) -> Result<(), Fail> {
+    let alloc = rt.alloc();
+    let mut host = Host::new(&part()?);
+    let mut link = giving(alloc, "")?;
+    let ended = Err(HostFault::LinkEnded);
+    assert!(rt; host.erase(&mut link) == ended);
+    let sent = link.sent().len();
+    let image = Image::new(alloc, 1)?;
+    let mut bytes = Vec::new(alloc);
+    assert!(rt; host.open(&mut link, true) == Err(HostFault::LinkEnded));
+    assert!(rt; host.erase(&mut link) == ended);
+    assert!(rt; host.write(&mut link, Mem::Lfuse, &image) == ended);
+    assert!(rt; host.write(&mut link, Mem::Signature, &image) == ended);
+    assert!(rt; host.read(&mut link, Mem::Lfuse, &mut bytes) == ended);
+    assert!(rt; host.verify(alloc, &mut link, Mem::Lfuse, &image) == ended);
+    assert!(rt; host.close(&mut link) == ended);
+    assert_eq!(rt; link.sent().len(), sent);
+    Ok(())
+}
+
+/// Two pages with a byte each, at the word addresses 0 and 40.
+#[test]
+fn two_pages_are_written(rt: HostRuntime) -> Result<(), Fail> {
+    let alloc = rt.alloc();
+    let part = part()?;
+    let mut image = image(alloc, &part, Mem::Flash, 0x11)?;
+    image.put(0x82, 0x22)?;
+    let replies = "1B0100020E0600101B0200020E1300061B0300020E0600121B0400020E130000";
+    let mut link = giving(alloc, replies)?;
+    assert!(rt; Host::new(&part).write(&mut link, Mem::Flash, &image) == Ok(()));
+    let mut wanted = Vec::new(alloc);
+    let mut frame = ArrayVec::new();
+    for (seq, address, place, byte) in [(1u8, 0u8, 0usize, 0x11u8), (3, 0x40, 2, 0x22)] {
+        push_frame(&mut wanted, seq, &[0x06, 0x00, 0x00, 0x00, address])?;
+        let mut page = [0xFF; 128];
+        page[place] = byte;
+        Command::program_page(&page).put_frame(seq + 1, &mut frame);
+        wanted.extend_from_slice(frame.as_slice())?;
+    }
+    assert!(rt; link.sent() == wanted.as_slice());
     Ok(())
 }

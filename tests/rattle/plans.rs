@@ -4,7 +4,7 @@ use avr_cli::{Format, Op, Port, Settings, Switches, Text, Update, Updates};
 use avr_desk::{FailingDesk, FileFault, MemDesk};
 use avr_image::ImageFault;
 use avr_part::{Field, Mem, PartFault};
-use avr_plan::{BadFile, ReadFault, Task, plan};
+use avr_plan::{BadFile, PartsFault, PlanFault, ReadFault, Task, TaskFault, plan};
 use avr_records::RecordFault;
 use std::alloc::{AllocError, Global};
 use std::fmt;
@@ -227,6 +227,49 @@ fn files_past_the_limit(rt: HostRuntime) -> Result<(), Fail> {
     let line = "avrstk: error: a.hex: longer than 4194304 bytes\n";
     assert!(rt; refuses_text(alloc, GOOD, EMPTY, 4_194_305, line)?);
     assert!(rt; shows(alloc, "a.hex", &BadFile::TooLong, line)?);
+    Ok(())
+}
+
+/// The reason alone: a message also names the file, the memory or the part.
+#[test]
+fn faults_have_texts(rt: HostRuntime) -> Result<(), Fail> {
+    let file = PartsFault::File(FileFault::Absent);
+    let values = TaskFault::Values(ImageFault::TooLarge(2));
+    let image = TaskFault::File(ReadFault::Image(BadFile::Elf));
+    let rows = [
+        (PlanFault::PartFile(file), "part file: cannot be opened"),
+        (PlanFault::PartFile(PartsFault::TooLong), "part file: longer than 65536 bytes"),
+        (PlanFault::PartFile(PartsFault::Parts(PartFault::NotToml)), "part file: not TOML"),
+        (PlanFault::NoPart, "no part of this id"),
+        (PlanFault::Update(0, TaskFault::ReadOnly), "update 0: the memory is read-only"),
+        (PlanFault::Update(1, values), "update 1: value 2: above 255"),
+        (PlanFault::Update(2, image), "update 2: ELF is not read"),
+        (PlanFault::Update(3, TaskFault::Memory), "update 3: out of memory"),
+        (PlanFault::Update(4, TaskFault::Unwarned), "update 4: a warning could not be printed"),
+    ];
+    for (fault, text) in rows {
+        assert!(rt; format!(in rt.alloc(); "{fault}")?.as_str() == text, "{text}");
+    }
+    Ok(())
+}
+
+/// A file of the format `i`: a record, then empty lines past the limit. Its line is judged first.
+#[test]
+fn empty_lines_past_the_limit(rt: HostRuntime) -> Result<(), Fail> {
+    let alloc = rt.alloc();
+    let rows = [
+        (":0100000011EF", "avrstk: error: a.hex: line 1: bad checksum\n"),
+        (":0100000011EE", "avrstk: error: a.hex: longer than 4194304 bytes\n"),
+    ];
+    for (record, line) in rows {
+        let mut text = vec![in alloc; b'\n'; 4_194_305]?;
+        for (place, byte) in record.as_bytes().iter().enumerate() {
+            text[place] = *byte;
+        }
+        let mut asked = flash_of("a.hex");
+        asked.format = Format::Ihex;
+        assert!(rt; refuses(alloc, "a.hex", text.as_slice(), &asked, line)?);
+    }
     Ok(())
 }
 

@@ -292,14 +292,11 @@ fn rubbish_on_the_line(rt: HostRuntime) -> Result<(), Fail> {
             "1B04000C0E10C8641920005303AC53000037",
         ],
     )?;
-    let over = run_over(rt.alloc(), "m328p", rubbish(rt.alloc())?, 281)?;
-    shows(
-        &rt,
-        &over,
-        sent.as_slice(),
-        "avrstk: error: link ended\n",
-        1,
-    )
+    for cut in [1usize, 2, 3, 5, 280, 281] {
+        let over = run_over(rt.alloc(), "m328p", rubbish(rt.alloc())?, cut)?;
+        shows(&rt, &over, sent.as_slice(), "avrstk: error: link ended\n", 1)?;
+    }
+    Ok(())
 }
 
 #[test]

@@ -298,6 +298,29 @@ fn pieces_change_nothing(rt: HostRuntime) -> Result<(), Fail> {
     Ok(())
 }
 
+/// The whole EEPROM, with the reply to frame 255 late.
+#[test]
+fn pieces_change_nothing_of_the_whole_eeprom(rt: HostRuntime) -> Result<(), Fail> {
+    let alloc = rt.alloc();
+    let bytes = pattern(alloc, 1024)?;
+    let files = [("e.bin", bytes.as_slice())];
+    let wire = wire_to(alloc, "m328p", fates(alloc, 254, Fate::LateAnswer)?)?;
+    let whole = run_on(alloc, EEPROM.row.words, desk_with(alloc, &files)?, wire)?;
+    assert!(rt; whole.status == 0);
+    for cut in [1, 2, 3, 5, 280, 281usize] {
+        let wire = wire_to(alloc, "m328p", fates(alloc, 254, Fate::LateAnswer)?)?;
+        let link = FailingLink::new(wire, 0, cut.max(1));
+        let over = run_on(alloc, EEPROM.row.words, desk_with(alloc, &files)?, link)?;
+        assert!(rt; over.status == 0, "in pieces of {cut}");
+        assert!(rt; over.link.inner().sent() == whole.link.sent(), "in pieces of {cut}");
+        assert!(rt;
+            holds(over.link.inner().chip(), Mem::Eeprom, bytes.as_slice()),
+            "in pieces of {cut}"
+        );
+    }
+    Ok(())
+}
+
 /// The desk prints the line of the signature, then fails to write the fuse. The sixth frame is the last.
 #[test]
 fn no_leave_follows_an_output_that_fails(rt: HostRuntime) -> Result<(), Fail> {

@@ -65,7 +65,7 @@ pub(crate) fn fates(alloc: Global, good: usize, last: Fate) -> Result<Fates, Fat
 pub(crate) fn wire_to(alloc: Global, id: &str, fates: Fates) -> Result<Wired, Fail> {
     let part = Parts::none().find(id)?;
     let chip = Chip::fresh(alloc, part.copied())?;
-    Ok(Wired::new(alloc, chip, fates))
+    Ok(Wired::with_fates(alloc, chip, fates))
 }
 
 /// Runs the tool with these arguments at a desk and over a link.
@@ -94,7 +94,7 @@ pub(crate) fn run_wired_on(
     let settings = settings_for(alloc, words)?;
     let chip = Chip::fresh(alloc, Parts::none().find(id)?)?;
     let mut desk = desk;
-    let mut link = Wired::new(alloc, chip, fates);
+    let mut link = Wired::with_fates(alloc, chip, fates);
     let status = run_wired(alloc, &settings, &mut desk, &mut link);
     Ok(Over { desk, link, status })
 }

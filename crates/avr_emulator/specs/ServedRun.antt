@@ -110,9 +110,13 @@ ServesPart part file turns old new status =
     ServesLoaded part file turns old new status
     ⊎ (HoldsAndLoads part file old.desk new.desk (Err status) × (new.link ≡ old.link))
 
--- The part of the settings was served in at most 16,777,216 reads. Or there is no part: this was reported, and nothing
+-- The part of the settings was served in at most `turns` reads. Or there is no part: this was reported, and nothing
 -- was received or sent.
-abbrev pub RunsServed : Settings → Bytes → Devices → Devices → ℕ → Type 0
-RunsServed settings file old new status =
-    WithPart settings old.desk (λ part desk. ServesPart part file 16777216 (devices old.link desk) new status)
+abbrev pub RunsServedFor : Settings → Bytes → ℕ → Devices → Devices → ℕ → Type 0
+RunsServedFor settings file turns old new status =
+    WithPart settings old.desk (λ part desk. ServesPart part file turns (devices old.link desk) new status)
     ⊎ (FindsNoPart settings old.desk new.desk status × (new.link ≡ old.link))
+
+-- `RunsServedFor` with at most 16,777,216 reads.
+abbrev pub RunsServed : Settings → Bytes → Devices → Devices → ℕ → Type 0
+RunsServed settings file = RunsServedFor settings file 16777216

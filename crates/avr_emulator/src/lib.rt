@@ -27,5 +27,5 @@ pub use holding::hold_chip;
 pub use loading::load_chip;
 pub use run::{drive_wired, run_emu};
 pub use saving::save_chip;
-pub use served_run::{READS, judge_part, serve, serve_chip, serve_part};
+pub use served_run::{READS, judge_part, serve, serve_chip, serve_for, serve_part};
 pub use serving::{Served, answer_all};

@@ -89,7 +89,7 @@ pub fn run_emu<D: Desk>(alloc: Global, settings: &Settings, file: &str, desk: &m
     // Ghost calls, as above.
     let _tasks = plan.tasks();
     let _part = chip.part();
-    let mut wire = Wired::new(alloc, chip, Fates::none(alloc));
+    let mut wire = Wired::with_fates(alloc, chip, Fates::none(alloc));
     let status = drive_wired(alloc, &plan, desk, &mut wire);
     save_if_sent(alloc, &wire, file, desk, status)
 }

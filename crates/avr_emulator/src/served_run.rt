@@ -4,7 +4,7 @@ ghost use Rattle.avr_desk.specs.Fault.{Follows};
 ghost use Rattle.avr_desk.specs.Playing.{AtStart, Goes};
 ghost use Rattle.avr_plan.specs.Planning.{LacksPart};
 ghost use Rattle.avr_emulator.specs.ServedRun.{JudgesChip, JudgesPart, settings_part};
-ghost use Rattle.avr_emulator.specs.ServedRun.{RunsServed, ServesChip, ServesPart};
+ghost use Rattle.avr_emulator.specs.ServedRun.{RunsServed, RunsServedFor, ServesChip, ServesPart};
 ghost use Rattle.avr_session.specs.Runs.{devices};
 ghost use Rattle.ghosts.specs.Stays.{Stays};
 
@@ -125,10 +125,39 @@ pub fn serve_part<D: Desk, L: Link>(
     }
 }
 
-/// Serves the emulated programmer of the settings' part over a link, as [`serve_part`] does, in at most 16,777,216
-/// reads.
+/// Serves the emulated programmer of the settings' part over a link, as [`serve_part`] does, in at most `turns` reads.
 ///
 /// If the part is refused, the status is 1. Nothing is received or sent, and no file is written.
+///
+/// ```text
+/// let settings = Settings::for_link(alloc, "m328p")?;
+/// let mut desk = MemDesk::new(alloc);
+/// let mut caller = StreamLink::new(b"\x1B".as_slice(), Vec::new(alloc));
+/// assert_eq!(rt; serve_for(alloc, &settings, "chip.bin", &mut desk, &mut caller, 1), 1);
+/// assert!(rt; desk.messages() == b"avrstk: error: too many reads\n".as_slice());
+/// ```
+pub fn serve_for<D: Desk, L: Link>(
+    alloc: Global,
+    settings: &Settings,
+    file: &str,
+    desk: &mut D,
+    link: &mut L,
+    turns: u32,
+) -> u8
+    ensures runs { RunsServedFor settings.now file.now turns (devices (L.view link.old) (D.view desk.old))
+        (devices (L.view link.new) (D.view desk.new)) result }
+    ensures follows { Follows (D.view desk.old) (D.view desk.new) }
+    ensures counted { (L.view link.old).failures ≤ (L.view link.new).failures }
+    ensures comes { Stays L.comes_of link.old link.new }
+    ensures stays { Stays D.comes_of desk.old desk.new }
+{
+    match find_part(alloc, desk, settings) {
+        Ok(part) => serve_part(alloc, &part, file, desk, link, turns),
+        Err(status) => status,
+    }
+}
+
+/// Serves as [`serve_for`] does, in at most 16,777,216 reads.
 ///
 /// ```text
 /// let settings = Settings::for_link(alloc, "m328p")?;
@@ -153,8 +182,5 @@ pub fn serve<D: Desk, L: Link>(
     ensures comes { Stays L.comes_of link.old link.new }
     ensures stays { Stays D.comes_of desk.old desk.new }
 {
-    match find_part(alloc, desk, settings) {
-        Ok(part) => serve_part(alloc, &part, file, desk, link, READS),
-        Err(status) => status,
-    }
+    serve_for(alloc, settings, file, desk, link, READS)
 }

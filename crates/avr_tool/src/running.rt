@@ -29,7 +29,7 @@ use stk_host::{Link, StreamLink, TapeLink};
 /// let settings = Settings::for_link(alloc, "m328p")?;
 /// let mut desk = MemDesk::new(alloc);
 /// let chip = Chip::fresh(alloc, Parts::none().find("m328p")?)?;
-/// let mut wire = Wired::new(alloc, chip, Fates::none(alloc));
+/// let mut wire = Wired::with_fates(alloc, chip, Fates::none(alloc));
 /// assert_eq!(rt; run(alloc, &settings, &mut desk, &mut wire), 0);
 /// let printed = b"avrstk: device signature = 1E 95 0F\navrstk: done\n";
 /// assert!(rt; desk.messages() == printed.as_slice());
@@ -146,7 +146,7 @@ pub fn run_streams_in_memory<R: Read + Drop, W: Write + Drop>(
 /// let chip = Chip::fresh(alloc, Parts::none().find("m328p")?)?;
 /// let mut fates = Fates::none(alloc);
 /// fates.push(Fate::LostCommand)?;
-/// let mut wire = Wired::new(alloc, chip, fates);
+/// let mut wire = Wired::with_fates(alloc, chip, fates);
 /// assert_eq!(rt; run_wired(alloc, &settings, &mut desk, &mut wire), 0);
 /// assert_eq!(rt; wire.failures(), 0);
 /// ```

@@ -9,10 +9,11 @@ ghost use Rattle.ghosts.specs.Failures.{HasRisen};
 ghost use Rattle.ghosts.specs.Stays.{Stays};
 ghost use Rattle.stk_host.specs.Transcript.{Sends, Receives, FitsBuffer, items_of};
 ghost use Rattle.stk_emu.specs.Programmer.{fresh_programmer};
-ghost use Rattle.stk_emu.specs.Wire.{fresh_wire};
+ghost use Rattle.stk_emu.specs.Wire.{AreLawful, fresh_wire};
 ghost use Rattle.stk_emu.specs.Wired.{Start, wired_link, ComesOf, IsFresh, PassesBytes, PassesSome, IsNext, after_hearing};
 
 use crate::arrival::{Arrival, ROOM, take_bytes};
+use crate::fate::Fate;
 use crate::fates::Fates;
 use crate::wire::Wire;
 use avr_part::Chip;
@@ -31,7 +32,7 @@ use stk_host::{Heard, Link, LinkFault, Log};
 /// ```text
 /// let part = Parts::none().find("t85")?;
 /// let chip = Chip::fresh(alloc, part.copied())?;
-/// let mut wire = Wired::new(alloc, chip, Fates::none(alloc));
+/// let mut wire = Wired::new(alloc, chip, Vec::new(alloc));
 /// let mut host = Host::new(&part);
 /// host.open(&mut wire, false)?;
 /// host.close(&mut wire)?;
@@ -100,19 +101,21 @@ fn consume(waits: &mut Vec<Option<u8>>, at: usize, count: usize) -> usize
 }
 
 impl Wired {
-    /// Creates a wire to a programmer with this chip, out of programming mode.
+    /// Creates a wire to a programmer with this chip, out of programming mode. All noise in the fates has to be lawful:
+    /// [`crate::noise_is_lawful`] tests it, and a [`Fates`] has no other ([`Wired::with_fates`]).
     ///
     /// ```text
     /// let part = Parts::none().find("t85")?;
     /// let chip = Chip::fresh(alloc, part.copied())?;
-    /// let mut fates = Fates::none(alloc);
+    /// let mut fates = Vec::new(alloc);
     /// fates.push(Fate::LostCommand)?;
     /// let mut wire = Wired::new(alloc, chip, fates);
     /// Host::new(&part).open(&mut wire, false)?;
     /// ```
-    pub fn new(alloc: Global, chip: Chip, fates: Fates) -> Wired
+    pub fn new(alloc: Global, chip: Chip, fates: Vec<Fate>) -> Wired
+        requires { AreLawful fates.items }
         ensures held { result.held ≡ [] }
-        ensures wire { result.wire ≡ fresh_wire (fresh_programmer chip) fates }
+        ensures wire { result.wire ≡ fresh_wire (fresh_programmer chip) fates.items }
         ensures waits { result.waits ≡ [] }
         ensures transcript { result.transcript ≡ [] }
         ensures sound { result.failures ≡ 0 }
@@ -120,7 +123,7 @@ impl Wired {
     {
         Wired {
             reader: FrameReader::new(),
-            wire: Wire::new(chip, fates.into_all()),
+            wire: Wire::new(chip, fates),
             waits: Vec::new(alloc),
             at: 0,
             brought: Arrival::new(),
@@ -129,11 +132,23 @@ impl Wired {
         }
     }
 
+    /// Creates a wire as [`Wired::new`] does, with fates whose noise was judged when they were added.
+    pub fn with_fates(alloc: Global, chip: Chip, fates: Fates) -> Wired
+        ensures held { result.held ≡ [] }
+        ensures wire { result.wire ≡ fresh_wire (fresh_programmer chip) fates }
+        ensures waits { result.waits ≡ [] }
+        ensures transcript { result.transcript ≡ [] }
+        ensures sound { result.failures ≡ 0 }
+        ensures fresh { IsFresh result }
+    {
+        Wired::new(alloc, chip, fates.into_all())
+    }
+
     /// Returns the chip as all whole frames sent have left it.
     ///
     /// ```text
     /// let chip = Chip::fresh(alloc, Parts::none().find("t85")?)?;
-    /// let wire = Wired::new(alloc, chip, Fates::none(alloc));
+    /// let wire = Wired::new(alloc, chip, Vec::new(alloc));
     /// assert!(rt; wire.chip().byte(Mem::Flash, 0) == Some(0xFF));
     /// ```
     pub fn chip(&self) -> &Chip
@@ -146,7 +161,7 @@ impl Wired {
     ///
     /// ```text
     /// let chip = Chip::fresh(alloc, Parts::none().find("t85")?)?;
-    /// let wire = Wired::new(alloc, chip, Fates::none(alloc));
+    /// let wire = Wired::new(alloc, chip, Vec::new(alloc));
     /// let chip = wire.into_chip();
     /// assert!(rt; chip.byte(Mem::Flash, 0) == Some(0xFF));
     /// ```
@@ -161,7 +176,7 @@ impl Wired {
     ///
     /// ```text
     /// let chip = Chip::fresh(alloc, Parts::none().find("t85")?)?;
-    /// let wire = Wired::new(alloc, chip, Fates::none(alloc));
+    /// let wire = Wired::new(alloc, chip, Vec::new(alloc));
     /// assert_eq!(rt; wire.failures(), 0);
     /// ```
     pub fn failures(&self) -> u64
@@ -174,7 +189,7 @@ impl Wired {
     ///
     /// ```text
     /// let chip = Chip::fresh(alloc, Parts::none().find("t85")?)?;
-    /// let mut wire = Wired::new(alloc, chip, Fates::none(alloc));
+    /// let mut wire = Wired::new(alloc, chip, Vec::new(alloc));
     /// wire.send(b"\x1B")?;
     /// assert!(rt; wire.sent() == b"\x1B".as_slice());
     /// ```
@@ -188,7 +203,7 @@ impl Wired {
     ///
     /// ```text
     /// let chip = Chip::fresh(alloc, Parts::none().find("t85")?)?;
-    /// let mut wire = Wired::new(alloc, chip, Fates::none(alloc));
+    /// let mut wire = Wired::new(alloc, chip, Vec::new(alloc));
     /// wire.send(b"\x1B\x01\x00\x01\x0E\x01\x15")?;
     /// wire.recv(&mut [0; 3])?;
     /// assert!(rt; wire.heard() == b"\x1B\x01\x00".as_slice());

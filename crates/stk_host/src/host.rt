@@ -32,7 +32,7 @@ use std::marker::Model;
 /// let mut image = Image::new(alloc, part.size_of(Mem::Flash))?;
 /// image.put_slice(0, &[0x0C, 0x94, 0x34, 0x00])?;
 /// let chip = Chip::fresh(alloc, part.copied())?;
-/// let mut wire = Wired::new(alloc, chip, Fates::none(alloc));
+/// let mut wire = Wired::with_fates(alloc, chip, Fates::none(alloc));
 /// let mut host = Host::new(&part);
 /// let signature = host.open(&mut wire, false)?;
 /// host.erase(&mut wire)?;
@@ -175,7 +175,7 @@ impl Host {
     /// ```text
     /// let part = Parts::none().find("m328p")?;
     /// let chip = Chip::fresh(alloc, part.copied())?;
-    /// let mut wire = Wired::new(alloc, chip, Fates::none(alloc));
+    /// let mut wire = Wired::with_fates(alloc, chip, Fates::none(alloc));
     /// let signature = Host::new(&part).open(&mut wire, false)?;
     /// assert!(rt; signature == [0x1E, 0x95, 0x0F]);
     /// ```

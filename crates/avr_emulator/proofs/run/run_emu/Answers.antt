@@ -18,9 +18,9 @@ returns-in-Err-hold_chip-clause-runs g c = inr (inl (record {
 
 pub returns-clause-runs : goal.returns-clause-runs
 returns-clause-runs g c = inl (runs_over_emulator c.args.settings.now c.args.file.now c.in-Ok.plan
-    c.in-Ok-hold_chip.chip c.new-wire.result c.drive_wired-status.new.wire c.new-wire.ensures.held
-    (c.new-wire.ensures.wire ∙ ap (λ fates. fresh_wire (fresh_programmer c.in-Ok-hold_chip.chip) fates) c.none.ensures)
-    c.new-wire.ensures.waits c.new-wire.ensures.transcript c.new-wire.ensures.sound
+    c.in-Ok-hold_chip.chip c.with_fates-wire.result c.drive_wired-status.new.wire c.with_fates-wire.ensures.held
+    (c.with_fates-wire.ensures.wire ∙ ap (λ fates. fresh_wire (fresh_programmer c.in-Ok-hold_chip.chip) fates) c.none.ensures)
+    c.with_fates-wire.ensures.waits c.with_fates-wire.ensures.transcript c.with_fates-wire.ensures.sound
     c.tasks-tasks.ensures.fitted (rw (c.part.ensures, c.in-Ok-hold_chip.is) at c.hold_chip.ensures.part)
     c.part-part.ensures.sound
     _ _ _ _ _ _ _ (rw c.in-Ok.is at c.plan.ensures.goes)
