@@ -8,7 +8,10 @@ A signal ends a run at each of its system calls in turn. Several runs are starte
 with a chip that another run or a served session holds. tests/faults.py tests refused calls.
 """
 
+import contextlib
+import fcntl
 import os
+import random
 import re
 import shutil
 import signal
@@ -16,6 +19,7 @@ import stat
 import subprocess
 import sys
 import tempfile
+import threading
 import time
 from pathlib import Path
 
@@ -28,19 +32,29 @@ EMULATED = ["-p", "m328p", "-P", "emu:chip.bin"]
 SIGNATURE = "device signature = 1E 95 0F"
 IN_USE = lines("error: chip.bin: in use by another run")
 
+# how many seconds the runs last that are made at once with other programs beside them
+STORM = 15
+
 # the addresses of the EEPROM and the low fuse in a chip file
 EEPROM, LFUSE = 32_768, 33_792
 
 # a chip with a program, data and fuses of its own, which isn't locked
 OLD = bytes(place % 241 for place in range(EEPROM)) + bytes(place % 239 for place in range(1024)) + b"\xe2\xd9\xfd\xff"
 
-# the file beside a chip file while a run holds it, or after a run was ended
-NEW_FILE = "chip.bin.avrstk-new"
+# the file that a run locks if there is no chip file yet, and that earlier versions left
+LOCK_FILE = "chip.bin.avrstk-new"
+
+# a chip of which there is no file yet
+FRESH = bytes(b"\xff" * CHIP_FILE)
+
+UMASK = os.umask(0)
+os.umask(UMASK)
 
 
 def fresh_room():
     room.clear()
     room.put("chip.bin", OLD)
+    (room.folder / "chip.bin").chmod(0o640)
 
 
 def with_fuse(chip, value):
@@ -52,9 +66,24 @@ def writes_fuse(value):
 
 
 def is_good(what, found):
-    """Returns whether a run succeeded, and the new file is gone."""
+    """Returns whether a run succeeded, and left no file beside the chip."""
     see(what, found[0] == 0, found)
-    same(f"{what}: no file is left beside the chip", room.read(NEW_FILE), None)
+    same(f"{what}: no file is left beside the chip", beside(), [])
+
+
+def beside(folder=None):
+    """Returns the names of the files that runs make beside a chip."""
+    return sorted(it.name for it in (folder or room.folder).iterdir() if ".avrstk-" in it.name)
+
+
+def is_held(file=None):
+    """Returns whether a process has locked this file."""
+    with open(file or room.folder / "chip.bin") as it:
+        try:
+            fcntl.flock(it, fcntl.LOCK_EX | fcntl.LOCK_NB)
+        except BlockingIOError:
+            return True
+    return False
 
 
 def ended_anywhere():
@@ -65,34 +94,49 @@ def ended_anywhere():
     shim = room.folder / "refuse.so"
     subprocess.run(["cc", "-O2", "-shared", "-fPIC", "-o", str(shim), str(TOP / "tests/refuse.c"), "-ldl"], check=True)
     room.given.add(shim.name)
-    for how, number in [("kill", signal.SIGKILL), ("int", signal.SIGINT)]:
-        left = {ended_at(shim, f"any {call} {how}", number) for call in range(1, calls_of(shim) + 1)}
-        see(f"{how}: both the old and the new chip are seen", left == {OLD, with_fuse(OLD, 0x62)}, len(left))
+    for prepare, old, hows in [
+        (fresh_room, OLD, [("kill", signal.SIGKILL), ("int", signal.SIGINT)]),
+        (a_link_to_no_file, None, [("kill", signal.SIGKILL)]),
+    ]:
+        calls = calls_of(prepare, shim)
+        for how, number in hows:
+            left = {ended_at(prepare, old, shim, f"any {call} {how}", number) for call in range(1, calls + 1)}
+            see(f"{how}: both the old and the new chip are seen", left == {old, with_fuse(old or FRESH, 0x62)}, len(left))
 
 
-def calls_of(shim):
+def a_link_to_no_file():
+    room.clear()
+    (room.folder / "link.bin").symlink_to("chip.bin")
+
+
+def refused_at(prepare, shim, refused):
+    """Returns what a run gives in which this call is refused. Its name of the chip is a link if there is one."""
+    prepare()
+    words = ["-p", "m328p", "-P", "emu:link.bin", "-U", "lfuse:w:0x62:m"] if (room.folder / "link.bin").is_symlink() else writes_fuse(0x62)
+    return room.run(words, b"", {"LD_PRELOAD": str(shim), "REFUSE": refused, "REFUSED": "refused"})
+
+
+def calls_of(prepare, shim):
     """Returns the number of calls that a run makes."""
     for call in range(1, 10_000):
-        fresh_room()
-        ran = room.run(writes_fuse(0x62), b"", {"LD_PRELOAD": str(shim), "REFUSE": f"any {call} kill", "REFUSED": "refused"})
+        ran = refused_at(prepare, shim, f"any {call} kill")
         if room.read("refused") is None:
             same("a run that isn't ended", ran[0], 0)
             return call - 1
     raise AssertionError("no run came to its end")
 
 
-def ended_at(shim, refused, number):
+def ended_at(prepare, old, shim, refused, number):
     """Returns the chip that a run leaves if it is ended there."""
-    fresh_room()
-    (room.folder / "chip.bin").chmod(0o640)
-    ran = room.run(writes_fuse(0x62), b"", {"LD_PRELOAD": str(shim), "REFUSE": refused, "REFUSED": "refused"})
+    ran = refused_at(prepare, shim, refused)
     chip = room.read("chip.bin")
     see(f"{refused}: ended", ran[0] == -number, ran)
-    see(f"{refused}: the chip is the old one or the new one", chip in (OLD, with_fuse(OLD, 0x62)), len(chip or b""))
-    same(f"{refused}: its permissions", mode_of("chip.bin") & 0o777, 0o640)
+    see(f"{refused}: the chip is the old one or the new one", chip in (old, with_fuse(old or FRESH, 0x62)), len(chip or b""))
+    if old:
+        same(f"{refused}: its permissions", mode_of("chip.bin") & 0o777, 0o640)
     is_good(f"{refused}: the next run", room.run(writes_fuse(0x63)))
-    see(f"{refused}: the next run writes the chip", room.read("chip.bin") == with_fuse(OLD, 0x63))
-    same(f"{refused}: its mode after that", mode_of("chip.bin"), 0o640)
+    see(f"{refused}: the next run writes the chip", room.read("chip.bin") == with_fuse(old or FRESH, 0x63))
+    same(f"{refused}: its mode after that", mode_of("chip.bin"), 0o640 if old else 0o666 & ~UMASK)
     return chip
 
 
@@ -117,7 +161,7 @@ def at_once():
                 see("a run that failed", (started.returncode, output, messages) == (1, b"", IN_USE), messages)
         if not see("each that succeeded is in the chip", room.read("chip.bin") == wanted):
             break
-        same("no file is left beside the chip", room.read(NEW_FILE), None)
+        same("no file is left beside the chip", beside(), [])
     see("of each two at least one succeeds", good >= 200, good)
 
 
@@ -141,7 +185,7 @@ def held_by_a_session():
     with Server(room, "chip.bin") as server:
         is_good("a run before a caller comes", room.run(writes_fuse(0x62)))
         with server.call() as caller:
-            wait_for(lambda: room.read(NEW_FILE) is not None)
+            wait_for(is_held)
             same("a run beside the session", room.run(writes_fuse(0xE2)), (1, b"", IN_USE))
             caller.shutdown(1)
         same("the session", server.end(), (0, b"", b""))
@@ -243,7 +287,7 @@ def what_stays():
 
 
 def whose_it_stays():
-    """A chip keeps its owner and group if the system allows it; the file that an ended run left belongs to its owner."""
+    """A chip keeps its owner and group if the system allows it."""
     groups = [it for it in os.getgroups() if it != os.getegid()]
     if os.geteuid() == 0:
         owner, group = 65534, 65533
@@ -256,24 +300,26 @@ def whose_it_stays():
     wanted = owner_of("chip.bin")
     is_good("a run", room.run(writes_fuse(0x62)))
     same("whose the chip is", owner_of("chip.bin"), wanted)
-    held = waiting_run()
-    same("whose the new file is", owner_of(NEW_FILE), wanted)
-    held.kill()
-    held.communicate()
     if os.geteuid() == 0:
         with tempfile.TemporaryDirectory() as bare:
             after_root(nobody(bare))
 
 
 def after_root(how):
-    """The user nobody runs after a run of root's over nobody's chip. A file of root's own blocks nobody's runs."""
+    """The user nobody runs after a run of root's over nobody's chip. A file of root's own stays, and blocks no run. A
+    group that the user can't give away gets the rights that everyone had."""
     give_to(how)
     is_good("a run after root's", ended(room.start(writes_fuse(0x63), **how)))
-    room.put(NEW_FILE, b"")
-    told = (1, b"", lines("error: chip.bin: cannot be written"))
-    same("a run beside root's file", ended(room.start(writes_fuse(0x64), **how)), told)
-    same("which stays", (room.read(NEW_FILE), owner_of(NEW_FILE)), (b"", (0, 0)))
-    see("and so does the chip", room.read("chip.bin") == with_fuse(OLD, 0x63))
+    room.put(LOCK_FILE, b"")
+    same("a run beside root's file", ended(room.start(writes_fuse(0x64), **how))[0], 0)
+    same("which stays", (room.read(LOCK_FILE), owner_of(LOCK_FILE)), (b"", (0, 0)))
+    see("the chip is written", room.read("chip.bin") == with_fuse(OLD, 0x64))
+    (room.folder / LOCK_FILE).unlink()
+    for mode, kept in [(0o666, 0o666), (0o664, 0o644), (0o660, 0o600)]:
+        (room.folder / "chip.bin").chmod(mode)
+        os.chown(room.folder / "chip.bin", how["user"], 0)
+        is_good(f"a run over a chip of root's group of mode {mode:o}", ended(room.start(writes_fuse(0x64), **how)))
+        same(f"what stays of mode {mode:o}", (mode_of("chip.bin"), owner_of("chip.bin")), (kept, (how["user"], how["group"])))
     give_to({"user": 0, "group": 0})
 
 
@@ -282,50 +328,80 @@ def owner_of(name):
     return status.st_uid, status.st_gid
 
 
-def waiting_run(pipe="pipe", words=()):
+def waiting_run(pipe="pipe", words=(), name="chip.bin", **more):
     """Starts a run that holds the chip and blocks in its session because no process reads the pipe yet."""
     os.mkfifo(room.folder / pipe)
-    started = room.start([*EMULATED, *words, "-U", f"eeprom:r:{pipe}:r"])
+    (room.folder / pipe).chmod(0o666)
+    started = room.start(["-p", "m328p", "-P", f"emu:{name}", *words, "-U", f"eeprom:r:{pipe}:r"], **more)
     see("a run that waits", SIGNATURE.encode() in started.stderr.readline())
     return started
 
 
 def left_behind():
-    """The next run uses the new file that an ended run left: it is empty, or marked as being written."""
+    """A file that a run left, or one of an earlier version, is empty or marked. It is removed by the next run."""
     for content, mode in [(b"", 0o644), (b"", 0o1600), (b"x" * 100_000, 0o1644)]:
-        fresh_room()
-        room.put(NEW_FILE, content)
-        (room.folder / NEW_FILE).chmod(mode)
-        is_good(f"the next run over {len(content)} bytes of mode {mode:o}", room.run(writes_fuse(0x62)))
-        see("writes the chip", room.read("chip.bin") == with_fuse(OLD, 0x62))
+        for old in (OLD, None):
+            room.clear()
+            if old:
+                fresh_room()
+            room.put(LOCK_FILE, content)
+            (room.folder / LOCK_FILE).chmod(mode)
+            is_good(f"the next run over {len(content)} bytes of mode {mode:o}", room.run(writes_fuse(0x62)))
+            see("writes the chip", room.read("chip.bin") == with_fuse(old or FRESH, 0x62))
 
 
 def taken_away():
-    """The new file of a waiting run is removed, and another run starts. The first run ends with the old chip in place,
-    however the other one ends."""
-    for ends_well in (True, False):
-        fresh_room()
+    """While a run waits, its chip or the file that it locked is removed or exchanged, and another run starts. The one that
+    saves first ends well, and the other one fails: what a run with status 0 saved is never lost."""
+    told = (1, b"avrstk: error: chip.bin: cannot be written")
+    for old, taken in [(None, LOCK_FILE), (OLD, "chip.bin")]:
+        room.clear()
+        if old:
+            fresh_room()
         first = waiting_run(words=["-U", "lfuse:w:0x11:m"])
-        (room.folder / NEW_FILE).unlink()
+        (room.folder / taken).unlink()
         second = waiting_run("pipe2", ["-U", "lfuse:w:0x22:m"])
+        (room.folder / "pipe2").read_bytes()
+        second.communicate(timeout=PATIENCE)
+        same("the second run", second.returncode, 0)
         (room.folder / "pipe").read_bytes()
         messages = first.communicate(timeout=PATIENCE)[1]
-        same("the first run", (first.returncode, messages.splitlines()[-1]), (1, b"avrstk: error: chip.bin: cannot be written"))
-        see("the chip is as it was", room.read("chip.bin") == OLD)
-        if ends_well:
-            (room.folder / "pipe2").read_bytes()
-            second.communicate(timeout=PATIENCE)
-            same("the second run", second.returncode, 0)
-            see("writes the chip", room.read("chip.bin") == with_fuse(OLD, 0x22))
-        else:
-            second.kill()
-            second.communicate()
-            see("the chip is as it was when the second run was ended", room.read("chip.bin") == OLD)
+        same("the first run", (first.returncode, messages.splitlines()[-1]), told)
+        see("the chip is the second one's", room.read("chip.bin") == with_fuse(FRESH, 0x22))
         is_good("a run after them", room.run(writes_fuse(0x62)))
+    fresh_room()
+    first = waiting_run()
+    room.put("other", b"mine")
+    (room.folder / "other").rename(room.folder / "chip.bin")
+    (room.folder / "pipe").read_bytes()
+    messages = first.communicate(timeout=PATIENCE)[1]
+    same("a run whose chip is exchanged", (first.returncode, messages.splitlines()[-1]), told)
+    same("the file stays", (room.read("chip.bin"), beside()), (b"mine", []))
+
+
+def linked_first():
+    """Runs at once over a chip that isn't there yet, by its own name and by links: one at a time has it."""
+    for one, other in [("chip.bin", "link.bin"), ("link.bin", "chip.bin"), ("link.bin", "link.bin"), ("far.bin", "link.bin")]:
+        a_link_to_no_file()
+        (room.folder / "far.bin").symlink_to(room.folder / "link.bin")
+        first = waiting_run(name=one, words=["-U", "lfuse:w:0x11:m"])
+        told = (1, b"", lines(f"error: {other}: in use by another run"))
+        same(f"{one}, {other}", room.run(["-p", "m328p", "-P", f"emu:{other}", "-U", "hfuse:w:0x22:m"]), told)
+        (room.folder / "pipe").read_bytes()
+        first.communicate(timeout=PATIENCE)
+        same(f"{one}: the first run", first.returncode, 0)
+        see(f"{one}: writes the chip", room.read("chip.bin") == with_fuse(FRESH, 0x11))
+        see(f"{one}: the link stays", (room.folder / "link.bin").is_symlink())
+        same(f"{one}: no file is left", beside(), [])
+    room.clear()
+    (room.folder / "link.bin").symlink_to("link.bin")
+    told = (1, b"", lines("error: link.bin: cannot be written"))
+    same("a link to itself", room.run(["-p", "m328p", "-P", "emu:link.bin", "-e"]), told)
 
 
 def what_is_not_ours():
-    """A file with the new file's name that no run left stays as it is: the run is refused before any frame is sent."""
+    """A file with the lock file's name that no run left stays as it is. It blocks runs only if there is no chip yet: these
+    are refused before any frame is sent."""
     told = (1, b"", lines("error: chip.bin: cannot be written"))
 
     def plant_file(path):
@@ -343,15 +419,16 @@ def what_is_not_ours():
     for plant in [plant_file, plant_link, plant_link_to_nothing, plant_name, os.mkfifo, Path.mkdir]:
         fresh_room()
         room.put("victim", b"")
-        path = room.folder / NEW_FILE
+        path = room.folder / LOCK_FILE
         plant(path)
         before = path.lstat()
+        same(f"{plant.__name__}: a run over a chip", room.run(writes_fuse(0x62))[0], 0)
+        see(f"{plant.__name__}: it writes the chip", room.read("chip.bin") == with_fuse(OLD, 0x62))
+        (room.folder / "chip.bin").unlink()
         same(f"{plant.__name__}: a run", room.run(writes_fuse(0x62)), told)
         same(f"{plant.__name__}: serving", Server(room, "chip.bin", waits=False).end(), told)
-        room.run(["-P", "emu:chip.bin"])
         same(f"{plant.__name__}: what is there", kept_of(path.lstat()), kept_of(before))
-        see(f"{plant.__name__}: the chip is as it was", room.read("chip.bin") == OLD)
-        same(f"{plant.__name__}: the file behind it", (room.read("victim"), room.read("nothing")), (b"", None))
+        same(f"{plant.__name__}: the files behind it", (room.read("victim"), room.read("nothing"), room.read("chip.bin")), (b"", None, None))
         path.rmdir() if path.is_dir() else path.unlink()
         is_good(f"{plant.__name__}: a run once it is removed", room.run(writes_fuse(0x62)))
 
@@ -360,15 +437,15 @@ def kept_of(status):
     return status.st_ino, status.st_mode, status.st_size, status.st_nlink, status.st_mtime_ns
 
 
-def read_into_the_new_file():
-    """Reads into a file with the new file's name: the run fails, the read data stays, and the chip is unchanged."""
-    fresh_room()
-    told = lines(SIGNATURE, "eeprom: 1024 bytes read", "done", "error: chip.bin: cannot be written")
-    same("the run", room.run([*EMULATED, "-U", f"eeprom:r:{NEW_FILE}:r"]), (1, b"", told))
-    see("what was read", room.read(NEW_FILE) == OLD[EEPROM:LFUSE])
-    see("the chip is as it was", room.read("chip.bin") == OLD)
-    same("the next run", room.run(writes_fuse(0x62)), (1, b"", lines("error: chip.bin: cannot be written")))
-    see("what was read is there still", room.read(NEW_FILE) == OLD[EEPROM:LFUSE])
+def read_into_the_lock_file():
+    """Reads into a file with the lock file's name: what was read stays, and the chip is written."""
+    for old in (OLD, None):
+        room.clear()
+        if old:
+            fresh_room()
+        same("the run", room.run([*EMULATED, "-U", f"eeprom:r:{LOCK_FILE}:r", "-U", "lfuse:w:0x62:m"])[0], 0)
+        see("what was read", room.read(LOCK_FILE) == (old or FRESH)[EEPROM:LFUSE])
+        see("the chip is written", room.read("chip.bin") == with_fuse(old or FRESH, 0x62))
 
 
 def long_names():
@@ -385,19 +462,28 @@ def long_names():
 
 
 def on_the_disk():
-    """The new file is synced before it gets the chip's name, and the folder is synced before the run ends."""
+    """The new file is synced before it gets the chip's name, and the chip's folder is synced before the run ends."""
     if not shutil.which("strace"):
         return leave_out("what is on the disk", "strace is not installed")
-    fresh_room()
-    traced = ["strace", "-y", "-o", "calls", "-e", "trace=fsync,rename,renameat,renameat2"]
-    # (the unproved program's leak detector can't run under strace)
-    started = room.start(writes_fuse(0x62), front=traced, env=os.environ | {"ASAN_OPTIONS": "detect_leaks=0"})
-    started.communicate(timeout=PATIENCE)
-    same("the run", started.returncode, 0)
-    calls = [it for it in (room.read("calls") or b"").decode().splitlines() if not it.startswith("+++")]
-    folder = os.path.realpath(room.folder)
-    wanted = [rf"fsync\(\d+<{folder}/{NEW_FILE}>\)", r"rename", rf"fsync\(\d+<{folder}>\)"]
-    see("the calls", len(calls) == 3 and all(map(re.match, wanted, calls)), calls)
+    room.clear()
+    with tempfile.TemporaryDirectory(dir=room.folder) as made:
+        sub = os.path.basename(made)
+        room.given.add(sub)
+        for name, place in [("chip.bin", room.folder), (f"{sub}/chip.bin", made), (f"{sub}/new.bin", made)]:
+            if name.endswith("chip.bin"):
+                Path(place, "chip.bin").write_bytes(OLD)
+            traced = ["strace", "-y", "-o", "calls", "-e", "trace=fsync,rename,renameat,renameat2,link,linkat"]
+            # (the unproved program's leak detector can't run under strace)
+            words = ["-p", "m328p", "-P", f"emu:{name}", "-U", "lfuse:w:0x62:m"]
+            started = room.start(words, front=traced, env=os.environ | {"ASAN_OPTIONS": "detect_leaks=0"})
+            started.communicate(timeout=PATIENCE)
+            same(f"{name}: the run", started.returncode, 0)
+            calls = [it for it in (room.read("calls") or b"").decode().splitlines() if not it.startswith("+++")]
+            folder = re.escape(os.path.realpath(place))
+            how = "link" if name.endswith("new.bin") else "rename"
+            wanted = [rf"fsync\(\d+<{folder}/{os.path.basename(name)}.avrstk-[0-9A-F]{{3}}>\)", how, rf"fsync\(\d+<{folder}>\)"]
+            see(f"{name}: the calls", len(calls) == 3 and all(map(re.match, wanted, calls)), calls)
+        room.given.discard(sub)
 
 
 def no_regular_file():
@@ -424,13 +510,152 @@ def a_full_disk():
         found = subprocess.run(words, capture_output=True, cwd=room.folder)
         same(f"{limit}: it is reported", (found.returncode, found.stderr), (1, told))
         see(f"{limit}: the chip is as it was", room.read("chip.bin") == OLD)
-        same(f"{limit}: no file is left beside it", room.read(NEW_FILE), None)
+        same(f"{limit}: no file is left beside it", beside(), [])
+
+
+@contextlib.contextmanager
+def delayed(words, call, seconds):
+    """Starts a run whose calls of this name wait so long before they are made, and waits for the first of them."""
+    (room.folder / "trace").unlink(missing_ok=True)
+    traced = ["strace", "-o", "trace", "-e", f"trace={call}", "-e", f"inject={call}:delay_enter={int(seconds * 1e6)}"]
+    started = room.start(words, front=traced, env=os.environ | {"ASAN_OPTIONS": "detect_leaks=0"})
+    # (strace prints the call's name as it begins)
+    wait_for(lambda: call.encode() in (room.read("trace") or b""))
+    yield started
+    started.communicate(timeout=PATIENCE)
+
+
+def the_window():
+    """A run's new file is there for a moment, which strace makes long. Then it is removed, or another program makes a file
+    beside it. Another run is refused meanwhile, and no other file becomes the chip."""
+    if not shutil.which("strace"):
+        return leave_out("what happens before a rename", "strace is not installed")
+    planted = room.folder / LOCK_FILE
+    for what, act, wanted in [
+        ("removed", lambda: (room.folder / beside()[0]).unlink(), (1, OLD)),
+        ("a link", lambda: planted.symlink_to("planted"), (0, with_fuse(OLD, 0x11))),
+        ("an empty file", planted.touch, (0, with_fuse(OLD, 0x11))),
+    ]:
+        fresh_room()
+        with delayed(writes_fuse(0x11), "rename", 0.5) as started:
+            same(f"{what}: a run meanwhile", room.run(writes_fuse(0x22)), (1, b"", IN_USE))
+            act()
+        see(f"{what}: the run and the chip", (started.returncode, room.read("chip.bin")) == wanted, started.returncode)
+
+
+def nobody_else_opens_it():
+    """Another user watches a chip of mode 600 whose owner runs with umask 000. He opens none of the files beside it, and
+    plants the lock file in a sticky folder, which no run takes over."""
+    if os.geteuid() != 0:
+        return leave_out("another user beside a chip", "this isn't root")
+    with tempfile.TemporaryDirectory() as bare:
+        watched(nobody(bare), {"user": 2, "group": 2, "extra_groups": []})
+
+
+# opens the chip and the files beside it, for as long as there is no file `stop`
+WATCH = """echo ready; while [ ! -e stop ]; do for it in chip.bin *.avrstk-*; do
+if true <"$it"; then echo "$it"; fi; done; done 2>/dev/null"""
+
+
+def watched(how, other):
+    fresh_room()
+    give_to(how, "chip.bin")
+    (room.folder / "chip.bin").chmod(0o600)
+    room.folder.chmod(0o755)
+    evil = subprocess.Popen(["sh", "-c", WATCH], stdout=subprocess.PIPE, text=True, cwd=room.folder, **other)
+    evil.stdout.readline()
+    for value in range(20):
+        is_good("a run", ended(room.start(writes_fuse(value), umask=0, **how)))
+    room.put("stop", b"")
+    same("what the other user opened", evil.communicate(timeout=PATIENCE)[0], "")
+    same("the mode of the chip", mode_of("chip.bin"), 0o600)
+    give_to({"user": os.geteuid(), "group": os.getegid()})
+    room.clear()
+    room.folder.chmod(0o1777)
+    room.put(LOCK_FILE, b"")
+    os.chown(room.folder / LOCK_FILE, 2, 2)
+    planted = (room.folder / LOCK_FILE).stat().st_ino
+    same("root's run beside his lock file", room.run(writes_fuse(0x62))[0], 0)
+    see("the chip is another file", (room.folder / "chip.bin").stat().st_ino != planted)
+    same("which is root's", owner_of("chip.bin"), (0, 0))
+    same("and the lock file is his", (owner_of(LOCK_FILE), (room.folder / LOCK_FILE).stat().st_ino), ((2, 2), planted))
+    room.folder.chmod(0o700)
+
+
+def mounted():
+    """A chip file at which a file is mounted can't be replaced: it is written in place."""
+    room.clear()
+    room.put("real.bin", OLD)
+    room.put("chip.bin", b"")
+    mount = ["mount", "--bind", "real.bin", "chip.bin"]
+    if os.geteuid() != 0 or subprocess.run(mount, cwd=room.folder, capture_output=True).returncode:
+        return leave_out("a chip that is mounted", "this may not mount")
+    try:
+        is_good("a run", room.run(writes_fuse(0x62)))
+        is_good("a read", room.run([*EMULATED, "-U", "lfuse:r:-:h"]))
+    finally:
+        subprocess.run(["umount", "chip.bin"], cwd=room.folder, check=True)
+    see("the file has the chip", room.read("real.bin") == with_fuse(OLD, 0x62))
+    room.clear()
+
+
+def stormy():
+    """Runs over one chip for a while, some at a time, beside one that removes and one that plants files of the lock file's
+    name, and one that kills runs. What each run with status 0 wrote is in the chip; it is whole whenever it is seen."""
+    room.clear()
+    room.put("chip.bin", FRESH)
+    chance, ends = random.Random(7), time.monotonic() + STORM
+    live, written, odd = {}, set(), set()
+
+    def until_it_ends(wait, act):
+        while time.monotonic() < ends:
+            time.sleep(chance.random() * wait)
+            try:
+                act()
+            except OSError:
+                pass
+
+    def seen():
+        if (room.folder / "chip.bin").stat().st_size != CHIP_FILE:
+            odd.add(room.read("chip.bin"))
+
+    def plant():
+        path = room.folder / LOCK_FILE
+        chance.choice([path.touch, lambda: path.symlink_to("planted"), lambda: path.hardlink_to(room.folder / "chip.bin")])()
+
+    def kill():
+        chance.choice(list(live.values())).kill()
+
+    def runs(lane, lanes):
+        for place in range(lane, 1024, lanes):
+            if time.monotonic() > ends:
+                return
+            live[lane] = room.start([*EMULATED, "-q", "-D", "-U", f"eeprom:w:e{place}:i"])
+            live[lane].communicate()
+            if live[lane].returncode == 0:
+                written.add(place)
+
+    for place in range(1024):
+        data = [1, place >> 8, place & 255, 0, place % 255]
+        room.put(f"e{place}", f":{bytes([*data, -sum(data) & 255]).hex().upper()}\n:00000001FF\n".encode())
+    beside_it = [(0.001, seen), (0.03, (room.folder / LOCK_FILE).unlink), (0.05, plant), (0.4, lambda: live and kill())]
+    threads = [threading.Thread(target=until_it_ends, args=it) for it in beside_it]
+    threads += [threading.Thread(target=runs, args=(it, 6)) for it in range(6)]
+    for it in threads:
+        it.start()
+    for it in threads:
+        it.join()
+    chip = room.read("chip.bin")
+    see("runs succeed", written)
+    same("lost", [it for it in sorted(written) if chip[EEPROM + it] != it % 255], [])
+    same("chips of another length", odd, set())
+    room.clear()
 
 
 CASES = named(
     *(ended_anywhere, at_once, held_by_a_run, held_by_a_session, refused_by_then, told_before, what_stays, whose_it_stays),
-    *(left_behind, taken_away, what_is_not_ours, read_into_the_new_file, long_names, on_the_disk, no_regular_file),
-    *(a_full_disk,),
+    *(left_behind, taken_away, linked_first, what_is_not_ours, read_into_the_lock_file, long_names, on_the_disk),
+    *(no_regular_file, a_full_disk, the_window, nobody_else_opens_it, mounted, stormy),
 )
 
 

@@ -119,7 +119,7 @@ class Sweep:
         """Returns whether a failed run reports the failure and each half-written file."""
         refused = Path(self.room.read("refused").decode())
         # (the folder is synced after the chip is in place)
-        file = "chip.bin" if refused == self.room.folder.resolve() else refused.name.removesuffix(".avrstk-new")
+        file = "chip.bin" if refused == self.room.folder.resolve() else refused.name.split(".avrstk-")[0]
         lines = [line.format(file=file) for line in LINES[kind]]
         if how == "onwards" and self.old and chip == self.old:
             # (after an error of the session there is no memory to save the chip either, and that is reported too)

@@ -14,7 +14,7 @@ import time
 
 from cases import PATIENCE, named, run_cases, same, see
 from line import BadLine, FrontOfAnswers
-from program import ANSWERS, CHIP_FILE, ENDS, FRAMES, Room, Server, lines
+from program import ANSWERS, CHIP_FILE, ENDS, FRAMES, Room, Server, frame, lines
 
 SIGNATURE = "device signature = 1E 95 0F"
 EMULATED = ["-p", "m328p", "-P", "emu:chip.bin"]
@@ -246,6 +246,29 @@ def a_second_caller():
         same("how serving ends", server.end(), (0, b"", b""))
 
 
+def nothing_is_read():
+    """A programmer replies to each command and never reads. A write that takes no byte for ten seconds ends the run."""
+    room.clear()
+    room.put("large.bin", bytes(range(1, 129)) * 2_048)
+    with socket.socket() as listener:
+        listener.setsockopt(socket.SOL_SOCKET, socket.SO_RCVBUF, 1)
+        listener.bind(("127.0.0.1", 0))
+        listener.listen()
+        port = f"net:127.0.0.1:{listener.getsockname()[1]}"
+        started = room.start(["-p", "m2560", "-P", port, "-q", "-V", *["-U", "flash:w:large.bin:r"] * 16])
+        begin = [b"\x01\x00\x08STK500_2", b"\x10\x00", *(b"\x1b\x00%c\x00" % it for it in b"\x1e\x98\x01"), b"\x12\x00"]
+        with listener.accept()[0] as peer:
+            peer.settimeout(5)
+            try:
+                for number, body in enumerate([*begin, *[b"\x06\x00", b"\x13\x00"] * 16_384], 1):
+                    peer.sendall(frame(number, body))
+                    time.sleep(0.0005)
+            except OSError:
+                pass
+            messages = started.communicate(timeout=PATIENCE)[1]
+    same("how the run ends", (started.returncode, messages), (1, lines("error: link cannot be written")))
+
+
 def served(sent, resets=False):
     """Returns the status and messages of a server whose caller sends this, and the replies that the caller got."""
     answered = b""
@@ -286,7 +309,7 @@ def exchanged(caller, sent):
 
 CASES = named(
     *(output_fails, input_fails, descriptors_are_closed, closed_streams_stay_closed, files_fail, files_are_full),
-    *(no_file_may_grow, answers_are_cut, lines_are_bad, callers_are_odd, a_second_caller),
+    *(no_file_may_grow, answers_are_cut, lines_are_bad, nothing_is_read, callers_are_odd, a_second_caller),
 )
 
 if __name__ == "__main__":

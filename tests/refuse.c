@@ -130,6 +130,8 @@ OF_FILE(FILES, EIO, -1, int, ftruncate, NULL, file, (int file, off_t length), (f
 OF_FILE(FILES, EPERM, -1, int, fchmod, NULL, file, (int file, mode_t mode), (file, mode))
 OF_FILE(FILES, EIO, -1, off_t, lseek, NULL, file, (int file, off_t offset, int whence), (file, offset, whence))
 OF_FILE(FILES, EIO, -1, int, rename, from, -1, (const char *from, const char *to), (from, to))
+OF_FILE(FILES, EIO, -1, int, link, from, -1, (const char *from, const char *to), (from, to))
+OF_FILE(FILES, EACCES, -1, ssize_t, readlink, path, -1, (const char *path, char *to, size_t size), (path, to, size))
 OF_FILE(FILES, EACCES, -1, int, unlink, path, -1, (const char *path), (path))
 OF_FILE(FILES, EACCES, NULL, char *, realpath, path, -1, (const char *path, char *resolved), (path, resolved))
 OF_FILE(FILES, EACCES, -1, int, statx, *path ? path : NULL, file, (int file, const char *path, int flags, unsigned int mask, struct statx *found),

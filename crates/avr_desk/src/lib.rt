@@ -28,6 +28,7 @@ mod file_system;
 mod journal;
 mod kept;
 mod mem_desk;
+mod placing;
 mod replacing;
 mod system;
 mod watched;

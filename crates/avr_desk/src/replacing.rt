@@ -1,9 +1,10 @@
 //! Replaces a file whole or not at all, by one program at a time.
 //!
-//! The new file is made beside the old one, under its name with `.avrstk-new`. The program that has locked the new
-//! file holds the old one, until the new one is renamed or removed. If a program ends, the system unlocks it.
+//! A program that has locked a file holds it. If there is no such file yet, it locks an empty one beside it, under its
+//! name with `.avrstk-new`. If a program ends, the system unlocks it.
 //!
-//! A new file is empty until its bytes are written, and marked while they are. Any other file was not made here, and
+//! The bytes are written to a new file beside the old one, which this program alone has made, opened and locked. On
+//! the disk, it is renamed. No other file is put in place, and one that no program here can have made
 //! is left alone.
 ghost use Rattle.std.specs.Prelude.{Option, OnErr, OnOk};
 ghost use Rattle.avr_desk.specs.Handles.{IsHeldBy};
@@ -13,83 +14,95 @@ ghost use Rattle.ghosts.specs.Stays.{Stays};
 
 use crate::bounded::{create, longest_file};
 use crate::file_system::FileSystem;
+use crate::placing::{MARK, PERMISSIONS, Step, is_left_over, permissions_after, step_after};
 use std::alloc::Global;
 use std::fs::{File, Metadata, OpenOptions, Permissions, TryLockError};
 use std::io::{ErrorKind, Seek, SeekFrom, Write};
-use std::os::unix::fs::{MetadataExt, PermissionsExt, fchown};
+use std::os::unix::fs::{MetadataExt, OpenOptionsExt, PermissionsExt, fchown};
 use std::rt::Files;
 use std::{fs, io};
 
-/// How often a new file is opened again after another program put it in place or removed it.
+/// How often a file is looked for again after another program put another one in its place.
 const ATTEMPTS: u32 = 100;
 
-/// The mode bits that a new file takes over from the old one: no setuid, no setgid.
-const PERMISSIONS: u32 = 0o777;
+/// How many links are followed, as many as the system follows.
+const LINKS: u32 = 40;
 
-/// The mark of a file whose bytes are being written: the sticky bit, which has no meaning for a regular file.
-const MARK: u32 = 0o1000;
+/// The mode of a new file that replaces another one, until it is whole: it is its owner's alone.
+const PRIVATE: u32 = 0o600;
 
-/// The new file, which is renamed to `target`.
+/// The mode of a new file that replaces none, which the system restricts as that of any file.
+const ORDINARY: u32 = 0o666;
+
+/// A new file beside another one, which this program alone has made, opened and locked.
 #[derive(Drop)]
 struct NewFile {
     file: File,
     path: String,
-    target: String,
-    is_begun: bool,
 }
 
-/// Replaces the file of this name. Without a new file, it is written in place and not locked.
+/// The file at `target` is held. It is locked, or the empty file at `beside` is if there was none.
+#[derive(Drop)]
+struct Held {
+    locked: File,
+    target: String,
+    beside: Option<String>,
+    placed: Option<NewFile>,
+}
+
+/// What came of trying to hold a file.
+#[derive(Drop)]
+enum Tried {
+    Holds(Held),
+    /// Another program has locked it.
+    InUse,
+    /// Another program put another file there meanwhile.
+    Changed,
+}
+
+/// Replaces the file of this name. One that isn't regular is not held; it is written in place.
 #[derive(Drop)]
 pub struct Replacement {
     name: String,
-    new: Option<NewFile>,
+    held: Option<Held>,
 }
 
 fn is_same(one: &Metadata, other: &Metadata) -> bool {
     one.ino() == other.ino() && one.dev() == other.dev()
 }
 
-/// Returns whether this open file is still the one at the path.
-fn is_at<R: Files>(rt: &R, file: &File, path: &str) -> io::Result<bool> {
-    match fs::symlink_metadata(rt, path) {
-        Ok(there) => Ok(is_same(&file.metadata()?, &there)),
-        Err(error) if error.kind() == ErrorKind::NotFound => Ok(false),
+/// Returns `None` if there is no file.
+fn unless_absent<T>(found: io::Result<T>) -> io::Result<Option<T>> {
+    match found {
+        Ok(there) => Ok(Some(there)),
+        Err(error) if error.kind() == ErrorKind::NotFound => Ok(None),
         Err(error) => Err(error),
     }
 }
 
-/// Returns whether an ended program may have left this file: a regular file with one name that is empty or marked.
+/// Looks at what is at this path, which may be a link.
+fn look<R: Files>(rt: &R, path: &str) -> io::Result<Option<Metadata>> {
+    unless_absent(fs::symlink_metadata(rt, path))
+}
+
+/// Returns whether this open file is the one at the path.
+fn is_at<R: Files>(rt: &R, file: &File, path: &str) -> io::Result<bool> {
+    match look(rt, path)? {
+        Some(there) => Ok(is_same(&file.metadata()?, &there)),
+        None => Ok(false),
+    }
+}
+
 fn is_left(there: &Metadata) -> bool {
-    there.is_file() && there.nlink() <= 1 && (there.len() == 0 || there.mode() & MARK != 0)
+    is_left_over(there.is_file(), there.nlink(), there.len(), there.mode())
+}
+
+fn is_own_left(there: &Metadata) -> bool {
+    is_left(there) && there.uid() == libc::geteuid()
 }
 
 fn not_ours() -> io::Error {
     io::Error::from(ErrorKind::AlreadyExists)
-}
-
-/// Returns `None` if opening failed for this reason.
-fn unless(opened: io::Result<File>, reason: ErrorKind) -> io::Result<Option<File>> {
-    match opened {
-        Ok(file) => Ok(Some(file)),
-        Err(error) if error.kind() == reason => Ok(None),
-        Err(error) => Err(error),
-    }
-}
-
-/// Opens or makes the file at this path, or returns `None` if another program just made or removed it. It refuses
-/// links and files that no program here can have left.
-fn open_or_make<R: Files<File = File>>(rt: &R, path: &str) -> io::Result<Option<File>> {
-    let mut options = OpenOptions::new();
-    options.read(true).write(true);
-    match fs::symlink_metadata(rt, path) {
-        Ok(there) if is_left(&there) => unless(options.open(rt, path), ErrorKind::NotFound),
-        Ok(_) => Err(not_ours()),
-        Err(error) if error.kind() == ErrorKind::NotFound => unless(
-            options.create_new(true).open(rt, path),
-            ErrorKind::AlreadyExists,
-        ),
-        Err(error) => Err(error),
-    }
 }
 
 /// Locks the file. Returns false if another process has.
@@ -101,58 +114,18 @@ fn lock(file: &File) -> io::Result<bool> {
     }
 }
 
-/// Opens or makes the file at this path and locks it. Returns `None` if another process has locked it.
-fn open_locked<R: Files<File = File>>(rt: &R, path: &str) -> io::Result<Option<File>> {
-    for _ in 0..ATTEMPTS {
-        if let Some(file) = open_or_make(rt, path)? {
-            if !lock(&file)? {
-                return Ok(None);
-            }
-            if is_at(rt, &file, path)? {
-                return Ok(Some(file));
-            }
-        }
+/// Returns the folder of a path.
+fn folder_of(path: &str) -> &str {
+    match path.rsplit_once('/') {
+        Some(("", _)) => "/",
+        Some((folder, _)) => folder,
+        None => ".",
     }
-    Err(io::Error::from(ErrorKind::WouldBlock))
-}
-
-/// Empties a locked file and removes its mark. The file is checked again because it was opened by its name.
-fn empty(file: &File) -> io::Result<()> {
-    let there = file.metadata()?;
-    if !is_left(&there) {
-        return Err(not_ours());
-    }
-    if there.len() != 0 {
-        file.set_len(0)?;
-    }
-    if there.mode() & MARK != 0 {
-        file.set_permissions(Permissions::from_mode(there.mode() & PERMISSIONS))?;
-    }
-    Ok(())
-}
-
-/// Gives the file the group and owner of the one at `target`, as far as the system allows.
-fn give_owner<R: Files>(rt: &R, file: &File, target: &str) -> io::Result<()> {
-    let own = file.metadata()?;
-    if let Ok(old) = fs::metadata(rt, target) {
-        if old.gid() != own.gid() {
-            let _ = fchown(file, None, Some(old.gid()));
-        }
-        if old.uid() != own.uid() {
-            let _ = fchown(file, Some(old.uid()), None);
-        }
-    }
-    Ok(())
 }
 
 /// Waits until the file's name is on the disk. It ignores a folder that can't be opened or synchronized.
 fn sync_folder<R: Files<File = File>>(rt: &R, path: &str) -> io::Result<()> {
-    let folder = match path.rsplit_once('/') {
-        Some(("", _)) => "/",
-        Some((folder, _)) => folder,
-        None => ".",
-    };
-    let Ok(opened) = fs::open(rt, folder) else {
+    let Ok(opened) = fs::open(rt, folder_of(path)) else {
         return Ok(());
     };
     match opened.sync_all() {
@@ -161,97 +134,335 @@ fn sync_folder<R: Files<File = File>>(rt: &R, path: &str) -> io::Result<()> {
     }
 }
 
-fn is_link<R: Files>(rt: &R, name: &str) -> bool {
-    matches!(fs::symlink_metadata(rt, name), Ok(there) if there.is_symlink())
+/// Returns this path with an ending.
+fn with_ending<R: Alloc<A = Global>>(rt: &R, path: &str, ending: &str) -> io::Result<String> {
+    let mut text = String::from_str(rt.alloc(), path)?;
+    text.push_str(ending)?;
+    Ok(text)
 }
 
-/// Returns the path of the regular file to replace, following links. Returns `None` for anything but a regular file,
-/// and for a link to nothing.
-fn target_of<R: Files<File = File> + Alloc<A = Global>>(
+/// Returns the path that a name leads to, following the links at its end. No file need be there.
+fn target_of<R: Files<File = File> + Alloc<A = Global>>(rt: &R, name: &str) -> io::Result<String> {
+    let mut path = String::from_str(rt.alloc(), name)?;
+    for _ in 0..LINKS {
+        if !matches!(look(rt, path.as_str())?, Some(there) if there.is_symlink()) {
+            return Ok(path);
+        }
+        let next = fs::read_link(rt, path.as_str())?.into_string();
+        path = if next.as_str().starts_with('/') {
+            next
+        } else {
+            let mut joined = with_ending(rt, folder_of(path.as_str()), "/")?;
+            joined.push_str(next.as_str())?;
+            joined
+        };
+    }
+    Err(io::Error::from(ErrorKind::FilesystemLoop))
+}
+
+/// Opens a file that an ended program may have left. Another user's is only read.
+fn open_left<R: Files<File = File>>(rt: &R, path: &str) -> io::Result<File> {
+    match OpenOptions::new().read(true).write(true).open(rt, path) {
+        Err(error) if error.kind() == ErrorKind::PermissionDenied => fs::open(rt, path),
+        opened => opened,
+    }
+}
+
+/// Removes what an ended program left at this path, unless it is another user's or another program has locked it.
+fn remove_left<R: Files<File = File>>(rt: &R, path: &str) -> io::Result<()> {
+    match look(rt, path)? {
+        Some(there) if is_own_left(&there) => {}
+        _ => return Ok(()),
+    }
+    let file = open_left(rt, path)?;
+    if is_own_left(&file.metadata()?) && lock(&file)? && is_at(rt, &file, path)? {
+        fs::remove_file(rt, path)?;
+    }
+    Ok(())
+}
+
+/// Removes this file, unless another one has its path.
+fn remove<R: Files>(rt: &R, file: &File, path: &str) {
+    if matches!(is_at(rt, file, path), Ok(true)) {
+        let _ = fs::remove_file(rt, path);
+    }
+}
+
+/// Opens or makes the empty file that is locked for one that is absent. It returns `None` if another program just made
+/// or removed it, and refuses links and files that no program here can have left.
+fn open_or_make<R: Files<File = File>>(rt: &R, path: &str) -> io::Result<Option<File>> {
+    match look(rt, path)? {
+        Some(there) if is_left(&there) => unless_absent(open_left(rt, path)),
+        Some(_) => Err(not_ours()),
+        None => match File::create_new(rt, path) {
+            Err(error) if error.kind() == ErrorKind::AlreadyExists => Ok(None),
+            made => made.map(Some),
+        },
+    }
+}
+
+/// Tries to lock the empty file beside `target`, which is absent.
+fn try_beside<R: Files<File = File> + Alloc<A = Global>>(
+    rt: &R,
+    target: String,
+) -> io::Result<Tried> {
+    let beside = with_ending(rt, target.as_str(), ".avrstk-new")?;
+    let Some(locked) = open_or_make(rt, beside.as_str())? else {
+        return Ok(Tried::Changed);
+    };
+    if !lock(&locked)? {
+        return Ok(Tried::InUse);
+    }
+    if !is_at(rt, &locked, beside.as_str())? {
+        return Ok(Tried::Changed);
+    }
+    let held = Held {
+        locked,
+        target,
+        beside: Some(beside),
+        placed: None,
+    };
+    if look(rt, held.target.as_str())?.is_some() {
+        held.leave(rt);
+        return Ok(Tried::Changed);
+    }
+    Ok(Tried::Holds(held))
+}
+
+/// Tries to lock the file at `target`, to which `name` leads, or the one beside it if it is absent. What was locked is
+/// looked at again, because it was opened by its name.
+fn try_to_hold<R: Files<File = File> + Alloc<A = Global>>(
     rt: &R,
     name: &str,
-) -> io::Result<Option<String>> {
-    match fs::metadata(rt, name) {
-        Ok(old) if old.is_file() => {
-            // Fails if the file may not be written.
-            OpenOptions::new().write(true).open(rt, name)?;
-            Ok(Some(fs::canonicalize(rt, name)?.into_string()))
-        }
-        Ok(_) => Ok(None),
-        Err(error) if error.kind() == ErrorKind::NotFound => {
-            if is_link(rt, name) {
-                return Ok(None);
-            }
-            Ok(Some(String::from_str(rt.alloc(), name)?))
-        }
-        Err(error) => Err(error),
+    target: String,
+) -> io::Result<Tried> {
+    // Fails if the file may not be written.
+    let opened = OpenOptions::new().write(true).open(rt, name);
+    let Some(locked) = unless_absent(opened)? else {
+        return try_beside(rt, target);
+    };
+    if !lock(&locked)? {
+        return Ok(Tried::InUse);
     }
+    if !is_at(rt, &locked, target.as_str())? {
+        return Ok(Tried::Changed);
+    }
+    Ok(Tried::Holds(Held {
+        locked,
+        target,
+        beside: None,
+        placed: None,
+    }))
 }
 
 impl NewFile {
-    /// Returns whether no one else has written to the file.
-    fn is_own(&self) -> io::Result<bool> {
-        Ok(self.is_begun || self.file.metadata()?.len() == 0)
+    /// Makes a file beside `target`, under its name with `.avrstk-` and three digits, and removes one left there.
+    fn make<R: Files<File = File> + Alloc<A = Global>>(
+        rt: &R,
+        target: &str,
+        number: u64,
+        mode: u32,
+    ) -> io::Result<NewFile> {
+        for turn in 0..ATTEMPTS {
+            let digits = number.wrapping_add(u64::from(turn)) & 0xFFF;
+            let path = format!(in rt.alloc(); "{target}.avrstk-{digits:03X}")?;
+            let _ = remove_left(rt, path.as_str());
+            let mut options = OpenOptions::new();
+            options
+                .read(true)
+                .write(true)
+                .create_new(true)
+                .mode(mode | MARK);
+            match options.open(rt, path.as_str()) {
+                Ok(file) if lock(&file)? => return Ok(NewFile { file, path }),
+                Ok(_) => {}
+                Err(error) if error.kind() == ErrorKind::AlreadyExists => {}
+                Err(error) => return Err(error),
+            }
+        }
+        Err(not_ours())
     }
 
-    /// Returns the permissions that the file will have: the old one's, else its own.
-    fn permissions<R: Files>(&self, rt: &R) -> io::Result<u32> {
-        let like = match fs::metadata(rt, self.target.as_str()) {
-            Ok(old) => old,
-            Err(error) if error.kind() == ErrorKind::NotFound => self.file.metadata()?,
-            Err(error) => return Err(error),
+    fn set_mode(&self, mode: u32) -> io::Result<()> {
+        self.file.set_permissions(Permissions::from_mode(mode))
+    }
+
+    /// Gives the file the old one's group and owner, as far as the system allows, and its permissions beside the mark.
+    /// Returns the permissions.
+    fn be_like(&self, old: &Option<Metadata>) -> io::Result<u32> {
+        let own = self.file.metadata()?;
+        let Some(old) = old else {
+            return Ok(own.mode() & PERMISSIONS);
         };
-        Ok(like.mode() & PERMISSIONS)
-    }
-
-    /// Gives the file these permissions, and the mark if the file system keeps it.
-    fn mark(&self, permissions: u32) -> io::Result<()> {
-        let marked = Permissions::from_mode(permissions | MARK);
-        match self.file.set_permissions(marked) {
-            Ok(()) => Ok(()),
-            Err(_) => self
-                .file
-                .set_permissions(Permissions::from_mode(permissions)),
+        if old.gid() != own.gid() {
+            let _ = fchown(&self.file, None, Some(old.gid()));
+        }
+        if old.uid() != own.uid() {
+            let _ = fchown(&self.file, Some(old.uid()), None);
+        }
+        let is_of_group = self.file.metadata()?.gid() == old.gid();
+        let permissions = permissions_after(old.mode(), is_of_group);
+        match self.set_mode(permissions | MARK) {
+            Ok(()) => Ok(permissions),
+            Err(_) => self.set_mode(permissions).map(|()| permissions),
         }
     }
 
-    /// Writes these bytes under the mark, and waits until they are on the disk.
-    fn write(&mut self, permissions: u32, bytes: &[u8]) -> io::Result<()> {
-        self.is_begun = true;
-        self.mark(permissions)?;
-        self.file.set_len(0)?;
-        self.file.seek(SeekFrom::Start(0))?;
-        self.file.write_all(bytes)?;
-        self.file.sync_all()
+    /// Gives the file a name that no other one may have. A file system without links renames it.
+    fn link<R: Files>(&self, rt: &R, target: &str) -> io::Result<()> {
+        match fs::hard_link(rt, self.path.as_str(), target) {
+            Ok(()) => {
+                let _ = fs::remove_file(rt, self.path.as_str());
+                Ok(())
+            }
+            Err(error) => match error.kind() {
+                ErrorKind::PermissionDenied | ErrorKind::Unsupported => {
+                    fs::rename(rt, self.path.as_str(), target)
+                }
+                _ => Err(error),
+            },
+        }
+    }
+}
+
+impl Held {
+    /// Returns the file that is to be replaced, if there was one.
+    fn old(&self) -> io::Result<Option<Metadata>> {
+        match self.beside {
+            None => Ok(Some(self.locked.metadata()?)),
+            Some(_) => Ok(None),
+        }
     }
 
-    /// Puts a file of these bytes in place, and waits until it is on the disk under its name. Fails if another
-    /// program wrote to the file, or if it is no longer the one at its path.
-    fn put<R: Files<File = File>>(&mut self, rt: &R, bytes: &[u8]) -> io::Result<()> {
-        if !self.is_own()? {
+    /// Makes a new file, named by a number of the old one, so that the next program finds what an ended one left.
+    fn make_new<R: Files<File = File> + Alloc<A = Global>>(
+        &self,
+        rt: &R,
+        old: &Option<Metadata>,
+    ) -> io::Result<NewFile> {
+        let (number, mode) = match old {
+            Some(old) => (old.ino(), PRIVATE),
+            None => (0, ORDINARY),
+        };
+        NewFile::make(rt, self.target.as_str(), number, mode)
+    }
+
+    /// Fails if no file can be made beside this one. It removes what programs left that ended while it was absent.
+    fn prepare<R: Files<File = File> + Alloc<A = Global>>(&self, rt: &R) -> io::Result<()> {
+        let new = self.make_new(rt, &self.old()?)?;
+        remove(rt, &new.file, new.path.as_str());
+        if self.beside.is_none() {
+            for ending in [".avrstk-000", ".avrstk-new"] {
+                let path = with_ending(rt, self.target.as_str(), ending)?;
+                remove(rt, &self.locked, path.as_str());
+                let _ = remove_left(rt, path.as_str());
+            }
+        }
+        Ok(())
+    }
+
+    /// Writes these bytes over the held file, which can't be replaced because another one is mounted there.
+    fn write_over(&mut self, bytes: &[u8]) -> io::Result<()> {
+        self.locked.seek(SeekFrom::Start(0))?;
+        self.locked.write_all(bytes)?;
+        self.locked.set_len(bytes.len() as u64)?;
+        self.locked.sync_all()
+    }
+
+    /// Puts the new file in place. It fails if another program has put a file in its place.
+    fn place<R: Files<File = File>>(
+        &mut self,
+        rt: &R,
+        new: &NewFile,
+        step: Step,
+        bytes: &[u8],
+    ) -> io::Result<()> {
+        if !is_at(rt, &new.file, new.path.as_str())? {
             return Err(not_ours());
         }
+        let renamed = match step {
+            Step::Link => new.link(rt, self.target.as_str()),
+            Step::Rename => fs::rename(rt, new.path.as_str(), self.target.as_str()),
+            Step::Refuse => Err(not_ours()),
+        };
+        match renamed {
+            Err(error) if error.kind() == ErrorKind::ResourceBusy && self.beside.is_none() => {
+                return self.write_over(bytes);
+            }
+            renamed => renamed?,
+        }
+        if !is_at(rt, &new.file, self.target.as_str())? {
+            return Err(not_ours());
+        }
+        Ok(())
+    }
+
+    /// Returns whether this run itself has made the file that was absent, by reading into it: it is no chip of these
+    /// bytes' length, and the file that was locked is still there, so no other run has made it.
+    fn was_read_into<R: Files>(&self, rt: &R, there: &Metadata, bytes: &[u8]) -> io::Result<bool> {
+        match &self.beside {
+            Some(beside) if there.is_file() && there.len() != bytes.len() as u64 => {
+                is_at(rt, &self.locked, beside.as_str())
+            }
+            _ => Ok(false),
+        }
+    }
+
+    /// Returns what is put in place of the file that has the name now.
+    fn next<R: Files>(&self, rt: &R, old: &Option<Metadata>, bytes: &[u8]) -> io::Result<Step> {
+        let there = look(rt, self.target.as_str())?;
+        let is_held = match (old, &there) {
+            (Some(old), Some(there)) => is_same(old, there),
+            (None, Some(there)) => self.was_read_into(rt, there, bytes)?,
+            (_, None) => false,
+        };
+        Ok(step_after(there.is_none(), is_held))
+    }
+
+    /// Puts a file of these bytes in place. It stays locked as long as the old one.
+    fn put<R: Files<File = File> + Alloc<A = Global>>(
+        &mut self,
+        rt: &R,
+        bytes: &[u8],
+    ) -> io::Result<()> {
         if bytes.len() as u64 > longest_file() {
             return Err(io::Error::from(ErrorKind::FileTooLarge));
         }
-        let permissions = self.permissions(rt)?;
-        self.write(permissions, bytes)?;
-        if !is_at(rt, &self.file, self.path.as_str())? {
-            return Err(not_ours());
-        }
-        fs::rename(rt, self.path.as_str(), self.target.as_str())?;
+        let old = self.old()?;
+        let step = self.next(rt, &old, bytes)?;
+        let mut new = self.make_new(rt, &old)?;
+        let placed = self.fill_and_place(rt, &mut new, &old, step, bytes);
+        remove(rt, &new.file, new.path.as_str());
+        self.placed = Some(new);
+        placed
+    }
+
+    /// Writes the new file, puts it in place, and waits until it is on the disk under its name.
+    fn fill_and_place<R: Files<File = File>>(
+        &mut self,
+        rt: &R,
+        new: &mut NewFile,
+        old: &Option<Metadata>,
+        step: Step,
+        bytes: &[u8],
+    ) -> io::Result<()> {
+        new.file.write_all(bytes)?;
+        let permissions = new.be_like(old)?;
+        new.file.sync_all()?;
+        self.place(rt, new, step, bytes)?;
         // The file is in place, even if its mark can't be removed.
-        let _ = self
-            .file
-            .set_permissions(Permissions::from_mode(permissions));
+        let _ = new.set_mode(permissions);
         sync_folder(rt, self.target.as_str())
     }
 
-    /// Removes the file, unless it was put in place or another one has its path.
-    fn remove<R: Files>(&self, rt: &R) {
-        let is_there = matches!(is_at(rt, &self.file, self.path.as_str()), Ok(true));
-        if is_there && matches!(self.is_own(), Ok(true)) {
-            let _ = fs::remove_file(rt, self.path.as_str());
+    /// Removes the empty file that was locked.
+    fn leave<R: Files>(&self, rt: &R) {
+        let Some(beside) = &self.beside else {
+            return;
+        };
+        let is_empty = matches!(self.locked.metadata(), Ok(there) if is_own_left(&there));
+        if is_empty {
+            remove(rt, &self.locked, beside.as_str());
         }
     }
 }
@@ -263,45 +474,50 @@ impl Replacement {
         name: &str,
     ) -> io::Result<Option<Replacement>> {
         let own_name = String::from_str(rt.alloc(), name)?;
-        let Some(target) = target_of(rt, name)? else {
-            return Ok(Some(Replacement {
-                name: own_name,
-                new: None,
-            }));
-        };
-        let mut path = String::from_str(rt.alloc(), target.as_str())?;
-        path.push_str(".avrstk-new")?;
-        let Some(file) = open_locked(rt, path.as_str())? else {
-            return Ok(None);
-        };
-        empty(&file)?;
-        give_owner(rt, &file, target.as_str())?;
-        Ok(Some(Replacement {
-            name: own_name,
-            new: Some(NewFile {
-                file,
-                path,
-                target,
-                is_begun: false,
-            }),
-        }))
+        for _ in 0..ATTEMPTS {
+            if matches!(unless_absent(fs::metadata(rt, name))?, Some(there) if !there.is_file()) {
+                return Ok(Some(Replacement {
+                    name: own_name,
+                    held: None,
+                }));
+            }
+            match try_to_hold(rt, name, target_of(rt, name)?)? {
+                Tried::Holds(held) => {
+                    if let Err(error) = held.prepare(rt) {
+                        held.leave(rt);
+                        return Err(error);
+                    }
+                    return Ok(Some(Replacement {
+                        name: own_name,
+                        held: Some(held),
+                    }));
+                }
+                Tried::InUse => return Ok(None),
+                Tried::Changed => {}
+            }
+        }
+        Err(io::Error::from(ErrorKind::WouldBlock))
     }
 
     pub(crate) fn is_of(&self, name: &str) -> bool {
         self.name.as_str() == name
     }
 
-    pub(crate) fn put<R: Files<File = File>>(&mut self, rt: &R, bytes: &[u8]) -> io::Result<()> {
-        match &mut self.new {
-            Some(new) => new.put(rt, bytes),
+    pub(crate) fn put<R: Files<File = File> + Alloc<A = Global>>(
+        &mut self,
+        rt: &R,
+        bytes: &[u8],
+    ) -> io::Result<()> {
+        match &mut self.held {
+            Some(held) => held.put(rt, bytes),
             None => create(rt, self.name.as_str())?.write_all(bytes),
         }
     }
 
-    /// Removes the new file, unless it was put in place.
+    /// Unlocks the file.
     pub(crate) fn leave<R: Files>(self, rt: &R) {
-        if let Some(new) = &self.new {
-            new.remove(rt);
+        if let Some(held) = &self.held {
+            held.leave(rt);
         }
     }
 }

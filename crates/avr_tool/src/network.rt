@@ -10,6 +10,9 @@ use std::time::Duration;
 /// The timeout of a read.
 const SECONDS_OF_SILENCE: u64 = 1;
 
+/// The timeout of a write: a programmer that takes no byte for so long has gone.
+const SECONDS_OF_WRITING: u64 = 10;
+
 /// Returns the two sides of a socket, which sends each piece at once.
 fn sides_of<S: OpenStream + Drop>(stream: S) -> io::Result<(S, S)> {
     stream.set_nodelay(true)?;
@@ -117,6 +120,7 @@ impl<'a, R: Net> Network for &'a R {
     fn connect_sides(self, address: &str) -> io::Result<(R::Stream, R::Stream)> {
         let stream = TcpStream::connect(self, address)?;
         stream.set_read_timeout(Some(Duration::from_secs(SECONDS_OF_SILENCE)))?;
+        stream.set_write_timeout(Some(Duration::from_secs(SECONDS_OF_WRITING)))?;
         sides_of(stream)
     }
 

@@ -1,0 +1,52 @@
+//! What is put in place of a file, and what becomes of files beside it: decisions that take what was seen and call
+//! nothing.
+ghost use Rattle.std.specs.Prelude.{◌≡◌, ◌==◌, ◌&&◌, ◌||◌, if◌then◌else◌, true, not, bit_and, nat_le};
+ghost use Rattle.avr_desk.specs.declared.placing.Step.TheVariants.{Link, Rename, Refuse};
+
+/// The mode bits that a new file takes over from the old one: no setuid, no setgid.
+pub(crate) const PERMISSIONS: u32 = 0o777;
+
+/// The mark of a file that isn't in place yet: the sticky bit, which has no meaning for a regular file.
+pub(crate) const MARK: u32 = 0o1000;
+
+/// How a new file gets the name of a held one.
+#[derive(Clone, Copy)]
+pub(crate) enum Step {
+    /// No file has the name: the new one is linked to it, which fails if there is one by then.
+    Link,
+    /// The new one is renamed.
+    Rename,
+    /// Another program has put another file there, which stays.
+    Refuse,
+}
+
+/// Returns how a new file gets the name of a held one. `is_held` says whether the file of that name is the held one.
+pub(crate) fn step_after(is_absent: bool, is_held: bool) -> Step
+    ensures { result ≡ (if is_absent then Link else (if is_held then Rename else Refuse)) }
+{
+    if is_absent {
+        Step::Link
+    } else if is_held {
+        Step::Rename
+    } else {
+        Step::Refuse
+    }
+}
+
+/// Returns whether an ended program may have left a file: a regular one with one name that is empty or marked.
+pub(crate) fn is_left_over(is_file: bool, names: u64, length: u64, mode: u32) -> bool
+    ensures { result ≡ (is_file && (nat_le names 1 && ((length == 0) || not (bit_and mode 0o1000 == 0)))) }
+{
+    is_file && names <= 1 && (length == 0 || mode & MARK != 0)
+}
+
+/// Returns the permissions of a new file from the old one's mode. If it has another group, that gets what everyone had.
+pub(crate) fn permissions_after(mode: u32, is_of_group: bool) -> u32
+    ensures { is_of_group ≡ true → result ≡ bit_and mode 0o777 }
+{
+    if is_of_group {
+        mode & PERMISSIONS
+    } else {
+        mode & 0o707 | (mode & mode << 3 & 0o070)
+    }
+}
