@@ -211,7 +211,7 @@ fn each_stream_has_its_writer(rt: HostRuntime) {
     assert!(rt; messages.as_slice() == b"a message\n".as_slice());
 }
 
-/// A writer that takes one byte at a time. Its first call is interrupted, and its second flush fails.
+/// A writer that takes one byte at a time. Its first write and first flush are interrupted, and its third flush fails.
 #[derive(Drop)]
 struct Stubborn {
     calls: u8,
@@ -230,7 +230,8 @@ impl Write for Stubborn {
     fn flush(&mut self) -> io::Result<()> {
         self.flushes = self.flushes.saturating_add(1);
         match self.flushes {
-            2 => Err(io::Error::from(ErrorKind::WriteZero)),
+            1 => Err(io::Error::from(ErrorKind::Interrupted)),
+            3 => Err(io::Error::from(ErrorKind::WriteZero)),
             _ => Ok(()),
         }
     }

@@ -249,14 +249,18 @@ impl Write for Unsteady {
         self.calls = self.calls.wrapping_add(1);
         match self.calls {
             2 => Ok(buf.len().min(1)),
-            4 => Ok(0),
-            6 => Err(ErrorKind::BrokenPipe.into()),
+            6 => Ok(0),
+            8 => Err(ErrorKind::BrokenPipe.into()),
             _ => Err(ErrorKind::Interrupted.into()),
         }
     }
 
     fn flush(&mut self) -> io::Result<()> {
-        Ok(())
+        self.calls = self.calls.wrapping_add(1);
+        match self.calls {
+            4 => Ok(()),
+            _ => Err(ErrorKind::Interrupted.into()),
+        }
     }
 }
 
