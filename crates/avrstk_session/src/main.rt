@@ -66,12 +66,7 @@ fn serve_port<D: Desk, L: Link>(
 }
 
 /// Serves what a command line asks for. Its first element is the program's name.
-fn serve_words<D: Desk, L: Link>(
-    alloc: Global,
-    words: &[String],
-    desk: &mut D,
-    link: &mut L,
-) -> u8
+fn serve_words<D: Desk, L: Link>(alloc: Global, words: &[String], desk: &mut D, link: &mut L) -> u8
     ensures { ServesWords (map string_bytes words.now) (devices (L.view link.old) (D.view desk.old))
         (devices (L.view link.new) (D.view desk.new)) result }
 {
