@@ -345,7 +345,7 @@ def nobody_else_is_called():
         room.clear()
         started = room.start(words, subprocess.PIPE, **tracing("socket,connect,bind,listen,accept,accept4,setsockopt"))
         same(f"{words}", started.communicate(given, PATIENCE)[1], lines(SIGNATURE, DONE))
-        found = [it for it in traced(r"^(\w+\(.*)") if "SO_RCVTIMEO" not in it]
+        found = [it for it in traced(r"^(\w+\(.*)") if "TIMEO" not in it]
         see(f"{words}: its calls", len(found) == len(wanted), found)
         for it, (call, told) in zip(found, wanted):
             see(f"{words}: {call}", it.startswith(f"{call}(") and told in it, it)
