@@ -1,7 +1,7 @@
 //! Both ends of a TCP port of this machine, in one thread.
 use avr_cli::{Settings, read_settings, read_words};
 use avr_desk::MemDesk;
-use avr_tool::{accept, listen, run_net, serve_net, serve_on};
+use avr_tool::{Port, Text, accept, listen, run_net, serve_net, serve_on};
 use std::alloc::Global;
 use std::io;
 use std::io::{ErrorKind, Read, Write};
@@ -20,6 +20,14 @@ fn settings_for(alloc: Global, part: &str) -> Result<Settings, Fail> {
     Ok(read_settings(alloc, &matches)?)
 }
 
+/// Returns the settings of a service at this port.
+fn settings_to_serve(alloc: Global, part: &str, port: &str) -> Result<Settings, Fail> {
+    let mut settings = settings_for(alloc, part)?;
+    let [port, chip] = [Text::new(alloc, port)?, Text::new(alloc, "chip.bin")?];
+    settings.port = Port::Served { port, chip };
+    Ok(settings)
+}
+
 /// A run that has ended.
 #[derive(Drop)]
 struct Over {
@@ -29,10 +37,11 @@ struct Over {
 
 /// Runs over a port of this machine.
 fn run_at<R: Net>(rt: &R, alloc: Global, part: &str, port: u16) -> Result<Over, Fail> {
-    let settings = settings_for(alloc, part)?;
+    let mut settings = settings_for(alloc, part)?;
     let address = format!(in alloc; "127.0.0.1:{port}")?;
+    settings.port = Port::Network(Text::new(alloc, address.as_str())?);
     let mut desk = MemDesk::new(alloc);
-    let status = run_net(rt, alloc, &settings, address.as_str(), &mut desk);
+    let status = run_net(rt, alloc, &settings, &mut desk);
     Ok(Over { desk, status })
 }
 
@@ -154,9 +163,9 @@ fn a_caller_is_answered_and_the_chip_is_saved(rt: HostRuntime) -> Result<(), Fai
     let mut caller = TcpStream::connect(&rt, listener.local_addr()?)?;
     caller.write_all(FRAME.as_slice())?;
     caller.shutdown(Shutdown::Write)?;
-    let settings = settings_for(alloc, "m328p")?;
+    let settings = settings_to_serve(alloc, "m328p", "5000")?;
     let mut desk = MemDesk::new(alloc);
-    let status = serve_on(alloc, &settings, "5000", "chip.bin", &listener, &mut desk);
+    let status = serve_on(alloc, &settings, &listener, &mut desk);
     assert_eq!(rt; status, 0);
     assert!(rt; desk.messages().is_empty());
     assert_eq!(rt; desk.file("chip.bin").map(|file| file.len()), Some(33_796));
@@ -184,12 +193,12 @@ fn serve_at_taken(
     let alloc = rt.alloc();
     let number = listener.local_addr()?.port();
     let port = format!(in alloc; "{number}")?;
-    let settings = settings_for(alloc, part)?;
+    let settings = settings_to_serve(alloc, part, port.as_str())?;
     let mut desk = MemDesk::new(alloc);
     if let Some(bytes) = chip {
         desk.put("chip.bin", bytes)?;
     }
-    let status = serve_net(rt, alloc, &settings, port.as_str(), "chip.bin", &mut desk);
+    let status = serve_net(rt, alloc, &settings, &mut desk);
     Ok(Over { desk, status })
 }
 

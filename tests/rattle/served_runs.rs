@@ -1,8 +1,7 @@
 //! Serving, from settings to status: how it ends, what it reports, and the chip file.
 use avr_cli::{Settings, read_settings, read_words};
 use avr_desk::MemDesk;
-use avr_emulator::{serve, serve_part};
-use avr_part::Parts;
+use avr_tool::{serve, serve_for};
 use std::alloc::{AllocError, Global};
 use std::test::Fail;
 use stk_host::{FailingLink, Item, Link, TapeLink};
@@ -38,7 +37,7 @@ fn settings_to_serve(alloc: Global) -> Result<Settings, Fail> {
 
 /// Serves at this desk and over this link, and returns the status.
 fn served<L: Link>(alloc: Global, settings: &Settings, desk: &mut MemDesk, link: &mut L) -> u8 {
-    serve(alloc, settings, "chip.bin", desk, link)
+    serve(alloc, settings, desk, link)
 }
 
 fn saved_size(desk: &MemDesk) -> Option<usize> {
@@ -63,10 +62,10 @@ fn an_end_that_is_heard_saves_the_chip(rt: HostRuntime) -> Result<(), Fail> {
 fn too_many_reads_are_told_and_the_chip_is_saved(rt: HostRuntime) -> Result<(), Fail> {
     let alloc = rt.alloc();
     let items = vec![in alloc; Item::Silence; 5]?;
-    let part = Parts::none().find("m328p")?;
+    let settings = settings_to_serve(alloc)?;
     let mut link = TapeLink::new(alloc, items, 281);
     let mut desk = MemDesk::new(alloc);
-    assert_eq!(rt; serve_part(alloc, &part, "chip.bin", &mut desk, &mut link, 3), 1);
+    assert_eq!(rt; serve_for(alloc, &settings, &mut desk, &mut link, 3), 1);
     let line = "avrstk: error: too many reads\n";
     assert_eq!(rt; desk.messages(), line.as_bytes());
     assert_eq!(rt; saved_size(&desk), Some(33_796));

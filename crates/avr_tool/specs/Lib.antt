@@ -47,6 +47,7 @@ pub use Rattle.avr_laws.specs.Few
 pub use Rattle.avr_laws.specs.NoFrame
 -- its own
 pub mod Lines
+pub mod Ports
 pub mod Sockets
 pub mod OverNet
 pub mod ServedNet

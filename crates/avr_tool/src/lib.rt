@@ -11,11 +11,9 @@
 //! let settings = read_settings(alloc, &read_words(alloc, &words)?)?;
 //! let status = match &settings.port {
 //!     Port::Stdio => run(alloc, &settings, &mut desk, &mut link),
-//!     Port::Emulated(file) => run_emu(alloc, &settings, file.as_str(), &mut desk),
-//!     Port::Network(address) => run_net(&rt, alloc, &settings, address.as_str(), &mut desk),
-//!     Port::Served { port, chip } => {
-//!         serve_net(&rt, alloc, &settings, port.as_str(), chip.as_str(), &mut desk)
-//!     }
+//!     Port::Emulated(_) => run_emu(alloc, &settings, &mut desk),
+//!     Port::Network(_) => run_net(&rt, alloc, &settings, &mut desk),
+//!     Port::Served { .. } => serve_net(&rt, alloc, &settings, &mut desk),
 //! };
 //! ```
 #![tactic(auto)]
@@ -23,6 +21,7 @@
 // the network: a run over a connection, and serving at a port
 mod messages;
 mod network;
+mod of_port;
 mod over_net;
 mod ports;
 mod serving;
@@ -35,12 +34,13 @@ mod texts;
 mod running;
 // laws, without code
 mod laws;
+mod numbers;
 
 // from a command line to settings
 pub use asking::{NotAsked, asked};
 pub use avr_cli::{
     Format, Op, Port, Settings, SettingsFault, Switches, Text, Update, UpdateFault, Updates,
-    make_command, parse_update, port_number, read_settings, read_words,
+    make_command, parse_update, port_number, read_settings, read_settings as settings, read_words,
 };
 pub use avr_session::refuse;
 pub use laws::{
@@ -57,15 +57,15 @@ pub use avr_desk::{
     print_warning, write_all,
 };
 // from settings to a status, over any link
-pub use avr_emulator::{drive_wired, run_emu, serve};
+pub use avr_emulator::drive_wired;
 pub use avr_plan::{PartsFault, Plan, PlanFault, Task, TaskFault, plan, plan_or_fault};
 pub use avr_session::{Outcome, drive, drive_outcome, frame_count};
 pub use network::{Callers, Network};
-pub use over_net::run_net;
+pub use numbers::the_numbers_are;
+pub use of_port::{run_emu, run_net, serve, serve_for, serve_net, serve_on};
 pub use ports::{accept, listen};
 pub use program::{run_program, run_words};
 pub use running::{run, run_in_memory, run_streams, run_streams_in_memory, run_wired};
-pub use serving::{serve_net, serve_on};
 pub use texts::refuse_text;
 // parts, their chips and the contents of their memories
 pub use avr_image::Image;

@@ -17,13 +17,6 @@ use std::alloc::Global;
 /// Returns the status: 0 if there was no fault, otherwise 1. Every fault has its line, and a refusal is reported
 /// before the port is opened. A read times out after one second. A connection that was reset is a failure of the
 /// link.
-///
-/// ```text
-/// let settings = Settings::for_link(alloc, "nobody")?;
-/// let mut desk = MemDesk::new(alloc);
-/// // the part is judged before a connection is opened
-/// assert_eq!(rt; run_net(&rt, alloc, &settings, "localhost:5000", &mut desk), 1);
-/// ```
 pub fn run_net<N: Network + Drop, D: Desk>(
     network: N,
     alloc: Global,

@@ -97,13 +97,6 @@ fn serve_at<N: Network + Drop, D: Desk>(
 ///
 /// The port is closed when the first client has connected, so a second one is refused. `port` is the text of
 /// `--serve`. A port that can't be opened is reported, and no file is written.
-///
-/// ```text
-/// let settings = Settings::for_link(alloc, "nobody")?;
-/// let mut desk = MemDesk::new(alloc);
-/// // the part is judged before anybody is waited for
-/// assert_eq!(rt; serve_net(&rt, alloc, &settings, "5000", "chip.bin", &mut desk), 1);
-/// ```
 pub fn serve_net<N: Network + Drop, D: Desk>(
     network: N,
     alloc: Global,

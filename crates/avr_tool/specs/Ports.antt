@@ -1,0 +1,28 @@
+-- What a port of the settings says.
+use Rattle.std.specs.Prelude.{ℕ, List, []}
+use Rattle.avr_cli.specs.declared.settings.Port.{Port}
+use Rattle.avr_cli.specs.declared.settings.Port.TheVariants.{Emulated, Network, Served}
+
+abbrev pub IsEmulated : Port → Type 0
+IsEmulated (Emulated file) = Unit {0}
+IsEmulated port = ⊥
+
+abbrev pub IsNetwork : Port → Type 0
+IsNetwork (Network address) = Unit {0}
+IsNetwork port = ⊥
+
+abbrev pub IsServed : Port → Type 0
+IsServed (Served port chip) = Unit {0}
+IsServed port = ⊥
+
+-- the name of its chip file
+abbrev pub chip_file_of : Port → List ℕ
+chip_file_of (Emulated file) = file
+chip_file_of (Served port chip) = chip
+chip_file_of port = []
+
+-- where it is: HOST:PORT of a connection, the digits of a service
+abbrev pub port_place : Port → List ℕ
+port_place (Network address) = address
+port_place (Served port chip) = port
+port_place port = []
