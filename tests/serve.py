@@ -250,6 +250,8 @@ def idle_clients():
         see("a session", begins(client))
         time.sleep(1)
         see("without the option it is served on", begins(client))
+        # (its run saves the chip before the next case begins)
+        it.end()
 
 
 # the frame that writes the low fuse, as AVRDUDE sends it (SPI_MULTI: AC A0 00 value)
