@@ -451,7 +451,8 @@ def the_recipe_of_a_script():
     text = """"$0" 0 -p m328p --chip chip.bin >serving 2>messages & server=$!
         until [ -s serving ]; do sleep 0.1; done; read -r _ _ address <serving
         "$AVRSTK" -p m328p -P net:$address -q -U lfuse:w:$1:m || exit 9
-        [ "$2" = 0 ] || { rm chip.bin; mkdir chip.bin chip.bin/in; "$AVRSTK" -p m328p -P net:$address -q; }
+        until [ -s chip.bin ]; do sleep 0.1; done
+        [ "$2" = 0 ] || { rm chip.bin; mkdir chip.bin; "$AVRSTK" -p m328p -P net:$address -q; }
         kill $server; wait $server"""
     for value, status in [(0x60, 0), (0x61, 1)]:
         room.clear()
@@ -460,7 +461,7 @@ def the_recipe_of_a_script():
         same(f"{value}: the status", ran.returncode, status)
         if status == 0:
             same(f"{value}: the fuse", fuse(), value)
-    shutil.rmtree(room.folder / "chip.bin")
+    (room.folder / "chip.bin").rmdir()
 
 
 def no_inner_port():

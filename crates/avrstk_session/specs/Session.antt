@@ -1,18 +1,51 @@
 -- A program that serves one client over its link, from a command line to a status.
-use Rattle.std.specs.Prelude.{◌≡◌, ◌⊎◌, ℕ, true, List, [], Result, Ok, Err, MatchBool}
+use Rattle.std.specs.Prelude.{◌≡◌, ◌⊎◌, ℕ, true, List, [], ◌∷◌, Result, Ok, Err, MatchBool, codes}
 use Rattle.clap.specs.Words.{fault_of, kind_of, takes, HasKind}
 use Rattle.clap.specs.declared.error.Error.{Error}
-use Rattle.clap.specs.declared.error.kind.ErrorKind.TheVariants.{OutOfMemory}
+use Rattle.clap.specs.declared.error.kind.ErrorKind.{ErrorKind}
+use Rattle.clap.specs.declared.error.kind.ErrorKind.TheVariants.{DisplayHelp, OutOfMemory}
 use Rattle.avr_cli.specs.Command.{avrstk, asked_by}
+use Rattle.avr_cli.specs.Settings.{GivesOrMemory, TellsAnyway}
 use Rattle.avr_cli.specs.declared.settings.Port.{Port}
 use Rattle.avr_cli.specs.declared.settings.Port.TheVariants.{Emulated}
 use Rattle.avr_cli.specs.declared.settings.Settings.{Settings}
+use Rattle.avr_cli.specs.declared.settings.SettingsFault.{SettingsFault}
+use Rattle.avr_desk.specs.Lines.{error, information, memory_pieces}
 use Rattle.avr_desk.specs.Record.{Bytes, DeskState}
+use Rattle.avr_desk.specs.Said.{Tells}
 use Rattle.avr_emulator.specs.ServedRun.{JudgesPart, RunsServed}
 use Rattle.avr_part.specs.Part.{Part}
+use Rattle.avr_session.specs.Refusal.{refusal_line}
 use Rattle.avr_session.specs.Runs.{Devices}
-use Rattle.avr_tool.specs.Asked.{IsRefused}
-use Rattle.avr_tool.specs.Texts.{ReportsText}
+
+abbrev pub usage_pieces : List Bytes
+usage_pieces = codes "usage: avrstk_session -p PART [--parts FILE] -P emu:CHIPFILE [-n]" ∷ []
+
+-- Help is no mistake. Any other error is one; that allocation failed has a line of its own.
+abbrev pub TellsUsage : ErrorKind → DeskState → DeskState → ℕ → Type 0
+TellsUsage DisplayHelp old new status = Tells old new (information usage_pieces) × (status ≡ 0)
+TellsUsage OutOfMemory old new status = Tells old new (error memory_pieces) × (status ≡ 1)
+TellsUsage kind old new status = Tells old new (error usage_pieces) × (status ≡ 1)
+
+-- The command refuses the command line, or allocation failed in it, and this was reported.
+pub record IsUntaken (words : List Bytes) (old new : DeskState) (status : ℕ) : Type 0 where
+  pub error : Error
+  pub kind : HasKind (fault_of avrstk words) error
+  pub memory : takes avrstk words ≡ true → kind_of error ≡ OutOfMemory
+  pub told : TellsUsage (kind_of error) old new status
+
+-- The settings have a fault, or allocation failed, and this was reported.
+pub record IsRefused (words : List Bytes) (old new : DeskState) (status : ℕ) : Type 0 where
+  pub fault : SettingsFault
+  pub is : GivesOrMemory (asked_by words) (Err fault)
+  pub anyway : TellsAnyway (asked_by words) (Err fault)
+  pub told : Tells old new (refusal_line fault)
+  pub status_is : status ≡ 1
+
+-- The settings are those of a command line that the command takes; or there are none.
+abbrev pub Asks : List Bytes → DeskState → DeskState → Result Settings ℕ → Type 0
+Asks words old new (Ok settings) = (Ok settings ≡ asked_by words) × (fault_of avrstk words ≡ []) × (new ≡ old)
+Asks words old new (Err status) = IsRefused words old new status ⊎ IsUntaken words old new status
 
 abbrev pub status_of : Result Part ℕ → ℕ
 status_of (Ok part) = 0
@@ -24,9 +57,9 @@ pub record JudgesOnly (settings : Settings) (file : Bytes) (old new : DeskState)
   pub judges : JudgesPart settings file old new judged
   pub status_is : status ≡ status_of judged
 
--- An error was reported whose text no clause knows. Nothing was received or sent, and the status is 1.
-abbrev pub RefusesBy : Devices → Devices → ℕ → Type 0
-RefusesBy old new status = ReportsText old.desk new.desk × (new.link ≡ old.link) × (status ≡ 1)
+-- How the program is used was reported. Nothing was received or sent, and the status is 1.
+abbrev pub RefusesUse : Devices → Devices → ℕ → Type 0
+RefusesUse old new status = Tells old.desk new.desk (error usage_pieces) × (new.link ≡ old.link) × (status ≡ 1)
 
 -- With `-P emu:CHIPFILE` that file is served over the link. With `-n` too it is judged, and nothing is received or
 -- sent. Any other port is refused.
@@ -34,7 +67,7 @@ abbrev pub ServesPort : Port → Settings → Devices → Devices → ℕ → Ty
 ServesPort (Emulated file) settings old new status = MatchBool settings.switches.dry
     (JudgesOnly settings file old.desk new.desk status × (new.link ≡ old.link))
     (RunsServed settings file old new status)
-ServesPort port settings old new status = RefusesBy old new status
+ServesPort port settings old new status = RefusesUse old new status
 
 -- The command takes the command line, which asks for these settings, and they were served.
 pub record TakesWords (words : List Bytes) (old new : Devices) (status : ℕ) : Type 0 where
@@ -43,21 +76,13 @@ pub record TakesWords (words : List Bytes) (old new : Devices) (status : ℕ) : 
   pub taken : fault_of avrstk words ≡ []
   pub serves : ServesPort settings.port settings old new status
 
--- The command refuses the command line, or allocation failed. This was reported, and nothing was received or sent.
-pub record RefusesWords (words : List Bytes) (old new : Devices) (status : ℕ) : Type 0 where
-  pub error : Error
-  pub kind : HasKind (fault_of avrstk words) error
-  pub memory : takes avrstk words ≡ true → kind_of error ≡ OutOfMemory
-  pub refuses : RefusesBy old new status
-
--- From a command line to a status.
+-- From a command line to a status. Without settings nothing was received or sent.
 abbrev pub ServesWords : List Bytes → Devices → Devices → ℕ → Type 0
 ServesWords words old new status =
     TakesWords words old new status
-    ⊎ (IsRefused words old.desk new.desk status × (new.link ≡ old.link))
-    ⊎ RefusesWords words old new status
+    ⊎ (Asks words old.desk new.desk (Err status) × (new.link ≡ old.link))
 
 -- From the start of a process: its command line, which no clause knows, was read and served. Or it could not be read.
 abbrev pub StartsSession : Devices → Devices → ℕ → Type 0
 StartsSession old new status =
-    ((words : List Bytes) × ServesWords words old new status) ⊎ RefusesBy old new status
+    ((words : List Bytes) × ServesWords words old new status) ⊎ RefusesUse old new status

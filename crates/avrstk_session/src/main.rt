@@ -5,18 +5,21 @@
 #![tactic(auto)]
 
 ghost use Rattle.std.specs.Prelude.{◌≡◌, map, string_bytes};
+ghost use Rattle.clap.specs.Words.{kind_of};
 ghost use Rattle.avr_session.specs.Runs.{devices};
-ghost use Rattle.avrstk_session.specs.Session.{JudgesOnly, ServesPort, ServesWords, StartsSession};
+ghost use Rattle.avrstk_session.specs.Session.{Asks, JudgesOnly, ServesPort, ServesWords, StartsSession, TellsUsage, usage_pieces};
 
+use avr_cli::{Port, Settings, read_settings, read_words};
+use avr_desk::{Bounded, Desk, Message, SystemDesk, memory_message, print_information, refuse};
 use avr_emulator::{judge_part, serve};
-use avr_tool::{
-    Bounded, Desk, Link, NotAsked, Port, Settings, StreamLink, SystemDesk, asked, refuse_text,
-};
+use clap::Error;
+use clap::error::ErrorKind;
 use std::alloc::Global;
 use std::env::Env;
 use std::fs::File;
 use std::process::ExitCode;
 use std::{env, fs, io};
+use stk_host::{Link, StreamLink};
 
 fn main(rt: HostRuntime) -> ExitCode {
     let _taken = take_closed_streams(&rt);
@@ -43,6 +46,13 @@ fn judge<D: Desk>(alloc: Global, settings: &Settings, file: &str, desk: &mut D) 
     }
 }
 
+/// Returns the message that says how the program is used.
+fn usage_message<'a>() -> Message<'a>
+    ensures { result ≡ usage_pieces }
+{
+    Message::text("usage: avrstk_session -p PART [--parts FILE] -P emu:CHIPFILE [-n]")
+}
+
 /// Serves the chip file of these settings over the link, or only checks it; refuses any other port.
 fn serve_port<D: Desk, L: Link>(
     alloc: Global,
@@ -61,7 +71,35 @@ fn serve_port<D: Desk, L: Link>(
                 serve(alloc, settings, file.as_str(), desk, link)
             }
         }
-        _ => refuse_text(desk, &"-P emu:CHIPFILE is needed"),
+        _ => refuse(desk, &usage_message()),
+    }
+}
+
+/// Reports an error of `clap`, and returns the status: 0 for help, otherwise 1.
+fn tell_usage<D: Desk>(desk: &mut D, error: &Error) -> u8
+    ensures { TellsUsage (kind_of error.now) (D.view desk.old) (D.view desk.new) result }
+{
+    match error.kind() {
+        ErrorKind::DisplayHelp => {
+            let _ = print_information(desk, usage_message().pieces());
+            0
+        }
+        ErrorKind::OutOfMemory => refuse(desk, &memory_message()),
+        _ => refuse(desk, &usage_message()),
+    }
+}
+
+/// Reads settings from a command line, or reports why it asks for none and returns the status.
+fn asked<D: Desk>(alloc: Global, words: &[String], desk: &mut D) -> Result<Settings, u8>
+    ensures { Asks (map string_bytes words.now) (D.view desk.old) (D.view desk.new) result }
+{
+    let matches = match read_words(alloc, words) {
+        Ok(matches) => matches,
+        Err(error) => return Err(tell_usage(desk, &error)),
+    };
+    match read_settings(alloc, &matches) {
+        Ok(settings) => Ok(settings),
+        Err(fault) => Err(avr_session::refuse(&fault, desk)),
     }
 }
 
@@ -72,8 +110,7 @@ fn serve_words<D: Desk, L: Link>(alloc: Global, words: &[String], desk: &mut D, 
 {
     match asked(alloc, words, desk) {
         Ok(settings) => serve_port(alloc, &settings, desk, link),
-        Err(NotAsked::Refused(status)) => status,
-        Err(NotAsked::Words(error)) => refuse_text(desk, &error),
+        Err(status) => status,
     }
 }
 
@@ -84,7 +121,7 @@ fn run<E: Env + Alloc<A = Global>, D: Desk, L: Link>(rt: &E, desk: &mut D, link:
 {
     match read_arguments(rt) {
         Ok(words) => serve_words(rt.alloc(), words.as_slice(), desk, link),
-        Err(error) => refuse_text(desk, &error),
+        Err(_) => refuse(desk, &usage_message()),
     }
 }
 
