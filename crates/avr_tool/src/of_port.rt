@@ -20,7 +20,7 @@ use avr_emulator::{run_emu as run_emulated, serve as serve_over, serve_for as se
 use std::alloc::Global;
 use stk_host::Link;
 
-/// Runs what the settings ask for over the emulator, as [`avr_emulator::run_emu`] does with the chip file of their port.
+/// Runs what the settings ask for over the emulator, as [`avr_emulator::run_emu`] does with their port's chip file.
 ///
 /// ```text
 /// let mut settings = Settings::for_link(alloc, "m328p")?;
