@@ -4,7 +4,6 @@ use Rattle.avr_cli.specs.declared.settings.Settings.{Settings}
 use Rattle.avr_desk.specs.Record.{DeskState, Bytes}
 use Rattle.avr_desk.specs.Said.{Tells}
 use Rattle.avr_emulator.specs.ServedRun.{JudgesPart, ServesPart}
-use Rattle.avr_emulator.specs.declared.served_run.TheConstants.{READS}
 use Rattle.avr_part.specs.Part.{Part}
 use Rattle.avr_session.specs.Runs.{devices}
 use Rattle.avr_tool.specs.Lines.{unopened_line}
@@ -17,7 +16,7 @@ use Rattle.stk_host.specs.Transcript.{LinkState}
 abbrev pub ServesOn : (Option LinkState → Type 0) → Part → Bytes → Bytes → DeskState → DeskState → ℕ → Type 0
 ServesOn over part port file old new status =
     ((link : LinkState) × over (Some link)
-    × ServesPart part file READS (devices new_link old) (devices link new) status)
+    × ServesPart part file 16777216 (devices new_link old) (devices link new) status)
     ⊎ (over None × Tells old new (unopened_line [] port) × (status ≡ 1))
 
 -- The part and the chip file of the settings were judged; then a client was served, or none could be accepted. Or the

@@ -28,7 +28,8 @@ seen_first stock [] second seen = tt
 seen_first stock (Opens opening ∷ first) second seen = (seen.0, seen_first stock first second seen.1)
 seen_first stock (output ∷ first) second seen = seen_first stock first second seen
 
-pub seen_second : (stock : Stock) (first second : List OutputEvent) → AreSeen stock (first ++ second) → AreSeen stock second
+pub seen_second : (stock : Stock) (first second : List OutputEvent) → AreSeen stock (first ++ second)
+    → AreSeen stock second
 seen_second stock [] second seen = seen
 seen_second stock (Opens opening ∷ first) second seen = seen_second stock first second seen.1
 seen_second stock (output ∷ first) second seen = seen_second stock first second seen
@@ -160,7 +161,8 @@ module _ (stock : Stock) where
       let whole : prefix ++ back ≡ bytes = take-append-drop 1024 bytes in
       search (rules, kind-prefix, append_assoc)
 
-  pub limited_image : (name : Bytes) (kind : Format) (size : ℕ) → IsLimited LARGEST_IMAGE_FILE (judged_image name kind size)
+  pub limited_image : (name : Bytes) (kind : Format) (size : ℕ)
+      → IsLimited LARGEST_IMAGE_FILE (judged_image name kind size)
   limited_image name kind size bytes more past =
       let one : nat_le (length bytes) LARGEST_IMAGE_FILE ≡ false = grind (arith, nat_tests, past) in
       let other : nat_le (length (bytes ++ more)) LARGEST_IMAGE_FILE ≡ false = search (rules, length-append) in

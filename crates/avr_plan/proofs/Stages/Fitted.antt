@@ -158,7 +158,8 @@ module _ (switches : Switches) (part : Part) where
       → ((update_image switches part u >>= λ image. verdict_stage (Ok (make image))) openings).answer ≡ Made task
       → (image : Image) × ((length image ≡ size_of u.memory part) × (task ≡ make image))
   imaged u make openings task is =
-      let first = earlier (update_image switches part u) (λ image. verdict_stage (Ok (make image))) openings task is in (
+      let first = earlier (update_image switches part u) (λ image. verdict_stage (Ok (make image))) openings task
+      is in (
         first.0,
         (image_size switches u.memory (size_of u.memory part) u.file u.format openings first.0 first.1.0, cc),
       )

@@ -138,7 +138,8 @@ module _ (settings : Settings) (file : Bytes) (stock : Stock) (old new : MemDesk
 
   -- so were all uses when the plan was made
   pub planned_true : AreTrue stock [] (all_uses r.planned_desk.kept)
-  planned_true = subst (AreTrue stock []) (sym before.1) (true_front stock [] first_uses (Opened opening ∷ ended.0) every)
+  planned_true = subst (AreTrue stock []) (sym before.1)
+      (true_front stock [] first_uses (Opened opening ∷ ended.0) every)
 
   -- its opening was true by the files before the run
   gave : IsTrueOpening stock (all_files old.kept) opening
