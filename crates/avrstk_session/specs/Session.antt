@@ -10,7 +10,7 @@ use Rattle.avr_cli.specs.declared.settings.Port.{Port}
 use Rattle.avr_cli.specs.declared.settings.Port.TheVariants.{Emulated}
 use Rattle.avr_cli.specs.declared.settings.Settings.{Settings}
 use Rattle.avr_cli.specs.declared.settings.SettingsFault.{SettingsFault}
-use Rattle.avr_desk.specs.Lines.{error, information, memory_pieces}
+use Rattle.avr_desk.specs.Lines.{error, memory_pieces}
 use Rattle.avr_desk.specs.Record.{Bytes, DeskState}
 use Rattle.avr_desk.specs.Said.{Tells}
 use Rattle.avr_emulator.specs.ServedRun.{JudgesPart, RunsServed}
@@ -23,7 +23,7 @@ usage_pieces = codes "usage: avrstk_session -p PART [--parts FILE] -P emu:CHIPFI
 
 -- Help is no mistake. Any other error is one; that allocation failed has a line of its own.
 abbrev pub TellsUsage : ErrorKind → DeskState → DeskState → ℕ → Type 0
-TellsUsage DisplayHelp old new status = Tells old new (information usage_pieces) × (status ≡ 0)
+TellsUsage DisplayHelp old new status = Tells old new (error usage_pieces) × (status ≡ 0)
 TellsUsage OutOfMemory old new status = Tells old new (error memory_pieces) × (status ≡ 1)
 TellsUsage kind old new status = Tells old new (error usage_pieces) × (status ≡ 1)
 

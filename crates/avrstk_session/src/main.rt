@@ -10,7 +10,7 @@ ghost use Rattle.avr_session.specs.Runs.{devices};
 ghost use Rattle.avrstk_session.specs.Session.{Asks, JudgesOnly, ServesPort, ServesWords, StartsSession, TellsUsage, usage_pieces};
 
 use avr_cli::{Port, Settings, read_settings, read_words};
-use avr_desk::{Bounded, Desk, Message, SystemDesk, memory_message, print_information, refuse};
+use avr_desk::{Bounded, Desk, Message, SystemDesk, memory_message, refuse};
 use avr_emulator::{judge_part, serve};
 use clap::Error;
 use clap::error::ErrorKind;
@@ -81,7 +81,7 @@ fn tell_usage<D: Desk>(desk: &mut D, error: &Error) -> u8
 {
     match error.kind() {
         ErrorKind::DisplayHelp => {
-            let _ = print_information(desk, usage_message().pieces());
+            refuse(desk, &usage_message());
             0
         }
         ErrorKind::OutOfMemory => refuse(desk, &memory_message()),
