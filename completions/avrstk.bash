@@ -89,8 +89,8 @@ _avrstk() {
     script=${line%%[[:blank:]]*}
     script=${script##*/}
     case $script in
-        avrstk-serial) options="-p -c -P -U -e -D -V -n -F -A -q -b -v -C -l --parts --wait -h --help" ;;
-        avrstk-serve) options="-p --chip --parts --idle -h --help" ;;
+        avrstk-serial) options="-p -c -P -U -e -D -V -n -F -A -q -b -v -C -l --parts --wait --retry --version -h --help" ;;
+        avrstk-serve) options="-p --chip --parts --idle --listen --pty --log -h --help" ;;
         *) script=avrstk ;;
     esac
     typed=${line##*[[:blank:]]}
@@ -104,7 +104,7 @@ _avrstk() {
     before=${before##*[[:blank:]]}
     value=$typed
     case $before in
-        -[pcPUb] | --parts | --chip | --serve | --wait | --idle) found=$(_avrstk_value "$before") ;;
+        -[pcPUb] | --parts | --chip | --serve | --wait | --idle | --retry | --listen | --pty | --log) found=$(_avrstk_value "$before") ;;
         *) case $typed in
             --parts=* | --chip=*)
                 front=${typed%%=*}=
