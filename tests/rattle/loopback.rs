@@ -49,7 +49,7 @@ fn connected(rt: &HostRuntime) -> Result<Loopback, Fail> {
     let chip = Chip::fresh(rt.alloc(), Parts::none().find("m328p")?)?;
     Ok(Loopback {
         near: StreamLink::new(stream, writer),
-        far: accept(&listener)?,
+        far: accept(listener)?,
         emulator: Emulator::new(chip),
     })
 }

@@ -62,7 +62,7 @@ fn heard_to_the_end<R: Read + Drop, W: Write + Drop>(
     Ok(bytes)
 }
 
-/// The port is opened after the plan, so a refused plan makes no connection. No contract covers this.
+/// The port is opened after the plan, so a refused plan makes no connection.
 #[test]
 fn a_refused_plan_leaves_the_port_alone(rt: HostRuntime) -> Result<(), Fail> {
     let listener = listen(&rt, 0)?;
@@ -70,7 +70,7 @@ fn a_refused_plan_leaves_the_port_alone(rt: HostRuntime) -> Result<(), Fail> {
     let over = run_at(&rt, rt.alloc(), "m329p", listener.local_addr()?.port())?;
     assert_eq!(rt; over.status, 1);
     assert!(rt; over.desk.messages() == b"avrstk: error: no part m329p\n".as_slice());
-    match accept(&listener) {
+    match accept(listener) {
         Ok(_) => assert!(rt; false, "somebody called"),
         Err(error) => assert_eq!(rt; error.kind(), ErrorKind::WouldBlock),
     }
@@ -106,7 +106,7 @@ fn a_programmer_that_never_answers(rt: HostRuntime) -> Result<(), Fail> {
     let over = run_at(&rt, rt.alloc(), "m328p", listener.local_addr()?.port())?;
     assert_eq!(rt; over.status, 1);
     assert!(rt; over.desk.messages() == b"avrstk: error: no answer\n".as_slice());
-    let heard = heard_to_the_end(rt.alloc(), &mut accept(&listener)?)?;
+    let heard = heard_to_the_end(rt.alloc(), &mut accept(listener)?)?;
     assert_eq!(rt; heard.as_slice(), UNANSWERED.as_slice());
     Ok(())
 }
@@ -137,7 +137,7 @@ fn a_programmer_that_answers(rt: HostRuntime) -> Result<(), Fail> {
     let listener = listen(&rt, 0)?;
     let stream = TcpStream::connect(&rt, listener.local_addr()?)?;
     let net = Connected { stream };
-    let mut programmer = accept(&listener)?;
+    let mut programmer = accept(listener)?;
     assert_eq!(rt; programmer.send(ANSWERS.as_slice())?, ANSWERS.len());
     let over = run_at(&net, rt.alloc(), "m328p", 1)?;
     drop(net);
@@ -165,7 +165,7 @@ fn a_caller_is_answered_and_the_chip_is_saved(rt: HostRuntime) -> Result<(), Fai
     caller.shutdown(Shutdown::Write)?;
     let settings = settings_to_serve(alloc, "m328p", "5000")?;
     let mut desk = MemDesk::new(alloc);
-    let status = serve_on(alloc, &settings, &listener, &mut desk);
+    let status = serve_on(alloc, &settings, listener, &mut desk);
     assert_eq!(rt; status, 0);
     assert!(rt; desk.messages().is_empty());
     assert_eq!(rt; desk.file("chip.bin").map(|file| file.len()), Some(33_796));

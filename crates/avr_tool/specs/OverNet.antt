@@ -14,11 +14,11 @@ new_link = record { transcript = []; failures = 0 }
 
 -- A plan was made, and its session was run over a link to the port. Or the port could not be opened: this was
 -- reported, nothing else was done at the desk, and the status is 1. `over` states what happened to the socket, as
--- `IsOverAddress` does. Or there is no plan. No clause states that the port was left alone then.
-abbrev pub RunsOverNet : (Option LinkState → Type 0) → Settings → Bytes → DeskState → DeskState → ℕ → Type 0
-RunsOverNet over settings address old new status =
+-- `IsOverAddress` does. Or there is no plan, and the network was left unused.
+abbrev pub RunsOverNet : Type 0 → (Option LinkState → Type 0) → Settings → Bytes → DeskState → DeskState → ℕ → Type 0
+RunsOverNet unused over settings address old new status =
     ((link : LinkState) × over (Some link) × WithPlan settings old (λ plan desk.
     RunsSession plan (devices new_link desk) (devices link new) status))
     ⊎ ((over None × WithPlan settings old (λ plan desk. Tells desk new (unopened_line (codes "net:") address))
     × (status ≡ 1))
-    ⊎ LacksPlan settings old new status)
+    ⊎ (LacksPlan settings old new status × unused))

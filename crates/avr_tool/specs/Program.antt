@@ -26,15 +26,18 @@ use Rattle.avr_tool.specs.Texts.{PrintsText, ReportsText}
 
 -- The port of the settings decides. It is standard input and output, which is the link; the emulator over a chip
 -- file; a connection to the address; or a service at the port. A service uses only the chip file, the port and the
--- part.
+-- part. A port that is not of the network leaves that unused.
 abbrev pub ActsAtPort : Peers → Port → Settings → Devices → Devices → ℕ → Type 0
-ActsAtPort peers Stdio settings old new status = IsRun settings old new status ⊎ IsStopped settings old new status
+ActsAtPort peers Stdio settings old new status =
+    (IsRun settings old new status ⊎ IsStopped settings old new status) × peers.unused
 ActsAtPort peers (Emulated file) settings old new status =
-    RunsEmulator settings file old.desk new.desk status × (new.link ≡ old.link)
+    RunsEmulator settings file old.desk new.desk status × (new.link ≡ old.link) × peers.unused
 ActsAtPort peers (Network address) settings old new status =
-    RunsOverNet (peers.at_address address) settings address old.desk new.desk status × (new.link ≡ old.link)
+    RunsOverNet peers.unused (peers.at_address address) settings address old.desk new.desk status
+    × (new.link ≡ old.link)
 ActsAtPort peers (Served port chip) settings old new status =
-    ServesNet (peers.at_port (port_number port)) settings port chip old.desk new.desk status × (new.link ≡ old.link)
+    ServesNet peers.unused (peers.at_port (port_number port)) settings port chip old.desk new.desk status
+    × (new.link ≡ old.link)
 
 -- The command takes the command line, which asks for these settings, and they were run.
 pub record TakesWords (peers : Peers) (words : List Bytes) (old new : Devices) (status : ℕ) : Type 0 where
@@ -44,9 +47,10 @@ pub record TakesWords (peers : Peers) (words : List Bytes) (old new : Devices) (
   pub runs : ActsAtPort peers settings.port settings old new status
 
 -- The settings have a fault, or allocation failed. This was reported, and nothing else was done.
-pub record RefusesWords (words : List Bytes) (old new : Devices) (status : ℕ) : Type 0 where
+pub record RefusesWords (peers : Peers) (words : List Bytes) (old new : Devices) (status : ℕ) : Type 0 where
   pub why : IsRefused words old.desk new.desk status ⊎ Tells old.desk new.desk (refusal_line Memory)
   pub untouched : new.link ≡ old.link
+  pub unused : peers.unused
   pub status_is : status ≡ 1
 
 -- The command refuses the command line, or this asks for help. The error is of a kind that the command line calls for.
@@ -57,9 +61,10 @@ pub record LeavesError (words : List Bytes) (error : Error) : Type 0 where
 
 -- An error is left to be printed, and nothing was done.
 abbrev pub ActsOnWords : Peers → List Bytes → Devices → Devices → Result ℕ Error → Type 0
-ActsOnWords peers words old new (Ok status) = TakesWords peers words old new status ⊎ RefusesWords words old new status
+ActsOnWords peers words old new (Ok status) =
+    TakesWords peers words old new status ⊎ RefusesWords peers words old new status
 ActsOnWords peers words old new (Err error) =
-    LeavesError words error × (new.desk ≡ old.desk) × (new.link ≡ old.link)
+    LeavesError words error × (new.desk ≡ old.desk) × (new.link ≡ old.link) × peers.unused
 
 -- Help and the version are no mistake if they were printed.
 abbrev pub usage_status : ErrorKind → Bool → ℕ
@@ -73,22 +78,23 @@ usage_stream DisplayVersion = Output
 usage_stream kind = Messages
 
 -- The text of the error was printed there, or printing failed, and nothing else was done. No clause knows the text.
-pub record TellsUsage (words : List Bytes) (old new : Devices) (status : ℕ) : Type 0 where
+pub record TellsUsage (peers : Peers) (words : List Bytes) (old new : Devices) (status : ℕ) : Type 0 where
   pub error : Error
   pub leaves : LeavesError words error
   pub printed : Bool
   pub prints : PrintsText (usage_stream (kind_of error)) old.desk new.desk printed
   pub untouched : new.link ≡ old.link
+  pub unused : peers.unused
   pub status_is : status ≡ usage_status (kind_of error) printed
 
 -- From a command line to a status.
 abbrev pub RunsProgram : Peers → List Bytes → Devices → Devices → ℕ → Type 0
 RunsProgram peers words old new status =
-    ActsOnWords peers words old new (Ok status) ⊎ TellsUsage words old new status
+    ActsOnWords peers words old new (Ok status) ⊎ TellsUsage peers words old new status
 
 -- From the start of a process: its command line, which no clause knows, was read and run. Or it could not be read,
 -- this was reported, and the status is 1.
 abbrev pub StartsProgram : Peers → Devices → Devices → ℕ → Type 0
 StartsProgram peers old new status =
     ((words : List Bytes) × RunsProgram peers words old new status)
-    ⊎ ((status ≡ 1) × ReportsText old.desk new.desk × (new.link ≡ old.link))
+    ⊎ ((status ≡ 1) × ReportsText old.desk new.desk × (new.link ≡ old.link) × peers.unused)

@@ -20,9 +20,10 @@ ServesOn over part port file old new status =
     ⊎ (over None × Tells old new (unopened_line [] port) × (status ≡ 1))
 
 -- The part and the chip file of the settings were judged; then a client was served, or none could be accepted. Or the
--- part or the chip file is refused. No clause states that the port was left alone then.
-abbrev pub ServesNet : (Option LinkState → Type 0) → Settings → Bytes → Bytes → DeskState → DeskState → ℕ → Type 0
-ServesNet over settings port file old new status =
+-- part or the chip file is refused, and the network was left unused.
+abbrev pub ServesNet : Type 0 → (Option LinkState → Type 0) → Settings → Bytes → Bytes → DeskState → DeskState → ℕ
+    → Type 0
+ServesNet unused over settings port file old new status =
     ((part : Part) × (judged : DeskState) × JudgesPart settings file old judged (Ok part)
     × ServesOn over part port file judged new status)
-    ⊎ JudgesPart settings file old new (Err status)
+    ⊎ (JudgesPart settings file old new (Err status) × unused)

@@ -16,49 +16,62 @@ pub record IsNewLink {S : Type 0} (IsSide : S → Type 0) (link : StreamState S 
   pub quiet : link.transcript ≡ []
 
 -- The state of a link that was new over two sides of this socket. Its reader gave what it received, and its writer
--- took what it sent.
-pub record IsOver {S : Type 0} (reads : Reads S) (writes : Writes S) (IsSide : S → Type 0) (now : LinkState)
+-- took what it sent, and then both were closed.
+pub record IsOver {S : Type 0} (reads : Reads S) (writes : Writes S) (closed IsSide : S → Type 0) (now : LinkState)
     : Type 0 where
   pub before : StreamState S S
   pub after : StreamState S S
   pub new : IsNewLink IsSide before
   pub shows : stream_state after ≡ now
   pub truly : IsTrueSince reads.remaining writes.contents before after
+  pub reader : closed after.reader
+  pub writer : closed after.writer
 
 -- What happened to a socket: a link over it has this state, or there was none.
 
 -- A connection to this address.
-abbrev pub IsOverAddress : {N S L : Type 0} → Networks N S L → Reads S → Writes S → Bytes → Option LinkState → Type 0
-IsOverAddress network reads writes address (Some now) =
-    IsOver reads writes (λ side. network.reaches side address) now
-IsOverAddress network reads writes address None = network.misses address
-
--- A connection accepted at this listener.
-abbrev pub IsOverCaller : {L S : Type 0} → Called L S → Reads S → Writes S → L → Option LinkState → Type 0
-IsOverCaller called reads writes listener (Some now) = IsOver reads writes (called.calls listener) now
-IsOverCaller called reads writes listener None = called.lacks listener
-
--- A connection accepted at a listener at this port.
-abbrev pub IsAtPort : {N S L : Type 0} → Networks N S L → Called L S → Reads S → Writes S → ℕ → Option LinkState
-    → Type 0
-IsAtPort {L = L} network called reads writes port seen =
-    (listener : L) × network.listens listener port × IsOverCaller called reads writes listener seen
-
--- Without a link there was no listener, or no client could be accepted, or the port's text is no number.
-abbrev pub IsOverPort : {N S L : Type 0} → Networks N S L → Called L S → Reads S → Writes S → Option ℕ
+abbrev pub IsOverAddress : {N S L : Type 0} → Networks N S L → Reads S → Writes S → (S → Type 0) → Bytes
     → Option LinkState
     → Type 0
-IsOverPort network called reads writes (Some port) (Some now) = IsAtPort network called reads writes port (Some now)
-IsOverPort network called reads writes (Some port) None =
-    network.is_shut port ⊎ IsAtPort network called reads writes port None
-IsOverPort network called reads writes None (Some now) = ⊥
-IsOverPort network called reads writes None None = Unit {0}
+IsOverAddress network reads writes closed address (Some now) =
+    IsOver reads writes closed (λ side. network.reaches side address) now
+IsOverAddress network reads writes closed address None = network.misses address
 
--- The other sides that a run may connect to: at an address, and at a port.
+-- A connection accepted at this listener.
+abbrev pub IsOverCaller : {L S : Type 0} → Called L S → Reads S → Writes S → (S → Type 0) → L → Option LinkState
+    → Type 0
+IsOverCaller called reads writes closed listener (Some now) = IsOver reads writes closed (called.calls listener) now
+IsOverCaller called reads writes closed listener None = called.lacks listener
+
+-- A connection accepted at a listener at this port.
+abbrev pub IsAtPort : {N S L : Type 0} → Networks N S L → Called L S → Reads S → Writes S → (S → Type 0) → ℕ
+    → Option LinkState
+    → Type 0
+IsAtPort {L = L} network called reads writes closed port seen =
+    (listener : L) × network.listens listener port × IsOverCaller called reads writes closed listener seen
+
+-- Without a link there was no listener, or no client could be accepted. Or the port's text is no number, and the
+-- network was left unused.
+abbrev pub IsOverPort : {N S L : Type 0} → Networks N S L → Called L S → Reads S → Writes S → (S → Type 0) → Option ℕ
+    → Option LinkState
+    → Type 0
+IsOverPort network called reads writes closed (Some port) (Some now) =
+    IsAtPort network called reads writes closed port (Some now)
+IsOverPort network called reads writes closed (Some port) None =
+    network.is_shut port ⊎ IsAtPort network called reads writes closed port None
+IsOverPort network called reads writes closed None (Some now) = ⊥
+IsOverPort network called reads writes closed None None = network.unused
+
+-- The other sides that a run may connect to: at an address, and at a port. Or the network was left unused.
 pub record Peers : Type 1 where
   pub at_address : Bytes → Option LinkState → Type 0
   pub at_port : Option ℕ → Option LinkState → Type 0
+  pub unused : Type 0
 
-abbrev pub peers_of : {N S L : Type 0} → Networks N S L → Called L S → Reads S → Writes S → Peers
-peers_of network called reads writes =
-    record { at_address = IsOverAddress network reads writes; at_port = IsOverPort network called reads writes }
+abbrev pub peers_of : {N S L : Type 0} → Networks N S L → Called L S → Reads S → Writes S → (S → Type 0) → Peers
+peers_of network called reads writes closed =
+    record {
+      at_address = IsOverAddress network reads writes closed;
+      at_port = IsOverPort network called reads writes closed;
+      unused = network.unused;
+    }

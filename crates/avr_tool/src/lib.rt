@@ -52,15 +52,16 @@ pub use laws::{
 };
 // what a run reads and writes beside its link
 pub use avr_desk::{
-    Bounded, Bytes, Desk, DeskCall, DeskFault, FailingDesk, FileUse, MemDesk, Opening, Piece,
-    Reading, Stream, SystemDesk, WatchDesk, WatchedDesk, Writing, print_error, print_information,
-    print_warning, write_all,
+    Bounded, Bytes, Desk, DeskCall, DeskFault, FailingDesk, FileSystem, FileUse, MemDesk, Opening,
+    Piece, Reading, Stream, SystemDesk, WatchDesk, WatchedDesk, Writing, print_error,
+    print_information, print_warning, write_all,
 };
 // from settings to a status, over any link
 pub use avr_emulator::drive_wired;
 pub use avr_plan::{PartsFault, Plan, PlanFault, Task, TaskFault, plan, plan_or_fault};
 pub use avr_session::{Outcome, drive, drive_outcome, frame_count};
-pub use network::{Callers, Network};
+pub use ghosts::Outlet;
+pub use network::{Callers, Network, Side};
 pub use numbers::the_numbers_are;
 pub use of_port::{run_emu, run_net, serve, serve_for, serve_net, serve_on};
 pub use ports::{accept, listen};

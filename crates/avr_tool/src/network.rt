@@ -20,12 +20,32 @@ fn sides_of<S: OpenStream + Drop>(stream: S) -> io::Result<(S, S)> {
     Ok((stream, writer))
 }
 
-/// Accepts connections at a listener. Only this call produces what the ghost members state.
+/// One side of a connection, which is closed at the end. Only `close` yields `closed`, so nothing more went over a
+/// closed side.
+///
+/// Every type that may be dropped implements it.
+pub trait Side {
+    /// The side was closed as it is.
+    ghost closed: { Self → Type 0 };
+
+    /// Closes this side.
+    fn close(self)
+        ensures closes { closed self };
+}
+
+impl<S: Drop> Side for S {
+    ghost closed = { λ side. ⊤ };
+
+    fn close(self) {}
+}
+
+/// Accepts one connection at a listener. The call consumes the listener, so its owner accepts at most one client. Only
+/// this call produces what the ghost members state.
 ///
 /// Every listener of the system implements it.
 pub trait Callers {
     /// One side of a connection.
-    type Stream: Read + Write + Drop;
+    type Stream: Read + Write + Drop + Side;
 
     /// The stream is a connection accepted at this listener.
     ghost calls: { Self → Self.Stream → Type 0 };
@@ -33,18 +53,18 @@ pub trait Callers {
     /// This listener could not accept a connection.
     ghost lacks: { Self → Type 0 };
 
-    /// Accepts one connection, and returns its reader and its writer. A read of it has no timeout.
+    /// Accepts one connection and closes the listener. Returns the reader and the writer. A read has no timeout.
     ///
     /// # Errors
     ///
     /// The system's error, if no connection can be accepted.
-    fn accept_sides(&self) -> io::Result<(Self::Stream, Self::Stream)>
-        ensures reader { IfOk result (λ sides. calls self.now sides.0) }
-        ensures writer { IfOk result (λ sides. calls self.now sides.1) }
-        ensures missed { OnErr result (lacks self.now) };
+    fn accept_sides(self) -> io::Result<(Self::Stream, Self::Stream)>
+        ensures reader { IfOk result (λ sides. calls self sides.0) }
+        ensures writer { IfOk result (λ sides. calls self sides.1) }
+        ensures missed { OnErr result (lacks self) };
 }
 
-impl<L: OpenListener> Callers for L
+impl<L: OpenListener + Drop> Callers for L
 where
     L::Stream: Read + Write + OpenStream,
 {
@@ -54,20 +74,20 @@ where
 
     ghost lacks = { λ listener. ⊤ };
 
-    fn accept_sides(&self) -> io::Result<(L::Stream, L::Stream)> {
+    fn accept_sides(self) -> io::Result<(L::Stream, L::Stream)> {
         let (stream, _) = self.accept()?;
         sides_of(stream)
     }
 }
 
-/// Connects to an address or listens at a port, once. The call consumes the network, so its owner makes at most one
-/// connection or one listener.
+/// Connects to an address or listens at a port, once, or is left unused. Each call consumes the network, so its owner
+/// makes at most one connection or one listener.
 ///
 /// Only these calls produce what the ghost members state. A reference to a runtime with the system's network is a
 /// `Network`. That it connects and listens as asked is tested, not proved.
 pub trait Network {
     /// One side of a connection.
-    type Stream: Read + Write + Drop;
+    type Stream: Read + Write + Drop + Side;
 
     /// A listener at a port.
     type Listener: Callers<Stream = Self::Stream> + Drop;
@@ -83,6 +103,9 @@ pub trait Network {
 
     /// Listening at this port failed.
     ghost is_shut: { ℕ → Type 0 };
+
+    /// It was left unused.
+    ghost unused: { Type 0 };
 
     /// Connects to `HOST:PORT`, and returns the reader and the writer. A read times out after one second.
     ///
@@ -102,6 +125,10 @@ pub trait Network {
     fn listen_here(self, port: u16) -> io::Result<Self::Listener>
         ensures listens { IfOk result (λ listener. listens listener port) }
         ensures shut { OnErr result (is_shut port) };
+
+    /// Leaves the network unused.
+    fn leave(self)
+        ensures unused { unused };
 }
 
 impl<'a, R: Net> Network for &'a R {
@@ -117,6 +144,8 @@ impl<'a, R: Net> Network for &'a R {
 
     ghost is_shut = { λ port. ⊤ };
 
+    ghost unused = { ⊤ };
+
     fn connect_sides(self, address: &str) -> io::Result<(R::Stream, R::Stream)> {
         let stream = TcpStream::connect(self, address)?;
         stream.set_read_timeout(Some(Duration::from_secs(SECONDS_OF_SILENCE)))?;
@@ -127,4 +156,6 @@ impl<'a, R: Net> Network for &'a R {
     fn listen_here(self, port: u16) -> io::Result<R::Listener> {
         TcpListener::bind(self, ("127.0.0.1", port))
     }
+
+    fn leave(self) {}
 }

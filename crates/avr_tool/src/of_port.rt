@@ -1,5 +1,5 @@
 //! Runs over the port that the settings name, and services at it. That a port is of its kind is the caller's condition.
-ghost use Rattle.std.specs.Prelude.{◌≤◌};
+ghost use Rattle.std.specs.Prelude.{◌≤◌, ⊤};
 ghost use Rattle.avr_cli.specs.Port.{port_number as number_of};
 ghost use Rattle.avr_desk.specs.Fault.{Follows};
 ghost use Rattle.avr_emulator.specs.Emulated.{RunsEmulator};
@@ -50,15 +50,15 @@ pub fn run_emu<D: Desk>(alloc: Global, settings: &Settings, desk: &mut D) -> u8
 /// // the part is judged before a connection is opened
 /// assert_eq!(rt; run_net(&rt, alloc, &settings, &mut desk), 1);
 /// ```
-pub fn run_net<N: Network + Drop, D: Desk>(
+pub fn run_net<N: Network, D: Desk>(
     network: N,
     alloc: Global,
     settings: &Settings,
     desk: &mut D,
 ) -> u8
     requires port { IsNetwork settings.now.port }
-    ensures runs { RunsOverNet (IsOverAddress N.Network N.Stream.Read N.Stream.Write (port_place settings.now.port))
-        settings.now (port_place settings.now.port) (D.view desk.old) (D.view desk.new) result }
+    ensures runs { RunsOverNet N.unused (IsOverAddress N.Network N.Stream.Read N.Stream.Write N.Stream.closed
+        (port_place settings.now.port)) settings.now (port_place settings.now.port) (D.view desk.old) (D.view desk.new) result }
     ensures stays { Stays D.comes_of desk.old desk.new }
 {
     let Port::Network(address) = &settings.port else {
@@ -128,15 +128,15 @@ pub fn serve<D: Desk, L: Link>(alloc: Global, settings: &Settings, desk: &mut D,
 
 /// Serves the emulator to the first client of a listener, at most 16,777,216 reads. The part and the chip file of the
 /// settings are checked before a connection is accepted.
-pub fn serve_on<L: Callers, D: Desk>(
+pub fn serve_on<L: Callers + Drop, D: Desk>(
     alloc: Global,
     settings: &Settings,
-    listener: &L,
+    listener: L,
     desk: &mut D,
 ) -> u8
     requires port { IsServed settings.now.port }
-    ensures serves { ServesNet (IsOverCaller L.Callers L.Stream.Read L.Stream.Write listener.now) settings.now
-        (port_place settings.now.port) (chip_file_of settings.now.port) (D.view desk.old) (D.view desk.new) result }
+    ensures serves { ServesNet ⊤ (IsOverCaller L.Callers L.Stream.Read L.Stream.Write L.Stream.closed listener)
+        settings.now (port_place settings.now.port) (chip_file_of settings.now.port) (D.view desk.old) (D.view desk.new) result }
     ensures stays { Stays D.comes_of desk.old desk.new }
 {
     let Port::Served { port, chip } = &settings.port else {
@@ -162,15 +162,15 @@ pub fn serve_on<L: Callers, D: Desk>(
 /// // the part is judged before anybody is waited for
 /// assert_eq!(rt; serve_net(&rt, alloc, &settings, &mut desk), 1);
 /// ```
-pub fn serve_net<N: Network + Drop, D: Desk>(
+pub fn serve_net<N: Network, D: Desk>(
     network: N,
     alloc: Global,
     settings: &Settings,
     desk: &mut D,
 ) -> u8
     requires port { IsServed settings.now.port }
-    ensures serves { ServesNet (IsOverPort N.Network N.Listener.Callers N.Stream.Read N.Stream.Write
-        (number_of (port_place settings.now.port))) settings.now (port_place settings.now.port)
+    ensures serves { ServesNet N.unused (IsOverPort N.Network N.Listener.Callers N.Stream.Read N.Stream.Write
+        N.Stream.closed (number_of (port_place settings.now.port))) settings.now (port_place settings.now.port)
         (chip_file_of settings.now.port) (D.view desk.old) (D.view desk.new) result }
     ensures stays { Stays D.comes_of desk.old desk.new }
 {

@@ -5,7 +5,7 @@ ghost use Rattle.ghosts.specs.Stays.{Stays};
 
 use crate::messages::unopened_message;
 use crate::network::Network;
-use crate::ports::connect;
+use crate::ports::{close, connect};
 use avr_cli::Settings;
 use avr_desk::{Desk, refuse};
 use avr_plan::plan;
@@ -15,26 +15,32 @@ use std::alloc::Global;
 /// Makes the plan of a run, and runs it over the programmer behind `HOST:PORT`.
 ///
 /// Returns the status: 0 if there was no fault, otherwise 1. Every fault has its line, and a refusal is reported
-/// before the port is opened. A read times out after one second. A connection that was reset is a failure of the
+/// without a connection. A read times out after one second. A connection that was reset is a failure of the
 /// link.
-pub fn run_net<N: Network + Drop, D: Desk>(
+pub fn run_net<N: Network, D: Desk>(
     network: N,
     alloc: Global,
     settings: &Settings,
     address: &str,
     desk: &mut D,
 ) -> u8
-    ensures runs { RunsOverNet (IsOverAddress N.Network N.Stream.Read N.Stream.Write address.now) settings.now
-        address.now (D.view desk.old) (D.view desk.new) result }
+    ensures runs { RunsOverNet N.unused
+        (IsOverAddress N.Network N.Stream.Read N.Stream.Write N.Stream.closed address.now) settings.now address.now
+        (D.view desk.old) (D.view desk.new) result }
     ensures stays { Stays D.comes_of desk.old desk.new }
 {
     let plan = match plan(alloc, settings, desk) {
         Ok(plan) => plan,
-        Err(status) => return status,
+        Err(status) => {
+            network.leave();
+            return status;
+        }
     };
     let mut link = match connect(network, address) {
         Ok(link) => link,
         Err(_) => return refuse(desk, &unopened_message("net:", address)),
     };
-    drive(alloc, &plan, desk, &mut link)
+    let status = drive(alloc, &plan, desk, &mut link);
+    close(link);
+    status
 }

@@ -2,7 +2,7 @@
 ghost use Rattle.std.specs.Prelude.{IfOk, OnErr};
 ghost use Rattle.avr_tool.specs.Sockets.{IsNewLink};
 
-use crate::network::{Callers, Network};
+use crate::network::{Callers, Network, Side};
 use std::io;
 use stk_host::StreamLink;
 
@@ -18,6 +18,16 @@ pub(crate) fn connect<N: Network>(
     Ok(StreamLink::new(reader, writer))
 }
 
+/// Closes both sides of a link.
+pub(crate) fn close<S: Side>(link: StreamLink<S, S>)
+    ensures reader { S.closed link.reader }
+    ensures writer { S.closed link.writer }
+{
+    let (reader, writer) = link.into_inner();
+    reader.close();
+    writer.close();
+}
+
 /// Listens at a port, for clients on this machine alone; 0 means any free port.
 ///
 /// # Errors
@@ -30,14 +40,14 @@ pub fn listen<N: Network>(network: N, port: u16) -> io::Result<N::Listener>
     network.listen_here(port)
 }
 
-/// Accepts one connection, and returns a link over it, which has no timeout.
+/// Accepts one connection and closes the listener. Returns a link over the connection, which has no timeout.
 ///
 /// # Errors
 ///
 /// The system's error, if no connection can be accepted.
-pub fn accept<L: Callers>(listener: &L) -> io::Result<StreamLink<L::Stream, L::Stream>>
-    ensures new { IfOk result (IsNewLink (L.calls listener.now)) }
-    ensures missed { OnErr result (L.lacks listener.now) }
+pub fn accept<L: Callers>(listener: L) -> io::Result<StreamLink<L::Stream, L::Stream>>
+    ensures new { IfOk result (IsNewLink (L.calls listener)) }
+    ensures missed { OnErr result (L.lacks listener) }
 {
     let (reader, writer) = listener.accept_sides()?;
     Ok(StreamLink::new(reader, writer))

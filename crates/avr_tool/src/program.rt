@@ -26,22 +26,29 @@ use stk_host::StreamLink;
 
 /// Runs over the port of the settings, or serves the emulator: `stdio:` is the link, `emu:` the emulator, `net:` a
 /// connection.
-fn run_port<N: Network + Drop, D: Desk, R: Read + Drop, W: Write + Drop>(
+fn run_port<N: Network, D: Desk, R: Read + Drop, W: Write + Drop>(
     network: N,
     alloc: Global,
     settings: &Settings,
     desk: &mut D,
     link: &mut StreamLink<R, W>,
 ) -> u8
-    ensures runs { ActsAtPort (peers_of N.Network N.Listener.Callers N.Stream.Read N.Stream.Write) settings.now.port
+    ensures runs { ActsAtPort (peers_of N.Network N.Listener.Callers N.Stream.Read N.Stream.Write
+        N.Stream.closed) settings.now.port
         settings.now (devices (stream_state link.old) (D.view desk.old))
         (devices (stream_state link.new) (D.view desk.new)) result }
     ensures tells { IsTrueSince R.remaining W.contents link.old link.new }
     ensures stays { Stays D.comes_of desk.old desk.new }
 {
     match &settings.port {
-        Port::Stdio => run_streams(alloc, settings, desk, link),
-        Port::Emulated(file) => run_emu(alloc, settings, file.as_str(), desk),
+        Port::Stdio => {
+            network.leave();
+            run_streams(alloc, settings, desk, link)
+        }
+        Port::Emulated(file) => {
+            network.leave();
+            run_emu(alloc, settings, file.as_str(), desk)
+        }
         Port::Network(address) => run_net(network, alloc, settings, address.as_str(), desk),
         Port::Served { port, chip } => {
             serve_net(network, alloc, settings, port.as_str(), chip.as_str(), desk)
@@ -80,14 +87,15 @@ fn words_untaken<D: Desk>(error: Error, desk: &mut D) -> Result<u8, Error>
 /// assert_eq!(rt; run_words(&rt, alloc, words.as_slice(), &mut desk, &mut streams)?, 0);
 /// assert!(rt; desk.messages().is_empty());
 /// ```
-pub fn run_words<N: Network + Drop, D: Desk, R: Read + Drop, W: Write + Drop>(
+pub fn run_words<N: Network, D: Desk, R: Read + Drop, W: Write + Drop>(
     network: N,
     alloc: Global,
     words: &[String],
     desk: &mut D,
     link: &mut StreamLink<R, W>,
 ) -> Result<u8, Error>
-    ensures runs { ActsOnWords (peers_of N.Network N.Listener.Callers N.Stream.Read N.Stream.Write)
+    ensures runs { ActsOnWords (peers_of N.Network N.Listener.Callers N.Stream.Read N.Stream.Write
+        N.Stream.closed)
         (map string_bytes words.now) (devices (stream_state link.old) (D.view desk.old))
         (devices (stream_state link.new) (D.view desk.new)) result }
     ensures tells { IsTrueSince R.remaining W.contents link.old link.new }
@@ -95,8 +103,14 @@ pub fn run_words<N: Network + Drop, D: Desk, R: Read + Drop, W: Write + Drop>(
 {
     match asked(alloc, words, desk) {
         Ok(settings) => Ok(run_port(network, alloc, &settings, desk, link)),
-        Err(NotAsked::Refused(status)) => Ok(status),
-        Err(NotAsked::Words(error)) => words_untaken(error, desk),
+        Err(NotAsked::Refused(status)) => {
+            network.leave();
+            Ok(status)
+        }
+        Err(NotAsked::Words(error)) => {
+            network.leave();
+            words_untaken(error, desk)
+        }
     }
 }
 
@@ -133,14 +147,15 @@ fn stream_of_usage(error: &Error) -> Stream
 /// let mut streams = StreamLink::new(b"".as_slice(), Vec::new(alloc));
 /// assert_eq!(rt; run_program(&rt, alloc, words.as_slice(), &mut desk, &mut streams), 0);
 /// ```
-pub fn run_program<N: Network + Drop, D: Desk, R: Read + Drop, W: Write + Drop>(
+pub fn run_program<N: Network, D: Desk, R: Read + Drop, W: Write + Drop>(
     network: N,
     alloc: Global,
     words: &[String],
     desk: &mut D,
     link: &mut StreamLink<R, W>,
 ) -> u8
-    ensures runs { RunsProgram (peers_of N.Network N.Listener.Callers N.Stream.Read N.Stream.Write)
+    ensures runs { RunsProgram (peers_of N.Network N.Listener.Callers N.Stream.Read N.Stream.Write
+        N.Stream.closed)
         (map string_bytes words.now) (devices (stream_state link.old) (D.view desk.old))
         (devices (stream_state link.new) (D.view desk.new)) result }
     ensures tells { IsTrueSince R.remaining W.contents link.old link.new }

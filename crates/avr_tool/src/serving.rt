@@ -1,5 +1,5 @@
 //! Serves an emulated programmer at a port of this machine, from settings to status.
-ghost use Rattle.std.specs.Prelude.{IfOk, OnErr};
+ghost use Rattle.std.specs.Prelude.{IfOk, OnErr, ⊤};
 ghost use Rattle.avr_cli.specs.Port.{port_number as number_of};
 ghost use Rattle.avr_tool.specs.ServedNet.{ServesNet, ServesOn};
 ghost use Rattle.avr_tool.specs.Sockets.{IsNewLink, IsOverCaller, IsOverPort};
@@ -7,7 +7,7 @@ ghost use Rattle.ghosts.specs.Stays.{Stays};
 
 use crate::messages::unopened_message;
 use crate::network::{Callers, Network};
-use crate::ports::{accept, listen};
+use crate::ports::{accept, close, listen};
 use avr_cli::{Settings, port_number};
 use avr_desk::{Desk, refuse};
 use avr_emulator::{READS, judge_part, serve_part};
@@ -28,15 +28,17 @@ fn serve_called<L: Callers, D: Desk>(
     desk: &mut D,
 ) -> u8
     ensures serves { (listener : L) → IfOk called (IsNewLink (L.calls listener)) → OnErr called (L.lacks listener)
-        → ServesOn (IsOverCaller L.Callers L.Stream.Read L.Stream.Write listener) part.now port.now file.now
-        (D.view desk.old) (D.view desk.new) result }
+        → ServesOn (IsOverCaller L.Callers L.Stream.Read L.Stream.Write L.Stream.closed listener) part.now port.now
+        file.now (D.view desk.old) (D.view desk.new) result }
     ensures stays { Stays D.comes_of desk.old desk.new }
 {
     let mut link = match called {
         Ok(link) => link,
         Err(_) => return refuse(desk, &unopened_message("", port)),
     };
-    serve_part(alloc, part, file, desk, &mut link, READS)
+    let status = serve_part(alloc, part, file, desk, &mut link, READS);
+    close(link);
+    status
 }
 
 /// Serves the emulated programmer of the settings' part to the first client of a listener, in at most 16,777,216
@@ -47,16 +49,16 @@ fn serve_called<L: Callers, D: Desk>(
 /// no connection can be accepted, this is reported for `port`, the text of `--serve`, and no file is written.
 ///
 /// Returns the status: 0 if the client closed the connection and the chip was saved, otherwise 1.
-pub fn serve_on<L: Callers, D: Desk>(
+pub fn serve_on<L: Callers + Drop, D: Desk>(
     alloc: Global,
     settings: &Settings,
     port: &str,
     file: &str,
-    listener: &L,
+    listener: L,
     desk: &mut D,
 ) -> u8
-    ensures serves { ServesNet (IsOverCaller L.Callers L.Stream.Read L.Stream.Write listener.now) settings.now
-        port.now file.now (D.view desk.old) (D.view desk.new) result }
+    ensures serves { ServesNet ⊤ (IsOverCaller L.Callers L.Stream.Read L.Stream.Write L.Stream.closed listener)
+        settings.now port.now file.now (D.view desk.old) (D.view desk.new) result }
     ensures stays { Stays D.comes_of desk.old desk.new }
 {
     let part = match judge_part(alloc, settings, file, desk) {
@@ -68,7 +70,7 @@ pub fn serve_on<L: Callers, D: Desk>(
 
 /// Opens the port and serves a chip of this part to the first client. The port is closed when that client has
 /// connected, so a second one is refused at once.
-fn serve_at<N: Network + Drop, D: Desk>(
+fn serve_at<N: Network, D: Desk>(
     network: N,
     alloc: Global,
     part: &Part,
@@ -76,19 +78,19 @@ fn serve_at<N: Network + Drop, D: Desk>(
     file: &str,
     desk: &mut D,
 ) -> u8
-    ensures serves { ServesOn (IsOverPort N.Network N.Listener.Callers N.Stream.Read N.Stream.Write
+    ensures serves { ServesOn (IsOverPort N.Network N.Listener.Callers N.Stream.Read N.Stream.Write N.Stream.closed
         (number_of port.now)) part.now port.now file.now (D.view desk.old) (D.view desk.new) result }
     ensures stays { Stays D.comes_of desk.old desk.new }
 {
     let Some(number) = port_number(port) else {
+        network.leave();
         return refuse(desk, &unopened_message("", port));
     };
     let listener = match listen(network, number) {
         Ok(listener) => listener,
         Err(_) => return refuse(desk, &unopened_message("", port)),
     };
-    let called = accept(&listener);
-    drop(listener);
+    let called = accept(listener);
     serve_called::<N::Listener, D>(alloc, part, port, file, called, desk)
 }
 
@@ -97,7 +99,7 @@ fn serve_at<N: Network + Drop, D: Desk>(
 ///
 /// The port is closed when the first client has connected, so a second one is refused. `port` is the text of
 /// `--serve`. A port that can't be opened is reported, and no file is written.
-pub fn serve_net<N: Network + Drop, D: Desk>(
+pub fn serve_net<N: Network, D: Desk>(
     network: N,
     alloc: Global,
     settings: &Settings,
@@ -105,13 +107,17 @@ pub fn serve_net<N: Network + Drop, D: Desk>(
     file: &str,
     desk: &mut D,
 ) -> u8
-    ensures serves { ServesNet (IsOverPort N.Network N.Listener.Callers N.Stream.Read N.Stream.Write
-        (number_of port.now)) settings.now port.now file.now (D.view desk.old) (D.view desk.new) result }
+    ensures serves { ServesNet N.unused (IsOverPort N.Network N.Listener.Callers N.Stream.Read N.Stream.Write
+        N.Stream.closed (number_of port.now)) settings.now port.now file.now (D.view desk.old)
+        (D.view desk.new) result }
     ensures stays { Stays D.comes_of desk.old desk.new }
 {
     let part = match judge_part(alloc, settings, file, desk) {
         Ok(part) => part,
-        Err(status) => return status,
+        Err(status) => {
+            network.leave();
+            return status;
+        }
     };
     serve_at(network, alloc, &part, port, file, desk)
 }

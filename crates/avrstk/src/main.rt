@@ -5,9 +5,12 @@ ghost use Rattle.std.specs.Prelude.{◌≡◌};
 ghost use Rattle.avr_tool.specs.Links.{stream_state};
 ghost use Rattle.avr_tool.specs.Program.{StartsProgram};
 ghost use Rattle.avr_tool.specs.Runs.{devices};
+ghost use Rattle.avr_tool.specs.Shown.{TellsAll, shown_state};
 ghost use Rattle.avr_tool.specs.Sockets.{peers_of};
 
-use avr_tool::{Bounded, Desk, Network, StreamLink, SystemDesk, refuse_text, run_program};
+use avr_tool::{
+    Bounded, FileSystem, Network, Outlet, StreamLink, SystemDesk, refuse_text, run_program,
+};
 use std::alloc::Global;
 use std::env::Env;
 use std::fs::{File, OpenOptions};
@@ -44,18 +47,27 @@ fn file_of(rt: &HostRuntime, name: &str) -> Option<File> {
 }
 
 /// Runs what the command line asks for.
-fn run<E: Env + Alloc<A = Global>, N: Network + Drop, D: Desk, R: Read + Drop, W: Write + Drop>(
-    rt: &E,
-    network: N,
-    desk: &mut D,
-    link: &mut StreamLink<R, W>,
-) -> u8
-    ensures { StartsProgram (peers_of N.Network N.Listener.Callers N.Stream.Read N.Stream.Write)
-        (devices (stream_state link.old) (D.view desk.old)) (devices (stream_state link.new) (D.view desk.new)) result }
+fn run<
+    E: Env + Alloc<A = Global>,
+    N: Network,
+    S: FileSystem + Drop,
+    O: Outlet + Drop,
+    M: Outlet + Drop,
+    R: Read + Drop,
+    W: Write + Drop,
+>(rt: &E, network: N, desk: &mut SystemDesk<S, O, M>, link: &mut StreamLink<R, W>) -> u8
+    ensures starts { StartsProgram (peers_of N.Network N.Listener.Callers N.Stream.Read N.Stream.Write
+        N.Stream.closed)
+        (devices (stream_state link.old) (shown_state desk.old))
+        (devices (stream_state link.new) (shown_state desk.new)) result }
+    ensures all { TellsAll S.FileSystem S.File.Read S.File.Write S.Input.Read desk.old desk.new }
 {
     match read_arguments(rt) {
         Ok(words) => run_program(network, rt.alloc(), words.as_slice(), desk, link),
-        Err(error) => refuse_text(desk, &error),
+        Err(error) => {
+            network.leave();
+            refuse_text(desk, &error)
+        }
     }
 }
 

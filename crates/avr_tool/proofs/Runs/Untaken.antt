@@ -14,10 +14,10 @@ use Rattle.stk_host.specs.Transcript.{LinkState}
 
 pub untaken : (peers : Peers) (words : List Bytes)
     (link : LinkState) (old mid new : DeskState) (error : Error) (result : Result ℕ Error)
-    → Asks words old mid (Err (Words error)) → LeavesWords error mid new result
+    → peers.unused → Asks words old mid (Err (Words error)) → LeavesWords error mid new result
     → ActsOnWords peers words (devices link old) (devices link new) result
-untaken peers words link old mid new error (Ok status) asks leaves = search rules
-untaken peers words link old mid new error (Err left) asks leaves = (
+untaken peers words link old mid new error (Ok status) unused asks leaves = search rules
+untaken peers words link old mid new error (Err left) unused asks leaves = (
   record {
     kind = subst (λ (e : Error). HasKind (fault_of avrstk words) e) (sym leaves.1) asks.0;
     not_memory = subst (λ (e : Error). kind_of e ≡ OutOfMemory → ⊥) (sym leaves.1) leaves.0;
@@ -25,4 +25,5 @@ untaken peers words link old mid new error (Err left) asks leaves = (
   },
   leaves.2 ∙ asks.2,
   refl,
+  unused,
 )

@@ -9,5 +9,6 @@ returns-in-Err-clause-runs g c =
       printed = c.print_text-was_printed.result;
       prints = rw untold at (rw c.stream_of_usage.ensures at c.print_text-was_printed.ensures.prints);
       untouched = c.in-Err.ensures.runs.2;
+      unused = c.in-Err.ensures.runs.3;
       status_is = c.status_of_usage.ensures;
     })

@@ -2,14 +2,14 @@ use Rattle.stk_host.proofs.Transcripts.Streams.{true_now}
 use Rattle.avr_tool.proofs.Runs.Untaken.{untaken}
 use Rattle.avr_tool.proofs.program.run_words.Goals as goal
 
-pub returns-clause-runs : goal.returns-clause-runs
-returns-clause-runs g c =
+pub returns-in-Err-Words-clause-runs : goal.returns-in-Err-Words-clause-runs
+returns-in-Err-Words-clause-runs g c =
     let asks = rw c.in-Err-Words.field-0-is at c.in-Err-Words.ensures.asks in
     let leaves = rw c.in-Err-Words.field-0-is at c.words_untaken.ensures.leaves in
-    untaken _ _ _ _ _ _ c.in-Err-Words.error _ asks leaves
+    untaken _ _ _ _ _ _ c.in-Err-Words.error _ c.leave-in-Err-Words.ensures.unused asks leaves
 
-pub returns-clause-tells : goal.returns-clause-tells
-returns-clause-tells g c = true_now g.R.Read.remaining g.W.Write.contents c.args.link.now
+pub returns-in-Err-Words-clause-tells : goal.returns-in-Err-Words-clause-tells
+returns-in-Err-Words-clause-tells g c = true_now g.R.Read.remaining g.W.Write.contents c.args.link.now
 
 pub returns-in-Err-Refused-clause-tells : goal.returns-in-Err-Refused-clause-tells
 returns-in-Err-Refused-clause-tells g c = true_now g.R.Read.remaining g.W.Write.contents c.args.link.now

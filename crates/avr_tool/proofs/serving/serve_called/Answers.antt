@@ -10,14 +10,16 @@ pub returns-clause-serves : goal.returns-clause-serves
 returns-clause-serves g c = λ listener accepted lacks.
     let new = rw c.in-Ok.is at accepted in
     inl (
-      record { transcript = c.serve_part.new.link.transcript; failures = c.serve_part.new.link.failures },
+      record { transcript = c.serve_part-status.new.link.transcript; failures = c.serve_part-status.new.link.failures },
       record {
         before = c.in-Ok.link;
-        after = c.serve_part.new.link;
+        after = c.serve_part-status.new.link;
         new = new;
         shows = refl;
-        truly = c.serve_part.ensures.comes c.in-Ok.link
+        truly = c.serve_part-status.ensures.comes c.in-Ok.link
             (true_now g.L.Stream.Read.remaining g.L.Stream.Write.contents c.in-Ok.link);
+        reader = c.close.ensures.reader;
+        writer = c.close.ensures.writer;
       },
-      rw new.fresh at (rw new.quiet at c.serve_part.ensures.runs),
+      rw new.fresh at (rw new.quiet at c.serve_part-status.ensures.runs),
     )
