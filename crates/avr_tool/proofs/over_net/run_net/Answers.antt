@@ -26,6 +26,6 @@ returns-clause-runs g c = inl (
     between = g.D.Desk.view c.plan.new.desk;
     made = rw c.in-Ok.is at c.plan.ensures.goes;
     then_is = rw c.in-Ok-connect.ensures.new.fresh
-      at (rw c.in-Ok-connect.ensures.new.quiet at c.drive-status.ensures.runs);
+        at (rw c.in-Ok-connect.ensures.new.quiet at c.drive-status.ensures.runs);
   },
 )
