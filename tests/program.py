@@ -49,6 +49,9 @@ FRAMES = [
     ]
 ]
 
+# the row of /proc/net/tcp of a port of 127.0.0.1 at which a process listens (state 0A)
+LISTENS = " 0100007F:{:04X} 00000000:0000 0A "
+
 # the length of the chip file of an ATmega328P
 CHIP_FILE = 33_796
 
@@ -137,6 +140,11 @@ def port_of(kept):
     return kept.getsockname()[1]
 
 
+def listens_at(port):
+    """Returns whether a process listens at this port of 127.0.0.1. It doesn't call: the first caller is served."""
+    return LISTENS.format(port) in Path("/proc/net/tcp").read_text()
+
+
 class Server:
     """The program as the emulated programmer of a part, at a port that is kept for it. At the end of a `with` it is ended
     if it still runs."""
@@ -150,8 +158,7 @@ class Server:
             self.wait_until_listens()
 
     def listens(self):
-        """Returns whether a process listens at the port (state 0A). It doesn't call, because the first caller is served."""
-        return f" 0100007F:{self.port:04X} 00000000:0000 0A " in Path("/proc/net/tcp").read_text()
+        return listens_at(self.port)
 
     def wait_until_listens(self):
         ends = time.monotonic() + PATIENCE

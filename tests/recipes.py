@@ -19,7 +19,7 @@ import tempfile
 from pathlib import Path
 
 from cases import PATIENCE, leave_out, named, run_cases, same, see
-from program import PROGRAM, TOP, free_port, has_avrdude
+from program import LISTENS, PROGRAM, TOP, free_port, has_avrdude
 from serial import Board
 
 # commands that are no step of using the tool, or that start proofs
@@ -30,7 +30,7 @@ RT = '#!/bin/sh\necho "$@" >>"$NOTED"\nexit 1\n'
 
 # in the shell of the commands, `sleep 1` waits until the background job listens or ends, however long that takes
 WAITS = """
-listens() {{ grep -q " 0100007F:{0:04X} 00000000:0000 0A " /proc/net/tcp; }}
+listens() {{ grep -q "{0}" /proc/net/tcp; }}
 sleep() {{ [ "$1" = 1 ] || command sleep "$1"; until [ "$1" != 1 ] || listens || ! kill -0 $!; do command sleep 0.02; done; }}
 trap 'kill $(jobs -p) 2>/dev/null; wait' EXIT
 """
@@ -87,7 +87,7 @@ class Clone:
         own = {"PATH": path, "HOME": str(self.folder / "home"), "NOTED": str(self.noted)}
         environment = {name: it for name, it in (os.environ | own).items() if name != "AVRSTK"}
         typed = [f"{it} || echo 'FAILED here'" for it in commands]
-        text = WAITS.format(port) + "\n".join(typed).replace("5000", str(port))
+        text = WAITS.format(LISTENS.format(port)) + "\n".join(typed).replace("5000", str(port))
         how = {"stdin": subprocess.DEVNULL, "stdout": subprocess.PIPE, "stderr": subprocess.STDOUT, "text": True}
         return subprocess.run(["bash", "-c", text], cwd=self.top, env=environment, timeout=PATIENCE, **how).stdout
 

@@ -30,7 +30,7 @@ from pathlib import Path
 
 from cases import PATIENCE, leave_out, named, run_cases, same, see
 from line import frames_of
-from program import PROGRAM, TOP, Room, Server, forks, frame, free_port, has_avrdude, lines
+from program import PROGRAM, TOP, Room, Server, forks, frame, free_port, has_avrdude, lines, listens_at
 
 SCRIPT, SHARED = TOP / "avrstk-serial", TOP / "avrstk_common.py"
 PYTHON = shutil.which("python3", path="/usr/bin:/bin") or sys.executable
@@ -513,9 +513,10 @@ def what_is_missing():
     shutil.rmtree(alone)
     os.close(slave)
     os.close(line)
-    for word in ["--help", "-h", "-?"]:
-        status, output, told, own = run([word])
-        see(word, (status, told, own) == (0, b"", []) and output.startswith(b"Runs avrstk with a programmer"), output)
+    # (2: Python keeps no docstrings)
+    for word, level in [("--help", "0"), ("-h", "0"), ("-?", "0"), ("--help", "2")]:
+        status, output, told, own = run([word], env={"PYTHONOPTIMIZE": level})
+        see(f"{word}, {level}", (status, told, own) == (0, b"", []) and output.startswith(b"Runs avrstk with a programmer"), output)
 
 
 def failing(cases):
@@ -915,13 +916,7 @@ def changes(command, body):
     """Returns a function that replaces the body of this command's replies."""
 
     def change(answer):
-        if answer[5] != command:
-            return answer
-        whole = answer[:2] + len(body).to_bytes(2, "big") + b"\x0e" + body
-        check = 0
-        for byte in whole:
-            check ^= byte
-        return whole + bytes([check])
+        return frame(answer[1], body) if answer[5] == command else answer
 
     return change
 
@@ -1371,8 +1366,7 @@ def ended(started):
 
 def wait_for(port):
     """Waits until a process listens at the port, without a call."""
-    mark = f" 0100007F:{port:04X} 00000000:0000 0A "
-    wait_until(lambda: mark in Path("/proc/net/tcp").read_text())
+    wait_until(lambda: listens_at(port))
 
 
 def recipe_of_the_script():

@@ -17,7 +17,7 @@ import time
 from pathlib import Path
 
 from cases import PATIENCE, leave_out, named, run_cases, same, see
-from program import ANSWERS, CHIP_FILE, ENDS, FRAMES, PROGRAM, TOP, Room, free_port, kept_port, lines, port_of
+from program import ANSWERS, CHIP_FILE, ENDS, FRAMES, PROGRAM, TOP, Room, frame, free_port, kept_port, lines, port_of
 
 SCRIPT = TOP / "avrstk-serve"
 M328P = ["-p", "m328p", "--chip", "chip.bin"]
@@ -256,12 +256,7 @@ def idle_clients():
 
 # the frame that writes the low fuse, as AVRDUDE sends it (SPI_MULTI: AC A0 00 value)
 def programs_fuse(number, value):
-    body = bytes([0x1D, 4, 4, 0, 0xAC, 0xA0, 0, value])
-    whole = bytes([0x1B, number, 0, len(body), 0x0E]) + body
-    check = 0
-    for byte in whole:
-        check ^= byte
-    return whole + bytes([check])
+    return frame(number, 0x1D, 4, 4, 0, 0xAC, 0xA0, 0, value)
 
 
 def ends_at_a_signal():
@@ -330,6 +325,9 @@ def refused():
         see(f"{words}: its messages", ran.stderr == told if told is not None else ran.stderr.count("\n") == 1, ran.stderr)
         see(f"{words}: it doesn't serve", "serving at 127.0.0.1:" not in ran.stdout.replace("`serving at", ""), ran.stdout)
     taken.close()
+    # (Python keeps no docstrings then)
+    ran = subprocess.run([SCRIPT, "--help"], env=environment() | {"PYTHONOPTIMIZE": "2"}, capture_output=True, text=True)
+    see("--help without docstrings", ran.returncode == 0 and "avrstk-serve PORT" in ran.stdout, ran.stderr)
     for closed, status in [(">&-", 1), (">/dev/full", 1), ("<&- 2>&-", 0)]:
         text = f'exec "$0" 0 -p m328p --chip chip.bin {closed}'
         how = {"cwd": room.folder, "env": environment(), "stdout": subprocess.PIPE, "stderr": subprocess.DEVNULL}
