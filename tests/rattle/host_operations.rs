@@ -2,7 +2,6 @@
 ghost use Rattle.std.specs.Prelude.{◌≡◌, length, IfOk};
 ghost use Rattle.avr_part.specs.Part.{size_of};
 
-use crate::support::joined;
 use arrayvec::ArrayVec;
 use avr_image::{Image, ImageFault};
 use avr_part::{Mem, Part, PartFault, Parts};
@@ -114,7 +113,7 @@ fn a_fuse_is_verified_by_a_new_host(rt: HostRuntime) -> Result<(), Fail> {
         let mut link = giving(alloc, reply)?;
         let verified = Host::new(&part).verify(alloc, &mut link, Mem::Lfuse, &image);
         assert!(rt; verified == Err(fault));
-        assert_eq!(rt; link.sent(), joined(alloc, &["1B0100060E1804500000005E"])?.as_slice());
+        assert_eq!(rt; link.sent(), b"\x1B\x01\x00\x06\x0E\x18\x04\x50\x00\x00\x00\x5E".as_slice());
     }
     Ok(())
 }
