@@ -3,6 +3,8 @@
 after an error, timeouts, the detection of file formats, and AVRDUDE.
 
     tests/claims.py        needs a built program (program.py); rows with AVRDUDE 7.1 are left out without it
+
+README's and WHY's figures are compared with the scripts that make them.
 """
 
 import fcntl
@@ -17,7 +19,7 @@ import subprocess
 import sys
 import time
 
-from cases import PATIENCE, leave_out, named, run_cases, see
+from cases import PATIENCE, leave_out, named, run_cases, same, see
 from line import BadLine, Peer, frames_of
 from program import CHIP_FILE, PROGRAM, TOP, Room, Server, frame, has_avrdude, lines
 
@@ -475,6 +477,72 @@ def avrdude():
             see("and the chip has them", chip[:2] == b"\x0c\x94", chip[:2])
 
 
+def no_answer():
+    """README: how long avrstk and AVRDUDE try to reach a programmer that never answers."""
+    row = re.search(r"^\| a programmer that never answers \|.*", text("README.md"), re.M)[0]
+    patient, first, last = map(int, re.findall(r"(\d+) s", row))
+    room.clear()
+    with socket.create_server(("127.0.0.1", 0)) as silent:
+        port = ["-p", "m328p", "-P", f"net:127.0.0.1:{silent.getsockname()[1]}"]
+        begun = time.monotonic()
+        quiet = {"stdin": subprocess.DEVNULL, "stdout": subprocess.DEVNULL, "stderr": subprocess.DEVNULL}
+        other = subprocess.Popen(["avrdude", "-c", "stk500v2", *port], **quiet) if has_avrdude() else None
+        started = room.start(port)
+        line, taken = started.stderr.readline(), time.monotonic() - begun
+        see("`no answer`", line == lines("error: no answer") and first <= taken < first + 2, (line, taken))
+        started.communicate(timeout=PATIENCE)
+        taken = time.monotonic() - begun
+        see("the end", started.returncode == 1 and last <= taken < last + 2, taken)
+        if not other:
+            return leave_out("AVRDUDE's patience", "AVRDUDE 7.1 is not installed")
+        try:
+            other.wait(patient - taken)
+        except subprocess.TimeoutExpired:
+            pass
+        see(f"AVRDUDE still waits after {patient} s", other.poll() is None, other.poll())
+        other.kill()
+        other.wait()
+
+
+# ---- figures
+
+
+def near(name, shown, found):
+    """Checks a rounded figure of a document: at most 5 % from the counted one."""
+    shown = int(shown.replace(",", ""))
+    see(f"{name}: {shown}", abs(shown - found) * 20 <= found, found)
+
+
+def figures():
+    """The figures of README and WHY are those of the scripts that count them."""
+    readme, why = (" ".join(text(it).split()) for it in ("README.md", "docs/WHY.md"))
+    made = sum(map(int, re.findall(r"(?:list|many)\(range\((\d+)\)", text("tests/cuts_and_stalls.py"))))
+    for page, found in [("README", r"(\d+) runs over a link that cuts"), ("WHY", r"makes (\d+) runs of two processes")]:
+        same(f"{page}: runs of cuts_and_stalls", int(re.search(found, readme if page == "README" else why)[1]), made)
+    counted = lambda *words: subprocess.run([sys.executable, *words], cwd=TOP, capture_output=True, text=True, check=True).stdout
+    code, _, _, proofs = map(int, re.findall(r"\d+", re.search(r"in all \|(.*)", counted("tests/measure.py"))[1])[:4])
+    lines_, proved, mutants = re.search(r"([\d,]+) lines of code, with ([\d,]+) of proofs; (\d+) mutants", readme).groups()
+    near("lines of code", lines_, code)
+    near("lines of proofs", proved, proofs)
+    near("mutants", mutants, len(list(TOP.glob("crates/*/must-fail/*.edit"))))
+    row = re.search(r"^\| status 0 means the images, over any link \|([^|]*)", text("docs/PROOFS.md"), re.M)[1]
+    reached = counted("tests/reach.py", *re.findall(r"`([^`]*)`", row))
+    shown = re.search(r"about ([\d,]+) lines for status 0", readme)[1]
+    near("lines of definitions", shown, int(re.search(r"(\d+) lines", reached)[1]))
+    ours, others = (re.search(found, readme)[1] for found in (r"\| (\d+), and others by a part file", r"with ISP \| (\d+) "))
+    groups = re.findall(r"^\| [^|]* \| (\d+) \|", text("docs/PARTS.md"), re.M)
+    listed = re.search(r"of (\d+) classic AVRs", text("docs/PARTS.md"))[1]
+    same("parts", (ours, int(others)), (listed, int(listed) + sum(map(int, groups))))
+
+
+def the_time_of_a_comparison():
+    """README: the bytes that read 256 kB of flash, each of ten bits."""
+    block = [frame(1, 0x06, bytes(4)), frame(1, 0x06, 0), frame(1, 0x14, bytes(3)), frame(1, 0x14, bytes(258))]
+    seconds = 262_144 // 256 * sum(map(len, block)) * 10 / 115_200
+    see("README has it", f"the whole memory: {seconds:.0f} s at 115,200 baud" in text("README.md"), seconds)
+    see("WHY too", f"*Why does it take {seconds:.0f} seconds?*" in text("docs/WHY.md"), seconds)
+
+
 # ---- the toolchain
 
 
@@ -531,6 +599,9 @@ CASES = named(
     parts_that_want_others,
     the_recipe_of_an_ide,
     avrdude,
+    no_answer,
+    figures,
+    the_time_of_a_comparison,
 )
 
 
