@@ -143,7 +143,7 @@ def lacking():
         path = TOP / f"docs/{name}.md"
         given = set(re.findall(r"`([^`\n]*)`", path.read_text())) if path.exists() else ()
         laws = {it for it in given if re.fullmatch(r"[a-z\d]+(_[a-z\d]+){3,}", it)}
-        cited = {it for it in given if re.fullmatch(r"[A-Z]\w*\.(?!antt$)\w+", it)}
+        cited = {it for it in given if re.fullmatch(r"[A-Z]\w*\.(?!(?:antt|md)$)\w+", it)}
         wrong += [f"{path.name} names {it}, which is nowhere" for it in sorted((laws - functions) | (cited - defined))]
     return wrong
 
