@@ -559,7 +559,7 @@ def the_logic():
     if not shutil.which("rt"):
         return leave_out("the sum of the logic", "rt is not installed")
     ran = subprocess.run(["rt", "version"], capture_output=True, text=True)
-    named = {it for it in ("README.md", "CONTRIBUTING.md", "docs/PROOFS.md", "docs/LIBRARY.md") if "logic" in text(it)}
+    named = {it for it in ("README.md", "CONTRIBUTING.md", "docs/PROOFS.md", "docs/CHECK.md", "docs/LIBRARY.md") if "logic" in text(it)}
     see("README names it", "README.md" in named)
     for page in sorted(named):
         sums = set(re.findall(r"logic\s+([0-9a-f]{16})", text(page)))
