@@ -134,17 +134,22 @@ def with_figures(page):
 
 
 def lacking():
-    """Returns the definitions and laws that documents name and that aren't there. A law has at least four words."""
+    """Returns the definitions and laws that documents name and that aren't there: `File.name`; a name of several words
+    with capital letters, which may also be a type of Rust (docs/LIBRARY has std's, too); and a name of four words or more,
+    which is a law."""
+    sources = "\n".join(it.read_text() for it in TOP.glob("crates/*/src/**/*.rt"))
+    functions = set(re.findall(r"\bfn (\w+)", sources)) | {it.stem for it in TOP.glob("crates/*/must-fail/*.edit")}
+    types = set(re.findall(r"\b(?:struct|enum|trait|type) (\w+)", sources)) | {file for _, file in FILES}
     defined = {f"{file}.{name}" for (_, file), here in FILES.items() for name in here.definitions} | {"File.name"}
-    functions = {it for path in TOP.glob("crates/*/src/**/*.rt") for it in re.findall(r"\bfn (\w+)", path.read_text())}
-    functions |= {it.stem for it in TOP.glob("crates/*/must-fail/*.edit")}
+    alone = {name for here in FILES.values() for name in here.owner} | types
     wrong = []
     for name in NAMING:
         path = TOP / f"docs/{name}.md"
-        given = set(re.findall(r"`([^`\n]*)`", path.read_text())) if path.exists() else ()
-        laws = {it for it in given if re.fullmatch(r"[a-z\d]+(_[a-z\d]+){3,}", it)}
-        cited = {it for it in given if re.fullmatch(r"[A-Z]\w*\.(?!(?:antt|md)$)\w+", it)}
-        wrong += [f"{path.name} names {it}, which is nowhere" for it in sorted((laws - functions) | (cited - defined))]
+        given = set(re.findall(r"`([^`\n]*)`", path.read_text()))
+        lost = {it for it in given if re.fullmatch(r"[a-z\d]+(_[a-z\d]+){3,}", it)} - functions
+        lost |= {it for it in given if re.fullmatch(r"[A-Z]\w*\.(?!(?:antt|md)$)\w+", it)} - defined
+        lost |= {it for it in given if re.fullmatch(r"([A-Z][a-z]+){2,}", it) and name != "LIBRARY"} - alone
+        wrong += [f"{path.name} names {it}, which is nowhere" for it in sorted(lost)]
     return wrong
 
 
