@@ -1,6 +1,7 @@
 #!/usr/bin/env python3
 """Tests sentences of README, docs/USAGE, docs/PROTOCOL and docs/FORMATS. They are about `written` and status 0, commands
-after an error, timeouts, the detection of file formats, and AVRDUDE.
+after an error, timeouts, the detection of file formats, and AVRDUDE. Compares what docs/CHECK, CONTRIBUTING and
+tests/rattle/README quote of sources with these.
 
     tests/claims.py        needs a built program (program.py); rows with AVRDUDE 7.1 are left out without it
 
@@ -36,6 +37,11 @@ LOCKED = NEW[:-1] + b"\xfe"
 FULL = bytes(FLASH) + NEW[FLASH:]
 ENTER = bytes.fromhex("10 C8 64 19 20 00 53 03 AC 53 00 00")
 LEAVE = 0x11
+# the line at the end of a crate's check, as docs/CHECK has it
+PROVED = (
+    "logic=proved functions=.. sum=.. native=nat,char,string logic-built=trusted libraries-built=trusted"
+    " statements=trusted incremental=trusted"
+)
 
 
 def run(name, words, told, status=0, chip=None, **files):
@@ -560,12 +566,68 @@ def the_mutants():
     see("CONTRIBUTING: the number of mutants", most and edits <= int(most[1]), edits)
 
 
+def what_check_quotes():
+    """The law, mutants, files and lines of code that docs/CHECK quotes are there, and the mutant is tried."""
+    page = text("docs/CHECK.md")
+    law = re.search(r"^    \$ rt check --only laws::(\w+)$", page, re.M)[1]
+    see("the law", f"pub fn {law}()\n" in text("crates/avr_tool/src/laws.rt") and f"avr_tool::laws::{law}: proved" in page, law)
+    files = {it.rstrip(".") for it in re.findall(r"\bcrates/\w+(?:/[\w.-]+)*", page)}
+    for file in sorted(files):
+        see(f"there is {file}", (TOP / file).exists())
+    tried = re.search(r"^    \$ rt must-fail (\w+)$", page, re.M)[1]
+    see("the mutant is of that crate", f"crates/{tried}/must-fail/any_sequence.edit" in files, files)
+    words = lambda it: " ".join(it.split())
+    quoted = [it for it in page.splitlines() if it.startswith("    ") and not it.startswith(("    $", "    fn ", "    only="))]
+    sources = [f"crates/{it}" for it in (
+        "stk_host/must-fail/any_sequence.edit", "stk_host/src/listen.rt", "avr_image/must-fail/later_byte_loses.edit",
+        "avr_image/src/image.rt", "avr_image/specs/Image.antt")]
+    known = {words(row) for it in sources for row in text(it).splitlines()} | {words(PROVED)}
+    for row in quoted:
+        see(f"is in the sources: {row.strip()}", words(row) in known)
+    see("quotes something", len(quoted) > 20, quoted)
+
+
+def the_first_change():
+    """CONTRIBUTING's first change can be made: the text is once in the script, and once in the test."""
+    begun = re.search(r"replace `([^`]*)`\s+by", " ".join(text("CONTRIBUTING.md").split()))[1]
+    for file in ("avrstk-serial", "tests/serial.py"):
+        same(f"{file}: {begun}", text(file).count(begun), 1)
+    count = len(re.findall(r"^        \(\[", re.search(r"^def refused\(\):.*?^    def ran", text("tests/serial.py"), re.M | re.S)[0], re.M))
+    for told in (f"{count - 1} passed, 1 failed, 0 left out", f"{count} passed, 0 failed, 0 left out"):
+        see(f"the counts: {told}", f"`{told}`" in text("CONTRIBUTING.md"))
+
+
+def files_of_recipes():
+    """The files that CONTRIBUTING's table of changes names are there, each in the crate named before it."""
+    rows = re.search(r"^\| Change \| Files \|.*?\n\n", text("CONTRIBUTING.md"), re.M | re.S)[0]
+    crates = {it.name for it in (TOP / "crates").iterdir()}
+    crate = None
+    for word in re.findall(r"[\w/.]*\w", rows):
+        crate = word if word in crates else crate
+        if word.startswith("src/"):
+            see(f"{crate}/{word}", crate and (TOP / "crates" / crate / word).is_file() or word in ("src/messages.rt", "src/lib.rt"))
+        elif word.startswith("specs/") and word != "specs/Lines":
+            see(f"{crate}/{word}", crate and (TOP / "crates" / crate / f"{word}.antt").is_file())
+        elif word.startswith(("tests/", "tools/", "parts/")):
+            see(word, (TOP / word).exists())
+
+
+def counts_of_rattle():
+    """tests/rattle/README counts the calls of each run over failing devices as the test does."""
+    page, source = text("tests/rattle/README.md"), text("tests/rattle/runs_over_failing_devices.rs")
+    number = lambda it: eval(it, {"__builtins__": {}})
+    for what in ("link", "desk"):
+        counts = [number(it) for it in re.findall(rf"^    {what}_calls: ([\d +*]+),$", source, re.M)]
+        told = "{}, {}, {} and {}".format(*counts)
+        see(f"the calls of the {what}: {told}", f"({told})" in page, counts)
+
+
 def the_logic():
     """The checksum of the logic in the documents is that of the installed kit."""
     if not shutil.which("rt"):
         return leave_out("the sum of the logic", "rt is not installed")
     ran = subprocess.run(["rt", "version"], capture_output=True, text=True)
-    named = {it for it in ("README.md", "CONTRIBUTING.md", "docs/PROOFS.md", "docs/LIBRARY.md") if "logic" in text(it)}
+    named = {it for it in ("README.md", "CONTRIBUTING.md", "docs/PROOFS.md", "docs/CHECK.md", "docs/LIBRARY.md") if "logic" in text(it)}
     see("README names it", "README.md" in named)
     for page in sorted(named):
         sums = set(re.findall(r"logic\s+([0-9a-f]{16})", text(page)))
@@ -576,6 +638,10 @@ CASES = named(
     the_logic,
     the_time_of_the_whole,
     the_mutants,
+    what_check_quotes,
+    the_first_change,
+    files_of_recipes,
+    counts_of_rattle,
     written_is_no_more_than_answered,
     what_is_written_is_there,
     a_locked_chip_without_an_erase,

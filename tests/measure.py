@@ -35,7 +35,7 @@ TEST = re.compile(r"/src/(?:.*/)?(?:\w*tests?|examples)(?:/|\.rt)")
 AVOIDED = ["answers", "where", "stands", "so many", "told", "tell", "tells", "says", "is none"]
 LONG = 30
 COMMENT = {".rt": re.compile(r"^\s*//[/!]?(.*)"), ".antt": re.compile(r"^\s*--(.*)")}
-# code blocks, tables and titles, which aren't prose
+# code blocks, tables and titles, which aren't prose; the cells of tables are read one by one
 NO_PROSE = re.compile(r"^```.*?^```|^(?:\||#|    ).*?$", re.MULTILINE | re.DOTALL)
 PARAGRAPH = re.compile(r"\n\s*\n|\n(?=\s*(?:[-*]|\d+\.) )")
 SENTENCE = re.compile(r"(?<=[.!?])[*_)\"]*\s+(?=[*_(`\"]*[A-Z`\[])")
@@ -228,9 +228,11 @@ def comments_in(name):
 
 
 def long_sentences(name):
-    """Returns the sentences of a document with more than 30 words."""
-    prose = NO_PROSE.sub("\n\n", (TOP / name).read_text())
-    sentences = [it for paragraph in PARAGRAPH.split(prose) for it in SENTENCE.split(" ".join(paragraph.split()))]
+    """Returns the sentences of a document with more than 30 words, in paragraphs and in the cells of tables."""
+    text = (TOP / name).read_text()
+    cells = [it for row in text.splitlines() if row.startswith("|") for it in row.strip("| ").split(" | ")]
+    paragraphs = PARAGRAPH.split(NO_PROSE.sub("\n\n", text)) + cells
+    sentences = [it for paragraph in paragraphs for it in SENTENCE.split(" ".join(paragraph.split()))]
     return [it for it in sentences if len(it.split()) > LONG]
 
 

@@ -3,7 +3,8 @@
 
     tests/reach.py FILE.NAME ..      for these definitions of specs/; CRATE.FILE.NAME if several crates have one
     tests/reach.py -v ..             also lists them, file by file
-    tests/reach.py --check           compares the table of docs/PROOFS with the figures; --write writes them there
+    tests/reach.py --check           compares the table of docs/PROOFS with the figures; --write writes them there. It also
+                                     looks for each definition (`File.name`) and law that the documents name
 
 A definition reaches the definitions that its text names, in its own file or brought in by `use` lines. Definitions of std,
 of other libraries and of Rust (an enum, a struct) are listed but not counted. A variable with the name of a definition
@@ -17,6 +18,8 @@ from pathlib import Path
 
 TOP = Path(__file__).resolve().parent.parent
 PAGE = TOP / "docs/PROOFS.md"
+# the documents whose names are looked for
+NAMING = ("PROOFS", "PROMISES", "PROMISE", "CHECK", "LIBRARY")
 TABLE = "| Sentence | Definition | Definitions | Lines |"
 
 HEADER = re.compile(r"^\s*(?:(?:abbrev|unfoldable) pub|pub (?:record|data)) (\S+)")
@@ -130,14 +133,35 @@ def with_figures(page):
     return f"{head}{TABLE}" + "\n".join(made) + f"\n\n{behind}"
 
 
+def lacking():
+    """Returns the definitions and laws that documents name and that aren't there: `File.name`; a name of several words
+    with capital letters, which may also be a type of Rust (docs/LIBRARY has std's, too); and a name of four words or more,
+    which is a law."""
+    sources = "\n".join(it.read_text() for it in TOP.glob("crates/*/src/**/*.rt"))
+    functions = set(re.findall(r"\bfn (\w+)", sources)) | {it.stem for it in TOP.glob("crates/*/must-fail/*.edit")}
+    types = set(re.findall(r"\b(?:struct|enum|trait|type) (\w+)", sources)) | {file for _, file in FILES}
+    defined = {f"{file}.{name}" for (_, file), here in FILES.items() for name in here.definitions} | {"File.name"}
+    alone = {name for here in FILES.values() for name in here.owner} | types
+    wrong = []
+    for name in NAMING:
+        path = TOP / f"docs/{name}.md"
+        given = set(re.findall(r"`([^`\n]*)`", path.read_text()))
+        lost = {it for it in given if re.fullmatch(r"[a-z\d]+(_[a-z\d]+){3,}", it)} - functions
+        lost |= {it for it in given if re.fullmatch(r"[A-Z]\w*\.(?!(?:antt|md)$)\w+", it)} - defined
+        lost |= {it for it in given if re.fullmatch(r"([A-Z][a-z]+){2,}", it) and name != "LIBRARY"} - alone
+        wrong += [f"{path.name} names {it}, which is nowhere" for it in sorted(lost)]
+    return wrong
+
+
 def main(words):
-    if words in (["--check"], ["--write"]):
+    if words == ["--write"]:
+        return PAGE.write_text(with_figures(PAGE.read_text()))
+    if words == ["--check"]:
         page = PAGE.read_text()
-        same = with_figures(page) == page
-        if words == ["--write"]:
-            return PAGE.write_text(with_figures(page))
-        print("1 passed, 0 failed" if same else f"{PAGE.name} has other figures: tests/reach.py --write\n0 passed, 1 failed")
-        return sys.exit(0 if same else 1)
+        wrong = [] if with_figures(page) == page else [f"{PAGE.name} has other figures: tests/reach.py --write"]
+        wrong += lacking()
+        print("\n".join([*wrong, f"{int(not wrong)} passed, {len(wrong)} failed"]))
+        return sys.exit(int(bool(wrong)))
     roots = [definition(it) for it in words if it != "-v"] or sys.exit(__doc__)
     seen = reached(roots)
     files = sorted({(crate, file) for crate, file, _ in seen})
