@@ -418,7 +418,7 @@ def usage_is_met():
         for bring_about in (CASES[it] for it in CASES if it not in chosen(CASES)):
             bring_about()
     usage = (TOP / "docs/USAGE.md").read_text()
-    table = usage[usage.index("| Line | When |") : usage.index("What `clap` refuses")]
+    table = usage[usage.index("| Line | When |") :].split("\n\n")[0]
     for row in table.splitlines()[2:]:
         if row.startswith("|"):
             for line in alternatives(re.findall(r"`([^`]+)`", row.split("|")[1])):
@@ -433,8 +433,6 @@ def alternatives(texts):
     for text in texts[1:]:
         if text.startswith(("error: ", "warning: ")):
             whole.append(text)
-        elif first.endswith("written") and "N bytes" in first:
-            whole.append(first.replace("written", text))
         else:
             whole.append(first[: first.rindex(": ") + 2] + text)
     return whole

@@ -113,8 +113,8 @@ def code(rows):
     yield from [".RS 4", ".nf", *(line(escaped(it)) for it in rows), ".fi", ".RE"]
 
 
-def item(rows):
-    """Yields an item of a list, with its code."""
+def item(rows, shown):
+    """Yields an item of a list, with its code; `shown` makes of a text what the page has of it."""
     mark, first = re.match(r"(-|\d+\.) +(.*)", rows[0]).groups()
     yield ".IP \\(bu 2" if mark == "-" else f".IP {mark} 4"
     texts, blocks = [first], []
@@ -123,10 +123,10 @@ def item(rows):
             blocks.append(it[6:])
             continue
         if blocks and it.strip():
-            yield from [*filled(inline(" ".join(texts))), *code(blocks), ".IP \"\" 2"]
+            yield from [*filled(inline(shown(" ".join(texts)))), *code(blocks), ".IP \"\" 2"]
             texts, blocks = [], []
         texts += [it.strip()] if it.strip() else []
-    yield from filled(inline(" ".join(texts)))
+    yield from filled(inline(shown(" ".join(texts))))
     yield from code(blocks) if blocks else []
 
 
@@ -174,6 +174,8 @@ def places():
 def for_page(text, page, places):
     """Returns a text of USAGE for a man page: without references to the repository, and with the page's own headings."""
     text = re.sub(r"; docs/[A-Z]+(?=\))| \((?:docs/|CHANGELOG)[^()]*\)", "", text)
+    text = re.sub(r"; \[[A-Z]+\]\([^()]*\)(?=\))|\s\(\[[A-Z]+\]\([^()]*\)\)", "", text)
+    text = re.sub(r"\(\[([^]]+)\]\([A-Z]*(?:\.md)?#[^()]*\)\)", r'("\1")', text)
 
     def named(found):
         where = places.get(found[1])
@@ -186,6 +188,11 @@ def for_page(text, page, places):
 
 def made(page, section, only, places):
     """Yields the lines that a page takes from a section of USAGE."""
+
+    def shown(text):
+        sentences = re.split(r"(?<=[.?:]) (?=[A-Z`*(])", text)
+        return for_page(" ".join(it for it in sentences if not HERE_ALONE.search(it)), page, places)
+
     is_first = True
     for kind, rows in sections()[section]:
         if only not in (None, kind):
@@ -193,14 +200,13 @@ def made(page, section, only, places):
         if kind in ("table", "item"):
             while not rows[-1].strip():
                 rows.pop()
-            rows = [for_page(it, page, places) for it in rows if not HERE_ALONE.search(it)]
-            yield from table(rows) if kind == "table" else item(rows)
+            kept = [for_page(it, page, places) for it in rows if not HERE_ALONE.search(it)]
+            yield from table(kept) if kind == "table" else item(rows, shown)
         elif kind == "code":
             yield from [*([] if is_first else [".PP"]), *code([it[4:] for it in rows])]
         else:
-            sentences = re.split(r"(?<=[.?:]) (?=[A-Z`*(])", " ".join(it.strip() for it in rows))
-            text = " ".join(it for it in sentences if not HERE_ALONE.search(it))
-            yield from [*([] if is_first else [".PP"]), *filled(inline(for_page(text, page, places)))]
+            text = shown(" ".join(it.strip() for it in rows))
+            yield from [*([] if is_first else [".PP"]), *filled(inline(text))]
         is_first = False
 
 
@@ -263,7 +269,7 @@ def differences():
     """Yields USAGE's differences from AVRDUDE that single runs can show, each with the outcome and whether it is right."""
     usage = USAGE.read_text()
     table = re.search(r"^ +\$ cat parts.toml\n((?: +.*\n)+?) +\$ avrstk", usage, re.M)[1]
-    byte, end = re.search(r"`(:0100.*?)` and then\s+`(:.*?)`", usage).groups()
+    byte, end = re.search(r"`(:0100.*?)` and\s+then\s+`(:.*?)`", usage).groups()
     emulated = ["-p", "m328p", "-P", "emu:chip.bin"]
     files = {
         "parts.toml": "".join(it.strip() + "\n" for it in table.splitlines()),
