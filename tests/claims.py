@@ -1,5 +1,5 @@
 #!/usr/bin/env python3
-"""Tests sentences of README, the manual, docs/PROTOCOL and docs/FORMATS. They are about `written` and status 0, commands
+"""Tests sentences of README, docs/USAGE, docs/PROTOCOL and docs/FORMATS. They are about `written` and status 0, commands
 after an error, timeouts, the detection of file formats, and AVRDUDE.
 
     tests/claims.py        needs a built program (program.py); rows with AVRDUDE 7.1 are left out without it
