@@ -1,6 +1,6 @@
 #!/usr/bin/env python3
-"""Makes the built program print each line that a user can meet, and compares it with docs/USAGE. Checks that no line of
-USAGE is left out.
+"""Makes the built program print each line that a user can meet, and compares it with docs/TROUBLESHOOTING. Checks that no
+line there is left out.
 
     tests/lines.py [CASE ..]      needs a built program (program.py)
 """
@@ -27,7 +27,7 @@ ERASED = [SIGNATURE, "chip erased"]
 IMAGE_LIMIT = 4_194_304
 PART_FILE_LIMIT = 65_536
 
-# lines of USAGE that no row here causes, and the scripts that do
+# lines there that no row here causes, and the scripts that do
 ELSEWHERE = {
     "error: out of memory": "tests/faults.py refuses each request for memory",
     "error: too many reads": "reported after 16,777,216 reads, by the contract of the call that serves",
@@ -412,18 +412,18 @@ def runs_share_a_log():
 # ---- no line is left out
 
 
-def usage_is_met():
-    """Checks that each line of USAGE's table of messages was met above, or by another script. So this case is the last."""
+def each_line_was_met():
+    """Checks that each line of the table of messages was met above, or by another script. So this case is the last."""
     if len(chosen(CASES)) < len(CASES):
         for bring_about in (CASES[it] for it in CASES if it not in chosen(CASES)):
             bring_about()
-    usage = (TOP / "docs/USAGE.md").read_text()
-    table = usage[usage.index("| Line | When |") : usage.index("What `clap` refuses")]
+    page = (TOP / "docs/TROUBLESHOOTING.md").read_text()
+    table = page[page.index("| Line | When |") :].split("\n\n")[0]
     for row in table.splitlines()[2:]:
         if row.startswith("|"):
             for line in alternatives(re.findall(r"`([^`]+)`", row.split("|")[1])):
                 if line not in ELSEWHERE:
-                    see(f"USAGE's line `{line}` was met", any(re.fullmatch(pattern(line), it) for it in met))
+                    see(f"the line `{line}` was met", any(re.fullmatch(pattern(line), it) for it in met))
 
 
 def alternatives(texts):
@@ -433,15 +433,13 @@ def alternatives(texts):
     for text in texts[1:]:
         if text.startswith(("error: ", "warning: ")):
             whole.append(text)
-        elif first.endswith("written") and "N bytes" in first:
-            whole.append(first.replace("written", text))
         else:
             whole.append(first[: first.rindex(": ") + 2] + text)
     return whole
 
 
 def pattern(line):
-    """Returns a pattern for a line of USAGE."""
+    """Returns a pattern for a line of the table."""
     words = {"XX": "[0-9A-F]{2}", "ADDR": "[0-9A-F]{8}", "N": "[0-9]+", "MEM": "[a-z]+", "FIELD": "[a-z_]+"}
     words |= {name: ".*" for name in ["FILE", "ID", "TEXT", "NAME"]}
     return re.sub(r"\b[A-Z]+\b", lambda it: words.get(it[0], it[0]), re.escape(line))
@@ -466,7 +464,7 @@ CASES = named(
     long_lines,
     a_line_is_one_write,
     runs_share_a_log,
-    usage_is_met,
+    each_line_was_met,
 )
 
 if __name__ == "__main__":

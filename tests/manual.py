@@ -1,12 +1,12 @@
 #!/usr/bin/env python3
-"""Compares the man pages with docs/USAGE, and both with the options of the programs.
+"""Compares the man pages with the manual (docs/USAGE, EMULATOR, TROUBLESHOOTING, BOARDS), and both with the programs.
 
-    tests/manual.py [CASE ..]  docs/*.1 have the text from docs/USAGE.md, a man page's sections, and every option of --help;
+    tests/manual.py [CASE ..]  docs/*.1 have the manual's text, a man page's sections, and every option of --help;
                                mandoc and groff give no warning; USAGE, the completions and docs/PART name the options and
-                               parts of the program's --help; runs over `emu:` print what README and USAGE show; USAGE's
+                               parts of the program's --help; runs over `emu:` print what README and the manual show; USAGE's
                                differences from AVRDUDE are true: needs a built program (program.py)
-    tests/manual.py --write    writes the parts of docs/*.1 that come from docs/USAGE.md: each is between a comment with its
-                               section (and the kind of block, if only one kind is taken) and `.\\" end`
+    tests/manual.py --write    writes the parts of docs/*.1 that come from the manual: each is between a comment with its page,
+                               its section (and the kind of block, if only one kind is taken) and `.\\" end`
 """
 
 import re
@@ -21,13 +21,14 @@ from textwrap import wrap
 from cases import leave_out, named, run_cases, same, see
 from program import PROGRAM, TOP
 
-USAGE, BOARDS = TOP / "docs/USAGE.md", TOP / "docs/BOARDS.md"
+MANUAL = [TOP / f"docs/{it}.md" for it in ["USAGE", "EMULATOR", "TROUBLESHOOTING", "BOARDS"]]
+USAGE = MANUAL[0]
 PAGES = {it: TOP / f"docs/{it}.1" for it in ["avrstk", "avrstk-serial", "avrstk-serve"]}
 
 VERSION = (TOP / "VERSION").read_text().strip()
 
-# the first line of a part that comes from USAGE, with its section and a kind of block; and the last line
-MADE = re.compile(r'\.\\" docs/(?:USAGE|BOARDS)\.md, ([^:\n]+)(?:: (\w+))?')
+# the first line of a part that comes from the manual, with its section and a kind of block; and the last line
+MADE = re.compile(r'\.\\" docs/[A-Z]+\.md, ([^:\n]+)(?:: (\w+))?')
 END = '.\\" end'
 
 # the greatest width of a page's line, and of a tag as it is shown
@@ -113,8 +114,8 @@ def code(rows):
     yield from [".RS 4", ".nf", *(line(escaped(it)) for it in rows), ".fi", ".RE"]
 
 
-def item(rows):
-    """Yields an item of a list, with its code."""
+def item(rows, shown):
+    """Yields an item of a list, with its code; `shown` makes of a text what the page has of it."""
     mark, first = re.match(r"(-|\d+\.) +(.*)", rows[0]).groups()
     yield ".IP \\(bu 2" if mark == "-" else f".IP {mark} 4"
     texts, blocks = [first], []
@@ -123,10 +124,10 @@ def item(rows):
             blocks.append(it[6:])
             continue
         if blocks and it.strip():
-            yield from [*filled(inline(" ".join(texts))), *code(blocks), ".IP \"\" 2"]
+            yield from [*filled(inline(shown(" ".join(texts)))), *code(blocks), ".IP \"\" 2"]
             texts, blocks = [], []
         texts += [it.strip()] if it.strip() else []
-    yield from filled(inline(" ".join(texts)))
+    yield from filled(inline(shown(" ".join(texts))))
     yield from code(blocks) if blocks else []
 
 
@@ -149,9 +150,9 @@ def blocks_of(text):
 
 
 def sections():
-    """Returns the blocks of each section of USAGE, by its heading."""
+    """Returns the blocks of each section of the manual, by its heading."""
     found, blocks = {}, []
-    for kind, rows in blocks_of(USAGE.read_text() + BOARDS.read_text()):
+    for kind, rows in blocks_of("".join(it.read_text() for it in MANUAL)):
         if kind == "head":
             blocks = found.setdefault(rows[0].lstrip("# "), [])
         else:
@@ -160,7 +161,7 @@ def sections():
 
 
 def places():
-    """Returns the page and heading under which each section of USAGE is."""
+    """Returns the page and heading under which each section of the manual is."""
     found = {}
     for name, file in PAGES.items():
         heading = None
@@ -172,8 +173,10 @@ def places():
 
 
 def for_page(text, page, places):
-    """Returns a text of USAGE for a man page: without references to the repository, and with the page's own headings."""
+    """Returns a text of the manual for a man page: without references to the repository, and with the page's own headings."""
     text = re.sub(r"; docs/[A-Z]+(?=\))| \((?:docs/|CHANGELOG)[^()]*\)", "", text)
+    text = re.sub(r"; \[[A-Z]+\]\([^()]*\)(?=\))|\s\(\[[A-Z]+\]\([^()]*\)\)", "", text)
+    text = re.sub(r"\(\[([^]]+)\]\([A-Z]*(?:\.md)?#[^()]*\)\)", r'("\1")', text)
 
     def named(found):
         where = places.get(found[1])
@@ -185,7 +188,12 @@ def for_page(text, page, places):
 
 
 def made(page, section, only, places):
-    """Yields the lines that a page takes from a section of USAGE."""
+    """Yields the lines that a page takes from a section of the manual."""
+
+    def shown(text):
+        sentences = re.split(r"(?<=[.?:]) (?=[A-Z`*(])", text)
+        return for_page(" ".join(it for it in sentences if not HERE_ALONE.search(it)), page, places)
+
     is_first = True
     for kind, rows in sections()[section]:
         if only not in (None, kind):
@@ -193,19 +201,18 @@ def made(page, section, only, places):
         if kind in ("table", "item"):
             while not rows[-1].strip():
                 rows.pop()
-            rows = [for_page(it, page, places) for it in rows if not HERE_ALONE.search(it)]
-            yield from table(rows) if kind == "table" else item(rows)
+            kept = [for_page(it, page, places) for it in rows if not HERE_ALONE.search(it)]
+            yield from table(kept) if kind == "table" else item(rows, shown)
         elif kind == "code":
             yield from [*([] if is_first else [".PP"]), *code([it[4:] for it in rows])]
         else:
-            sentences = re.split(r"(?<=[.?:]) (?=[A-Z`*(])", " ".join(it.strip() for it in rows))
-            text = " ".join(it for it in sentences if not HERE_ALONE.search(it))
-            yield from [*([] if is_first else [".PP"]), *filled(inline(for_page(text, page, places)))]
+            text = shown(" ".join(it.strip() for it in rows))
+            yield from [*([] if is_first else [".PP"]), *filled(inline(text))]
         is_first = False
 
 
 def page(name):
-    """Returns a page with its parts from USAGE rewritten."""
+    """Returns a page with its parts from the manual rewritten."""
     rows, is_kept = [], True
     for row in PAGES[name].read_text().splitlines():
         is_kept |= row == END
@@ -263,7 +270,7 @@ def differences():
     """Yields USAGE's differences from AVRDUDE that single runs can show, each with the outcome and whether it is right."""
     usage = USAGE.read_text()
     table = re.search(r"^ +\$ cat parts.toml\n((?: +.*\n)+?) +\$ avrstk", usage, re.M)[1]
-    byte, end = re.search(r"`(:0100.*?)` and then\s+`(:.*?)`", usage).groups()
+    byte, end = re.search(r"`(:0100.*?)` and\s+then\s+`(:.*?)`", usage).groups()
     emulated = ["-p", "m328p", "-P", "emu:chip.bin"]
     files = {
         "parts.toml": "".join(it.strip() + "\n" for it in table.splitlines()),
@@ -309,9 +316,9 @@ NOT_INSTALLED = re.compile(r"\b(?:docs|examples|crates|tests|tools|parts)/|\./|\
 
 
 def pages_are_made():
-    """The man pages' parts from docs/USAGE.md are up to date."""
+    """The man pages' parts from the manual are up to date."""
     for name, file in PAGES.items():
-        see(f"docs/{name}.1 has what is made of docs/USAGE.md", file.read_text() == page(name), "tests/manual.py --write")
+        see(f"docs/{name}.1 has what is made of the manual", file.read_text() == page(name), "tests/manual.py --write")
 
 
 def pages_are_whole():
@@ -358,7 +365,7 @@ def pages_are_clean():
         see(f"{name}(1) is without warnings", not ran.returncode and not ran.stderr, ran.stderr[:300])
         plain = re.sub(r"\x1b\[[0-9;]*m|.\x08", "", ran.stdout)
         see(f"{name}(1) shows commands as they are typed", f"\n           {name} " in plain)
-        see(f"{name}(1) shows no mark of docs/USAGE", "`" not in plain and "**" not in plain)
+        see(f"{name}(1) shows no mark of the manual", "`" not in plain and "**" not in plain)
 
 
 def examples_of(name):
@@ -407,8 +414,8 @@ def runs_of_readme():
         see(what, holds)
 
 
-def runs_of_usage():
-    for what, holds in shown_runs("docs/USAGE.md"):
+def runs_of_manual():
+    for what, holds in (it for file in MANUAL for it in shown_runs(file.relative_to(TOP))):
         see(what, holds)
 
 
@@ -418,7 +425,7 @@ def differences_hold():
 
 
 PAGES_HOLD = [pages_are_made, pages_are_whole, pages_have_the_options, pages_are_clean, examples_run]
-CASES = named(*PAGES_HOLD, names_agree, version_agrees, runs_of_readme, runs_of_usage, differences_hold)
+CASES = named(*PAGES_HOLD, names_agree, version_agrees, runs_of_readme, runs_of_manual, differences_hold)
 
 
 def main():

@@ -1,6 +1,6 @@
 #!/usr/bin/env python3
-"""Runs the commands of README and docs/USAGE as typed, in a fresh clone after README's first command. Each ends with status
-0, none starts a build, and git sees no file that they made.
+"""Runs the commands of README and of the manual as typed, in a fresh clone after README's first command. Each ends with
+status 0, none starts a build, and git sees no file that they made.
 
     tests/recipes.py [CASE ..]      needs a built program (program.py), used as the clone's unproved program; commands with
                                     AVRDUDE are left out without AVRDUDE 7.1, and those with srec_cmp without srecord
@@ -141,9 +141,10 @@ def readme(clone):
 
 
 def usage(clone):
-    """Runs the commands of docs/USAGE; those for an installed avrstk use a program that install.sh has installed."""
+    """Runs the commands of docs/USAGE and EMULATOR; those for an installed avrstk use a program that install.sh has
+    installed."""
     clone.types(["./install.sh ~/.local"])
-    for commands in blocks("docs/USAGE.md"):
+    for commands in blocks("docs/USAGE.md") + blocks("docs/EMULATOR.md"):
         clone.tries(commands)
 
 
