@@ -38,7 +38,7 @@ PROGRAMS = {it.parent.parent.name: it.parent.parent / "out" for it in TOP.glob("
 # scripts that only read
 CHECKED = ("measure --check", "reach --check")
 # scripts that run no program of this project, or compile it themselves; the longest first
-SOURCES = ("rattle names", "rattle tests", "rattle programs", "rattle refused", "rattle documentation", "vendor", "build", *CHECKED)
+SOURCES = ("rattle names", "rattle tests", "rattle programs", "rattle refused", "vendor", "build", *CHECKED)
 # scripts over the library for C, which takes minutes to prove and build, so that only --all runs them
 LIBRARY = ("from_c", "others")
 # scripts that take seconds

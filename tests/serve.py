@@ -406,14 +406,19 @@ def status_of_sessions():
         same("its client is hung up on", client.recv(1), b"")
         os.kill(it.started.pid, term)
 
-    def lost(it, run, client):
-        (room.folder / "chip.bin.avrstk-new").unlink()
+    def exchange():
+        """Puts another file in the chip's place, with the same bytes."""
+        shutil.copy(room.folder / "chip.bin", room.folder / "other.bin")
+        (room.folder / "other.bin").replace(room.folder / "chip.bin")
+
+    def exchanged(it, run, client):
+        exchange()
         client.close()
         wait_for(lambda: not runs())
         os.kill(it.started.pid, term)
 
-    def lost_before(it, run, client):
-        (room.folder / "chip.bin.avrstk-new").unlink()
+    def exchanged_before(it, run, client):
+        exchange()
         os.kill(it.started.pid, term)
 
     def stuck(it, run, client):
@@ -427,8 +432,8 @@ def status_of_sessions():
         ("two, 4 ms apart", twice, 0, ""),
         ("two, and a slow run", twice_and_slow, 0, ""),
         ("the run is killed", killed, 1, failed("ended by signal 9")),
-        ("the new file is removed", lost, 1, unsaved),
-        ("the same, and SIGTERM in the session", lost_before, 1, unsaved),
+        ("another file is put in the chip's place", exchanged, 1, unsaved),
+        ("the same, and SIGTERM in the session", exchanged_before, 1, unsaved),
         ("a run that doesn't end", stuck, 1, failed("ended by signal 9")),
     ]
     for name, act, status, told in rows:
