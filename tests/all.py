@@ -51,7 +51,7 @@ BOTH = ("runs", "lines", "programmer")
 PROGRAM = ("faults", "cuts_and_stalls", "mega", "vendor proof", "calls", *QUICK)
 
 LANES = len(os.sched_getaffinity(0))
-# scripts that no proof waits for take the processors that rt ci leaves idle
+# scripts that no proof waits for give way to rt ci (but not what `rt try` starts, in a session of its own)
 LAST = ("nice", "-n", "10")
 # the most memory that a check needs, in kB
 CHECK = 3_000_000
