@@ -600,8 +600,9 @@ def mounted():
 
 
 def stormy():
-    """Runs over one chip for a while, some at a time, beside one that removes and one that plants files of the lock file's
-    name, and one that kills runs. What each run with status 0 wrote is in the chip; it is whole whenever it is seen."""
+    """Runs over one chip for a while, some at a time, beside one that removes files of the names that runs use, one that
+    plants others there, and one that kills runs. What each run with status 0 wrote is in the chip; it is whole whenever it
+    is seen."""
     room.clear()
     room.put("chip.bin", FRESH)
     chance, ends = random.Random(7), time.monotonic() + STORM
@@ -619,8 +620,12 @@ def stormy():
         if (room.folder / "chip.bin").stat().st_size != CHIP_FILE:
             odd.add(room.read("chip.bin"))
 
+    def name():
+        return chance.choice([*room.folder.glob("chip.bin.avrstk-*"), room.folder / LOCK_FILE])
+
     def plant():
-        path = room.folder / LOCK_FILE
+        path = name()
+        path.unlink(missing_ok=True)
         chance.choice([path.touch, lambda: path.symlink_to("planted"), lambda: path.hardlink_to(room.folder / "chip.bin")])()
 
     def kill():
@@ -638,7 +643,7 @@ def stormy():
     for place in range(1024):
         data = [1, place >> 8, place & 255, 0, place % 255]
         room.put(f"e{place}", f":{bytes([*data, -sum(data) & 255]).hex().upper()}\n:00000001FF\n".encode())
-    beside_it = [(0.001, seen), (0.03, (room.folder / LOCK_FILE).unlink), (0.05, plant), (0.4, lambda: live and kill())]
+    beside_it = [(0.001, seen), (0.03, lambda: name().unlink()), (0.05, plant), (0.4, lambda: live and kill())]
     threads = [threading.Thread(target=until_it_ends, args=it) for it in beside_it]
     threads += [threading.Thread(target=runs, args=(it, 6)) for it in range(6)]
     for it in threads:
