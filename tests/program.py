@@ -140,6 +140,18 @@ def port_of(kept):
     return kept.getsockname()[1]
 
 
+def read_whole(terminal):
+    """Returns all that comes from a terminal until its other side is closed."""
+    got = b""
+    try:
+        while piece := os.read(terminal, 65_536):
+            got += piece
+    except OSError:
+        # (the other side was closed)
+        pass
+    return got
+
+
 def listens_at(port):
     """Returns whether a process listens at this port of 127.0.0.1. It doesn't call: the first caller is served."""
     return LISTENS.format(port) in Path("/proc/net/tcp").read_text()

@@ -30,7 +30,7 @@ from pathlib import Path
 
 from cases import PATIENCE, leave_out, named, run_cases, same, see
 from line import frames_of
-from program import PROGRAM, TOP, Room, Server, forks, frame, free_port, has_avrdude, lines, listens_at
+from program import PROGRAM, TOP, Room, Server, forks, frame, free_port, has_avrdude, lines, listens_at, read_whole
 
 SCRIPT, SHARED = TOP / "avrstk-serial", TOP / "avrstk_common.py"
 PYTHON = shutil.which("python3", path="/usr/bin:/bin") or sys.executable
@@ -827,12 +827,7 @@ def on_a_terminal(words, answer=None):
     kills = threading.Timer(60, started.kill)
     kills.start()
     os.close(slave)
-    got = b""
-    try:
-        while heard := os.read(line, 65_536):
-            got += heard
-    except OSError:
-        pass
+    got = read_whole(line)
     kills.cancel()
     it.end()
     os.close(line)

@@ -17,7 +17,8 @@ import time
 from pathlib import Path
 
 from cases import PATIENCE, leave_out, named, run_cases, same, see
-from program import ANSWERS, CHIP_FILE, ENDS, FRAMES, PROGRAM, TOP, Room, frame, free_port, kept_port, lines, port_of
+from program import ANSWERS, CHIP_FILE, ENDS, FRAMES, PROGRAM, TOP, Room
+from program import frame, free_port, kept_port, lines, port_of, read_whole
 
 SCRIPT = TOP / "avrstk-serve"
 M328P = ["-p", "m328p", "--chip", "chip.bin"]
@@ -595,13 +596,7 @@ def devices():
         same("the chip", room.read("chip.bin")[:1024], room.read("whole.bin"))
         idle = os.open(link, os.O_RDWR | os.O_NOCTTY)
         os.write(idle, FRAMES[0])
-        got = b""
-        try:
-            while piece := os.read(idle, 100):
-                got += piece
-        except OSError:
-            pass
-        same("an idle client is hung up on after its reply", got, ANSWERS[: ENDS[0]])
+        same("an idle client is hung up on after its reply", read_whole(idle), ANSWERS[: ENDS[0]])
         os.close(idle)
         told = "avrstk-serve: a client sent nothing for 0.5 seconds: hung up\n"
         same("it ends", it.end(), (0, told))

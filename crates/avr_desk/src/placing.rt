@@ -1,6 +1,6 @@
 //! What is put in place of a file, and what becomes of files beside it: decisions that take what was seen and call
 //! nothing.
-ghost use Rattle.std.specs.Prelude.{◌≡◌, ◌==◌, ◌&&◌, ◌||◌, if◌then◌else◌, true, not, bit_and, nat_le};
+ghost use Rattle.std.specs.Prelude.{◌≡◌, ◌==◌, ◌&&◌, ◌||◌, ◌%◌, ◌*◌, if◌then◌else◌, not, bit_and, bit_or, nat_le};
 ghost use Rattle.avr_desk.specs.declared.placing.Step.TheVariants.{Link, Rename, Refuse};
 
 /// The mode bits that a new file takes over from the old one: no setuid, no setgid.
@@ -40,13 +40,15 @@ pub(crate) fn is_left_over(is_file: bool, names: u64, length: u64, mode: u32) ->
     is_file && names <= 1 && (length == 0 || mode & MARK != 0)
 }
 
-/// Returns the permissions of a new file from the old one's mode. If it has another group, that gets what everyone had.
+/// Returns the permissions of a new file from the old one's mode. If it has another group, that gets only those of the
+/// old group's rights that everyone had.
 pub(crate) fn permissions_after(mode: u32, is_of_group: bool) -> u32
-    ensures { is_of_group ≡ true → result ≡ bit_and mode 0o777 }
+    ensures { result ≡ (if is_of_group then bit_and mode 0o777
+        else bit_or (bit_and mode 0o707) (bit_and mode (mode % 8 * 8))) }
 {
     if is_of_group {
         mode & PERMISSIONS
     } else {
-        mode & 0o707 | (mode & mode << 3 & 0o070)
+        mode & 0o707 | (mode & (mode % 8 * 8))
     }
 }

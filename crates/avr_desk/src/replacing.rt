@@ -3,9 +3,9 @@
 //! A program that has locked a file holds it. If there is no such file yet, it locks an empty one beside it, under its
 //! name with `.avrstk-new`. If a program ends, the system unlocks it.
 //!
-//! The bytes are written to a new file beside the old one, which this program alone has made, opened and locked. On
-//! the disk, it is renamed. No other file is put in place, and one that no program here can have made
-//! is left alone.
+//! The bytes are written to a new file beside the old one, which this program alone has made, opened and locked. Once
+//! it is on the disk, it is renamed. No other file is put in place, and one that no program here can have made is left
+//! alone.
 ghost use Rattle.std.specs.Prelude.{Option, OnErr, OnOk};
 ghost use Rattle.avr_desk.specs.Handles.{IsHeldBy};
 ghost use Rattle.avr_desk.specs.Journal.{Does, making};
