@@ -1,5 +1,5 @@
 //! Chip files that are missing, complete or of the wrong length, and desks that fail.
-use avr_desk::{Desk, FailingDesk, MemDesk};
+use avr_desk::{ChipDesk, Desk, FailingDesk, MemDesk};
 use avr_emulator::{hold_chip, load_chip, save_chip};
 use avr_part::{Chip, Mem, Part, PartFault, Parts};
 use std::alloc::{AllocError, Global};
@@ -101,7 +101,7 @@ fn fails_to_hold(alloc: Global, n: u64, line: &str) -> Result<bool, Fail> {
 }
 
 /// Returns whether this chip can be saved.
-fn saves<D: Desk>(alloc: Global, held: &Result<Chip, u8>, desk: &mut D) -> bool {
+fn saves<D: ChipDesk>(alloc: Global, held: &Result<Chip, u8>, desk: &mut D) -> bool {
     match held {
         Ok(chip) => save_chip(alloc, chip, "chip.bin", desk) == Ok(()),
         Err(_) => false,
@@ -130,7 +130,7 @@ fn a_desk_that_fails(rt: HostRuntime) -> Result<(), Fail> {
 }
 
 /// Loads the chip of `chip.bin`, and holds the file.
-fn hold<D: Desk>(alloc: Global, desk: &mut D) -> Result<Result<Chip, u8>, PartFault> {
+fn hold<D: ChipDesk>(alloc: Global, desk: &mut D) -> Result<Result<Chip, u8>, PartFault> {
     Ok(hold_chip(alloc, &m328p()?, "chip.bin", desk))
 }
 

@@ -1,7 +1,7 @@
 //! Calls that succeed, and the desk of a program over real files.
 use avr_desk::{
-    Bytes, Desk, DeskCall, DeskFault, FailingDesk, FileFault, MemDesk, Stream, SystemDesk,
-    WatchDesk, WatchedDesk, read_file, write_all,
+    Bytes, ChipDesk, Desk, DeskCall, DeskFault, FailingDesk, FileFault, MemDesk, Stream,
+    SystemDesk, WatchDesk, WatchedDesk, read_file, write_all,
 };
 use std::alloc::{AllocError, Global};
 use std::io::{self, ErrorKind, Write};

@@ -1,10 +1,14 @@
 //! A desk that fails by plan, for tests of its callers.
 ghost use Rattle.std.specs.Prelude.{◌≡◌, ◌≤◌, ◌-◌, ◌==◌, length, IfOk, IfErr, MatchBool};
-ghost use Rattle.avr_desk.specs.Failing.{count_after};
+ghost use Rattle.avr_desk.specs.Failing.{FailsWhenDue, count_after, failing_state};
+ghost use Rattle.avr_desk.specs.Record.{Passes, after_open, after_create, after_hold, after_read, after_replace, released, HasOpen, is_to_read, is_to_write};
+ghost use Rattle.avr_desk.specs.Fault.{Counts, WriteCounts};
+ghost use Rattle.avr_desk.specs.Stream.{SendsTaken};
+ghost use Rattle.avr_desk.specs.declared.stream.Stream.TheVariants.{File, Output, Messages};
 ghost use Rattle.ghosts.specs.Failures.{HasRisen};
 ghost use Rattle.ghosts.specs.Stays.{Stays};
 
-use crate::desk::{Desk, DeskFault};
+use crate::desk::{ChipDesk, Desk, DeskFault};
 use std::marker::Model;
 
 /// A desk whose nth call fails: it returns the fault and raises the count. All other calls go to the inner desk.
@@ -64,12 +68,6 @@ impl<D> FailingDesk<D> {
 }
 
 impl<D: Desk> Desk for FailingDesk<D> {
-    ghost use Rattle.avr_desk.specs.Record.{Passes, after_open, after_create, after_hold, after_read, after_replace, released, HasOpen, is_to_read, is_to_write};
-    ghost use Rattle.avr_desk.specs.Fault.{Counts, WriteCounts};
-    ghost use Rattle.avr_desk.specs.Stream.{SendsTaken};
-    ghost use Rattle.avr_desk.specs.declared.stream.Stream.TheVariants.{File, Output, Messages};
-    ghost use Rattle.avr_desk.specs.Failing.{FailsWhenDue, failing_state};
-
     ghost view = { λ d. failing_state (D.view d.inner) d };
 
     ghost Start = { D.Start };
@@ -103,45 +101,6 @@ impl<D: Desk> Desk for FailingDesk<D> {
             return Err(DeskFault::Failed);
         }
         self.inner.create(name)
-    }
-
-    fn hold(&mut self, name: &str) -> Result<bool, DeskFault>
-        ensures kept { Passes (after_hold name.now result) (D.view self.old.inner) (D.view self.new.inner) }
-        ensures counts { Counts File (failing_state (D.view self.old.inner) self.old)
-            (failing_state (D.view self.new.inner) self.new) result }
-        ensures fault { IfErr result (λ e. e ≡ DeskFault.Failed) }
-        ensures when_due { FailsWhenDue File (Counts File (D.view self.old.inner) (D.view self.new.inner) result)
-            self.old self.new result }
-        ensures stays { Stays D.comes_of self.old.inner self.new.inner }
-    {
-        if self.is_due() {
-            return Err(DeskFault::Failed);
-        }
-        self.inner.hold(name)
-    }
-
-    fn release(&mut self)
-        ensures released { D.view self.new.inner ≡ released (D.view self.old.inner) }
-        ensures quiet { self.new ≡ record self.old { inner = self.new.inner } }
-        ensures stays { Stays D.comes_of self.old.inner self.new.inner }
-    {
-        self.inner.release();
-    }
-
-    fn replace(&mut self, name: &str, bytes: &[u8]) -> Result<(), DeskFault>
-        ensures kept { Passes (after_replace name.now bytes.now result)
-            (D.view self.old.inner) (D.view self.new.inner) }
-        ensures counts { Counts File (failing_state (D.view self.old.inner) self.old)
-            (failing_state (D.view self.new.inner) self.new) result }
-        ensures fault { IfErr result (λ e. e ≡ DeskFault.Failed) }
-        ensures when_due { FailsWhenDue File (Counts File (D.view self.old.inner) (D.view self.new.inner) result)
-            self.old self.new result }
-        ensures stays { Stays D.comes_of self.old.inner self.new.inner }
-    {
-        if self.is_due() {
-            return Err(DeskFault::Failed);
-        }
-        self.inner.replace(name, bytes)
     }
 
     fn read(&mut self, buf: &mut [u8]) -> Result<usize, DeskFault>
@@ -209,5 +168,46 @@ impl<D: Desk> Desk for FailingDesk<D> {
             return Err(DeskFault::Failed);
         }
         self.inner.err(bytes)
+    }
+}
+
+impl<D: ChipDesk> ChipDesk for FailingDesk<D> {
+    fn hold(&mut self, name: &str) -> Result<bool, DeskFault>
+        ensures kept { Passes (after_hold name.now result) (D.view self.old.inner) (D.view self.new.inner) }
+        ensures counts { Counts File (failing_state (D.view self.old.inner) self.old)
+            (failing_state (D.view self.new.inner) self.new) result }
+        ensures fault { IfErr result (λ e. e ≡ DeskFault.Failed) }
+        ensures when_due { FailsWhenDue File (Counts File (D.view self.old.inner) (D.view self.new.inner) result)
+            self.old self.new result }
+        ensures stays { Stays D.comes_of self.old.inner self.new.inner }
+    {
+        if self.is_due() {
+            return Err(DeskFault::Failed);
+        }
+        self.inner.hold(name)
+    }
+
+    fn release(&mut self)
+        ensures released { D.view self.new.inner ≡ released (D.view self.old.inner) }
+        ensures quiet { self.new ≡ record self.old { inner = self.new.inner } }
+        ensures stays { Stays D.comes_of self.old.inner self.new.inner }
+    {
+        self.inner.release();
+    }
+
+    fn replace(&mut self, name: &str, bytes: &[u8]) -> Result<(), DeskFault>
+        ensures kept { Passes (after_replace name.now bytes.now result)
+            (D.view self.old.inner) (D.view self.new.inner) }
+        ensures counts { Counts File (failing_state (D.view self.old.inner) self.old)
+            (failing_state (D.view self.new.inner) self.new) result }
+        ensures fault { IfErr result (λ e. e ≡ DeskFault.Failed) }
+        ensures when_due { FailsWhenDue File (Counts File (D.view self.old.inner) (D.view self.new.inner) result)
+            self.old self.new result }
+        ensures stays { Stays D.comes_of self.old.inner self.new.inner }
+    {
+        if self.is_due() {
+            return Err(DeskFault::Failed);
+        }
+        self.inner.replace(name, bytes)
     }
 }

@@ -38,7 +38,7 @@ mod laws;
 
 pub use bounded::Bounded;
 pub use bytes::Bytes;
-pub use desk::{Desk, DeskFault};
+pub use desk::{ChipDesk, Desk, DeskFault};
 pub use failing::FailingDesk;
 pub use file_system::FileSystem;
 pub use files::{Contents, FileFault, read_file};

@@ -3,7 +3,7 @@ ghost use Rattle.std.specs.Prelude.{◌≡◌, ◌≤◌, ◌++◌, ◌∷◌, �
 ghost use Rattle.std.specs.Option.{option_copied};
 
 use crate::bytes::Bytes;
-use crate::desk::{Desk, DeskFault};
+use crate::desk::{ChipDesk, Desk, DeskFault};
 use crate::kept::Kept;
 use crate::record::{FileUse, Open, Reading, Writing, newest};
 use std::alloc::{AllocError, Global};
@@ -196,10 +196,9 @@ impl MemDesk {
 }
 
 impl Desk for MemDesk {
-    ghost use Rattle.avr_desk.specs.Record.{after_open, after_create, after_hold, after_read, after_replace, released, with_none_held, after_write, after_out, after_err, bytes_taken, is_to_read, is_to_write};
+    ghost use Rattle.avr_desk.specs.Record.{after_open, after_create, after_read, after_write, after_out, after_err, bytes_taken, is_to_read, is_to_write};
     ghost use Rattle.avr_desk.specs.Fault.{Counts, WriteCounts};
     ghost use Rattle.avr_desk.specs.Memory.{contents, memory_state, Stock, unread_bytes};
-    ghost use Rattle.avr_desk.specs.Named.{holds};
     ghost use Rattle.avr_desk.specs.Truth.{HoldsTrue};
     ghost use Rattle.ghosts.specs.Stays.{Stays};
     ghost use Rattle.avr_desk.specs.declared.stream.Stream.TheVariants.{File, Output, Messages};
@@ -266,60 +265,6 @@ impl Desk for MemDesk {
             .begin(Open::ToWrite(Writing { name, bytes }))
             .is_err()
         {
-            return Err(self.fail());
-        }
-        Ok(())
-    }
-
-    #[tactic(auto, using(crate::proofs::Desks::InMemory::same_true))]
-    fn hold(&mut self, name: &str) -> Result<bool, DeskFault>
-        ensures free { IfOk result (λ b. b ≡ not (holds name.now self.old.kept)) }
-        ensures kept { self.new ≡ record self.old {
-          kept = after_hold name.now result self.old.kept;
-          failures = self.new.failures;
-        } }
-        ensures counts { Counts File (memory_state self.old) (memory_state self.new) result }
-        ensures fault { IfErr result (λ e. e ≡ DeskFault.Failed) }
-        ensures stays { Stays HoldsTrue self.old self.new }
-    {
-        let Ok(own_name) = Bytes::copied(self.alloc, name.as_bytes()) else {
-            return Err(self.fail());
-        };
-        if !self.kept.holds(name.as_bytes()) {
-            self.kept.hold(own_name);
-            return Ok(true);
-        }
-        if self.kept.deny(own_name).is_err() {
-            return Err(self.fail());
-        }
-        Ok(false)
-    }
-
-    #[tactic(auto, using(crate::proofs::Desks::InMemory::same_true))]
-    fn release(&mut self)
-        ensures kept { self.new ≡ record self.old { kept = with_none_held self.old.kept } }
-        ensures stays { Stays HoldsTrue self.old self.new }
-    {
-        self.kept.release();
-    }
-
-    #[tactic(auto, using(crate::proofs::Desks::InMemory::same_true))]
-    fn replace(&mut self, name: &str, bytes: &[u8]) -> Result<(), DeskFault>
-        ensures kept { self.new ≡ record self.old {
-          kept = after_replace name.now bytes.now result self.old.kept;
-          failures = self.new.failures;
-        } }
-        ensures counts { Counts File (memory_state self.old) (memory_state self.new) result }
-        ensures fault { IfErr result (λ e. e ≡ DeskFault.Failed) }
-        ensures stays { Stays HoldsTrue self.old self.new }
-    {
-        let Ok(name) = Bytes::copied(self.alloc, name.as_bytes()) else {
-            return Err(self.fail());
-        };
-        let Ok(bytes) = Bytes::copied(self.alloc, bytes) else {
-            return Err(self.fail());
-        };
-        if self.kept.add(Writing { name, bytes }).is_err() {
             return Err(self.fail());
         }
         Ok(())
@@ -405,5 +350,69 @@ impl Desk for MemDesk {
             return Err(self.fail_to_say());
         }
         Ok(bytes.len())
+    }
+}
+
+impl ChipDesk for MemDesk {
+    ghost use Rattle.avr_desk.specs.Record.{after_hold, after_replace, with_none_held};
+    ghost use Rattle.avr_desk.specs.Fault.{Counts};
+    ghost use Rattle.avr_desk.specs.Memory.{memory_state};
+    ghost use Rattle.avr_desk.specs.Named.{holds};
+    ghost use Rattle.avr_desk.specs.Truth.{HoldsTrue};
+    ghost use Rattle.ghosts.specs.Stays.{Stays};
+    ghost use Rattle.avr_desk.specs.declared.stream.Stream.TheVariants.{File};
+
+    #[tactic(auto, using(crate::proofs::Desks::InMemory::same_true))]
+    fn hold(&mut self, name: &str) -> Result<bool, DeskFault>
+        ensures free { IfOk result (λ b. b ≡ not (holds name.now self.old.kept)) }
+        ensures kept { self.new ≡ record self.old {
+          kept = after_hold name.now result self.old.kept;
+          failures = self.new.failures;
+        } }
+        ensures counts { Counts File (memory_state self.old) (memory_state self.new) result }
+        ensures fault { IfErr result (λ e. e ≡ DeskFault.Failed) }
+        ensures stays { Stays HoldsTrue self.old self.new }
+    {
+        let Ok(own_name) = Bytes::copied(self.alloc, name.as_bytes()) else {
+            return Err(self.fail());
+        };
+        if !self.kept.holds(name.as_bytes()) {
+            self.kept.hold(own_name);
+            return Ok(true);
+        }
+        if self.kept.deny(own_name).is_err() {
+            return Err(self.fail());
+        }
+        Ok(false)
+    }
+
+    #[tactic(auto, using(crate::proofs::Desks::InMemory::same_true))]
+    fn release(&mut self)
+        ensures kept { self.new ≡ record self.old { kept = with_none_held self.old.kept } }
+        ensures stays { Stays HoldsTrue self.old self.new }
+    {
+        self.kept.release();
+    }
+
+    #[tactic(auto, using(crate::proofs::Desks::InMemory::same_true))]
+    fn replace(&mut self, name: &str, bytes: &[u8]) -> Result<(), DeskFault>
+        ensures kept { self.new ≡ record self.old {
+          kept = after_replace name.now bytes.now result self.old.kept;
+          failures = self.new.failures;
+        } }
+        ensures counts { Counts File (memory_state self.old) (memory_state self.new) result }
+        ensures fault { IfErr result (λ e. e ≡ DeskFault.Failed) }
+        ensures stays { Stays HoldsTrue self.old self.new }
+    {
+        let Ok(name) = Bytes::copied(self.alloc, name.as_bytes()) else {
+            return Err(self.fail());
+        };
+        let Ok(bytes) = Bytes::copied(self.alloc, bytes) else {
+            return Err(self.fail());
+        };
+        if self.kept.add(Writing { name, bytes }).is_err() {
+            return Err(self.fail());
+        }
+        Ok(())
     }
 }

@@ -14,7 +14,7 @@ ghost use Rattle.avr_desk.specs.declared.desk.DeskFault.TheVariants.{Failed};
 ghost use Rattle.avr_desk.specs.declared.stream.Stream.TheVariants.{File, Output, Messages};
 ghost use Rattle.avr_desk.specs.declared.system.OpenFile.TheVariants.{Nothing};
 
-use crate::desk::{Desk, DeskFault};
+use crate::desk::{ChipDesk, Desk, DeskFault};
 use crate::file_system::FileSystem;
 use crate::journal::{Call, Journal};
 use crate::replacing::replace_named;
@@ -265,74 +265,6 @@ impl<R: FileSystem + Drop, O: Outlet + Drop, E: Outlet + Drop> Desk for SystemDe
         }
     }
 
-    fn hold(&mut self, name: &str) -> Result<bool, DeskFault>
-        ensures kept { Passes (after_hold name.now result) (shown_state self.old) (shown_state self.new) }
-        ensures counts { Counts File (shown_state self.old) (shown_state self.new) result }
-        ensures fault { IfErr result (λ e. e ≡ Failed) }
-        ensures quiet { self.new ≡ record self.old {
-          system = self.new.system;
-          failures = self.new.failures;
-          last_error = self.new.last_error;
-          hold = self.new.hold;
-          kept = self.new.kept;
-        } }
-        ensures error { KeepsError self.old.last_error self.new.last_error result }
-        ensures stays { Stays (IsTrueSince R.FileSystem R.File.Read R.File.Write R.Input.Read O.Write E.Write)
-            self.old self.new }
-    {
-        match self.system.hold_named(name) {
-            Ok(Some(hold)) => {
-                self.leave_replacement();
-                self.replacement = Some(hold);
-                self.journal = self.journal.then(&Call::Held(name.as_bytes()));
-                Ok(true)
-            }
-            Ok(None) => {
-                self.journal = self.journal.then(&Call::Denied(name.as_bytes()));
-                Ok(false)
-            }
-            Err(error) => Err(fail(&mut self.failures, &mut self.last_error, &error)),
-        }
-    }
-
-    fn release(&mut self)
-        ensures released { shown_state self.new ≡ released (shown_state self.old) }
-        ensures quiet { self.new ≡ record self.old { system = self.new.system; hold = None; kept = self.new.kept } }
-        ensures stays { Stays (IsTrueSince R.FileSystem R.File.Read R.File.Write R.Input.Read O.Write E.Write)
-            self.old self.new }
-    {
-        self.leave_replacement();
-        self.journal = self.journal.then(&Call::Released);
-    }
-
-    fn replace(&mut self, name: &str, bytes: &[u8]) -> Result<(), DeskFault>
-        ensures kept { Passes (after_replace name.now bytes.now result) (shown_state self.old) (shown_state self.new) }
-        ensures counts { Counts File (shown_state self.old) (shown_state self.new) result }
-        ensures fault { IfErr result (λ e. e ≡ Failed) }
-        ensures quiet { self.new ≡ record self.old {
-          system = self.new.system;
-          failures = self.new.failures;
-          last_error = self.new.last_error;
-          opened = self.new.opened;
-          hold = self.new.hold;
-          kept = self.new.kept;
-        } }
-        ensures goes { to_output self.new ≡ to_output_replaced result (to_output self.old) }
-        ensures error { KeepsError self.old.last_error self.new.last_error result }
-        ensures stays { Stays (IsTrueSince R.FileSystem R.File.Read R.File.Write R.Input.Read O.Write E.Write)
-            self.old self.new }
-    {
-        match replace_named(&mut self.system, &mut self.replacement, name, bytes) {
-            Ok(()) => {
-                self.leave_replacement();
-                open_next(&mut self.system, &mut self.opened, OpenFile::Nothing);
-                self.journal = self.journal.then(&Call::Replaced(name.as_bytes(), bytes));
-                Ok(())
-            }
-            Err(error) => Err(fail(&mut self.failures, &mut self.last_error, &error)),
-        }
-    }
-
     fn read(&mut self, buf: &mut [u8]) -> Result<usize, DeskFault>
         ensures bound { IfOk result (λ n. n ≤ length buf.new) }
         ensures kept { Passes (after_read buf.new result) (shown_state self.old) (shown_state self.new) }
@@ -463,6 +395,76 @@ impl<R: FileSystem + Drop, O: Outlet + Drop, E: Outlet + Drop> Desk for SystemDe
                 raise(&mut self.unsaid);
                 Err(fail(&mut self.failures, &mut self.last_error, &error))
             }
+        }
+    }
+}
+
+impl<R: FileSystem + Drop, O: Outlet + Drop, E: Outlet + Drop> ChipDesk for SystemDesk<R, O, E> {
+    fn hold(&mut self, name: &str) -> Result<bool, DeskFault>
+        ensures kept { Passes (after_hold name.now result) (shown_state self.old) (shown_state self.new) }
+        ensures counts { Counts File (shown_state self.old) (shown_state self.new) result }
+        ensures fault { IfErr result (λ e. e ≡ Failed) }
+        ensures quiet { self.new ≡ record self.old {
+          system = self.new.system;
+          failures = self.new.failures;
+          last_error = self.new.last_error;
+          hold = self.new.hold;
+          kept = self.new.kept;
+        } }
+        ensures error { KeepsError self.old.last_error self.new.last_error result }
+        ensures stays { Stays (IsTrueSince R.FileSystem R.File.Read R.File.Write R.Input.Read O.Write E.Write)
+            self.old self.new }
+    {
+        match self.system.hold_named(name) {
+            Ok(Some(hold)) => {
+                self.leave_replacement();
+                self.replacement = Some(hold);
+                self.journal = self.journal.then(&Call::Held(name.as_bytes()));
+                Ok(true)
+            }
+            Ok(None) => {
+                self.journal = self.journal.then(&Call::Denied(name.as_bytes()));
+                Ok(false)
+            }
+            Err(error) => Err(fail(&mut self.failures, &mut self.last_error, &error)),
+        }
+    }
+
+    fn release(&mut self)
+        ensures released { shown_state self.new ≡ released (shown_state self.old) }
+        ensures quiet { self.new ≡ record self.old { system = self.new.system; hold = None; kept = self.new.kept } }
+        ensures stays { Stays (IsTrueSince R.FileSystem R.File.Read R.File.Write R.Input.Read O.Write E.Write)
+            self.old self.new }
+    {
+        self.leave_replacement();
+        self.journal = self.journal.then(&Call::Released);
+    }
+
+    fn replace(&mut self, name: &str, bytes: &[u8]) -> Result<(), DeskFault>
+        ensures kept { Passes (after_replace name.now bytes.now result) (shown_state self.old) (shown_state self.new) }
+        ensures counts { Counts File (shown_state self.old) (shown_state self.new) result }
+        ensures fault { IfErr result (λ e. e ≡ Failed) }
+        ensures quiet { self.new ≡ record self.old {
+          system = self.new.system;
+          failures = self.new.failures;
+          last_error = self.new.last_error;
+          opened = self.new.opened;
+          hold = self.new.hold;
+          kept = self.new.kept;
+        } }
+        ensures goes { to_output self.new ≡ to_output_replaced result (to_output self.old) }
+        ensures error { KeepsError self.old.last_error self.new.last_error result }
+        ensures stays { Stays (IsTrueSince R.FileSystem R.File.Read R.File.Write R.Input.Read O.Write E.Write)
+            self.old self.new }
+    {
+        match replace_named(&mut self.system, &mut self.replacement, name, bytes) {
+            Ok(()) => {
+                self.leave_replacement();
+                open_next(&mut self.system, &mut self.opened, OpenFile::Nothing);
+                self.journal = self.journal.then(&Call::Replaced(name.as_bytes(), bytes));
+                Ok(())
+            }
+            Err(error) => Err(fail(&mut self.failures, &mut self.last_error, &error)),
         }
     }
 }

@@ -1,9 +1,13 @@
 //! A desk with a watcher of its calls, such as a window that shows a run's progress.
 ghost use Rattle.std.specs.Prelude.{◌≡◌, ◌≤◌, length, IfOk, IfErr};
+ghost use Rattle.avr_desk.specs.Record.{Passes, after_open, after_create, after_hold, after_read, after_replace, released, HasOpen, is_to_read, is_to_write};
+ghost use Rattle.avr_desk.specs.Fault.{Counts, WriteCounts};
+ghost use Rattle.avr_desk.specs.Stream.{SendsTaken};
+ghost use Rattle.avr_desk.specs.declared.stream.Stream.TheVariants.{File, Output, Messages};
 ghost use Rattle.avr_desk.specs.Watching.{ToldOfDesk, Opened, Created, Held, Released, Replaced, Read, Wrote, desk_told};
 ghost use Rattle.ghosts.specs.Stays.{Stays};
 
-use crate::desk::{Desk, DeskFault};
+use crate::desk::{ChipDesk, Desk, DeskFault};
 use crate::stream::Stream;
 
 /// A finished call of a desk: its arguments and its result.
@@ -64,11 +68,6 @@ pub struct WatchedDesk<D, W> {
 }
 
 impl<D: Desk, W: WatchDesk> Desk for WatchedDesk<D, W> {
-    ghost use Rattle.avr_desk.specs.Record.{Passes, after_open, after_create, after_hold, after_read, after_replace, released, HasOpen, is_to_read, is_to_write};
-    ghost use Rattle.avr_desk.specs.Fault.{Counts, WriteCounts};
-    ghost use Rattle.avr_desk.specs.Stream.{SendsTaken};
-    ghost use Rattle.avr_desk.specs.declared.stream.Stream.TheVariants.{File, Output, Messages};
-
     ghost view = { λ d. D.view d.desk };
 
     ghost Start = { D.Start };
@@ -95,41 +94,6 @@ impl<D: Desk, W: WatchDesk> Desk for WatchedDesk<D, W> {
     {
         let answer = self.desk.create(name);
         self.watcher.on_call(&DeskCall::Created(name, answer));
-        answer
-    }
-
-    fn hold(&mut self, name: &str) -> Result<bool, DeskFault>
-        ensures kept { Passes (after_hold name.now result) (D.view self.old.desk) (D.view self.new.desk) }
-        ensures counts { Counts File (D.view self.old.desk) (D.view self.new.desk) result }
-        ensures fault { IfErr result (λ e. e ≡ DeskFault.Failed) }
-        ensures stays { Stays D.comes_of self.old.desk self.new.desk }
-        ensures told { W.after (Held name.now result) self.old.watcher self.new.watcher }
-    {
-        let answer = self.desk.hold(name);
-        self.watcher.on_call(&DeskCall::Held(name, answer));
-        answer
-    }
-
-    fn release(&mut self)
-        ensures released { D.view self.new.desk ≡ released (D.view self.old.desk) }
-        ensures stays { Stays D.comes_of self.old.desk self.new.desk }
-        ensures told { W.after Released self.old.watcher self.new.watcher }
-    {
-        self.desk.release();
-        self.watcher.on_call(&DeskCall::Released);
-    }
-
-    fn replace(&mut self, name: &str, bytes: &[u8]) -> Result<(), DeskFault>
-        ensures kept { Passes (after_replace name.now bytes.now result)
-            (D.view self.old.desk) (D.view self.new.desk) }
-        ensures counts { Counts File (D.view self.old.desk) (D.view self.new.desk) result }
-        ensures fault { IfErr result (λ e. e ≡ DeskFault.Failed) }
-        ensures stays { Stays D.comes_of self.old.desk self.new.desk }
-        ensures told { W.after (Replaced name.now bytes.now result) self.old.watcher self.new.watcher }
-    {
-        let answer = self.desk.replace(name, bytes);
-        self.watcher
-            .on_call(&DeskCall::Replaced(name, bytes, answer));
         answer
     }
 
@@ -187,6 +151,43 @@ impl<D: Desk, W: WatchDesk> Desk for WatchedDesk<D, W> {
         let answer = self.desk.err(bytes);
         self.watcher
             .on_call(&DeskCall::Wrote(Stream::Messages, bytes, answer));
+        answer
+    }
+}
+
+impl<D: ChipDesk, W: WatchDesk> ChipDesk for WatchedDesk<D, W> {
+    fn hold(&mut self, name: &str) -> Result<bool, DeskFault>
+        ensures kept { Passes (after_hold name.now result) (D.view self.old.desk) (D.view self.new.desk) }
+        ensures counts { Counts File (D.view self.old.desk) (D.view self.new.desk) result }
+        ensures fault { IfErr result (λ e. e ≡ DeskFault.Failed) }
+        ensures stays { Stays D.comes_of self.old.desk self.new.desk }
+        ensures told { W.after (Held name.now result) self.old.watcher self.new.watcher }
+    {
+        let answer = self.desk.hold(name);
+        self.watcher.on_call(&DeskCall::Held(name, answer));
+        answer
+    }
+
+    fn release(&mut self)
+        ensures released { D.view self.new.desk ≡ released (D.view self.old.desk) }
+        ensures stays { Stays D.comes_of self.old.desk self.new.desk }
+        ensures told { W.after Released self.old.watcher self.new.watcher }
+    {
+        self.desk.release();
+        self.watcher.on_call(&DeskCall::Released);
+    }
+
+    fn replace(&mut self, name: &str, bytes: &[u8]) -> Result<(), DeskFault>
+        ensures kept { Passes (after_replace name.now bytes.now result)
+            (D.view self.old.desk) (D.view self.new.desk) }
+        ensures counts { Counts File (D.view self.old.desk) (D.view self.new.desk) result }
+        ensures fault { IfErr result (λ e. e ≡ DeskFault.Failed) }
+        ensures stays { Stays D.comes_of self.old.desk self.new.desk }
+        ensures told { W.after (Replaced name.now bytes.now result) self.old.watcher self.new.watcher }
+    {
+        let answer = self.desk.replace(name, bytes);
+        self.watcher
+            .on_call(&DeskCall::Replaced(name, bytes, answer));
         answer
     }
 }

@@ -8,7 +8,7 @@ ghost use Rattle.ghosts.specs.Stays.{Stays};
 
 use crate::saving::save_chip;
 use crate::serving::Served;
-use avr_desk::{Desk, Message, refuse};
+use avr_desk::{ChipDesk, Desk, Message, refuse};
 use avr_part::Chip;
 use avr_session::{unheard_message, unsent_message};
 use std::alloc::Global;
@@ -46,7 +46,7 @@ fn status_of(served: Served) -> u8
 }
 
 /// Saves the chip that was served, and returns the status.
-pub(crate) fn save_served<D: Desk>(
+pub(crate) fn save_served<D: ChipDesk>(
     alloc: Global,
     chip: &Chip,
     file: &str,

@@ -6,11 +6,11 @@ ghost use Rattle.ghosts.specs.Stays.{Stays};
 
 use crate::loading::load_chip;
 use crate::messages::in_use_message;
-use avr_desk::{Desk, not_written_message, refuse};
+use avr_desk::{ChipDesk, not_written_message, refuse};
 use avr_part::{Chip, Part};
 use std::alloc::Global;
 
-fn hold_file<D: Desk>(file: &str, desk: &mut D) -> Result<(), u8>
+fn hold_file<D: ChipDesk>(file: &str, desk: &mut D) -> Result<(), u8>
     ensures holds { HoldsFile (D.view desk.old) (D.view desk.new) file.now result }
     ensures follows { Follows (D.view desk.old) (D.view desk.new) }
     ensures stays { Stays D.comes_of desk.old desk.new }
@@ -23,14 +23,19 @@ fn hold_file<D: Desk>(file: &str, desk: &mut D) -> Result<(), u8>
 }
 
 /// Locks this file, so that no other run can use it, and loads the chip of this part from it, as [`load_chip`] does.
-/// The lock lasts until [`crate::save_chip`] or [`Desk::release`].
+/// The lock lasts until [`crate::save_chip`] or [`ChipDesk::release`].
 ///
 /// # Errors
 ///
 /// The status 1 if another run has locked the file, or if [`load_chip`] refuses it. It is also 1 if the file could
 /// not be saved later, because its folder is missing or read-only. The line of the reason was printed, as far as the
 /// desk takes it, and the file isn't locked.
-pub fn hold_chip<D: Desk>(alloc: Global, part: &Part, file: &str, desk: &mut D) -> Result<Chip, u8>
+pub fn hold_chip<D: ChipDesk>(
+    alloc: Global,
+    part: &Part,
+    file: &str,
+    desk: &mut D,
+) -> Result<Chip, u8>
     ensures loads { HoldsAndLoads part.now file.now (D.view desk.old) (D.view desk.new) result }
     ensures part { IfOk result (λ c. c.part ≡ part.now) }
     ensures follows { Follows (D.view desk.old) (D.view desk.new) }

@@ -13,7 +13,7 @@ ghost use Rattle.avr_emulator.specs.Emulated.{IsSaved, RunsEmulator};
 use crate::holding::hold_chip;
 use crate::saving::save_chip;
 use avr_cli::Settings;
-use avr_desk::Desk;
+use avr_desk::{ChipDesk, Desk};
 use avr_plan::{Plan, plan};
 use avr_session::drive;
 use std::alloc::Global;
@@ -45,7 +45,13 @@ pub fn drive_wired<D: Desk>(alloc: Global, plan: &Plan, desk: &mut D, wire: &mut
 }
 
 /// Saves the chip of a wire if anything was sent over it, unlocks its file, and returns the run's status.
-fn save_if_sent<D: Desk>(alloc: Global, wire: &Wired, file: &str, desk: &mut D, status: u8) -> u8
+fn save_if_sent<D: ChipDesk>(
+    alloc: Global,
+    wire: &Wired,
+    file: &str,
+    desk: &mut D,
+    status: u8,
+) -> u8
     ensures saved { IsSaved (sent wire.now.transcript) (D.view desk.old) (D.view desk.new) file.now
         (chip_file wire.now.wire.programmer.chip) status result }
     ensures follows { Follows (D.view desk.old) (D.view desk.new) }
@@ -74,7 +80,7 @@ fn save_if_sent<D: Desk>(alloc: Global, wire: &Wired, file: &str, desk: &mut D, 
 /// assert_eq!(rt; run_emu(alloc, &settings, "chip.bin", &mut desk), 0);
 /// assert!(rt; desk.file("chip.bin").map(|file| file.len()) == Some(33_796));
 /// ```
-pub fn run_emu<D: Desk>(alloc: Global, settings: &Settings, file: &str, desk: &mut D) -> u8
+pub fn run_emu<D: ChipDesk>(alloc: Global, settings: &Settings, file: &str, desk: &mut D) -> u8
     ensures runs { RunsEmulator settings.now file.now (D.view desk.old) (D.view desk.new) result }
     ensures stays { Stays D.comes_of desk.old desk.new }
 {

@@ -4,12 +4,12 @@ ghost use Rattle.avr_part.specs.ChipFile.{chip_file};
 ghost use Rattle.avr_emulator.specs.Saving.{Saves};
 ghost use Rattle.ghosts.specs.Stays.{Stays};
 
-use avr_desk::{Desk, memory_message, not_written_message, refuse};
+use avr_desk::{ChipDesk, memory_message, not_written_message, refuse};
 use avr_part::Chip;
 use std::alloc::Global;
 
 /// Replaces the file by these bytes.
-fn save_bytes<D: Desk>(file: &str, bytes: &[u8], desk: &mut D) -> Result<(), u8>
+fn save_bytes<D: ChipDesk>(file: &str, bytes: &[u8], desk: &mut D) -> Result<(), u8>
     ensures saves { Saves (D.view desk.old) (D.view desk.new) file.now bytes.now result }
     ensures follows { Follows (D.view desk.old) (D.view desk.new) }
     ensures stays { Stays D.comes_of desk.old desk.new }
@@ -30,7 +30,12 @@ fn save_bytes<D: Desk>(file: &str, bytes: &[u8], desk: &mut D) -> Result<(), u8>
 ///
 /// The status 1 if the file can't be replaced or allocation fails. The line of the reason was printed, as far as the
 /// desk takes it, and the file is as it was.
-pub fn save_chip<D: Desk>(alloc: Global, chip: &Chip, file: &str, desk: &mut D) -> Result<(), u8>
+pub fn save_chip<D: ChipDesk>(
+    alloc: Global,
+    chip: &Chip,
+    file: &str,
+    desk: &mut D,
+) -> Result<(), u8>
     ensures saves { Saves (D.view desk.old) (D.view desk.new) file.now (chip_file chip.now) result }
     ensures follows { Follows (D.view desk.old) (D.view desk.new) }
     ensures stays { Stays D.comes_of desk.old desk.new }

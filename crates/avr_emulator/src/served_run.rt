@@ -12,7 +12,7 @@ use crate::ending::{save_served, tell_end};
 use crate::holding::hold_chip;
 use crate::serving::answer_all;
 use avr_cli::Settings;
-use avr_desk::Desk;
+use avr_desk::{ChipDesk, Desk};
 use avr_part::{Chip, Part};
 use avr_plan::{chosen_part, given_parts};
 use std::alloc::Global;
@@ -37,7 +37,7 @@ fn find_part<D: Desk>(alloc: Global, desk: &mut D, settings: &Settings) -> Resul
 }
 
 /// Checks that a chip of this part can be loaded from the file, and returns the part.
-fn judge_chip<D: Desk>(alloc: Global, part: Part, file: &str, desk: &mut D) -> Result<Part, u8>
+fn judge_chip<D: ChipDesk>(alloc: Global, part: Part, file: &str, desk: &mut D) -> Result<Part, u8>
     ensures judges { JudgesChip part file.now (D.view desk.old) (D.view desk.new) result }
     ensures stays { Stays D.comes_of desk.old desk.new }
 {
@@ -57,7 +57,7 @@ fn judge_chip<D: Desk>(alloc: Global, part: Part, file: &str, desk: &mut D) -> R
 /// The status 1 if the part file, the part's name or the chip file is refused, or if another run has locked the chip
 /// file. It is also 1 if the chip file could not be saved later, or if the desk or allocation fails. The line of the
 /// reason was printed, as far as the desk takes it.
-pub fn judge_part<D: Desk>(
+pub fn judge_part<D: ChipDesk>(
     alloc: Global,
     settings: &Settings,
     file: &str,
@@ -79,7 +79,7 @@ pub fn judge_part<D: Desk>(
 /// frames received have left it.
 ///
 /// Returns the status: 0 if the link ended and the chip was saved, otherwise 1.
-pub fn serve_chip<D: Desk, L: Link>(
+pub fn serve_chip<D: ChipDesk, L: Link>(
     alloc: Global,
     chip: Chip,
     file: &str,
@@ -104,7 +104,7 @@ pub fn serve_chip<D: Desk, L: Link>(
 /// the file doesn't exist. The file is locked until the chip is saved.
 ///
 /// If the chip file is refused, the status is 1. Nothing is received or sent, and no file is written.
-pub fn serve_part<D: Desk, L: Link>(
+pub fn serve_part<D: ChipDesk, L: Link>(
     alloc: Global,
     part: &Part,
     file: &str,
@@ -136,7 +136,7 @@ pub fn serve_part<D: Desk, L: Link>(
 /// assert_eq!(rt; serve_for(alloc, &settings, "chip.bin", &mut desk, &mut caller, 1), 1);
 /// assert!(rt; desk.messages() == b"avrstk: error: too many reads\n".as_slice());
 /// ```
-pub fn serve_for<D: Desk, L: Link>(
+pub fn serve_for<D: ChipDesk, L: Link>(
     alloc: Global,
     settings: &Settings,
     file: &str,
@@ -168,7 +168,7 @@ pub fn serve_for<D: Desk, L: Link>(
 /// let (_, answer) = caller.into_inner();
 /// assert!(rt; answer.as_slice() == b"\x1B\x01\x00\x0B\x0E\x01\x00\x08STK500_2\x02".as_slice());
 /// ```
-pub fn serve<D: Desk, L: Link>(
+pub fn serve<D: ChipDesk, L: Link>(
     alloc: Global,
     settings: &Settings,
     file: &str,

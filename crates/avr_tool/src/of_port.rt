@@ -15,7 +15,7 @@ use crate::network::{Callers, Network};
 use crate::over_net::run_net as run_at;
 use crate::serving::{serve_net as serve_at, serve_on as serve_caller};
 use avr_cli::{Port, Settings};
-use avr_desk::Desk;
+use avr_desk::{ChipDesk, Desk};
 use avr_emulator::{run_emu as run_emulated, serve as serve_over, serve_for as serve_turns};
 use std::alloc::Global;
 use stk_host::Link;
@@ -29,7 +29,7 @@ use stk_host::Link;
 /// assert_eq!(rt; run_emu(alloc, &settings, &mut desk), 0);
 /// assert!(rt; desk.file("chip.bin").map(|file| file.len()) == Some(33_796));
 /// ```
-pub fn run_emu<D: Desk>(alloc: Global, settings: &Settings, desk: &mut D) -> u8
+pub fn run_emu<D: ChipDesk>(alloc: Global, settings: &Settings, desk: &mut D) -> u8
     requires port { IsEmulated settings.now.port }
     ensures runs { RunsEmulator settings.now (chip_file_of settings.now.port)
         (D.view desk.old) (D.view desk.new) result }
@@ -79,7 +79,7 @@ pub fn run_net<N: Network, D: Desk>(
 /// assert_eq!(rt; serve_for(alloc, &settings, &mut desk, &mut caller, 3), 1);
 /// assert!(rt; desk.messages() == b"avrstk: error: too many reads\n".as_slice());
 /// ```
-pub fn serve_for<D: Desk, L: Link>(
+pub fn serve_for<D: ChipDesk, L: Link>(
     alloc: Global,
     settings: &Settings,
     desk: &mut D,
@@ -111,7 +111,12 @@ pub fn serve_for<D: Desk, L: Link>(
 /// let mut caller = StreamLink::new(sign_on.as_slice(), Vec::new(alloc));
 /// assert_eq!(rt; serve(alloc, &settings, &mut desk, &mut caller), 0);
 /// ```
-pub fn serve<D: Desk, L: Link>(alloc: Global, settings: &Settings, desk: &mut D, link: &mut L) -> u8
+pub fn serve<D: ChipDesk, L: Link>(
+    alloc: Global,
+    settings: &Settings,
+    desk: &mut D,
+    link: &mut L,
+) -> u8
     requires port { IsServed settings.now.port }
     ensures runs { RunsServed settings.now (chip_file_of settings.now.port)
         (devices (L.view link.old) (D.view desk.old)) (devices (L.view link.new) (D.view desk.new)) result }
@@ -128,7 +133,7 @@ pub fn serve<D: Desk, L: Link>(alloc: Global, settings: &Settings, desk: &mut D,
 
 /// Serves the emulator to the first client of a listener, at most 16,777,216 reads. The part and the chip file of the
 /// settings are checked before a connection is accepted.
-pub fn serve_on<L: Callers + Drop, D: Desk>(
+pub fn serve_on<L: Callers + Drop, D: ChipDesk>(
     alloc: Global,
     settings: &Settings,
     listener: L,
@@ -162,7 +167,7 @@ pub fn serve_on<L: Callers + Drop, D: Desk>(
 /// // the part is judged before anybody is waited for
 /// assert_eq!(rt; serve_net(&rt, alloc, &settings, &mut desk), 1);
 /// ```
-pub fn serve_net<N: Network, D: Desk>(
+pub fn serve_net<N: Network, D: ChipDesk>(
     network: N,
     alloc: Global,
     settings: &Settings,

@@ -15,7 +15,7 @@ use crate::running::run_streams;
 use crate::serving::serve_net;
 use crate::texts::print_text;
 use avr_cli::{Port, Settings, SettingsFault};
-use avr_desk::{Desk, Stream};
+use avr_desk::{ChipDesk, Desk, Stream};
 use avr_emulator::run_emu;
 use avr_session::refuse;
 use clap::Error;
@@ -26,7 +26,7 @@ use stk_host::StreamLink;
 
 /// Runs over the port of the settings, or serves the emulator: `stdio:` is the link, `emu:` the emulator, `net:` a
 /// connection.
-fn run_port<N: Network, D: Desk, R: Read + Drop, W: Write + Drop>(
+fn run_port<N: Network, D: ChipDesk, R: Read + Drop, W: Write + Drop>(
     network: N,
     alloc: Global,
     settings: &Settings,
@@ -87,7 +87,7 @@ fn words_untaken<D: Desk>(error: Error, desk: &mut D) -> Result<u8, Error>
 /// assert_eq!(rt; run_words(&rt, alloc, words.as_slice(), &mut desk, &mut streams)?, 0);
 /// assert!(rt; desk.messages().is_empty());
 /// ```
-pub fn run_words<N: Network, D: Desk, R: Read + Drop, W: Write + Drop>(
+pub fn run_words<N: Network, D: ChipDesk, R: Read + Drop, W: Write + Drop>(
     network: N,
     alloc: Global,
     words: &[String],
@@ -147,7 +147,7 @@ fn stream_of_usage(error: &Error) -> Stream
 /// let mut streams = StreamLink::new(b"".as_slice(), Vec::new(alloc));
 /// assert_eq!(rt; run_program(&rt, alloc, words.as_slice(), &mut desk, &mut streams), 0);
 /// ```
-pub fn run_program<N: Network, D: Desk, R: Read + Drop, W: Write + Drop>(
+pub fn run_program<N: Network, D: ChipDesk, R: Read + Drop, W: Write + Drop>(
     network: N,
     alloc: Global,
     words: &[String],

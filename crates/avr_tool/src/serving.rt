@@ -9,7 +9,7 @@ use crate::messages::unopened_message;
 use crate::network::{Callers, Network};
 use crate::ports::{accept, close, listen};
 use avr_cli::{Settings, port_number};
-use avr_desk::{Desk, refuse};
+use avr_desk::{ChipDesk, refuse};
 use avr_emulator::{READS, judge_part, serve_part};
 use avr_part::Part;
 use std::alloc::Global;
@@ -19,7 +19,7 @@ use stk_host::StreamLink;
 /// Serves a chip of this part to the client that a listener accepted, or reports that it accepted none.
 ///
 /// The chip is loaded after the client has connected, so it holds what other runs saved before.
-fn serve_called<L: Callers, D: Desk>(
+fn serve_called<L: Callers, D: ChipDesk>(
     alloc: Global,
     part: &Part,
     port: &str,
@@ -49,7 +49,7 @@ fn serve_called<L: Callers, D: Desk>(
 /// no connection can be accepted, this is reported for `port`, the text of `--serve`, and no file is written.
 ///
 /// Returns the status: 0 if the client closed the connection and the chip was saved, otherwise 1.
-pub fn serve_on<L: Callers + Drop, D: Desk>(
+pub fn serve_on<L: Callers + Drop, D: ChipDesk>(
     alloc: Global,
     settings: &Settings,
     port: &str,
@@ -70,7 +70,7 @@ pub fn serve_on<L: Callers + Drop, D: Desk>(
 
 /// Opens the port and serves a chip of this part to the first client. The port is closed when that client has
 /// connected, so a second one is refused at once.
-fn serve_at<N: Network, D: Desk>(
+fn serve_at<N: Network, D: ChipDesk>(
     network: N,
     alloc: Global,
     part: &Part,
@@ -99,7 +99,7 @@ fn serve_at<N: Network, D: Desk>(
 ///
 /// The port is closed when the first client has connected, so a second one is refused. `port` is the text of
 /// `--serve`. A port that can't be opened is reported, and no file is written.
-pub fn serve_net<N: Network, D: Desk>(
+pub fn serve_net<N: Network, D: ChipDesk>(
     network: N,
     alloc: Global,
     settings: &Settings,

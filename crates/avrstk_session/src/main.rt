@@ -10,7 +10,7 @@ ghost use Rattle.avr_session.specs.Runs.{devices};
 ghost use Rattle.avrstk_session.specs.Session.{Asks, JudgesOnly, ServesPort, ServesWords, StartsSession, TellsUsage, usage_pieces};
 
 use avr_cli::{Port, Settings, read_settings, read_words};
-use avr_desk::{Bounded, Desk, Message, SystemDesk, memory_message, refuse};
+use avr_desk::{Bounded, ChipDesk, Desk, Message, SystemDesk, memory_message, refuse};
 use avr_emulator::{judge_part, serve};
 use clap::Error;
 use clap::error::ErrorKind;
@@ -37,7 +37,7 @@ fn take_closed_streams(rt: &HostRuntime) -> [io::Result<File>; 3] {
 }
 
 /// Checks that the part and this chip file can be served, and returns the status.
-fn judge<D: Desk>(alloc: Global, settings: &Settings, file: &str, desk: &mut D) -> u8
+fn judge<D: ChipDesk>(alloc: Global, settings: &Settings, file: &str, desk: &mut D) -> u8
     ensures { JudgesOnly settings.now file.now (D.view desk.old) (D.view desk.new) result }
 {
     match judge_part(alloc, settings, file, desk) {
@@ -54,7 +54,7 @@ fn usage_message<'a>() -> Message<'a>
 }
 
 /// Serves the chip file of these settings over the link, or only checks it; refuses any other port.
-fn serve_port<D: Desk, L: Link>(
+fn serve_port<D: ChipDesk, L: Link>(
     alloc: Global,
     settings: &Settings,
     desk: &mut D,
@@ -104,7 +104,12 @@ fn asked<D: Desk>(alloc: Global, words: &[String], desk: &mut D) -> Result<Setti
 }
 
 /// Serves what a command line asks for. Its first element is the program's name.
-fn serve_words<D: Desk, L: Link>(alloc: Global, words: &[String], desk: &mut D, link: &mut L) -> u8
+fn serve_words<D: ChipDesk, L: Link>(
+    alloc: Global,
+    words: &[String],
+    desk: &mut D,
+    link: &mut L,
+) -> u8
     ensures { ServesWords (map string_bytes words.now) (devices (L.view link.old) (D.view desk.old))
         (devices (L.view link.new) (D.view desk.new)) result }
 {
@@ -115,7 +120,7 @@ fn serve_words<D: Desk, L: Link>(alloc: Global, words: &[String], desk: &mut D, 
 }
 
 /// Serves what the process's command line asks for.
-fn run<E: Env + Alloc<A = Global>, D: Desk, L: Link>(rt: &E, desk: &mut D, link: &mut L) -> u8
+fn run<E: Env + Alloc<A = Global>, D: ChipDesk, L: Link>(rt: &E, desk: &mut D, link: &mut L) -> u8
     ensures { StartsSession (devices (L.view link.old) (D.view desk.old))
         (devices (L.view link.new) (D.view desk.new)) result }
 {

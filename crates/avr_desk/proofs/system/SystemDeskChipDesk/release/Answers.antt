@@ -1,7 +1,7 @@
 use Rattle.std.proofs.Common.{◌∙◌, ap}
 use Rattle.avr_desk.proofs.Desks.TwoWriters.{from_now, released_true}
 use Rattle.avr_desk.specs.Record.{with_none_held}
-use Rattle.avr_desk.proofs.system.SystemDeskDesk.release.Goals as goal
+use Rattle.avr_desk.proofs.system.SystemDeskChipDesk.release.Goals as goal
 
 pub returns-clause-stays : goal.returns-clause-stays
 returns-clause-stays g c =

@@ -1,7 +1,7 @@
 use Rattle.std.proofs.Common.{◌∙◌, ap}
 use Rattle.avr_desk.proofs.Desks.TwoWriters.{from_inside, replace_true, unreplaced_true}
 use Rattle.avr_desk.specs.Record.{with_replaced}
-use Rattle.avr_desk.proofs.system.SystemDeskDesk.replace.Goals as goal
+use Rattle.avr_desk.proofs.system.SystemDeskChipDesk.replace.Goals as goal
 
 pub returns-in-Ok-clause-stays : goal.returns-in-Ok-clause-stays
 returns-in-Ok-clause-stays g c =

@@ -1,7 +1,7 @@
 use Rattle.std.proofs.Common.{◌∙◌, ap, refl}
 use Rattle.avr_desk.proofs.Desks.TwoWriters.{from_inside, held_true}
 use Rattle.avr_desk.specs.Record.{with_held}
-use Rattle.avr_desk.proofs.system.SystemDeskDesk.hold.Goals as goal
+use Rattle.avr_desk.proofs.system.SystemDeskChipDesk.hold.Goals as goal
 
 pub returns-in-Ok-Some-clause-stays : goal.returns-in-Ok-Some-clause-stays
 returns-in-Ok-Some-clause-stays g c =
