@@ -20,7 +20,7 @@ const WORDS: [&str; 7] = ["avrstk", "-P", "stdio:", "-p", "m328p", "-U", "flash:
 
 fn main(rt: HostRuntime) -> Result<()> {
     let alloc = rt.alloc();
-    let mut desk = MemDesk::new(alloc);
+    let mut desk = MemDesk::empty(alloc);
     desk.put("a.hex", b":04000000FFFF0304F7\n:00000001FF\n")?;
     let words = words(alloc)?;
     let Ok(settings) = asked(alloc, words.as_slice(), &mut desk) else {

@@ -38,7 +38,7 @@ const WORDS: [&str; 11] = [
 
 fn main(rt: HostRuntime) -> Result<()> {
     let alloc = rt.alloc();
-    let mut desk = MemDesk::new(alloc);
+    let mut desk = MemDesk::empty(alloc);
     desk.put("a.hex", b":0400000001020304F2\n:00000001FF\n")?;
     let words = words(alloc)?;
     let Ok(settings) = asked(alloc, words.as_slice(), &mut desk) else {

@@ -65,7 +65,7 @@ impl<W: Write> WatchDesk for Notes<W> {
 
 fn main(rt: HostRuntime) -> Result<()> {
     let alloc = rt.alloc();
-    let mut files = MemDesk::new(alloc);
+    let mut files = MemDesk::empty(alloc);
     files.put("fuse.hex", b":01000000629D\n:00000001FF\n")?;
     let words = words(alloc)?;
     let Ok(settings) = asked(alloc, words.as_slice(), &mut files) else {

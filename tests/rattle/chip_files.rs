@@ -20,7 +20,7 @@ fn file_of(alloc: Global, n: usize) -> Result<Vec<u8>, AllocError> {
 
 /// Returns a desk that has `file` as `chip.bin`.
 fn desk_with(alloc: Global, file: &[u8]) -> Result<MemDesk, AllocError> {
-    let mut desk = MemDesk::new(alloc);
+    let mut desk = MemDesk::empty(alloc);
     desk.put("chip.bin", file)?;
     Ok(desk)
 }
@@ -51,7 +51,7 @@ fn is_given_back(
 fn no_file_is_a_fresh_chip(rt: HostRuntime) -> Result<(), Fail> {
     let alloc = rt.alloc();
     let fresh = vec![in alloc; 255; 33_796]?;
-    let mut desk = MemDesk::new(alloc);
+    let mut desk = MemDesk::empty(alloc);
     assert!(rt; is_given_back(alloc, &mut desk, 255, "chip.bin", fresh.as_slice())?);
     assert!(rt; desk.messages().is_empty());
     Ok(())
@@ -137,7 +137,7 @@ fn hold<D: ChipDesk>(alloc: Global, desk: &mut D) -> Result<Result<Chip, u8>, Pa
 #[test]
 fn a_chip_is_held_until_it_is_saved(rt: HostRuntime) -> Result<(), Fail> {
     let alloc = rt.alloc();
-    let mut desk = MemDesk::new(alloc);
+    let mut desk = MemDesk::empty(alloc);
     let held = hold(alloc, &mut desk)?;
     assert!(rt; matches!(hold(alloc, &mut desk)?, Err(1)));
     assert!(rt; desk.messages() == b"avrstk: error: chip.bin: in use by another run\n".as_slice());

@@ -32,7 +32,7 @@ fn put<D: Desk>(desk: &mut D, stream: Stream, bytes: &[u8]) -> Result<(), DeskFa
 
 /// Returns a desk with this file, and with `in` as standard input.
 fn desk_with(alloc: Global, name: &str, bytes: &[u8]) -> Result<MemDesk, AllocError> {
-    let mut desk = MemDesk::with_input(alloc, Bytes::copied(alloc, b"in")?);
+    let mut desk = MemDesk::new(alloc, Bytes::copied(alloc, b"in")?);
     desk.put(name, bytes)?;
     Ok(desk)
 }
@@ -78,7 +78,7 @@ fn a_file_is_held_until_it_is_replaced(rt: HostRuntime) -> Result<(), Fail> {
 
 #[test]
 fn output_and_messages(rt: HostRuntime) {
-    let mut desk = MemDesk::new(rt.alloc());
+    let mut desk = MemDesk::empty(rt.alloc());
     assert!(rt; put(&mut desk, Stream::Output, b"0xe2\n") == Ok(()));
     assert!(rt; put(&mut desk, Stream::Messages, b"avrstk: ") == Ok(()));
     assert!(rt; put(&mut desk, Stream::Messages, b"done\n") == Ok(()));
@@ -88,7 +88,7 @@ fn output_and_messages(rt: HostRuntime) {
 
 #[test]
 fn nothing_is_open(rt: HostRuntime) {
-    let mut desk = MemDesk::new(rt.alloc());
+    let mut desk = MemDesk::empty(rt.alloc());
     assert!(rt; desk.open("none") == Err(DeskFault::NotFound));
     assert!(rt; !gives(&mut desk, b""));
     assert!(rt; desk.write(b"x") == Err(DeskFault::Failed));
@@ -96,7 +96,7 @@ fn nothing_is_open(rt: HostRuntime) {
 
 #[test]
 fn the_third_call_fails(rt: HostRuntime) {
-    let mut desk = FailingDesk::new(MemDesk::new(rt.alloc()), 3);
+    let mut desk = FailingDesk::new(MemDesk::empty(rt.alloc()), 3);
     assert!(rt; desk.create("x") == Ok(()));
     assert!(rt; put(&mut desk, Stream::Output, b"first") == Ok(()));
     assert!(rt; put(&mut desk, Stream::Output, b"second") == Err(DeskFault::Failed));
@@ -133,7 +133,7 @@ fn a_watcher_is_told_of_each_call(rt: HostRuntime) {
         written: 0,
     };
     let mut desk = WatchedDesk {
-        desk: MemDesk::new(rt.alloc()),
+        desk: MemDesk::empty(rt.alloc()),
         watcher,
     };
     assert!(rt; desk.open("none") == Err(DeskFault::NotFound));

@@ -113,7 +113,7 @@ fn run_over_tape(
     for byte in answers {
         items.push(Item::Byte(*byte))?;
     }
-    let mut desk = MemDesk::new(alloc);
+    let mut desk = MemDesk::empty(alloc);
     desk.put("low", &[low])?;
     let mut link = TapeLink::new(alloc, items, 281);
     let status = run_in_memory(alloc, &settings, &mut desk, &mut link);
@@ -142,7 +142,7 @@ fn run_over_reader(
     answers: &[u8],
 ) -> Result<Over<MemDesk, Vec<u8>>, Fail> {
     let settings = settings_for(alloc, words)?;
-    let mut desk = MemDesk::new(alloc);
+    let mut desk = MemDesk::empty(alloc);
     desk.put("low", &[low])?;
     let mut link = Vec::new(alloc);
     let status = status_over_streams(alloc, &settings, &mut desk, answers, &mut link);

@@ -77,7 +77,7 @@ struct Over {
 
 fn run_over(rt: &HostRuntime, updates: &[&str]) -> Result<Over, Fail> {
     let settings = settings_for(rt.alloc(), updates)?;
-    let mut desk = MemDesk::new(rt.alloc());
+    let mut desk = MemDesk::empty(rt.alloc());
     desk.put("a.bin", b"")?;
     let mut link = connected(rt)?;
     let status = run(rt.alloc(), &settings, &mut desk, &mut link);

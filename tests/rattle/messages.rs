@@ -4,7 +4,7 @@ use std::test::Fail;
 
 #[test]
 fn information_is_printed(rt: HostRuntime) -> Result<(), Fail> {
-    let mut desk = MemDesk::new(rt.alloc());
+    let mut desk = MemDesk::empty(rt.alloc());
     let signature = Piece::Signature([0x1E, 0x95, 0x0F]);
     print_information(&mut desk, &[Piece::Text("device signature = "), signature])?;
     assert!(rt; desk.messages() == b"avrstk: device signature = 1E 95 0F\n".as_slice());
@@ -13,7 +13,7 @@ fn information_is_printed(rt: HostRuntime) -> Result<(), Fail> {
 
 #[test]
 fn a_warning_is_printed(rt: HostRuntime) -> Result<(), Fail> {
-    let mut desk = MemDesk::new(rt.alloc());
+    let mut desk = MemDesk::empty(rt.alloc());
     print_warning(
         &mut desk,
         &[Piece::Text("a.hex"), Piece::Text(": no end record")],
@@ -24,7 +24,7 @@ fn a_warning_is_printed(rt: HostRuntime) -> Result<(), Fail> {
 
 #[test]
 fn an_error_is_printed(rt: HostRuntime) -> Result<(), Fail> {
-    let mut desk = MemDesk::new(rt.alloc());
+    let mut desk = MemDesk::empty(rt.alloc());
     let pieces = [
         Piece::Text("command "),
         Piece::Byte(0x10),
@@ -37,7 +37,7 @@ fn an_error_is_printed(rt: HostRuntime) -> Result<(), Fail> {
 
 #[test]
 fn numbers_are_printed(rt: HostRuntime) -> Result<(), Fail> {
-    let mut desk = MemDesk::new(rt.alloc());
+    let mut desk = MemDesk::empty(rt.alloc());
     let pieces = [
         Piece::Number(4_194_304),
         Piece::Text(" "),

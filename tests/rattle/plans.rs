@@ -86,7 +86,7 @@ fn refuses(
     asked: &Asked<'_>,
     line: &str,
 ) -> Result<bool, AllocError> {
-    let mut desk = MemDesk::new(alloc);
+    let mut desk = MemDesk::empty(alloc);
     desk.put(name, bytes)?;
     let refused = plan(alloc, &settings(alloc, asked)?, &mut desk).is_err();
     Ok(refused && desk.messages() == line.as_bytes())
@@ -101,7 +101,7 @@ fn plans(
     held: u32,
     line: &str,
 ) -> Result<bool, AllocError> {
-    let mut desk = MemDesk::new(alloc);
+    let mut desk = MemDesk::empty(alloc);
     desk.put(name, bytes)?;
     let Ok(made) = plan(alloc, &settings(alloc, asked)?, &mut desk) else {
         return Ok(false);
@@ -394,7 +394,7 @@ fn other_parts(rt: HostRuntime) -> Result<(), Fail> {
 
 /// Returns whether a plan prints this line at a desk whose nth call fails.
 fn fails_at(alloc: Global, n: u64, line: &str) -> Result<bool, AllocError> {
-    let mut desk = MemDesk::new(alloc);
+    let mut desk = MemDesk::empty(alloc);
     desk.put("a.hex", b":00000001FF\n")?;
     let mut desk = FailingDesk::new(desk, n);
     let refused = plan(alloc, &settings(alloc, &flash_of("a.hex"))?, &mut desk).is_err();
@@ -417,7 +417,7 @@ fn a_desk_that_fails(rt: HostRuntime) -> Result<(), Fail> {
 #[test]
 fn reads_need_nothing(rt: HostRuntime) -> Result<(), Fail> {
     let alloc = rt.alloc();
-    let mut desk = MemDesk::new(alloc);
+    let mut desk = MemDesk::empty(alloc);
     let made = plan(alloc, &settings(alloc, &part_of("", "t85"))?, &mut desk);
     let Ok(made) = made else {
         assert!(rt; false, "no plan");

@@ -40,7 +40,7 @@ fn run_at<R: Net>(rt: &R, alloc: Global, part: &str, port: u16) -> Result<Over, 
     let mut settings = settings_for(alloc, part)?;
     let address = format!(in alloc; "127.0.0.1:{port}")?;
     settings.port = Port::Network(Text::new(alloc, address.as_str())?);
-    let mut desk = MemDesk::new(alloc);
+    let mut desk = MemDesk::empty(alloc);
     let status = run_net(rt, alloc, &settings, &mut desk);
     Ok(Over { desk, status })
 }
@@ -164,7 +164,7 @@ fn a_caller_is_answered_and_the_chip_is_saved(rt: HostRuntime) -> Result<(), Fai
     caller.write_all(FRAME.as_slice())?;
     caller.shutdown(Shutdown::Write)?;
     let settings = settings_to_serve(alloc, "m328p", "5000")?;
-    let mut desk = MemDesk::new(alloc);
+    let mut desk = MemDesk::empty(alloc);
     let status = serve_on(alloc, &settings, listener, &mut desk);
     assert_eq!(rt; status, 0);
     assert!(rt; desk.messages().is_empty());
@@ -194,7 +194,7 @@ fn serve_at_taken(
     let number = listener.local_addr()?.port();
     let port = format!(in alloc; "{number}")?;
     let settings = settings_to_serve(alloc, part, port.as_str())?;
-    let mut desk = MemDesk::new(alloc);
+    let mut desk = MemDesk::empty(alloc);
     if let Some(bytes) = chip {
         desk.put("chip.bin", bytes)?;
     }

@@ -73,7 +73,7 @@ fn status_of<D: Desk, L: Link>(
 /// Runs over a tape that is received in pieces of at most `cut` bytes.
 fn run_over(alloc: Global, part: &str, items: Vec<Item>, cut: usize) -> Result<Over, Fail> {
     let settings = settings_for(alloc, part)?;
-    let mut desk = MemDesk::new(alloc);
+    let mut desk = MemDesk::empty(alloc);
     let mut link = TapeLink::new(alloc, items, cut.max(1));
     let status = status_of(alloc, &settings, &mut desk, &mut link);
     Ok(Over { desk, link, status })
@@ -304,7 +304,7 @@ fn a_link_that_fails(rt: HostRuntime) -> Result<(), Fail> {
     let alloc = rt.alloc();
     let items = tape(alloc, ANSWERS)?;
     let settings = settings_for(alloc, "m328p")?;
-    let mut desk = MemDesk::new(alloc);
+    let mut desk = MemDesk::empty(alloc);
     let mut link = FailingLink::new(TapeLink::new(alloc, items, 281), 1, 281);
     assert!(rt; status_of(alloc, &settings, &mut desk, &mut link) == 1);
     assert!(rt; desk.messages() == b"avrstk: error: link cannot be written\n".as_slice());
@@ -318,7 +318,7 @@ fn a_desk_that_fails(rt: HostRuntime) -> Result<(), Fail> {
     let opening = joined(alloc, &[OPENING])?;
     let items = tape(alloc, ANSWERS)?;
     let settings = settings_for(alloc, "m328p")?;
-    let mut desk = FailingDesk::new(MemDesk::new(alloc), 1);
+    let mut desk = FailingDesk::new(MemDesk::empty(alloc), 1);
     let mut link = TapeLink::new(alloc, items, 281);
     assert!(rt; status_of(alloc, &settings, &mut desk, &mut link) == 1);
     assert!(rt; link.sent() == opening.as_slice());

@@ -50,7 +50,7 @@ fn an_end_that_is_heard_saves_the_chip(rt: HostRuntime) -> Result<(), Fail> {
     let items = frame_and_end(alloc)?;
     let settings = settings_to_serve(alloc)?;
     let mut link = TapeLink::new(alloc, items, 281);
-    let mut desk = MemDesk::new(alloc);
+    let mut desk = MemDesk::empty(alloc);
     assert_eq!(rt; served(alloc, &settings, &mut desk, &mut link), 0);
     assert_eq!(rt; link.sent(), ANSWER.as_slice());
     assert_eq!(rt; saved_size(&desk), Some(33_796));
@@ -64,7 +64,7 @@ fn too_many_reads_are_told_and_the_chip_is_saved(rt: HostRuntime) -> Result<(), 
     let items = vec![in alloc; Item::Silence; 5]?;
     let settings = settings_to_serve(alloc)?;
     let mut link = TapeLink::new(alloc, items, 281);
-    let mut desk = MemDesk::new(alloc);
+    let mut desk = MemDesk::empty(alloc);
     assert_eq!(rt; serve_for(alloc, &settings, &mut desk, &mut link, 3), 1);
     let line = "avrstk: error: too many reads\n";
     assert_eq!(rt; desk.messages(), line.as_bytes());
@@ -77,7 +77,7 @@ fn a_link_that_fails_is_told_and_the_chip_is_saved(rt: HostRuntime) -> Result<()
     let alloc = rt.alloc();
     let settings = settings_to_serve(alloc)?;
     let mut link = FailingLink::new(TapeLink::new(alloc, Vec::new(alloc), 281), 1, 5);
-    let mut desk = MemDesk::new(alloc);
+    let mut desk = MemDesk::empty(alloc);
     assert_eq!(rt; served(alloc, &settings, &mut desk, &mut link), 1);
     let line = "avrstk: error: link cannot be read\n";
     assert_eq!(rt; desk.messages(), line.as_bytes());
@@ -91,7 +91,7 @@ fn a_chip_file_of_another_length_is_not_served(rt: HostRuntime) -> Result<(), Fa
     let items = frame_and_end(alloc)?;
     let settings = settings_to_serve(alloc)?;
     let mut link = TapeLink::new(alloc, items, 281);
-    let mut desk = MemDesk::new(alloc);
+    let mut desk = MemDesk::empty(alloc);
     let short = [7; 100];
     assert!(rt; desk.put("chip.bin", &short).is_ok());
     assert_eq!(rt; served(alloc, &settings, &mut desk, &mut link), 1);

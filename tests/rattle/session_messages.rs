@@ -14,7 +14,7 @@ const READ: &str = "lfuse:r:low:h";
 
 /// Returns whether a fault of the settings is formatted as the line that is printed for it.
 fn shows_as_printed(alloc: Global, fault: &SettingsFault) -> bool {
-    let mut desk = MemDesk::new(alloc);
+    let mut desk = MemDesk::empty(alloc);
     refuse(fault, &mut desk);
     match format!(in alloc; "avrstk: error: {fault}\n") {
         Ok(line) => desk.messages() == line.as_bytes(),
@@ -76,7 +76,7 @@ fn ends_with(
     items: Vec<Item>,
     fault: HostFault,
 ) -> Result<bool, Fail> {
-    let mut desk = MemDesk::new(alloc);
+    let mut desk = MemDesk::empty(alloc);
     let mut link = TapeLink::new(alloc, items, 281);
     let outcome = outcome_over(alloc, update, &mut desk, &mut link)?;
     let line = format!(in alloc; "avrstk: error: {fault}\n")?;
@@ -85,7 +85,7 @@ fn ends_with(
 
 /// Returns whether a session stops if this call of the link fails, and the last line is the text of this fault.
 fn stops_with(alloc: Global, call: u64, fault: HostFault) -> Result<bool, Fail> {
-    let mut desk = MemDesk::new(alloc);
+    let mut desk = MemDesk::empty(alloc);
     let tape = TapeLink::new(alloc, answers_then(alloc, 63, &[])?, 281);
     let mut link = FailingLink::new(tape, call, 281);
     let outcome = outcome_over(alloc, READ, &mut desk, &mut link)?;
@@ -144,7 +144,7 @@ fn another_signature_shows_as_its_line(rt: HostRuntime) -> Result<(), Fail> {
     let mut answers = ANSWERS;
     answers[52] = 0x14;
     answers[54] = 0x1B;
-    let mut desk = MemDesk::new(alloc);
+    let mut desk = MemDesk::empty(alloc);
     let mut link = TapeLink::new(alloc, answers_then(alloc, 0, &answers)?, 281);
     let outcome = outcome_over(alloc, READ, &mut desk, &mut link)?;
     let fault = HostFault::WrongSignature([0x1E, 0x95, 0x14]);

@@ -44,7 +44,7 @@ pub(crate) fn settings_for(alloc: Global, words: &[&str]) -> Result<Settings, Fa
 
 /// Returns a desk with these files, each a name and its bytes.
 pub(crate) fn desk_with(alloc: Global, files: &[(&str, &[u8])]) -> Result<MemDesk, Fail> {
-    let mut desk = MemDesk::new(alloc);
+    let mut desk = MemDesk::empty(alloc);
     for (name, bytes) in files {
         desk.put(*name, *bytes)?;
     }

@@ -74,28 +74,8 @@ impl MemDesk {
     ghost use Rattle.avr_desk.specs.Memory.{contents, file_named, memory_state, stock_of};
     ghost use Rattle.avr_desk.specs.Record.{all_files};
 
-    /// Creates a desk without files, with an empty standard input.
-    ///
-    /// ```text
-    /// let mut desk = MemDesk::new(alloc);
-    /// desk.put("a.hex", b":00000001FF\n")?;
-    /// assert!(rt; desk.file("a.hex") == Some(b":00000001FF\n".as_slice()));
-    /// ```
-    pub fn new(alloc: Global) -> MemDesk
-        ensures { result ≡ record {
-          kept = nothing_kept;
-          failures = 0;
-          unsaid = 0;
-          input = [];
-          stored = [];
-          opened = [];
-        } }
-    {
-        MemDesk::with_input(alloc, Bytes::new(alloc))
-    }
-
     /// Creates a desk without files. Its standard input has these bytes, from the start each time `-` is opened.
-    pub fn with_input(alloc: Global, input: Bytes) -> MemDesk
+    pub fn new(alloc: Global, input: Bytes) -> MemDesk
         ensures { result ≡ record {
           kept = nothing_kept;
           failures = 0;
@@ -114,6 +94,26 @@ impl MemDesk {
             failures: 0,
             unsaid: 0,
         }
+    }
+
+    /// Creates a desk without files, with an empty standard input.
+    ///
+    /// ```text
+    /// let mut desk = MemDesk::empty(alloc);
+    /// desk.put("a.hex", b":00000001FF\n")?;
+    /// assert!(rt; desk.file("a.hex") == Some(b":00000001FF\n".as_slice()));
+    /// ```
+    pub fn empty(alloc: Global) -> MemDesk
+        ensures { result ≡ record {
+          kept = nothing_kept;
+          failures = 0;
+          unsaid = 0;
+          input = [];
+          stored = [];
+          opened = [];
+        } }
+    {
+        MemDesk::new(alloc, Bytes::new(alloc))
     }
 
     /// Puts a file there. A later one of its name, put or created, replaces it.

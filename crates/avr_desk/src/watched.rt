@@ -55,7 +55,7 @@ pub trait WatchDesk {
 ///         }
 ///     }
 /// }
-/// let mut desk = WatchedDesk { desk: MemDesk::new(alloc), watcher: Sizes { printed: 0 } };
+/// let mut desk = WatchedDesk { desk: MemDesk::empty(alloc), watcher: Sizes { printed: 0 } };
 /// write_all(&mut desk, Stream::Output, b"abc")?;
 /// assert_eq!(rt; desk.watcher.printed, 3);
 /// ```

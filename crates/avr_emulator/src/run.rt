@@ -76,7 +76,7 @@ fn save_if_sent<D: ChipDesk>(
 ///
 /// ```text
 /// let settings = Settings::for_link(alloc, "m328p")?;
-/// let mut desk = MemDesk::new(alloc);
+/// let mut desk = MemDesk::empty(alloc);
 /// assert_eq!(rt; run_emu(alloc, &settings, "chip.bin", &mut desk), 0);
 /// assert!(rt; desk.file("chip.bin").map(|file| file.len()) == Some(33_796));
 /// ```

@@ -131,7 +131,7 @@ pub fn serve_part<D: ChipDesk, L: Link>(
 ///
 /// ```text
 /// let settings = Settings::for_link(alloc, "m328p")?;
-/// let mut desk = MemDesk::new(alloc);
+/// let mut desk = MemDesk::empty(alloc);
 /// let mut caller = StreamLink::new(b"\x1B".as_slice(), Vec::new(alloc));
 /// assert_eq!(rt; serve_for(alloc, &settings, "chip.bin", &mut desk, &mut caller, 1), 1);
 /// assert!(rt; desk.messages() == b"avrstk: error: too many reads\n".as_slice());
@@ -161,7 +161,7 @@ pub fn serve_for<D: ChipDesk, L: Link>(
 ///
 /// ```text
 /// let settings = Settings::for_link(alloc, "m328p")?;
-/// let mut desk = MemDesk::new(alloc);
+/// let mut desk = MemDesk::empty(alloc);
 /// let sign_on = b"\x1B\x01\x00\x01\x0E\x01\x14";
 /// let mut caller = StreamLink::new(sign_on.as_slice(), Vec::new(alloc));
 /// assert_eq!(rt; serve(alloc, &settings, "chip.bin", &mut desk, &mut caller), 0);

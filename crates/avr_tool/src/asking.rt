@@ -16,7 +16,7 @@ use thiserror::Error;
 /// for word in ["avrstk", "-P", "emu:chip.bin"] {
 ///     words.push(String::from_str(alloc, word)?)?;
 /// }
-/// let mut desk = MemDesk::new(alloc);
+/// let mut desk = MemDesk::empty(alloc);
 /// // without `-p` the words ask for no run; the line is printed
 /// assert!(rt; matches!(asked(alloc, words.as_slice(), &mut desk), Err(NotAsked::Refused(1))));
 /// assert_eq!(rt; NotAsked::Refused(1).number(), 2);
@@ -56,7 +56,7 @@ impl NotAsked {
 /// for word in ["avrstk", "-p", "nobody", "-P", "emu:chip.bin", "-U", "flash:r:-"] {
 ///     words.push(String::from_str(alloc, word)?)?;
 /// }
-/// let mut desk = MemDesk::new(alloc);
+/// let mut desk = MemDesk::empty(alloc);
 /// let Ok(settings) = asked(alloc, words.as_slice(), &mut desk) else {
 ///     panic!(rt; "the words are taken");
 /// };

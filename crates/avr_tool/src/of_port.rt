@@ -25,7 +25,7 @@ use stk_host::Link;
 /// ```text
 /// let mut settings = Settings::for_link(alloc, "m328p")?;
 /// settings.port = Port::Emulated(Text::new(alloc, "chip.bin")?);
-/// let mut desk = MemDesk::new(alloc);
+/// let mut desk = MemDesk::empty(alloc);
 /// assert_eq!(rt; run_emu(alloc, &settings, &mut desk), 0);
 /// assert!(rt; desk.file("chip.bin").map(|file| file.len()) == Some(33_796));
 /// ```
@@ -46,7 +46,7 @@ pub fn run_emu<D: ChipDesk>(alloc: Global, settings: &Settings, desk: &mut D) ->
 /// ```text
 /// let mut settings = Settings::for_link(alloc, "nobody")?;
 /// settings.port = Port::Network(Text::new(alloc, "localhost:5000")?);
-/// let mut desk = MemDesk::new(alloc);
+/// let mut desk = MemDesk::empty(alloc);
 /// // the part is judged before a connection is opened
 /// assert_eq!(rt; run_net(&rt, alloc, &settings, &mut desk), 1);
 /// ```
@@ -74,7 +74,7 @@ pub fn run_net<N: Network, D: Desk>(
 /// let mut settings = Settings::for_link(alloc, "m328p")?;
 /// let [port, chip] = [Text::new(alloc, "5000")?, Text::new(alloc, "chip.bin")?];
 /// settings.port = Port::Served { port, chip };
-/// let mut desk = MemDesk::new(alloc);
+/// let mut desk = MemDesk::empty(alloc);
 /// let mut caller = TapeLink::new(alloc, vec![in alloc; Item::Silence; 5]?, 281);
 /// assert_eq!(rt; serve_for(alloc, &settings, &mut desk, &mut caller, 3), 1);
 /// assert!(rt; desk.messages() == b"avrstk: error: too many reads\n".as_slice());
@@ -106,7 +106,7 @@ pub fn serve_for<D: ChipDesk, L: Link>(
 /// let mut settings = Settings::for_link(alloc, "m328p")?;
 /// let [port, chip] = [Text::new(alloc, "5000")?, Text::new(alloc, "chip.bin")?];
 /// settings.port = Port::Served { port, chip };
-/// let mut desk = MemDesk::new(alloc);
+/// let mut desk = MemDesk::empty(alloc);
 /// let sign_on = b"\x1B\x01\x00\x01\x0E\x01\x14";
 /// let mut caller = StreamLink::new(sign_on.as_slice(), Vec::new(alloc));
 /// assert_eq!(rt; serve(alloc, &settings, &mut desk, &mut caller), 0);
@@ -163,7 +163,7 @@ pub fn serve_on<L: Callers + Drop, D: ChipDesk>(
 /// let mut settings = Settings::for_link(alloc, "nobody")?;
 /// let [port, chip] = [Text::new(alloc, "5000")?, Text::new(alloc, "chip.bin")?];
 /// settings.port = Port::Served { port, chip };
-/// let mut desk = MemDesk::new(alloc);
+/// let mut desk = MemDesk::empty(alloc);
 /// // the part is judged before anybody is waited for
 /// assert_eq!(rt; serve_net(&rt, alloc, &settings, &mut desk), 1);
 /// ```

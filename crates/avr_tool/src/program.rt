@@ -82,7 +82,7 @@ fn words_untaken<D: Desk>(error: Error, desk: &mut D) -> Result<u8, Error>
 /// for word in ["avrstk", "-p", "m328p", "-P", "emu:chip.bin", "-q"] {
 ///     words.push(String::from_str(alloc, word)?)?;
 /// }
-/// let mut desk = MemDesk::new(alloc);
+/// let mut desk = MemDesk::empty(alloc);
 /// let mut streams = StreamLink::new(b"".as_slice(), Vec::new(alloc));
 /// assert_eq!(rt; run_words(&rt, alloc, words.as_slice(), &mut desk, &mut streams)?, 0);
 /// assert!(rt; desk.messages().is_empty());
@@ -143,7 +143,7 @@ fn stream_of_usage(error: &Error) -> Stream
 /// for word in ["avrstk", "-p", "m328p", "-P", "emu:chip.bin", "-q"] {
 ///     words.push(String::from_str(alloc, word)?)?;
 /// }
-/// let mut desk = MemDesk::new(alloc);
+/// let mut desk = MemDesk::empty(alloc);
 /// let mut streams = StreamLink::new(b"".as_slice(), Vec::new(alloc));
 /// assert_eq!(rt; run_program(&rt, alloc, words.as_slice(), &mut desk, &mut streams), 0);
 /// ```

@@ -27,7 +27,7 @@ use stk_host::{Link, StreamLink, TapeLink};
 ///
 /// ```text
 /// let settings = Settings::for_link(alloc, "m328p")?;
-/// let mut desk = MemDesk::new(alloc);
+/// let mut desk = MemDesk::empty(alloc);
 /// let chip = Chip::fresh(alloc, Parts::none().find("m328p")?)?;
 /// let mut wire = Wired::with_fates(alloc, chip, Fates::none(alloc));
 /// assert_eq!(rt; run(alloc, &settings, &mut desk, &mut wire), 0);
@@ -52,7 +52,7 @@ pub fn run<D: Desk, L: Link>(alloc: Global, settings: &Settings, desk: &mut D, l
 ///
 /// ```text
 /// let settings = Settings::for_link(alloc, "m328p")?;
-/// let mut desk = MemDesk::new(alloc);
+/// let mut desk = MemDesk::empty(alloc);
 /// let mut streams = StreamLink::new(b"".as_slice(), Vec::new(alloc));
 /// assert_eq!(rt; run_streams(alloc, &settings, &mut desk, &mut streams), 1);
 /// assert!(rt; desk.messages() == b"avrstk: error: link ended\n".as_slice());
@@ -83,7 +83,7 @@ pub fn run_streams<D: Desk, R: Read + Drop, W: Write + Drop>(
 ///
 /// ```text
 /// let settings = Settings::for_link(alloc, "m328p")?;
-/// let mut desk = MemDesk::new(alloc);
+/// let mut desk = MemDesk::empty(alloc);
 /// let mut tape = TapeLink::new(alloc, Vec::new(alloc), 281);
 /// assert_eq!(rt; run_in_memory(alloc, &settings, &mut desk, &mut tape), 1);
 /// assert!(rt; tape.sent() == b"\x1B\x01\x00\x01\x0E\x01\x14".as_slice());
@@ -111,7 +111,7 @@ pub fn run_in_memory(
 ///
 /// ```text
 /// let settings = Settings::for_link(alloc, "m328p")?;
-/// let mut desk = MemDesk::new(alloc);
+/// let mut desk = MemDesk::empty(alloc);
 /// let mut streams = StreamLink::new(b"".as_slice(), Vec::new(alloc));
 /// assert_eq!(rt; run_streams_in_memory(alloc, &settings, &mut desk, &mut streams), 1);
 /// let (_, sent) = streams.into_inner();
@@ -142,7 +142,7 @@ pub fn run_streams_in_memory<R: Read + Drop, W: Write + Drop>(
 ///
 /// ```text
 /// let settings = Settings::for_link(alloc, "m328p")?;
-/// let mut desk = MemDesk::new(alloc);
+/// let mut desk = MemDesk::empty(alloc);
 /// let chip = Chip::fresh(alloc, Parts::none().find("m328p")?)?;
 /// let mut fates = Fates::none(alloc);
 /// fates.push(Fate::LostCommand)?;

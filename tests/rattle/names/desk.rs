@@ -1,13 +1,68 @@
-//= avr_desk DeskFault MemDesk FailingDesk SystemDesk DeskFault::NotFound DeskFault::Failed Desk::open Desk::create
-//= Desk::read Desk::write Desk::out Desk::err DeskFault::number MemDesk::put MemDesk::file MemDesk::output
+//= avr_desk Desk DeskFault MemDesk FailingDesk SystemDesk DeskFault::NotFound DeskFault::Failed Desk::open Desk::create
+//= Desk::read Desk::write Desk::out Desk::err DeskFault::number MemDesk::new MemDesk::put MemDesk::file MemDesk::output
 //= MemDesk::messages MemDesk::uses FailingDesk::new FailingDesk::inner
-use avr_desk::{Desk, DeskFault, FailingDesk, MemDesk, SystemDesk};
+ghost use Rattle.avr_desk.specs.Memory.{Stock, memory_state};
+ghost use Rattle.avr_desk.specs.Truth.{HoldsTrue};
+
+use avr_cli::Settings;
+use avr_desk::{Bytes, Desk, DeskFault, FailingDesk, MemDesk, SystemDesk};
+use avr_session::run;
 use std::test::Fail;
+use stk_host::TapeLink;
+
+/// A desk of one's own: six calls, without those that lock and replace files.
+#[derive(Drop)]
+struct Own {
+    inner: MemDesk,
+}
+
+impl Desk for Own {
+    ghost view = { λ desk. memory_state desk.inner };
+
+    ghost Start = { Stock };
+
+    ghost comes_of = { λ stock desk. HoldsTrue stock desk.inner };
+
+    fn open(&mut self, name: &str) -> Result<(), DeskFault> {
+        self.inner.open(name)
+    }
+
+    fn create(&mut self, name: &str) -> Result<(), DeskFault> {
+        self.inner.create(name)
+    }
+
+    fn read(&mut self, buf: &mut [u8]) -> Result<usize, DeskFault> {
+        self.inner.read(buf)
+    }
+
+    fn write(&mut self, bytes: &[u8]) -> Result<usize, DeskFault> {
+        self.inner.write(bytes)
+    }
+
+    fn out(&mut self, bytes: &[u8]) -> Result<usize, DeskFault> {
+        self.inner.out(bytes)
+    }
+
+    fn err(&mut self, bytes: &[u8]) -> Result<usize, DeskFault> {
+        self.inner.err(bytes)
+    }
+}
+
+#[test]
+fn a_desk_of_ones_own_has_six_calls(rt: HostRuntime) -> Result<(), Fail> {
+    let alloc = rt.alloc();
+    let settings = Settings::for_link(alloc, "m328p")?;
+    let mut desk = Own { inner: MemDesk::empty(alloc) };
+    let mut link = TapeLink::new(alloc, Vec::new(alloc), 281);
+    assert!(rt; run(alloc, &settings, &mut desk, &mut link) == 1);
+    assert!(rt; desk.inner.messages() == b"avrstk: error: link ended\n".as_slice());
+    Ok(())
+}
 
 #[test]
 fn desks(rt: HostRuntime) -> Result<(), Fail> {
     let alloc = rt.alloc();
-    let mut desk: MemDesk = MemDesk::new(alloc);
+    let mut desk: MemDesk = MemDesk::new(alloc, Bytes::copied(alloc, b"in")?);
     desk.put("a", b"ab")?;
     assert!(rt; desk.open("b") == Err(DeskFault::NotFound));
     let opened: Result<(), DeskFault> = desk.open("a");

@@ -33,7 +33,7 @@ fn settings_and_plans(rt: HostRuntime) -> Result<(), Fail> {
     let words: Vec<String> = Vec::new(alloc);
     let matches = read_words(alloc, words.as_slice())?;
     let read: Result<Settings, SettingsFault> = settings(alloc, &matches);
-    let mut desk = MemDesk::new(alloc);
+    let mut desk = MemDesk::empty(alloc);
     if let Err(fault) = read {
         let refused: u8 = refuse(&fault, &mut desk);
         assert!(rt; refused == 1 && desk.messages() == b"avrstk: error: no part given (-p)\n".as_slice());
@@ -46,7 +46,7 @@ fn settings_and_plans(rt: HostRuntime) -> Result<(), Fail> {
 #[test]
 fn sessions(rt: HostRuntime) -> Result<(), Fail> {
     let alloc = rt.alloc();
-    let mut desk = MemDesk::new(alloc);
+    let mut desk = MemDesk::empty(alloc);
     let wanted: Settings = Settings::for_link(alloc, "m328p")?;
     let Ok(planned) = plan(alloc, &wanted, &mut desk) else {
         return Err(Fail::from("no plan"));
@@ -66,7 +66,7 @@ fn sessions(rt: HostRuntime) -> Result<(), Fail> {
 #[test]
 fn ports(rt: HostRuntime) -> Result<(), Fail> {
     let alloc = rt.alloc();
-    let mut desk = MemDesk::new(alloc);
+    let mut desk = MemDesk::empty(alloc);
     let mut emulated = Settings::for_link(alloc, "m328p")?;
     emulated.port = Port::Emulated(Text::new(alloc, "chip.bin")?);
     let status: u8 = run_emu(alloc, &emulated, &mut desk);
