@@ -559,6 +559,38 @@ runpy.run_path(sys.argv[0], run_name="__main__")
 """
 
 
+# runs a script with a device whose speed is 9600
+SLOW = """
+import fcntl, runpy, sys
+sys.argv[:1] = []
+do = fcntl.ioctl
+def ioctl(device, request, *given):
+    found = do(device, request, *given)
+    return found[:40] + (9600).to_bytes(4, sys.byteorder) if request == 0x802C542A else found
+fcntl.ioctl = ioctl
+runpy.run_path(sys.argv[0], run_name="__main__")
+"""
+
+
+def speeds_that_a_device_has_not():
+    """A device that keeps another speed is refused. One that is a little off is not."""
+    room.clear()
+
+    def ran(device, baud):
+        words = ["-c", SLOW, str(SCRIPT), "-p", "m328p", "-P", device, "-b", baud]
+        how = {"env": os.environ | {"AVRSTK": str(PROGRAM)}, "capture_output": True, "text": True, "timeout": PATIENCE}
+        found = subprocess.run([sys.executable, *words], **how)
+        return found.returncode, found.stderr.splitlines()[-1]
+
+    line, device = terminal()
+    wanted = f"avrstk-serial: {device}: cannot be set to 115200 baud: it takes 9600"
+    same("another speed", ran(device, "115200"), (1, wanted))
+    os.close(line)
+    it = Board()
+    same("a little off", ran(it.device, "9500"), (0, "avrstk: done"))
+    it.end()
+
+
 def lines_of_a_board():
     """With -c wiring DTR and RTS are released, and after 50 ms asserted, as AVRDUDE does. Other programmers are not reset."""
     room.clear()
@@ -1423,6 +1455,7 @@ CASES = named(
     devices,
     what_is_missing,
     ports_of_avrstk,
+    speeds_that_a_device_has_not,
     lines_of_a_board,
     bits_that_do_not_exist,
     lists,
