@@ -17,9 +17,16 @@ if sys.version_info < (3, 8):
     sys.exit("%s: Python 3.8 or later is needed, this is %d.%d" % (NAME, *sys.version_info[:2]))
 
 import re
+import selectors
 import shutil
+import signal
+import socket
+import time
 
-BUILT_IN = {"m328p": "1E950F", "t85": "1E930B", "m2560": "1E9801"}
+READ, WRITE = selectors.EVENT_READ, selectors.EVENT_WRITE
+
+# avrstk has these parts without a part file
+BUILT_IN = {"m328p", "t85", "m2560"}
 
 
 class Fault(Exception):
@@ -65,6 +72,9 @@ def take_closed_streams():
             os.set_inheritable(os.open("/dev/null", way), True)
 
 
+take_closed_streams()
+
+
 def data_file(name):
     """Returns the path of a file that comes with avrstk: in the repository, or where install.sh puts it."""
     for file in [os.path.join(HERE, "parts", name), os.path.join(HERE, "../share/avrstk", name)]:
@@ -100,3 +110,86 @@ def program(default=None):
     if not shutil.which(found):
         raise Fault(f"{found} is not there, or can't be run: avrstk is needed beside this script, or named by AVRSTK")
     return found
+
+
+def ready(watched, until=None):
+    """Waits until some of these files are ready for their events, and returns them; none if `until` passes."""
+    with selectors.PollSelector() as it:
+        for file, events in watched.items():
+            it.register(file, events)
+        return {key.fileobj for key, _ in it.select(until and max(0, until - time.monotonic()))}
+
+
+class Signals:
+    """The signals that end the script. `came` is readable once one was received."""
+
+    numbers = (signal.SIGINT, signal.SIGTERM, signal.SIGHUP)
+
+    def __init__(self):
+        self.came, self.noted = socket.socketpair()
+        self.noted.setblocking(False)
+
+    def heed(self):
+        """Notes signals from now on. (Under nohup, or in a shell's background, some are ignored, and stay so.)"""
+        signal.set_wakeup_fd(self.noted.fileno(), warn_on_full_buffer=False)
+        for number in self.numbers:
+            if signal.getsignal(number) is not signal.SIG_IGN:
+                signal.signal(number, lambda *_: None)
+
+    def first(self):
+        """Returns the number of the first signal received; None if none was."""
+        return self.came.recv(1, socket.MSG_PEEK)[0] if ready({self.came: READ}, time.monotonic()) else None
+
+
+class Way:
+    """Passes bytes from one file to another, one piece at a time, and notes them. Both files are non-blocking."""
+
+    def __init__(self, source, sink, note=None):
+        self.source, self.sink, self.note = source, sink, note
+        self.held, self.has_ended = b"", False
+
+    def watch(self, watched):
+        """Adds the file and event to wait for."""
+        file, events = (self.sink, WRITE) if self.held else (self.source, READ)
+        if not self.has_ended:
+            watched[file] = watched.get(file, 0) | events
+
+    def take(self):
+        """Takes the bytes that are there, or notes the end of the source."""
+        piece = os.read(self.source.fileno(), 65_536)
+        self.held, self.has_ended = self.held + piece, not piece
+        if self.note:
+            self.note(piece)
+
+    def go_on(self, found):
+        """Passes bytes on if a file that is waited for is among the ready ones. Returns whether anything moved."""
+        if self.has_ended or (self.sink if self.held else self.source) not in found:
+            return False
+        try:
+            if not self.held:
+                self.take()
+            if self.held:
+                self.held = self.held[os.write(self.sink.fileno(), self.held) :]
+            return True
+        except BlockingIOError:
+            return False
+
+
+class Frames:
+    """Cuts a stream into frames of STK500v2. What begins no frame is left out."""
+
+    def __init__(self):
+        self.held = b""
+
+    def cut(self, piece):
+        """Yields the sequence number and the body of each frame that this piece completes."""
+        self.held += piece
+        while len(self.held) > 5:
+            size = int.from_bytes(self.held[2:4], "big")
+            if self.held[0] != 0x1B or self.held[4] != 0x0E or not 0 < size <= 275:
+                self.held = self.held[1:]
+                continue
+            if len(self.held) < size + 6:
+                return
+            frame, self.held = self.held[: size + 5], self.held[size + 6 :]
+            yield frame[1], frame[5:]

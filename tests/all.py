@@ -42,7 +42,7 @@ SOURCES = ("rattle names", "rattle tests", "rattle programs", "rattle refused", 
 # scripts over the library for C, which takes minutes to prove and build, so that only --all runs them
 LIBRARY = ("from_c", "others")
 # scripts that take seconds
-SHORT = ("made_frames", "manual", "programmer")
+SHORT = ("bad_lines", "made_frames", "manual", "programmer")
 # scripts that ./test runs with the unproved program; the longest first
 QUICK = ("serial", "parts", "avrdude", "runs", "chips", "package", "serve", "recipes", "why", "claims", "lines", "hostile", *SHORT)
 # those that --all runs with both programs: two compilers made what these compare byte for byte

@@ -4,6 +4,7 @@ its tool isn't installed."""
 import os
 import signal
 import sys
+import time
 import traceback
 
 # A shell's background jobs ignore SIGINT, and jobs under nohup SIGHUP; their children inherit that. The programs run here
@@ -50,6 +51,16 @@ def leave_out(what, why):
     global left
     left += 1
     print(f"left out: {what}: {why}", flush=True)
+
+
+def wait_until(is_there):
+    """Waits until this call returns something true, and returns that."""
+    ends = time.monotonic() + PATIENCE
+    while not (found := is_there()):
+        if time.monotonic() > ends:
+            raise TimeoutError("what is waited for does not come")
+        time.sleep(0.002)
+    return found
 
 
 def named(*functions):

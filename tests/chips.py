@@ -23,7 +23,7 @@ import threading
 import time
 from pathlib import Path
 
-from cases import PATIENCE, leave_out, named, run_cases, same, see
+from cases import PATIENCE, leave_out, named, run_cases, same, see, wait_until
 from program import CHIP_FILE, PROGRAM, TOP, Room, Server, lines
 
 room = Room()
@@ -185,7 +185,7 @@ def held_by_a_session():
     with Server(room, "chip.bin") as server:
         is_good("a run before a caller comes", room.run(writes_fuse(0x62)))
         with server.call() as caller:
-            wait_for(is_held)
+            wait_until(is_held)
             same("a run beside the session", room.run(writes_fuse(0xE2)), (1, b"", IN_USE))
             caller.shutdown(1)
         same("the session", server.end(), (0, b"", b""))
@@ -204,14 +204,6 @@ def refused_by_then():
     (room.folder / "pipe").read_bytes()
     holder.communicate(timeout=PATIENCE)
     see("the run ends well", holder.returncode == 0)
-
-
-def wait_for(seen):
-    ends = time.monotonic() + 30
-    while not seen():
-        if time.monotonic() > ends:
-            raise TimeoutError
-        time.sleep(0.002)
 
 
 def told_before():
@@ -520,7 +512,7 @@ def delayed(words, call, seconds):
     traced = ["strace", "-o", "trace", "-e", f"trace={call}", "-e", f"inject={call}:delay_enter={int(seconds * 1e6)}"]
     started = room.start(words, front=traced, env=os.environ | {"ASAN_OPTIONS": "detect_leaks=0"})
     # (strace prints the call's name as it begins)
-    wait_for(lambda: call.encode() in (room.read("trace") or b""))
+    wait_until(lambda: call.encode() in (room.read("trace") or b""))
     yield started
     started.communicate(timeout=PATIENCE)
 

@@ -8,12 +8,17 @@ from cases import PATIENCE
 from program import Server
 
 
+def frame_size(begin):
+    """Returns the length of a frame. Its third and fourth bytes are the length of its body."""
+    return 6 + int.from_bytes(begin[2:4], "big")
+
+
 def frames_of(stream):
-    """Yields the frames of a connection until its end. A frame's third and fourth bytes are its length."""
+    """Yields the frames of a connection until its end."""
     held = b""
     while True:
-        while len(held) >= 6 and len(held) >= 6 + int.from_bytes(held[2:4], "big"):
-            size = 6 + int.from_bytes(held[2:4], "big")
+        while len(held) >= max(6, frame_size(held)):
+            size = frame_size(held)
             yield held[:size]
             held = held[size:]
         try:

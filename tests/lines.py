@@ -14,7 +14,7 @@ import sys
 import time
 
 from cases import PATIENCE, chosen, leave_out, named, run_cases, same, see
-from line import FrontOfAnswers, Peer, frames_of
+from line import FrontOfAnswers, Peer, frame_size, frames_of
 from program import ANSWERS, CHIP_FILE, FRAMES, PROGRAM, TOP, Room, Server, frame, kept_port, lines, port_of
 
 PART = ["-p", "m328p"]
@@ -287,10 +287,10 @@ def answers_are_bad():
 
 
 def count_of_frames(sent):
-    """Returns the number of frames sent. A frame's third and fourth bytes are the length of its body."""
+    """Returns the number of frames sent."""
     count = 0
     while sent:
-        sent = sent[6 + int.from_bytes(sent[2:4], "big") :]
+        sent = sent[frame_size(sent) :]
         count += 1
     return count
 

@@ -14,7 +14,7 @@ import time
 
 from cases import PATIENCE, named, run_cases, see
 from line import frames_of
-from program import Room, Server, frame, lines
+from program import Room, Server, frame, lines, xor
 
 room = Room()
 
@@ -109,10 +109,7 @@ def made_contents(first, read):
         answered = frame(read, b"\x14\x00", bytes(block), b"\x00")
         heard = bytes(block[place:]) + answered[-2:] + frame(again, b"\x06\x00")
         heard += frame(read + 2, b"\x14\x00", bytes(block), b"\x00")
-        check = 0
-        for byte in heard[:265]:
-            check ^= byte
-        if check == 0 and heard[263] == 0:
+        if xor(heard[:265]) == 0 and heard[263] == 0:
             return block
     raise SystemExit("no contents have this XOR")
 

@@ -1,6 +1,7 @@
 """Runs the built program in a folder of its own, or serves it at a port, for the scripts beside this one. AVRSTK names the
 program; the default is the one that ./avrstk runs: the proved one, or else the one without proofs."""
 
+import operator
 import os
 import socket
 import subprocess
@@ -8,6 +9,7 @@ import sys
 import tempfile
 import threading
 import time
+from functools import reduce
 from pathlib import Path
 
 from cases import PATIENCE
@@ -114,10 +116,12 @@ def frame(number, *body):
     """Returns the frame of a sequence number, modulo 256, and a body, given as bytes and lists of bytes."""
     body = b"".join(bytes([it]) if isinstance(it, int) else it for it in body)
     whole = bytes([0x1B, number % 256]) + len(body).to_bytes(2, "big") + b"\x0e" + body
-    check = 0
-    for byte in whole:
-        check ^= byte
-    return whole + bytes([check])
+    return whole + bytes([xor(whole)])
+
+
+def xor(held):
+    """Returns the XOR of all bytes: a frame's last byte is that of the others."""
+    return reduce(operator.xor, held, 0)
 
 
 def free_port():

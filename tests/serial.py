@@ -28,7 +28,7 @@ from concurrent.futures import ThreadPoolExecutor
 from functools import lru_cache
 from pathlib import Path
 
-from cases import PATIENCE, leave_out, named, run_cases, same, see
+from cases import PATIENCE, leave_out, named, run_cases, same, see, wait_until
 from line import frames_of
 from program import PROGRAM, TOP, Room, Server, forks, frame, free_port, has_avrdude, lines, listens_at, read_whole
 
@@ -181,14 +181,6 @@ def run(words, **more):
     return started.returncode, output, others, own
 
 
-def wait_until(what):
-    ends = time.monotonic() + PATIENCE
-    while not what():
-        if time.monotonic() > ends:
-            raise SystemExit("what is waited for does not come")
-        time.sleep(0.002)
-
-
 def speed(line):
     """Returns both speeds of a pseudo terminal, whose ends share one set of flags (TCGETS2 has any speed)."""
     held = array.array("I", bytes(44))
@@ -275,6 +267,7 @@ def words_of_avrdude():
         (recipe, ["ignored: -C /etc/avrdude.conf"]),
         ([*FLASH, "-C", "x.conf", "-l", "x.log", "-P", "DEVICE"], ["ignored: -C x.conf, -l x.log"]),
         ([*FLASH, "-us", "-P", "DEVICE"], ["ignored: -u, -s"]),
+        (["-vp=m328p", "-P=DEVICE", "-b=115200", "-U=blink.hex"], [named]),
         (["--wait", "0", *FLASH, "-P", "DEVICE"], []),
         *(([f"--wait={it}", *FLASH, "-P", "DEVICE"], []) for it in ["2.5", "3"]),
         *(([*FLASH, "-P", "DEVICE", "-b", it], []) for it in ["9600", "74880", "250000", "1000000"]),
@@ -389,8 +382,12 @@ def refused():
         (["-b", "fast"], "-b fast: not a speed"),
         (["--wait", "soon"], "--wait soon: not a number of seconds from 0 to 3"),
         (["--wait", "4"], "--wait 4: not a number of seconds from 0 to 3"),
-        (["--wait"], "--wait: its value is missing"),
-        (["-U"], "-U: its value is missing"),
+        (["--wait"], "option --wait requires argument"),
+        (["-U"], "option -U requires argument"),
+        (["-z"], "option -z not recognized"),
+        (["--verbose"], "option --verbose not recognized"),
+        (["-"], "- has no option before it: a file is given as -U flash:w:-"),
+        (["-U", "=blink.hex"], f"there is no such file; {note}"),
         (["--serve", "5000"], "--serve is for a programmer without a device"),
         (["-P", "usb"], "-P usb is for programmers without a serial device: use avrdude"),
         (["-p", "m9"], f"-p ? lists the parts; others need a part file (--parts); {note}"),
@@ -560,6 +557,38 @@ def ioctl(device, request, *given):
 fcntl.ioctl = ioctl
 runpy.run_path(sys.argv[0], run_name="__main__")
 """
+
+
+# runs a script with a device whose speed is 9600
+SLOW = """
+import fcntl, runpy, sys
+sys.argv[:1] = []
+do = fcntl.ioctl
+def ioctl(device, request, *given):
+    found = do(device, request, *given)
+    return found[:40] + (9600).to_bytes(4, sys.byteorder) if request == 0x802C542A else found
+fcntl.ioctl = ioctl
+runpy.run_path(sys.argv[0], run_name="__main__")
+"""
+
+
+def speeds_that_a_device_has_not():
+    """A device that keeps another speed is refused. One that is a little off is not."""
+    room.clear()
+
+    def ran(device, baud):
+        words = ["-c", SLOW, str(SCRIPT), "-p", "m328p", "-P", device, "-b", baud]
+        how = {"env": os.environ | {"AVRSTK": str(PROGRAM)}, "capture_output": True, "text": True, "timeout": PATIENCE}
+        found = subprocess.run([sys.executable, *words], **how)
+        return found.returncode, found.stderr.splitlines()[-1]
+
+    line, device = terminal()
+    wanted = f"avrstk-serial: {device}: cannot be set to 115200 baud: it takes 9600"
+    same("another speed", ran(device, "115200"), (1, wanted))
+    os.close(line)
+    it = Board()
+    same("a little off", ran(it.device, "9500"), (0, "avrstk: done"))
+    it.end()
 
 
 def lines_of_a_board():
@@ -921,7 +950,7 @@ def hints():
     instead = lambda command, *body: {"answer": changes(command, bytes([command, *body]))}
     whole, partly = "the chip is unchanged", "the chip is erased or partly written, and may be held in reset: run the"
     stopped = "the programmer stopped replying: check the cable and the power"
-    another = "the chip is m328p or atmega328p (1E 95 0F): use -p m328p"
+    another = "the chip is m328p (1E 95 0F): use -p m328p; nothing was written"
     bit = "may not have such a bit: read the value with -U lfuse:r:-:h"
     locked, nobit = "run the same command again; if it fails again, a lock protects it", "only bits differ that the part"
     fuse, found = ["-p", "m328p", "-U", "lfuse:w:0xE2:m"], "expected, 00 found"
@@ -1359,11 +1388,6 @@ def ended(started):
     return started.returncode, told
 
 
-def wait_for(port):
-    """Waits until a process listens at the port, without a call."""
-    wait_until(lambda: listens_at(port))
-
-
 def recipe_of_the_script():
     firmware = flashed()
     room.clear()
@@ -1392,7 +1416,7 @@ def recipe_of_a_plain_bridge():
         it = Board(**board)
         port = free_port()
         bridge = typed(recipe("socat TCP-LISTEN:5000,bind=127.0.0.1,reuseaddr FILE"), it.device, port)
-        wait_for(port)
+        wait_until(lambda: listens_at(port))
         found = ended(typed(recipe(CALL), it.device, port))
         bridge.communicate(timeout=PATIENCE)
         same("a plain bridge", (*found, it.end() == firmware), wanted)
@@ -1413,7 +1437,7 @@ def recipe_of_ser2net():
     room.put("ser2net.yaml", text.replace("/dev/ttyACM0", it.device).replace("5000", str(port)).encode())
     server = subprocess.Popen(["ser2net", "-n", "-c", room.folder / "ser2net.yaml"], stderr=subprocess.DEVNULL)
     try:
-        wait_for(port)
+        wait_until(lambda: listens_at(port))
         found = ended(typed(recipe(CALL), it.device, port))
         same("ser2net", (*found, it.end() == firmware), (0, lines(*FIRMWARE), True))
     finally:
@@ -1431,6 +1455,7 @@ CASES = named(
     devices,
     what_is_missing,
     ports_of_avrstk,
+    speeds_that_a_device_has_not,
     lines_of_a_board,
     bits_that_do_not_exist,
     lists,

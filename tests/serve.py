@@ -16,7 +16,7 @@ import sys
 import time
 from pathlib import Path
 
-from cases import PATIENCE, leave_out, named, run_cases, same, see
+from cases import PATIENCE, leave_out, named, run_cases, same, see, wait_until
 from program import ANSWERS, CHIP_FILE, ENDS, FRAMES, PROGRAM, TOP, Room
 from program import frame, free_port, kept_port, lines, port_of, read_whole
 
@@ -83,14 +83,6 @@ def runs():
     return found
 
 
-def wait_for(seen):
-    ends = time.monotonic() + PATIENCE
-    while not seen():
-        if time.monotonic() > ends:
-            raise TimeoutError
-        time.sleep(0.002)
-
-
 def fuse():
     """Returns the low fuse of the chip file; None if there is no file."""
     chip = room.read("chip.bin")
@@ -118,7 +110,7 @@ def listens():
         same("its line", it.said, f"serving at 127.0.0.1:{it.port}\n".encode())
         for value in [0x60, 0x61, 0x62]:
             same(f"fuse {value}", it.writes_fuse(value)[0], 0)
-            wait_for(lambda: fuse() == value)
+            wait_until(lambda: fuse() == value)
         with Serving(port=str(it.port)) as other:
             wanted = (b"", 1, f"avrstk-serve: port {it.port}: Address already in use\n")
             same("a port that is taken", (other.said, other.started.wait(), other.messages.read_text()), wanted)
@@ -146,7 +138,7 @@ def clients_that_send_nothing():
         silent = [it.call() for _ in range(100)]
         # (a later client is served only after the server has seen these)
         same("a client after them", it.writes_fuse(0x60)[0], 0)
-        wait_for(lambda: fuse() == 0x60)
+        wait_until(lambda: fuse() == 0x60)
         with it.call() as client:
             see("a session", begins(client))
             for _ in range(10):
@@ -155,7 +147,7 @@ def clients_that_send_nothing():
         same("the next client", it.writes_fuse(0x61)[0], 0)
         for client in silent:
             client.close()
-        wait_for(lambda: fuse() == 0x61)
+        wait_until(lambda: fuse() == 0x61)
         before = (room.folder / "chip.bin").stat().st_mtime_ns
         for _ in range(10):
             it.call().close()
@@ -195,7 +187,7 @@ def half_closed():
         client.sendall(b"".join(FRAMES))
         client.shutdown(socket.SHUT_WR)
         same("the replies", heard(client, 1000), ANSWERS)
-        wait_for(lambda: room.read("chip.bin") is not None)
+        wait_until(lambda: room.read("chip.bin") is not None)
         same("the messages", it.end(), (0, ""))
 
 
@@ -415,7 +407,7 @@ def status_of_sessions():
     def exchanged(it, run, client):
         exchange()
         client.close()
-        wait_for(lambda: not runs())
+        wait_until(lambda: not runs())
         os.kill(it.started.pid, term)
 
     def exchanged_before(it, run, client):
@@ -529,7 +521,7 @@ def two_at_once():
         how = {"cwd": room.folder, "env": environment(), "stdout": subprocess.PIPE, "stderr": subprocess.PIPE}
         port = str(free_port())
         both = [subprocess.Popen([SCRIPT, port, *M328P[:3], f"chip{number}.bin"], **how) for number in (1, 2)]
-        wait_for(lambda: any(it.poll() is not None for it in both))
+        wait_until(lambda: any(it.poll() is not None for it in both))
         refused, other = sorted(both, key=lambda it: it.poll() is None)
         see("one serves", other.stdout.readline().startswith(b"serving at "))
         told = f"avrstk-serve: port {port}: Address already in use\n".encode()
@@ -544,7 +536,7 @@ def nothing_hangs():
     os.mkfifo(room.folder / "pipe")
     how = {"cwd": room.folder, "env": environment(), "stdout": subprocess.PIPE, "stderr": subprocess.PIPE}
     started = subprocess.Popen([SCRIPT, "0", "-p", "m328p", "--chip", "pipe"], **how)
-    wait_for(runs)
+    wait_until(runs)
     started.terminate()
     same("a pipe as chip file", (*started.communicate(timeout=PATIENCE), started.returncode), (b"", b"", 0))
     same("no run is left", runs(), [])
@@ -592,7 +584,7 @@ def devices():
             how = {"cwd": room.folder, "env": environment(), "capture_output": True, "timeout": PATIENCE}
             ran = subprocess.run([*words, "-U", f"flash:w:{name}"], **how)
             same(f"{name}: a client", (ran.returncode, ran.stderr), (0, b""))
-            wait_for(lambda: not runs() and link.is_symlink())
+            wait_until(lambda: not runs() and link.is_symlink())
         same("the chip", room.read("chip.bin")[:1024], room.read("whole.bin"))
         idle = os.open(link, os.O_RDWR | os.O_NOCTTY)
         os.write(idle, FRAMES[0])
@@ -617,7 +609,7 @@ def logged():
             see("replies", len(heard(client, ENDS[1])) == ENDS[1])
         with it.call() as client:
             see("another client", begins(client))
-        wait_for(lambda: len(room.read("log").splitlines()) == 3)
+        wait_until(lambda: len(room.read("log").splitlines()) == 3)
         same("it ends", it.end(), (0, ""))
     rows = [row.partition(" client ")[2] for row in room.read("log").decode().splitlines()]
     wanted = [
