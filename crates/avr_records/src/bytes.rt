@@ -17,16 +17,10 @@ pub(crate) fn first(count: usize, text: &[u8]) -> &[u8]
     &text[..count.min(text.len())]
 }
 
-pub(crate) fn is_digit(c: u8) -> bool
-    ensures { result ≡ is_hex_digit c }
-{
-    c.is_ascii_hexdigit()
-}
-
 pub(crate) fn are_digits(text: &[u8]) -> bool
     ensures { result ≡ list_all is_hex_digit text.now }
 {
-    text.iter().all(|c| is_digit(*c))
+    text.iter().all(|c| c.is_ascii_hexdigit())
 }
 
 /// Returns the fault of an odd number of digits; a bad digit comes first.

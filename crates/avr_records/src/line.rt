@@ -209,14 +209,11 @@ fn srec_meaning(found: LineRecord<'_>) -> Line<'_>
     ensures means { meaning_of result ≡ srec_means (record_of found.entry) }
     ensures fits { FitsKind Kind.Srec result }
 {
-    if found.record_type == 0 {
-        Line::Nothing
-    } else if found.record_type <= 3 {
-        Line::Data(found.address, found.bytes)
-    } else if found.record_type <= 6 {
-        Line::Counted(found.address)
-    } else {
-        Line::End
+    match found.record_type {
+        0 => Line::Nothing,
+        1..=3 => Line::Data(found.address, found.bytes),
+        4..=6 => Line::Counted(found.address),
+        _ => Line::End,
     }
 }
 

@@ -143,8 +143,7 @@ pub fn read_record(kind: Kind, line: &[u8]) -> Result<Record, RecordFault>
     ensures { result ≡ alone (line_record kind line.now) }
 {
     let mut room = [0; ROOM];
-    match record_in(kind, line, &mut room) {
-        Ok(found) => Ok(Record::copied(found)),
-        Err(fault) => Err(fault.in_line(1)),
-    }
+    record_in(kind, line, &mut room)
+        .map(Record::copied)
+        .map_err(|fault| fault.in_line(1))
 }

@@ -15,7 +15,7 @@ fn bit(image: &Image, addr: u32) -> u8
     ensures value { result ≡ bit image.now addr }
     ensures small { result < 2 }
 {
-    if image.get(addr).is_some() { 1 } else { 0 }
+    u8::from(image.get(addr).is_some())
 }
 
 fn octet(image: &Image, addr: u32) -> u8

@@ -73,7 +73,7 @@ pub(crate) fn cursor_of(lines: &Lines, gone: u32) -> Cursor
         Kind::Srec => (0, lines.address_size.bytes() as u8),
     };
     Cursor {
-        addr: lines.addr.min(4294967295) as u32,
+        addr: lines.addr.min(u64::from(u32::MAX)) as u32,
         gone,
         upper,
         address_size,
