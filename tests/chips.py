@@ -91,9 +91,7 @@ def ended_anywhere():
     next run works as usual."""
     if not shutil.which("cc"):
         return leave_out("runs that are ended", "there is no C compiler")
-    shim = room.folder / "refuse.so"
-    subprocess.run(["cc", "-O2", "-shared", "-fPIC", "-o", str(shim), str(TOP / "tests/refuse.c"), "-ldl"], check=True)
-    room.given.add(shim.name)
+    shim = a_shim()
     for prepare, old, hows in [
         (fresh_room, OLD, [("kill", signal.SIGKILL), ("int", signal.SIGINT)]),
         (a_link_to_no_file, None, [("kill", signal.SIGKILL)]),
@@ -102,6 +100,15 @@ def ended_anywhere():
         for how, number in hows:
             left = {ended_at(prepare, old, shim, f"any {call} {how}", number) for call in range(1, calls + 1)}
             see(f"{how}: both the old and the new chip are seen", left == {old, with_fuse(old or FRESH, 0x62)}, len(left))
+
+
+def a_shim():
+    """Returns the library that ends a run at one of its calls."""
+    shim = room.folder / "refuse.so"
+    if not shim.exists():
+        subprocess.run(["cc", "-O2", "-shared", "-fPIC", "-o", str(shim), str(TOP / "tests/refuse.c"), "-ldl"], check=True)
+        room.given.add(shim.name)
+    return shim
 
 
 def a_link_to_no_file():
@@ -440,6 +447,52 @@ def read_into_the_lock_file():
         see("the chip is written", room.read("chip.bin") == with_fuse(old or FRESH, 0x62))
 
 
+def read_into_the_chip():
+    """Reads into the chip's own file, by any of its names: the saved chip replaces what was read. A signal ends such a run
+    at each of its calls in turn; the chip is then the old one or the new one."""
+    if not shutil.which("cc"):
+        return leave_out("reads that are ended", "there is no C compiler")
+    shim = a_shim()
+    for start in [fresh_room, room.clear]:
+        for name in ["chip.bin", "./link.bin", "name.bin"] if start == fresh_room else ["chip.bin", "./link.bin"]:
+            reads_into(lambda it=start: names_of_a_chip(it), name, shim, {})
+    with tempfile.TemporaryDirectory() as bare:
+        how = nobody(bare)
+        reads_into(lambda: (names_of_a_chip(fresh_room), give_to(how, "chip.bin")), "name.bin", shim, how)
+        reads_into(lambda: (names_of_a_chip(room.clear), give_to(how)), "link.bin", shim, how)
+    give_to({"user": os.geteuid(), "group": os.getegid()})
+
+
+def names_of_a_chip(start):
+    """Gives a chip a link, and another name if it is there."""
+    start()
+    (room.folder / "link.bin").symlink_to("chip.bin")
+    if (room.folder / "chip.bin").exists():
+        (room.folder / "name.bin").hardlink_to(room.folder / "chip.bin")
+
+
+def reads_into(prepare, name, shim, how):
+    words = [*EMULATED, "-U", f"eeprom:r:{name}:r", "-U", "lfuse:w:0x62:m"]
+    for call in range(1, 10_000):
+        prepare()
+        old = room.read("chip.bin")
+        new = with_fuse(old or FRESH, 0x62)
+        given = {"LD_PRELOAD": str(shim), "REFUSE": f"any {call} kill", "REFUSED": "refused"}
+        ran = ended(room.start(words, env=os.environ | given, **how))
+        chip = room.read("chip.bin")
+        if room.read("refused") is None:
+            break
+        what = f"{name}, any {call} kill, {'a' if old else 'no'} chip"
+        see(f"{what}: ended", ran[0] == -signal.SIGKILL, ran)
+        see(f"{what}: the chip is the old one or the new one", chip in (old, new), len(chip or b""))
+        is_good(f"{what}: the next run", ended(room.start(writes_fuse(0x63), **how)))
+    same(f"{name}: a run that isn't ended", ran[0], 0)
+    see(f"{name}: the chip is saved", chip == new, len(chip or b""))
+    same(f"{name}: no file is left beside the chip", beside(), [])
+    if name == "name.bin":
+        see("another name of the old chip has what was read", room.read(name) == old[EEPROM:LFUSE])
+
+
 def long_names():
     """A chip's name may have 244 bytes; a longer one is refused before any frame is sent, and no file is created."""
     room.clear()
@@ -651,8 +704,8 @@ def stormy():
 
 CASES = named(
     *(ended_anywhere, at_once, held_by_a_run, held_by_a_session, refused_by_then, told_before, what_stays, whose_it_stays),
-    *(left_behind, taken_away, linked_first, what_is_not_ours, read_into_the_lock_file, long_names, on_the_disk),
-    *(no_regular_file, a_full_disk, the_window, nobody_else_opens_it, mounted, stormy),
+    *(left_behind, taken_away, linked_first, what_is_not_ours, read_into_the_lock_file, read_into_the_chip),
+    *(long_names, on_the_disk, no_regular_file, a_full_disk, the_window, nobody_else_opens_it, mounted, stormy),
 )
 
 

@@ -37,7 +37,11 @@ pub(crate) fn longest_file() -> u64 {
 
 /// Creates or empties a file.
 pub(crate) fn create<R: Files<File = File>>(rt: &R, name: &str) -> io::Result<Bounded<File>> {
-    let writer = fs::create(rt, name)?;
+    limited(fs::create(rt, name)?)
+}
+
+/// Bounds a file, if it is regular.
+pub(crate) fn limited(writer: File) -> io::Result<Bounded<File>> {
     let is_regular = writer.metadata()?.is_file();
     let file = if is_regular {
         Some(writer.try_clone()?)

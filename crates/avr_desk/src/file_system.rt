@@ -67,12 +67,13 @@ pub trait FileSystem {
         ensures opens { OnOk result (Does did (opening name.now) self.old self.new) }
         ensures fails { OnErr result (Stays did self.old self.new) };
 
-    /// Creates a file, or empties an existing one.
+    /// Creates a file, or empties an existing one. A held file keeps its bytes: if the name leads to it, the bytes that
+    /// are written have no name, and the next replacement is in their place.
     ///
     /// # Errors
     ///
     /// The system's error.
-    fn create_named(&mut self, name: &str) -> io::Result<Self::File>
+    fn create_named(&mut self, name: &str, hold: Option<&Self::Hold>) -> io::Result<Self::File>
         ensures named { IfOk result (λ file. is_of file name.now) }
         ensures creates { OnOk result (Does did (making name.now) self.old self.new) }
         ensures fails { OnErr result (Stays did self.old self.new) };
@@ -144,8 +145,15 @@ impl<'a, R: Files<File = fs::File> + Input + Alloc<A = Global>> FileSystem for &
         Ok(Bounded::new(fs::open(*self, name)?, None))
     }
 
-    fn create_named(&mut self, name: &str) -> io::Result<Bounded<fs::File>> {
-        create(*self, name)
+    fn create_named(
+        &mut self,
+        name: &str,
+        hold: Option<&Replacement>,
+    ) -> io::Result<Bounded<fs::File>> {
+        match hold {
+            Some(hold) => hold.create(*self, name),
+            None => create(*self, name),
+        }
     }
 
     fn close_file(&mut self, file: Bounded<fs::File>) {

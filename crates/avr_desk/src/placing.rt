@@ -2,6 +2,7 @@
 //! nothing.
 ghost use Rattle.std.specs.Prelude.{◌≡◌, ◌==◌, ◌&&◌, ◌||◌, ◌%◌, ◌*◌, if◌then◌else◌, not, bit_and, bit_or, nat_le};
 ghost use Rattle.avr_desk.specs.declared.placing.Step.TheVariants.{Link, Rename, Refuse};
+ghost use Rattle.avr_desk.specs.declared.placing.Writes.TheVariants.{There, Anew, Nowhere};
 
 /// The mode bits that a new file takes over from the old one: no setuid, no setgid.
 pub(crate) const PERMISSIONS: u32 = 0o777;
@@ -30,6 +31,36 @@ pub(crate) fn step_after(is_absent: bool, is_held: bool) -> Step
         Step::Rename
     } else {
         Step::Refuse
+    }
+}
+
+/// Where the bytes go that are written by a name during a run.
+#[derive(Clone, Copy)]
+pub(crate) enum Writes {
+    /// Into the file of that name, which is created or emptied.
+    There,
+    /// Into a new file. It takes the name from the held one, which has another.
+    Anew,
+    /// Into a file without a name, because the held one has only this name.
+    Nowhere,
+}
+
+/// Returns where bytes go that are written by a name. `is_place` says whether it leads to the place of the held file,
+/// and `is_held` whether it leads to that file, which has so many names.
+pub(crate) fn writes_after(is_place: bool, is_held: bool, names: u64) -> Writes
+    ensures { result ≡ (if is_place then Nowhere
+        else (if is_held then (if nat_le names 1 then Nowhere else Anew) else There)) }
+{
+    if is_place {
+        Writes::Nowhere
+    } else if is_held {
+        if names <= 1 {
+            Writes::Nowhere
+        } else {
+            Writes::Anew
+        }
+    } else {
+        Writes::There
     }
 }
 

@@ -12,9 +12,11 @@ ghost use Rattle.avr_desk.specs.Journal.{Does, making};
 ghost use Rattle.avr_desk.specs.Record.{Bytes};
 ghost use Rattle.ghosts.specs.Stays.{Stays};
 
-use crate::bounded::{create, longest_file};
+use crate::bounded::{Bounded, create, limited, longest_file};
 use crate::file_system::FileSystem;
-use crate::placing::{MARK, PERMISSIONS, Step, is_left_over, permissions_after, step_after};
+use crate::placing::{
+    MARK, PERMISSIONS, Step, Writes, is_left_over, permissions_after, step_after, writes_after,
+};
 use std::alloc::Global;
 use std::fs::{File, Metadata, OpenOptions, Permissions, TryLockError};
 use std::io::{ErrorKind, Seek, SeekFrom, Write};
@@ -121,6 +123,23 @@ fn folder_of(path: &str) -> &str {
         Some((folder, _)) => folder,
         None => ".",
     }
+}
+
+/// Returns the name of a file in its folder.
+fn name_in_folder(path: &str) -> &str {
+    match path.rsplit_once('/') {
+        Some((_, name)) => name,
+        None => path,
+    }
+}
+
+/// Returns whether two paths are one name in one folder.
+fn is_one_place<R: Files>(rt: &R, one: &str, other: &str) -> io::Result<bool> {
+    if name_in_folder(one) != name_in_folder(other) {
+        return Ok(false);
+    }
+    let folder = fs::metadata(rt, folder_of(one))?;
+    Ok(is_same(&folder, &fs::metadata(rt, folder_of(other))?))
 }
 
 /// Waits until the file's name is on the disk. It ignores a folder that can't be opened or synchronized.
@@ -347,10 +366,48 @@ impl Held {
         NewFile::make(rt, self.target.as_str(), number, mode)
     }
 
-    /// Fails if no file can be made beside this one. It removes what programs left that ended while it was absent.
-    fn prepare<R: Files<File = File> + Alloc<A = Global>>(&self, rt: &R) -> io::Result<()> {
+    /// Makes a file beside this one and takes its name away.
+    fn make_nameless<R: Files<File = File> + Alloc<A = Global>>(&self, rt: &R) -> io::Result<File> {
         let new = self.make_new(rt, &self.old()?)?;
         remove(rt, &new.file, new.path.as_str());
+        Ok(new.file)
+    }
+
+    /// Returns where bytes go that are written by this name, and the path that it leads to.
+    fn writes_by<R: Files<File = File> + Alloc<A = Global>>(
+        &self,
+        rt: &R,
+        name: &str,
+    ) -> io::Result<(Writes, String)> {
+        let path = target_of(rt, name)?;
+        let is_place = is_one_place(rt, path.as_str(), self.target.as_str())?;
+        let there = unless_absent(fs::metadata(rt, name))?;
+        let (is_held, names) = match (self.old()?, there) {
+            (Some(old), Some(there)) => (is_same(&old, &there), there.nlink()),
+            _ => (false, 0),
+        };
+        Ok((writes_after(is_place, is_held, names), path))
+    }
+
+    /// Creates or empties the file of this name, but not the held one: a run that ends now would leave it empty.
+    fn create<R: Files<File = File> + Alloc<A = Global>>(
+        &self,
+        rt: &R,
+        name: &str,
+    ) -> io::Result<Bounded<File>> {
+        match self.writes_by(rt, name)? {
+            (Writes::Nowhere, _) => limited(self.make_nameless(rt)?),
+            (Writes::Anew, path) => {
+                fs::remove_file(rt, path.as_str())?;
+                create(rt, path.as_str())
+            }
+            (Writes::There, _) => create(rt, name),
+        }
+    }
+
+    /// Fails if no file can be made beside this one. It removes what programs left that ended while it was absent.
+    fn prepare<R: Files<File = File> + Alloc<A = Global>>(&self, rt: &R) -> io::Result<()> {
+        let _ = self.make_nameless(rt)?;
         if self.beside.is_none() {
             for ending in [".avrstk-000", ".avrstk-new"] {
                 let path = with_ending(rt, self.target.as_str(), ending)?;
@@ -397,24 +454,12 @@ impl Held {
         Ok(())
     }
 
-    /// Returns whether this run itself has made the file that was absent, by reading into it: it is no chip of these
-    /// bytes' length, and the file that was locked is still there, so no other run has made it.
-    fn was_read_into<R: Files>(&self, rt: &R, there: &Metadata, bytes: &[u8]) -> io::Result<bool> {
-        match &self.beside {
-            Some(beside) if there.is_file() && there.len() != bytes.len() as u64 => {
-                is_at(rt, &self.locked, beside.as_str())
-            }
-            _ => Ok(false),
-        }
-    }
-
     /// Returns what is put in place of the file that has the name now.
-    fn next<R: Files>(&self, rt: &R, old: &Option<Metadata>, bytes: &[u8]) -> io::Result<Step> {
+    fn next<R: Files>(&self, rt: &R, old: &Option<Metadata>) -> io::Result<Step> {
         let there = look(rt, self.target.as_str())?;
         let is_held = match (old, &there) {
             (Some(old), Some(there)) => is_same(old, there),
-            (None, Some(there)) => self.was_read_into(rt, there, bytes)?,
-            (_, None) => false,
+            _ => false,
         };
         Ok(step_after(there.is_none(), is_held))
     }
@@ -429,7 +474,7 @@ impl Held {
             return Err(io::Error::from(ErrorKind::FileTooLarge));
         }
         let old = self.old()?;
-        let step = self.next(rt, &old, bytes)?;
+        let step = self.next(rt, &old)?;
         let mut new = self.make_new(rt, &old)?;
         let placed = self.fill_and_place(rt, &mut new, &old, step, bytes);
         remove(rt, &new.file, new.path.as_str());
@@ -511,6 +556,18 @@ impl Replacement {
         match &mut self.held {
             Some(held) => held.put(rt, bytes),
             None => create(rt, self.name.as_str())?.write_all(bytes),
+        }
+    }
+
+    /// Creates or empties the file of this name, but not the held one.
+    pub(crate) fn create<R: Files<File = File> + Alloc<A = Global>>(
+        &self,
+        rt: &R,
+        name: &str,
+    ) -> io::Result<Bounded<File>> {
+        match &self.held {
+            Some(held) => held.create(rt, name),
+            None => create(rt, name),
         }
     }
 

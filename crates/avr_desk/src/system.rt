@@ -255,7 +255,7 @@ impl<R: FileSystem + Drop, O: Outlet + Drop, E: Outlet + Drop> Desk for SystemDe
             self.journal = self.journal.then(&Call::Created(name.as_bytes()));
             return Ok(());
         }
-        match self.system.create_named(name) {
+        match self.system.create_named(name, self.replacement.as_ref()) {
             Ok(file) => {
                 open_next(&mut self.system, &mut self.opened, OpenFile::ToWrite(file));
                 self.journal = self.journal.then(&Call::Created(name.as_bytes()));
