@@ -170,7 +170,8 @@ pub fn a_run_finds_and_leaves_the_chip_of_its_file()
 {}
 
 /// States the promise over files alone, for a run over the emulator with status 0 and a desk in memory. The settings
-/// and files ask for a plan; the chip file held a chip of its part, and holds one that has the images.
+/// and files ask for a plan. The chip file held a chip of its part, and holds what the plan makes of it. If the run was
+/// verified, these are the images. No other file has changed, but those that the plan reads into.
 // Proof: `promised` (ChipFile/Promised). The plan is avr_plan's `plan_asked` (Stages/AskedPlan), the memories are
 // avr_laws's `comes_over_turns` (OverTurns), the other files are `lack_said` (ChipFile/Others).
 pub fn the_chip_file_holds_the_images()
