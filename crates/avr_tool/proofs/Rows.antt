@@ -13,7 +13,7 @@ use Rattle.avr_desk.specs.declared.record.Opening.{Opening}
 use Rattle.avr_desk.specs.declared.record.Opening.TheVariants.{Found}
 use Rattle.avr_part.specs.BuiltIn.{m328p, part_of_id}
 use Rattle.avr_part.specs.ChipFile.{chip_file}
-use Rattle.avr_part.specs.Part.{Part}
+use Rattle.avr_part.specs.Part.{Part, IsPart}
 use Rattle.avr_part.specs.Sound.{IsSoundChip}
 use Rattle.avr_part.specs.State.{ChipState as Chip, fresh_state}
 use Rattle.avr_part.specs.declared.part.Mem.TheVariants.{Flash, Lfuse}
@@ -24,6 +24,8 @@ use Rattle.avr_plan.specs.Plan.{Plan, IsFitted}
 use Rattle.avr_plan.specs.Planning.{planned}
 use Rattle.avr_plan.specs.declared.planned.Task.{Task}
 use Rattle.avr_plan.specs.declared.planned.Task.TheVariants.{Write, Verify, Read}
+use Rattle.avr_session.specs.Runs.{Devices}
+use Rattle.avr_session.specs.Session.{session}
 use Rattle.stk_emu.specs.Device.{device, after_frames}
 use Rattle.stk_emu.specs.Effect.{Memories, Image, effects, memories_of}
 use Rattle.stk_emu.specs.Programmer.{Programmer, fresh_programmer}
@@ -32,42 +34,63 @@ use Rattle.stk_frame.specs.Cut.{frames}
 use Rattle.stk_frame.specs.Frame.{frame}
 use Rattle.stk_frame.specs.HostCommands.{program_page}
 use Rattle.stk_host.specs.Places.{load_flash}
+use Rattle.stk_host.specs.Transcript.{heard, sent}
 use Rattle.avr_laws.specs.Again.{chip_of}
-use Rattle.avr_laws.specs.AnyTape.{CameThrough}
+use Rattle.avr_laws.specs.AnyTape.{CameThrough, became_by}
 use Rattle.avr_laws.specs.Items.{items, asked_items}
+use Rattle.avr_laws.specs.NoFrame.{MakesNoFrame}
 use Rattle.avr_laws.specs.Written.{IsWritten}
 use Rattle.avr_laws.proofs.SecondRun.PlanRows.{tiny, erasing}
+use Rattle.avr_tool.proofs.Runs.Promise.{promise}
+use Rattle.avr_tool.specs.Headline.{IsRun}
 use Rattle.avr_tool.specs.Promise.{IsReadInto, Promised}
 use Rattle.avr_tool.specs.Worked.{worked_settings}
 
 -- ---- over any link: an erase, and one page of two bytes, 01 02, on a chip of 00
 
+-- a part that a part file can have
+abbrev small : Part
+small = record tiny { id = codes "small" }
+
+is_part : IsPart small
+is_part = search rules
+
 abbrev flash_plan : Image → Plan
-flash_plan image = record { part = tiny; tasks = Write Flash image ∷ []; switches = erasing }
+flash_plan image = record { part = small; tasks = Write Flash image ∷ []; switches = erasing }
 
 abbrev plan : Plan
 plan = flash_plan (Some 1 ∷ Some 2 ∷ None ∷ None ∷ [])
 
 abbrev old : Memories
-old = chip_of tiny 0
+old = chip_of small 0
 
 -- the memories with these bytes of flash
 abbrev left : List ℕ → Memories
 left flash = record old { flash = flash; lock = 255 }
 
 -- The promise is an equation: with status 0 the chip holds these bytes, and no others.
-pub the_images : effects tiny (items plan) old ≡ left (1 ∷ 2 ∷ 255 ∷ 255 ∷ [])
+pub the_images : effects small (items plan) old ≡ left (1 ∷ 2 ∷ 255 ∷ 255 ∷ [])
 the_images = refl
 
+-- So a run with status 0 leaves them, if its link forges no frame.
+pub only_the_images : (s : Settings) (before now : Devices) (r : IsRun s before now 0)
+    → (planned s r.openings).answer ≡ Made plan → before.link.transcript ≡ []
+    → (p : Programmer) (got : List ℕ) (through : List Bool) → IsSoundChip p.chip → p.chip.part ≡ small
+    → memories_of p.chip ≡ old → CameThrough got (frames (sent now.link.transcript)) through
+    → MakesNoFrame device (session plan) 1 (heard now.link.transcript) p (became_by through) []
+    → memories_of (after_frames device (frames got) p).chip ≡ left (1 ∷ 2 ∷ 255 ∷ 255 ∷ [])
+only_the_images s before now r is silent p got through sound part held came none =
+    (promise s before now r plan is silent p got through sound part came none).0 ∙ ap (effects small (items plan)) held
+
 abbrev Holds : List ℕ → Type 0
-Holds flash = IsWritten tiny (asked_items plan) old (left flash)
+Holds flash = IsWritten small (asked_items plan) old (left flash)
 
 -- 1. A plan for another size: no settings and files give this plan for four bytes of flash,
 pub another_size : (s : Settings) (openings : List Opening)
     → (planned s openings).answer ≡ Made (flash_plan (Some 1 ∷ Some 2 ∷ [])) → ⊥
 another_size s openings is =
-    let fits : IsFitted tiny (Write Flash (Some 1 ∷ Some 2 ∷ [])) =
-    All-head (IsFitted tiny) (Write Flash (Some 1 ∷ Some 2 ∷ [])) [] (plan_fitted s openings _ is) in
+    let fits : IsFitted small (Write Flash (Some 1 ∷ Some 2 ∷ [])) =
+    All-head (IsFitted small) (Write Flash (Some 1 ∷ Some 2 ∷ [])) [] (plan_fitted s openings _ is) in
     let size : 2 ≡ 4 = fits.0 in omega (arith, size)
 
 -- and no chip of two bytes is of its part.
@@ -85,11 +108,11 @@ half_a_page holds = let byte : 255 ≡ 2 = holds.images Flash 1 2 refl (omega ar
 
 -- or what a killed run left in its buffer, here 00, reaches the chip.
 abbrev killed : Programmer
-killed = record (fresh_programmer (record (fresh_state tiny) { flash_buffer = 0 ∷ 0 ∷ [] })) { mode = true }
+killed = record (fresh_programmer (record (fresh_state small) { flash_buffer = 0 ∷ 0 ∷ [] })) { mode = true }
 
 pub whole_page : (after_frames device
-    (frames (frame 1 (body (load_flash tiny 0)) ++ frame 2 (body (program_page (1 ∷ 2 ∷ []))))) killed).chip
-    ≡ record (fresh_state tiny) { flash = 1 ∷ 2 ∷ 255 ∷ 255 ∷ [] }
+    (frames (frame 1 (body (load_flash small 0)) ++ frame 2 (body (program_page (1 ∷ 2 ∷ []))))) killed).chip
+    ≡ record (fresh_state small) { flash = 1 ∷ 2 ∷ 255 ∷ 255 ∷ [] }
 whole_page = refl
 
 -- 5. A frame that was sent once and reaches the programmer twice.
