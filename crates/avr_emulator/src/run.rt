@@ -32,7 +32,8 @@ pub fn drive_wired<D: Desk>(alloc: Global, plan: &Plan, desk: &mut D, wire: &mut
     ensures follows { Follows (D.view desk.old) (D.view desk.new) }
     // The wire stays what it came from.
     ensures comes { Stays ComesOf wire.old wire.new }
-    // With a chip of the plan's part this is the result, whatever the wire loses, delays and spoils.
+    // With a chip of the plan's part this is the result, whatever the wire loses, delays and spoils. Proof: avr_laws's
+    // `over_any_line` (WirePlays).
     ensures line { wire.old.wire.programmer.chip.part ≡ plan.now.part
         → OverAnyLine plan.now wire.old wire.new (D.view desk.old) (D.view desk.new) result }
     ensures stays { Stays D.comes_of desk.old desk.new }
@@ -81,6 +82,7 @@ fn save_if_sent<D: ChipDesk>(
 /// assert!(rt; desk.file("chip.bin").map(|file| file.len()) == Some(33_796));
 /// ```
 pub fn run_emu<D: ChipDesk>(alloc: Global, settings: &Settings, file: &str, desk: &mut D) -> u8
+    // Proof: `runs_over_emulator` (Emulating), from the `line` of `drive_wired`.
     ensures runs { RunsEmulator settings.now file.now (D.view desk.old) (D.view desk.new) result }
     ensures stays { Stays D.comes_of desk.old desk.new }
 {

@@ -34,6 +34,7 @@ pub fn an_expected_run_succeeds_if_it_agrees()
 /// States that after a verified run with status 0 each memory holds the images written to it, later over earlier.
 /// Nothing else changed except what an erase erased. A further run that compares memories with these images succeeds
 /// over a good link.
+// Proof: `run_written` and `shown_succeeds` (Memories/VerifiedRuns).
 pub fn a_verified_run_leaves_its_images()
     ensures images { (plan : Plan) (before after : Memories)
         → IsPart plan.part → All (IsFitted plan.part) plan.tasks → FitsPart plan.part before
@@ -68,6 +69,7 @@ pub fn a_byte_of_flash_is_made_by_images()
 /// Flash: moreover, the same plan erased it before, and wrote no other image at the same addresses. The lock: the
 /// plan did the same for it. Otherwise `written` means only that each command was answered with OK, and `verified`
 /// what is there.
+// Proof: `written_there` (Memories/WrittenThere).
 pub fn what_is_written_is_there()
     ensures { (part : Part) (before now : Memories) (mem : Mem) (image : Image) (first : List Item)
         → HoldsBytes image → now ≡ effects part (first ++ Write mem image ∷ []) before

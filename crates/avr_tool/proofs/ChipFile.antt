@@ -1,5 +1,6 @@
 -- Runs over the emulator and its chip file.
 pub mod FewBadThenAgain
 pub mod Found
+pub mod Others
 pub mod Promised
 pub mod SecondRun

@@ -4,3 +4,4 @@ pub mod Runs
 pub mod KnownFiles
 pub mod Lines
 pub mod ChipFile
+pub mod Rows

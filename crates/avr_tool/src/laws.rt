@@ -1,4 +1,4 @@
-//! Laws of runs; no code.
+//! Laws of runs; no code. `Proof:` names the lemmas that do the work, and their files in proofs/.
 
 ghost use Rattle.std.specs.Prelude.{◌≡◌, ◌<◌, ◌*◌, ◌⊎◌, ℕ, Bool, true, false, List, [], All, Some, map};
 ghost use Rattle.avr_cli.specs.declared.settings.Settings.{Settings as AnySettings};
@@ -55,6 +55,8 @@ ghost use Rattle.stk_host.specs.Tape.{Tape};
 /// The programmer may be in any state. It received any bytes whose good frames are some of those sent, and no reply was
 /// forged. Then the memories of its chip are what the plan's writes make of them. If the run was verified, each holds
 /// its images. Elsewhere it holds what it held before, or the FF of an erase.
+// Proof: `promise` (Runs/Promise), by avr_laws's `over_bytes` (AnyLink) and `comes_over_turns` (OverTurns). There
+// the memories are `session_leaves` (Reports/Truth), the images `run_written` (Memories/VerifiedRuns).
 pub fn status_0_means_the_images()
     ensures plan { (s : AnySettings) (before now : Devices) (r : IsRun s before now 0)
         → (plan : Plan) × ((planned s r.openings).answer ≡ Made plan) }
@@ -70,6 +72,7 @@ pub fn status_0_means_the_images()
 
 /// States that a run of settings is the one function `run`, or that it stopped. So is the session of a plan that was
 /// made, over the same openings; the counts of the desk's failures never fall.
+// Proof: `is_run` and `session_is_run` (Runs/Joined).
 pub fn a_run_is_one_function()
     ensures run { (s : AnySettings) (x : Devices) (between : DeskState) (y : Devices) (status : ℕ)
         → RunsSettings s x between y status → IsRun s x y status ⊎ IsStopped s x y status }
@@ -81,6 +84,7 @@ pub fn a_run_is_one_function()
 
 /// States that a run which stopped, in planning or in its session, did a prefix of the whole run, and that a run has
 /// one status.
+// Proof: `stop_prefix` and `one_status` (Runs/Joined).
 pub fn a_stop_is_a_prefix()
     ensures prefix { (s : AnySettings) (x y : Devices) (status : ℕ) → IsStopped s x y status → IsPrefixOfRun s x y }
     ensures one { (s : AnySettings) (h i j k : Devices) (m n : ℕ) (x : IsRun s h i m) (y : IsRun s j k n)
@@ -90,6 +94,7 @@ pub fn a_stop_is_a_prefix()
 /// States what the page refuses of a run over a wire. With status 0: memories that the plan's writes don't leave, or
 /// output other than over a perfect link. With any status: a chip that changed though no frame was sent, or more than
 /// four frames for each command, by any weight.
+// Proof: `not_all_written`, `said_otherwise`, `touched_in_silence` and `too_much` (Runs/Refused).
 pub fn a_wrong_outcome_is_refused()
     ensures memories { (plan : Plan) (w v : WiredState) (d e : DeskState)
         → (memories v ≡ effects plan.part (items plan) (memories w) → ⊥) → OverAnyLine plan w v d e 0 → ⊥ }
@@ -108,6 +113,7 @@ pub fn a_wrong_outcome_is_refused()
 ///
 /// If such a plan erases and verifies, and its comparisons agree on a chip of 00 and on one of FF, its status is 0.
 /// The chip then holds its images, whatever it held before.
+// Proof: `sound_expected` (ChipFile/FewBadThenAgain), by avr_laws's `session_ends` (FewBad/Sessions).
 pub fn a_sound_run_is_its_expected_run()
     ensures expected_run { (plan : Plan) (w v : WiredState) (d e : Record) (a b : ℕ × ℕ) (status : ℕ)
         → AreFew (turns_of w.wire.fates) → IsSound (wire_and_desk w (keeping d a)) (wire_and_desk v (keeping e b))
@@ -130,6 +136,7 @@ pub fn a_sound_run_is_its_expected_run()
 ///
 /// If the chip keeps EEPROM at an erase, each byte that the plan writes to the high fuse must keep it too. `wire`
 /// states this over a wire, `link` over any link that forges no frame, by the turns and without regard to devices.
+// Proof: `further_heals` (ChipFile/FewBadThenAgain), by avr_laws's `done_again` (SecondRun/Status).
 pub fn a_further_run_heals()
     ensures wire { (plan : Plan) (w v x y : WiredState) (d e f g : DeskState) (status further : ℕ)
         → IsPart plan.part → All (IsFitted plan.part) plan.tasks → FitsPart plan.part (memories w)
@@ -151,6 +158,7 @@ pub fn a_further_run_heals()
 /// States which chip a run over the emulator begins with, over a desk in memory: the one in its file, or a fresh one
 /// if the file doesn't exist. The file is as it was before the run, and has the part's length. With status 0 the run
 /// leaves its chip there. A file named `-` is read from standard input, so no chip is left in it.
+// Proof: `chip_found` (ChipFile/Found) and `chip_left` (ChipFile/SecondRun).
 pub fn a_run_finds_and_leaves_the_chip_of_its_file()
     ensures finds { (settings : AnySettings) (file : Bytes) (stock : Stock) (old new : MemDeskState) (status : ℕ)
         → HoldsTrue stock new → (r : RunsOverEmulator settings file (memory_state old) (memory_state new) status)
@@ -162,12 +170,15 @@ pub fn a_run_finds_and_leaves_the_chip_of_its_file()
 {}
 
 /// States the promise over files alone, for a run over the emulator with status 0 and a desk in memory. The settings
-/// and files ask for a plan; the chip file held a chip of its part, and holds one that has the images.
+/// and files ask for a plan. The chip file held a chip of its part, and holds what the plan makes of it. If the run was
+/// verified, these are the images. No other file has changed, but those that the plan reads into.
+// Proof: `promised` (ChipFile/Promised). The plan is avr_plan's `plan_asked` (Stages/AskedPlan), the memories are
+// avr_laws's `comes_over_turns` (OverTurns), the other files are `lack_said` (ChipFile/Others).
 pub fn the_chip_file_holds_the_images()
     ensures { (settings : AnySettings) (file : Bytes) (stock : Stock) (old new : MemDeskState)
         → is_dash file ≡ false → old.kept ≡ nothing_kept → HoldsTrue stock new
         → RunsOverEmulator settings file (memory_state old) (memory_state new) 0
-        → Promised settings (stood_for stock []) (stood_for stock [] file) (file_held stock new.kept file) }
+        → Promised settings file (stood_for stock []) (file_held stock new.kept) }
 {}
 
 /// States that a further run over its chip file heals, for a plan as in [`a_further_run_heals`], however the first
@@ -176,6 +187,7 @@ pub fn the_chip_file_holds_the_images()
 ///
 /// The EEPROM condition is that of [`a_further_run_heals`]. No update of the first run may be read into the chip's
 /// own file.
+// Proof: `heals_file` (ChipFile/SecondRun), by avr_laws's `done_again` (SecondRun/Status).
 pub fn a_further_run_over_its_chip_file_heals()
     ensures { (settings : AnySettings) (file : Bytes) (stock : Stock) (old mid new : MemDeskState) (status further : ℕ)
         → is_dash file ≡ false → HoldsTrue stock old → Stays HoldsTrue old mid → Stays HoldsTrue mid new
@@ -191,6 +203,7 @@ pub fn a_further_run_over_its_chip_file_heals()
 
 /// States that a worked run, `-p m328p` with all its answers, has one outcome: with another status, frame or line it
 /// is no run.
+// Proof: `another_status`, `another_frame` and `another_line` (Runs/Refused).
 pub fn a_worked_run_has_one_outcome()
     ensures status { (transcript : Transcript) (a b : ℕ) (d e : DeskState)
         → heard transcript ≡ worked_answers → IsRun worked_settings (devices (link_state [] a) d)
@@ -206,6 +219,7 @@ pub fn a_worked_run_has_one_outcome()
 
 /// States that what a run leaves over some files and a tape is one outcome. For `-p m328p` with all its answers it is
 /// the one below. If the part file doesn't exist, the outcome reports this, and nothing is sent.
+// Proof: `one_outcome`, `worked_leaves` and `absent_leaves` (KnownFiles/OneOutcome).
 pub fn a_run_in_memory_has_one_outcome()
     ensures one { (s : AnySettings) (stock : Stock) (tape : Tape) (a b : RunOutcome)
         → Leaves s stock tape a → Leaves s stock tape b → a ≡ b }
@@ -216,6 +230,7 @@ pub fn a_run_in_memory_has_one_outcome()
 /// States that the promise needs a link without forged frames. Over a tape with one, comparing the low fuse with E2
 /// ends with status 0 whatever the chip has. For a chip with another fuse the promise fails. No link without forged
 /// frames gives this tape.
+// Proof: `made_done`, `promise_void` and `frame_made` (Lines/MadeFrame).
 pub fn a_made_frame_voids_the_promise()
     ensures ends { (played (session fuse_plan) 1 made_answers).outcome ≡ Some (0, 8, []) }
     ensures void { (p q : Programmer) (turns : List Turn) (bytes : List ℕ) (events : List (Event OutputEvent))

@@ -4,15 +4,16 @@ use Rattle.std.proofs.lemmas.Grind.{common_steps}
 use Rattle.avr_emulator.specs.Loading.{chip_given, chip_stage}
 use Rattle.avr_cli.specs.declared.settings.Settings.{Settings}
 use Rattle.avr_desk.proofs.Desks.InMemory.{all_true, true_behind}
-use Rattle.avr_desk.proofs.FileUses.Uses.{files_append, files_used}
+use Rattle.avr_desk.proofs.FileUses.Uses.{files_absent, files_append, files_opened, files_used}
 use Rattle.avr_desk.specs.Memory.{MemDeskState, Stock, memory_state, stood_for}
 use Rattle.avr_desk.specs.Playing.{Went}
-use Rattle.avr_desk.specs.Record.{Bytes, DeskState, all_files, all_uses, files_among}
+use Rattle.avr_desk.specs.Record.{Bytes, DeskState, Record, all_files, all_uses, files_among}
 use Rattle.avr_desk.specs.Said.{after_opening}
 use Rattle.avr_desk.specs.Stage.{Made, StageResult, next_opening, unread_stage, verdict_stage}
 use Rattle.avr_desk.specs.Truth.{AreTrue, HoldsTrue, IsTrueOpening}
 use Rattle.avr_desk.specs.declared.record.FileUse.{FileUse}
 use Rattle.avr_desk.specs.declared.record.FileUse.TheVariants.{Opened, Created}
+use Rattle.avr_desk.specs.declared.record.Open.TheVariants.{ToRead}
 use Rattle.avr_desk.specs.declared.record.Opening.{Opening}
 use Rattle.avr_desk.specs.declared.record.Opening.TheVariants.{Absent, Found}
 use Rattle.avr_desk.specs.declared.record.Writing.{Writing}
@@ -85,6 +86,10 @@ module _ (part : Part) (file : Bytes) (old new : DeskState) (chip : Chip)
 
 -- ---- a run
 
+opened_files : (o : Opening) (r : Record) → all_files (after_opening o r) ≡ all_files r
+opened_files (Absent name) r = files_absent name r
+opened_files (Found x) r = files_opened (ToRead x) r ∙ append-nil (all_files r)
+
 -- the first uses were true by themselves
 true_front : (stock : Stock) (made : List Writing) (first last : List FileUse) → AreTrue stock made (first ++ last)
     → AreTrue stock made first
@@ -131,6 +136,14 @@ module _ (settings : Settings) (file : Bytes) (stock : Stock) (old new : MemDesk
   first_files : files_among first_uses ≡ all_files old.kept
   first_files =
       search (rules, files_append, opened, before, none_made, append-nil, files_used)
+
+  -- until the session begins nothing is created
+  pub loaded_files : all_files r.loaded_desk.kept ≡ all_files old.kept
+  loaded_files =
+      ap all_files (found_kept r.plan.part file r.loaded.held_desk r.loaded_desk r.chip r.loaded.loaded)
+      ∙ (opened_files opening r.loaded.held_desk.kept
+      ∙ (ap all_files r.loaded.held.0
+      ∙ (sym (files_used r.planned_desk.kept) ∙ (ap files_among before.1 ∙ first_files))))
 
   every : AreTrue stock [] (first_uses ++ Opened opening ∷ ended.0)
   every = subst (AreTrue stock []) (ended.1 ∙ append_assoc first_uses (Opened opening ∷ []) ended.0)

@@ -1,26 +1,32 @@
 -- A run over the emulator with status 0 leaves the images that the settings and files ask for in the chip file.
 use Rattle.std.proofs.Common.{◌≡◌, ◌∙◌, ap, subst, sym, refl, ℕ, List, [], ◌∷◌, ◌++◌, inl, inr, false, arith}
+use Rattle.std.specs.Prelude.{All}
 use Rattle.avr_cli.specs.declared.settings.Settings.{Settings}
 use Rattle.avr_desk.specs.Memory.{MemDeskState, Stock, memory_state, stood_for}
 use Rattle.avr_desk.specs.Named.{is_dash}
-use Rattle.avr_desk.specs.Record.{Bytes, DeskState, Record, nothing_kept}
+use Rattle.avr_desk.specs.Record.{Bytes, DeskState, Passes, Record, all_files, nothing_kept}
+use Rattle.avr_desk.specs.Said.{after_all}
 use Rattle.avr_desk.specs.Stage.{Made, Unread, StageAnswer, StageResult}
 use Rattle.avr_desk.specs.Truth.{HoldsTrue}
 use Rattle.avr_emulator.specs.Emulated.{IsSaved, RunsOverEmulator}
-use Rattle.avr_laws.specs.Items.{asked_items}
-use Rattle.avr_laws.specs.Written.{IsWritten}
+use Rattle.avr_laws.proofs.Plans.Items.{items_by_tasks}
+use Rattle.avr_laws.specs.AnyLine.{ComesOverTurns, events_over}
 use Rattle.avr_part.specs.ChipFile.{chip_file}
 use Rattle.avr_plan.proofs.Stages.AskedPlan.{plan_asked}
 use Rattle.avr_plan.specs.AskedPlan.{IsAsked}
 use Rattle.avr_plan.specs.FilesRead.{AreSeen}
 use Rattle.avr_plan.specs.Plan.{Plan}
-use Rattle.stk_emu.specs.Effect.{memories_of}
+use Rattle.stk_emu.specs.Effect.{effects, memories_of}
+use Rattle.stk_emu.specs.Programmer.{fresh_programmer}
+use Rattle.stk_emu.specs.Wire.{turns_of}
+use Rattle.stk_host.specs.Dialog.{outputs}
 use Rattle.stk_host.specs.Transcript.{sent}
-use Rattle.avr_tool.proofs.ChipFile.Found.{chip_found, planned_true}
+use Rattle.avr_tool.proofs.ChipFile.Found.{chip_found, loaded_files, planned_true}
+use Rattle.avr_tool.proofs.ChipFile.Others.{Lack, lack_held, lack_said, lack_saved}
 use Rattle.avr_tool.proofs.ChipFile.SecondRun.{chip_left}
 use Rattle.avr_tool.proofs.KnownFiles.RunsInMemory.{seen}
 use Rattle.avr_tool.specs.ChipFound.{IsChipOf, file_held}
-use Rattle.avr_tool.specs.Promise.{Promised}
+use Rattle.avr_tool.specs.Promise.{IsReadInto, Promised}
 
 ran_zero : (out : List ℕ) (old new : DeskState) (file bytes : Bytes) (ran : ℕ) → IsSaved out old new file bytes ran 0
     → ran ≡ 0
@@ -41,17 +47,33 @@ module _ (settings : Settings) (file : Bytes) (stock : Stock) (old new : MemDesk
       (subst (λ (p : StageResult Plan). AreSeen stock p.says) (sym (r.made.comes [])) says)
       (ap (λ (p : StageResult Plan). p.answer) (r.made.comes []))
 
-  written : r.plan.switches.no_verify ≡ false
-      → IsWritten r.plan.part (asked_items r.plan) (memories_of r.chip) (memories_of r.after.wire.programmer.chip)
-  written verified =
-      let zero : r.ran ≡ 0 = ran_zero (sent r.after.transcript) r.played_desk (memory_state new) file
-      (chip_file r.after.wire.programmer.chip) r.ran r.saved in
+  zero : r.ran ≡ 0
+  zero = ran_zero (sent r.after.transcript) r.played_desk (memory_state new) file
+      (chip_file r.after.wire.programmer.chip) r.ran r.saved
+
+  came : ComesOverTurns r.plan (memories_of r.chip) (memories_of r.after.wire.programmer.chip) (turns_of [])
+      (outputs (events_over r.plan r.after)) r.ran
+      × Passes (after_all (outputs (events_over r.plan r.after))) r.loaded_desk r.played_desk
+  came =
       elim r.line.end [
-        | inl came ↦ came.0.images zero verified
+        | inl whole ↦ whole
         | inr broke ↦ let one : 1 ≡ 0 = sym broke.1 ∙ zero in absurd (omega (arith, one))
       ]
 
-  pub promised : Promised settings (stood_for stock []) (stood_for stock [] file) (file_held stock new.kept file)
+  kept : (name : Bytes) → (name ≡ file → ⊥) → All (λ task. IsReadInto name task → ⊥) r.plan.tasks
+      → file_held stock new.kept name ≡ stood_for stock [] name
+  kept name differs unread =
+      let begun : Lack name (all_files r.loaded_desk.kept) =
+      subst (Lack name) (sym (loaded_files settings file stock old new 0 holds r ∙ ap all_files unused)) tt in
+      let played : Lack name (all_files r.played_desk.kept) =
+      subst (λ (k : Record). Lack name (all_files k)) (sym came.1)
+      (lack_said name r.plan unread (memories_of r.chip) (events_over r.plan r.after) (turns_of [])
+      (fresh_programmer r.chip) r.loaded_desk.kept r.line.line.believable begun) in
+      lack_held name stock (all_files new.kept)
+      (lack_saved name (sent r.after.transcript) r.played_desk (memory_state new) file
+      (chip_file r.after.wire.programmer.chip) r.ran differs r.saved played)
+
+  pub promised : Promised settings file (stood_for stock []) (file_held stock new.kept)
   promised = record {
     plan = r.plan;
     asked = asked;
@@ -60,5 +82,8 @@ module _ (settings : Settings) (file : Bytes) (stock : Stock) (old new : MemDesk
     was = subst (λ (kept : Record). IsChipOf r.plan.part (file_held stock kept file) r.chip) unused
         (chip_found settings file stock old new 0 holds r);
     is = chip_left settings file stock old new 0 no_dash refl r;
-    images = written;
+    made = (came.0.done zero).memories
+        ∙ ap (λ xs. effects r.plan.part xs (memories_of r.chip)) (items_by_tasks r.plan);
+    images = came.0.images zero;
+    others = kept;
   }
