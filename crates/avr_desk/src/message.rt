@@ -33,7 +33,7 @@ impl<'a> Model for Message<'a> {
 }
 
 impl<'a> Message<'a> {
-    /// Creates a message of these pieces.
+    /// Creates a message of these pieces, at most eight.
     ///
     /// ```text
     /// let mut desk = MemDesk::new(alloc);

@@ -156,7 +156,8 @@ fn update_tasks<D: Desk>(
 ///
 /// # Errors
 ///
-/// The fault whose line was printed last, as far as the desk takes it.
+/// The first of these, after its line as far as the desk takes it. `PartFile` if the part file gives no parts.
+/// `NoPart` if no part has the id. `Update` with the place of an update, from 0, and its [`TaskFault`].
 ///
 /// ```text
 /// let mut settings = Settings::for_link(alloc, "m328p")?;
