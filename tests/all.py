@@ -36,7 +36,7 @@ PROVED = TOP / "crates/avrstk/out/avrstk"
 PROGRAMS = {it.parent.parent.name: it.parent.parent / "out" for it in TOP.glob("crates/*/src/main.rt")}
 
 # scripts that only read
-CHECKED = ("measure --check", "reach --check")
+CHECKED = ("measure --check", "reach --check", "api")
 # scripts that run no program of this project, or compile it themselves; the longest first
 SOURCES = ("rattle names", "rattle tests", "rattle programs", "rattle refused", "vendor", "build", *CHECKED)
 # scripts over the library for C, which takes minutes to prove and build, so that only --all runs them

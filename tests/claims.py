@@ -484,8 +484,8 @@ def avrdude():
 
 
 def no_answer():
-    """README: how long avrstk and AVRDUDE try to reach a programmer that never answers."""
-    row = re.search(r"^\| a programmer that never answers \|.*", text("README.md"), re.M)[0]
+    """README: how long avrstk and AVRDUDE try to reach a programmer that never replies."""
+    row = re.search(r"^\| a programmer that never replies \|.*", text("README.md"), re.M)[0]
     patient, first, last = map(int, re.findall(r"(\d+) s", row))
     room.clear()
     with socket.create_server(("127.0.0.1", 0)) as silent:

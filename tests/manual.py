@@ -396,6 +396,9 @@ def names_agree():
     same("the options of USAGE are those of --help", of_usage(), options)
     same("the completions are those of --help", set(completed), {name for name, _ in options})
     see("--help names the built-in parts", ", ".join(parts()[:-1]) in shown and parts()[-1] in shown, parts())
+    in_clone, installed = re.findall(r"--parts (\S+\.toml)", shown)
+    see("--help names the part file of a clone", (TOP / in_clone).is_file(), in_clone)
+    see("--help names the package's part file as its man page does", f"\n.I {installed}\n" in PAGES["avrstk"].read_text(), installed)
     see("USAGE names the built-in parts", all(f"`{it}` (AT" in USAGE.read_text() for it in parts()), parts())
     see("the completions have the built-in parts", f'"{" ".join(parts())}"' in completions, parts())
 

@@ -105,7 +105,7 @@ def told(flash, right):
 
 def main():
     is_kept = True
-    print("| The line loses | Run | Verified | Status | The chip |")
+    print("| The link loses | Run | Verified | Status | The chip |")
     print("| --- | --- | --- | --- | --- |")
     with tempfile.TemporaryDirectory() as name:
         folder = Path(name)

@@ -53,13 +53,13 @@ pub record IsOrdered (calls : List EndCall) : Type 0 where
   pub joined : (first later : List EndCall) → calls ≡ first ++ later → IsJoined (of_host first) (of_server first)
   pub endless : HasNoEnd (heard (of_host calls))
 
--- Timeouts occur only between answers: at each timeout the host has received no part of an answer.
+-- Timeouts occur only between replies: at each timeout the host has received no part of a reply.
 abbrev pub StallsBetweenAnswers : Tape → Type 0
 StallsBetweenAnswers tape = (before after : Tape) → tape ≡ before ++ Silence ∷ after → rest (bytes_of before) ≡ []
 
 -- ---- 2. The server's end
 
--- However serving ended, the server took the first bytes received, obeyed all frames in them, and sent their answers,
+-- However serving ended, the server took the first bytes received, obeyed all frames in them, and sent their replies,
 -- the last one perhaps in part.
 pub record HasServed (p : Programmer) (transcript : Transcript) (left : Programmer) : Type 0 where
   pub used : List ℕ

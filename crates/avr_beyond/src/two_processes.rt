@@ -30,9 +30,9 @@ ghost use Rattle.stk_host.specs.Play.{Progress, Plays, IsPrefixOf, InTurn};
 ghost use Rattle.stk_host.specs.declared.link.Item.TheVariants.{Byte, Silence};
 ghost use Rattle.stk_host.specs.Tape.{Tape, bytes_of};
 
-/// States what a server sends. If it answered all it received, it sent exactly the answers to the frames in it, and
+/// States what a server sends. If it replied to all it received, it sent exactly the replies to the frames in it, and
 /// its programmer is as they left it. However serving ended, it took a prefix of the bytes received, obeyed all
-/// frames in it, and sent their answers, the last one perhaps in part.
+/// frames in it, and sent their replies, the last one perhaps in part.
 pub fn a_server_sends_the_answers_to_what_it_heard()
     ensures all { (p : Programmer) (transcript : Transcript) (left : Machine)
         → AnswersAll p [] (bytes_of (heard transcript)) (sent transcript) left
@@ -43,7 +43,7 @@ pub fn a_server_sends_the_answers_to_what_it_heard()
 {}
 
 /// States that all a host reads from a server is honest, over a link that keeps their bytes in order and has timeouts
-/// only between answers. The frames that the server took were obeyed, and the others never arrived; the server's
+/// only between replies. The frames that the server took were obeyed, and the others never arrived; the server's
 /// programmer is as they left it. This holds at any moment of a session, however it ends.
 pub fn what_a_host_hears_of_a_server_is_honest()
     ensures honest { (plan : Plan) (s : Chip) (left : Programmer) (host server : Transcript)
@@ -74,7 +74,7 @@ pub fn two_processes_never_both_wait()
 
 /// THE TWO PROCESSES: a session that ran whole, and a server that ended in any way, in one order of their calls. The
 /// status means for the server's chip what the page says for one behind a wire, and that chip is the one saved. If
-/// timeouts occur within answers too, this holds as long as they forge no frame.
+/// timeouts occur within replies too, this holds as long as they forge no frame.
 pub fn a_session_and_a_server_are_one_run()
     ensures between { (plan : Plan) (s : Chip) (calls : List EndCall) (old new : Devices)
         (server_old server_new : Devices)
@@ -143,7 +143,7 @@ pub fn whatever_becomes_of_both_some_page_writes_were_made()
         (sent (of_host calls)) (played (session plan) 1 (heard (of_host calls))).events }
 {}
 
-/// States what no such link does: have a timeout within an answer, lose a byte, or bring one before it was sent.
+/// States what no such link does: have a timeout within a reply, lose a byte, or bring one before it was sent.
 pub fn an_unordered_line_is_refused()
     ensures within { StallsBetweenAnswers (Byte 27 ∷ Silence ∷ []) → ⊥ }
     ensures lost { IsOrdered (HostSays (1 ∷ 2 ∷ []) ∷ ServerHears (Byte 2 ∷ []) ∷ []) → ⊥ }

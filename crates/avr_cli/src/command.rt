@@ -28,9 +28,9 @@ Examples:
 
 From AVRDUDE: for a serial device (-P /dev/ttyACM0) use avrstk-serial with the same options.
 There is no -C (no configuration file), no -B (the programmer has its own clock) and no -t
-(use -U). Long part names (atmega328p) and more parts are in share/avrstk/classic.toml: give
-it to --parts. Values in place of a file need the format m. Manual: man avrstk.
-This is avrstk 0.9.0.";
+(use -U). Long part names (atmega328p) and more parts need --parts parts/classic.toml in a
+clone, --parts /usr/share/avrstk/classic.toml from the package (PREFIX/share by install.sh).
+Values in place of a file need the format m. Manual: man avrstk. This is avrstk 0.9.0.";
 
 fn value<'a>(alloc: Global, id: &'a str, short: char, value_name: &'a str, help: &'a str) -> Arg<'a>
     ensures rule { rule_of result ≡ value_rule id.entry.now short }
@@ -316,8 +316,8 @@ pub fn make_command<'a>(alloc: Global) -> Result<Command<'a>, Error>
     Ok(with_options(alloc)?)
 }
 
-/// Reads the arguments of a command line, the program's name first. The result depends on the arguments alone, unless
-/// allocation fails.
+/// Reads the arguments of a command line, the program's name first, as options of AVRDUDE's manual. The result
+/// depends on the arguments alone, unless allocation fails.
 ///
 /// # Errors
 ///

@@ -183,7 +183,11 @@ fn serve_settings(
 /// text: no part, no port or no chip file.
 ///
 /// ```text
-/// let settings = read_settings(alloc, &matches)?;
+/// let mut words = Vec::new(alloc);
+/// for word in ["avrstk", "-p", "m328p", "-P", "emu:chip.bin", "-U", "a.hex"] {
+///     words.push(String::from_str(alloc, word)?)?;
+/// }
+/// let settings = read_settings(alloc, &read_words(alloc, words.as_slice())?)?;
 /// assert!(rt; settings.part.as_str() == "m328p");
 /// assert!(rt; matches!(&settings.port, Port::Emulated(file) if file.as_str() == "chip.bin"));
 /// assert_eq!(rt; settings.updates.as_slice().len(), 1);

@@ -71,13 +71,13 @@ fn update_by(
     })
 }
 
-/// Reads `MEMORY:OP:FILE`, `MEMORY:OP:FILE:FORMAT`, or a file alone, which is written to flash. Colons beyond these
-/// belong to the file.
+/// Reads the text of AVRDUDE's option `-U`: `MEMORY:OP:FILE`, `MEMORY:OP:FILE:FORMAT`, or a file alone, which is
+/// written to flash. Colons beyond these belong to the file.
 ///
 /// # Errors
 ///
-/// The first fault, of the memory, the operation, the file, then the format. `Memory` if allocation fails and there
-/// is no other fault.
+/// The first of `BadMemory`, `BadOp`, `NoFile` and `BadFormat` that applies. `Memory` if allocation fails and none of
+/// them does.
 ///
 /// ```text
 /// let update = parse_update(alloc, "lfuse:w:0xE2:m")?;

@@ -17,6 +17,7 @@ impl Model for Bytes {
 }
 
 impl Bytes {
+    /// Creates an empty list. It allocates nothing.
     pub fn new(alloc: Global) -> Bytes
         ensures { result ≡ [] }
     {
@@ -25,6 +26,17 @@ impl Bytes {
         }
     }
 
+    /// Copies these bytes.
+    ///
+    /// # Errors
+    ///
+    /// `AllocError` if allocation fails.
+    ///
+    /// ```text
+    /// let mut bytes = Bytes::copied(alloc, b"AVR")?;
+    /// bytes.extend(b" ISP")?;
+    /// assert!(rt; bytes.as_slice() == b"AVR ISP".as_slice());
+    /// ```
     pub fn copied(alloc: Global, bytes: &[u8]) -> Result<Bytes, AllocError>
         ensures { IfOk result (λ b. b ≡ bytes.now) }
     {
@@ -33,19 +45,25 @@ impl Bytes {
         Ok(Bytes { items })
     }
 
+    /// Returns the bytes, borrowed.
     pub fn as_slice(&self) -> &[u8]
         ensures { result.now ≡ self.now }
     {
         self.items.as_slice()
     }
 
+    /// Returns how many bytes there are.
     pub fn len(&self) -> usize
         ensures { result ≡ length self.now }
     {
         self.items.len()
     }
 
-    /// Appends the bytes. If allocation fails, nothing changes.
+    /// Appends these bytes.
+    ///
+    /// # Errors
+    ///
+    /// `AllocError` if allocation fails; nothing changes.
     pub fn extend(&mut self, bytes: &[u8]) -> Result<(), AllocError>
         ensures { self.new ≡ (if is_ok result then self.old ++ bytes.now else self.old) }
     {

@@ -53,7 +53,17 @@ pub struct Contents {
 ///
 /// # Errors
 ///
-/// `Absent` if there is no such file; `NotOpened` or `NotRead` if the desk fails; `Memory` if allocation fails.
+/// `Absent` if there is no such file; `NotOpened` or `NotRead` if the desk fails; `Memory` if allocation fails. What
+/// was read before the fault is lost.
+///
+/// ```text
+/// let mut desk = MemDesk::new(alloc);
+/// desk.put("a.hex", b":00000001FF\n")?;
+/// let read = read_file(alloc, &mut desk, "a.hex", 65_536)?;
+/// assert!(rt; read.ended && read.bytes.as_slice() == b":00000001FF\n".as_slice());
+/// let absent = read_file(alloc, &mut desk, "b.hex", 65_536);
+/// assert!(rt; absent.err() == Some(FileFault::Absent));
+/// ```
 pub fn read_file<D: Desk>(
     alloc: Global,
     desk: &mut D,

@@ -33,11 +33,13 @@ impl<'a> Model for Message<'a> {
 }
 
 impl<'a> Message<'a> {
-    /// Creates a message of these pieces.
+    /// Creates a message of these pieces, at most eight.
     ///
     /// ```text
+    /// let mut desk = MemDesk::new(alloc);
     /// let message = Message::new(&[Piece::Text("command "), Piece::Byte(0x10), Piece::Text(": bad answer")]);
-    /// refuse(&mut desk, &message)
+    /// assert_eq!(rt; refuse(&mut desk, &message), 1);
+    /// assert!(rt; desk.messages() == b"avrstk: error: command 10: bad answer\n".as_slice());
     /// ```
     pub fn new(pieces: &[Piece<'a>]) -> Message<'a>
         requires { length pieces.now ≤ MOST_PIECES }

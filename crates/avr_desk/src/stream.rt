@@ -32,11 +32,19 @@ fn write_some<D: Desk>(desk: &mut D, stream: Stream, bytes: &[u8]) -> Result<usi
     }
 }
 
-/// Writes all bytes.
+/// Writes all bytes to a stream, in as many calls of the desk as it needs: none for an empty slice.
 ///
 /// # Errors
 ///
-/// `Failed` if the desk fails or takes no byte; a prefix of the bytes was then written.
+/// `Failed` if the desk fails or takes no byte, and for [`Stream::File`] if no created file is open. A prefix of the
+/// bytes was then written.
+///
+/// ```text
+/// let mut desk = MemDesk::new(alloc);
+/// write_all(&mut desk, Stream::Output, b"0xe2\n")?;
+/// assert!(rt; desk.output() == b"0xe2\n".as_slice());
+/// assert!(rt; write_all(&mut desk, Stream::File, b"0xe2\n").is_err());
+/// ```
 pub fn write_all<D: Desk>(desk: &mut D, stream: Stream, bytes: &[u8]) -> Result<(), DeskFault>
     ensures all { OnOk result (Passes (after_sent stream bytes.now) (D.view desk.old) (D.view desk.new)) }
     ensures part { OnErr result (SendsPart stream (D.view desk.old) (D.view desk.new) bytes.now) }

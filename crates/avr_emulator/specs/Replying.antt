@@ -1,4 +1,4 @@
--- The answers to one piece: for contracts inside this crate.
+-- The replies to one piece: for contracts inside this crate.
 use Rattle.std.specs.Prelude.{ℕ, List}
 use Rattle.stk_host.specs.Transcript.{LinkState}
 use Rattle.stk_host.specs.Reach.{Says}
@@ -6,13 +6,13 @@ use Rattle.stk_emu.specs.Programmer.{Programmer}
 use Rattle.stk_emu.specs.Emulator.{Machine, IsFed}
 use Rattle.avr_emulator.specs.Serving.{AnswersAll, BreaksOff}
 
--- The emulator was fed these bytes, and all answers to them were sent.
+-- The emulator was fed these bytes, and all replies to them were sent.
 pub record Replies (old : Machine) (bytes : List ℕ) (before after : LinkState) (now : Machine) : Type 0 where
   pub out : List ℕ
   pub says : Says out before.transcript after.transcript
   pub answers : (p : Programmer) (text : List ℕ) → IsFed p text old → AnswersAll p text bytes out now
 
--- The emulator was fed a prefix of these bytes, and the last answer was not sent whole.
+-- The emulator was fed a prefix of these bytes, and the last reply was not sent whole.
 pub record RepliesPart (old : Machine) (bytes : List ℕ) (before after : LinkState) (now : Machine) : Type 0 where
   pub out : List ℕ
   pub says : Says out before.transcript after.transcript

@@ -80,7 +80,7 @@ status_of_end RecvFailed = 1
 status_of_end SendFailed = 1
 status_of_end TooManyReads = 1
 
--- A fresh emulator with this chip served a link in at most `turns` reads. It sent its answers to what was received,
+-- A fresh emulator with this chip served a link in at most `turns` reads. It sent its replies to what was received,
 -- all of them before the next read, unless a send failed. How serving ended was reported. In each case the chip was
 -- saved as the frames received have left it.
 pub record ServesChip (chip : chips.ChipState) (file : Bytes) (turns : ℕ) (old new : Devices) (status : ℕ)

@@ -1,4 +1,4 @@
--- An emulated programmer that answers what it receives on a link.
+-- An emulated programmer that replies to what it receives on a link.
 use Rattle.std.specs.Prelude.{ℕ, List, [], ◌∷◌, ◌++◌, ◌+◌, ◌≡◌, ◌<◌, ◌≤◌, length}
 use Rattle.stk_frame.specs.Cut.{frames}
 use Rattle.stk_host.specs.declared.link.Item.TheVariants.{Byte, Silence, End}
@@ -30,7 +30,7 @@ HearsUntil RecvFailed turns transcript = HasNoEnd (heard transcript) × (reads t
 HearsUntil SendFailed turns transcript = HasNoEnd (heard transcript) × (reads transcript ≤ turns)
 HearsUntil TooManyReads turns transcript = HasNoEnd (heard transcript) × (reads transcript ≡ turns)
 
--- Before each piece received, all answers to what was fed before had been sent. The programmer was fed `text` and had
+-- Before each piece received, all replies to what was fed before had been sent. The programmer was fed `text` and had
 -- sent `answered` when the transcript began.
 abbrev pub AnswersInTurn : Programmer → List ℕ → List ℕ → Transcript → Type 0
 AnswersInTurn p text answered [] = Unit {0}
@@ -38,13 +38,13 @@ AnswersInTurn p text answered (Sent bytes ∷ transcript) = AnswersInTurn p text
 AnswersInTurn p text answered (Got tape ∷ transcript) =
     (answered ≡ emulate p text) × AnswersInTurn p (text ++ bytes_of tape) answered transcript
 
--- An emulator that was fed `text` was fed these bytes, and `out` is exactly its answers to them.
+-- An emulator that was fed `text` was fed these bytes, and `out` is exactly its replies to them.
 pub record AnswersAll (p : Programmer) (text bytes out : List ℕ) (now : Machine) : Type 0 where
   pub fed : IsFed p (text ++ bytes) now
   pub answered : emulate p (text ++ bytes) ≡ emulate p text ++ out
 
--- The emulator was fed a prefix of these bytes, and the answer to the last frame in it was not sent whole. All
--- answers to the frames before were sent, and a part of this one.
+-- The emulator was fed a prefix of these bytes, and the reply to the last frame in it was not sent whole. All
+-- replies to the frames before were sent, and a part of this one.
 pub record BreaksOff (p : Programmer) (text bytes out : List ℕ) (now : Machine) : Type 0 where
   pub used : List ℕ
   pub unused : List ℕ
@@ -59,7 +59,7 @@ pub record BreaksOff (p : Programmer) (text bytes out : List ℕ) (now : Machine
   pub not_whole : 0 < length unsent
   pub sent_is : emulate p text ++ out ≡ answers device earlier p ++ part
 
--- What was sent, and the emulator after it. If a send failed, only a prefix of all answers was sent.
+-- What was sent, and the emulator after it. If a send failed, only a prefix of all replies was sent.
 abbrev pub ServingLeaves : Served → Programmer → List ℕ → Transcript → Machine → Type 0
 ServingLeaves SendFailed p text transcript now =
     IsPrefixOf (emulate p text ++ sent transcript) (emulate p (text ++ bytes_of (heard transcript)))

@@ -7,7 +7,7 @@
 //!   replace.
 //! - What a run leaves in the chip, whatever the wire loses, delays and spoils, depends on its session alone. The
 //!   laws of [`avr_laws`] state this; this crate runs the session.
-//! - A served emulator sends exactly its answers to what was received, however the bytes are cut. All answers are
+//! - A served emulator sends exactly its replies to what was received, however the bytes are cut. All replies are
 //!   sent before the link is read again.
 #![tactic(auto)]
 
@@ -18,7 +18,7 @@ mod messages;
 mod saving;
 // a run
 mod run;
-// serving: the answers to what is received; from settings to status
+// serving: the replies to what is received; from settings to status
 mod ending;
 mod served_run;
 mod serving;

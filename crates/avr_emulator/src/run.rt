@@ -22,7 +22,7 @@ use stk_emu::{Fates, Wired};
 /// Runs the session of a plan over a wire to the emulated programmer, as [`avr_session::drive`] does over any link.
 /// Returns the status: 0 if there was no fault, otherwise 1.
 ///
-/// Nothing has passed over the wire yet. The chip may be of another part than the plan's.
+/// The wire must be new: nothing sent or received yet. The chip may be of another part than the plan's.
 pub fn drive_wired<D: Desk>(alloc: Global, plan: &Plan, desk: &mut D, wire: &mut Wired) -> u8
     requires fresh { IsFresh wire.old }
     // It is a run of the session: what is sent, output and returned.

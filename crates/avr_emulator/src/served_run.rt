@@ -74,7 +74,7 @@ pub fn judge_part<D: ChipDesk>(
 
 /// Serves a chip over a link in at most `turns` reads, reports how that ended, and saves the chip to this file.
 ///
-/// It sends the answers of a fresh programmer with this chip to what is received, and all of them before the next
+/// It sends the replies of a fresh programmer with this chip to what is received, and all of them before the next
 /// read. The end of the link prints no line; any other ending prints its own. In each case the chip is saved as the
 /// frames received have left it.
 ///

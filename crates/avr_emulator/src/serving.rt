@@ -13,17 +13,17 @@ use stk_host::{Heard, Link, LinkFault, send_all};
 /// How serving a link ended.
 #[derive(Clone, Copy, Debug, PartialEq, Eq)]
 pub enum Served {
-    /// The link ended, and all answers were sent.
+    /// The link ended, and all replies were sent.
     Ended,
-    /// The link failed at listening, after all answers were sent.
+    /// The link failed at listening, after all replies were sent.
     RecvFailed,
-    /// The link failed at sending an answer, or took none of its bytes.
+    /// The link failed at sending a reply, or took none of its bytes.
     SendFailed,
-    /// All allowed reads were used without an end; all answers were sent.
+    /// All allowed reads were used without an end; all replies were sent.
     TooManyReads,
 }
 
-/// Feeds a piece to the emulator, and sends each answer before it feeds more.
+/// Feeds a piece to the emulator, and sends each reply before it feeds more.
 fn answer_piece<L: Link>(
     emulator: &mut Emulator,
     link: &mut L,
@@ -67,10 +67,10 @@ fn answer_next<L: Link>(emulator: &mut Emulator, link: &mut L) -> Served
     }
 }
 
-/// Serves a link in at most `turns` reads: feeds what is received to the emulator, and sends all answers before the
+/// Serves a link in at most `turns` reads: feeds what is received to the emulator, and sends all replies before the
 /// next read.
 ///
-/// A timeout uses up a read. What the last read brings is still answered.
+/// A timeout uses up a read. What the last read brings still gets its replies.
 pub fn answer_all<L: Link>(emulator: &mut Emulator, link: &mut L, turns: u32) -> Served
     ensures serves { Serves emulator.old turns result (L.view link.old) (L.view link.new) emulator.new }
     ensures counted { (L.view link.old).failures ≤ (L.view link.new).failures }

@@ -265,7 +265,8 @@ impl Image {
         byte
     }
 
-    /// Puts bytes at the byte addresses from `addr` on and returns the address after them.
+    /// Puts bytes at the byte addresses from `addr` on and returns the address after them. An empty slice changes
+    /// nothing and is accepted at every address, also outside the memory.
     ///
     /// # Errors
     ///
@@ -446,7 +447,7 @@ impl Image {
     }
 
     /// Returns the address after the run of held bytes that begins at `addr`, at most `end`; `addr` if it holds no
-    /// byte. `end` may be outside the memory.
+    /// byte. `addr` must be at most `end`. Both may be outside the memory.
     ///
     /// ```text
     /// let mut image = Image::new(alloc, 64)?;
@@ -470,7 +471,8 @@ impl Image {
         ) as u32
     }
 
-    /// Fills `out` with the bytes from the byte address `start` on, FF in gaps and outside the memory.
+    /// Fills `out` with the bytes from the byte address `start` on, FF in gaps and outside the memory. `start` plus
+    /// the length of `out` must be at most 2 to the power 32.
     ///
     /// ```text
     /// let mut image = Image::new(alloc, 64)?;

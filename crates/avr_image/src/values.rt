@@ -109,9 +109,9 @@ fn lay_values(image: &mut Image, text: &[u8]) -> Result<(), ImageFault>
     Ok(())
 }
 
-/// Reads values from a command line option. A value is `0x` with hexadecimal digits, `0b` with binary ones, `0` with
-/// octal ones, or decimal digits. Commas, spaces and tabs separate values. They are put at the byte addresses 0, 1
-/// and so on of a memory of `size` bytes.
+/// Reads the values of AVRDUDE's format `m` from a command line option. A value is `0x` with hexadecimal digits, `0b`
+/// with binary ones, `0` with octal ones, or decimal digits. Commas, spaces and tabs separate values. They are put at
+/// the byte addresses 0, 1 and so on of a memory of `size` bytes.
 ///
 /// # Errors
 ///

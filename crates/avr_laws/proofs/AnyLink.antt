@@ -1,4 +1,4 @@
--- A session over any link that forges no answer.
+-- A session over any link that forges no frame.
 use Rattle.std.proofs.Common.{◌≡◌, ◌≤◌, ℕ, Bool, List, [], ◌++◌, All, length, take, sym, ap, ◌∙◌, subst, arith, inl, inr, Some, length-append, rules}
 use Rattle.std.proofs.lemmas.List.{append-nil, take-append-le, take_all}
 use Rattle.avr_desk.specs.Said.{OutputEvent, SaidPart}

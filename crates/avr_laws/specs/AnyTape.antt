@@ -17,12 +17,12 @@ abbrev pub other_becames : List Became → List Became
 other_becames [] = []
 other_becames (became ∷ becames) = becames
 
--- An answer that is awaited meets any claim; one that was read must meet this claim.
+-- A reply that is awaited meets any claim; one that was read must meet this claim.
 abbrev pub on_answer : (Reading → Tape → Type 0) → Option (Reading × Tape) → Type 0
 on_answer Claim None = Unit {0}
 on_answer Claim (Some (reading, tape)) = Claim reading tape
 
--- WHATEVER THE LINK DOES, as long as it forges no answer: each reading of this dialog is honest, given what happened
+-- WHATEVER THE LINK DOES, as long as it forges no frame: each reading of this dialog is honest, given what happened
 -- to the programmer at its question. The dialog is run over this tape, with frames numbered from `n`.
 abbrev pub AreHonest : {E R P : Type 0} → Device P → Dialog E R → ℕ → Tape → P → List Became → Type 0
 AreHonest m (Done r) n tape p becames = Unit {0}
@@ -40,7 +40,7 @@ after_pieces m [] becames p = p
 after_pieces m (piece ∷ sent) becames p =
     after_pieces m sent (other_becames becames) (after_became (first_became becames) (after_frame m piece p) p m.reset)
 
--- The turn of a question, from what happened to the programmer and what was read. The answer to a command that was
+-- The turn of a question, from what happened to the programmer and what was read. The reply to a command that was
 -- obeyed is its own, unless it is the refusal.
 abbrev pub answered_turn : Became → List ℕ → Turn
 answered_turn Obeyed body = if bytes_eq body refusal then Wrong Obeyed Refusal else Right
@@ -52,7 +52,7 @@ turn_by became Silent = Wrong became Nothing
 turn_by became Ended = Wrong became Ending
 turn_by became Babbled = Wrong became Babble
 
--- A question whose answer is awaited has read nothing.
+-- A question whose reply is awaited has read nothing.
 abbrev pub turns_from : Became → (Reading → Tape → List Turn) → Option (Reading × Tape) → List Turn
 turns_from became more None = Wrong became Nothing ∷ []
 turns_from became more (Some (reading, tape)) = turn_by became reading ∷ more reading tape

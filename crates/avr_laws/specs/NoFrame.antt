@@ -8,7 +8,7 @@ use Rattle.stk_emu.specs.Device.{Device, refusal}
 use Rattle.stk_emu.specs.Turn.{Became, Kept, Obeyed, Anew, after_became}
 use Rattle.avr_laws.specs.AnyTape.{first_became, other_becames, on_answer}
 
--- The frame of the answer to a question; nothing if it wasn't obeyed, or if the programmer restarted after it.
+-- The frame of the reply to a question; nothing if it wasn't obeyed, or if the programmer restarted after it.
 abbrev pub given : {P : Type 0} → Device P → ℕ → List ℕ → P → Became → List ℕ
 given m n bytes p Kept = []
 given m n bytes p Obeyed = frame n (m.answer bytes p)
@@ -20,20 +20,20 @@ IsAmong zero sent piece = ⊥
 IsAmong (suc k) [] piece = ⊥
 IsAmong (suc k) (first ∷ sent) piece = (piece ≡ first) ⊎ IsAmong k sent piece
 
--- The programmer sent this piece, given the answers so far, the last one first. It is one of the last 256 answers, or
+-- The programmer sent this piece, given the replies so far, the last one first. It is one of the last 256 replies, or
 -- a refusal of a spoiled frame with any number, or no good frame.
 abbrev pub WasSent : List (List ℕ) → List ℕ → Type 0
 WasSent sent piece = is_good piece ≡ true → (body_of piece ≡ refusal) ⊎ IsAmong 256 sent piece
 
--- All pieces up to the first that is taken for the answer to frame `n` were sent. What follows isn't read yet.
+-- All pieces up to the first that is taken for the reply to frame `n` were sent. What follows isn't read yet.
 abbrev pub WereSent : ℕ → List (List ℕ) → List (List ℕ) → Type 0
 WereSent n sent [] = Unit {0}
 WereSent n sent (piece ∷ pieces) =
     WasSent sent piece × (is_answer n piece ≡ false → WereSent n sent pieces)
 
 -- THE LINK FORGES NO FRAME: at a question, each good frame that the host cuts is one of the programmer's last 256
--- answers, or a refusal. The dialog is run over this tape. Anything else may be anywhere on the tape: parts of
--- answers, noise, earlier answers, refusals, timeouts.
+-- replies, or a refusal. The dialog is run over this tape. Anything else may be anywhere on the tape: parts of
+-- replies, noise, earlier replies, refusals, timeouts.
 abbrev pub MakesNoFrame : {E R P : Type 0} → Device P → Dialog E R → ℕ → Tape → P → List Became → List (List ℕ)
     → Type 0
 MakesNoFrame m (Done r) n tape p becames before = Unit {0}

@@ -21,7 +21,7 @@ pub record IsTouched (plan : Plan) (before after : Memories) : Type 0 where
   pub memories : after ≡ effects plan.part (take count (page_writes plan)) before
 
 -- The same, sharper, after this many frames over a link with these turns. At least the writes completed by then were
--- made. At most one more was made than had been completed before the last frame, whose answer may not have come.
+-- made. At most one more was made than had been completed before the last frame, whose reply may not have come.
 -- Without a frame none was made.
 pub record MakesPageWrites (plan : Plan) (p : Programmer) (turns : List Turn) (frames : ℕ)
     (before after : Memories) : Type 0 where

@@ -21,7 +21,7 @@ then_count m d first more k p turns =
     with_next s.dialog (first k p turns) (λ a. more a s.left s.programmer s.turns)
 
 -- At each moment of a dialog this many writes are made: those completed, and perhaps one more. That one is counted by
--- the questions before the last, whose answer may not have come.
+-- the questions before the last, whose reply may not have come.
 pub record Tallies {E R P : Type 0} (m : Device P) (d : Dialog E R) (done : Count P) (At : ℕ → P → Type 0)
     (p : P) (turns : List Turn) : Type 0 where
   pub count : ℕ → ℕ

@@ -103,13 +103,13 @@ pub fn a_session_outputs_its_expected_run_up_to_a_fault()
         → (later : List OutputEvent) × ((expected_run plan m).says ≡ says ++ later) }
 {}
 
-/// States what a session does over any link that forges no answer, with a programmer in any state. The link may lose,
-/// spoil, cut, delay and hold anything, and repeat answers. The session goes along the turns of its questions, which
+/// States what a session does over any link that forges no frame, with a programmer in any state. The link may lose,
+/// spoil, cut, delay and hold anything, and repeat replies. The session goes along the turns of its questions, which
 /// follow from what was read and what happened to the programmer. It does what the page says.
 ///
 /// `bytes` states this in bytes. The programmer may have got any bytes whose good frames are some of those sent, in
 /// order, each at most once: a frame that arrives twice is forged. The tape that came back is any on which each good
-/// frame that the host cuts is one of the programmer's last answers, or a refusal.
+/// frame that the host cuts is one of the programmer's last replies, or a refusal.
 ///
 /// `end` holds however a session ends, so that any prefix of its bytes was sent. The memories are those of its first
 /// writes. Its output is the expected run's, up to the line of a failed step.

@@ -54,7 +54,7 @@ pub fn few_bad_fates_bring_all_data()
 {}
 
 /// States that a conversation over any tape goes along turns, one for each frame sent, as long as the link forges no
-/// answer. The programmer may have got any bytes whose good frames are some of those sent, in order. Then it is the
+/// reply. The programmer may have got any bytes whose good frames are some of those sent, in order. Then it is the
 /// programmer along these turns, and the conversation has the same output and result as along them.
 pub fn over_any_tape_a_conversation_goes_along_turns<E, R>()
     ensures goes { (d : Dialog E R) (n : ℕ) (tape : Tape) (p : Programmer) (becames : List Became)

@@ -67,7 +67,7 @@ pub fn a_byte_of_flash_is_made_by_images()
 
 /// States when a memory holds an image after the line that it was written. EEPROM and fuses: the chip was not locked.
 /// Flash: moreover, the same plan erased it before, and wrote no other image at the same addresses. The lock: the
-/// plan did the same for it. Otherwise `written` means only that each command was answered with OK, and `verified`
+/// plan did the same for it. Otherwise `written` means only that each command got the status OK, and `verified`
 /// what is there.
 // Proof: `written_there` (Memories/WrittenThere).
 pub fn what_is_written_is_there()

@@ -361,8 +361,10 @@ impl Chip {
         }
     }
 
-    /// Runs one instruction. Returns 00, the first two bytes, and the byte that it reads, or the third byte if it
-    /// reads none. Bytes that are no instruction change nothing.
+    /// Runs one instruction (ATmega328P data sheet, table "Serial Programming Instruction Set"). Returns 00, the
+    /// first two bytes, and the byte that it reads, or the third byte if it reads none. Bytes that are no instruction
+    /// change nothing. The three bytes before the last are this project's choice: a part shifts them out as others
+    /// come in.
     ///
     /// It allocates nothing. A chip erase takes the time of the memories, a page write and programming enable that of
     /// the page buffers, all else constant time.
@@ -381,8 +383,9 @@ impl Chip {
         [0, bytes[0], bytes[1], answer]
     }
 
-    /// Loads a block as instructions 40 and 48 would, from a word of the page on, low byte first. Returns false and
-    /// changes nothing if the block reaches over the page's end.
+    /// Loads a block as instructions 40 and 48 would, from a word of the page on, low byte first. `word` counts from
+    /// the page's start, modulo the words of a page. Returns false and changes nothing if the block reaches over the
+    /// page's end.
     ///
     /// ```text
     /// let mut chip = Chip::fresh(alloc, Parts::none().find("m328p")?)?;
@@ -415,8 +418,9 @@ impl Chip {
         self.flash_buffer.paste(place, bytes);
     }
 
-    /// Returns `count` bytes from a word on as instructions 20 and 28 read them, low byte first. Returns `None` if
-    /// the block reaches over the end of flash, or needs another extended address.
+    /// Returns `count` bytes from a word on as instructions 20 and 28 read them, low byte first. `word` counts in the
+    /// 128 kB of the extended address that instruction 4D has set, modulo the words of flash. Returns `None` if the
+    /// block reaches over the end of flash or of these 128 kB.
     ///
     /// ```text
     /// let chip = Chip::fresh(alloc, Parts::none().find("t85")?)?;

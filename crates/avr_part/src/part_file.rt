@@ -78,8 +78,8 @@ fn utf8_text(bytes: &[u8]) -> Result<&str, PartFileFault>
 /// fields in the order of [`Field`].
 /// - [`PartFault::NotToml`]: the text is not UTF-8, or `toml` refuses it; only this fault has a line.
 /// - [`PartFault::Missing`]: a field or the table `parts` is missing.
-/// - [`PartFault::BadValue`]: a field's value has another kind or is out of range, `parts` or a member of it is no
-///   table, or an id is not 1 to 31 letters, digits, `_` and `-`.
+/// - [`PartFault::BadValue`]: a field's value has another kind or is out of range, or `parts` or a member of it is no
+///   table. It is also the fault of an id that isn't 1 to 31 letters, digits, `_` and `-`.
 /// - [`PartFault::BadSizes`]: a size is no multiple of its page.
 /// - [`PartFault::Memory`]: allocation failed.
 ///

@@ -181,7 +181,13 @@ fn read_open<D: Desk>(
 /// within the limit are judged; if none has a fault, it is `BadFile::TooLong`.
 ///
 /// ```text
+/// let mut desk = MemDesk::new(alloc);
+/// desk.put("app.hex", b":04000000010203")?;
+/// let read = read_image(alloc, &mut desk, "app.hex", Format::Auto, 32_768);
+/// assert!(rt; matches!(read, Err(ReadFault::Image(_)))); // the line is cut
+/// desk.put("app.hex", b":0400000001020304F2\n")?;
 /// let (image, ending) = read_image(alloc, &mut desk, "app.hex", Format::Auto, 32_768)?;
+/// assert_eq!(rt; (image.len(), image.size(), ending), (4, 32_768, Ending::NoEnd));
 /// ```
 pub fn read_image<D: Desk>(
     alloc: Global,

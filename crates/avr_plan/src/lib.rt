@@ -5,10 +5,11 @@
 //! a call returns that function of the openings that passed.
 //!
 //! ```text
-//! match plan(alloc, &settings, &mut desk) {
-//!     Ok(plan) => drive(&plan, ..),
-//!     Err(status) => status, // 1, and the line of the refusal was printed
-//! }
+//! let mut desk = MemDesk::new(alloc);
+//! let settings = Settings::for_link(alloc, "nobody")?;
+//! let planned = plan(alloc, &settings, &mut desk);
+//! assert!(rt; planned.err() == Some(1)); // the status, after the line of the refusal
+//! assert!(rt; desk.messages() == b"avrstk: error: no part nobody\n".as_slice());
 //! ```
 #![tactic(auto)]
 

@@ -73,8 +73,11 @@ pub fn given_parts<D: Desk>(
 /// it.
 ///
 /// ```text
-/// let parts = given_parts(alloc, &mut desk, &settings.parts)?;
-/// let part = chosen_part(&mut desk, &parts, "m328p")?;
+/// let mut desk = MemDesk::new(alloc);
+/// let parts = given_parts(alloc, &mut desk, &None)?;
+/// assert!(rt; chosen_part(&mut desk, &parts, "m328p").is_ok());
+/// assert!(rt; matches!(chosen_part(&mut desk, &parts, "nobody"), Err(1)));
+/// assert!(rt; desk.messages() == b"avrstk: error: no part nobody\n".as_slice());
 /// ```
 pub fn chosen_part<D: Desk>(desk: &mut D, parts: &Parts, id: &str) -> Result<Part, u8>
     ensures goes { Goes (AtStart false) (part_stage id.now parts.now) (D.view desk.old) (D.view desk.new) result }

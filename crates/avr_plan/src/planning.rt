@@ -156,14 +156,21 @@ fn update_tasks<D: Desk>(
 ///
 /// # Errors
 ///
-/// The fault whose line was printed last, as far as the desk takes it.
+/// The first of these, after its line as far as the desk takes it. `PartFile` if the part file gives no parts.
+/// `NoPart` if no part has the id. `Update` with the place of an update, from 0, and its [`TaskFault`].
 ///
 /// ```text
-/// match plan_or_fault(alloc, &settings, &mut desk) {
-///     Ok(plan) => show(&plan),
-///     Err(PlanFault::Update(index, TaskFault::File(fault))) => mark(index, fault),
-///     Err(_) => {}
-/// }
+/// let mut settings = Settings::for_link(alloc, "m328p")?;
+/// settings.updates.push(parse_update(alloc, "flash:w:a.hex")?)?;
+/// let mut desk = MemDesk::new(alloc);
+/// let planned = plan_or_fault(alloc, &settings, &mut desk);
+/// let absent = ReadFault::File(FileFault::Absent);
+/// assert!(rt; planned.err() == Some(PlanFault::Update(0, TaskFault::File(absent))));
+/// desk.put("a.hex", b":0400000001020304F2\n:00000001FF\n")?;
+/// let Ok(plan) = plan_or_fault(alloc, &settings, &mut desk) else {
+///     panic!(rt; "the file is there now");
+/// };
+/// assert_eq!(rt; plan.tasks().len(), 1);
 /// ```
 pub fn plan_or_fault<D: Desk>(
     alloc: Global,

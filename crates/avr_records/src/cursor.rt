@@ -79,7 +79,7 @@ impl Cursor {
     }
 
     /// Puts the next line of the file into `out` and returns true. After the end record it empties `out` and returns
-    /// false.
+    /// false. If the memory changes between two calls, the lines are the file of neither state.
     ///
     /// ```text
     /// let mut image = Image::new(alloc, 0x20001)?;

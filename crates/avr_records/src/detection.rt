@@ -70,8 +70,8 @@ fn first_shown(prefix: &[u8]) -> Found
     shown_unless_blank(rest).unwrap_or(Found::Raw)
 }
 
-/// Detects the format of a file from its first 1,024 bytes: an ELF file by its magic number, a record file by the
-/// first line that isn't blank; anything else is raw bytes.
+/// Detects the format of a file from its first 1,024 bytes. An ELF file has its magic number. The first line of a
+/// record file that isn't blank shows its kind. Anything else is raw bytes.
 ///
 /// ```text
 /// assert_eq!(rt; detect(b"\r\n:0400000001020304F2\r\n"), Found::Ihex);

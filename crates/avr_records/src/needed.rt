@@ -10,9 +10,9 @@ use crate::fault::RecordFault;
 use crate::kind::Kind;
 use crate::line::split_line;
 
-/// Returns the size in bytes of the smallest memory that a record file can be read into: one more than the file's
-/// highest byte address, or 0 for a file without bytes. It allocates nothing, so a size can be checked before its
-/// image is allocated.
+/// Returns the size in bytes of the smallest memory that a record file can be read into. It is one more than the
+/// file's highest byte address, or 0 for a file without bytes. The call allocates nothing, so a size can be checked
+/// before its image is allocated.
 ///
 /// # Errors
 ///

@@ -97,7 +97,8 @@ impl RecordReader {
     ///
     /// # Errors
     ///
-    /// The first fault among the lines that end in this piece; `Failed` after any fault.
+    /// The first fault among the lines that end in this piece: `BadMark`, `BadDigit`, `BadLength`, `BadSum`,
+    /// `BadType`, `BadCount`, `LineTooLong` or `OutOfRange`. `Failed` after any fault.
     ///
     /// ```text
     /// let mut reader = RecordReader::new(alloc, Kind::Ihex, 4)?;
@@ -159,13 +160,14 @@ impl RecordReader {
     }
 }
 
-/// Reads a whole record file for a memory of `size` bytes. Returns the image, and whether the end record came. Start
-/// addresses and headers (S0) are dropped.
+/// Reads a whole record file for a memory of `size` bytes: Intel HEX (Intel's "Hexadecimal Object File Format
+/// Specification") or Motorola S-records. Returns the image, and whether the end record came. Start addresses and
+/// headers (S0) are dropped.
 ///
 /// # Errors
 ///
-/// The first fault of the file; `Memory` if allocation fails; `TooLong` if the file has 2 to the power 32 bytes or
-/// more, which are not read.
+/// The first fault of the file, as [`RecordReader::feed`] returns it. `Memory` if allocation fails. `TooLong` if the
+/// file has 2 to the power 32 bytes or more, which are not read.
 ///
 /// ```text
 /// let (image, ending) = read_records(alloc, Kind::Ihex, 4, b":0400000001020304F2\n:00000001FF\n")?;

@@ -124,13 +124,13 @@ impl fmt::Debug for Record {
     }
 }
 
-/// Reads one line of a file of this kind, without the line's end. Blanks at the end are ignored. It allocates
-/// nothing.
+/// Reads one line of a file of this kind, without the line's end: a record of Intel's "Hexadecimal Object File Format
+/// Specification", or a Motorola S-record. Blanks at the end are ignored. It allocates nothing.
 ///
 /// # Errors
 ///
-/// The reader's faults of a single line, with 1 as the line. An empty line, which a file may have, is no record:
-/// `BadMark`.
+/// `BadMark`, `BadDigit`, `BadLength`, `BadSum`, `BadType` or `LineTooLong`, with 1 as the line. An empty line, which
+/// a file may have, is no record: `BadMark`.
 ///
 /// ```text
 /// let record = read_record(Kind::Ihex, b":0400100001020304E2\r")?;

@@ -118,7 +118,12 @@ fn erase_frames(switches: Switches, tasks: &[Task]) -> u64
 /// sends at most four times as many. To draw progress, count the frames sent with a [`stk_host::WatchedLink`].
 ///
 /// ```text
-/// let all = frame_count(&plan);
+/// let settings = Settings::for_link(alloc, "m328p")?;
+/// let Ok(plan) = plan(alloc, &settings, &mut MemDesk::new(alloc)) else {
+///     panic!(rt; "the part is built in");
+/// };
+/// // to sign on, to enter programming mode, three bytes of the signature, to leave
+/// assert_eq!(rt; frame_count(&plan), 6);
 /// ```
 pub fn frame_count(plan: &Plan) -> u64
     ensures { result ≡ min (2 ^ 64 - 1) (commands_in (run_steps plan.now)) }

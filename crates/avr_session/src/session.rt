@@ -112,10 +112,15 @@ impl<'a, D: Desk, L: Link> Session<'a, D, L> {
 /// which device stopped a session, watch both with `WatchedLink` and `WatchedDesk`.
 ///
 /// ```text
-/// match drive_outcome(alloc, &plan, &mut desk, &mut link) {
-///     Outcome::Faulty(HostFault::Differs { mem, addr, want, found }) => show(mem, addr, want, found),
-///     outcome => finish(outcome.status()),
-/// }
+/// let mut desk = MemDesk::new(alloc);
+/// let settings = Settings::for_link(alloc, "m328p")?;
+/// let Ok(plan) = plan(alloc, &settings, &mut desk) else {
+///     panic!(rt; "the part is built in");
+/// };
+/// let mut silent = TapeLink::new(alloc, vec![in alloc; Item::Silence; 8]?, 281);
+/// let outcome = drive_outcome(alloc, &plan, &mut desk, &mut silent);
+/// assert_eq!(rt; (outcome, outcome.status()), (Outcome::Faulty(HostFault::NoAnswer), 1));
+/// assert!(rt; desk.messages() == b"avrstk: error: no answer\n".as_slice());
 /// ```
 pub fn drive_outcome<D: Desk, L: Link>(
     alloc: Global,

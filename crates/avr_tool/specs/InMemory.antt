@@ -1,4 +1,4 @@
--- FROM BYTES TO BYTES. What a run leaves is a function of its settings, files, standard input and answers, if these
+-- FROM BYTES TO BYTES. What a run leaves is a function of its settings, files, standard input and replies, if these
 -- are known. No device is in it.
 use Rattle.std.specs.Io.KnownBytes.{Appends, Consumes}
 use Rattle.std.specs.Prelude.{◌≡◌, ℕ, List, [], ◌++◌, replicate, Option, Some, option_map}

@@ -1,4 +1,4 @@
--- Worked runs: `-p m328p` over a programmer that answers each frame at once, and with a part file that doesn't exist.
+-- Worked runs: `-p m328p` over a programmer that replies at once, and with a part file that doesn't exist.
 -- Also a session over a link that forges a frame.
 use Rattle.std.specs.Prelude.{ℕ, List, [], ◌∷◌, ◌++◌, Some, None, false, codes}
 use Rattle.avr_cli.specs.declared.settings.Settings.{Settings}
@@ -32,7 +32,7 @@ worked_settings = record {
   };
 }
 
--- The answers: a name, programming mode, the signature 1E 95 0F, and leaving.
+-- The replies: a name, programming mode, the signature 1E 95 0F, and leaving.
 abbrev pub worked_answers : Tape
 worked_answers = on_tape (
     0x1B ∷ 0x01 ∷ 0x00 ∷ 0x0B ∷ 0x0E ∷ 0x01 ∷ 0x00 ∷ 0x08 ∷ 0x53 ∷ 0x54 ∷ 0x4B ∷ 0x35 ∷ 0x30 ∷ 0x30 ∷ 0x5F ∷ 0x32 ∷ 0x02
@@ -95,7 +95,7 @@ fuse_plan = record {
   switches = worked_settings.switches;
 }
 
--- A tape for it with a forged frame: the answer for the fuse is E2, whatever the chip has.
+-- A tape for it with a forged frame: the reply for the fuse is E2, whatever the chip has.
 abbrev pub made_answers : Tape
 made_answers = on_tape (
     frame 1 (0x01 ∷ 0x00 ∷ 0x08 ∷ codes "STK500_2") ++ frame 2 (0x10 ∷ 0x00 ∷ [])

@@ -201,7 +201,7 @@ pub fn a_further_run_over_its_chip_file_heals()
         ⊎ Stopped one.plan (new_wire two.chip []) two.after two.loaded_desk two.played_desk }
 {}
 
-/// States that a worked run, `-p m328p` with all its answers, has one outcome: with another status, frame or line it
+/// States that a worked run, `-p m328p` with all its replies, has one outcome: with another status, frame or line it
 /// is no run.
 // Proof: `another_status`, `another_frame` and `another_line` (Runs/Refused).
 pub fn a_worked_run_has_one_outcome()
@@ -217,7 +217,7 @@ pub fn a_worked_run_has_one_outcome()
         → IsRun worked_settings (devices (link_state [] a) d) (devices (link_state transcript b) e) status → ⊥ }
 {}
 
-/// States that what a run leaves over some files and a tape is one outcome. For `-p m328p` with all its answers it is
+/// States that what a run leaves over some files and a tape is one outcome. For `-p m328p` with all its replies it is
 /// the one below. If the part file doesn't exist, the outcome reports this, and nothing is sent.
 // Proof: `one_outcome`, `worked_leaves` and `absent_leaves` (KnownFiles/OneOutcome).
 pub fn a_run_in_memory_has_one_outcome()

@@ -8,13 +8,20 @@
 //! Step by step:
 //!
 //! ```text
-//! let settings = read_settings(alloc, &read_words(alloc, &words)?)?;
+//! let mut words = Vec::new(alloc);
+//! for word in ["avrstk", "-p", "m328p", "-P", "emu:chip.bin"] {
+//!     words.push(String::from_str(alloc, word)?)?;
+//! }
+//! let mut desk = MemDesk::new(alloc);
+//! let mut link = StreamLink::new(b"".as_slice(), Vec::new(alloc));
+//! let settings = read_settings(alloc, &read_words(alloc, words.as_slice())?)?;
 //! let status = match &settings.port {
 //!     Port::Stdio => run(alloc, &settings, &mut desk, &mut link),
 //!     Port::Emulated(_) => run_emu(alloc, &settings, &mut desk),
 //!     Port::Network(_) => run_net(&rt, alloc, &settings, &mut desk),
 //!     Port::Served { .. } => serve_net(&rt, alloc, &settings, &mut desk),
 //! };
+//! assert_eq!(rt; status, 0);
 //! ```
 #![tactic(auto)]
 

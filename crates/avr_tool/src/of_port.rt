@@ -21,6 +21,7 @@ use std::alloc::Global;
 use stk_host::Link;
 
 /// Runs what the settings ask for over the emulator, as [`avr_emulator::run_emu`] does with their port's chip file.
+/// The port must be [`Port::Emulated`]. Returns the status, 0 or 1.
 ///
 /// ```text
 /// let mut settings = Settings::for_link(alloc, "m328p")?;
@@ -41,7 +42,8 @@ pub fn run_emu<D: ChipDesk>(alloc: Global, settings: &Settings, desk: &mut D) ->
     run_emulated(alloc, settings, file.as_str(), desk)
 }
 
-/// Runs what the settings ask for over the network, to the address of their port.
+/// Runs what the settings ask for over the network, to the address of their port, which must be [`Port::Network`].
+/// Returns the status, 0 or 1.
 ///
 /// ```text
 /// let mut settings = Settings::for_link(alloc, "nobody")?;
@@ -67,8 +69,8 @@ pub fn run_net<N: Network, D: Desk>(
     run_at(network, alloc, settings, address.as_str(), desk)
 }
 
-/// Serves the emulator over a link in at most `turns` reads, as [`avr_emulator::serve_for`] does with the chip file of
-/// the settings.
+/// Serves the emulator over a link in at most `turns` reads, as [`avr_emulator::serve_for`] does with the chip file
+/// of the settings. Their port must be [`Port::Served`]. Returns the status, 0 or 1.
 ///
 /// ```text
 /// let mut settings = Settings::for_link(alloc, "m328p")?;
@@ -100,7 +102,8 @@ pub fn serve_for<D: ChipDesk, L: Link>(
     serve_turns(alloc, settings, chip.as_str(), desk, link, turns)
 }
 
-/// Serves the emulator over a link, as [`serve_for`] does, in at most 16,777,216 reads.
+/// Serves the emulator over a link, as [`serve_for`] does, in at most 16,777,216 reads. The port of the settings must
+/// be [`Port::Served`].
 ///
 /// ```text
 /// let mut settings = Settings::for_link(alloc, "m328p")?;
@@ -131,7 +134,8 @@ pub fn serve<D: ChipDesk, L: Link>(
     serve_over(alloc, settings, chip.as_str(), desk, link)
 }
 
-/// Serves the emulator to the first client of a listener, at most 16,777,216 reads. The part and the chip file of the
+/// Serves the emulator to the first client of a listener, at most 16,777,216 reads. The port of the settings must be
+/// [`Port::Served`]. Returns the status: 0 if there was no fault, otherwise 1. The part and the chip file of the
 /// settings are checked before a connection is accepted.
 pub fn serve_on<L: Callers + Drop, D: ChipDesk>(
     alloc: Global,
@@ -157,7 +161,8 @@ pub fn serve_on<L: Callers + Drop, D: ChipDesk>(
     )
 }
 
-/// Serves the emulator at the port of 127.0.0.1 that the settings name, to the first client.
+/// Serves the emulator at the port of 127.0.0.1 that the settings name, to the first client. Their port must be
+/// [`Port::Served`].
 ///
 /// ```text
 /// let mut settings = Settings::for_link(alloc, "nobody")?;

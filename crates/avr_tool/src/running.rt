@@ -78,8 +78,8 @@ pub fn run_streams<D: Desk, R: Read + Drop, W: Write + Drop>(
 /// output and the files created are a function of these and the settings. Like any run it may stop instead: devices
 /// in memory fail if allocation fails.
 ///
-/// Nothing has passed over the desk and the link yet. Each file is read as it was before the run, also one that the
-/// run creates anew.
+/// The desk and the link must be new: nothing has passed over them yet. Each file is read as it was before the run,
+/// also one that the run creates anew.
 ///
 /// ```text
 /// let settings = Settings::for_link(alloc, "m328p")?;
@@ -137,8 +137,8 @@ pub fn run_streams_in_memory<R: Read + Drop, W: Write + Drop>(
 /// Runs what the settings ask for over a wire to the emulated programmer, as [`run`] does over a link, whatever the
 /// wire loses, delays and spoils.
 ///
-/// Nothing has passed over the wire yet. The promises about the chip hold if it is of the plan's part; it may be of
-/// another part.
+/// The wire must be new: nothing sent or received yet. The promises about the chip hold if it is of the plan's part;
+/// it may be of another part.
 ///
 /// ```text
 /// let settings = Settings::for_link(alloc, "m328p")?;

@@ -1,4 +1,4 @@
--- A dialog over a link, question by question: without bytes, sequence numbers and late answers.
+-- A dialog over a link, question by question: without bytes, sequence numbers and late replies.
 use Rattle.std.specs.Prelude.{ℕ, zero, suc, List, [], ◌∷◌}
 use Rattle.stk_host.specs.Tape.{Reading}
 use Rattle.stk_host.specs.Dialog.{Dialog, Done, Say, Ask}

@@ -1,10 +1,10 @@
--- What obeys frames, and its answers to them.
+-- What obeys frames, and its replies to them.
 use Rattle.std.specs.Prelude.{ℕ, List, [], ◌∷◌, ◌++◌, if◌then◌else◌}
 use Rattle.stk_frame.specs.Frame.{frame}
 use Rattle.stk_frame.specs.Cut.{is_good, seq_of, body_of}
 use Rattle.stk_emu.specs.Programmer.{Programmer, obey, restarted_programmer}
 
--- The body of the answer to a body, the device after it, and the device after a restart.
+-- The body of the reply to a body, the device after it, and the device after a restart.
 pub record Device (P : Type 0) : Type 0 where
   pub answer : List ℕ → P → List ℕ
   pub after : List ℕ → P → P
@@ -27,11 +27,11 @@ answer_body m piece p = if is_good piece then m.answer (body_of piece) p else re
 abbrev pub after_frame : {P : Type 0} → Device P → List ℕ → P → P
 after_frame m piece p = if is_good piece then m.after (body_of piece) p else p
 
--- The frame of the answer, which has the frame's own sequence number.
+-- The frame of the reply, which has the frame's own sequence number.
 abbrev pub answer_frame : {P : Type 0} → Device P → List ℕ → P → List ℕ
 answer_frame m piece p = frame (seq_of piece) (answer_body m piece p)
 
--- The answers to whole frames, joined; below, the device after them.
+-- The replies to whole frames, joined; below, the device after them.
 abbrev pub answers : {P : Type 0} → Device P → List (List ℕ) → P → List ℕ
 answers m [] p = []
 answers m (piece ∷ pieces) p = answer_frame m piece p ++ answers m pieces (after_frame m piece p)

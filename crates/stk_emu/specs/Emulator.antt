@@ -1,4 +1,4 @@
--- What an emulator holds, what it was fed, and what it answers.
+-- What an emulator holds, what it was fed, and what it replies.
 use Rattle.std.specs.Prelude.{ℕ, List, ◌≡◌, ◌<◌, ◌≤◌, ◌++◌, length, filter}
 use Rattle.stk_frame.specs.Cut.{frames, is_frame}
 use Rattle.stk_frame.specs.Reader.{HoldsFrame, MayHold, Fed}
@@ -10,7 +10,7 @@ pub record Machine : Type 0 where
   pub held : List ℕ
   pub programmer : Programmer
 
--- All answers of a programmer to a text: to each of its frames in order.
+-- All replies of a programmer to a text: to each of its frames in order.
 abbrev pub emulate : Programmer → List ℕ → List ℕ
 emulate p text = answers device (frames text) p
 
@@ -19,7 +19,7 @@ pub record IsFed (p : Programmer) (text : List ℕ) (machine : Machine) : Type 0
   pub stands : MayHold machine.held text
   pub obeyed : machine.programmer ≡ after_frames device (frames text) p
 
--- It was fed these bytes, and `out` is the answer. At most one frame ends in them, with the last byte.
+-- It was fed these bytes, and `out` is the reply. At most one frame ends in them, with the last byte.
 pub record Answers (old : Machine) (used : List ℕ) (new : Machine) (out : List ℕ) : Type 0 where
   pub found : List (List ℕ)
   pub few : length found ≤ 1
@@ -29,7 +29,7 @@ pub record Answers (old : Machine) (used : List ℕ) (new : Machine) (out : List
   pub answered : out ≡ answers device found old.programmer
   pub obeyed : new.programmer ≡ after_frames device found old.programmer
 
--- It was fed all of these bytes. Whatever text came before, the frames found end in them, and their answers were
+-- It was fed all of these bytes. Whatever text came before, the frames found end in them, and their replies were
 -- appended in order.
 pub record AppendsAnswers (old : Machine) (bytes : List ℕ) (new : Machine) (before after : List ℕ) : Type 0 where
   pub found : List (List ℕ)
@@ -38,7 +38,7 @@ pub record AppendsAnswers (old : Machine) (bytes : List ℕ) (new : Machine) (be
   pub appended : after ≡ before ++ answers device found old.programmer
   pub obeyed : new.programmer ≡ after_frames device found old.programmer
 
--- It was fed a proper prefix of these bytes, and all answers to that prefix were appended.
+-- It was fed a proper prefix of these bytes, and all replies to that prefix were appended.
 pub record AnswersPrefix (old : Machine) (bytes : List ℕ) (new : Machine) (before after : List ℕ) : Type 0 where
   pub used : List ℕ
   pub unused : List ℕ

@@ -52,7 +52,7 @@ on_data (Stop fault) go_on = Stop fault
 abbrev pub reply_to : {P : Type 0} → Device P → Command → P → Reply
 reply_to m command p = reading_reply command (Answered (m.answer (body command) p))
 
--- The result of commands that are each obeyed and answered: all data joined, after `before`.
+-- The result of commands that are each obeyed and get a reply: all data joined, after `before`.
 abbrev pub joined_reply : {P : Type 0} → Device P → List Command → List ℕ → P → Reply
 joined_reply m [] before p = Data before
 joined_reply m (command ∷ commands) before p =

@@ -1,4 +1,4 @@
--- Noise that can't be taken for an answer, bodies that a frame can carry, and late answers that can't be taken for
+-- Noise that can't be taken for a reply, bodies that a frame can carry, and late replies that can't be taken for
 -- another one.
 use Rattle.std.specs.Prelude.{ℕ, zero, suc, List, [], ◌++◌, ◌<◌, ◌≤◌, ◌≡◌, ◌⊎◌, length, filter}
 use Rattle.stk_emu.specs.declared.fate.TheConstants.{LARGEST_NOISE}
@@ -17,7 +17,7 @@ pub record IsBody (body : List ℕ) : Type 0 where
   pub some : 0 < length body
   pub few : length body ≤ LARGEST_BODY
 
--- The last three answers that wait, in order; an absent one is empty.
+-- The last three replies that wait, in order; an absent one is empty.
 pub record Late : Type 0 where
   pub first : List ℕ
   pub second : List ℕ
@@ -26,7 +26,7 @@ pub record Late : Type 0 where
 abbrev pub none_late : Late
 none_late = record { first = []; second = []; third = [] }
 
--- One more answer; a fourth one drops the first.
+-- One more reply; a fourth one drops the first.
 abbrev pub behind_late : Late → List ℕ → Late
 behind_late late answered = record { first = late.second; second = late.third; third = answered }
 
@@ -47,11 +47,11 @@ pub record IsLate (k n : ℕ) (late : List ℕ) : Type 0 where
   pub carried : IsBody bytes
   pub is : late ≡ frame seq bytes
 
--- Nothing, or the answer to the frame `k` before.
+-- Nothing, or the reply to the frame `k` before.
 abbrev pub IsPast : ℕ → ℕ → List ℕ → Type 0
 IsPast k n late = (late ≡ []) ⊎ IsLate k n late
 
--- The answers that wait, if there are any, are those to the last three frames before this one: none has its number.
+-- The replies that wait, if there are any, are those to the last three frames before this one: none has its number.
 pub record IsClear (n : ℕ) (late : Late) : Type 0 where
   pub first : IsPast 3 n late.first
   pub second : IsPast 2 n late.second

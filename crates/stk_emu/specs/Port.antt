@@ -1,15 +1,15 @@
--- A port with a programmer behind it: it takes what is written, and its answers are read.
+-- A port with a programmer behind it: it takes what is written, and its replies are read.
 use Rattle.std.specs.Prelude.{ℕ, List, ◌++◌, ◌≡◌}
 use Rattle.stk_emu.specs.Programmer.{Programmer}
 use Rattle.stk_emu.specs.Emulator.{Machine, IsFed, emulate}
 
--- The emulator, and its answers that are not yet read.
+-- The emulator, and its replies that are not yet read.
 pub record PortState : Type 0 where
   pub machine : Machine
   pub waits : List ℕ
 
 -- A port that began with this programmer: `written` is all that was fed to it. What was read and then what waits are
--- all its answers, in order.
+-- all its replies, in order.
 pub record IsPassed (p : Programmer) (written read : List ℕ) (port : PortState) : Type 0 where
   pub fed : IsFed p written port.machine
   pub answers : read ++ port.waits ≡ emulate p written

@@ -33,7 +33,7 @@ fresh_programmer chip = record {
 abbrev pub restarted_programmer : Programmer → Programmer
 restarted_programmer p = fresh_programmer (with_empty_buffers p.chip)
 
--- The body of an answer, and the programmer after the command.
+-- The body of a reply, and the programmer after the command.
 abbrev pub Response : Type 0
 Response = List ℕ × Programmer
 
@@ -257,7 +257,7 @@ obey_command (SpiMulti send_count receive_count receive_start bytes) p =
 abbrev pub is_known : ℕ → Bool
 is_known code = nat_le 0x01 code && nat_le code 0x03 || code == 0x06 || nat_le 0x10 code && nat_le code 0x1D
 
--- The answer to a body that is no command depends on whether its first byte is a command's.
+-- The reply to a body that is no command depends on whether its first byte is a command's.
 abbrev pub not_read : ℕ → Programmer → Response
 not_read code p = (code ∷ (if is_known code then 0xC0 else 0xC9) ∷ [], p)
 
@@ -265,6 +265,6 @@ abbrev pub read_as : Option Command → List ℕ → Programmer → Response
 read_as (Some command) bytes p = obey_command command p
 read_as None bytes p = not_read (slice_index bytes 0) p
 
--- The programmer's answer to the body of a frame, and the programmer after it.
+-- The programmer's reply to the body of a frame, and the programmer after it.
 abbrev pub obey : List ℕ → Programmer → Response
 obey bytes p = read_as (command_of bytes) bytes p

@@ -9,7 +9,7 @@ pub data Became : Type 0 where
   Obeyed : Became
   Anew : Became → Became
 
--- What is read in place of the programmer's own answer: the refusal, or nothing. Then listening ended with a timeout,
+-- What is read in place of the programmer's own reply: the refusal, or nothing. Then listening ended with a timeout,
 -- with too many bytes or with the end of the link.
 pub data Instead : Type 0 where
   Refusal : Instead
@@ -17,8 +17,8 @@ pub data Instead : Type 0 where
   Babble : Instead
   Ending : Instead
 
--- The turn of a question: its command was obeyed and its own answer read, or something else happened. No turn reads
--- an answer that isn't the programmer's own to this question.
+-- The turn of a question: its command was obeyed and its own reply read, or something else happened. No turn reads
+-- a reply that isn't the programmer's own to this question.
 pub data Turn : Type 0 where
   Right : Turn
   Wrong : Became → Instead → Turn
@@ -37,7 +37,7 @@ abbrev pub became_in : Turn → Became
 became_in Right = Obeyed
 became_in (Wrong became instead) = became
 
--- How listening ends, with the body of the programmer's own answer.
+-- How listening ends, with the body of the programmer's own reply.
 abbrev pub read_instead : Instead → Reading
 read_instead Refusal = Answered refusal
 read_instead Nothing = Silent
@@ -57,7 +57,7 @@ abbrev pub other_turns : List Turn → List Turn
 other_turns [] = []
 other_turns (turn ∷ turns) = turns
 
--- An honest reading is no answer, or the refusal, or the programmer's own answer to this question, which it then
+-- An honest reading is no reply, or the refusal, or the programmer's own reply to this question, which it then
 -- obeyed.
 abbrev pub IsHonest : {P : Type 0} → Device P → List ℕ → P → Became → Reading → Type 0
 IsHonest m bytes p became (Answered body) = ((became ≡ Obeyed) × (body ≡ m.answer bytes p)) ⊎ (body ≡ refusal)

@@ -42,7 +42,7 @@ abbrev pub becames_of : ℕ → List Fate → List Became
 becames_of zero fates = []
 becames_of (suc k) fates = became_in (turn_of (first_fate fates)) ∷ becames_of k (other_fates fates)
 
--- What a fate brings back, from the frames of the answer and of the refusal.
+-- What a fate brings back, from the frames of the reply and of the refusal.
 abbrev pub back : Fate → List ℕ → List ℕ → Tape
 back Good answered refused = on_tape answered
 back CommandRefused answered refused = on_tape refused
@@ -53,17 +53,17 @@ abbrev pub is_held : Fate → Bool
 is_held HeldAnswer = true
 is_held _ = false
 
--- The answers that arrive before what this frame brings.
+-- The replies that arrive before what this frame brings.
 abbrev pub let_go : Fate → Late → List ℕ
 let_go fate late = if is_held fate then [] else waiting late
 
--- The answers that wait after it.
+-- The replies that wait after it.
 abbrev pub late_of : Fate → List ℕ → Late → Late
 late_of LateAnswer answered late = behind_late none_late answered
 late_of HeldAnswer answered late = behind_late late answered
 late_of _ answered late = none_late
 
--- The programmer, the fates to come, and the late answers that wait.
+-- The programmer, the fates to come, and the late replies that wait.
 pub record Wire (P : Type 0) : Type 0 where
   pub programmer : P
   pub fates : List Fate

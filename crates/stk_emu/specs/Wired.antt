@@ -47,7 +47,7 @@ abbrev pub ComesOf : Start → WiredState → Type 0
 ComesOf start w = FollowsFates start.programmer start.fates w
 
 -- Nothing has passed over the wire: no part of a frame is held, and nothing waits to be received or is late. Its
--- programmer has done nothing yet, and noise in place of an answer has no good frame.
+-- programmer has done nothing yet, and noise in place of a reply has no good frame.
 pub record IsFresh (w : WiredState) : Type 0 where
   pub silent : w.transcript ≡ []
   pub held : MayHold w.held []

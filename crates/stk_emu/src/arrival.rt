@@ -1,4 +1,4 @@
-//! What a frame brings, and the answers that wait: bytes, and a `None` for each timeout.
+//! What a frame brings, and the replies that wait: bytes, and a `None` for each timeout.
 ghost use Rattle.std.specs.Prelude.{◌≡◌, ◌+◌, ◌*◌, ◌<◌, ◌≤◌, ◌++◌, ◌∷◌, [], length, take};
 ghost use Rattle.stk_emu.specs.declared.arrival.TheConstants.{ROOM};
 ghost use Rattle.stk_frame.specs.declared.protocol.TheConstants.{LARGEST_FRAME};
@@ -14,7 +14,7 @@ use std::marker::Model;
 use std::mem;
 use stk_frame::LARGEST_FRAME;
 
-/// Room for all that one frame can bring: three late answers, noise, and a timeout.
+/// Room for all that one frame can bring: three late replies, noise, and a timeout.
 pub(crate) const ROOM: usize = 3 * LARGEST_FRAME + LARGEST_NOISE + 1;
 
 pub(crate) type Arrival = ArrayVec<Option<u8>, ROOM>;
@@ -55,7 +55,7 @@ pub(crate) fn take_bytes(items: &[Option<u8>], buffer: &mut [u8]) -> usize
     count
 }
 
-/// The last three answers that wait, in order; an absent one is empty.
+/// The last three replies that wait, in order; an absent one is empty.
 #[derive(Drop)]
 pub(crate) struct Late {
     first: Frame,
@@ -94,7 +94,7 @@ impl Late {
         self.third.clear();
     }
 
-    /// Adds an answer; a fourth one drops the first.
+    /// Adds a reply; a fourth one drops the first.
     pub fn hold(&mut self, answered: Frame)
         ensures { self.new ≡ behind_late self.old answered.items }
     {

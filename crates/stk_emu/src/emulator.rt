@@ -30,7 +30,7 @@ pub(crate) fn refuse(reader: &FrameReader, out: &mut Frame)
     put_frame(reader.seq(), &REFUSAL, out);
 }
 
-/// Obeys the frame that the reader holds, and makes `out` the answer.
+/// Obeys the frame that the reader holds, and makes `out` the reply.
 fn obey_frame(reader: &FrameReader, programmer: &mut Programmer, out: &mut Frame)
     requires { HoldsFrame reader.now }
     ensures answer { out.new.items ≡ frame (seq_of reader.now) (obey (body_of reader.now) programmer.old).0 }
@@ -41,7 +41,7 @@ fn obey_frame(reader: &FrameReader, programmer: &mut Programmer, out: &mut Frame
     put_frame(reader.seq(), body.as_slice(), out);
 }
 
-/// Answers the frame that the reader holds: obeys it if it is good, and refuses it otherwise.
+/// Replies to the frame that the reader holds: obeys it if it is good, and refuses it otherwise.
 pub(crate) fn answer(reader: &FrameReader, good: bool, programmer: &mut Programmer, out: &mut Frame)
     requires holds { HoldsFrame reader.now }
     requires tells { is_good reader.now ≡ good }
@@ -55,7 +55,7 @@ pub(crate) fn answer(reader: &FrameReader, good: bool, programmer: &mut Programm
     }
 }
 
-/// Answers the frame that the event reports; if it reports none, `out` becomes empty.
+/// Replies to the frame that the event reports; if it reports none, `out` becomes empty.
 fn answer_event(reader: &FrameReader, event: Event, programmer: &mut Programmer, out: &mut Frame)
     requires { TellsEvent event reader.now }
     ensures answers { out.new.items ≡ answers device (frames_of_event event reader.now) programmer.old }
@@ -75,9 +75,9 @@ fn append(answers: &mut Vec<u8>, bytes: &[u8])
     let _there_is_room = answers.extend_from_slice(bytes);
 }
 
-/// A programmer with its part: takes the bytes of a link and answers each frame.
+/// A programmer with its part: takes the bytes of a link and replies to each frame.
 ///
-/// It obeys a good frame, and answers a frame with a wrong XOR with the body `B0 C1`. An answer has the sequence
+/// It obeys a good frame, and replies to a frame with a wrong XOR with the body `B0 C1`. A reply has the sequence
 /// number of its frame, whatever the numbers before. Only the part of a frame that has arrived is held.
 ///
 /// ```text
@@ -147,7 +147,7 @@ impl Emulator {
         programmer.into_chip()
     }
 
-    /// Uses bytes up to the end of the first frame, and returns how many; `out` becomes that frame's answer. If no
+    /// Uses bytes up to the end of the first frame, and returns how many; `out` becomes that frame's reply. If no
     /// frame ends, it uses all bytes and leaves `out` empty.
     ///
     /// ```text
@@ -163,7 +163,7 @@ impl Emulator {
         ensures all { out.new.items ≡ [] → result ≡ length piece.now }
         ensures progress { 0 < length piece.now → 0 < result }
         ensures one { Answers self.old (take result piece.now) self.new out.new.items }
-        // However the text was cut into pieces, the answers are those to the whole text.
+        // However the text was cut into pieces, the replies are those to the whole text.
         ensures fed { (p : ProgrammerState) (text : List ℕ) → IsFed p text self.old
             → IsFed p (text ++ take result piece.now) self.new }
         ensures emulated { (p : ProgrammerState) (text : List ℕ) → IsFed p text self.old
@@ -174,7 +174,7 @@ impl Emulator {
         used
     }
 
-    /// Uses bytes up to the end of the first frame, or all of them, appends the answer, and returns how many it used.
+    /// Uses bytes up to the end of the first frame, or all of them, appends the reply, and returns how many it used.
     /// If allocation fails, nothing changes.
     fn answer_next(&mut self, bytes: &[u8], answers: &mut Vec<u8>) -> Result<usize, AllocError>
         ensures within { IfOk result (λ n. n ≤ length bytes.now) }
@@ -191,11 +191,11 @@ impl Emulator {
         Ok(used)
     }
 
-    /// Uses all of these bytes, and appends the answers to their frames to `answers`, in order.
+    /// Uses all of these bytes, and appends the replies to their frames to `answers`, in order.
     ///
     /// # Errors
     ///
-    /// `AllocError` if allocation fails. A proper prefix of the bytes was used, and all answers to that prefix were
+    /// `AllocError` if allocation fails. A proper prefix of the bytes was used, and all replies to that prefix were
     /// appended, none of them in part.
     ///
     /// ```text
@@ -212,7 +212,7 @@ impl Emulator {
             answers.old.items answers.new.items) }
         ensures prefix { OnErr result (AnswersPrefix self.old bytes.now self.new
             answers.old.items answers.new.items) }
-        // A list of all answers so far becomes a list of all answers.
+        // A list of all replies so far becomes a list of all replies.
         ensures fed { (p : ProgrammerState) (text : List ℕ) → IsFed p text self.old
             → OnOk result (IsFed p (text ++ bytes.now) self.new) }
         ensures all { (p : ProgrammerState) (text : List ℕ) → IsFed p text self.old

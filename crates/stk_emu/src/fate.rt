@@ -1,4 +1,4 @@
-//! What can happen to a frame and its answer, and noise on the wire.
+//! What can happen to a frame and its reply, and noise on the wire.
 ghost use Rattle.std.specs.Prelude.{◌≡◌, ◌≢◌, ◌↔◌, [], ◌∷◌, IsTrue, true, false, filter};
 ghost use Rattle.stk_frame.specs.Cut.{cut, is_good};
 ghost use Rattle.stk_frame.specs.Reader.{TellsEvent, frames_of_event};
@@ -6,7 +6,7 @@ ghost use Rattle.stk_emu.specs.Lawful.{IsLawful};
 
 use stk_frame::{Event, FrameReader};
 
-/// What happens to one whole frame on its way to the programmer, and to the answer on its way back.
+/// What happens to one whole frame on its way to the programmer, and to the reply on its way back.
 ///
 /// ```text
 /// let part = Parts::none().find("t85")?;
@@ -19,23 +19,23 @@ use stk_frame::{Event, FrameReader};
 /// ```
 #[derive(Debug, Drop, PartialEq, Eq)]
 pub enum Fate {
-    /// The frame is obeyed, and the answer arrives.
+    /// The frame is obeyed, and the reply arrives.
     Good,
     /// The frame is not obeyed, and a timeout follows.
     LostCommand,
     /// The frame is obeyed, and a timeout follows.
     LostAnswer,
-    /// The frame is obeyed, and a timeout follows. The answer arrives before what the next frame brings.
+    /// The frame is obeyed, and a timeout follows. The reply arrives before what the next frame brings.
     LateAnswer,
-    /// The frame is obeyed, and a timeout follows. The answer waits behind those that wait already. All of them
+    /// The frame is obeyed, and a timeout follows. The reply waits behind those that wait already. All of them
     /// arrive before what the first later frame of another fate brings. Three can wait; a fourth one drops the first.
     HeldAnswer,
     /// The frame is not obeyed, and the programmer restarts: its memories stay, and programming mode, address,
     /// parameters and page buffers are lost. A timeout follows.
     Reset,
-    /// The frame is not obeyed. The answer reports a wrong XOR, with the frame's sequence number.
+    /// The frame is not obeyed. The reply reports a wrong XOR, with the frame's sequence number.
     CommandRefused,
-    /// The frame is obeyed. This noise arrives in place of the answer, and then a timeout.
+    /// The frame is obeyed. This noise arrives in place of the reply, and then a timeout.
     AnswerSpoiled(Vec<u8>),
 }
 
@@ -71,7 +71,7 @@ fn has_good_frame(noise: &[u8]) -> bool
     false
 }
 
-/// Returns whether noise can't be taken for an answer: it has at most 2,048 bytes and, cut from the left, no good
+/// Returns whether noise can't be taken for a reply: it has at most 2,048 bytes and, cut from the left, no good
 /// frame.
 ///
 /// [`crate::Fates::push`] refuses any other noise, so every [`crate::Fate::AnswerSpoiled`] of a [`crate::Wired`] has

@@ -78,7 +78,7 @@ fn is_lawful(fate: &Fate) -> bool
 }
 
 impl Fates {
-    /// Creates an empty list: every frame is obeyed, and its answer arrives.
+    /// Creates an empty list: every frame is obeyed, and its reply arrives.
     ///
     /// ```text
     /// let fates = Fates::none(alloc);
@@ -96,8 +96,8 @@ impl Fates {
     ///
     /// # Errors
     ///
-    /// [`FatesFault::UnlawfulNoise`] if the fate has noise that could be taken for an answer. [`FatesFault::Memory`]
-    /// if allocation fails.
+    /// [`FatesFault::UnlawfulNoise`] if the fate has noise that could be taken for a reply
+    /// ([`crate::noise_is_lawful`]). [`FatesFault::Memory`] if allocation fails.
     ///
     /// ```text
     /// let mut fates = Fates::none(alloc);

@@ -17,9 +17,9 @@ use std::io::{ErrorKind, Read, Write};
 use std::marker::Model;
 use stk_frame::LARGEST_FRAME;
 
-/// A port for a client that uses `Read` and `Write`: it writes to an emulated programmer and reads the answers.
+/// A port for a client that uses `Read` and `Write`: it writes to an emulated programmer and reads the replies.
 ///
-/// A write takes bytes up to the end of the first frame, so `write_all` writes a whole text. If no answer waits, a
+/// A write takes bytes up to the end of the first frame, so `write_all` writes a whole text. If no reply waits, a
 /// read fails with `ErrorKind::WouldBlock`, as a serial port does after its timeout. A read never reports the end. A
 /// flush does nothing.
 ///
@@ -55,7 +55,7 @@ fn append(waits: &mut VecDeque<u8>, bytes: &[u8])
 }
 
 impl EmulatedPort {
-    /// Creates a port to this emulator; no answer waits.
+    /// Creates a port to this emulator; no reply waits.
     ///
     /// ```text
     /// let chip = Chip::fresh(alloc, Parts::none().find("t85")?)?;
@@ -85,7 +85,7 @@ impl EmulatedPort {
         self.emulator.chip()
     }
 
-    /// Returns the emulator as what was written has left it. Answers not yet read are lost.
+    /// Returns the emulator as what was written has left it. Replies not yet read are lost.
     ///
     /// ```text
     /// let chip = Chip::fresh(alloc, Parts::none().find("t85")?)?;
@@ -107,12 +107,12 @@ impl Read for EmulatedPort {
         ensures bound { ReadsAtMost result buf.new }
         ensures bytes { ReadConsumes (Some self.old.waits) (Some self.new.waits) result buf.new }
         ensures machine { self.new.machine ≡ self.old.machine }
-        // A read fails only with `WouldBlock`, and only if no answer waits.
+        // A read fails only with `WouldBlock`, and only if no reply waits.
         ensures dry { self.old.waits ≡ [] → IsErr result }
         ensures blocks { OnErr result (self.old.waits ≡ []) }
         ensures kind { IfErr result (λ e. error_kind e ≡ ErrorKind.WouldBlock) }
         ensures some { IfOk result (λ n. 0 < length buf.new → 0 < n) }
-        // The bytes read are the next ones of all answers.
+        // The bytes read are the next ones of all replies.
         ensures passed { (p : ProgrammerState) (written given : List ℕ) → IsPassed p written given self.old
             → IfOk result (λ n. IsPassed p written (given ++ take n buf.new) self.new) }
     {
@@ -128,7 +128,7 @@ impl Write for EmulatedPort {
         ensures bound { WritesAtMost result buf.now }
         ensures bytes { WriteAppends None None result buf.now }
         ensures some { IfOk result (λ n. 0 < length buf.now → 0 < n) }
-        // The bytes written are fed, and their answers wait behind those that wait already.
+        // The bytes written are fed, and their replies wait behind those that wait already.
         ensures answers { IfOk result (λ n. AppendsAnswers self.old.machine (take n buf.now) self.new.machine
             self.old.waits self.new.waits) }
         ensures passed { (p : ProgrammerState) (written given : List ℕ) → IsPassed p written given self.old

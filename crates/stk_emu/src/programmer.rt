@@ -21,7 +21,7 @@ use stk_frame::{Command, EnterProgmode, ProgramBlock, ReadBlock, ReadByte};
 
 pub(crate) type Body = ArrayVec<u8, LARGEST_BODY>;
 
-/// The most bytes of a block read: the answer's body has the command byte and two statuses around them.
+/// The most bytes of a block read: the reply's body has the command byte and two statuses around them.
 const LARGEST_READ: u16 = (LARGEST_BODY - 3) as u16;
 
 /// The instruction that empties the part's page buffers.
@@ -98,7 +98,7 @@ fn status_of(code: u8) -> u8
     }
 }
 
-/// Answers a body that is no command.
+/// Replies to a body that is no command.
 fn not_read(body: &[u8], out: &mut Body)
     ensures { out.new.items ≡ slice_index body.now 0
         ∷ (if is_known (slice_index body.now 0) then STATUS_CMD_FAILED else STATUS_CMD_UNKNOWN) ∷ [] }
@@ -419,7 +419,7 @@ impl Programmer {
         }
     }
 
-    /// Obeys the body of a frame, and makes `out` the body of the answer.
+    /// Obeys the body of a frame, and makes `out` the body of the reply.
     pub fn obey(&mut self, body: &[u8], out: &mut Body)
         ensures { (out.new.items, self.new) ≡ obey body.now self.old }
     {

@@ -20,7 +20,7 @@ use avr_part::Chip;
 use std::marker::Model;
 use stk_frame::{Event, FrameReader};
 
-/// The programmer at the end of a wire, the fates to come, and the late answers.
+/// The programmer at the end of a wire, the fates to come, and the late replies.
 #[derive(Drop)]
 pub(crate) struct Wire {
     programmer: Programmer,
@@ -45,14 +45,14 @@ impl Model for Wire {
     ghost invariant = { λ wire. AreLawful wire.fates.items };
 }
 
-/// Returns whether the answers that wait go on waiting.
+/// Returns whether the replies that wait go on waiting.
 fn is_held(fate: &Fate) -> bool
     ensures { result ≡ is_held fate.now }
 {
     matches!(fate, Fate::HeldAnswer)
 }
 
-/// Puts the answers that wait into the empty `out`, unless they go on waiting.
+/// Puts the replies that wait into the empty `out`, unless they go on waiting.
 fn bring_late(fate: &Fate, late: &mut Late, out: &mut Arrival)
     requires { out.old.items ≡ [] }
     ensures items { tape_in out.new.items ≡ on_tape (let_go fate.now late.old) }
@@ -65,7 +65,7 @@ fn bring_late(fate: &Fate, late: &mut Late, out: &mut Arrival)
     }
 }
 
-/// Passes the frame that the reader holds, with this fate. `out` becomes what it brings, after the answers that wait.
+/// Passes the frame that the reader holds, with this fate. `out` becomes what it brings, after the replies that wait.
 fn pass_with(
     fate: &Fate,
     programmer: &mut Programmer,

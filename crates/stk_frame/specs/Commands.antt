@@ -1,4 +1,4 @@
--- What commands and their answers are made of (AVR068, "Commands").
+-- What commands and their replies are made of (AVR068, "Commands").
 use Rattle.std.specs.Prelude.{ℕ, List, [], ◌∷◌, ◌++◌, ◌+◌, length, ◌==◌, ◌&&◌, not, slice_index, take, if◌then◌else◌, ◌≡◌, Result, Ok, Err}
 use Rattle.byteorder.specs.Endian.{big_bytes}
 use Rattle.stk_frame.specs.declared.command.Command.{Command}
@@ -72,7 +72,7 @@ fields (SpiMulti send_count receive_count receive_start bytes) = send_count ∷ 
 abbrev pub body : Command → List ℕ
 body command = code command ∷ fields command
 
--- what follows the first status of an answer: a length and a name, n bytes, or n bytes and a last status
+-- what follows the first status of a reply: a length and a name, n bytes, or n bytes and a last status
 abbrev pub shape : Command → Shape
 shape SignOn = Name
 shape (GetParameter number) = Bytes 1
@@ -87,7 +87,7 @@ shape (ReadOsccal f) = Closed 1
 shape (SpiMulti send_count receive_count receive_start bytes) = Closed receive_count
 shape _ = Bytes 0
 
--- the data of an answer, from what follows its first status
+-- the data of a reply, from what follows its first status
 abbrev pub data_of : Shape → List ℕ → Result (List ℕ) FrameFault
 data_of Name [] = Err WrongLength
 data_of Name (size ∷ name) = if length name == size then Ok name else Err WrongLength

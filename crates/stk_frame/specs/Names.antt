@@ -1,4 +1,4 @@
--- AVR068's names of the first byte of a command and the status of an answer.
+-- AVR068's names of the first byte of a command and the status of a reply.
 use Rattle.std.specs.Prelude.{ℕ, List, [], ◌∷◌, ◌==◌, Option, find, option_map, codes}
 
 -- the commands of serial programming

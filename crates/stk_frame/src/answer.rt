@@ -1,4 +1,4 @@
-//! Answers, and how they are checked.
+//! Replies, and how they are checked.
 ghost use Rattle.std.specs.Prelude.{◌≡◌, ◌<◌, ◌≤◌, length, MatchResult, IfOk, Ok, Err};
 ghost use Rattle.stk_frame.specs.Commands.{judge, shape, data_of, SizedBy};
 ghost use Rattle.stk_frame.specs.Faults.{frame_fault_number};
@@ -7,7 +7,7 @@ use crate::command::Command;
 use crate::protocol::{ANSWER_CKSUM_ERROR, STATUS_CKSUM_ERROR, STATUS_CMD_OK};
 use thiserror::Error;
 
-/// Why the body isn't a good answer to the command.
+/// Why the body isn't a good reply to the command.
 ///
 /// ```text
 /// let spoiled = Answer::read(&Command::SignOn, &[0xB0, 0xC1]);
@@ -19,13 +19,13 @@ use thiserror::Error;
 /// ```
 #[derive(Clone, Copy, Debug, PartialEq, Eq, Error)]
 pub enum FrameFault {
-    /// The answer has another length than this command's, or is the command's byte alone.
+    /// The reply has another length than this command's, or is the command's byte alone.
     #[error("an answer of another length")]
     WrongLength,
     /// The first byte is not the command's.
     #[error("an answer to another command")]
     WrongCommand,
-    /// The programmer received a bad frame: the answer `B0 C1`.
+    /// The programmer received a bad frame: the reply `B0 C1`.
     #[error("a frame that came spoiled")]
     CheckSum,
     /// The first or the last status is this byte, not 00.
@@ -51,7 +51,7 @@ impl FrameFault {
     }
 }
 
-/// A good answer.
+/// A good reply.
 ///
 /// ```text
 /// let answer = Answer::read(&Command::GetParameter { number: 0x90 }, &[0x03, 0x00, 0x0F])?;
@@ -63,7 +63,7 @@ pub struct Answer<'a> {
     pub data: &'a [u8],
 }
 
-/// What follows the first status of an answer.
+/// What follows the first status of a reply.
 ///
 /// ```text
 /// assert!(rt; Shape::Name.data_in(b"\x08STK500_2")? == b"STK500_2".as_slice());
@@ -81,7 +81,7 @@ pub enum Shape {
 }
 
 impl Command<'_> {
-    /// Returns what follows the first status of an answer to this command.
+    /// Returns what follows the first status of a reply to this command.
     ///
     /// ```text
     /// assert_eq!(rt; Command::SignOn.shape(), Shape::Name);
@@ -154,7 +154,7 @@ fn closed_data(size: usize, more: &[u8]) -> Result<&[u8], FrameFault>
 }
 
 impl<'a> Answer<'a> {
-    /// Reads the body of an answer to this command.
+    /// Reads the body of a reply to this command (AVR068, "Commands").
     ///
     /// # Errors
     ///

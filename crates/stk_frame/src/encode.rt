@@ -100,7 +100,7 @@ fn put_read_byte<const CAP: usize>(out: &mut ArrayVec<u8, CAP>, read: &ReadByte)
 
 impl Command<'_> {
     /// Puts the frame that carries the command with the sequence number `seq` into `out`. Borrowed bytes are copied
-    /// only there.
+    /// only there. The command's body must have at most 275 bytes.
     ///
     /// ```text
     /// let mut out = ArrayVec::new();
@@ -116,8 +116,8 @@ impl Command<'_> {
         end(seq, out);
     }
 
-    /// Puts the command's body into `out`: its byte, then its fields in order. Counts and addresses have their
-    /// highest byte first.
+    /// Puts the command's body into `out`: its byte, then its fields in the order of AVR068, "Commands". Counts and
+    /// addresses have their highest byte first. The body must have at most 275 bytes.
     ///
     /// ```text
     /// let mut body = ArrayVec::new();

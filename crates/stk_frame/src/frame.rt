@@ -44,10 +44,10 @@ pub(crate) fn end(seq: u8, out: &mut ArrayVec<u8, LARGEST_FRAME>)
     out.push(xor);
 }
 
-/// Puts the frame that carries `body` with the sequence number `seq` into `out`.
+/// Puts the frame that carries `body` with the sequence number `seq` into `out`. The body must have 1 to 275 bytes.
 ///
-/// A frame is the start byte `1B`, the number, the body's size, high byte first, the token `0E`, and the body. The
-/// last byte makes the XOR of all bytes 0.
+/// A frame (AVR068, "Message format") is the start byte `1B`, the number, the body's size, high byte first, the token
+/// `0E`, and the body. The last byte makes the XOR of all bytes 0.
 ///
 /// ```text
 /// let mut out = ArrayVec::new();

@@ -119,7 +119,7 @@ impl<'a> Command<'a> {
         }
     }
 
-    /// Programs a page of flash with `bytes` at the loaded address.
+    /// Programs a page of flash with `bytes`, at most 265, at the loaded address.
     ///
     /// ```text
     /// let mut body = ArrayVec::new();
@@ -150,7 +150,7 @@ impl<'a> Command<'a> {
         Command::ReadFlash(ReadBlock { count, cmd1: 0x20 })
     }
 
-    /// Programs consecutive bytes of EEPROM at the loaded address.
+    /// Programs `bytes`, at most 265, into consecutive bytes of EEPROM from the loaded address on.
     ///
     /// ```text
     /// let mut body = ArrayVec::new();

@@ -1,4 +1,4 @@
-//! Frames, commands and answers of the STK500 protocol, version 2, by Atmel's application note AVR068 ("Message
+//! Frames, commands and replies of the STK500 protocol, version 2, by Atmel's application note AVR068 ("Message
 //! format" and "Commands").
 //!
 //! A `command` has a body (`encode`), which goes into a `frame`. A `reader` cuts bytes into frames, the same ones

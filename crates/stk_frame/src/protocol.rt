@@ -1,6 +1,6 @@
 //! The numbers of the protocol, by their names in AVR068, and the sizes of frames.
 //!
-//! `CMD_..` is the first byte of a command's body and of its answer, `STATUS_..` the second byte of an answer.
+//! `CMD_..` is the first byte of a command's body and of its reply, `STATUS_..` the second byte of a reply.
 ghost use Rattle.std.specs.Prelude.{◌≡◌, option_map};
 ghost use Rattle.stk_frame.specs.Names.{command_names, name_in, status_names};
 

@@ -170,7 +170,8 @@ impl FrameReader {
         self.held.clear();
     }
 
-    /// Returns the sequence number of the frame that has just ended.
+    /// Returns the sequence number of the frame that has just ended, good or spoiled. A frame must have ended in the
+    /// last call of `feed`.
     ///
     /// ```text
     /// let mut reader = FrameReader::new();
@@ -184,7 +185,7 @@ impl FrameReader {
         self.held[1]
     }
 
-    /// Returns the body of the frame that has just ended.
+    /// Returns the body of the frame that has just ended, good or spoiled.
     ///
     /// ```text
     /// let mut reader = FrameReader::new();
@@ -223,7 +224,7 @@ impl FrameReader {
     }
 
     /// Takes bytes up to the end of the first frame that ends in the piece, or all of them. Returns how many bytes it
-    /// used, and what ended.
+    /// used, and what ended. A frame that has ended, good or spoiled, is kept until the next call.
     ///
     /// ```text
     /// let mut reader = FrameReader::new();

@@ -40,7 +40,7 @@ impl<L> Model for FailingLink<L> {
 
 impl<L> FailingLink<L> {
     /// Wraps `inner`, in pieces of at most `cut` bytes, so that call `n` fails. Calls are counted from 1; if `n` is
-    /// 0, none fails.
+    /// 0, none fails. `cut` must be at least 1.
     ///
     /// ```text
     /// let tape = TapeLink::new(alloc, Vec::new(alloc), 281);

@@ -22,10 +22,10 @@ use std::marker::Model;
 
 /// The host's side of the STK500v2 protocol: asks a programmer, over any link, to work on a part.
 ///
-/// A host keeps one conversation: sequence numbers run on from call to call, and the next call reads the bytes
-/// received and not yet read. [`HostFault::LinkEnded`], [`HostFault::SendFailed`] and [`HostFault::RecvFailed`] are
-/// lasting: every later call returns the same fault, and nothing is sent or received. After any other fault the host
-/// can be used.
+/// Each command (AVR068, "Commands") is tried at most four times. A host keeps one conversation: sequence numbers run
+/// on from call to call, and the next call reads the bytes received and not yet read. [`HostFault::LinkEnded`],
+/// [`HostFault::SendFailed`] and [`HostFault::RecvFailed`] are lasting: every later call returns the same fault, and
+/// nothing is sent or received. After any other fault the host can be used.
 ///
 /// ```text
 /// let part = Parts::none().find("m328p")?;
@@ -169,8 +169,11 @@ impl Host {
     ///
     /// # Errors
     ///
-    /// [`HostFault::WrongSignature`] if the signature isn't the part's and `force` is false. Otherwise a fault of a
-    /// step or of the link, or the lasting fault.
+    /// `WrongSignature` if the signature isn't the part's and `force` is false. Programming mode is then on: call
+    /// [`Host::close`], or the chip stays in reset. It may be on after any other fault, too.
+    ///
+    /// `NoAnswer`, `Babble`, `Refused` or `BadAnswer` if a command fails. `SendFailed`, `RecvFailed` or `LinkEnded`
+    /// if the link fails or ends, and in every later call.
     ///
     /// ```text
     /// let part = Parts::none().find("m328p")?;
@@ -196,7 +199,8 @@ impl Host {
     ///
     /// # Errors
     ///
-    /// A fault of a step or of the link, or the lasting fault.
+    /// `NoAnswer`, `Babble`, `Refused` or `BadAnswer` if the command fails. `SendFailed`, `RecvFailed` or `LinkEnded`
+    /// if the link fails or ends, and in every later call. After a fault the chip may have been erased.
     ///
     /// ```text
     /// let part = Parts::none().find("m328p")?;
@@ -217,14 +221,17 @@ impl Host {
     }
 
     /// Writes an image to a memory. Flash is written in whole pages, with FF in the image's gaps; of any other memory
-    /// only the image's bytes are written.
+    /// only the image's bytes are written. Addresses rise.
     ///
-    /// The image is no larger than the memory.
+    /// `image` must not be larger than the memory.
     ///
     /// # Errors
     ///
-    /// [`HostFault::ReadOnly`] if the memory can't be written; nothing is sent. Otherwise a fault of a step or of the
-    /// link, or the lasting fault. [`HostFault::Memory`] never occurs.
+    /// `ReadOnly` if the memory can't be written; nothing is sent. `NoAnswer`, `Babble`, `Refused` or `BadAnswer` if
+    /// a command fails. `SendFailed`, `RecvFailed` or `LinkEnded` if the link fails or ends, and in every later call.
+    ///
+    /// After a fault the programmer has confirmed the pages before the failed one, which may be written, too. (Of
+    /// EEPROM these are runs of bytes in a page.)
     ///
     /// ```text
     /// let part = Parts::none().find("m328p")?;
@@ -254,8 +261,9 @@ impl Host {
     ///
     /// # Errors
     ///
-    /// Memory is allocated before the first frame is sent; if that fails, the fault is [`HostFault::Memory`].
-    /// Otherwise it is a fault of a step or of the link, or the lasting fault. After any fault the vector is empty.
+    /// `Memory` if allocation fails; nothing is sent. `NoAnswer`, `Babble`, `Refused` or `BadAnswer` if a command
+    /// fails. `SendFailed`, `RecvFailed` or `LinkEnded` if the link fails or ends, and in every later call. After any
+    /// fault the vector is empty.
     ///
     /// ```text
     /// let part = Parts::none().find("m328p")?;
@@ -292,14 +300,14 @@ impl Host {
         outcome
     }
 
-    /// Reads a whole memory and compares it with an image, at the addresses that the image holds. The image is no
+    /// Reads a whole memory and compares it with an image, at the addresses that the image holds. `image` must not be
     /// larger than the memory.
     ///
     /// # Errors
     ///
-    /// [`HostFault::Differs`] at the lowest address that differs. Memory is allocated before the first frame is sent;
-    /// if that fails, the fault is [`HostFault::Memory`]. Otherwise it is a fault of a step or of the link, or the
-    /// lasting fault.
+    /// `Differs` at the lowest address that differs. `Memory` if allocation fails; nothing is sent. `NoAnswer`,
+    /// `Babble`, `Refused` or `BadAnswer` if a command fails. `SendFailed`, `RecvFailed` or `LinkEnded` if the link
+    /// fails or ends, and in every later call.
     ///
     /// ```text
     /// let part = Parts::none().find("m328p")?;
@@ -339,7 +347,8 @@ impl Host {
     ///
     /// # Errors
     ///
-    /// A fault of a step or of the link, or the lasting fault.
+    /// `NoAnswer`, `Babble`, `Refused` or `BadAnswer` if the command fails. `SendFailed`, `RecvFailed` or `LinkEnded`
+    /// if the link fails or ends, and in every later call. After a fault the chip may still be in programming mode.
     ///
     /// ```text
     /// let part = Parts::none().find("m328p")?;

@@ -3,11 +3,17 @@
 //! An operation is a dialog: commands, and what follows from their answers. A call of [`Host`] runs its dialog over
 //! the tape of all items received. It sends exactly the dialog's frames, however the link cuts the bytes.
 //!
-//!     let mut link = StreamLink::new(reader, writer);
-//!     let mut host = Host::new(&part);
-//!     let signature = host.open(&mut link, false)?;
-//!     host.write(&mut link, Mem::Flash, &image)?;
-//!     host.close(&mut link)?;
+//! ```text
+//! let part = Parts::none().find("m328p")?;
+//! let fuse = parse_immediate(alloc, "0xE2", part.size_of(Mem::Lfuse))?;
+//! // an emulated programmer with its part; a `StreamLink` is over a reader and a writer
+//! let mut link = Wired::with_fates(alloc, Chip::fresh(alloc, part.copied())?, Fates::none(alloc));
+//! let mut host = Host::new(&part);
+//! let signature = host.open(&mut link, false)?;
+//! host.write(&mut link, Mem::Lfuse, &fuse)?;
+//! host.close(&mut link)?;
+//! assert!(rt; link.chip().memory(Mem::Lfuse) == [0xE2].as_slice());
+//! ```
 #![tactic(auto)]
 
 // links

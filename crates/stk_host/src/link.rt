@@ -110,7 +110,9 @@ pub trait Link {
 
     /// Receives at least one byte and at most as many as the buffer holds, or a timeout, or the end.
     ///
-    /// The buffer must not be empty.
+    /// The buffer must not be empty. How long the call waits before [`Heard::Silence`] is the link's choice; one
+    /// second is usual. A host sends a frame again after each timeout, at most four times in all. Over a link without
+    /// timeouts it waits for a lost reply forever.
     ///
     /// # Errors
     ///

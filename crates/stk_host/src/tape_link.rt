@@ -98,7 +98,7 @@ fn item_count(heard: Heard) -> usize
 }
 
 impl TapeLink {
-    /// Creates a link over these items, in pieces of at most `cut` bytes.
+    /// Creates a link over these items, in pieces of at most `cut` bytes. `cut` must be at least 1.
     ///
     /// ```text
     /// let mut tape = Vec::new(alloc);

@@ -1,4 +1,4 @@
--- Over any link that forges no answer whatever is reported is true.
+-- Over any link that forges no frame whatever is reported is true.
 use Rattle.std.proofs.Common.{◌≡◌, ℕ, zero, suc, Bool, true, false, List, [], ◌∷◌, ◌++◌, length, refl, subst, Option, Some, None, rules}
 use Rattle.std.specs.Prelude.{if◌then◌else◌}
 use Rattle.std.specs.Str.{bytes_eq}

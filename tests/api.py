@@ -1,0 +1,149 @@
+#!/usr/bin/env python3
+"""Writes the pages of docs/api: what the crates of `CRATES` export, from the comments and signatures of their sources.
+
+    tests/api.py             fails if a page is out of date, or if docs/LIBRARY has no link to it
+    tests/api.py --write     writes the pages
+
+A page has the crate's own text, a table of its exports, and then each type, trait and call: its signature without ghost
+members and private fields, its text, and its contract, folded. Laws (functions with an empty body) come last. An export
+of a crate without a page is here, too; one of another page is a link. Sources are read as `rt fmt` leaves them.
+"""
+
+import re
+import sys
+from collections import namedtuple
+
+from rattle import EXPORT, MORE, TOP
+
+CRATES = "avr_image avr_records avr_part stk_frame stk_host stk_emu avr_desk avr_cli avr_plan avr_session avr_tool".split()
+
+# an item at the left margin, with its comment and attributes: all of a type or an impl, of a function what precedes its body
+ITEM = re.compile(
+    r"((?:^///[^\n]*\n)*)((?:^(?:#\[|// )[^\n]*\n)*)^((?:pub |final )?(?:"
+    r"(?:struct|enum|trait|impl)\b(?:[^\n]*(?:;|\{\})$|.*?^\}$)"
+    r"|(?:fn|type|const|ghost(?! use))\b(?:[^\n]*[;{}]$|.*?(?:^(?:\S[^\n]*)?(?:\{\}?|;)|\};)$)))",
+    re.M | re.S,
+)
+NAME = re.compile(r"(?:pub |final )?(\w+)(?:<.*?>(?= ))? ?(\w*)")
+LINK = re.compile(r"\[`([\w:]+)`\](?:\([\w:]*\))?")
+FOLDED = {"trait": "In contracts", "law": "Law"}
+# what a type is in contracts, and what `{:?}` prints: nothing that a user calls
+HIDDEN = re.compile(r"impl.* (?:Model|fmt::Debug) for ")
+
+
+# an item of a source: its comment, its signature, its contract, and the items in it
+Item = namedtuple("Item", "kind name doc shown contract inner")
+
+
+def items(source):
+    """Yields the items at the left margin of a source."""
+    for comment, attributes, whole in ITEM.findall(source):
+        kind, name = NAME.match(whole).groups()
+        rows = (whole.removesuffix(";") if kind == "fn" else whole).splitlines()
+        doc, derived = re.findall("^/// ?(.*)", comment, re.M), re.findall(r"^#\[derive.*", attributes, re.M)
+        inner = list(items("\n".join(re.findall("^(?:    (.*))?$", whole, re.M)))) if kind in ("trait", "impl") else []
+        ghosts = [row for it in inner if it.kind == "ghost" for row in ["", *it.shown]][1:]
+        calls = [it for it in inner if it.kind in ("fn", "const")]
+        if kind == "fn":
+            first = next((at for at, it in enumerate(rows) if re.match(r"\s+(?:requires|ensures|//)|\{", it)), len(rows))
+            shown = [re.sub(r" \{\}?$", "", it) for it in rows[:first]]
+            clauses = [it[4:] for it in rows[first:] if it not in ("{", "{}")]
+            yield Item("law" if rows[-1] == "{}" else kind, name, doc, shown, clauses, [])
+        elif kind == "struct":
+            fields = re.sub(r"(?:^    ///.*\n)*^    (?:pub\(|pub ghost |(?!pub )\w).*\n", "\0", whole, flags=re.M)
+            yield Item(kind, name, doc, [*derived, *re.sub("\0+", "    // private fields\n", fields).splitlines()], [], [])
+        elif kind == "trait":
+            types = [f"    {row}" for it in inner if it.kind == "type" for row in it.shown]
+            yield Item(kind, name, doc, [rows[0], *types, "}"] if types else [rows[0].rstrip(" {")], ghosts, calls)
+        elif kind == "impl":
+            head = re.match(r".*?(?= ?\{\}?$)", whole, re.M | re.S)[0].splitlines()
+            name = re.sub(r"^impl(?:<.*?>(?= [A-Z&]))? |.* for |<.*", "", head[0])
+            yield Item(kind, name, doc, head, [], calls)
+        else:
+            yield Item(kind, name, doc, [*(f"/// {it}" for it in doc if kind == "ghost"), *derived, *rows], [], [])
+
+
+def exports(crate):
+    """Returns the items that a crate exports, in the order of its root, and the names of other crates that have a page."""
+    source = TOP / "crates" / crate / "src"
+    files = {it.stem: list(items(it.read_text())) for it in sorted(source.glob("*.rt"))}
+    root, own, others = (source / "lib.rt").read_text(), [], {}
+    for path in EXPORT.findall(root):
+        module, _, listed = " ".join(path.split()).partition("::")
+        names = list(dict.fromkeys(re.findall(r"(\w+)(?: as \w+)?", listed)))
+        if module in CRATES:
+            others.setdefault(module, []).extend(names)
+        else:
+            known = {it.name: it for it in files.get(module) or exports(module)[0] if it.kind != "impl"}
+            own += [known[it] for it in names]
+    for module in re.findall(r"^pub mod (\w+);", root, re.M):
+        own += [it for it in files[module] if it.kind == "law"]
+        numbers = [row for it in files[module] if it.kind == "const" and it not in own for row in it.shown]
+        own += [Item("mod", module, re.findall("^//! ?(.*)", (source / f"{module}.rt").read_text(), re.M), numbers, [], [])] if numbers else []
+    for it in [it for file in files.values() for it in file if it.kind == "impl" and not HIDDEN.match(it.shown[0])]:
+        of = re.search(r"(\w+)(?:<.*>)? for ", it.shown[0])
+        if owner := next((x for name in (it.name, of and of[1]) for x in own if x.name == name), None):
+            owner.inner.extend([it] if of else [x for x in it.inner if x.shown[0].startswith("pub ")])
+    return own, others
+
+
+def link(name, crate):
+    """Returns a name as code, and as a link if a page has its heading; a variant is a link to its type."""
+    of, name = name.split("::", 1) if name.split("::")[0] in CRATES else (crate, name)
+    for place in (of, *CRATES):
+        for anchor in (name.replace("::", "").lower(), name.split("::")[0].lower()):
+            if anchor in HEADINGS[place]:
+                return f"[`{name}`]({'' if place == crate else f'{place}.md'}#{anchor})"
+    return f"`{name}`"
+
+
+def text(doc, crate):
+    """Returns a comment as a page has it: `# Errors` begins a paragraph, a name in brackets is a link if a page has it."""
+    joined = re.sub(r"^# (\w+)\n+", r"**\1:** ", "\n".join(doc), flags=re.M).replace("```text", "```rust")
+    return LINK.sub(lambda it: link(it[1].removeprefix("crate::"), crate), joined)
+
+
+def block(kind, rows):
+    assert "".join(rows).count("{") == "".join(rows).count("}"), rows
+    return ["", f"```{kind}", *rows, "```"] if rows else []
+
+
+def shown(it, crate, mark="##", of=""):
+    """Yields the rows of an item: its heading, signature, comment and contract, and then what is in it."""
+    yield from ["", f"{mark} {of}{it.name}", *block("rust", [] if it.kind == "law" else it.shown), "", text(it.doc, crate)]
+    if it.contract:
+        yield from ["", f"<details><summary>{FOLDED.get(it.kind, 'Contract')}</summary>", *block("text", it.contract), "", "</details>"]
+    for inner in (x for x in it.inner if x.kind != "impl"):
+        yield from shown(inner, crate, "###", f"{it.name}::")
+    made = [row for x in it.inner if x.kind == "impl" for row in x.shown]
+    yield from ["", "Implemented:", *block("rust", made)] if made else []
+
+
+def page(crate):
+    """Returns the page of a crate."""
+    own, others = exports(crate)
+    calls, laws = ([it for it in own if (it.kind == "law") == is_law] for is_law in (False, True))
+    root = (TOP / "crates" / crate / "src/lib.rt").read_text()
+    rows = [f"# {crate}", "", text(re.findall(r"^//! ?(.*)", root, re.M), crate), "", "An example is the body of a function with `rt: HostRuntime` and `let alloc = rt.alloc();`."]
+    rows += [f"It sees all names of this page{', and those of these lines:' if MORE[crate] else '.'}", *block("rust", [f"use {it};" for it in MORE[crate]])]
+    rows += ["", "| Name | What it is |", "| --- | --- |"]
+    rows += [f"| {link(it.name, crate)} | {re.split(r'(?<=[.]) ', text([' '.join(it.doc)], crate))[0]} |" for it in calls]
+    rows += [f"| of [{name}]({name}.md) | {', '.join(link(f'{name}::{it}', crate) for it in names)} |" for name, names in others.items()]
+    rows += [row for it in calls for row in shown(it, crate)]
+    rows += ["", "## Laws", "", "What a law ensures is proved once. A proof cites it by a call."] if laws else []
+    return "\n".join([*rows, *(row for it in laws for row in shown(it, crate, "###"))]) + "\n"
+
+
+# the anchors of each page
+HEADINGS = {crate: {f"{it.name}{name}".lower() for it in exports(crate)[0] for name in ["", *(x.name for x in it.inner)]} for crate in CRATES}
+
+if __name__ == "__main__":
+    library = (TOP / "docs/LIBRARY.md").read_text()
+    wrong = [f"docs/LIBRARY.md has no link to api/{it}.md" for it in CRATES if f"(api/{it}.md)" not in library]
+    for file, made in ((TOP / f"docs/api/{it}.md", page(it)) for it in CRATES):
+        if sys.argv[1:] == ["--write"]:
+            file.write_text(made)
+        elif not file.exists() or file.read_text() != made:
+            wrong.append(f"{file.name} is out of date: tests/api.py --write")
+    print("\n".join([*wrong, f"{2 * len(CRATES) - len(wrong)} passed, {len(wrong)} failed"]))
+    sys.exit(int(bool(wrong)))
