@@ -1,14 +1,14 @@
 //! What is put in place of a file, and what becomes of files beside it: decisions that take what was seen and call
 //! nothing.
-ghost use Rattle.std.specs.Prelude.{◌≡◌, ◌==◌, ◌&&◌, ◌||◌, ◌%◌, ◌*◌, if◌then◌else◌, not, bit_and, bit_or, nat_le};
+ghost use Rattle.std.specs.Prelude.{◌≡◌, ◌==◌, ◌&&◌, ◌||◌, ◌%◌, ◌*◌, if◌then◌else◌, not, bit_and, bit_or, nat_le, None, Some};
 ghost use Rattle.avr_desk.specs.declared.placing.Step.TheVariants.{Link, Rename, Refuse};
 ghost use Rattle.avr_desk.specs.declared.placing.Writes.TheVariants.{There, Anew, Nowhere};
 
 /// The mode bits that a new file takes over from the old one: no setuid, no setgid.
-pub(crate) const PERMISSIONS: u32 = 0o777;
+const PERMISSIONS: u32 = 0o777;
 
 /// The mark of a file that isn't in place yet: the sticky bit, which has no meaning for a regular file.
-pub(crate) const MARK: u32 = 0o1000;
+const MARK: u32 = 0o1000;
 
 /// How a new file gets the name of a held one.
 #[derive(Clone, Copy)]
@@ -69,6 +69,35 @@ pub(crate) fn is_left_over(is_file: bool, names: u64, length: u64, mode: u32) ->
     ensures { result ≡ (is_file && (nat_le names 1 && ((length == 0) || not (bit_and mode 0o1000 == 0)))) }
 {
     is_file && names <= 1 && (length == 0 || mode & MARK != 0)
+}
+
+/// Returns whether a run removes a file: one that an ended program of its own user may have left.
+pub(crate) fn is_removed(is_left_over: bool, owner: u32, user: u32) -> bool
+    ensures { result ≡ (is_left_over && (owner == user)) }
+{
+    is_left_over && owner == user
+}
+
+/// Returns the mode that a new file is made with. If it replaces another one, it is its owner's alone until it is whole;
+/// else the system restricts it as any file. It is marked.
+pub(crate) fn first_mode(is_replacing: bool) -> u32
+    ensures { result ≡ (if is_replacing then 0o1600 else 0o1666) }
+{
+    if is_replacing { 0o1600 } else { 0o1666 }
+}
+
+/// Returns the mode of a new file with these permissions that isn't in place yet.
+pub(crate) fn marked(permissions: u32) -> u32
+    ensures { result ≡ bit_or permissions 0o1000 }
+{
+    permissions | MARK
+}
+
+/// Returns the owner or the group that a new file is given in place of its own: the old one's, if that is another.
+pub(crate) fn given(own: u32, old: u32) -> Option<u32>
+    ensures { result ≡ (if own == old then None else Some old) }
+{
+    if own == old { None } else { Some(old) }
 }
 
 /// Returns the permissions of a new file from the old one's mode. If it has another group, that gets only those of the

@@ -6,7 +6,7 @@
 //! The bytes are written to a new file beside the old one, which this program alone has made, opened and locked. Once
 //! it is on the disk, it is renamed. No other file is put in place, and one that no program here can have made is left
 //! alone.
-ghost use Rattle.std.specs.Prelude.{Option, OnErr, OnOk};
+ghost use Rattle.std.specs.Prelude.{◌≡◌, ◌++◌, IfOk, Option, OnErr, OnOk, codes, string_bytes};
 ghost use Rattle.avr_desk.specs.Handles.{IsHeldBy};
 ghost use Rattle.avr_desk.specs.Journal.{Does, making};
 ghost use Rattle.avr_desk.specs.Record.{Bytes};
@@ -15,7 +15,8 @@ ghost use Rattle.ghosts.specs.Stays.{Stays};
 use crate::bounded::{Bounded, create, limited, longest_file};
 use crate::file_system::FileSystem;
 use crate::placing::{
-    MARK, PERMISSIONS, Step, Writes, is_left_over, permissions_after, step_after, writes_after,
+    Step, Writes, first_mode, given, is_left_over, is_removed, marked, permissions_after,
+    step_after, writes_after,
 };
 use std::alloc::Global;
 use std::fs::{File, Metadata, OpenOptions, Permissions, TryLockError};
@@ -29,12 +30,6 @@ const ATTEMPTS: u32 = 100;
 
 /// How many links are followed, as many as the system follows.
 const LINKS: u32 = 40;
-
-/// The mode of a new file that replaces another one, until it is whole: it is its owner's alone.
-const PRIVATE: u32 = 0o600;
-
-/// The mode of a new file that replaces none, which the system restricts as that of any file.
-const ORDINARY: u32 = 0o666;
 
 /// A new file beside another one, which this program alone has made, opened and locked.
 #[derive(Drop)]
@@ -100,7 +95,7 @@ fn is_left(there: &Metadata) -> bool {
 }
 
 fn is_own_left(there: &Metadata) -> bool {
-    is_left(there) && there.uid() == libc::geteuid()
+    is_removed(is_left(there), there.uid(), libc::geteuid())
 }
 
 fn not_ours() -> io::Error {
@@ -154,10 +149,19 @@ fn sync_folder<R: Files<File = File>>(rt: &R, path: &str) -> io::Result<()> {
 }
 
 /// Returns this path with an ending.
-fn with_ending<R: Alloc<A = Global>>(rt: &R, path: &str, ending: &str) -> io::Result<String> {
+fn with_ending<R: Alloc<A = Global>>(rt: &R, path: &str, ending: &str) -> io::Result<String>
+    ensures { IfOk result (λ text. string_bytes text ≡ path.now ++ ending.now) }
+{
     let mut text = String::from_str(rt.alloc(), path)?;
     text.push_str(ending)?;
     Ok(text)
+}
+
+/// Returns the path of the file that is locked for one that is absent.
+fn lock_file_of<R: Alloc<A = Global>>(rt: &R, target: &str) -> io::Result<String>
+    ensures { IfOk result (λ text. string_bytes text ≡ target.now ++ codes ".avrstk-new") }
+{
+    with_ending(rt, target, ".avrstk-new")
 }
 
 /// Returns the path that a name leads to, following the links at its end. No file need be there.
@@ -225,7 +229,7 @@ fn try_beside<R: Files<File = File> + Alloc<A = Global>>(
     rt: &R,
     target: String,
 ) -> io::Result<Tried> {
-    let beside = with_ending(rt, target.as_str(), ".avrstk-new")?;
+    let beside = lock_file_of(rt, target.as_str())?;
     let Some(locked) = open_or_make(rt, beside.as_str())? else {
         return Ok(Tried::Changed);
     };
@@ -287,11 +291,7 @@ impl NewFile {
             let path = format!(in rt.alloc(); "{target}.avrstk-{digits:03X}")?;
             let _ = remove_left(rt, path.as_str());
             let mut options = OpenOptions::new();
-            options
-                .read(true)
-                .write(true)
-                .create_new(true)
-                .mode(mode | MARK);
+            options.read(true).write(true).create_new(true).mode(mode);
             match options.open(rt, path.as_str()) {
                 Ok(file) if lock(&file)? => return Ok(NewFile { file, path }),
                 Ok(_) => {}
@@ -311,17 +311,17 @@ impl NewFile {
     fn be_like(&self, old: &Option<Metadata>) -> io::Result<u32> {
         let own = self.file.metadata()?;
         let Some(old) = old else {
-            return Ok(own.mode() & PERMISSIONS);
+            return Ok(permissions_after(own.mode(), true));
         };
-        if old.gid() != own.gid() {
-            let _ = fchown(&self.file, None, Some(old.gid()));
+        if let Some(group) = given(own.gid(), old.gid()) {
+            let _ = fchown(&self.file, None, Some(group));
         }
-        if old.uid() != own.uid() {
-            let _ = fchown(&self.file, Some(old.uid()), None);
+        if let Some(owner) = given(own.uid(), old.uid()) {
+            let _ = fchown(&self.file, Some(owner), None);
         }
         let is_of_group = self.file.metadata()?.gid() == old.gid();
         let permissions = permissions_after(old.mode(), is_of_group);
-        match self.set_mode(permissions | MARK) {
+        match self.set_mode(marked(permissions)) {
             Ok(()) => Ok(permissions),
             Err(_) => self.set_mode(permissions).map(|()| permissions),
         }
@@ -359,10 +359,8 @@ impl Held {
         rt: &R,
         old: &Option<Metadata>,
     ) -> io::Result<NewFile> {
-        let (number, mode) = match old {
-            Some(old) => (old.ino(), PRIVATE),
-            None => (0, ORDINARY),
-        };
+        let number = old.as_ref().map_or(0, |old| old.ino());
+        let mode = first_mode(old.is_some());
         NewFile::make(rt, self.target.as_str(), number, mode)
     }
 
@@ -409,8 +407,8 @@ impl Held {
     fn prepare<R: Files<File = File> + Alloc<A = Global>>(&self, rt: &R) -> io::Result<()> {
         let _ = self.make_nameless(rt)?;
         if self.beside.is_none() {
-            for ending in [".avrstk-000", ".avrstk-new"] {
-                let path = with_ending(rt, self.target.as_str(), ending)?;
+            let first = with_ending(rt, self.target.as_str(), ".avrstk-000")?;
+            for path in [first, lock_file_of(rt, self.target.as_str())?] {
                 remove(rt, &self.locked, path.as_str());
                 let _ = remove_left(rt, path.as_str());
             }
