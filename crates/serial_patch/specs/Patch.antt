@@ -1,8 +1,11 @@
 -- A serial number put into an image.
-use Rattle.std.specs.Prelude.{◌≡◌, ◌<◌, ◌≤◌, ◌+◌, ℕ, List, length, Option, Some, Ok, slice_index_or}
-use Rattle.avr_image.specs.Image.{byte_at}
+use Rattle.std.specs.Prelude.{◌≡◌, ◌⊎◌, ◌<◌, ◌≤◌, ◌+◌, ◌^◌, ℕ, ⊤, List, length, max, false, Option, Some, None, Ok, Err, slice_index_or}
+use Rattle.avr_image.specs.Image.{byte_at, fits}
+use Rattle.avr_image.specs.declared.fault.ImageFault.TheVariants.{OutOfRange}
 use Rattle.avr_records.specs.Detect.{kind_of_file, record_kind}
 use Rattle.avr_records.specs.Reading.{image_in_text}
+use Rattle.avr_records.specs.declared.fault.RecordFault.{RecordFault}
+use Rattle.avr_records.specs.declared.fault.RecordFault.TheVariants.{TooLong}
 use Rattle.avr_records.specs.declared.kind.Kind.{Kind}
 use Rattle.avr_records.specs.declared.kind.Kind.TheVariants.{Ihex}
 use Rattle.avr_records.specs.declared.kind.Ending.{Ending}
@@ -27,6 +30,21 @@ pub record IsPatchedFile (size : ℕ) (text : List ℕ) (at : ℕ) (serial : Lis
   pub reads : image_in_text kind text size ≡ Ok (before, ending)
   pub reads_back : image_in_text Ihex patched size ≡ Ok (after, Ended)
   pub is_patched : IsPatched at serial before after
+
+-- Reading a file of this kind has this fault, or is too long to be read, or allocation failed.
+abbrev pub HasReadingFault : Kind → List ℕ → ℕ → RecordFault → Type 0
+HasReadingFault kind text size fault =
+    (length text < 2 ^ 32 → (image_in_text kind text size ≡ Err fault) ⊎ (fault ≡ RecordFault.Memory))
+    × (2 ^ 32 ≤ length text → fault ≡ TooLong)
+
+-- A file that was not patched has this fault, or the serial number doesn't fit. Allocation may always fail.
+abbrev pub HasPatchFault : ℕ → List ℕ → ℕ → List ℕ → PatchFault → Type 0
+HasPatchFault size text at serial NoRecords = record_kind (kind_of_file text) ≡ None
+HasPatchFault size text at serial (Records fault) =
+    (kind : Kind) × (record_kind (kind_of_file text) ≡ Some kind) × HasReadingFault kind text size fault
+HasPatchFault size text at serial (Outside fault) =
+    (fits at serial size ≡ false) × (fault ≡ OutOfRange (max at size))
+HasPatchFault size text at serial Memory = ⊤
 
 abbrev pub patch_fault_number : PatchFault → ℕ
 patch_fault_number NoRecords = 1

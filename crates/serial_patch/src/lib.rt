@@ -4,12 +4,13 @@
 //! another repository.
 #![tactic(auto)]
 
-ghost use Rattle.std.specs.Prelude.{◌≡◌, length, Ok, IfOk, OnOk, OnErr};
+ghost use Rattle.std.specs.Prelude.{◌≡◌, if◌then◌else◌, length, max, Ok, Err, IfOk, IfErr, OnOk, OnErr};
+ghost use Rattle.avr_image.specs.Image.{fits};
 ghost use Rattle.avr_part.specs.Part.{size_of};
 ghost use Rattle.avr_part.specs.declared.part.Mem.TheVariants.{Flash};
 ghost use Rattle.avr_records.specs.Reading.{image_in_text};
 ghost use Rattle.avr_records.specs.declared.kind.Ending.TheVariants.{Ended};
-ghost use Rattle.serial_patch.specs.Patch.{IsPatched, IsPatchedFile, patch_fault_number};
+ghost use Rattle.serial_patch.specs.Patch.{HasPatchFault, IsPatched, IsPatchedFile, patch_fault_number};
 
 use avr_image::{Image, ImageFault, Pieces, a_span_is_by_address, bytes_fit_below_the_size};
 use avr_part::{Mem, Part};
@@ -54,6 +55,8 @@ impl PatchFault {
 ///
 /// [`ImageFault::OutOfRange`] if it isn't wholly inside the image, which is then unchanged.
 pub fn put_serial_number(image: &mut Image, at: u32, serial: &[u8]) -> Result<(), ImageFault>
+    ensures judged { result ≡ (if fits at serial.now (length image.old) then Ok tt
+        else Err (ImageFault.OutOfRange (max at (length image.old)))) }
     ensures patched { OnOk result (IsPatched at serial.now image.old image.new) }
     ensures same { OnErr result (image.new ≡ image.old) }
     ensures size { length image.new ≡ length image.old }
@@ -75,7 +78,8 @@ fn ihex_of(alloc: Global, image: &Image) -> Result<Vec<u8>, AllocError>
 ///
 /// # Errors
 ///
-/// The first fault; `Memory` if allocation of the new file fails.
+/// `NoRecords` if the text is neither Intel HEX nor S-record; `Records` with the fault of [`read_records`]; `Outside`
+/// if the serial number isn't wholly inside the flash memory; `Memory` if allocation of the new file fails.
 pub fn patch_serial_number(
     alloc: Global,
     part: &Part,
@@ -83,7 +87,8 @@ pub fn patch_serial_number(
     at: u32,
     serial: &[u8],
 ) -> Result<Vec<u8>, PatchFault>
-    ensures { IfOk result (λ out. IsPatchedFile (size_of Flash part.now) text.now at serial.now out.items) }
+    ensures patched { IfOk result (λ out. IsPatchedFile (size_of Flash part.now) text.now at serial.now out.items) }
+    ensures fault { IfErr result (HasPatchFault (size_of Flash part.now) text.now at serial.now) }
 {
     let kind = detect(text).kind().ok_or(PatchFault::NoRecords)?;
     let size = part.size_of(Mem::Flash);

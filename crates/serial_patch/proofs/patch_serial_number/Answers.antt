@@ -1,8 +1,8 @@
 use Rattle.std.proofs.Common.{rules}
 use Rattle.serial_patch.proofs.patch_serial_number.Goals as goal
 
-pub returns-in-Ok : goal.returns-in-Ok
-returns-in-Ok c = record {
+pub returns-in-Ok-clause-patched : goal.returns-in-Ok-clause-patched
+returns-in-Ok-clause-patched c = record {
   kind = c.in_ok-kind.kind;
   ending = c.in_ok-image.field-0-1;
   before = c.in_ok-image.image;
