@@ -51,7 +51,8 @@ pub record IsWritten (part : Part) (items : List Item) (before after : Memories)
   pub lock : byte_at (written_to part Lock items) 0 ≡ None
       → after.lock ≡ (if has_erase items then 255 else before.lock)
 
--- An item writes an image to flash with this byte at this address.
+-- The next five are for law a_byte_of_flash_is_made_by_images. An item writes an image to flash with this byte at this
+-- address.
 abbrev pub Brings : Item → ℕ → ℕ → Type 0
 Brings (Write Flash image) addr byte = byte_at image addr ≡ Some byte
 Brings item addr byte = ⊥
@@ -77,7 +78,8 @@ pub record IsMade (items : List Item) (addr before after : ℕ) : Type 0 where
   pub are_there : AreThere items addr bytes
   pub is : after ≡ and_all first bytes
 
--- No image among these items has a byte of this memory at this address.
+-- The last three are for law what_is_written_is_there. No image among these items has a byte of this memory at this
+-- address.
 abbrev pub LeaveFree : List Item → Mem → ℕ → Type 0
 LeaveFree [] mem addr = ⊤
 LeaveFree (Erase ∷ items) mem addr = LeaveFree items mem addr

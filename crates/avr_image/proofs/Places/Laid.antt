@@ -22,6 +22,7 @@ pub laid_over-append : (image : List (Option ℕ)) (xs ys : List (ℕ × ℕ))
 laid_over-append image [] ys = refl
 laid_over-append image ((a, b) ∷ xs) ys = laid_over-append (set image a (Some b)) xs ys
 
+-- bytes laid over an image are the image of these bytes alone, laid over it: `laid_over_laid`, for Walks/Runs
 over-set : (a b : List (Option ℕ)) (i n : ℕ) → length a ≤ length b
     → set (over a b) i (Some n) ≡ over a (set b i (Some n))
 over-set (x ∷ a) [] i n l = absurd (omega (arith, l))

@@ -167,6 +167,8 @@ answer_listens seq tape = search (rules, answer_waits_for, answer_costs)
 
 -- ---- a run
 
+-- A run of a dialog in which each frame cost one timeout and `limit` bytes at most. `listens_at_most` takes it to
+-- `ListensAtMost`, which the law states of a session.
 record Listens {E R : Type 0} (p : Played E R) (tape : Tape) : Type 0 where
   waiting : p.outcome ≡ None → (silences tape < length (frames_in p.events))
       × (bytes_on tape < limit * length (frames_in p.events))

@@ -91,6 +91,7 @@ module _ {P : Type 0} (m : Device P) where
     unfolding play tries attempt exchange
     none_asked command commands steps before p turns at = search rules
 
+  -- each completed step leads from one condition to the next; for `steps_climb` (Given/FirstSteps)
   pub play_climbs : (At : ℕ → P → Type 0) (steps : List (List Command)) (k : ℕ) (before : List ℕ) (p : P)
       (turns : List Turn) → AreSome steps → AllFit m At steps → At 0 p
       → Climbs m At k steps p turns (along m k (play steps before) p turns)

@@ -40,7 +40,7 @@ take-prefix : (all buf : Bytes) (limit left n : ℕ) → length all + left ≡ l
 take-prefix all buf limit left n count less =
     search (rules, take-append-add, take-take)
 
--- the read came this far, and then gave n bytes
+-- the read came this far, and then gave n bytes: a turn of the loop of `read_rest`
 module _ (old now new : DeskState) (first last : Intake) (room left n : ℕ) (buf : Bytes)
     (going : Going old now first last room left) (then : Passes (after_read buf (Ok n)) now new) where
   pub going_on : (next : Intake) (rest : ℕ) → (n ≡ 0 → ⊥) → length (take n buf) + rest ≡ left

@@ -65,6 +65,7 @@ pub prefix_of : {cause : Cause} {d e : DeskState} (some more : List OutputEvent)
     → SaysPrefix cause d e (some ++ more)
 prefix_of {cause = cause} some more x = search (rules, append_assoc, map_append, desk_says)
 
+-- an event of which the first n bytes were done; for the three prefixes below: of a line, a file and the output
 part_due : (event : Bytes → OutputEvent) (n : ℕ) (bytes : Bytes)
     → AtPart event (Said (event (take n bytes)) ∷ []) (Said (event bytes) ∷ [])
 part_due event n bytes = record {
