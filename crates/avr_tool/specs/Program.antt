@@ -1,5 +1,5 @@
 -- THE PROGRAM. What it does with a command line, on its standard streams and at its desk, and its status.
-use Rattle.std.specs.Prelude.{◌≡◌, ◌≢◌, ◌⊎◌, ℕ, Bool, true, List, [], Result, Ok, Err}
+use Rattle.std.specs.Prelude.{◌≡◌, ◌≢◌, ◌⊎◌, ℕ, suc, true, List, [], Result, Ok, Err}
 use Rattle.clap.specs.Words.{fault_of, kind_of, takes, HasKind}
 use Rattle.clap.specs.declared.error.Error.{Error}
 use Rattle.clap.specs.declared.error.kind.ErrorKind.{ErrorKind}
@@ -15,6 +15,7 @@ use Rattle.avr_desk.specs.Said.{Tells}
 use Rattle.avr_emulator.specs.Emulated.{RunsEmulator}
 use Rattle.avr_session.specs.Refusal.{refusal_line}
 use Rattle.avr_session.specs.Runs.{Devices}
+use Rattle.avr_desk.specs.declared.desk.DeskFault.{DeskFault}
 use Rattle.avr_desk.specs.declared.stream.Stream.{Stream}
 use Rattle.avr_desk.specs.declared.stream.Stream.TheVariants.{Output, Messages}
 use Rattle.avr_tool.specs.Asked.{IsRefused}
@@ -22,7 +23,7 @@ use Rattle.avr_tool.specs.Headline.{IsRun, IsStopped}
 use Rattle.avr_tool.specs.OverNet.{RunsOverNet}
 use Rattle.avr_tool.specs.ServedNet.{ServesNet}
 use Rattle.avr_tool.specs.Sockets.{Peers}
-use Rattle.avr_tool.specs.Texts.{PrintsText, ReportsText}
+use Rattle.avr_tool.specs.Texts.{AnyPart, PrintsText, ReportsText}
 
 -- The port of the settings decides. It is standard input and output, which is the link; the emulator over a chip
 -- file; a connection to the address; or a service at the port. A service uses only the chip file, the port and the
@@ -66,10 +67,10 @@ ActsOnWords peers words old new (Ok status) =
 ActsOnWords peers words old new (Err error) =
     LeavesError words error × (new.desk ≡ old.desk) × (new.link ≡ old.link) × peers.unused
 
--- Help and the version are no mistake if they were printed.
-abbrev pub usage_status : ErrorKind → Bool → ℕ
-usage_status DisplayHelp true = 0
-usage_status DisplayVersion true = 0
+-- Help and the version are no mistake if some bytes were printed, and no write failed.
+abbrev pub usage_status : ErrorKind → Result ℕ DeskFault → ℕ
+usage_status DisplayHelp (Ok (suc more)) = 0
+usage_status DisplayVersion (Ok (suc more)) = 0
 usage_status kind printed = 1
 
 abbrev pub usage_stream : ErrorKind → Stream
@@ -77,12 +78,13 @@ usage_stream DisplayHelp = Output
 usage_stream DisplayVersion = Output
 usage_stream kind = Messages
 
--- The text of the error was printed there, or printing failed, and nothing else was done. No clause knows the text.
+-- The text of the error was printed there, whole or up to a failure, and nothing else was done. No clause knows the
+-- text.
 pub record TellsUsage (peers : Peers) (words : List Bytes) (old new : Devices) (status : ℕ) : Type 0 where
   pub error : Error
   pub leaves : LeavesError words error
-  pub printed : Bool
-  pub prints : PrintsText (usage_stream (kind_of error)) old.desk new.desk printed
+  pub printed : Result ℕ DeskFault
+  pub prints : PrintsText AnyPart (usage_stream (kind_of error)) old.desk new.desk printed
   pub untouched : new.link ≡ old.link
   pub unused : peers.unused
   pub status_is : status ≡ usage_status (kind_of error) printed
@@ -97,4 +99,4 @@ RunsProgram peers words old new status =
 abbrev pub StartsProgram : Peers → Devices → Devices → ℕ → Type 0
 StartsProgram peers old new status =
     ((words : List Bytes) × RunsProgram peers words old new status)
-    ⊎ ((status ≡ 1) × ReportsText old.desk new.desk × (new.link ≡ old.link) × peers.unused)
+    ⊎ ((status ≡ 1) × ReportsText AnyPart old.desk new.desk × (new.link ≡ old.link) × peers.unused)

@@ -1,40 +1,65 @@
--- Texts that no clause knows, printed at a desk.
-use Rattle.std.specs.Prelude.{◌≡◌, ◌≢◌, ◌⊎◌, ◌<◌, ℕ, Bool, true, false, [], codes}
+-- Texts of `clap` and of the system, printed at a desk part by part. What has no clause here is which text a value has.
+use Rattle.std.specs.Prelude.{◌≡◌, ◌⊎◌, ◌<◌, ◌≤◌, ◌+◌, ◌*◌, ◌^◌, ℕ, ⊤, List, Result, Ok, Err, [], ◌∷◌, ◌++◌, codes, length}
+use Rattle.std.specs.List.{concat}
 use Rattle.avr_desk.specs.Fault.{Follows, HasFailedAt, HasFailedToSay, HasSameCounts}
 use Rattle.avr_desk.specs.Record.{DeskState, Bytes, Passes, after_err}
 use Rattle.avr_desk.specs.Said.{IsPrefixOf}
 use Rattle.avr_desk.specs.Stream.{after_sent}
+use Rattle.avr_desk.specs.declared.desk.DeskFault.{DeskFault}
 use Rattle.avr_desk.specs.declared.stream.Stream.{Stream}
 
--- A nonempty text was printed whole; or it is empty, or a write has failed.
-abbrev pub ComesOut : Stream → Bytes → DeskState → DeskState → Bool → Type 0
-ComesOut stream text old new true = (text ≢ []) × HasSameCounts old new
-ComesOut stream text old new false = ((text ≡ []) × HasSameCounts old new) ⊎ HasFailedAt stream old new
+-- Where a part of a text begins, and its bytes. The part behind the text's end is empty.
+abbrev pub Parts : Type 1
+Parts = ℕ → Bytes → Type 0
 
--- This text was printed, and nothing else happened.
-pub record PrintsText (stream : Stream) (old new : DeskState) (printed : Bool) : Type 0 where
+-- Nothing is known of the text.
+abbrev pub AnyPart : Parts
+AnyPart = λ place part. ⊤
+
+-- From this place on, the text has these parts one after another.
+abbrev pub HasParts : Parts → ℕ → List Bytes → Type 0
+HasParts has place [] = ⊤
+HasParts has place (part ∷ parts) = has place part × HasParts has (place + length part) parts
+
+-- These bytes are the whole text, unless it is longer than any that a machine holds.
+pub record IsText (has : Parts) (text : Bytes) : Type 0 where
+  pub parts : List Bytes
+  pub are : HasParts has 0 parts
+  pub joined : text ≡ concat parts
+  pub ends : length text < 2 ^ 54 → has (length text) []
+
+-- These bytes are the front of the text.
+pub record IsTextFront (has : Parts) (front : Bytes) : Type 0 where
+  pub parts : List Bytes
+  pub are : HasParts has 0 parts
+  pub begins : IsPrefixOf front (concat parts)
+
+-- The text was printed whole, and has so many bytes; or a write failed behind its front.
+abbrev pub ComesOut : Parts → Stream → Bytes → DeskState → DeskState → Result ℕ DeskFault → Type 0
+ComesOut has stream text old new (Ok count) = IsText has text × (count ≡ length text) × HasSameCounts old new
+ComesOut has stream text old new (Err fault) = IsTextFront has text × HasFailedAt stream old new
+
+-- The text was printed, and nothing else happened.
+pub record PrintsText (has : Parts) (stream : Stream) (old new : DeskState) (printed : Result ℕ DeskFault) : Type 0 where
   pub text : Bytes
   pub kept : Passes (after_sent stream text) old new
-  pub comes : ComesOut stream text old new printed
+  pub comes : ComesOut has stream text old new printed
   pub follows : Follows old new
 
--- Something more was printed, or nothing, and nothing else happened.
-pub record PrintsMore (old new : DeskState) : Type 0 where
+-- An error was reported by its text and LF, in part if a write to the messages failed. Nothing else happened.
+pub record ReportsText (has : Parts) (old new : DeskState) : Type 0 where
   pub told : Bytes
   pub kept : Passes (after_err told) old new
+  pub tells : ((text : Bytes) × IsText has text × (told ≡ codes "avrstk: error: " ++ (text ++ 10 ∷ [])))
+      ⊎ HasFailedToSay old new
   pub follows : Follows old new
 
--- An error was reported whose text no clause knows, in part if a write to the messages failed. Nothing else happened.
-pub record ReportsText (old new : DeskState) : Type 0 where
-  pub told : Bytes
-  pub kept : Passes (after_err told) old new
-  pub tells : IsPrefixOf (codes "avrstk: error: ") told ⊎ HasFailedToSay old new
-  pub follows : Follows old new
-
--- inside: all that was printed so far; it is nonempty if `count` isn't 0
-pub record HasPrinted (stream : Stream) (old new : DeskState) (count : ℕ) : Type 0 where
-  pub text : Bytes
-  pub kept : Passes (after_sent stream text) old new
-  pub counted : HasSameCounts old new
-  pub some : 0 < count → text ≢ []
-  pub none : count ≡ 0 → text ≡ []
+-- inside: after some turns, `count` bytes of the text were printed
+pub record HasPrinted (has : Parts) (stream : Stream) (old new : DeskState) (count turns : ℕ) : Type 0 where
+  pub parts : List Bytes
+  pub are : HasParts has 0 parts
+  pub counted : count ≡ length (concat parts)
+  pub least : turns ≤ count
+  pub most : count ≤ 512 * turns
+  pub kept : Passes (after_sent stream (concat parts)) old new
+  pub same : HasSameCounts old new

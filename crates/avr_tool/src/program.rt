@@ -15,7 +15,7 @@ use crate::running::run_streams;
 use crate::serving::serve_net;
 use crate::texts::print_text;
 use avr_cli::{Port, Settings, SettingsFault};
-use avr_desk::{ChipDesk, Desk, Stream};
+use avr_desk::{ChipDesk, Desk, DeskFault, Stream};
 use avr_emulator::run_emu;
 use avr_session::refuse;
 use clap::Error;
@@ -115,11 +115,11 @@ pub fn run_words<N: Network, D: ChipDesk, R: Read + Drop, W: Write + Drop>(
 }
 
 /// Returns the status for an error of `clap`: 0 if it is help or the version and was printed, otherwise 1.
-fn status_of_usage(error: &Error, was_printed: bool) -> u8
-    ensures { result ≡ usage_status (kind_of error.now) was_printed }
+fn status_of_usage(error: &Error, printed: Result<usize, DeskFault>) -> u8
+    ensures { result ≡ usage_status (kind_of error.now) printed }
 {
-    match error.kind() {
-        ErrorKind::DisplayHelp | ErrorKind::DisplayVersion if was_printed => 0,
+    match (error.kind(), printed) {
+        (ErrorKind::DisplayHelp | ErrorKind::DisplayVersion, Ok(count)) if count > 0 => 0,
         _ => 1,
     }
 }
@@ -164,8 +164,8 @@ pub fn run_program<N: Network, D: ChipDesk, R: Read + Drop, W: Write + Drop>(
     match run_words(network, alloc, words, desk, link) {
         Ok(status) => status,
         Err(error) => {
-            let was_printed = print_text(desk, stream_of_usage(&error), &error);
-            status_of_usage(&error, was_printed)
+            let printed = print_text(desk, stream_of_usage(&error), &error);
+            status_of_usage(&error, printed)
         }
     }
 }

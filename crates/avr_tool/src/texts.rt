@@ -1,15 +1,18 @@
 //! Prints texts of `clap` and of the system, which no clause knows, at a desk. So these calls can print nowhere else.
-ghost use Rattle.std.specs.Prelude.{◌≡◌};
-ghost use Rattle.avr_tool.specs.Texts.{PrintsMore, PrintsText, ReportsText};
+ghost use Rattle.std.specs.Prelude.{◌≡◌, ℕ, List};
+ghost use Rattle.avr_tool.specs.Texts.{AnyPart, PrintsText, ReportsText};
 ghost use Rattle.ghosts.specs.Stays.{Stays};
 
 use arrayvec::ArrayVec;
-use avr_desk::{Desk, Stream, write_all};
+use avr_desk::{Desk, DeskFault, Stream, write_all};
 use std::fmt;
 use std::fmt::{Display, Write};
 
 /// The most bytes of a text held at a time.
 const ROOM: usize = 512;
+
+/// The most parts of a text: more than a machine holds.
+const PARTS: u64 = 1 << 54;
 
 /// The bytes of a text after the first `skip`, as far as there is room. It accepts the whole text.
 #[derive(Drop)]
@@ -31,58 +34,71 @@ impl Write for Window {
     }
 }
 
-/// Returns some bytes of a text after the first `skip`, or none at its end.
-fn part_of<T: Display>(text: &T, skip: usize) -> ArrayVec<u8, ROOM> {
-    let mut window = Window {
-        skip,
-        bytes: ArrayVec::new(),
-    };
-    let _ = window.write(text);
-    let Window { bytes, .. } = window;
-    bytes
+/// A text that gives its parts in order, of which a contract can promise that they are printed.
+///
+/// Each value with `Display` has one. Which bytes it gives is only tested: `Display` states no text for an error of
+/// `clap` or of the system.
+pub(crate) trait Parted {
+    /// After so many bytes, the text goes on with these; with none at its end.
+    ghost has_part: { Self → ℕ → List ℕ → Type 0 };
+
+    /// Returns some bytes of the text after the first `skip`, or none at its end.
+    fn part_of(&self, skip: usize) -> ArrayVec<u8, ROOM>
+        ensures part { has_part self.now skip result.items };
 }
 
-#[tactic(auto, using(crate::proofs::Printed::printed_none, crate::proofs::Printed::printed_end))]
-/// Prints a text without allocating, and returns whether it is nonempty and was printed whole.
-pub(crate) fn print_text<D: Desk, T: Display>(desk: &mut D, stream: Stream, text: &T) -> bool
-    ensures prints { PrintsText stream (D.view desk.old) (D.view desk.new) result }
+impl<T: Display> Parted for T {
+    ghost has_part = { λ text. AnyPart };
+
+    fn part_of(&self, skip: usize) -> ArrayVec<u8, ROOM> {
+        let mut window = Window {
+            skip,
+            bytes: ArrayVec::new(),
+        };
+        let _ = window.write(self);
+        let Window { bytes, .. } = window;
+        bytes
+    }
+}
+
+#[tactic(auto, using(crate::proofs::Printed::printed_none))]
+/// Prints a text without allocating, and returns the number of its bytes.
+pub(crate) fn print_text<D: Desk, T: Parted>(
+    desk: &mut D,
+    stream: Stream,
+    text: &T,
+) -> Result<usize, DeskFault>
+    ensures prints { PrintsText (T.has_part text.now) stream (D.view desk.old) (D.view desk.new) result }
     ensures stays { Stays D.comes_of desk.old desk.new }
 {
     let mut at = 0usize;
-    for _ in 0..u64::MAX {
-        let part = part_of(text, at);
+    for _turn in 0..PARTS {
+        let part = text.part_of(at);
         if part.is_empty() {
-            break;
+            return Ok(at);
         }
-        match write_all(desk, stream, part.as_slice()) {
-            Ok(()) => at = at.saturating_add(part.len()),
-            Err(_) => return false,
-        }
+        write_all(desk, stream, part.as_slice())?;
+        at += part.len();
     }
-    at > 0
+    Ok(at)
 }
 
-/// Prints a text and a line end.
-fn print_rest<D: Desk, T: Display>(desk: &mut D, text: &T)
-    ensures prints { PrintsMore (D.view desk.old) (D.view desk.new) }
+/// Prints a text after `avrstk: error: `, and LF, up to the first failure.
+fn report<D: Desk, T: Parted>(desk: &mut D, error: &T) -> Result<(), DeskFault>
+    ensures reports { ReportsText (T.has_part error.now) (D.view desk.old) (D.view desk.new) }
     ensures stays { Stays D.comes_of desk.old desk.new }
 {
-    print_text(desk, Stream::Messages, text);
-    match write_all(desk, Stream::Messages, b"\n") {
-        Ok(()) => {}
-        Err(_) => {}
-    }
+    write_all(desk, Stream::Messages, b"avrstk: error: ")?;
+    print_text(desk, Stream::Messages, error)?;
+    write_all(desk, Stream::Messages, b"\n")
 }
 
 /// Reports an error that isn't this program's own as `avrstk: error: ` and its text, and returns the status 1.
 pub fn refuse_text<D: Desk, T: Display>(desk: &mut D, error: &T) -> u8
-    ensures reports { ReportsText (D.view desk.old) (D.view desk.new) }
+    ensures reports { ReportsText AnyPart (D.view desk.old) (D.view desk.new) }
     ensures stays { Stays D.comes_of desk.old desk.new }
     ensures status { result ≡ 1 }
 {
-    match write_all(desk, Stream::Messages, b"avrstk: error: ") {
-        Ok(()) => print_rest(desk, error),
-        Err(_) => {}
-    }
+    let _ = report(desk, error);
     1
 }
