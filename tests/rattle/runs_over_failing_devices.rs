@@ -1,17 +1,20 @@
 //! Runs in which each call of a device fails in turn, and runs over links that pass few bytes at once.
 ghost use Rattle.std.specs.Prelude.{◌<◌};
 
+use crate::data::digits::OPENING;
 use crate::support::{
-    Over, Row, desk_with, fates, holds, joined, pattern, printed, run_on, run_row, shows, wire_to,
+    Over, Row, desk_with, fates, holds, joined, pattern, printed, run_on, run_row, settings_for,
+    shows, wire_to,
 };
 use avr_desk::{FailingDesk, MemDesk};
 use avr_part::Mem;
+use avr_plan::{Plan, plan};
+use avr_session::drive;
 use std::alloc::Global;
 use std::process::Abort;
 use std::test::Fail;
 use stk_emu::{Fate, Fates, Wired};
 use stk_host::FailingLink;
-use crate::data::digits::OPENING;
 
 /// A run without failures, and the number of calls that it makes of its devices.
 #[derive(Drop)]
@@ -95,7 +98,7 @@ const FUSE: SoundRun = SoundRun {
     told: &[(4, &["error: -: cannot be written"])],
 };
 
-/// Writes half of the EEPROM, over a wire on which the reply to frame 255 is late.
+/// Writes the whole EEPROM, over a wire on which the reply to frame 255 is late.
 const EEPROM: SoundRun = SoundRun {
     part: "m328p",
     row: Row {
@@ -103,14 +106,14 @@ const EEPROM: SoundRun = SoundRun {
         output: "",
         messages: &[
             "device signature = 1E 95 0F",
-            "eeprom: 512 bytes written",
+            "eeprom: 1024 bytes written",
             "done",
         ],
         status: 0,
     },
-    size: 512,
+    size: 1024,
     is_late: true,
-    link_calls: 2 * 264,
+    link_calls: 2 * 520,
     desk_calls: 3 + 3,
     told: &[
         (1, &["error: e.bin: cannot be opened"]),
@@ -145,19 +148,13 @@ fn sound(rt: &impl Abort, alloc: Global, run: &SoundRun) -> Result<Over<MemDesk,
     )
 }
 
-/// Makes the run with a failing call of the link and of the desk, counted from 1 (0 for none). The link passes at most
-/// `cut` bytes at once.
-fn failing(
-    alloc: Global,
-    run: &SoundRun,
-    link_call: u64,
-    desk_call: u64,
-    cut: usize,
-) -> Result<OverFailing, Fail>
+/// Makes the run with a failing call of the desk, counted from 1 (0 for none). The link passes at most `cut` bytes at
+/// once.
+fn failing(alloc: Global, run: &SoundRun, desk_call: u64, cut: usize) -> Result<OverFailing, Fail>
     requires { 0 < cut }
 {
     let desk = FailingDesk::new(desk_of(alloc, run)?, desk_call);
-    let link = FailingLink::new(wire_of(alloc, run)?, link_call, cut);
+    let link = FailingLink::new(wire_of(alloc, run)?, 0, cut);
     run_on(alloc, run.row.words, desk, link)
 }
 
@@ -180,15 +177,14 @@ fn broke_off(
     rt: &impl Abort,
     alloc: Global,
     sound: &Over<MemDesk, Wired>,
-    broken: &OverFailing,
+    broken: (&MemDesk, &Wired, u8),
     told: &[&str],
     n: u64,
 ) -> Result<(), Fail> {
     let told = printed(alloc, told)?;
-    let desk = broken.desk.inner();
-    let sent = broken.link.inner().sent();
-    assert!(rt; broken.status == 1, "call {n}");
-    assert!(rt; sound.link.sent().starts_with(sent), "call {n}");
+    let (desk, wire, status) = broken;
+    assert!(rt; status == 1, "call {n}");
+    assert!(rt; sound.link.sent().starts_with(wire.sent()), "call {n}");
     assert!(rt; sound.desk.output().starts_with(desk.output()), "call {n}");
     assert!(rt;
         is_prefix(desk.messages(), sound.desk.messages(), told.as_slice()),
@@ -197,15 +193,27 @@ fn broke_off(
     Ok(())
 }
 
+/// Makes the plan of a run, for all its sessions.
+fn plan_of(alloc: Global, run: &SoundRun) -> Result<Plan, Fail> {
+    let settings = settings_for(alloc, run.row.words)?;
+    match plan(alloc, &settings, &mut desk_of(alloc, run)?) {
+        Ok(plan) => Ok(plan),
+        Err(_) => Err(Fail::from("no plan")),
+    }
+}
+
 /// Lets each call of the link fail. Odd calls send a frame: if one fails, no more is sent than in the run before. Even
-/// calls receive the reply.
+/// calls receive the reply. Only the session is run anew, since planning makes no call of the link.
 fn fail_each_link_call(rt: &impl Abort, alloc: Global, run: &SoundRun) -> Result<(), Fail> {
     let sound = sound(rt, alloc, run)?;
+    let plan = plan_of(alloc, run)?;
     let mut failures = 0u64;
     let mut sent = 0usize;
-    for n in 1..1_000u64 {
-        let broken = failing(alloc, run, n, 0, 281)?;
-        if broken.status == 0 {
+    for n in 1..2_000u64 {
+        let mut desk = MemDesk::empty(alloc);
+        let mut link = FailingLink::new(wire_of(alloc, run)?, n, 281);
+        let status = drive(alloc, &plan, &mut desk, &mut link);
+        if status == 0 {
             break;
         }
         failures = failures.wrapping_add(1);
@@ -215,10 +223,13 @@ fn fail_each_link_call(rt: &impl Abort, alloc: Global, run: &SoundRun) -> Result
         } else {
             "error: link cannot be read"
         };
-        broke_off(rt, alloc, &sound, &broken, &[told], n)?;
-        let sent_now = broken.link.inner().sent().len();
-        assert!(rt; sends == (sent_now == sent) && sent <= sent_now, "call {n}");
-        sent = sent_now;
+        let wire = link.inner();
+        broke_off(rt, alloc, &sound, (&desk, wire, status), &[told], n)?;
+        assert!(rt;
+            sends == (wire.sent().len() == sent) && sent <= wire.sent().len(),
+            "call {n}"
+        );
+        sent = wire.sent().len();
     }
     assert!(rt; failures == run.link_calls);
     Ok(())
@@ -236,7 +247,7 @@ fn each_call_of_the_link_fails_over_an_empty_flash(rt: HostRuntime) -> Result<()
 }
 
 #[test]
-fn each_call_of_the_link_fails_over_half_of_the_eeprom(rt: HostRuntime) -> Result<(), Fail> {
+fn each_call_of_the_link_fails_over_the_whole_eeprom(rt: HostRuntime) -> Result<(), Fail> {
     fail_each_link_call(&rt, rt.alloc(), &EEPROM)
 }
 
@@ -254,12 +265,13 @@ fn fail_each_desk_call(rt: &impl Abort, alloc: Global, run: &SoundRun) -> Result
     let sound = sound(rt, alloc, run)?;
     let mut failures = 0u64;
     for n in 1..2_000u64 {
-        let broken = failing(alloc, run, 0, n, 281)?;
+        let broken = failing(alloc, run, n, 281)?;
         if broken.status == 0 {
             break;
         }
         failures = failures.wrapping_add(1);
-        broke_off(rt, alloc, &sound, &broken, told_of(run, n), n)?;
+        let over = (broken.desk.inner(), broken.link.inner(), broken.status);
+        broke_off(rt, alloc, &sound, over, told_of(run, n), n)?;
     }
     assert!(rt; failures == run.desk_calls);
     Ok(())
@@ -278,7 +290,7 @@ fn pass_in_pieces(rt: &impl Abort, alloc: Global, run: &SoundRun) -> Result<(), 
     let sound = sound(rt, alloc, run)?;
     let bytes = pattern(alloc, run.size)?;
     for cut in [1, 2, 3, 5, 280, 281usize] {
-        let over = failing(alloc, run, 0, 0, cut.max(1))?;
+        let over = failing(alloc, run, 0, cut.max(1))?;
         let wire = over.link.inner();
         shows(rt, alloc, &run.row, over.desk.inner(), over.status)?;
         assert!(rt; wire.sent() == sound.link.sent(), "in pieces of {cut}");
@@ -294,29 +306,6 @@ fn pass_in_pieces(rt: &impl Abort, alloc: Global, run: &SoundRun) -> Result<(), 
 fn pieces_change_nothing(rt: HostRuntime) -> Result<(), Fail> {
     for run in RUNS {
         pass_in_pieces(&rt, rt.alloc(), run)?;
-    }
-    Ok(())
-}
-
-/// The whole EEPROM, with the reply to frame 255 late.
-#[test]
-fn pieces_change_nothing_of_the_whole_eeprom(rt: HostRuntime) -> Result<(), Fail> {
-    let alloc = rt.alloc();
-    let bytes = pattern(alloc, 1024)?;
-    let files = [("e.bin", bytes.as_slice())];
-    let wire = wire_to(alloc, "m328p", fates(alloc, 254, Fate::LateAnswer)?)?;
-    let whole = run_on(alloc, EEPROM.row.words, desk_with(alloc, &files)?, wire)?;
-    assert!(rt; whole.status == 0);
-    for cut in [1, 2, 3, 5, 280, 281usize] {
-        let wire = wire_to(alloc, "m328p", fates(alloc, 254, Fate::LateAnswer)?)?;
-        let link = FailingLink::new(wire, 0, cut.max(1));
-        let over = run_on(alloc, EEPROM.row.words, desk_with(alloc, &files)?, link)?;
-        assert!(rt; over.status == 0, "in pieces of {cut}");
-        assert!(rt; over.link.inner().sent() == whole.link.sent(), "in pieces of {cut}");
-        assert!(rt;
-            holds(over.link.inner().chip(), Mem::Eeprom, bytes.as_slice()),
-            "in pieces of {cut}"
-        );
     }
     Ok(())
 }

@@ -52,7 +52,9 @@ impl Desk for Own {
 fn a_desk_of_ones_own_has_six_calls(rt: HostRuntime) -> Result<(), Fail> {
     let alloc = rt.alloc();
     let settings = Settings::for_link(alloc, "m328p")?;
-    let mut desk = Own { inner: MemDesk::empty(alloc) };
+    let mut desk = Own {
+        inner: MemDesk::empty(alloc),
+    };
     let mut link = TapeLink::new(alloc, Vec::new(alloc), 281);
     assert!(rt; run(alloc, &settings, &mut desk, &mut link) == 1);
     assert!(rt; desk.inner.messages() == b"avrstk: error: link ended\n".as_slice());
