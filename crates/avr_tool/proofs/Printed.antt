@@ -1,5 +1,5 @@
 -- Texts that no clause knows, printed part by part.
-use Rattle.std.proofs.Common.{◌≡◌, ◌∙◌, ◌<◌, ◌≤◌, ◌+◌, ◌*◌, ◌^◌, refl, sym, ap, arith, ℕ, List, [], ◌∷◌, ◌++◌, take, drop, length, length-append, Result, Ok, Err, OnOk, OnErr, IfErr, codes, inl, inr, subst, rules}
+use Rattle.std.proofs.Common.{◌≡◌, ◌∙◌, ◌<◌, ◌≤◌, ◌+◌, ◌^◌, refl, sym, ap, arith, ℕ, List, [], ◌∷◌, ◌++◌, take, drop, length, length-append, Result, Ok, Err, OnOk, OnErr, IfErr, codes, inl, inr, subst}
 use Rattle.std.specs.List.{concat}
 use Rattle.std.proofs.lemmas.List.{append_assoc, append-nil, nil_from_length, take-append-drop}
 use Rattle.std.proofs.lemmas.List.Folds.{concat-append}
@@ -12,7 +12,7 @@ use Rattle.avr_desk.specs.declared.desk.DeskFault.TheVariants.{Failed}
 use Rattle.avr_desk.specs.declared.stream.Stream.{Stream}
 use Rattle.avr_desk.specs.declared.stream.Stream.TheVariants.{File, Output, Messages}
 use Rattle.avr_desk.proofs.Lines.SentBytes.{sent_next, sent_none}
-use Rattle.avr_tool.specs.Texts.{HasParts, HasPrinted, IsText, Parts, PrintsText, ReportsText}
+use Rattle.avr_tool.specs.Texts.{HasParts, HasPrinted, Parts, PrintsText, ReportsText}
 
 pub printed_none : (has : Parts) (s : Stream) (v : DeskState) → HasPrinted has s v v 0 0
 printed_none has s v = record {

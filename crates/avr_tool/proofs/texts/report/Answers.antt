@@ -1,5 +1,4 @@
 use Rattle.std.proofs.Common.{rules}
-use Rattle.std.proofs.lemmas.Result.{err_from_is_err_and}
 use Rattle.avr_tool.proofs.Printed.{reported_by, unmarked, untold}
 use Rattle.avr_tool.proofs.texts.report.Goals as goal
 
