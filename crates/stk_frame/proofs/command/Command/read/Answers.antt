@@ -1,4 +1,4 @@
-use Rattle.std.proofs.Common.{◌≡◌, ◌-◌, ◌≤◌, length, List, ℕ, [], ◌∷◌, slice_index, take, drop, sym, ap, ◌∙◌, arith}
+use Rattle.std.proofs.Common.{◌≡◌, ◌-◌, ◌≤◌, length, List, ℕ, [], ◌∷◌, slice_index, take, drop, sym, ap, arith, rules}
 use Rattle.std.proofs.lemmas.List.{take_all}
 use Rattle.stk_frame.specs.Decoding.{command_of, with_fields}
 use Rattle.stk_frame.proofs.DecodedBodies.{is_read}
@@ -11,6 +11,5 @@ apart (code ∷ fields) some = ap (with_fields code) (sym (take_all (length (cod
 
 pub returns-in-len1-up-clause-body : goal.returns-in-len1-up-clause-body
 returns-in-len1-up-clause-body c command fits =
-    let value : c.with_fields.result ≡ command_of c.args.bytes.now =
-    c.with_fields.ensures ∙ sym (apart c.args.bytes.now c.in-len1-up.len_at_least) in
+    let value : c.with_fields.result ≡ command_of c.args.bytes.now = search (rules, apart) in
     rw value (is_read c.args.bytes.now (λ i. omega (arith, c.type_inv.bytes i)) command fits)
