@@ -11,8 +11,7 @@ use Rattle.stk_host.specs.declared.link.LinkFault.{LinkFault}
 use Rattle.stk_host.specs.declared.link.LinkFault.TheVariants.{Failed}
 use Rattle.stk_host.specs.Tape.{Tape, on_tape, bytes_in, bytes_of}
 use Rattle.ghosts.specs.Failures.{HasRisen}
-use Rattle.stk_host.specs.Transcript.{Transcript, LinkState, HasFailed, heard, sent}
-use Rattle.stk_host.specs.Play.{IsPrefixOf}
+use Rattle.stk_host.specs.Transcript.{Transcript, LinkState, TakesPart, HasFailed, heard, sent}
 
 -- A log: the transcript, and its room for pieces and for bytes sent.
 pub record LogState : Type 0 where
@@ -60,14 +59,14 @@ pub record StreamState (R W : Type 0) : Type 0 where
 abbrev pub stream_state : {R W : Type 0} → StreamState R W → LinkState
 stream_state link = record { transcript = link.transcript; failures = link.failures }
 
--- The record since `old` is true. The bytes received are those that the reader gave, in order and none lost. While
--- nothing has failed, the bytes sent are those that the writer took.
+-- The record since `old` is true. The bytes received are those that the reader gave, in order and none lost. The bytes
+-- sent are those that the writer took, also if it failed then.
 pub record IsTrueSince {R W : Type 0} (remaining : R → Option (List ℕ)) (contents : W → Option (List ℕ))
     (old new : StreamState R W) : Type 0 where
   pub during : Transcript
   pub grows : new.transcript ≡ old.transcript ++ during
   pub gave : Consumes (remaining old.reader) (remaining new.reader) (bytes_of (heard during))
-  pub took : new.failures ≡ 0 → Appends (contents old.writer) (contents new.writer) (sent during)
+  pub took : Appends (contents old.writer) (contents new.writer) (sent during)
   pub counted : old.failures ≤ new.failures
 
 -- An error kind that is a failure of listening: no timeout, and nothing that is retried.
@@ -81,9 +80,10 @@ HearsKnown (hears.Bytes count) buffer old new = Consumes old new (take count buf
 HearsKnown hears.Silence buffer old new = Keeps old new
 HearsKnown hears.End buffer old new = Keeps old new × IsAtEnd new
 
--- A writer whose bytes are known took a prefix of these.
-abbrev pub AppendsPrefix : Option (List ℕ) → Option (List ℕ) → List ℕ → Type 0
-AppendsPrefix old new bytes = (prefix : List ℕ) × IsPrefixOf prefix bytes × Appends old new prefix
+-- A failed send took this part of the bytes, and a writer whose bytes are known took exactly this part.
+pub record TakesKnown (bytes : List ℕ) (before now : Transcript) (old new : Option (List ℕ)) : Type 0 where
+  pub takes : TakesPart bytes before now
+  pub took : Appends old new (sent takes.last)
 
 -- A failing link: the inner link, the calls up to the one that fails (0: none does), the most bytes of a piece, and
 -- its own failures.

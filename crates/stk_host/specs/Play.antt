@@ -3,7 +3,7 @@ use Rattle.std.specs.Prelude.{ℕ, List, [], ◌∷◌, ◌++◌, ◌≡◌, ◌
 use Rattle.stk_host.specs.declared.fault.Broken.{Broken}
 use Rattle.stk_host.specs.declared.fault.Broken.TheVariants.{Send, Recv}
 use Rattle.stk_host.specs.Tape.{Tape, on_tape}
-use Rattle.stk_host.specs.Transcript.{Transcript, LinkState, Sent, Got, sent, heard, Grows}
+use Rattle.stk_host.specs.Transcript.{Transcript, LinkState, Sent, Taken, Got, NoneTaken, sent, heard, Grows}
 use Rattle.stk_host.specs.Dialog.{Dialog, Event, Frame, Said, Played, played, bytes_sent}
 
 -- A conversation's state: the next sequence number, and the bytes received and not yet read.
@@ -19,10 +19,12 @@ pub record IsDue {E R : Type 0} (dialog : Dialog E R) (seq : ℕ) (tape : Tape) 
   pub waits : (played dialog seq tape).outcome ≡ None
   pub all_sent : bytes_sent (played dialog seq tape).events ≡ bytes
 
--- Before each piece received it was time to listen: the dialog's run over all received so far waits.
+-- Before each piece received it was time to listen: the dialog's run over all received so far waits. After a send
+-- that failed nothing passes.
 abbrev pub TurnsFrom : {E R : Type 0} → Dialog E R → ℕ → Tape → List ℕ → Transcript → Type 0
 TurnsFrom dialog seq tape bytes [] = Unit {0}
 TurnsFrom dialog seq tape bytes (Sent more ∷ transcript) = TurnsFrom dialog seq tape (bytes ++ more) transcript
+TurnsFrom dialog seq tape bytes (Taken more ∷ transcript) = transcript ≡ []
 TurnsFrom dialog seq tape bytes (Got items ∷ transcript) =
     IsDue dialog seq tape bytes × TurnsFrom dialog seq (tape ++ items) bytes transcript
 
@@ -42,6 +44,7 @@ pub record Plays {E R : Type 0} (dialog : Dialog E R) (before : Progress) (trans
   pub plays : (more : Tape) → played dialog before.next (on_tape before.unread ++ (heard transcript ++ more))
       ≡ record { events = events; outcome = Some (result, after.next, on_tape after.unread ++ more) }
   pub all_sent : bytes_sent events ≡ sent transcript
+  pub none_taken : NoneTaken transcript
   pub in_turn : InTurn dialog before transcript
 
 abbrev pub IsPrefixOf : List ℕ → List ℕ → Type 0
@@ -77,7 +80,7 @@ pub record Breaks {E R : Type 0} (SaidPart : E → E → Type 0) (dialog : Dialo
   pub in_turn : InTurn dialog before transcript
 
 -- The run broke off at sending. What happened is a prefix of its events, up to a frame that was sent in part, or not
--- at all.
+-- at all. The frame was sent whole only if the send that failed had taken its end.
 pub record BreaksSending {E R : Type 0} (dialog : Dialog E R) (before : Progress) (transcript : Transcript)
     (shown : List (Event E)) : Type 0 where
   pub whole : List (Event E)
@@ -86,7 +89,7 @@ pub record BreaksSending {E R : Type 0} (dialog : Dialog E R) (before : Progress
   pub later : List (Event E)
   pub shown_is : shown ≡ whole ++ Frame part ∷ []
   pub events_are : (played_over dialog before transcript).events ≡ whole ++ Frame (part ++ unsent) ∷ later
-  pub not_whole : 0 < length unsent
+  pub not_whole : NoneTaken transcript → 0 < length unsent
   pub all_sent : bytes_sent shown ≡ sent transcript
   pub in_turn : InTurn dialog before transcript
 
@@ -96,6 +99,7 @@ pub record BreaksListening {E R : Type 0} (dialog : Dialog E R) (before : Progre
   pub waits : (played_over dialog before transcript).outcome ≡ None
   pub shown_is : shown ≡ (played_over dialog before transcript).events
   pub all_sent : bytes_sent shown ≡ sent transcript
+  pub none_taken : NoneTaken transcript
   pub in_turn : InTurn dialog before transcript
 
 abbrev pub BreaksBy : {E R : Type 0} → Broken → Dialog E R → Progress → Transcript → List (Event E) → Type 0

@@ -2,7 +2,7 @@
 -- host.
 use Rattle.std.specs.Prelude.{ℕ, List, [], ◌∷◌, ◌++◌, ◌+◌, ◌≡◌, ◌<◌, ◌≤◌, length, Some, None, Result, OnOk, OnErr}
 use Rattle.stk_host.specs.Tape.{Tape, Reading, on_tape, answer, limit}
-use Rattle.stk_host.specs.Transcript.{Transcript, LinkState, Sent, Got, sent, heard, Grows, LinkCounts}
+use Rattle.stk_host.specs.Transcript.{Transcript, LinkState, Sent, Taken, Got, NoneTaken, sent, heard, Grows, LinkCounts}
 use Rattle.stk_host.specs.Dialog.{Dialog, Event, played, behind, bytes_sent}
 use Rattle.stk_host.specs.Play.{InTurn, Progress}
 
@@ -13,6 +13,7 @@ pub record TranscriptLeads {E R : Type 0} (dialog : Dialog E R) (before : Progre
   pub goes_on : (more : Tape) → played dialog before.next (on_tape before.unread ++ (heard transcript ++ more))
       ≡ behind events (played rest after.next (on_tape after.unread ++ more))
   pub all_sent : bytes_sent events ≡ sent transcript
+  pub none_taken : NoneTaken transcript
   pub in_turn : InTurn dialog before transcript
 
 -- A call has come this far, between these states of the link.
@@ -23,10 +24,11 @@ pub record Reaches {R : Type 0} (dialog : Dialog ⊥ R) (before : Progress) (old
   pub grows : Grows old.transcript during new.transcript
   pub leads : TranscriptLeads dialog before during events rest after
 
--- Nothing was received.
+-- Nothing was received. After a send that failed nothing passed.
 abbrev pub IsQuiet : Transcript → Type 0
 IsQuiet [] = Unit {0}
 IsQuiet (Sent bytes ∷ transcript) = IsQuiet transcript
+IsQuiet (Taken bytes ∷ transcript) = transcript ≡ []
 IsQuiet (Got tape ∷ transcript) = ⊥
 
 -- These bytes were sent, and nothing was received.
@@ -34,15 +36,21 @@ pub record Says (bytes : List ℕ) (old new : Transcript) : Type 0 where
   pub during : Transcript
   pub grows : Grows old during new
   pub quiet : IsQuiet during
+  pub none_taken : NoneTaken during
   pub bytes_sent : sent during ≡ bytes
 
--- Only a part of these bytes was sent, perhaps nothing, and nothing was received.
+-- Only a part of these bytes was sent, perhaps nothing, and nothing was received. All were sent only if the send that
+-- failed had taken the last of them.
 pub record SaysPart (bytes : List ℕ) (old new : Transcript) : Type 0 where
   pub part : List ℕ
   pub unsent : List ℕ
   pub bytes_are : bytes ≡ part ++ unsent
-  pub not_whole : 0 < length unsent
-  pub says : Says part old new
+  pub some : 0 < length bytes
+  pub during : Transcript
+  pub grows : Grows old during new
+  pub quiet : IsQuiet during
+  pub bytes_sent : sent during ≡ part
+  pub not_whole : NoneTaken during → 0 < length unsent
 
 -- Sends all of these bytes, or a part if the link fails.
 pub record SendsAll {E : Type 0} (bytes : List ℕ) (old new : LinkState) (result : Result (Unit {0}) E) : Type 0 where
@@ -53,8 +61,8 @@ pub record SendsAll {E : Type 0} (bytes : List ℕ) (old new : LinkState) (resul
 -- At each piece received there was no answer yet, and nothing was sent.
 abbrev pub WaitsFrom : ℕ → Tape → Transcript → Type 0
 WaitsFrom seq tape [] = Unit {0}
-WaitsFrom seq tape (Sent bytes ∷ transcript) = ⊥
 WaitsFrom seq tape (Got items ∷ transcript) = (answer seq tape ≡ None) × WaitsFrom seq (tape ++ items) transcript
+WaitsFrom seq tape (other ∷ transcript) = ⊥
 
 -- The answer was waited for, within the limit of bytes.
 pub record Hears (seq : ℕ) (unread : List ℕ) (old new : LinkState) (reading : Reading) (left : List ℕ) : Type 0 where

@@ -95,6 +95,7 @@ impl<L: Link + Drop> Link for FailingLink<L> {
 
     ghost comes_of = { λ start link. L.comes_of start link.inner };
 
+    #[tactic(auto, using(crate::proofs::Transcripts::Sending::takes_none, crate::proofs::Transcripts::Sending::takes_first))]
     fn send(&mut self, bytes: &[u8]) -> Result<usize, LinkFault>
         ensures sends { Sends bytes.now (failing_link_state L.view self.old)
             (failing_link_state L.view self.new) result }
@@ -106,7 +107,8 @@ impl<L: Link + Drop> Link for FailingLink<L> {
             return Err(LinkFault::Failed);
         }
         let most = self.cut.min(bytes.len());
-        self.inner.send(&bytes[..most])
+        let count = self.inner.send(&bytes[..most])?;
+        Ok(count)
     }
 
     fn recv(&mut self, buffer: &mut [u8]) -> Result<Heard, LinkFault>

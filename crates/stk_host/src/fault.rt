@@ -76,7 +76,8 @@ pub enum HostFault {
     /// The link has ended.
     #[error("link ended")]
     LinkEnded,
-    /// The link failed at sending. The frames before were sent whole, and of this one only a part, perhaps nothing.
+    /// The link failed at sending. The frames before were sent whole, and of this one a part, perhaps nothing. It may
+    /// have been sent whole if the send that failed took its end.
     #[error("link cannot be written")]
     SendFailed,
     /// The last of four attempts got 4,096 bytes without an answer.

@@ -1,7 +1,7 @@
 //! The transcript of a link, for proofs alone. It takes no memory, and its methods do nothing at run time.
 ghost use Rattle.std.specs.Prelude.{◌≡◌, [], ◌∷◌, ◌++◌, take};
 ghost use Rattle.std.specs.Borrow.{ftrue};
-ghost use Rattle.stk_host.specs.Transcript.{Transcript, Sent, Got, items_of};
+ghost use Rattle.stk_host.specs.Transcript.{Transcript, Sent, Taken, Got, items_of};
 
 use crate::link::Heard;
 use std::marker::Model;
@@ -27,6 +27,14 @@ impl History {
     #[inline(always)]
     pub fn sent(&self, bytes: &[u8], count: usize) -> History
         ensures { result.items ≡ self.now.items ++ Sent (take count bytes.now) ∷ [] }
+    {
+        History {}
+    }
+
+    /// Adds the first `count` bytes as taken by a send that failed.
+    #[inline(always)]
+    pub fn taken(&self, bytes: &[u8], count: usize) -> History
+        ensures { result.items ≡ self.now.items ++ Taken (take count bytes.now) ∷ [] }
     {
         History {}
     }

@@ -30,7 +30,7 @@ pub fn a_call_sends_at_most_four_times_its_commands()
 {}
 
 /// States that the record of a stream link is true, whatever was done with the link. The bytes received since
-/// `before` are those that the reader gave. While nothing has failed, the bytes sent are those that the writer took.
+/// `before` are those that the reader gave. The bytes sent are those that the writer took, also in a send that failed.
 ///
 /// Each call over a [`crate::Link`] ensures the required fact, and so does all code made of such calls.
 pub fn a_record_of_streams_is_true<R: Read, W: Write>(

@@ -81,7 +81,7 @@ pub enum Item {
 /// A link to a programmer: a device that takes bytes, and gives bytes, timeouts and an end.
 ///
 /// Contracts see two things: the transcript, which lists the pieces sent and received in order, and the count of
-/// failures, which stops at 2^64 - 1. A call returns a fault only if the link has failed. A call that succeeds leaves
+/// failures, which stops at 2^64 - 1. A piece that a failed send took is marked as such. A call returns a fault only if the link has failed. A call that succeeds leaves
 /// the count, unless `send` took none of some bytes.
 ///
 /// To connect your own device, write an `impl Link`: `examples/library/a_link_of_ones_own.rs` is a whole one.
@@ -98,8 +98,8 @@ pub trait Link {
 
     /// Sends a prefix of the bytes, and returns how many.
     ///
-    /// It returns 0 for a nonempty slice only if the link has failed. After a fault no byte counts as sent: a link
-    /// that records its transcript has sent nothing, and any other may have sent a prefix.
+    /// It returns 0 for a nonempty slice only if the link has failed. After a fault the transcript has what the link
+    /// took nevertheless, as its last piece: nothing, or a prefix of the bytes, perhaps all.
     ///
     /// # Errors
     ///
@@ -127,7 +127,8 @@ pub trait Link {
 ///
 /// # Errors
 ///
-/// [`LinkFault::Failed`] if the link fails or takes no byte. A part of the bytes may have been sent, but not all.
+/// [`LinkFault::Failed`] if the link fails or takes no byte. A part of the bytes may have been sent; all only if the
+/// send that failed took the last of them.
 ///
 /// ```text
 /// let mut link = TapeLink::new(alloc, Vec::new(alloc), 2);

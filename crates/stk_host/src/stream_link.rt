@@ -1,12 +1,12 @@
 //! A link over a reader and a writer.
-ghost use Rattle.std.specs.Prelude.{◌≡◌, ◌≢◌, ◌<◌, ◌≤◌, ◌∷◌, [], ℕ, length, take, None, Some, IsSome, IfOk, IfErr, OnErr, OnOk};
+ghost use Rattle.std.specs.Prelude.{◌≡◌, ◌≢◌, ◌<◌, ◌≤◌, ◌∷◌, ◌++◌, [], ℕ, length, take, None, Some, IsSome, IfOk, IfErr, OnErr, OnOk};
 ghost use Rattle.std.specs.IoError.{error_kind};
 ghost use Rattle.std.specs.Io.{ReadsAtMost, WritesAtMost};
 ghost use Rattle.std.specs.Io.KnownBytes.{Keeps, Appends, Consumes, IsAtEnd};
 ghost use Rattle.ghosts.specs.Stays.{Stays};
-ghost use Rattle.stk_host.specs.Transcript.{Sends, Receives, FitsBuffer};
+ghost use Rattle.stk_host.specs.Transcript.{Sent, Sends, Receives, FitsBuffer};
 ghost use Rattle.stk_host.specs.declared.link.Heard.TheVariants.{Silence};
-ghost use Rattle.stk_host.specs.Links.{StreamState, IsTrueSince, stream_state, HearsKnown, AppendsPrefix, IsOfListening};
+ghost use Rattle.stk_host.specs.Links.{StreamState, IsTrueSince, stream_state, TakesKnown, HearsKnown, IsOfListening};
 
 use crate::history::History;
 use crate::link::{Heard, Link, LinkFault};
@@ -20,7 +20,8 @@ use std::{fmt, io};
 ///
 /// A read that times out or would block is a timeout, and a read of 0 bytes is the end. An interrupted call is
 /// retried. Any other error of a read, write or flush is a failure, and so is a write of 0 bytes. Each piece sent is
-/// flushed. The transcript is kept for proofs alone, and takes no memory.
+/// flushed. The transcript is kept for proofs alone, and takes no memory. It has also what the writer took before a
+/// flush failed.
 ///
 /// ```text
 /// let mut link = StreamLink::new(b"".as_slice(), Vec::new(alloc));
@@ -53,17 +54,29 @@ impl<R, W> Model for StreamLink<R, W> {
     } };
 }
 
-/// Writes a prefix of the bytes, at least one unless they are empty, and flushes.
-fn put_bytes<W: Outlet>(writer: &mut W, bytes: &[u8]) -> io::Result<usize>
+/// Writes a prefix of the bytes, at least one unless they are empty, and flushes. Also what was taken before a flush
+/// failed is kept.
+#[tactic(auto, using(crate::proofs::Transcripts::Streams::takes_known, crate::proofs::Transcripts::Streams::takes_nothing))]
+fn put_bytes<W: Outlet>(writer: &mut W, bytes: &[u8], history: &mut History) -> io::Result<usize>
     ensures within { IfOk result (λ n. n ≤ length bytes.now) }
     ensures some { IfOk result (λ n. 0 < length bytes.now → 0 < n) }
     ensures ok { IfOk result (λ n. Appends (W.contents writer.old) (W.contents writer.new) (take n bytes.now)) }
-    ensures err { OnErr result (AppendsPrefix (W.contents writer.old) (W.contents writer.new) bytes.now) }
+    ensures sent { IfOk result (λ n. history.new.items ≡ history.old.items ++ Sent (take n bytes.now) ∷ []) }
+    ensures taken { OnErr result (TakesKnown bytes.now history.old.items history.new.items
+        (W.contents writer.old) (W.contents writer.new)) }
     ensures out { OnOk result (W.is_out writer.new) }
 {
     let count = write_some(writer, bytes)?;
-    flush(writer)?;
-    Ok(count)
+    match flush(writer) {
+        Ok(()) => {
+            *history = history.sent(bytes, count);
+            Ok(count)
+        }
+        Err(error) => {
+            *history = history.taken(bytes, count);
+            Err(error)
+        }
+    }
 }
 
 fn hear_bytes<R: Inlet>(reader: &mut R, buffer: &mut [u8]) -> io::Result<Heard>
@@ -165,11 +178,11 @@ impl<R: Inlet + Drop, W: Outlet + Drop> Link for StreamLink<R, W> {
     fn send(&mut self, bytes: &[u8]) -> Result<usize, LinkFault>
         ensures sends { Sends bytes.now (stream_state self.old) (stream_state self.new) result }
         ensures comes { Stays (IsTrueSince R.remaining W.contents) self.old self.new }
-        // The writer took the bytes reported as sent, or on failure a prefix of them.
+        // The writer took the bytes reported as sent, or on failure exactly those of the transcript's last piece.
         ensures written { IfOk result (λ n. Appends (W.contents self.old.writer) (W.contents self.new.writer)
             (take n bytes.now)) }
-        ensures broken { OnErr result (AppendsPrefix (W.contents self.old.writer) (W.contents self.new.writer)
-            bytes.now) }
+        ensures broken { OnErr result (TakesKnown bytes.now self.old.transcript self.new.transcript
+            (W.contents self.old.writer) (W.contents self.new.writer)) }
         // Bytes reported as sent were flushed.
         ensures out { OnOk result (W.is_out self.new.writer) }
         ensures reader { self.new.reader ≡ self.old.reader }
@@ -178,11 +191,8 @@ impl<R: Inlet + Drop, W: Outlet + Drop> Link for StreamLink<R, W> {
         ensures fault { OnErr result (IsSome self.new.last_error) }
         ensures leaves { OnOk result (self.new.last_error ≡ self.old.last_error) }
     {
-        match put_bytes(&mut self.writer, bytes) {
-            Ok(count) => {
-                self.history = self.history.sent(bytes, count);
-                Ok(count)
-            }
+        match put_bytes(&mut self.writer, bytes, &mut self.history) {
+            Ok(count) => Ok(count),
             Err(error) => {
                 self.failures = self.failures.saturating_add(1);
                 self.last_error = Some(error.kind());

@@ -163,7 +163,7 @@ impl Link for TapeLink {
 
     ghost comes_of = { IsOfTape };
 
-    #[tactic(auto, using(crate::proofs::Tapes::TapeLinks::sent_of_tape, crate::proofs::Tapes::TapeLinks::same_of_tape))]
+    #[tactic(auto, using(crate::proofs::Tapes::TapeLinks::sent_of_tape, crate::proofs::Tapes::TapeLinks::same_of_tape, crate::proofs::Transcripts::Sending::takes_none))]
     fn send(&mut self, bytes: &[u8]) -> Result<usize, LinkFault>
         ensures sends { Sends bytes.now (tape_state self.old) (tape_state self.new) result }
         ensures sound { OnOk result (self.new.failures ≡ self.old.failures) }

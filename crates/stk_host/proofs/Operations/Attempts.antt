@@ -32,7 +32,7 @@ exchange_done seq then command {u = u} {v = v} {o = o} {p = p} {q = q} {reading 
   events = Frame (frame seq (body command)) ∷ [];
   grows = grows_on o.transcript p.transcript q.transcript says.during hears.during says.grows hears.grows;
   plays = rw is (plays_from (leads_ask (body command) (λ r. Done (reading_reply command r)) seq u v says.during
-      hears.during reading says.quiet says.bytes_sent hears.waits hears.answers));
+      hears.during reading says.quiet says.none_taken says.bytes_sent hears.waits hears.answers));
 }
 
 pub exchange_unsent : (seq : ℕ) (command : Command) (u : List ℕ) {o p : LinkState}
@@ -40,9 +40,9 @@ pub exchange_unsent : (seq : ℕ) (command : Command) (u : List ℕ) {o p : Link
     → FailsOver broken.Send (exchange command) (record { next = seq; unread = u }) o p
 unfolding exchange
 exchange_unsent seq command u says = record {
-  during = says.says.during;
+  during = says.during;
   shown = Frame says.part ∷ [];
-  grows = says.says.grows;
+  grows = says.grows;
   breaks = search (rules, breaks_asking);
 }
 

@@ -4,7 +4,7 @@ use Rattle.stk_host.specs.declared.fault.Broken.TheVariants as broken
 use Rattle.stk_host.specs.declared.fault.HostFault.TheVariants.{SendFailed, RecvFailed}
 use Rattle.stk_host.specs.declared.link.Item.TheVariants.{Silence}
 use Rattle.stk_host.specs.Tape.{answer}
-use Rattle.stk_host.specs.Transcript.{Transcript, LinkState, Sent, Got, sent}
+use Rattle.stk_host.specs.Transcript.{Transcript, LinkState, Sent, Taken, Got, NoneTaken, sent}
 use Rattle.stk_host.specs.Dialog.{Dialog, Event, Frame, bytes_sent}
 use Rattle.stk_host.specs.Play.{Progress, progress_at, InTurn, played_over, BreaksSending, BreaksListening, FailsOver}
 use Rattle.stk_host.specs.Steps.{exchange, attempt, tries}
@@ -12,20 +12,20 @@ use Rattle.stk_host.specs.Operations.{closing}
 use Rattle.stk_host.specs.Calls.{EndsCall}
 use Rattle.stk_host.proofs.Transcripts.InDialogs.{bytes_append}
 
--- a call that broke off in a frame has sent less than its run sends
+-- a call that broke off in a frame has sent less than its run sends, unless a failed send took the end
 pub sent_less : {E R : Type 0} {dialog : Dialog E R} {before : Progress} {transcript : Transcript}
     {shown : List (Event E)}
-    → BreaksSending dialog before transcript shown
+    → BreaksSending dialog before transcript shown → NoneTaken transcript
     → length (sent transcript) < length (bytes_sent (played_over dialog before transcript).events)
-sent_less {dialog = dialog} {before = before} {transcript = transcript} f =
-    search (rules, bytes_append, length-append)
+sent_less {dialog = dialog} {before = before} {transcript = transcript} f none =
+    let some = f.not_whole none in search (rules, bytes_append, length-append)
 
 -- so it doesn't listen
 pub never_both : {E R : Type 0} {dialog : Dialog E R} {before : Progress} {transcript : Transcript}
     {some others : List (Event E)}
     → BreaksSending dialog before transcript some → BreaksListening dialog before transcript others → ⊥
 never_both f g =
-    let less = sent_less f in
+    let less = sent_less f g.none_taken in
     search rules
 
 -- a link with this transcript
@@ -71,7 +71,7 @@ unsent = record {
     later = [];
     shown_is = refl;
     events_are = refl;
-    not_whole = omega arith;
+    not_whole = λ none. omega arith;
     all_sent = refl;
     in_turn = tt;
   };
@@ -81,6 +81,31 @@ unsent = record {
 pub not_unheard : (after : Progress) → EndsCall closing sixth (showing []) (showing (Sent (0x1B ∷ 0x06 ∷ []) ∷ []))
     (Err RecvFailed) after → ⊥
 not_unheard after f = never_either closing sixth (Sent (0x1B ∷ 0x06 ∷ []) ∷ []) unsent f
+
+-- the frame was taken whole, and its send failed
+pub taken_whole : EndsCall closing sixth (showing []) (showing (Taken leaving ∷ [])) (Err SendFailed) sixth
+unfolding exchange attempt tries answer closing
+taken_whole = record {
+  during = Taken leaving ∷ [];
+  shown = Frame leaving ∷ [];
+  grows = refl;
+  breaks = record {
+    whole = [];
+    part = leaving;
+    unsent = [];
+    later = [];
+    shown_is = refl;
+    events_are = refl;
+    not_whole = λ none. absurd none;
+    all_sent = refl;
+    in_turn = refl;
+  };
+}
+
+-- that is not a failure to receive its answer either
+pub not_unheard_whole : (after : Progress) → EndsCall closing sixth (showing []) (showing (Taken leaving ∷ []))
+    (Err RecvFailed) after → ⊥
+not_unheard_whole after f = never_either closing sixth (Taken leaving ∷ []) taken_whole f
 
 -- nothing was sent, and nothing received
 pub unsent_at_all : EndsCall closing sixth (showing []) (showing []) (Err SendFailed) sixth
@@ -96,7 +121,7 @@ unsent_at_all = record {
     later = [];
     shown_is = refl;
     events_are = refl;
-    not_whole = omega arith;
+    not_whole = λ none. omega arith;
     all_sent = refl;
     in_turn = tt;
   };

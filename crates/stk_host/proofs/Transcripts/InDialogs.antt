@@ -5,11 +5,11 @@ use Rattle.stk_frame.specs.Frame.{frame}
 use Rattle.stk_host.specs.declared.fault.Broken.{Broken}
 use Rattle.stk_host.specs.declared.fault.Broken.TheVariants as broken
 use Rattle.stk_host.specs.Tape.{Tape, Reading, on_tape, answer}
-use Rattle.stk_host.specs.Transcript.{Transcript, Sent, Got, sent, heard}
+use Rattle.stk_host.specs.Transcript.{Transcript, Sent, Taken, Got, NoneTaken, sent, heard}
 use Rattle.stk_host.specs.Dialog.{Dialog, Done, Say, Ask, ◌>>=◌, Event, Frame, Said, Played, played, behind, by_answer, next, bytes_sent}
 use Rattle.stk_host.specs.Play.{Progress, progress_at, IsDue, TurnsFrom, InTurn, played_over, Plays, Breaks, BreaksSending, BreaksListening, BreaksBy, IsPrefixOfEvents}
 use Rattle.stk_host.specs.Reach.{TranscriptLeads, IsQuiet, WaitsFrom}
-use Rattle.stk_host.proofs.Transcripts.Laws.{sent_append, heard_append, heard_both, heard_quiet, sent_waiting}
+use Rattle.stk_host.proofs.Transcripts.Laws.{sent_append, heard_append, heard_both, heard_quiet, sent_waiting, none_append, none_behind, none_waiting}
 
 -- runs
 
@@ -53,19 +53,21 @@ turns_quiet : {E R : Type 0} (dialog : Dialog E R) (seq : ℕ) (tape : Tape) (by
 turns_quiet dialog seq tape bytes [] quiet = tt
 turns_quiet dialog seq tape bytes (Sent more ∷ transcript) quiet =
     turns_quiet dialog seq tape (bytes ++ more) transcript quiet
+turns_quiet dialog seq tape bytes (Taken more ∷ transcript) quiet = quiet
 turns_quiet dialog seq tape bytes (Got items ∷ transcript) quiet = absurd quiet
 
 -- one transcript after another
 pub turns_append : {E R : Type 0} (dialog : Dialog E R) (seq : ℕ) (tape : Tape) (bytes : List ℕ) (x y : Transcript)
-    → TurnsFrom dialog seq tape bytes x → TurnsFrom dialog seq (tape ++ heard x) (bytes ++ sent x) y
+    → NoneTaken x → TurnsFrom dialog seq tape bytes x → TurnsFrom dialog seq (tape ++ heard x) (bytes ++ sent x) y
     → TurnsFrom dialog seq tape bytes (x ++ y)
-turns_append dialog seq tape bytes [] y f g =
+turns_append dialog seq tape bytes [] y none f g =
     rw (append-nil tape, append-nil bytes) at g
-turns_append dialog seq tape bytes (Sent more ∷ x) y f g =
-    turns_append dialog seq tape (bytes ++ more) x y f (rw (← append_assoc bytes more (sent x)) at g)
-turns_append dialog seq tape bytes (Got items ∷ x) y f g = (
+turns_append dialog seq tape bytes (Sent more ∷ x) y none f g =
+    turns_append dialog seq tape (bytes ++ more) x y none f (rw (← append_assoc bytes more (sent x)) at g)
+turns_append dialog seq tape bytes (Taken more ∷ x) y none f g = absurd none
+turns_append dialog seq tape bytes (Got items ∷ x) y none f g = (
   f.0,
-  turns_append dialog seq (tape ++ items) bytes x y f.1 (rw (← append_assoc tape items (heard x)) at g),
+  turns_append dialog seq (tape ++ items) bytes x y none f.1 (rw (← append_assoc tape items (heard x)) at g),
 )
 
 -- if the one is due whenever the other is
@@ -79,6 +81,7 @@ module _ {E F A B : Type 0} (dialog : Dialog E A) (inner : Dialog F B) (m n : �
   turns_lift x bytes [] f = tt
   turns_lift x bytes (Sent more ∷ transcript) f =
       rw (append_assoc before bytes more) (turns_lift x (bytes ++ more) transcript f)
+  turns_lift x bytes (Taken more ∷ transcript) f = f
   turns_lift x bytes (Got items ∷ transcript) f = search (
     rules,
     append_assoc,
@@ -121,15 +124,16 @@ turns_waiting : {E R : Type 0} (body : List ℕ) (answered : Reading → Dialog 
     → WaitsFrom seq tape transcript → TurnsFrom (Ask body answered) seq tape (frame seq body) transcript
 turns_waiting body answered seq tape [] waits = tt
 turns_waiting body answered seq tape (Sent bytes ∷ transcript) waits = absurd waits
+turns_waiting body answered seq tape (Taken bytes ∷ transcript) waits = absurd waits
 turns_waiting body answered seq tape (Got items ∷ transcript) waits =
     (due_asking body answered seq tape waits.0, turns_waiting body answered seq (tape ++ items) transcript waits.1)
 
 -- a frame was sent whole, and its answer awaited
 turns_asking : {E R : Type 0} (body : List ℕ) (answered : Reading → Dialog E R) (seq : ℕ) (u : List ℕ)
     (x y : Transcript)
-    → IsQuiet x → sent x ≡ frame seq body → WaitsFrom seq (on_tape u) y
+    → IsQuiet x → NoneTaken x → sent x ≡ frame seq body → WaitsFrom seq (on_tape u) y
     → InTurn (Ask body answered) (progress_at seq u) (x ++ y)
-turns_asking body answered seq u x y quiet is waits =
+turns_asking body answered seq u x y quiet none is waits =
     search (rules, turns_append, turns_quiet, append-nil, heard_quiet, turns_waiting)
 
 -- prefixes of events
@@ -154,7 +158,7 @@ prefix_behind SaidPart before f = record {
 -- leading
 
 pub leads_here : {E R : Type 0} (dialog : Dialog E R) (m : Progress) → TranscriptLeads dialog m [] [] dialog m
-leads_here dialog m = record { goes_on = λ more. refl; all_sent = refl; in_turn = tt }
+leads_here dialog m = record { goes_on = λ more. refl; all_sent = refl; none_taken = tt; in_turn = tt }
 
 -- after a transcript that leads on
 module _ {E R : Type 0} {a b : Dialog E R} {m n : Progress} {x : Transcript} {events : List (Event E)}
@@ -179,7 +183,7 @@ module _ {E R : Type 0} {a b : Dialog E R} {m n : Progress} {x : Transcript} {ev
 
   pub leads_on : {c : Dialog E R} {l : Progress} {y : Transcript} {ys : List (Event E)}
       → TranscriptLeads b n y ys c l → TranscriptLeads a m (x ++ y) (events ++ ys) c l
-  leads_on {c = c} {l = l} {y = y} {ys = ys} g = search (rules, heard_both, behind_behind, led_bytes, led_turns)
+  leads_on {c = c} {l = l} {y = y} {ys = ys} g = search (rules, heard_both, behind_behind, led_bytes, led_turns, none_append)
 
   pub by_on : (by : Broken) (y : Transcript) (shown : List (Event E)) → BreaksBy by b n y shown
       → BreaksBy by a m (x ++ y) (events ++ shown)
@@ -190,11 +194,11 @@ module _ {E R : Type 0} {a b : Dialog E R} {m n : Progress} {x : Transcript} {ev
     later = g.later;
     shown_is = ap (λ es. events ++ es) g.shown_is ∙ sym (append_assoc events g.whole (Frame g.part ∷ []));
     events_are = rw (led y, g.events_are) (sym (append_assoc events g.whole (Frame (g.part ++ g.unsent) ∷ g.later)));
-    not_whole = g.not_whole;
+    not_whole = λ none. g.not_whole (none_behind x y none);
     all_sent = led_bytes y shown g.all_sent;
     in_turn = led_turns y g.in_turn;
   }
-  by_on broken.Recv y shown g = search (rules, led, led_bytes, led_turns)
+  by_on broken.Recv y shown g = search (rules, led, led_bytes, led_turns, none_append)
 
 -- the same before what follows, and before a transcript that breaks off
 module _ {E R : Type 0} {a b : Dialog E R} {m n : Progress} {x : Transcript} {events : List (Event E)} where
@@ -214,7 +218,7 @@ module _ {E R : Type 0} {a b : Dialog E R} {m n : Progress} {x : Transcript} {ev
 -- an output event
 pub leads_say : {E R : Type 0} (e : E) (dialog : Dialog E R) (m : Progress)
     → TranscriptLeads (Say e dialog) m [] (Said e ∷ []) dialog m
-leads_say e dialog m = record { goes_on = λ more. refl; all_sent = refl; in_turn = tt }
+leads_say e dialog m = record { goes_on = λ more. refl; all_sent = refl; none_taken = tt; in_turn = tt }
 
 -- a result was reached
 pub plays_from : {E R : Type 0} {a : Dialog E R} {m n : Progress} {transcript : Transcript} {events : List (Event E)}
@@ -265,19 +269,19 @@ by_bind broken.Recv a m transcript shown go_on f =
 
 module _ {E R : Type 0} (body : List ℕ) (answered : Reading → Dialog E R) (seq : ℕ) (u : List ℕ) where
   -- its frame was sent and its answer read
-  pub leads_ask : (v : List ℕ) (x y : Transcript) (reading : Reading) → IsQuiet x → sent x ≡ frame seq body
+  pub leads_ask : (v : List ℕ) (x y : Transcript) (reading : Reading) → IsQuiet x → NoneTaken x → sent x ≡ frame seq body
       → WaitsFrom seq (on_tape u) y
       → ((more : Tape) → answer seq (on_tape u ++ (heard y ++ more)) ≡ Some (reading, on_tape v ++ more))
       → TranscriptLeads (Ask body answered) (progress_at seq u) (x ++ y) (Frame (frame seq body)
       ∷ []) (answered reading)
       (progress_at (next seq) v)
-  leads_ask v x y reading quiet is waits answers =
-      search (rules, heard_both, heard_quiet, sent_append, sent_waiting, turns_asking)
+  leads_ask v x y reading quiet none is waits answers =
+      search (rules, heard_both, heard_quiet, sent_append, sent_waiting, turns_asking, none_append, none_waiting)
 
   -- a part of its frame was sent
   pub breaks_asking : (part unsent : List ℕ) (x : Transcript) → IsQuiet x → sent x ≡ part
-      → frame seq body ≡ part ++ unsent
-      → 0 < length unsent → BreaksSending (Ask body answered) (progress_at seq u) x (Frame part ∷ [])
+      → frame seq body ≡ part ++ unsent → (NoneTaken x → 0 < length unsent)
+      → BreaksSending (Ask body answered) (progress_at seq u) x (Frame part ∷ [])
   breaks_asking part unsent x quiet is frame_is not_whole =
       let later = (by_answer (λ r. played (answered r) (next seq)) (answer seq (on_tape u ++ heard x))).events in
       record {
@@ -293,8 +297,8 @@ module _ {E R : Type 0} (body : List ℕ) (answered : Reading → Dialog E R) (s
       }
 
   -- its frame was sent, and listening broke off
-  pub breaks_listening : (x y : Transcript) → IsQuiet x → sent x ≡ frame seq body → WaitsFrom seq (on_tape u) y
-      → answer seq (on_tape u ++ heard y) ≡ None
+  pub breaks_listening : (x y : Transcript) → IsQuiet x → NoneTaken x → sent x ≡ frame seq body
+      → WaitsFrom seq (on_tape u) y → answer seq (on_tape u ++ heard y) ≡ None
       → BreaksListening (Ask body answered) (progress_at seq u) (x ++ y) (Frame (frame seq body) ∷ [])
-  breaks_listening x y quiet is waits none =
-      search (rules, heard_append, heard_quiet, sent_append, sent_waiting, turns_asking)
+  breaks_listening x y quiet none is waits unanswered =
+      search (rules, heard_append, heard_quiet, sent_append, sent_waiting, turns_asking, none_append, none_waiting)

@@ -2,18 +2,19 @@
 use Rattle.std.proofs.Common.{◌≡◌, ℕ, [], ◌∷◌, ◌++◌, refl, sym, ap, ◌∙◌, append_assoc, rules}
 use Rattle.std.proofs.lemmas.List.{append-nil}
 use Rattle.stk_host.specs.Tape.{Tape}
-use Rattle.stk_host.specs.Transcript.{Transcript, Sent, Got, sent, heard, Grows}
+use Rattle.stk_host.specs.Transcript.{Transcript, Sent, Taken, Got, NoneTaken, IsTaken, sent, heard, Grows}
 use Rattle.stk_host.specs.Reach.{IsQuiet, WaitsFrom}
 
 pub sent_append : (x y : Transcript) → sent (x ++ y) ≡ sent x ++ sent y
 sent_append [] y = refl
 sent_append (Sent bytes ∷ x) y = ap (λ bs. bytes ++ bs) (sent_append x y) ∙ sym (append_assoc bytes (sent x) (sent y))
+sent_append (Taken bytes ∷ x) y = ap (λ bs. bytes ++ bs) (sent_append x y) ∙ sym (append_assoc bytes (sent x) (sent y))
 sent_append (Got tape ∷ x) y = sent_append x y
 
 pub heard_append : (x y : Transcript) → heard (x ++ y) ≡ heard x ++ heard y
 heard_append [] y = refl
-heard_append (Sent bytes ∷ x) y = heard_append x y
 heard_append (Got tape ∷ x) y = ap (λ t. tape ++ t) (heard_append x y) ∙ sym (append_assoc tape (heard x) (heard y))
+heard_append (other ∷ x) y = heard_append x y
 
 -- what both parts received, before what follows
 pub heard_both : (u : Tape) (x y : Transcript) (more : Tape)
@@ -30,23 +31,53 @@ grows_on a b c x y f g = g ∙ ap (λ (t : Transcript). t ++ y) f ∙ append_ass
 pub heard_quiet : (transcript : Transcript) → IsQuiet transcript → heard transcript ≡ []
 heard_quiet [] quiet = refl
 heard_quiet (Sent bytes ∷ transcript) quiet = heard_quiet transcript quiet
+heard_quiet (Taken bytes ∷ transcript) quiet = ap heard quiet
 heard_quiet (Got tape ∷ transcript) quiet = absurd quiet
 
-pub quiet_append : (x y : Transcript) → IsQuiet x → IsQuiet y → IsQuiet (x ++ y)
-quiet_append [] y f g = g
-quiet_append (Sent bytes ∷ x) y f g = quiet_append x y f g
-quiet_append (Got tape ∷ x) y f g = absurd f
+pub quiet_append : (x y : Transcript) → NoneTaken x → IsQuiet x → IsQuiet y → IsQuiet (x ++ y)
+quiet_append [] y none f g = g
+quiet_append (Sent bytes ∷ x) y none f g = quiet_append x y none f g
+quiet_append (Taken bytes ∷ x) y none f g = absurd none
+quiet_append (Got tape ∷ x) y none f g = absurd f
+
+pub taken_quiet : (last : Transcript) → IsTaken last → IsQuiet last
+taken_quiet [] taken = tt
+taken_quiet (Taken bytes ∷ []) taken = refl
+taken_quiet last taken = absurd taken
 
 -- nothing is sent during the wait for an answer
 pub sent_waiting : (seq : ℕ) (tape : Tape) (transcript : Transcript) → WaitsFrom seq tape transcript
     → sent transcript ≡ []
 sent_waiting seq tape [] waits = refl
-sent_waiting seq tape (Sent bytes ∷ transcript) waits = absurd waits
 sent_waiting seq tape (Got items ∷ transcript) waits = sent_waiting seq (tape ++ items) transcript waits.1
+sent_waiting seq tape (other ∷ transcript) waits = absurd waits
 
 pub waits_append : (seq : ℕ) (tape : Tape) (x y : Transcript) → WaitsFrom seq tape x → WaitsFrom seq (tape ++ heard x) y
     → WaitsFrom seq tape (x ++ y)
 waits_append seq tape [] y f g = rw (append-nil tape) at g
-waits_append seq tape (Sent bytes ∷ x) y f g = absurd f
 waits_append seq tape (Got items ∷ x) y f g =
     (f.0, waits_append seq (tape ++ items) x y f.1 (rw (← append_assoc tape items (heard x)) at g))
+waits_append seq tape (other ∷ x) y f g = absurd f
+
+-- where no send failed
+
+pub none_append : (x y : Transcript) → NoneTaken x → NoneTaken y → NoneTaken (x ++ y)
+none_append [] y f g = g
+none_append (Taken bytes ∷ x) y f g = absurd f
+none_append (other ∷ x) y f g = none_append x y f g
+
+pub none_behind : (x y : Transcript) → NoneTaken (x ++ y) → NoneTaken y
+none_behind [] y f = f
+none_behind (Taken bytes ∷ x) y f = absurd f
+none_behind (other ∷ x) y f = none_behind x y f
+
+pub none_waiting : (seq : ℕ) (tape : Tape) (transcript : Transcript) → WaitsFrom seq tape transcript
+    → NoneTaken transcript
+none_waiting seq tape [] waits = tt
+none_waiting seq tape (Got items ∷ transcript) waits = none_waiting seq (tape ++ items) transcript waits.1
+none_waiting seq tape (other ∷ transcript) waits = absurd waits
+
+-- what is received isn't behind the last piece
+pub not_behind : (before after : Transcript) (items : Tape) → before ++ Got items ∷ after ≡ [] → ⊥
+not_behind [] after items is = cc
+not_behind (piece ∷ before) after items is = cc

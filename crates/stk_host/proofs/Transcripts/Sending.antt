@@ -1,23 +1,21 @@
 -- Bytes sent in parts, and the rest of a range.
-use Rattle.std.proofs.Common.{◌≡◌, ℕ, ◌+◌, ◌-◌, ◌<◌, ◌≤◌, List, [], ◌∷◌, ◌++◌, length, take, drop, refl, sym, ap, ◌∙◌, arith, Err, rules}
+use Rattle.std.proofs.Common.{◌≡◌, ℕ, ◌+◌, ◌-◌, ◌<◌, ◌≤◌, List, [], ◌∷◌, ◌++◌, length, take, drop, refl, sym, ap, ◌∙◌, subst, append_assoc, arith, Err, rules}
 use Rattle.std.proofs.lemmas.List.{append-nil, drop-take, drop-drop, take-append-drop, length-take, length-drop, take_all}
 use Rattle.std.proofs.Math.Seq.{take-add}
 use Rattle.std.specs.Prelude.{slice_range}
 use Rattle.ghosts.specs.Failures.{HasRisen}
-use Rattle.stk_host.specs.Transcript.{Transcript, LinkState, Sent, Grows, LinkCounts}
+use Rattle.stk_host.specs.Transcript.{Transcript, LinkState, Sent, Taken, NoneTaken, IsTaken, TakesPart, sent, Grows, LinkCounts}
 use Rattle.stk_host.specs.Reach.{Says, SaysPart}
-use Rattle.stk_host.proofs.Transcripts.Laws.{sent_append, grows_on, quiet_append}
+use Rattle.stk_host.proofs.Transcripts.Laws.{sent_append, grows_on, quiet_append, taken_quiet, none_append, none_behind}
 
 pub says_more : (x y : List ℕ) (o p q : Transcript) → Says x o p → Grows p (Sent y ∷ []) q → Says (x ++ y) o q
 says_more x y o p q says g = record {
   during = says.during ++ Sent y ∷ [];
   grows = grows_on o p q says.during (Sent y ∷ []) says.grows g;
-  quiet = quiet_append says.during (Sent y ∷ []) says.quiet tt;
+  quiet = quiet_append says.during (Sent y ∷ []) says.none_taken says.quiet tt;
+  none_taken = none_append says.during (Sent y ∷ []) says.none_taken tt;
   bytes_sent = rw (sent_append says.during (Sent y ∷ []), append-nil y, says.bytes_sent) refl;
 }
-
-pub says_still : (x : List ℕ) (o p q : Transcript) → Says x o p → Grows p [] q → Says x o q
-says_still x o p q says g = rw (g ∙ append-nil p) says
 
 -- one more part
 pub says_part : (bytes : List ℕ) (n m : ℕ) (part : List ℕ) (o p q : Transcript) → Says (take n bytes) o p
@@ -25,15 +23,51 @@ pub says_part : (bytes : List ℕ) (n m : ℕ) (part : List ℕ) (o p q : Transc
 says_part bytes n m part o p q says is g =
     rw (take-add n m bytes, ← is) (says_more (take n bytes) (take m part) o p q says g)
 
--- the first `n` bytes were sent, and not all
-pub part_of : (bytes : List ℕ) (n : ℕ) (o q : Transcript) → n < length bytes → Says (take n bytes) o q
-    → SaysPart bytes o q
-part_of bytes n o q few says = record {
-  part = take n bytes;
-  unsent = drop n bytes;
-  bytes_are = sym (take-append-drop n bytes);
-  not_whole = rw length-drop (omega arith);
-  says = says;
+-- what a failed send didn't take
+some_unsent : (last : Transcript) (bytes unsent : List ℕ) → IsTaken last → NoneTaken last
+    → bytes ≡ sent last ++ unsent → 0 < length bytes → 0 < length unsent
+some_unsent [] bytes unsent taken none is some = subst (λ bs. 0 < length bs) is some
+some_unsent (Taken part ∷ []) bytes unsent taken none is some = absurd none
+some_unsent last bytes unsent taken none is some = absurd taken
+
+-- the first `n` bytes were sent, and the send of the others failed
+pub part_of : (bytes : List ℕ) (n : ℕ) (part : List ℕ) (o p q : Transcript) → n < length bytes
+    → Says (take n bytes) o p → part ≡ drop n bytes → TakesPart part p q → SaysPart bytes o q
+part_of bytes n part o p q few says is t =
+    let some : 0 < length part = rw (is, length-drop) (omega arith) in
+    record {
+      part = take n bytes ++ sent t.last;
+      unsent = t.unsent;
+      bytes_are = sym (take-append-drop n bytes)
+          ∙ (ap (λ bs. take n bytes ++ bs) (sym is ∙ t.bytes_are) ∙ sym (append_assoc (take n bytes) (sent t.last) t.unsent));
+      some = omega arith;
+      during = says.during ++ t.last;
+      grows = grows_on o p q says.during t.last says.grows t.grows;
+      quiet = quiet_append says.during t.last says.none_taken says.quiet (taken_quiet t.last t.is_taken);
+      bytes_sent = sent_append says.during t.last ∙ ap (λ bs. bs ++ sent t.last) says.bytes_sent;
+      not_whole = λ none. some_unsent t.last part t.unsent t.is_taken (none_behind says.during t.last none) t.bytes_are some;
+    }
+
+-- nothing was taken
+pub takes_none : (bytes : List ℕ) (old new : Transcript) → new ≡ old → TakesPart bytes old new
+takes_none bytes old new is = record {
+  last = [];
+  is_taken = tt;
+  unsent = bytes;
+  bytes_are = refl;
+  grows = is ∙ sym (append-nil old);
+}
+
+-- a failed send of the first bytes alone
+pub takes_first : (bytes : List ℕ) (n : ℕ) (old new : Transcript) → TakesPart (take n bytes) old new
+    → TakesPart bytes old new
+takes_first bytes n old new t = record {
+  last = t.last;
+  is_taken = t.is_taken;
+  unsent = t.unsent ++ drop n bytes;
+  bytes_are = sym (take-append-drop n bytes)
+      ∙ (ap (λ bs. bs ++ drop n bytes) t.bytes_are ∙ append_assoc (sent t.last) t.unsent (drop n bytes));
+  grows = t.grows;
 }
 
 -- a link that has failed since an earlier time with the same count

@@ -1,22 +1,37 @@
 -- What a writer with known bytes has taken, and a reader with known bytes has given.
-use Rattle.std.proofs.Common.{◌≡◌, ◌∙◌, ℕ, List, [], ◌∷◌, ◌++◌, take, Option, None, Some, append_assoc, append-nil, rules}
-use Rattle.std.proofs.KnownBytes.{Consumes-nil, Consumes-kept}
+use Rattle.std.proofs.Common.{◌≡◌, ℕ, List, [], ◌∷◌, ◌++◌, ◌≤◌, take, drop, Option, refl, sym, ◌∙◌, subst, append_assoc, append-nil, take-append-drop, rules}
+use Rattle.std.proofs.KnownBytes.{Appends-nil, Appends-kept, Consumes-nil, Consumes-kept}
 use Rattle.std.specs.Io.KnownBytes.{Keeps, Appends, Consumes}
 use Rattle.stk_host.specs.declared.link.Heard.{Heard}
 use Rattle.stk_host.specs.declared.link.Heard.TheVariants as hears
-use Rattle.stk_host.specs.Links.{StreamState, IsTrueSince, HearsKnown, AppendsPrefix}
+use Rattle.stk_host.specs.Links.{StreamState, IsTrueSince, TakesKnown, HearsKnown}
 use Rattle.stk_host.specs.Tape.{bytes_of}
-use Rattle.stk_host.specs.Transcript.{Sent, Got, items_of}
-use Rattle.stk_host.proofs.Transcripts.Laws.{sent_append, heard_append}
+use Rattle.stk_host.specs.Transcript.{Transcript, Sent, Taken, Got, heard, items_of}
+use Rattle.stk_host.proofs.Transcripts.Laws.{sent_append, heard_append, heard_quiet, taken_quiet}
 use Rattle.stk_host.proofs.Tapes.Answers.{bytes_of_append, bytes_of_on_tape}
 
--- a prefix of the bytes was written, and then nothing more
-pub wrote_prefix : (a b c : Option (List ℕ)) (prefix back bytes : List ℕ) → prefix ++ back ≡ bytes → Appends a b prefix
-    → Keeps b c → AppendsPrefix a c bytes
-wrote_prefix None b c prefix back bytes is p q = (prefix, (back, is), tt)
-wrote_prefix (Some x) None c prefix back bytes is p q = absurd p
-wrote_prefix (Some x) (Some y) None prefix back bytes is p q = absurd q
-wrote_prefix (Some x) (Some y) (Some z) prefix back bytes is p q = (prefix, (back, is), q ∙ p)
+-- the writer took the first bytes and nothing more, and the send failed
+pub takes_known : (bytes : List ℕ) (n : ℕ) (before now : Transcript) (a b c : Option (List ℕ))
+    → now ≡ before ++ Taken (take n bytes) ∷ [] → Appends a b (take n bytes) → Keeps b c
+    → TakesKnown bytes before now a c
+takes_known bytes n before now a b c is took keeps = record {
+  takes = record {
+    last = Taken (take n bytes) ∷ [];
+    is_taken = tt;
+    unsent = drop n bytes;
+    bytes_are = rw (append-nil (take n bytes)) (sym (take-append-drop n bytes));
+    grows = is;
+  };
+  took = subst (Appends a c) (sym (append-nil (take n bytes))) (Appends-kept a b c (take n bytes) took keeps);
+}
+
+-- it took nothing
+pub takes_nothing : (bytes : List ℕ) (before now : Transcript) (a b : Option (List ℕ)) → now ≡ before → Keeps a b
+    → TakesKnown bytes before now a b
+takes_nothing bytes before now a b is keeps = record {
+  takes = record { last = []; is_taken = tt; unsent = bytes; bytes_are = refl; grows = is ∙ sym (append-nil before) };
+  took = Appends-kept a a b [] (Appends-nil a) keeps;
+}
 
 -- what stays as it was lost nothing
 pub lost_none : (a b : Option (List ℕ)) → Keeps a b → Consumes a b []
@@ -41,6 +56,22 @@ module _ {R W : Type 0} (remaining : R → Option (List ℕ)) (contents : W → 
       → b.transcript ≡ a.transcript ++ Sent bytes ∷ [] → Appends (contents a.writer) (contents b.writer) bytes
       → IsTrueSince remaining contents a b
   true_of_sent a b bytes reader failures transcript took = search rules
+
+  pub true_of_taken : (a b : StreamState R W) (bytes : List ℕ) → b.reader ≡ a.reader → a.failures ≤ b.failures
+      → TakesKnown bytes a.transcript b.transcript (contents a.writer) (contents b.writer)
+      → IsTrueSince remaining contents a b
+  true_of_taken a b bytes reader failures t =
+      let last = t.takes.last in
+      let none : heard last ≡ [] = heard_quiet last (taken_quiet last t.takes.is_taken) in
+      record {
+        during = last;
+        grows = t.takes.grows;
+        gave = subst (λ r. Consumes (remaining a.reader) (remaining r) (bytes_of (heard last))) (sym reader)
+            (subst (λ tape. Consumes (remaining a.reader) (remaining a.reader) (bytes_of tape)) (sym none)
+            (Consumes-nil (remaining a.reader)));
+        took = t.took;
+        counted = failures;
+      }
 
   pub true_of_heard : (a b : StreamState R W) (h : Heard) (buffer : List ℕ) → b.writer ≡ a.writer
       → b.failures ≡ a.failures

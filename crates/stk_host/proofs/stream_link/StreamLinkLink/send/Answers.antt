@@ -1,6 +1,6 @@
-use Rattle.std.proofs.Common.{take, refl, subst}
+use Rattle.std.proofs.Common.{◌≤◌, Some, take, refl, subst, rules}
 use Rattle.stk_host.specs.Links.{StreamState, IsTrueSince}
-use Rattle.stk_host.proofs.Transcripts.Streams.{true_on, true_of_sent}
+use Rattle.stk_host.proofs.Transcripts.Streams.{true_on, true_of_sent, true_of_taken}
 use Rattle.stk_host.proofs.stream_link.StreamLinkLink.send.Goals as goal
 
 pub returns-in-Ok-clause-comes : goal.returns-in-Ok-clause-comes
@@ -10,11 +10,26 @@ returns-in-Ok-clause-comes g c = λ start since.
       writer = c.put_bytes.new.writer;
       failures = c.self.inside.failures;
       last_error = c.self.inside.last_error;
-      transcript = c.sent-self-inside.result.items;
+      transcript = c.put_bytes.new.history.items;
     } in
     let bytes = take c.in-Ok.count c.args.bytes.now in
     true_on g.R.Read.remaining g.W.Write.contents start c.args.self.now after since
     (subst (λ (mid : StreamState g.row.R.Denot g.row.W.Denot). IsTrueSince g.R.Read.remaining g.W.Write.contents mid
     after) c.self.view_is
-    (true_of_sent g.R.Read.remaining g.W.Write.contents _ after bytes refl refl c.sent-self-inside.ensures
+    (true_of_sent g.R.Read.remaining g.W.Write.contents _ after bytes refl refl c.in-Ok.ensures.sent
     c.in-Ok.ensures.ok))
+
+pub returns-in-Err-clause-comes : goal.returns-in-Err-clause-comes
+returns-in-Err-clause-comes g c = λ start since.
+    let after : StreamState g.row.R.Denot g.row.W.Denot = record {
+      reader = c.self.inside.reader;
+      writer = c.put_bytes.new.writer;
+      failures = c.saturating_add-self-inside.result;
+      last_error = Some c.kind.result;
+      transcript = c.put_bytes.new.history.items;
+    } in
+    let counted : c.self.inside.failures ≤ c.saturating_add-self-inside.result = search rules in
+    true_on g.R.Read.remaining g.W.Write.contents start c.args.self.now after since
+    (subst (λ (mid : StreamState g.row.R.Denot g.row.W.Denot). IsTrueSince g.R.Read.remaining g.W.Write.contents mid
+    after) c.self.view_is
+    (true_of_taken g.R.Read.remaining g.W.Write.contents _ after c.args.bytes.now refl counted c.in-Err.ensures.taken))
