@@ -57,7 +57,7 @@ pub struct Contents {
 /// was read before the fault is lost.
 ///
 /// ```text
-/// let mut desk = MemDesk::new(alloc);
+/// let mut desk = MemDesk::empty(alloc);
 /// desk.put("a.hex", b":00000001FF\n")?;
 /// let read = read_file(alloc, &mut desk, "a.hex", 65_536)?;
 /// assert!(rt; read.ended && read.bytes.as_slice() == b":00000001FF\n".as_slice());

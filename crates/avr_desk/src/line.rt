@@ -181,7 +181,7 @@ fn print_line<D: Desk>(desk: &mut D, mark: &str, pieces: &[Piece<'_>]) -> Result
 /// `Failed` if the desk fails; a prefix of the line was then printed.
 ///
 /// ```text
-/// let mut desk = MemDesk::new(alloc);
+/// let mut desk = MemDesk::empty(alloc);
 /// let signature = Piece::Signature([0x1E, 0x95, 0x0F]);
 /// print_information(&mut desk, &[Piece::Text("device signature = "), signature])?;
 /// assert!(rt; desk.messages() == b"avrstk: device signature = 1E 95 0F\n".as_slice());
@@ -202,7 +202,7 @@ pub fn print_information<D: Desk>(desk: &mut D, pieces: &[Piece<'_>]) -> Result<
 /// Those of [`print_information`].
 ///
 /// ```text
-/// let mut desk = MemDesk::new(alloc);
+/// let mut desk = MemDesk::empty(alloc);
 /// print_warning(&mut desk, &[Piece::Text("a.hex"), Piece::Text(": no end record")])?;
 /// assert!(rt; desk.messages() == b"avrstk: warning: a.hex: no end record\n".as_slice());
 /// ```
@@ -222,7 +222,7 @@ pub fn print_warning<D: Desk>(desk: &mut D, pieces: &[Piece<'_>]) -> Result<(), 
 /// Those of [`print_information`].
 ///
 /// ```text
-/// let mut desk = MemDesk::new(alloc);
+/// let mut desk = MemDesk::empty(alloc);
 /// let pieces = [Piece::Text("command "), Piece::Byte(0x10), Piece::Text(": bad answer")];
 /// print_error(&mut desk, &pieces)?;
 /// assert!(rt; desk.messages() == b"avrstk: error: command 10: bad answer\n".as_slice());

@@ -36,7 +36,7 @@ impl<'a> Message<'a> {
     /// Creates a message of these pieces, at most eight.
     ///
     /// ```text
-    /// let mut desk = MemDesk::new(alloc);
+    /// let mut desk = MemDesk::empty(alloc);
     /// let message = Message::new(&[Piece::Text("command "), Piece::Byte(0x10), Piece::Text(": bad answer")]);
     /// assert_eq!(rt; refuse(&mut desk, &message), 1);
     /// assert!(rt; desk.messages() == b"avrstk: error: command 10: bad answer\n".as_slice());

@@ -40,7 +40,7 @@ fn write_some<D: Desk>(desk: &mut D, stream: Stream, bytes: &[u8]) -> Result<usi
 /// bytes was then written.
 ///
 /// ```text
-/// let mut desk = MemDesk::new(alloc);
+/// let mut desk = MemDesk::empty(alloc);
 /// write_all(&mut desk, Stream::Output, b"0xe2\n")?;
 /// assert!(rt; desk.output() == b"0xe2\n".as_slice());
 /// assert!(rt; write_all(&mut desk, Stream::File, b"0xe2\n").is_err());

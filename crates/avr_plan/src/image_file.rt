@@ -181,7 +181,7 @@ fn read_open<D: Desk>(
 /// within the limit are judged; if none has a fault, it is `BadFile::TooLong`.
 ///
 /// ```text
-/// let mut desk = MemDesk::new(alloc);
+/// let mut desk = MemDesk::empty(alloc);
 /// desk.put("app.hex", b":04000000010203")?;
 /// let read = read_image(alloc, &mut desk, "app.hex", Format::Auto, 32_768);
 /// assert!(rt; matches!(read, Err(ReadFault::Image(_)))); // the line is cut

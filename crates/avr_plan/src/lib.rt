@@ -5,7 +5,7 @@
 //! a call returns that function of the openings that passed.
 //!
 //! ```text
-//! let mut desk = MemDesk::new(alloc);
+//! let mut desk = MemDesk::empty(alloc);
 //! let settings = Settings::for_link(alloc, "nobody")?;
 //! let planned = plan(alloc, &settings, &mut desk);
 //! assert!(rt; planned.err() == Some(1)); // the status, after the line of the refusal

@@ -73,7 +73,7 @@ pub fn given_parts<D: Desk>(
 /// it.
 ///
 /// ```text
-/// let mut desk = MemDesk::new(alloc);
+/// let mut desk = MemDesk::empty(alloc);
 /// let parts = given_parts(alloc, &mut desk, &None)?;
 /// assert!(rt; chosen_part(&mut desk, &parts, "m328p").is_ok());
 /// assert!(rt; matches!(chosen_part(&mut desk, &parts, "nobody"), Err(1)));

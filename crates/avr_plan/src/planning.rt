@@ -162,7 +162,7 @@ fn update_tasks<D: Desk>(
 /// ```text
 /// let mut settings = Settings::for_link(alloc, "m328p")?;
 /// settings.updates.push(parse_update(alloc, "flash:w:a.hex")?)?;
-/// let mut desk = MemDesk::new(alloc);
+/// let mut desk = MemDesk::empty(alloc);
 /// let planned = plan_or_fault(alloc, &settings, &mut desk);
 /// let absent = ReadFault::File(FileFault::Absent);
 /// assert!(rt; planned.err() == Some(PlanFault::Update(0, TaskFault::File(absent))));

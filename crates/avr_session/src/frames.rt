@@ -119,7 +119,7 @@ fn erase_frames(switches: Switches, tasks: &[Task]) -> u64
 ///
 /// ```text
 /// let settings = Settings::for_link(alloc, "m328p")?;
-/// let Ok(plan) = plan(alloc, &settings, &mut MemDesk::new(alloc)) else {
+/// let Ok(plan) = plan(alloc, &settings, &mut MemDesk::empty(alloc)) else {
 ///     panic!(rt; "the part is built in");
 /// };
 /// // to sign on, to enter programming mode, three bytes of the signature, to leave

@@ -112,7 +112,7 @@ impl<'a, D: Desk, L: Link> Session<'a, D, L> {
 /// which device stopped a session, watch both with `WatchedLink` and `WatchedDesk`.
 ///
 /// ```text
-/// let mut desk = MemDesk::new(alloc);
+/// let mut desk = MemDesk::empty(alloc);
 /// let settings = Settings::for_link(alloc, "m328p")?;
 /// let Ok(plan) = plan(alloc, &settings, &mut desk) else {
 ///     panic!(rt; "the part is built in");

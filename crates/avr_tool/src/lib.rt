@@ -12,7 +12,7 @@
 //! for word in ["avrstk", "-p", "m328p", "-P", "emu:chip.bin"] {
 //!     words.push(String::from_str(alloc, word)?)?;
 //! }
-//! let mut desk = MemDesk::new(alloc);
+//! let mut desk = MemDesk::empty(alloc);
 //! let mut link = StreamLink::new(b"".as_slice(), Vec::new(alloc));
 //! let settings = read_settings(alloc, &read_words(alloc, words.as_slice())?)?;
 //! let status = match &settings.port {
