@@ -42,7 +42,7 @@ fn matching(word: u64, wanted: bool) -> u64
 }
 
 /// Returns the least address from `from` on, below `end`, whose presence is `wanted`; or `end`.
-pub(crate) fn find(words: &[u64], wanted: bool, from: usize, end: usize) -> usize
+pub(crate) fn first_place(words: &[u64], wanted: bool, from: usize, end: usize) -> usize
     requires ordered { from ≤ end }
     requires within { end ≤ length words.now * 64 }
     requires below { end < 2 ^ 32 }

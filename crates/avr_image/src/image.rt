@@ -10,7 +10,7 @@ ghost use Rattle.std.specs.List.{enumerate_from};
 ghost use Rattle.avr_image.specs.Dense.{with_span};
 ghost use Rattle.avr_image.specs.Overlap.{AreDisjoint, IsFirstOverlap, hold_both};
 
-use crate::bits::{find, is_set, mark, mark_span, unmark};
+use crate::bits::{first_place, is_set, mark, mark_span, unmark};
 use crate::fault::ImageFault;
 use crate::runs::Runs;
 use std::alloc::{AllocError, Global};
@@ -379,7 +379,7 @@ impl Image {
     {
         let size = self.bytes.len();
         let from = size.min(addr as usize);
-        let place = find(self.words.as_slice(), true, from, size);
+        let place = first_place(self.words.as_slice(), true, from, size);
         if place < size {
             Some(place as u32)
         } else {
@@ -401,7 +401,7 @@ impl Image {
         let size = self.bytes.len();
         let from = size.min(start as usize);
         let end = from + (size - from).min(count as usize);
-        find(self.words.as_slice(), true, from, end) < end
+        first_place(self.words.as_slice(), true, from, end) < end
     }
 
     /// Returns the highest byte address that holds a byte.
@@ -463,7 +463,7 @@ impl Image {
         if addr as usize >= size {
             return addr;
         }
-        find(
+        first_place(
             self.words.as_slice(),
             false,
             addr as usize,

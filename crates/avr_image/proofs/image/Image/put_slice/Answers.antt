@@ -1,8 +1,5 @@
-use Rattle.std.proofs.Common.{◌<◌, ◌+◌, ◌≤◌, ◌∙◌, ap, arith, ℕ, List, Option, length}
+use Rattle.std.proofs.Common.{◌<◌, ◌+◌, ◌≤◌, arith, length, rules}
 use Rattle.std.proofs.lemmas.Bool.Decides.{nat_tests}
-use Rattle.std.specs.List.{enumerate_from}
-use Rattle.avr_image.specs.Image.{laid_over}
-use Rattle.avr_image.specs.Dense.{dense_image}
 use Rattle.avr_image.proofs.Fields.Shown.{sized, length_shown}
 use Rattle.avr_image.proofs.Places.Laid.{shown-pasted, kept-pasted, length-pasted, fits_yes, fits_no}
 use Rattle.avr_image.proofs.image.Image.put_slice.Goals as goal
@@ -15,8 +12,7 @@ invariant_of-self c =
     let words = c.self.inside.words.items in
     let bytes = c.self.inside.bytes.items in
     let some : 0 < length c.args.bytes.now = grind (arith, nat_tests, c.is_empty.ensures, c.if-is_empty.false) in
-    let room : c.args.addr + length c.args.bytes.now ≤ length bytes =
-    omega (arith, some, c.len-size.ensures, c.saturating_sub.ensures, c.if-bytes-saturating_sub.false) in
+    let room : c.args.addr + length c.args.bytes.now ≤ length bytes = search rules in
     rw c.paste.ensures
     (kept-pasted words c.mark_span.new.words.items bytes c.args.bytes.now c.args.addr room c.mark_span.ensures.marked
     c.mark_span.ensures.len
@@ -26,15 +22,7 @@ pub returns-clause-judged : goal.returns-clause-judged
 returns-clause-judged c = grind (arith, nat_tests, sized, fits_yes)
 
 pub returns-clause-laid : goal.returns-clause-laid
-returns-clause-laid c =
-    let words = c.self.inside.words.items in
-    let bytes = c.self.inside.bytes.items in
-    let some : 0 < length c.args.bytes.now = grind (arith, nat_tests, c.is_empty.ensures, c.if-is_empty.false) in
-    let room : c.args.addr + length c.args.bytes.now ≤ length bytes =
-    omega (arith, some, c.len-size.ensures, c.saturating_sub.ensures, c.if-bytes-saturating_sub.false) in
-    ap (dense_image c.mark_span.new.words.items) c.paste.ensures
-    ∙ shown-pasted words c.mark_span.new.words.items bytes c.args.bytes.now c.args.addr room c.mark_span.ensures.marked
-    ∙ ap (λ (image : List (Option ℕ)). laid_over image (enumerate_from c.args.addr c.args.bytes.now)) c.self.view_is
+returns-clause-laid c = grind (arith, length, nat_tests, shown-pasted)
 
 pub returns-clause-size : goal.returns-clause-size
 returns-clause-size c = grind (arith, nat_tests, length_shown, length-pasted, sized)

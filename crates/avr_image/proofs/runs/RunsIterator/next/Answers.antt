@@ -1,8 +1,6 @@
 use Rattle.std.proofs.lemmas.Bool.Decides.{nat_tests}
-use Rattle.std.proofs.Common.{◌∙◌, sym, ap, arith, ℕ, ◌∷◌, List, length, drop}
-use Rattle.std.specs.List.{slice_range}
+use Rattle.std.proofs.Common.{◌∙◌, sym, ap, arith, length, drop, rules}
 use Rattle.avr_image.specs.Image.{run_end}
-use Rattle.avr_image.specs.Runs.{runs}
 use Rattle.avr_image.proofs.Walks.Runs.{runs-none, next_run, Stepped, length-filled}
 use Rattle.avr_image.proofs.Walks.Places.{next_held}
 use Rattle.avr_image.proofs.runs.RunsIterator.next.Goals as goal
@@ -25,18 +23,9 @@ slice_bounds-result-end c =
     omega (arith, found.within, ap length c.as_slice.ensures.filled, length-filled image 0 (length image))
 
 pub returns-clause-steps : goal.returns-clause-steps
-returns-clause-steps c =
-    let image = c.self.inside.image.now in
-    let addr : ℕ = c.in-Some.addr in
-    let end : ℕ = c.run_from-end.result in
-    let found : Stepped c.self.inside.addr addr end image =
-    next_run c.self.inside.addr addr end image (sym c.first_from.ensures ∙ c.in-Some.is)
-    (c.run_from-end.ensures ∙ ap (run_end image addr) c.size.ensures) in
-    sym c.self.view_is ∙ found.is
-    ∙ ap (λ (bytes : List ℕ). (addr, slice_range bytes addr end) ∷ runs end (drop end image))
-    (sym c.as_slice.ensures.filled)
+returns-clause-steps c = grind (arith, next_run, drop)
 
 pub returns-clause-goes : goal.returns-clause-goes
 returns-clause-goes c =
     let fewer = ap length (returns-clause-steps c) in
-    record { on = λ h. (tt, tt, omega (arith, fewer)); keeps = tt; rests = λ h. tt }
+    search rules

@@ -1,6 +1,6 @@
 use Rattle.std.proofs.Common.{◌≡◌, ◌-◌, ◌<◌, ◌≤◌, ℕ, not}
 use Rattle.avr_image.specs.Present.{is_present}
-use Rattle.avr_image.proofs.bits.find.Given as goal
+use Rattle.avr_image.proofs.bits.first_place.Given as goal
 
 abbrev pub decreases-loop-at : goal.decreases-loop-at
 decreases-loop-at l = l.end - l.at
