@@ -365,6 +365,8 @@ fn faults_are_told_apart(rt: HostRuntime) -> Result<(), Fail> {
     if let Err(fault) = &refused {
         assert_eq!(rt; fault.part(), Some("x1"));
         assert_eq!(rt; fault.fault(), PartFault::Missing(Field::Signature));
+        let shown = format!(in rt.alloc(); "{fault}")?;
+        assert_eq!(rt; shown.as_str(), "part x1: signature is missing");
     }
     if let Err(fault) = parse_part_file(rt.alloc(), b"parts = 3") {
         assert_eq!(rt; fault.part(), None);
