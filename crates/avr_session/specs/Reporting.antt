@@ -20,7 +20,7 @@ pub record SaysPrefix (cause : Cause) (old new : DeskState) (outputs : List Outp
   pub begun : List OutputEvent
   pub later : List OutputEvent
   pub outputs_are : outputs ≡ whole ++ later
-  pub place : StopsAt cause (map Said whole) (map Said begun) (map Said later)
+  pub place : StopsAt cause [] (map Said whole) (map Said begun) (map Said later)
   pub by_desk : IsOfDesk cause
   pub kept : Passes (after_all (whole ++ begun)) old new
 

@@ -7,7 +7,7 @@ use Rattle.avr_desk.specs.Fault.{Follows, HasSameCounts, HasFailedAt}
 use Rattle.avr_desk.specs.declared.stream.Stream.TheVariants.{File}
 use Rattle.stk_host.specs.Transcript as link
 use Rattle.stk_host.specs.Tape.{on_tape}
-use Rattle.stk_host.specs.Transcript.{Transcript, LinkState, heard, Grows}
+use Rattle.stk_host.specs.Transcript.{Transcript, LinkState, NoneTaken, heard, Grows}
 use Rattle.stk_host.specs.Dialog.{Dialog, Event, Frame, Said, played, outputs}
 use Rattle.stk_host.specs.Play.{Progress, Plays, Breaks}
 use Rattle.avr_desk.specs.Lines.{error, memory_line, not_created_pieces, not_written_pieces}
@@ -57,14 +57,15 @@ is_error output = false
 abbrev pub tells_fault : List OutputEvent → Bool
 tells_fault outputs = list_any is_error outputs
 
--- Only a prefix of the next frame was sent, perhaps nothing.
-pub record AtFrame (begun later : List (Event OutputEvent)) : Type 0 where
+-- A prefix of the next frame was sent, perhaps nothing. It was sent whole only if the send that failed had taken its
+-- end.
+pub record AtFrame (during : Transcript) (begun later : List (Event OutputEvent)) : Type 0 where
   pub done : Bytes
   pub unsent : Bytes
   pub more : List (Event OutputEvent)
   pub due : later ≡ Frame (done ++ unsent) ∷ more
   pub part : begun ≡ Frame done ∷ []
-  pub not_whole : 0 < length unsent
+  pub not_whole : NoneTaken during → 0 < length unsent
 
 -- A prefix of the next bytes was printed or written.
 pub record AtPart (event : Bytes → OutputEvent) (begun later : List (Event OutputEvent)) : Type 0 where
@@ -86,14 +87,15 @@ CreatesLast file whole = (before : List (Event OutputEvent)) × (whole ≡ befor
 
 -- A cause stops a run after the whole events, in the next one, of which a part may have happened. Bytes are written
 -- to a file that was created just before, or to standard output, whose name is `-`.
-abbrev pub StopsAt : Cause → List (Event OutputEvent) → List (Event OutputEvent) → List (Event OutputEvent) → Type 0
-StopsAt OfSending whole begun later = AtFrame begun later
-StopsAt OfListening whole begun later = (begun ≡ []) × (later ≡ [])
-StopsAt (OfFile file NotCreated) whole begun later = AtCreation file begun later
-StopsAt (OfFile file NotWritten) whole begun later =
+abbrev pub StopsAt : Cause → Transcript → List (Event OutputEvent) → List (Event OutputEvent)
+    → List (Event OutputEvent) → Type 0
+StopsAt OfSending during whole begun later = AtFrame during begun later
+StopsAt OfListening during whole begun later = NoneTaken during × (begun ≡ []) × (later ≡ [])
+StopsAt (OfFile file NotCreated) during whole begun later = AtCreation file begun later
+StopsAt (OfFile file NotWritten) during whole begun later =
     (CreatesLast file whole × AtPart Writes begun later) ⊎ ((file ≡ codes "-") × AtPart Outs begun later)
-StopsAt OfPrinting whole begun later = AtPart Line begun later
-StopsAt OfMemory whole begun later = begun ≡ []
+StopsAt OfPrinting during whole begun later = AtPart Line begun later
+StopsAt OfMemory during whole begun later = begun ≡ []
 
 -- If listening failed, all events so far have happened, and the run waits.
 abbrev pub Listens : {A : Type 0} → Cause → Option A → Type 0
@@ -164,7 +166,7 @@ pub record BrokeOff {R : Type 0} (dialog : Dialog OutputEvent R) (before : Progr
   pub told : Bytes
   pub grows : Grows old.link.transcript during new.link.transcript
   pub breaks : Breaks SaidPart dialog before during shown
-  pub place : StopsAt cause breaks.prefix.whole breaks.prefix.begun breaks.prefix.later
+  pub place : StopsAt cause during breaks.prefix.whole breaks.prefix.begun breaks.prefix.later
   pub listens : Listens cause (played dialog before.next (on_tape before.unread ++ heard during)).outcome
   pub stops : StopsBehind terms old new (outputs shown) cause told
   pub lacks : cause ≡ OfMemory → Lacks before during shown

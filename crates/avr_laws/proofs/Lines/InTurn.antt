@@ -8,10 +8,11 @@ use Rattle.stk_frame.specs.Cut.{frames, is_frame, IsPiece}
 use Rattle.stk_frame.proofs.Cuts.{cut_none, size_stays}
 use Rattle.stk_frame.proofs.Laws.{cut_first, frame_is_piece, frame_is_good}
 use Rattle.stk_host.specs.Tape.{Tape, Reading, answer, on_tape}
-use Rattle.stk_host.specs.Transcript.{Transcript, Sent, Got, sent, heard}
+use Rattle.stk_host.specs.Transcript.{Transcript, Sent, Taken, Got, sent, heard}
 use Rattle.stk_host.specs.Dialog.{Dialog, Done, Say, Ask, Event, Frame, Said, Played, played, by_answer, next, bytes_sent, outputs, frames_in}
 use Rattle.stk_host.specs.Play.{Progress, progress_at, IsDue, TurnsFrom, InTurn, Plays, IsPrefixOfEvents, IsBegun, IsPrefixOf}
 use Rattle.stk_host.proofs.Transcripts.InDialogs.{bytes_append}
+use Rattle.stk_host.proofs.Transcripts.Laws.{not_behind}
 use Rattle.stk_emu.specs.declared.fate.Fate.{Fate}
 use Rattle.stk_emu.specs.Programmer.{Programmer}
 use Rattle.stk_emu.specs.Device.{device}
@@ -74,6 +75,7 @@ due_at d n tape bytes [] after items turns =
     search (rules, append-nil)
 due_at d n tape bytes (Sent more ∷ before) after items turns =
     search (rules, append_assoc, due_at d n tape (bytes ++ more) before after items turns)
+due_at d n tape bytes (Taken more ∷ before) after items turns = absurd (not_behind before after items turns)
 due_at d n tape bytes (Got got ∷ before) after items turns =
     search (rules, append_assoc, due_at d n (tape ++ got) bytes before after items turns.1)
 

@@ -180,14 +180,14 @@ quiet_by : (begun : List OutputEvent) (events : List (Event OutputEvent)) → ma
     → tells_fault (outputs events) ≡ false → tells_fault begun ≡ false
 quiet_by begun events is none = ap tells_fault (outputs_by begun events is) ∙ none
 
-of_frame : (begun later : List OutputEvent) → AtFrame (map Said begun) (map Said later) → tells_fault begun ≡ false
+of_frame : (begun later : List OutputEvent) → AtFrame [] (map Said begun) (map Said later) → tells_fault begun ≡ false
 of_frame begun later x = quiet_by begun (Frame x.done ∷ []) x.part refl
 
 begun_none : (cause : Cause) (whole begun later : List OutputEvent)
-    → StopsAt cause (map Said whole) (map Said begun) (map Said later) → tells_fault later ≡ false
+    → StopsAt cause [] (map Said whole) (map Said begun) (map Said later) → tells_fault later ≡ false
     → tells_fault begun ≡ false
 begun_none OfSending whole begun later x none = of_frame begun later x
-begun_none OfListening whole begun later x none = quiet_by begun [] x.0 refl
+begun_none OfListening whole begun later x none = quiet_by begun [] x.1 refl
 begun_none (OfFile file NotCreated) whole begun later x none = quiet_by begun [] x.none refl
 begun_none (OfFile file NotWritten) whole begun later (inl x) none =
     quiet_by begun (Said (Writes x.1.done) ∷ []) x.1.part refl

@@ -7,7 +7,7 @@ use Rattle.avr_desk.specs.Record.{Record, DeskState, Passes, after_err}
 use Rattle.stk_host.specs.declared.fault.Broken.{Broken}
 use Rattle.stk_host.specs.declared.fault.Broken.TheVariants.{Send, Recv}
 use Rattle.stk_host.specs.Tape.{Tape, on_tape}
-use Rattle.stk_host.specs.Transcript.{Transcript, LinkState, Grows, heard, sent}
+use Rattle.stk_host.specs.Transcript.{Transcript, LinkState, NoneTaken, Grows, heard, sent}
 use Rattle.stk_host.specs.Dialog.{Dialog, Done, ◌>>=◌, lifted, Event, Said, Played, played, bytes_sent, outputs}
 use Rattle.stk_host.specs.Play.{Progress, InTurn, played_over, PlaysOver, FailsOver}
 use Rattle.stk_host.specs.Reach.{TranscriptLeads}
@@ -133,27 +133,29 @@ stops_in some all before o p q takes sound same said cause told stops =
     search (rules, or_assoc, list_any-append, follows_on, follows_same)
 
 -- the events that happened, up to where the cause stopped them
-record Placed (cause : Cause) (shown events : List (Event OutputEvent)) : Type 0 where
+record Placed (cause : Cause) (during : Transcript) (shown events : List (Event OutputEvent)) : Type 0 where
   whole : List (Event OutputEvent)
   begun : List (Event OutputEvent)
   later : List (Event OutputEvent)
   shown_is : shown ≡ whole ++ begun
   events_are : events ≡ whole ++ later
-  place : StopsAt cause whole begun later
+  place : StopsAt cause during whole begun later
 
-placed_behind : {cause : Cause} {shown events : List (Event OutputEvent)} (before : List (Event OutputEvent))
-    → Placed cause shown events → Placed cause (before ++ shown) (before ++ events)
-placed_behind {cause = cause} before f = record {
+placed_behind : {cause : Cause} {shown events : List (Event OutputEvent)} (first during : Transcript)
+    (before : List (Event OutputEvent)) → NoneTaken first
+    → Placed cause during shown events → Placed cause (first ++ during) (before ++ shown) (before ++ events)
+placed_behind {cause = cause} first during before none f = record {
   whole = before ++ f.whole;
   begun = f.begun;
   later = f.later;
   shown_is = ap (λ es. before ++ es) f.shown_is ∙ sym (append_assoc before f.whole f.begun);
   events_are = ap (λ es. before ++ es) f.events_are ∙ sym (append_assoc before f.whole f.later);
-  place = place_behind cause before f.whole f.begun f.later f.place;
+  place = place_behind cause first during before f.whole f.begun f.later none f.place;
 }
 
-placed_more : {cause : Cause} {shown events : List (Event OutputEvent)} (more : List (Event OutputEvent))
-    → (cause ≡ OfListening → more ≡ []) → Placed cause shown events → Placed cause shown (events ++ more)
+placed_more : {cause : Cause} {during : Transcript} {shown events : List (Event OutputEvent)}
+    (more : List (Event OutputEvent)) → (cause ≡ OfListening → more ≡ []) → Placed cause during shown events
+    → Placed cause during shown (events ++ more)
 placed_more {cause = cause} more none f = search (rules, append_assoc)
 
 -- this was reported of a cause, with no output before it
@@ -161,12 +163,13 @@ abbrev pub ToldBy : Terms → Cause → Devices → Devices → Type 0
 ToldBy terms cause o p = (told : List ℕ) × StopsBehind terms o p [] cause told × Passes (after_err told) o.desk p.desk
 
 module _ {R : Type 0} {dialog : Dialog OutputEvent R} {m : Progress} {o p : Devices} {terms : Terms} {L : Lacking} where
-  placed_of : (f : BrokeOff dialog m o p terms L) → Placed f.cause f.shown (played_over dialog m f.during).events
+  placed_of : (f : BrokeOff dialog m o p terms L) → Placed f.cause f.during f.shown (played_over dialog m f.during).events
   placed_of f =
       search rules
 
   broke_off : (during : Transcript) (shown : List (Event OutputEvent)) (cause : Cause) (told : List ℕ)
-      → Grows o.link.transcript during p.link.transcript → Placed cause shown (played_over dialog m during).events
+      → Grows o.link.transcript during p.link.transcript
+      → Placed cause during shown (played_over dialog m during).events
       → bytes_sent shown ≡ sent during → InTurn dialog m during
       → Listens cause (played_over dialog m during).outcome → StopsBehind terms o p (outputs shown) cause told
       → Passes (λ r. after_err told (after_all (outputs shown) r)) o.desk p.desk
@@ -188,7 +191,7 @@ module _ {R : Type 0} {dialog : Dialog OutputEvent R} {m : Progress} {o p : Devi
   -- before any output
   broke_silent : (during : Transcript) (shown : List (Event OutputEvent)) (cause : Cause) → outputs shown ≡ []
       → ToldBy terms cause o p → Grows o.link.transcript during p.link.transcript
-      → Placed cause shown (played_over dialog m during).events → bytes_sent shown ≡ sent during
+      → Placed cause during shown (played_over dialog m during).events → bytes_sent shown ≡ sent during
       → InTurn dialog m during → Listens cause (played_over dialog m during).outcome
       → (cause ≡ OfMemory → L m during shown) → BrokeOff dialog m o p terms L
   broke_silent during shown cause quiet some grows placed all_sent in_turn listens lacks =
@@ -209,8 +212,9 @@ broke_on {R = R} {x = x} {y = y} {q = q} {all = all} came why lack broke =
     ∙ came.leads.goes_on (heard broke.during) in
     broke_off (came.during ++ broke.during) (came.events ++ broke.shown) broke.cause broke.told
     (grows_on o.link.transcript p.link.transcript q.link.transcript came.during broke.during came.grows broke.grows)
-    (subst (λ (play : Played OutputEvent R). Placed broke.cause (came.events ++ broke.shown) play.events) (sym play)
-    (placed_behind came.events (placed_of broke))) whole.all_sent whole.in_turn
+    (subst (λ (play : Played OutputEvent R). Placed broke.cause (came.during ++ broke.during)
+    (came.events ++ broke.shown) play.events) (sym play)
+    (placed_behind came.during broke.during came.events came.leads.none_taken (placed_of broke))) whole.all_sent whole.in_turn
     (subst (λ (play : Played OutputEvent R). Listens broke.cause play.outcome) (sym play) broke.listens)
     (search (rules, outputs_append))
     (search (rules, kept_on, after_both))
@@ -257,7 +261,7 @@ broke_raised Recv {dialog = dialog} {m = m} f some =
       later = [];
       shown_is = none;
       events_are = sym g.shown_is ∙ none;
-      place = (refl, refl);
+      place = (g.none_taken, refl, refl);
     }) g.all_sent g.in_turn g.waits (λ is. absurd (cc))
 
 -- what follows a part of a dialog
@@ -291,7 +295,7 @@ module _ {A R : Type 0} (go_on : A → Dialog OutputEvent R) where
       let next : A → ℕ → Tape → Played OutputEvent R = λ r. played (go_on r) in
       let bound = sym (played_bind a go_on m.next (on_tape m.unread ++ heard f.during)) in
       broke_off f.during f.shown f.cause f.told f.grows
-      (subst (λ (play : Played OutputEvent R). Placed f.cause f.shown play.events) bound (placed_more
+      (subst (λ (play : Played OutputEvent R). Placed f.cause f.during f.shown play.events) bound (placed_more
       (continued play.outcome next).events (none_behind f.cause play.outcome next f.listens) (placed_of f)))
       f.breaks.all_sent (breaks_bind SaidPart go_on f.breaks).in_turn
       (search rules) (why (outputs f.shown) f.cause f.told f.stops) f.kept
@@ -350,7 +354,7 @@ module _ {R : Type 0} (xs : List OutputEvent) (dialog : Dialog OutputEvent R) (m
       let prefix = f.prefix in
       let shown : List OutputEvent = prefix.whole ++ prefix.begun in
       broke_off [] (map Said shown) f.cause f.told (grows_none o.transcript)
-      (subst (Placed f.cause (map Said shown)) (sym (says_events xs dialog m.next m.unread))
+      (subst (Placed f.cause [] (map Said shown)) (sym (says_events xs dialog m.next m.unread))
       (placed_more (played_over dialog m []).events (λ listens. absurd (desk_says f.cause prefix.by_desk listens))
       (search (rules, map_append)))) (no_bytes shown) tt (desk_listens f.cause (played_over (says xs dialog) m
       []).outcome prefix.by_desk)

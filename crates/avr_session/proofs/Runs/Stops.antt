@@ -1,26 +1,37 @@
 -- Where a run stops: what is before it and what follows it changes nothing.
-use Rattle.std.proofs.Common.{ℕ, ◌≡◌, ◌∙◌, List, [], ◌∷◌, ◌++◌, map, refl, sym, ap, append_assoc, take, drop, Option, inl, inr, codes, rules}
+use Rattle.std.proofs.Common.{ℕ, ◌≡◌, ◌∙◌, List, [], ◌∷◌, ◌++◌, map, refl, sym, ap, subst, append_assoc, take, drop, Option, inl, inr, codes, rules}
 use Rattle.std.proofs.lemmas.List.{take-append-drop}
 use Rattle.avr_desk.specs.Record.{DeskState, Passes, Bytes}
 use Rattle.avr_desk.specs.Stream.{SendsPart}
 use Rattle.avr_desk.specs.declared.stream.Stream.TheVariants.{File, Output, Messages}
 use Rattle.stk_host.specs.Dialog.{Event, Said, outputs}
+use Rattle.stk_host.specs.Transcript.{Transcript, NoneTaken}
+use Rattle.stk_host.proofs.Transcripts.Laws.{none_append, none_behind}
 use Rattle.avr_desk.specs.Said.{OutputEvent, Line, Creates, Writes, Outs, after_all}
 use Rattle.avr_desk.proofs.Stages.Outputs.{kept_append}
-use Rattle.avr_session.specs.Runs.{Cause, OfListening, OfFile, OfPrinting, NotWritten, AtPart, StopsAt, Listens}
+use Rattle.avr_session.specs.Runs.{Cause, OfSending, OfListening, OfFile, OfPrinting, NotWritten, AtPart, StopsAt, Listens}
 use Rattle.avr_session.specs.Reporting.{IsOfDesk, SaysPrefix}
 
 -- ---- events
 
 -- more that happened before it
-pub place_behind : (cause : Cause) (before whole begun later : List (Event OutputEvent))
-    → StopsAt cause whole begun later
-    → StopsAt cause (before ++ whole) begun later
-place_behind (OfFile file NotWritten) before whole begun later (inl x) =
+pub place_behind : (cause : Cause) (first during : Transcript) (before whole begun later : List (Event OutputEvent))
+    → NoneTaken first → StopsAt cause during whole begun later
+    → StopsAt cause (first ++ during) (before ++ whole) begun later
+place_behind OfSending first during before whole begun later none x = record {
+  done = x.done;
+  unsent = x.unsent;
+  more = x.more;
+  due = x.due;
+  part = x.part;
+  not_whole = λ both. x.not_whole (none_behind first during both);
+}
+place_behind OfListening first during before whole begun later none x = (none_append first during none x.0, x.1, x.2)
+place_behind (OfFile file NotWritten) first during before whole begun later none (inl x) =
     let again = ap (λ es. before ++ es) x.0.1 ∙ sym (append_assoc before x.0.0 (Said (Creates file) ∷ [])) in
     inl ((before ++ x.0.0, again), x.1)
-place_behind (OfFile file NotWritten) before whole begun later (inr x) = inr x
-place_behind cause before whole begun later x = x
+place_behind (OfFile file NotWritten) first during before whole begun later none (inr x) = inr x
+place_behind cause first during before whole begun later none x = x
 
 -- a desk doesn't listen
 
@@ -55,7 +66,8 @@ prefix_behind {cause = cause} {d = d} {e = e} {f = f} done more kept x = record 
   begun = x.begun;
   later = x.later;
   outputs_are = ap (λ (ss : List OutputEvent). done ++ ss) x.outputs_are ∙ sym (append_assoc done x.whole x.later);
-  place = search (rules, map_append, place_behind);
+  place = subst (λ es. StopsAt cause [] es (map Said x.begun) (map Said x.later)) (sym (map_append done x.whole))
+      (place_behind cause [] [] (map Said done) (map Said x.whole) (map Said x.begun) (map Said x.later) tt x.place);
   by_desk = x.by_desk;
   kept = search (rules, append_assoc, kept_append);
 }
