@@ -25,6 +25,7 @@ mod message;
 mod bounded;
 mod failing;
 mod file_system;
+mod folder;
 mod journal;
 mod kept;
 mod mem_desk;

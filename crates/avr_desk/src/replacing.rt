@@ -6,7 +6,7 @@
 //! The bytes are written to a new file beside the old one, which this program alone has made, opened and locked. Once
 //! it is on the disk, it is renamed. No other file is put in place, and one that no program here can have made is left
 //! alone.
-ghost use Rattle.std.specs.Prelude.{◌≡◌, ◌++◌, IfOk, Option, OnErr, OnOk, codes, string_bytes};
+ghost use Rattle.std.specs.Prelude.{◌≡◌, ◌++◌, ⊤, IfOk, Option, OnErr, OnOk, codes, string_bytes};
 ghost use Rattle.avr_desk.specs.Handles.{IsHeldBy};
 ghost use Rattle.avr_desk.specs.Journal.{Does, making};
 ghost use Rattle.avr_desk.specs.Record.{Bytes};
@@ -14,6 +14,7 @@ ghost use Rattle.ghosts.specs.Stays.{Stays};
 
 use crate::bounded::{Bounded, create, limited, longest_file};
 use crate::file_system::FileSystem;
+use crate::folder::{Folder, Locking, fill_and_place, lock_at};
 use crate::placing::{
     Step, Writes, first_mode, given, is_left_over, is_removed, marked, permissions_after,
     step_after, writes_after,
@@ -33,7 +34,7 @@ const LINKS: u32 = 40;
 
 /// A new file beside another one, which this program alone has made, opened and locked.
 #[derive(Drop)]
-struct NewFile {
+pub(crate) struct NewFile {
     file: File,
     path: String,
 }
@@ -192,13 +193,16 @@ fn open_left<R: Files<File = File>>(rt: &R, path: &str) -> io::Result<File> {
 }
 
 /// Removes what an ended program left at this path, unless it is another user's or another program has locked it.
-fn remove_left<R: Files<File = File>>(rt: &R, path: &str) -> io::Result<()> {
+fn remove_left<R: Files<File = File> + Alloc<A = Global>>(rt: &R, path: &str) -> io::Result<()> {
     match look(rt, path)? {
         Some(there) if is_own_left(&there) => {}
         _ => return Ok(()),
     }
-    let file = open_left(rt, path)?;
-    if is_own_left(&file.metadata()?) && lock(&file)? && is_at(rt, &file, path)? {
+    let mut file = open_left(rt, path)?;
+    let mut folder = rt;
+    if is_own_left(&file.metadata()?)
+        && matches!(lock_at(&mut folder, &mut file, path)?, Locking::Holds)
+    {
         fs::remove_file(rt, path)?;
     }
     Ok(())
@@ -230,14 +234,14 @@ fn try_beside<R: Files<File = File> + Alloc<A = Global>>(
     target: String,
 ) -> io::Result<Tried> {
     let beside = lock_file_of(rt, target.as_str())?;
-    let Some(locked) = open_or_make(rt, beside.as_str())? else {
+    let Some(mut locked) = open_or_make(rt, beside.as_str())? else {
         return Ok(Tried::Changed);
     };
-    if !lock(&locked)? {
-        return Ok(Tried::InUse);
-    }
-    if !is_at(rt, &locked, beside.as_str())? {
-        return Ok(Tried::Changed);
+    let mut folder = rt;
+    match lock_at(&mut folder, &mut locked, beside.as_str())? {
+        Locking::Holds => {}
+        Locking::InUse => return Ok(Tried::InUse),
+        Locking::Changed => return Ok(Tried::Changed),
     }
     let held = Held {
         locked,
@@ -261,21 +265,20 @@ fn try_to_hold<R: Files<File = File> + Alloc<A = Global>>(
 ) -> io::Result<Tried> {
     // Fails if the file may not be written.
     let opened = OpenOptions::new().write(true).open(rt, name);
-    let Some(locked) = unless_absent(opened)? else {
+    let Some(mut locked) = unless_absent(opened)? else {
         return try_beside(rt, target);
     };
-    if !lock(&locked)? {
-        return Ok(Tried::InUse);
+    let mut folder = rt;
+    match lock_at(&mut folder, &mut locked, target.as_str())? {
+        Locking::Holds => Ok(Tried::Holds(Held {
+            locked,
+            target,
+            beside: None,
+            placed: None,
+        })),
+        Locking::InUse => Ok(Tried::InUse),
+        Locking::Changed => Ok(Tried::Changed),
     }
-    if !is_at(rt, &locked, target.as_str())? {
-        return Ok(Tried::Changed);
-    }
-    Ok(Tried::Holds(Held {
-        locked,
-        target,
-        beside: None,
-        placed: None,
-    }))
 }
 
 impl NewFile {
@@ -416,40 +419,16 @@ impl Held {
         Ok(())
     }
 
-    /// Writes these bytes over the held file, which can't be replaced because another one is mounted there.
+    /// Writes these bytes over the held file, which can't be replaced because another one is mounted there. There must
+    /// have been one.
     fn write_over(&mut self, bytes: &[u8]) -> io::Result<()> {
+        if self.beside.is_some() {
+            return Err(io::Error::from(ErrorKind::ResourceBusy));
+        }
         self.locked.seek(SeekFrom::Start(0))?;
         self.locked.write_all(bytes)?;
         self.locked.set_len(bytes.len() as u64)?;
         self.locked.sync_all()
-    }
-
-    /// Puts the new file in place. It fails if another program has put a file in its place.
-    fn place<R: Files<File = File>>(
-        &mut self,
-        rt: &R,
-        new: &NewFile,
-        step: Step,
-        bytes: &[u8],
-    ) -> io::Result<()> {
-        if !is_at(rt, &new.file, new.path.as_str())? {
-            return Err(not_ours());
-        }
-        let renamed = match step {
-            Step::Link => new.link(rt, self.target.as_str()),
-            Step::Rename => fs::rename(rt, new.path.as_str(), self.target.as_str()),
-            Step::Refuse => Err(not_ours()),
-        };
-        match renamed {
-            Err(error) if error.kind() == ErrorKind::ResourceBusy && self.beside.is_none() => {
-                return self.write_over(bytes);
-            }
-            renamed => renamed?,
-        }
-        if !is_at(rt, &new.file, self.target.as_str())? {
-            return Err(not_ours());
-        }
-        Ok(())
     }
 
     /// Returns what is put in place of the file that has the name now.
@@ -474,28 +453,16 @@ impl Held {
         let old = self.old()?;
         let step = self.next(rt, &old)?;
         let mut new = self.make_new(rt, &old)?;
-        let placed = self.fill_and_place(rt, &mut new, &old, step, bytes);
+        let mut folder = rt;
+        let target = self.target.as_str();
+        let placed = fill_and_place(&mut folder, &mut new, target, &old, step, bytes);
+        let written = match placed {
+            Ok(false) => self.write_over(bytes),
+            placed => placed.map(|_| ()),
+        };
         remove(rt, &new.file, new.path.as_str());
         self.placed = Some(new);
-        placed
-    }
-
-    /// Writes the new file, puts it in place, and waits until it is on the disk under its name.
-    fn fill_and_place<R: Files<File = File>>(
-        &mut self,
-        rt: &R,
-        new: &mut NewFile,
-        old: &Option<Metadata>,
-        step: Step,
-        bytes: &[u8],
-    ) -> io::Result<()> {
-        new.file.write_all(bytes)?;
-        let permissions = new.be_like(old)?;
-        new.file.sync_all()?;
-        self.place(rt, new, step, bytes)?;
-        // The file is in place, even if its mark can't be removed.
-        let _ = new.set_mode(permissions);
-        sync_folder(rt, self.target.as_str())
+        written
     }
 
     /// Removes the empty file that was locked.
@@ -507,6 +474,72 @@ impl Held {
         if is_empty {
             remove(rt, &self.locked, beside.as_str());
         }
+    }
+}
+
+impl<'a, R: Files<File = File> + Alloc<A = Global>> Folder for &'a R {
+    type Opened = File;
+
+    type New = NewFile;
+
+    ghost moment = { λ folder. 0 };
+
+    ghost left_since = { λ folder moment name found. ⊥ };
+
+    ghost locks = { λ folder name. ⊤ };
+
+    ghost is_locked = { λ file. ⊤ };
+
+    ghost finds = { λ folder name bytes. ⊤ };
+
+    ghost is_there = { λ folder new. ⊤ };
+
+    ghost has = { λ new bytes. ⊤ };
+
+    ghost keeps = { λ new bytes. ⊤ };
+
+    fn lock(&mut self, file: &mut File) -> io::Result<bool> {
+        lock(file)
+    }
+
+    fn is_at(&mut self, file: &File, path: &str) -> io::Result<bool> {
+        is_at(*self, file, path)
+    }
+
+    fn write(&mut self, new: &mut NewFile, bytes: &[u8]) -> io::Result<()> {
+        new.file.write_all(bytes)
+    }
+
+    fn be_like(&mut self, new: &NewFile, old: &Option<Metadata>) -> io::Result<u32> {
+        new.be_like(old)
+    }
+
+    fn sync(&mut self, new: &mut NewFile) -> io::Result<()> {
+        new.file.sync_all()
+    }
+
+    fn look(&mut self, new: &NewFile) -> io::Result<bool> {
+        is_at(*self, &new.file, new.path.as_str())
+    }
+
+    fn place(&mut self, new: &NewFile, target: &str, step: Step) -> io::Result<()> {
+        match step {
+            Step::Link => new.link(*self, target),
+            Step::Rename => fs::rename(*self, new.path.as_str(), target),
+            Step::Refuse => Err(not_ours()),
+        }
+    }
+
+    fn is_placed(&mut self, new: &NewFile, target: &str) -> io::Result<bool> {
+        is_at(*self, &new.file, target)
+    }
+
+    fn unmark(&mut self, new: &NewFile, permissions: u32) {
+        let _ = new.set_mode(permissions);
+    }
+
+    fn sync_folder(&mut self, target: &str) -> io::Result<()> {
+        sync_folder(*self, target)
     }
 }
 
