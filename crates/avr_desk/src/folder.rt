@@ -89,8 +89,8 @@ pub(crate) trait Folder {
         ensures finds { (name bytes : Bytes) → finds self.old name bytes → finds self.new name bytes }
         ensures stays { (name bytes : Bytes) → Stays (Whole locks left_since name bytes) self.old self.new };
 
-    /// Waits until the names in the folder of `target` are on the disk. It ignores a folder that can't be opened or
-    /// synchronized.
+    /// Waits until the names in the folder of `target` are on the disk. A folder that can't be opened or synchronized
+    /// counts as synchronized.
     fn sync_folder(&mut self, target: &str) -> io::Result<()>
         ensures lasts { OnOk result ((bytes : Bytes) → locks self.old target.now → finds self.old target.now bytes
             → Lasts moment left_since target.now bytes self.new) }
