@@ -5,18 +5,18 @@ use Rattle.std.proofs.lemmas.List.{append-nil}
 use Rattle.stk_host.specs.declared.link.Item.TheVariants.{End}
 use Rattle.stk_host.specs.Tape.{on_tape, bytes_of}
 use Rattle.ghosts.specs.Failures.{HasRisen}
-use Rattle.stk_host.specs.Transcript.{Transcript, Got, sent, heard as heard_in, Grows, LinkState}
+use Rattle.stk_host.specs.Transcript.{Transcript, Got, NoneTaken, sent, heard as heard_in, Grows, LinkState}
 use Rattle.stk_host.specs.Reach.{IsQuiet}
-use Rattle.stk_host.proofs.Transcripts.Laws.{sent_append, heard_append, heard_quiet, grows_none, grows_on}
+use Rattle.stk_host.proofs.Transcripts.Laws.{sent_append, heard_append, heard_quiet, grows_none, grows_on, none_append}
 use Rattle.stk_host.proofs.Tapes.Answers.{bytes_of_append, bytes_of_on_tape}
 use Rattle.stk_emu.specs.Programmer.{Programmer}
 use Rattle.stk_emu.specs.Emulator.{Machine}
 use Rattle.avr_emulator.specs.declared.serving.Served.{Served}
 use Rattle.avr_emulator.specs.declared.serving.Served.TheVariants.{Ended, SendFailed, TooManyReads}
-use Rattle.avr_emulator.specs.Serving.{HasNoEnd, HearsUntil, AnswersAll, BreaksOff, ServingLeaves, Serves, FailsBy}
+use Rattle.avr_emulator.specs.Serving.{HasNoEnd, HearsUntil, AnswersAll, BreaksOff, SendsSoundly, ServingLeaves, Serves, FailsBy}
 use Rattle.avr_emulator.specs.Replying.{Replies, RepliesPart}
 use Rattle.avr_emulator.proofs.Transcripts.{no_end_append, no_end_on_tape, reads_append, reads_quiet, in_turn_quiet, in_turn_append}
-use Rattle.avr_emulator.proofs.Answers.{all_nothing, all_more, breaks_more, breaks_prefix}
+use Rattle.avr_emulator.proofs.Answers.{all_nothing, all_more, breaks_more, breaks_prefix, breaks_heard}
 
 -- the bytes received and sent in two transcripts
 bytes_both : (x y : Transcript) → bytes_of (heard_in x) ++ bytes_of (heard_in y) ≡ bytes_of (heard_in (x ++ y))
@@ -32,18 +32,18 @@ all_transcript p text x y mid now first then =
 
 breaks_transcript : (p : Programmer) (text : List ℕ) (x y : Transcript) (mid now : Machine)
     → AnswersAll p text (bytes_of (heard_in x)) (sent x) mid
-    → BreaksOff p (text ++ bytes_of (heard_in x)) (bytes_of (heard_in y)) (sent y) now
-    → BreaksOff p text (bytes_of (heard_in (x ++ y))) (sent (x ++ y)) now
+    → BreaksOff p (text ++ bytes_of (heard_in x)) (bytes_of (heard_in y)) y now
+    → BreaksOff p text (bytes_of (heard_in (x ++ y))) (x ++ y) now
 breaks_transcript p text x y mid now first then =
-    subst (λ bs. BreaksOff p text bs (sent (x ++ y)) now) (bytes_both x y)
-    (search (rules, sent_append, breaks_more))
+    subst (λ bs. BreaksOff p text bs (x ++ y) now) (bytes_both x y)
+    (breaks_more p text (bytes_of (heard_in x)) (bytes_of (heard_in y)) x y mid now first then)
 
 leaves_more : (served : Served) (p : Programmer) (text : List ℕ) (x y : Transcript) (mid now : Machine)
     → AnswersAll p text (bytes_of (heard_in x)) (sent x) mid
     → ServingLeaves served p (text ++ bytes_of (heard_in x)) y now → ServingLeaves served p text (x ++ y) now
 leaves_more SendFailed p text x y mid now first then =
     let b = breaks_transcript p text x y mid now first then.1 in
-    (breaks_prefix p text (bytes_of (heard_in (x ++ y))) (sent (x ++ y)) now b, b)
+    (breaks_prefix p text (bytes_of (heard_in (x ++ y))) (x ++ y) now b, b)
 leaves_more served p text x y mid now first then = all_transcript p text x y mid now first then
 
 no_end_both : (x y : Transcript) → HasNoEnd (heard_in x) → HasNoEnd (heard_in y) → HasNoEnd (heard_in (x ++ y))
@@ -61,11 +61,17 @@ hears_more Ended turns x y first then = (
 hears_more served turns x y first then =
     (no_end_both x y first.0 then.0, omega (arith, reads_append x y, first.1, then.1))
 
+sends_more : (served : Served) (x y : Transcript) → NoneTaken x → SendsSoundly served y
+    → SendsSoundly served (x ++ y)
+sends_more SendFailed x y first then = tt
+sends_more served x y first then = none_append x y first then
+
 pub serves_none : (machine : Machine) (o : LinkState) → Serves machine 0 TooManyReads o o machine
 serves_none machine o = record {
   during = [];
   grows = grows_none o.transcript;
   hears = (tt, refl);
+  sends = tt;
   in_turn = λ p text f. tt;
   leaves = λ p text f. all_nothing p text machine f;
 }
@@ -73,13 +79,15 @@ serves_none machine o = record {
 pub serves_more : (served : Served) (turns : ℕ) (old mid now : Machine) (a b c : LinkState)
     → Serves old turns TooManyReads a b mid → Serves mid 1 served b c now
     → Serves old (turns + 1) served a c now
-serves_more served turns old mid now a b c first then = record {
-  during = first.during ++ then.during;
-  grows = grows_on a.transcript b.transcript c.transcript first.during then.during first.grows then.grows;
-  hears = hears_more served turns first.during then.during first.hears then.hears;
-  in_turn = search (rules, in_turn_append);
-  leaves = search (rules, leaves_more);
-}
+serves_more served turns old mid now a b c first then =
+    let none : NoneTaken first.during = first.sends in record {
+      during = first.during ++ then.during;
+      grows = grows_on a.transcript b.transcript c.transcript first.during then.during first.grows then.grows;
+      hears = hears_more served turns first.during then.during first.hears then.hears;
+      sends = sends_more served first.during then.during none then.sends;
+      in_turn = search (rules, in_turn_append);
+      leaves = search (rules, leaves_more);
+    }
 
 -- serving that ended early also ends within more reads
 hears_within : (served : Served) (few many : ℕ) (transcript : Transcript) → served ≢ TooManyReads → few ≤ many
@@ -123,6 +131,7 @@ read_answered piece old now a b c g r =
       during = Got (on_tape piece) ∷ transcript;
       grows = grows_on a.transcript b.transcript c.transcript (Got (on_tape piece) ∷ []) transcript g r.says.grows;
       hears = search (rules, heard_piece, no_end_on_tape, reads_quiet);
+      sends = r.says.none_taken;
       in_turn = search (rules, in_turn_quiet);
       leaves = search (rules, bytes_heard);
     }
@@ -131,11 +140,12 @@ pub read_broken : (piece : List ℕ) (old now : Machine) (a b c : LinkState)
     → Grows a.transcript (Got (on_tape piece) ∷ []) b.transcript → RepliesPart old piece b c now
     → Serves old 1 SendFailed a c now
 read_broken piece old now a b c g r =
-    let transcript : Transcript = r.says.during in
+    let transcript : Transcript = r.during in
     record {
       during = Got (on_tape piece) ∷ transcript;
-      grows = grows_on a.transcript b.transcript c.transcript (Got (on_tape piece) ∷ []) transcript g r.says.grows;
+      grows = grows_on a.transcript b.transcript c.transcript (Got (on_tape piece) ∷ []) transcript g r.grows;
       hears = search (rules, heard_piece, no_end_on_tape, reads_quiet);
+      sends = tt;
       in_turn = search (rules, in_turn_quiet);
-      leaves = search (rules, bytes_heard, breaks_prefix);
+      leaves = search (rules, bytes_heard, breaks_prefix, breaks_heard);
     }

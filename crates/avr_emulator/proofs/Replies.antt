@@ -2,9 +2,9 @@
 use Rattle.std.proofs.Common.{◌≡◌, ℕ, ◌+◌, List, [], ◌++◌, take, drop, sym, ap, ◌∙◌, subst, rules}
 use Rattle.std.proofs.lemmas.List.{take-append-drop}
 use Rattle.std.proofs.Math.Seq.{take-add}
-use Rattle.stk_host.specs.Transcript.{Transcript, LinkState}
+use Rattle.stk_host.specs.Transcript.{Transcript, LinkState, sent}
 use Rattle.stk_host.specs.Reach.{Says, SaysPart}
-use Rattle.stk_host.proofs.Transcripts.Laws.{sent_append, grows_none, grows_on, quiet_append}
+use Rattle.stk_host.proofs.Transcripts.Laws.{sent_append, grows_none, grows_on, quiet_append, none_append}
 use Rattle.stk_emu.specs.Emulator.{Machine, Answers}
 use Rattle.avr_emulator.specs.Serving.{AnswersAll, BreaksOff}
 use Rattle.avr_emulator.specs.Replying.{Replies, RepliesPart}
@@ -14,7 +14,8 @@ says_both : (x y : List ℕ) (a b c : Transcript) → Says x a b → Says y b c 
 says_both x y a b c first then = record {
   during = first.during ++ then.during;
   grows = grows_on a b c first.during then.during first.grows then.grows;
-  quiet = quiet_append first.during then.during first.quiet then.quiet;
+  quiet = quiet_append first.during then.during first.none_taken first.quiet then.quiet;
+  none_taken = none_append first.during then.during first.none_taken then.none_taken;
   bytes_sent = search (rules, sent_append);
 }
 
@@ -37,14 +38,18 @@ module _ (piece part out : List ℕ) (n used : ℕ) (old mid now : Machine) (a b
         (search (rules, all_more, all_fed));
   }
 
-  -- or only a part of it is sent
+  -- or its send fails
   pub replies_part : SaysPart out b.transcript c.transcript → RepliesPart old piece a c now
   replies_part s = record {
-    out = r.out ++ s.part;
-    says = says_both r.out s.part a.transcript b.transcript c.transcript r.says s.says;
+    during = r.says.during ++ s.during;
+    grows = grows_on a.transcript b.transcript c.transcript r.says.during s.during r.says.grows s.grows;
+    quiet = quiet_append r.says.during s.during r.says.none_taken r.says.quiet s.quiet;
     breaks = λ p text f.
-        let first = r.answers p text f in
-        subst (λ bs. BreaksOff p text bs (r.out ++ s.part) now)
+        let first : AnswersAll p text (take n piece) (sent r.says.during) mid =
+        rw r.says.bytes_sent (r.answers p text f) in
+        subst (λ bs. BreaksOff p text bs (r.says.during ++ s.during) now)
         (ap (λ bs. take n piece ++ bs) (take-append-drop used part ∙ is) ∙ take-append-drop n piece)
-        (search (rules, breaks_more, breaks_here));
+        (breaks_more p text (take n piece) (take used part ++ drop used part) r.says.during s.during mid now first
+        (breaks_here p (text ++ take n piece) (take used part) (drop used part) out b.transcript c.transcript mid now
+        one first.fed s));
   }

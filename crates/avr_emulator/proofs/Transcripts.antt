@@ -1,9 +1,9 @@
 -- Laws of what is received, and of transcripts in turn.
-use Rattle.std.proofs.Common.{◌≡◌, ℕ, ◌+◌, List, [], ◌∷◌, ◌++◌, refl, sym, subst, append_assoc, arith, rules}
+use Rattle.std.proofs.Common.{◌≡◌, ℕ, ◌+◌, List, [], ◌∷◌, ◌++◌, refl, sym, ap, subst, append_assoc, arith, rules}
 use Rattle.std.proofs.lemmas.List.{append-nil}
 use Rattle.stk_host.specs.declared.link.Item.TheVariants.{Byte, Silence, End}
 use Rattle.stk_host.specs.Tape.{Tape, on_tape, bytes_of}
-use Rattle.stk_host.specs.Transcript.{Transcript, Sent, Got, sent, heard}
+use Rattle.stk_host.specs.Transcript.{Transcript, Sent, Taken, Got, NoneTaken, sent, heard}
 use Rattle.stk_host.specs.Reach.{IsQuiet}
 use Rattle.stk_host.proofs.Tapes.Answers.{bytes_of_append}
 use Rattle.stk_emu.specs.Programmer.{Programmer}
@@ -21,33 +21,36 @@ no_end_on_tape (b ∷ bytes) = no_end_on_tape bytes
 
 pub reads_append : (x y : Transcript) → reads (x ++ y) ≡ reads x + reads y
 reads_append [] y = omega arith
-reads_append (Sent bytes ∷ x) y = reads_append x y
 reads_append (Got tape ∷ x) y = omega (arith, reads_append x y)
+reads_append (other ∷ x) y = reads_append x y
 
 -- nothing is read in a quiet transcript, so its answers are in turn
 pub reads_quiet : (transcript : Transcript) → IsQuiet transcript → reads transcript ≡ 0
 reads_quiet [] quiet = refl
 reads_quiet (Sent bytes ∷ transcript) quiet = reads_quiet transcript quiet
+reads_quiet (Taken bytes ∷ transcript) quiet = ap reads quiet
 reads_quiet (Got tape ∷ transcript) quiet = absurd quiet
 
 pub in_turn_quiet : (p : Programmer) (text out : List ℕ) (transcript : Transcript) → IsQuiet transcript
     → AnswersInTurn p text out transcript
 in_turn_quiet p text out [] quiet = tt
 in_turn_quiet p text out (Sent bytes ∷ transcript) quiet = in_turn_quiet p text (out ++ bytes) transcript quiet
+in_turn_quiet p text out (Taken bytes ∷ transcript) quiet = quiet
 in_turn_quiet p text out (Got tape ∷ transcript) quiet = absurd quiet
 
 -- one transcript after another
-pub in_turn_append : (p : Programmer) (text out : List ℕ) (x y : Transcript) → AnswersInTurn p text out x
-    → AnswersInTurn p (text ++ bytes_of (heard x)) (out ++ sent x) y
+pub in_turn_append : (p : Programmer) (text out : List ℕ) (x y : Transcript) → NoneTaken x
+    → AnswersInTurn p text out x → AnswersInTurn p (text ++ bytes_of (heard x)) (out ++ sent x) y
     → AnswersInTurn p text out (x ++ y)
-in_turn_append p text out [] y f g =
+in_turn_append p text out [] y none f g =
     subst (λ t. AnswersInTurn p t out y) (append-nil text)
     (subst (λ o. AnswersInTurn p (text ++ []) o y) (append-nil out) g)
-in_turn_append p text out (Sent bytes ∷ x) y f g =
-    in_turn_append p text (out ++ bytes) x y f
+in_turn_append p text out (Sent bytes ∷ x) y none f g =
+    in_turn_append p text (out ++ bytes) x y none f
     (subst (λ o. AnswersInTurn p (text ++ bytes_of (heard x)) o y) (sym (append_assoc out bytes (sent x))) g)
-in_turn_append p text out (Got tape ∷ x) y f g = (
+in_turn_append p text out (Taken bytes ∷ x) y none f g = absurd none
+in_turn_append p text out (Got tape ∷ x) y none f g = (
   f.0,
-  in_turn_append p (text ++ bytes_of tape) out x y f.1
+  in_turn_append p (text ++ bytes_of tape) out x y none f.1
       (search (rules, bytes_of_append, append_assoc)),
 )
