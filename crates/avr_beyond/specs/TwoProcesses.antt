@@ -9,7 +9,7 @@ use Rattle.avr_session.specs.Session.{session}
 use Rattle.stk_frame.specs.Cut.{frames, rest}
 use Rattle.stk_host.specs.declared.link.Item.TheVariants.{Byte, Silence, End}
 use Rattle.stk_host.specs.Play.{IsPrefixOf, Progress}
-use Rattle.stk_host.specs.Transcript.{LinkState, Transcript, Sent, Got, sent, heard}
+use Rattle.stk_host.specs.Transcript.{LinkState, Transcript, Sent, Taken, Got, sent, heard}
 use Rattle.stk_host.specs.Tape.{Tape, bytes_of}
 use Rattle.stk_emu.specs.Device.{device, answers, after_frames}
 use Rattle.stk_emu.specs.Programmer.{Programmer}
@@ -19,27 +19,29 @@ use Rattle.avr_emulator.specs.Serving.{HasNoEnd}
 
 -- ---- 1. Both ends in one order
 
--- One call of one end: it sent bytes, or received a piece.
+-- One call of one end: it sent bytes, or had taken them when it failed at sending, or it received a piece.
 pub data EndCall : Type 0 where
   HostSays : List ℕ → EndCall
+  HostBreaks : List ℕ → EndCall
   HostHears : Tape → EndCall
   ServerSays : List ℕ → EndCall
+  ServerBreaks : List ℕ → EndCall
   ServerHears : Tape → EndCall
 
 -- The transcript of each end.
 abbrev pub of_host : List EndCall → Transcript
 of_host [] = []
 of_host (HostSays bytes ∷ calls) = Sent bytes ∷ of_host calls
+of_host (HostBreaks bytes ∷ calls) = Taken bytes ∷ of_host calls
 of_host (HostHears items ∷ calls) = Got items ∷ of_host calls
-of_host (ServerSays bytes ∷ calls) = of_host calls
-of_host (ServerHears items ∷ calls) = of_host calls
+of_host (other ∷ calls) = of_host calls
 
 abbrev pub of_server : List EndCall → Transcript
 of_server [] = []
-of_server (HostSays bytes ∷ calls) = of_server calls
-of_server (HostHears items ∷ calls) = of_server calls
 of_server (ServerSays bytes ∷ calls) = Sent bytes ∷ of_server calls
+of_server (ServerBreaks bytes ∷ calls) = Taken bytes ∷ of_server calls
 of_server (ServerHears items ∷ calls) = Got items ∷ of_server calls
+of_server (other ∷ calls) = of_server calls
 
 -- What each end has received is a prefix of what the other has sent.
 pub record IsJoined (host server : Transcript) : Type 0 where

@@ -48,7 +48,7 @@ pub fn run<D: Desk, L: Link>(alloc: Global, settings: &Settings, desk: &mut D, l
 }
 
 /// Runs as [`run`] does, over a reader and a writer. The link's record of the run, kept for proofs alone, is true: it
-/// received what the reader gave, and while it has never failed, it sent what the writer took.
+/// received what the reader gave, and sent what the writer took, also in a send that failed.
 ///
 /// ```text
 /// let settings = Settings::for_link(alloc, "m328p")?;

@@ -65,7 +65,7 @@ all_served p transcript left all = record {
 }
 
 broken_served : (p : Programmer) (transcript : Transcript) (left : Machine)
-    → BreaksOff p [] (bytes_of (heard transcript)) (sent transcript) left → HasServed p transcript left.programmer
+    → BreaksOff p [] (bytes_of (heard transcript)) transcript left → HasServed p transcript left.programmer
 broken_served p transcript left b = search (rules, append_assoc, append-nil, answers_more)
 
 pub has_served : (served : Served) (p : Programmer) (transcript : Transcript) (left : Machine)

@@ -17,7 +17,7 @@ use Rattle.stk_frame.proofs.FedReaders.{cut_whole, rest_whole}
 use Rattle.stk_frame.proofs.Laws.{body_of_frame, frame_is_good, frame_is_piece, length_frame}
 use Rattle.stk_host.specs.Dialog.{Dialog, Done, Say, Ask, Event, Frame, Said, behind, by_answer, bytes_sent, next, played, outputs}
 use Rattle.stk_host.specs.Play.{IsPrefixOf, TurnsFrom}
-use Rattle.stk_host.specs.Transcript.{LinkState, Transcript, Sent, Got, heard, sent}
+use Rattle.stk_host.specs.Transcript.{LinkState, Transcript, Sent, Taken, Got, NoneTaken, heard, sent}
 use Rattle.stk_host.specs.Tape.{Tape, Answered, Reading, answer, bytes_of, first_answer, limit, on_tape}
 use Rattle.stk_host.specs.declared.link.Item.TheVariants.{End}
 use Rattle.stk_host.proofs.Transcripts.InDialogs.{bytes_append}
@@ -33,7 +33,7 @@ use Rattle.avr_emulator.specs.Serving.{AnswersAll, AnswersInTurn, HasNoEnd, read
 use Rattle.avr_emulator.specs.ServedRun.{ServesChip, fresh_machine}
 use Rattle.avr_emulator.specs.declared.serving.Served.TheVariants.{Ended}
 use Rattle.avr_beyond.proofs.TwoProcesses.InOrder.{after_is, answer_is}
-use Rattle.avr_beyond.specs.TwoProcesses.{EndCall, HostSays, HostHears, ServerSays, ServerHears, HasRun, IsOrdered, IsPrompt, of_host, of_server}
+use Rattle.avr_beyond.specs.TwoProcesses.{EndCall, HostSays, HostBreaks, HostHears, ServerSays, ServerBreaks, ServerHears, HasRun, IsOrdered, IsPrompt, of_host, of_server}
 
 -- each frame is received and answered at once, and at last the server receives the end of the link
 abbrev asking : List ℕ → List ℕ → List EndCall → List EndCall
@@ -57,10 +57,14 @@ abbrev JoinedFrom : List ℕ → List ℕ → List ℕ → List ℕ → List End
 JoinedFrom said_up heard_up said_down heard_down [] = Joined said_up heard_up said_down heard_down
 JoinedFrom said_up heard_up said_down heard_down (HostSays bytes ∷ calls) =
     Joined said_up heard_up said_down heard_down × JoinedFrom (said_up ++ bytes) heard_up said_down heard_down calls
+JoinedFrom said_up heard_up said_down heard_down (HostBreaks bytes ∷ calls) =
+    Joined said_up heard_up said_down heard_down × JoinedFrom (said_up ++ bytes) heard_up said_down heard_down calls
 JoinedFrom said_up heard_up said_down heard_down (HostHears items ∷ calls) =
     Joined said_up heard_up said_down heard_down
     × JoinedFrom said_up heard_up said_down (heard_down ++ bytes_of items) calls
 JoinedFrom said_up heard_up said_down heard_down (ServerSays bytes ∷ calls) =
+    Joined said_up heard_up said_down heard_down × JoinedFrom said_up heard_up (said_down ++ bytes) heard_down calls
+JoinedFrom said_up heard_up said_down heard_down (ServerBreaks bytes ∷ calls) =
     Joined said_up heard_up said_down heard_down × JoinedFrom said_up heard_up (said_down ++ bytes) heard_down calls
 JoinedFrom said_up heard_up said_down heard_down (ServerHears items ∷ calls) =
     Joined said_up heard_up said_down heard_down
@@ -69,8 +73,10 @@ JoinedFrom said_up heard_up said_down heard_down (ServerHears items ∷ calls) =
 joined_now : (a b c d : List ℕ) (calls : List EndCall) → JoinedFrom a b c d calls → Joined a b c d
 joined_now a b c d [] j = j
 joined_now a b c d (HostSays bytes ∷ calls) j = j.0
+joined_now a b c d (HostBreaks bytes ∷ calls) j = j.0
 joined_now a b c d (HostHears items ∷ calls) j = j.0
 joined_now a b c d (ServerSays bytes ∷ calls) j = j.0
+joined_now a b c d (ServerBreaks bytes ∷ calls) j = j.0
 joined_now a b c d (ServerHears items ∷ calls) j = j.0
 
 -- after some first calls
@@ -80,9 +86,13 @@ joined_behind : (a b c d : List ℕ) (first later : List EndCall) → JoinedFrom
 joined_behind a b c d [] later j = search (rules, append-nil, joined_now)
 joined_behind a b c d (HostSays bytes ∷ first) later j =
     search (rules, append_assoc, joined_behind (a ++ bytes) b c d first later j.1)
+joined_behind a b c d (HostBreaks bytes ∷ first) later j =
+    search (rules, append_assoc, joined_behind (a ++ bytes) b c d first later j.1)
 joined_behind a b c d (HostHears items ∷ first) later j =
     search (rules, append_assoc, bytes_of_append, joined_behind a b c (d ++ bytes_of items) first later j.1)
 joined_behind a b c d (ServerSays bytes ∷ first) later j =
+    search (rules, append_assoc, joined_behind a b (c ++ bytes) d first later j.1)
+joined_behind a b c d (ServerBreaks bytes ∷ first) later j =
     search (rules, append_assoc, joined_behind a b (c ++ bytes) d first later j.1)
 joined_behind a b c d (ServerHears items ∷ first) later j =
     search (rules, append_assoc, bytes_of_append, joined_behind a (b ++ bytes_of items) c d first later j.1)
@@ -171,10 +181,11 @@ pub record IsWhole {E R : Type 0} (d : Dialog E R) (n : ℕ) (transcript : Trans
   pub plays : (later : Tape) → played d n (heard transcript ++ later)
       ≡ record { events = events; outcome = Some (result, at, later) }
   pub all_sent : bytes_sent events ≡ sent transcript
+  pub none_taken : NoneTaken transcript
 
 pub host_plays : {E R : Type 0} (d : Dialog E R) (n : ℕ) (p : Programmer) → AsksBodies d
     → IsWhole d n (of_host (calls_of d n p))
-host_plays (Done r) n p asks = record { events = []; result = r; at = n; plays = λ later. refl; all_sent = refl }
+host_plays (Done r) n p asks = record { events = []; result = r; at = n; plays = λ later. refl; all_sent = refl; none_taken = tt }
 host_plays (Say e d) n p asks =
     let inner = host_plays d n p asks in
     record {
@@ -183,6 +194,7 @@ host_plays (Say e d) n p asks =
       at = inner.at;
       plays = λ later. ap (behind (Said e ∷ [])) (inner.plays later);
       all_sent = inner.all_sent;
+      none_taken = inner.none_taken;
     }
 host_plays (Ask bytes go_on) n p asks =
     let reply = device.answer bytes p in
@@ -196,6 +208,7 @@ host_plays (Ask bytes go_on) n p asks =
       at = inner.at;
       plays = search (rules, append_assoc, asked, answers_bodies);
       all_sent = ap (λ bs. frame n bytes ++ bs) inner.all_sent;
+      none_taken = inner.none_taken;
     }
 
 -- a dialog in turn, as one that continues it
@@ -206,6 +219,7 @@ module _ {E R : Type 0} (d e : Dialog E R) (n k : ℕ) (prefix : Tape) (events :
   turns_behind [] tape bytes turns = tt
   turns_behind (Sent more ∷ transcript) tape bytes turns =
       search (rules, append_assoc, more, turns_behind transcript tape (bytes ++ more) turns)
+  turns_behind (Taken more ∷ transcript) tape bytes turns = turns
   turns_behind (Got items ∷ transcript) tape bytes turns =
       search (rules, bytes_append, append_assoc, turns_behind transcript (tape ++ items) bytes turns.1)
 
@@ -271,6 +285,7 @@ left_of (Ask bytes go_on) n p = left_of (go_on (Answered (device.answer bytes p)
 -- After any text of whole frames that it answered, it answers all that it receives.
 record ServesOn (p : Programmer) (text : List ℕ) (transcript : Transcript) (left : Programmer) : Type 0 where
   in_turn : AnswersInTurn p text (emulate p text) transcript
+  none_taken : NoneTaken transcript
   fed : HasObeyed p (text ++ bytes_of (heard transcript)) left
   answered : emulate p (text ++ bytes_of (heard transcript)) ≡ emulate p text ++ sent transcript
 
@@ -362,6 +377,7 @@ module _ (plan : Plan) (s : chips.ChipState) (file : Bytes) (asks : AsksBodies (
           during = server;
           grows = refl;
           hears = (last.0, last.1, last.2, omega arith);
+          sends = (on (fresh_programmer s) [] fed_nothing).none_taken;
           in_turn = λ p text was. (on p text was).in_turn;
           leaves = answers_all;
         };

@@ -14,7 +14,8 @@ use Rattle.stk_frame.specs.Cut.{frames}
 use Rattle.stk_host.specs.Dialog.{Event, played, frames_in, bytes_sent, outputs}
 use Rattle.stk_host.specs.Play.{Progress, Plays, IsPrefixOf, IsDue, InTurn}
 use Rattle.stk_host.specs.Tape.{Tape, on_tape, bytes_of}
-use Rattle.stk_host.specs.Transcript.{Transcript, Sent, Got, sent, heard}
+use Rattle.stk_host.specs.Transcript.{Transcript, Sent, Taken, Got, sent, heard}
+use Rattle.stk_host.proofs.Transcripts.Laws.{not_behind}
 use Rattle.stk_host.proofs.Tapes.Answers.{bytes_of_append}
 use Rattle.stk_emu.specs.Along.{along, AsksBodies}
 use Rattle.stk_emu.specs.Effect.{memories_of}
@@ -49,6 +50,7 @@ answered_at p text answered [] after items turns =
     append-nil answered ∙ (turns.0 ∙ ap (emulate p) (sym (append-nil text)))
 answered_at p text answered (Sent more ∷ before) after items turns =
     sym (append_assoc answered more (sent before)) ∙ answered_at p text (answered ++ more) before after items turns
+answered_at p text answered (Taken more ∷ before) after items turns = absurd (not_behind before after items turns)
 answered_at p text answered (Got got ∷ before) after items turns =
     answered_at p (text ++ bytes_of got) answered before after items turns.1
     ∙ ap (emulate p) (append_assoc text (bytes_of got) (bytes_of (heard before))
