@@ -2,8 +2,8 @@
 use Rattle.std.specs.Prelude.{◌≡◌, ◌⊎◌, ℕ, Option, Some}
 use Rattle.avr_desk.specs.Record.{Bytes}
 
--- Since that moment a crash, or a look of another process, found under this name what was there then, or a file of these
--- bytes; and the name is still locked.
+-- Since that moment a crash, or a look of another process, found under this name what was there then, or a file of
+-- these bytes; and the name is still locked.
 pub record Whole {S : Type 0} (locks : S → Bytes → Type 0) (left_since : S → ℕ → Bytes → Option Bytes → Type 0)
     (name bytes : Bytes) (first : ℕ × Option Bytes) (now : S) : Type 0 where
   pub locked : locks now name

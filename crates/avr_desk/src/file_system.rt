@@ -67,8 +67,8 @@ pub trait FileSystem {
         ensures opens { OnOk result (Does did (opening name.now) self.old self.new) }
         ensures fails { OnErr result (Stays did self.old self.new) };
 
-    /// Creates a file, or empties an existing one, but not the held one. If the name leads to that, what is written goes
-    /// to a file without a name. Another hard link to it becomes a file of its own.
+    /// Creates a file, or empties an existing one, but not the held one. If the name leads to that, what is written
+    /// goes to a file without a name. Another hard link to it becomes a file of its own.
     ///
     /// # Errors
     ///

@@ -162,7 +162,8 @@ pub(crate) fn fill_and_place<F: Folder>(
     step: Step,
     bytes: &[u8],
 ) -> io::Result<bool>
-    ensures any_moment { F.has new.old [] → Stays (Whole F.locks F.left_since target.now bytes.now) folder.old folder.new }
+    ensures any_moment { F.has new.old []
+        → Stays (Whole F.locks F.left_since target.now bytes.now) folder.old folder.new }
     ensures lasts { IfOk result (λ placed. placed ≡ true → F.has new.old [] → (first : ℕ × Option Bytes)
         → Whole F.locks F.left_since target.now bytes.now first folder.old
         → Lasts F.moment F.left_since target.now bytes.now folder.new) }

@@ -78,8 +78,8 @@ pub(crate) fn is_removed(is_left_over: bool, owner: u32, user: u32) -> bool
     is_left_over && owner == user
 }
 
-/// Returns the mode that a new file is made with. If it replaces another one, it is its owner's alone until it is whole;
-/// else the system restricts it as any file. It is marked.
+/// Returns the mode that a new file is made with. If it replaces another one, it is its owner's alone until it is
+/// whole; else the system restricts it as any file. It is marked.
 pub(crate) fn first_mode(is_replacing: bool) -> u32
     ensures { result ≡ (if is_replacing then 0o1600 else 0o1666) }
 {

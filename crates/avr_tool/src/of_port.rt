@@ -60,7 +60,8 @@ pub fn run_net<N: Network, D: Desk>(
 ) -> u8
     requires port { IsNetwork settings.now.port }
     ensures runs { RunsOverNet N.unused (IsOverAddress N.Network N.Stream.Read N.Stream.Write N.Stream.closed
-        (port_place settings.now.port)) settings.now (port_place settings.now.port) (D.view desk.old) (D.view desk.new) result }
+        (port_place settings.now.port)) settings.now (port_place settings.now.port) (D.view desk.old)
+        (D.view desk.new) result }
     ensures stays { Stays D.comes_of desk.old desk.new }
 {
     let Port::Network(address) = &settings.port else {
@@ -145,7 +146,8 @@ pub fn serve_on<L: Callers + Drop, D: ChipDesk>(
 ) -> u8
     requires port { IsServed settings.now.port }
     ensures serves { ServesNet ⊤ (IsOverCaller L.Callers L.Stream.Read L.Stream.Write L.Stream.closed listener)
-        settings.now (port_place settings.now.port) (chip_file_of settings.now.port) (D.view desk.old) (D.view desk.new) result }
+        settings.now (port_place settings.now.port) (chip_file_of settings.now.port) (D.view desk.old)
+        (D.view desk.new) result }
     ensures stays { Stays D.comes_of desk.old desk.new }
 {
     let Port::Served { port, chip } = &settings.port else {

@@ -81,8 +81,8 @@ pub enum Item {
 /// A link to a programmer: a device that takes bytes, and gives bytes, timeouts and an end.
 ///
 /// Contracts see two things: the transcript, which lists the pieces sent and received in order, and the count of
-/// failures, which stops at 2^64 - 1. A piece that a failed send took is marked as such. A call returns a fault only if the link has failed. A call that succeeds leaves
-/// the count, unless `send` took none of some bytes.
+/// failures, which stops at 2^64 - 1. A piece that a failed send took is marked as such. A call returns a fault only if
+/// the link has failed. A call that succeeds leaves the count, unless `send` took none of some bytes.
 ///
 /// To connect your own device, write an `impl Link`: `examples/library/a_link_of_ones_own.rs` is a whole one.
 pub trait Link {
