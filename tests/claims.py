@@ -618,7 +618,7 @@ def counts_of_rattle():
     number = lambda it: eval(it, {"__builtins__": {}})
     for what in ("link", "desk"):
         counts = [number(it) for it in re.findall(rf"^    {what}_calls: ([\d +*]+),$", source, re.M)]
-        told = "{}, {}, {} and {}".format(*counts)
+        told = "{:,}, {:,}, {:,} and {:,}".format(*counts)
         see(f"the calls of the {what}: {told}", f"({told})" in page, counts)
 
 
