@@ -60,13 +60,14 @@ REFUSED = {
 }
 
 # The lines that may report a refused call of each kind; the file is the one that the call was for. (A device that can't
-# allocate fails like any other.)
+# allocate fails like any other. Before a file is created, the run looks whether it is the held chip.)
+CREATED = "out.hex: cannot be created"
 LINES = {
-    "growth": ["out of memory", "link cannot be written", "link cannot be read", "chip.bin: cannot be written"],
+    "growth": ["out of memory", "link cannot be written", "link cannot be read", "chip.bin: cannot be written", CREATED],
     "read": ["link cannot be read", "{file}: cannot be read"],
     "write": ["link cannot be written", "{file}: cannot be written"],
     "open": ["{file}: cannot be opened", "{file}: cannot be created", "{file}: cannot be written"],
-    "file": ["{file}: cannot be written", "{file}: cannot be created"],
+    "file": ["{file}: cannot be written", "{file}: cannot be created", CREATED],
     "socket": ["port net:127.0.0.1:PORT cannot be opened", "port PORT cannot be opened"],
 }
 
