@@ -70,7 +70,7 @@ PROVED_LINE = re.compile(r"rt: (\w+) (?:proved|is kept)\b")
 
 # the crate whose first check is the measure of a machine, and the whole in such checks that --all may take
 MEASURE = "stk_frame"
-MOST = 75
+MOST = 70
 
 # rt's line for a refused mutant, and the kinds of refusal; the first match counts. rt cuts a line after 160 characters,
 # so these words may be incomplete
