@@ -59,9 +59,11 @@ REFUSED = {
     "a programmer that isn't known": ([*EMULATED, "-c", "arduino"], 1),
 }
 
-# The lines that may report a refused call of each kind; the file is the one that the call was for. (A device that can't
-# allocate fails like any other. Before a file is created, the run looks whether it is the held chip.)
+# (before a file is created, the run looks whether it is the held chip)
 CREATED = "out.hex: cannot be created"
+
+# The lines that may report a refused call of each kind; the file is the one that the call was for. (A device that can't
+# allocate fails like any other.)
 LINES = {
     "growth": ["out of memory", "link cannot be written", "link cannot be read", "chip.bin: cannot be written", CREATED],
     "read": ["link cannot be read", "{file}: cannot be read"],
