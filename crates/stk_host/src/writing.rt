@@ -222,8 +222,7 @@ pub(crate) fn write_memory<L: Link>(
     ensures comes { Stays L.comes_of link.old link.new }
 {
     match mem {
-        Mem::Flash => write_places(conversation, link, part, mem, image),
-        Mem::Eeprom => write_places(conversation, link, part, mem, image),
+        Mem::Flash | Mem::Eeprom => write_places(conversation, link, part, mem, image),
         Mem::Lfuse => write_fuse(conversation, link, Fuse::Low, image.get(0)),
         Mem::Hfuse => write_fuse(conversation, link, Fuse::High, image.get(0)),
         Mem::Efuse => write_fuse(conversation, link, Fuse::Extended, image.get(0)),
