@@ -3,7 +3,4 @@ use Rattle.stk_host.proofs.Operations.Steps.{goes_quietly}
 use Rattle.stk_host.proofs.conversation.play_step.Goals as goal
 
 pub returns-clause-asks : goal.returns-clause-asks
-returns-clause-asks g c =
-    let played = goes_quietly _ _ _ _ _ _ _ _ c.requires.sized.counted c.requires.none c.step.ensures.sized
-    c.step.ensures.asks.played in
-    search rules
+returns-clause-asks g c = search (rules, goes_quietly)

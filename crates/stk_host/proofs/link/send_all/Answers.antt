@@ -1,4 +1,4 @@
-use Rattle.std.proofs.Common.{◌+◌, refl, arith}
+use Rattle.std.proofs.Common.{rules, ◌+◌, refl, arith}
 use Rattle.std.proofs.lemmas.Result.{err_from_is_err_and}
 use Rattle.stk_host.proofs.Transcripts.Sending.{says_part, part_of, takes_none, behind, part_fits, fails_since}
 use Rattle.stk_host.proofs.link.send_all.Goals as goal
@@ -25,11 +25,4 @@ returns-then-count-eq0-clause-sends g c = record {
 }
 
 pub loop-done-preserved : goal.loop-done-preserved
-loop-done-preserved g c = record {
-  in_range = part_fits c.args.bytes.now c.loop-done.done c.in_ok-count.count c.loop-done.invariant.in_range
-      c.in_ok-count.ensures.sends.within;
-  says = says_part c.args.bytes.now c.loop-done.done c.in_ok-count.count _ _ _ _ c.loop-done.invariant.says
-      (behind c.args.bytes.now c.loop-done.done) c.in_ok-count.ensures.sends.ok;
-  counted = omega (arith, c.in_ok-count.ensures.sends.sound (omega arith), c.loop-done.invariant.counted);
-  comes = λ start of. c.in_ok-count.ensures.comes start (c.loop-done.invariant.comes start of);
-}
+loop-done-preserved g c = search (rules, says_part, behind, part_fits)

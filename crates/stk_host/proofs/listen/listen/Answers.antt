@@ -1,18 +1,11 @@
-use Rattle.std.proofs.Common.{refl, arith, rules}
+use Rattle.std.proofs.Common.{arith, rules}
 use Rattle.std.proofs.lemmas.Result.{err_from_is_err_and}
 use Rattle.stk_host.proofs.Transcripts.Listening.{Listening, begins, heard_bytes, heard_silence, heard_end, reads_on, finds, babbles, hears_none}
 use Rattle.stk_host.proofs.listen.listen.Goals as goal
 use Rattle.stk_host.proofs.listen.listen.Goals.{then-is_empty+in_ok-hear+in-Bytes, else-is_empty}
 
 pub loop-count-init : goal.loop-count-init
-loop-count-init g c = record {
-  in_range = omega arith;
-  fits = c.requires.few;
-  listening = rw c.reset.ensures (begins c.args.seq c.args.unread.now (g.L.Link.view c.args.link.now)
-      (omega (arith, c.requires.few)));
-  counted = refl;
-  comes = λ start of. of;
-}
+loop-count-init g c = search (rules, begins)
 
 pub returns-in-Silence-clause-hears : goal.returns-in-Silence-clause-hears
 returns-in-Silence-clause-hears g c =

@@ -1,4 +1,4 @@
-use Rattle.std.proofs.Common.{[], ◌∷◌, rules}
+use Rattle.std.proofs.Common.{rules}
 use Rattle.std.proofs.lemmas.Result.{err_from_is_err_and}
 use Rattle.stk_host.proofs.Operations.Attempts.{attempt_off, gets_one, gets_last, gets_short}
 use Rattle.stk_host.proofs.conversation.Conversation.attempt.Goals as goal
@@ -7,10 +7,7 @@ pub returns-in-None-clause-replies : goal.returns-in-None-clause-replies
 returns-in-None-clause-replies g c = rw c.in-None.is (gets_one _ _ _ _ _ _ c.exchange.ensures.replies)
 
 pub returns-in_err-short-in-Some-clause-replies : goal.returns-in_err-short-in-Some-clause-replies
-returns-in_err-short-in-Some-clause-replies g c =
-    let p = err_from_is_err_and c.from_residual.result c.from_residual.ensures.1 in
-    rw (p.1, p.2, c.in-Some.is) (let played = attempt_off c.in-Some.command (c.args.last.now ∷ [])
-    c.in_err-short-in-Some.ensures.replies.err in search rules)
+returns-in_err-short-in-Some-clause-replies g c = search (rules, err_from_is_err_and, attempt_off)
 
 pub returns-in-Data-clause-replies : goal.returns-in-Data-clause-replies
 returns-in-Data-clause-replies g c = rw c.in-Some.is (gets_last c.in-Some.command _ _ _ _ _ _ _ _ _ _
@@ -19,11 +16,4 @@ returns-in-Data-clause-replies g c = rw c.in-Some.is (gets_last c.in-Some.comman
     c.in_ok-short-in-Some.ensures.replies.counts.sound c.exchange-in-Data.ensures.replies)
 
 pub returns-in_default-clause-replies : goal.returns-in_default-clause-replies
-returns-in_default-clause-replies g c = record {
-  ok = rw c.in-Some.is (gets_short c.in-Some.command _ _ _ _ c.in_ok-short-in-Some.ensures.replies.ok
-      c.in_default.not-Data);
-  err = search rules;
-  sized = search rules;
-  counts = search rules;
-  bound = search rules;
-}
+returns-in_default-clause-replies g c = search (rules, gets_short)

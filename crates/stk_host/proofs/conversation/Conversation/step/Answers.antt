@@ -1,15 +1,10 @@
-use Rattle.std.proofs.Common.{refl, arith, ◌-◌, ◌+◌, rules}
+use Rattle.std.proofs.Common.{arith, ◌-◌, ◌+◌, rules}
 use Rattle.stk_host.proofs.Transcripts.Reached.{reaches_here}
 use Rattle.stk_host.proofs.Operations.Attempts.{try_again, try_data, try_stop, try_breaks, try_end}
 use Rattle.stk_host.proofs.conversation.Conversation.step.Goals as goal
 
 pub loop-tried-init : goal.loop-tried-init
-loop-tried-init g c = record {
-  reaches = reaches_here _ _ _;
-  bound = λ some. absurd (omega (arith, some));
-  counted = refl;
-  comes = λ start of. of;
-}
+loop-tried-init g c = search (rules, reaches_here)
 
 pub returns-in-Ok-Data-clause-asks : goal.returns-in-Ok-Data-clause-asks
 returns-in-Ok-Data-clause-asks g c =
@@ -30,13 +25,7 @@ returns-in-Err-clause-asks g c =
     search rules
 
 pub loop-tried-preserved : goal.loop-tried-preserved
-loop-tried-preserved g c = record {
-  reaches = try_again {k = 4 - c.loop-tried._tried} (4 - (c.loop-tried._tried + 1)) _ _ (omega arith)
-      c.loop-tried.invariant.reaches _ c.in-Ok-Again.ensures.replies.ok c.in-Ok-Again.field-0-is;
-  bound = λ some. c.attempt.ensures.replies.bound;
-  counted = omega (arith, c.in-Ok-Again.ensures.replies.counts.sound, c.loop-tried.invariant.counted);
-  comes = λ start of. c.attempt.ensures.comes start (c.loop-tried.invariant.comes start of);
-}
+loop-tried-preserved g c = search (rules, try_again)
 
 pub returns-clause-asks : goal.returns-clause-asks
 returns-clause-asks g c =

@@ -3,8 +3,4 @@ use Rattle.stk_host.proofs.Operations.Steps.{done_ends}
 use Rattle.stk_host.proofs.host.Host.erase.Goals as goal
 
 pub returns-clause-calls : goal.returns-clause-calls
-returns-clause-calls g c =
-    rw (← c.self.view_is) (
-    let played = rw (← c.judge_end-outcome.ensures) at (done_ends _ _ _ _ _ _ c.erase_chip-erased.ensures.asks.played)
-    in
-    search rules)
+returns-clause-calls g c = search (rules, done_ends)

@@ -1,23 +1,10 @@
-use Rattle.std.proofs.Common.{◌≤◌, Some, take, refl, subst, rules}
+use Rattle.std.proofs.Common.{◌≤◌, Some, refl, subst, rules}
 use Rattle.stk_host.specs.Links.{StreamState, IsTrueSince}
 use Rattle.stk_host.proofs.Transcripts.Streams.{true_on, true_of_sent, true_of_taken}
 use Rattle.stk_host.proofs.stream_link.StreamLinkLink.send.Goals as goal
 
 pub returns-in-Ok-clause-comes : goal.returns-in-Ok-clause-comes
-returns-in-Ok-clause-comes g c = λ start since.
-    let after : StreamState g.row.R.Denot g.row.W.Denot = record {
-      reader = c.self.inside.reader;
-      writer = c.put_bytes.new.writer;
-      failures = c.self.inside.failures;
-      last_error = c.self.inside.last_error;
-      transcript = c.put_bytes.new.history.items;
-    } in
-    let bytes = take c.in-Ok.count c.args.bytes.now in
-    true_on g.R.Read.remaining g.W.Write.contents start c.args.self.now after since
-    (subst (λ (mid : StreamState g.row.R.Denot g.row.W.Denot). IsTrueSince g.R.Read.remaining g.W.Write.contents mid
-    after) c.self.view_is
-    (true_of_sent g.R.Read.remaining g.W.Write.contents _ after bytes refl refl c.in-Ok.ensures.sent
-    c.in-Ok.ensures.ok))
+returns-in-Ok-clause-comes g c = search (rules, true_on, true_of_sent)
 
 pub returns-in-Err-clause-comes : goal.returns-in-Err-clause-comes
 returns-in-Err-clause-comes g c = λ start since.
