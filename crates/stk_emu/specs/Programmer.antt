@@ -9,6 +9,7 @@ use Rattle.stk_frame.specs.declared.command.ProgramBlock.{ProgramBlock}
 use Rattle.stk_frame.specs.declared.command.ReadBlock.{ReadBlock}
 use Rattle.stk_frame.specs.declared.command.ReadByte.{ReadByte}
 use Rattle.stk_frame.specs.Decoding.{command_of}
+use Rattle.stk_emu.specs.declared.flash.Block.{Block}
 use Rattle.stk_emu.specs.declared.programmer.TheConstants.{LARGEST_READ}
 
 pub record Programmer : Type 0 where
@@ -202,6 +203,13 @@ flash_looks wide cmd address i zero chip = ([], chip)
 flash_looks wide cmd address i (suc n) chip =
     look (at_address (for_half cmd i) (word_at address i) 0) (sent_to (extension wide (word_at address i)) chip)
     (flash_looks wide cmd address (suc i) n)
+
+-- What loads a block of flash, and what is read of one.
+abbrev pub block_loads : Block → List ℕ → List (List ℕ)
+block_loads block bytes = flash_loads block.wide block.command block.address 0 bytes
+
+abbrev pub block_looks : Block → ℕ → ChipState → Looked
+block_looks block count chip = flash_looks block.wide block.command block.address 0 count chip
 
 abbrev pub eeprom_looks : ℕ → ℕ → ℕ → ℕ → ChipState → Looked
 eeprom_looks cmd address i zero chip = ([], chip)

@@ -5,6 +5,7 @@ ghost use Rattle.avr_part.specs.State.{spi_of};
 ghost use Rattle.stk_frame.specs.declared.protocol.TheConstants.{LARGEST_BODY, STATUS_CMD_FAILED, STATUS_CMD_UNKNOWN};
 ghost use Rattle.stk_emu.specs.Programmer.{fresh_programmer, restarted_programmer, sign_on, set_parameter, get_parameter, load_address, enter_response, enter_progmode, leave_progmode, chip_erase, program_byte, read_byte, program_flash, flash_fits, program_eeprom, eeprom_fits, is_paged, is_written, writes_page, is_polled, read_flash, read_eeprom, spi_multi, obey_command, is_known, not_read, obey, bit_31};
 
+use crate::flash::Block;
 use crate::{eeprom, flash};
 use arrayvec::ArrayVec;
 use avr_part::Chip;
@@ -216,22 +217,19 @@ impl Programmer {
         answer_with(out, &[CMD_LOAD_ADDRESS, STATUS_CMD_OK]);
     }
 
-    fn entered(&mut self, ok: bool, out: &mut Body)
-        ensures { (out.new.items, self.new) ≡ enter_response ok self.old }
-    {
-        self.mode = ok;
-        let status = if ok { STATUS_CMD_OK } else { STATUS_CMD_FAILED };
-        answer_with(out, &[CMD_ENTER_PROGMODE_ISP, status]);
-    }
-
     fn enter_progmode(&mut self, fields: &EnterProgmode, out: &mut Body)
         ensures { (out.new.items, self.new) ≡ enter_progmode fields.now self.old }
     {
+        self.mode = false;
         if fields.poll_index > 4 {
-            return self.entered(false, out);
+            return fail(out, CMD_ENTER_PROGMODE_ISP);
         }
         let bytes = self.chip.spi(fields.instruction);
-        self.entered(is_polled(fields, bytes), out)
+        if !is_polled(fields, bytes) {
+            return fail(out, CMD_ENTER_PROGMODE_ISP);
+        }
+        self.mode = true;
+        answer_with(out, &[CMD_ENTER_PROGMODE_ISP, STATUS_CMD_OK]);
     }
 
     fn leave_progmode(&mut self, out: &mut Body)
@@ -286,27 +284,27 @@ impl Programmer {
         self.address = (self.address + u32::from(count)) % EXTENDED_ADDRESS;
     }
 
+    /// Returns the block at the programmer's address, with this instruction.
+    fn block(&self, command: u8) -> Block
+        ensures { result ≡ record { wide = self.now.wide; command = command; address = self.now.address } }
+    {
+        Block {
+            wide: self.wide,
+            command,
+            address: self.address,
+        }
+    }
+
     fn program_flash(&mut self, fields: &ProgramBlock<'_>, out: &mut Body)
         ensures { (out.new.items, self.new) ≡ program_flash fields.now self.old }
     {
         if !self.mode || !flash_fits(fields) {
             return fail(out, CMD_PROGRAM_FLASH_ISP);
         }
-        let address = self.address;
-        flash::load_page(
-            &mut self.chip,
-            self.wide,
-            fields.cmd1,
-            address,
-            fields.bytes.bytes(),
-        );
-        flash::write_page(
-            &mut self.chip,
-            self.wide,
-            fields.cmd2,
-            address,
-            is_written(fields),
-        );
+        let block = self.block(fields.cmd1);
+        flash::load_page(&mut self.chip, block, fields.bytes.bytes());
+        let page = self.block(fields.cmd2);
+        flash::write_page(&mut self.chip, page, is_written(fields));
         self.move_on(fields.count / 2);
         answer_with(out, &[CMD_PROGRAM_FLASH_ISP, STATUS_CMD_OK]);
     }
@@ -332,14 +330,8 @@ impl Programmer {
             return fail(out, CMD_READ_FLASH_ISP);
         }
         answer_with(out, &[CMD_READ_FLASH_ISP, STATUS_CMD_OK]);
-        flash::read(
-            &mut self.chip,
-            self.wide,
-            fields.cmd1,
-            self.address,
-            count,
-            out,
-        );
+        let block = self.block(fields.cmd1);
+        flash::read(&mut self.chip, block, count, out);
         out.push(STATUS_CMD_OK);
         self.move_on(count / 2);
     }

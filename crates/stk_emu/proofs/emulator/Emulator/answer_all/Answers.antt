@@ -1,4 +1,4 @@
-use Rattle.std.proofs.Common.{[], arith, take_all}
+use Rattle.std.proofs.Common.{rules, [], arith, take_all}
 use Rattle.std.proofs.lemmas.Result.{err_from_is_err_and}
 use Rattle.stk_host.proofs.Transcripts.Sending.{behind, part_fits}
 use Rattle.stk_emu.proofs.Answers.Texts.{appends_none, appends_on, appends_prefix, appends_fed, appends_all}
@@ -8,16 +8,10 @@ pub loop-used-init : goal.loop-used-init
 loop-used-init c = record { within = omega arith; appends = appends_none c.args.self.now c.args.answers.now.items }
 
 pub loop-used-preserved : goal.loop-used-preserved
-loop-used-preserved c = record {
-  within = part_fits c.args.bytes.now c.loop-used.used c.in_ok-used.field-0 c.loop-used.invariant.within
-      c.in_ok-used.ensures.within;
-  appends = appends_on c.args.bytes.now c.loop-used.used c.in_ok-used.field-0 _ _ _ _ _ _
-      c.loop-used.invariant.appends (rw (behind c.args.bytes.now c.loop-used.used) at c.in_ok-used.ensures.appends);
-}
+loop-used-preserved c = search (rules, behind, part_fits, appends_on)
 
 pub returns-clause-appends : goal.returns-clause-appends
-returns-clause-appends c = rw (take_all c.loop-used.used c.args.bytes.now c.loop-used-test.false) at
-    c.loop-used.invariant.appends
+returns-clause-appends c = search (rules, take_all)
 
 pub returns-clause-fed : goal.returns-clause-fed
 returns-clause-fed c = λ p text f. appends_fed _ _ _ _ _ p text (returns-clause-appends c) f

@@ -1,12 +1,10 @@
-use Rattle.std.proofs.Common.{sym, ◌∙◌}
+use Rattle.std.proofs.Common.{rules}
 use Rattle.stk_frame.specs.Reader.{frames_of_event}
 use Rattle.stk_emu.proofs.Answers.Texts.{found_frames, found_few, answer_ends, is_fed, emulated, none_found}
 use Rattle.stk_emu.proofs.emulator.Emulator.feed.Goals as goal
 
 pub returns-clause-all : goal.returns-clause-all
-returns-clause-all c = λ e. c.feed-used.ensures.all
-    (none_found c.feed-used.result.1 c.feed-used.new.self c.self.inside.programmer
-    (sym c.answer_event.ensures.answers ∙ e))
+returns-clause-all c = search (rules, none_found)
 
 pub returns-clause-one : goal.returns-clause-one
 returns-clause-one c =

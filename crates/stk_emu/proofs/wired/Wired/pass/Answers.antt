@@ -1,4 +1,4 @@
-use Rattle.std.proofs.Common.{ap, ◌∙◌, arith, [], ◌∷◌, ◌++◌, take, length-append, rules}
+use Rattle.std.proofs.Common.{ap, ◌∙◌, [], ◌∷◌, ◌++◌, take, length-append, rules}
 use Rattle.stk_frame.specs.Reader.{frames_of_event}
 use Rattle.stk_host.specs.Transcript as transcript
 use Rattle.stk_emu.proofs.Answers.Texts.{found_frames}
@@ -7,10 +7,7 @@ use Rattle.stk_emu.proofs.Wires.Kept.{keeps_passing}
 use Rattle.stk_emu.proofs.wired.Wired.pass.Goals as goal
 
 pub invariant_of-self-2 : goal.invariant_of-self-2
-invariant_of-self-2 c = record {
-  at = rw (c.keep.ensures.waits, c.in_ok-make_room.ensures.waits, length-append)
-      (omega (arith, c.self.invariant.at));
-}
+invariant_of-self-2 c = search (rules, length-append)
 
 pub returns-clause-passes : goal.returns-clause-passes
 returns-clause-passes c = record {
