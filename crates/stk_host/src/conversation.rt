@@ -109,7 +109,7 @@ impl Conversation {
         }
     }
 
-    /// Returns the data of the last answer, which was to `command`.
+    /// Returns the data of the last reply, and nothing if it isn't a good one to `command`.
     pub(crate) fn data_read(&self, command: &Command<'_>) -> &[u8]
         ensures { result.now ≡ data_held command.now self.now.held }
     {

@@ -1,10 +1,7 @@
 -- Which places have steps: the pages that are used, and the first byte of each run.
-use Rattle.std.proofs.Common.{◌≡◌, ◌∙◌, ap, refl, arith, ℕ, suc, zero, ◌+◌, ◌-◌, ◌*◌, ◌/◌, ◌%◌, ◌<◌, ◌≤◌, List, [], ◌∷◌, ◌++◌, length, get_or, take, drop, true, false, Option, None, is_some, inl, inr, ◌⊎◌, rules}
+use Rattle.std.proofs.Common.{◌≡◌, ◌∙◌, ap, refl, arith, ℕ, suc, zero, ◌+◌, ◌-◌, ◌*◌, ◌/◌, ◌%◌, ◌<◌, ◌≤◌, List, [], ◌∷◌, ◌++◌, length, true, false, Option, None, is_some, inl, inr, ◌⊎◌, rules}
 use Rattle.std.proofs.lemmas.Bool.{cases_lt}
-use Rattle.std.proofs.lemmas.List.{length-drop, length-take, get_or-drop, get_or-take}
-use Rattle.std.proofs.lemmas.List.Folds.{list_any_at}
 use Rattle.std.proofs.Math.Nat.{mul-mod_left, zero-mod}
-use Rattle.std.specs.List.{list_any}
 use Rattle.avr_image.specs.Image.{byte_at, holds_any, run_end}
 use Rattle.avr_image.specs.Walk.{IsNextHeld, IsByteRun}
 use Rattle.avr_image.proofs.Lemmas.{held_within, run_is_longest}

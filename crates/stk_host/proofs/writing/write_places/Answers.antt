@@ -1,3 +1,4 @@
+use Rattle.stk_host.specs.Steps.{play}
 use Rattle.std.proofs.Common.{rules}
 use Rattle.std.proofs.lemmas.Result.{err_from_is_err_and}
 use Rattle.stk_host.specs.WriteSteps.{place_steps}
@@ -20,7 +21,5 @@ pub loop-place-preserved : goal.loop-place-preserved
 loop-place-preserved g c = search (rules, reaches_next)
 
 pub returns-clause-asks : goal.returns-clause-asks
-returns-clause-asks g c =
-    let played = plays_all (place_steps c.args.part.now c.args.mem c.args.image.now) _ _ c.loop-place.invariant.reaches
-    (rw c.place_count-place-end.ensures at c.loop-place-test.false) in
-    search rules
+unfolding play
+returns-clause-asks g c = search (rules, plays_all)

@@ -1,3 +1,4 @@
+use Rattle.stk_host.specs.Steps.{attempt}
 use Rattle.std.proofs.Common.{rules}
 use Rattle.std.proofs.lemmas.Result.{err_from_is_err_and}
 use Rattle.stk_host.proofs.Operations.Attempts.{attempt_off, gets_one, gets_last, gets_short}
@@ -10,10 +11,8 @@ pub returns-in_err-short-in-Some-clause-replies : goal.returns-in_err-short-in-S
 returns-in_err-short-in-Some-clause-replies g c = search (rules, err_from_is_err_and, attempt_off)
 
 pub returns-in-Data-clause-replies : goal.returns-in-Data-clause-replies
-returns-in-Data-clause-replies g c = rw c.in-Some.is (gets_last c.in-Some.command _ _ _ _ _ _ _ _ _ _
-    c.in_ok-short-in-Some.ensures.replies.ok c.in-Data.is (c.in_ok-short-in-Some.ensures.quiet
-    (rw c.in-Some.is at c.requires.quiet) c.in-Data.is)
-    c.in_ok-short-in-Some.ensures.replies.counts.sound c.exchange-in-Data.ensures.replies)
+unfolding attempt
+returns-in-Data-clause-replies g c = search (rules, gets_last)
 
 pub returns-in_default-clause-replies : goal.returns-in_default-clause-replies
 returns-in_default-clause-replies g c = search (rules, gets_short)

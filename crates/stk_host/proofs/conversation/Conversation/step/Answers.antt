@@ -1,3 +1,4 @@
+use Rattle.stk_host.specs.Steps.{tries}
 use Rattle.std.proofs.Common.{arith, ◌-◌, ◌+◌, rules}
 use Rattle.stk_host.proofs.Transcripts.Reached.{reaches_here}
 use Rattle.stk_host.proofs.Operations.Attempts.{try_again, try_data, try_stop, try_breaks, try_end}
@@ -28,6 +29,5 @@ pub loop-tried-preserved : goal.loop-tried-preserved
 loop-tried-preserved g c = search (rules, try_again)
 
 pub returns-clause-asks : goal.returns-clause-asks
-returns-clause-asks g c =
-    let played = try_end (4 - c.loop-tried._tried) _ _ c.loop-tried.invariant.reaches (omega arith) in
-    search rules
+unfolding tries
+returns-clause-asks g c = search (rules, try_end)
