@@ -388,13 +388,26 @@ def examples_run():
             see(" ".join(words), ran.returncode == 0 and ran.stderr.endswith("avrstk: done\n"), ran)
 
 
+# where else each option's letter stands, and how
+LETTERS = {
+    "avrstk-serial": r'(?m)^SHORT = "([^"]*)"',
+    "tools/hint.sh": r'getopts "(:[^"]*)"',
+    "completions/_avrstk": r"""['"*{]-(\w)[+\[,]""",
+    "completions/avrstk.fish": r"""(?:-s | (?=\w:['"\w]))(\w)""",
+}
+
+
 def names_agree():
-    """USAGE, docs/PART, the completions and --help name the same options and parts."""
+    """USAGE, docs/PART, the completions, the hints and --help name the same options and parts."""
     options, shown = of_help()
     completions = (TOP / "completions/avrstk.bash").read_text()
     completed = re.search(r'"(-p [^"]*)"', completions)[1].split()
     same("the options of USAGE are those of --help", of_usage(), options)
     same("the completions are those of --help", set(completed), {name for name, _ in options})
+    letters = {name[1] for name, _ in options if len(name) == 2}
+    for file, form in LETTERS.items():
+        found = {it for match in re.findall(form, (TOP / file).read_text()) for it in match}
+        same(f"{file} has the letters of --help", letters - found, set())
     see("--help names the built-in parts", ", ".join(parts()[:-1]) in shown and parts()[-1] in shown, parts())
     in_clone, installed = re.findall(r"--parts (\S+\.toml)", shown)
     see("--help names the part file of a clone", (TOP / in_clone).is_file(), in_clone)

@@ -64,8 +64,8 @@ pub fn over_any_tape_a_conversation_goes_along_turns<E, R>()
         → after_frames device (frames got) p ≡ after_pieces device sent (became_by through) p }
 {}
 
-/// States that everything read on a link that forges no frame is honest, from the first frame on. An answer that is
-/// taken has the number of its question, and of the last 256 answers only the one to that question has it.
+/// States that everything read on a link that forges no frame is honest, from the first frame on. A reply that is
+/// taken has the number of its question, and of the last 256 replies only the one to that question has it.
 // Proof: `no_frame_honest` (Lines/NoFrame).
 pub fn a_line_that_makes_no_frame_is_honest<E, R>()
     ensures { (d : Dialog E R) (n : ℕ) (tape : Tape) (p : Programmer) (becames : List Became)

@@ -140,6 +140,17 @@ pub fn drive_outcome<D: Desk, L: Link>(
 
 /// Runs the session of a plan as [`drive_outcome`] does, and returns the status: 0 if there was no fault, otherwise
 /// 1.
+///
+/// ```text
+/// let settings = Settings::for_link(alloc, "m328p")?;
+/// let mut desk = MemDesk::empty(alloc);
+/// let Ok(plan) = plan(alloc, &settings, &mut desk) else {
+///     panic!(rt; "the part is built in");
+/// };
+/// let mut ended = TapeLink::new(alloc, Vec::new(alloc), 281);
+/// assert_eq!(rt; drive(alloc, &plan, &mut desk, &mut ended), 1);
+/// assert!(rt; desk.messages() == b"avrstk: error: link ended\n".as_slice());
+/// ```
 pub fn drive<D: Desk, L: Link>(alloc: Global, plan: &Plan, desk: &mut D, link: &mut L) -> u8
     ensures runs { RunsSession plan.now (devices (L.view link.old) (D.view desk.old))
         (devices (L.view link.new) (D.view desk.new)) result }
@@ -152,6 +163,15 @@ pub fn drive<D: Desk, L: Link>(alloc: Global, plan: &Plan, desk: &mut D, link: &
 
 /// Makes the plan of a run, runs its session over a link, and reports it at the desk. Returns the status: 0 if there
 /// was no fault, otherwise 1. A refusal is reported before any frame is sent or file created.
+///
+/// ```text
+/// let settings = Settings::for_link(alloc, "nobody")?;
+/// let mut desk = MemDesk::empty(alloc);
+/// let mut link = TapeLink::new(alloc, Vec::new(alloc), 281);
+/// assert_eq!(rt; run(alloc, &settings, &mut desk, &mut link), 1);
+/// assert!(rt; desk.messages() == b"avrstk: error: no part nobody\n".as_slice());
+/// assert!(rt; link.sent().is_empty());
+/// ```
 pub fn run<D: Desk, L: Link>(alloc: Global, settings: &Settings, desk: &mut D, link: &mut L) -> u8
     ensures runs { RunsBetween D.view D.comes_of settings.now (L.view link.old) (L.view link.new)
         desk.old desk.new result }

@@ -138,6 +138,18 @@ pub fn serve<D: ChipDesk, L: Link>(
 /// Serves the emulator to the first client of a listener, at most 16,777,216 reads. The port of the settings must be
 /// [`Port::Served`]. Returns the status: 0 if there was no fault, otherwise 1. The part and the chip file of the
 /// settings are checked before a connection is accepted.
+///
+/// ```text
+/// let mut settings = Settings::for_link(alloc, "m328p")?;
+/// let [port, chip] = [Text::new(alloc, "0")?, Text::new(alloc, "chip.bin")?];
+/// settings.port = Port::Served { port, chip };
+/// let mut desk = MemDesk::empty(alloc);
+/// let listener = listen(&rt, 0)?;
+/// let client = TcpStream::connect(&rt, listener.local_addr()?)?;
+/// client.shutdown(Shutdown::Write)?;
+/// assert_eq!(rt; serve_on(alloc, &settings, listener, &mut desk), 0);
+/// assert!(rt; desk.file("chip.bin").is_some());
+/// ```
 pub fn serve_on<L: Callers + Drop, D: ChipDesk>(
     alloc: Global,
     settings: &Settings,

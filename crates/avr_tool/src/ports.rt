@@ -33,6 +33,12 @@ pub(crate) fn close<S: Side>(link: StreamLink<S, S>)
 /// # Errors
 ///
 /// The system's error, such as for a port in use.
+///
+/// ```text
+/// let listener = listen(&rt, 0)?;
+/// let port = listener.local_addr()?.port();
+/// assert!(rt; listen(&rt, port).is_err());
+/// ```
 pub fn listen<N: Network>(network: N, port: u16) -> io::Result<N::Listener>
     ensures listens { IfOk result (λ listener. N.listens listener port) }
     ensures shut { OnErr result (N.is_shut port) }
@@ -45,6 +51,15 @@ pub fn listen<N: Network>(network: N, port: u16) -> io::Result<N::Listener>
 /// # Errors
 ///
 /// The system's error, if no connection can be accepted.
+///
+/// ```text
+/// let listener = listen(&rt, 0)?;
+/// let mut client = TcpStream::connect(&rt, listener.local_addr()?)?;
+/// let mut link = accept(listener)?;
+/// client.write_all(b"\x1B")?;
+/// let mut buffer = [0; 281];
+/// assert_eq!(rt; link.recv(&mut buffer)?, Heard::Bytes(1));
+/// ```
 pub fn accept<L: Callers>(listener: L) -> io::Result<StreamLink<L::Stream, L::Stream>>
     ensures new { IfOk result (IsNewLink (L.calls listener)) }
     ensures missed { OnErr result (L.lacks listener) }

@@ -31,7 +31,7 @@ fn main(rt: HostRuntime) -> ExitCode {
 }
 
 /// Opens a folder in place of each closed standard stream, and keeps it open while the program runs. Otherwise the chip
-/// file would take that place, and answers would go there. A folder can be neither read nor written.
+/// file would take that place, and replies would go there. A folder can be neither read nor written.
 fn take_closed_streams(rt: &HostRuntime) -> [io::Result<File>; 3] {
     [fs::open(rt, "/"), fs::open(rt, "/"), fs::open(rt, "/")]
 }
