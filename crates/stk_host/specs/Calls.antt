@@ -54,7 +54,7 @@ pub record HearsNext (most : ℕ) (old new : LinkState) (unread : List ℕ) (res
   pub err : OnErr result (Grows old.transcript [] new.transcript)
   pub counts : LinkCounts old new result
 
--- How listening ended; the reader holds the answer.
+-- How listening ended; the reader holds the reply.
 abbrev pub reading_of : Reading → List ℕ → tape.Reading
 reading_of read.Answered held = tape.Answered (body_of held)
 reading_of read.Silent held = tape.Silent
@@ -65,7 +65,7 @@ abbrev pub HoldsAnswer : Reading → List ℕ → Type 0
 HoldsAnswer read.Answered held = HoldsFrame held
 HoldsAnswer _ held = Unit {0}
 
--- How listening for the answer to a frame ends, with what the reader holds and what is unread then.
+-- How listening for the reply to a frame ends, with what the reader holds and what is unread then.
 pub record HearsAnswer (seq : ℕ) (before : List ℕ) (old new : LinkState) (result : Result Reading LinkFault)
     (held after : List ℕ) : Type 0 where
   pub ok : IfOk result (λ reading. Hears seq before old new (reading_of reading held) after)
@@ -74,7 +74,7 @@ pub record HearsAnswer (seq : ℕ) (before : List ℕ) (old new : LinkState) (re
   pub counts : LinkCounts old new result
   pub fits : length after ≤ LARGEST_FRAME
 
--- What follows from the answer, with its data.
+-- What follows from the reply, with its data.
 abbrev pub reply_of : Reply → List ℕ → steps.Reply
 reply_of said.Data bytes = steps.Data bytes
 reply_of (said.Again fault) bytes = steps.Again fault
@@ -113,7 +113,7 @@ EndsInnerStep whole rest before old new (Ok done) after =
 EndsInnerStep whole rest before old new (Err stop) after =
     (steps : List (List Command)) → StopsSteps (whole steps) before old new stop after
 
--- The data bytes that an answer of this shape brings, if the shape fixes them.
+-- The data bytes that a reply of this shape brings, if the shape fixes them.
 abbrev pub data_count : Shape → ℕ
 data_count Name = 0
 data_count (Bytes n) = n
@@ -190,7 +190,7 @@ UnlessBroken _ P = P
 abbrev pub FitsFrame : Command → Type 0
 FitsFrame command = length (body command) ≤ LARGEST_BODY
 
--- The command fits a frame, and its answer brings no data.
+-- The command fits a frame, and its reply brings no data.
 pub record BringsNoData (command : Command) : Type 0 where
   pub fits : FitsFrame command
   pub quiet : shape command ≡ Bytes 0

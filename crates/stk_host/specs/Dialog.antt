@@ -1,10 +1,10 @@
--- Dialogs, and their one meaning: the run over a tape of answers, `played` in names.
+-- Dialogs, and their one meaning: the run over a tape of replies, `played` in names.
 use Rattle.std.specs.Prelude.{ℕ, ◌+◌, ◌%◌, List, [], ◌∷◌, ◌++◌, Option, Some, None}
 use Rattle.stk_frame.specs.Frame.{frame}
 use Rattle.stk_host.specs.Tape.{Tape, Reading, answer}
 
 -- A dialog is done, or it outputs an event beside the link, such as a message, or it asks. To ask, it sends a
--- command's body, and goes on with the reading of its answer.
+-- command's body, and goes on with the reading of its reply.
 pub data Dialog (E R : Type 0) : Type 0 where
   Done : R → Dialog E R
   Say : E → Dialog E R → Dialog E R

@@ -58,13 +58,13 @@ pub record SendsAll {E : Type 0} (bytes : List ℕ) (old new : LinkState) (resul
   pub err : OnErr result (SaysPart bytes old.transcript new.transcript)
   pub counts : LinkCounts old new result
 
--- At each piece received there was no answer yet, and nothing was sent.
+-- At each piece received there was no reply yet, and nothing was sent.
 abbrev pub WaitsFrom : ℕ → Tape → Transcript → Type 0
 WaitsFrom seq tape [] = Unit {0}
 WaitsFrom seq tape (Got items ∷ transcript) = (answer seq tape ≡ None) × WaitsFrom seq (tape ++ items) transcript
 WaitsFrom seq tape (other ∷ transcript) = ⊥
 
--- The answer was waited for, within the limit of bytes.
+-- The reply was waited for, within the limit of bytes.
 pub record Hears (seq : ℕ) (unread : List ℕ) (old new : LinkState) (reading : Reading) (left : List ℕ) : Type 0 where
   pub during : Transcript
   pub grows : Grows old.transcript during new.transcript
@@ -73,7 +73,7 @@ pub record Hears (seq : ℕ) (unread : List ℕ) (old new : LinkState) (reading 
   pub answers : (more : Tape) → answer seq (on_tape unread ++ (heard during ++ more))
       ≡ Some (reading, on_tape left ++ more)
 
--- The wait broke off before the answer arrived.
+-- The wait broke off before the reply arrived.
 pub record HearsNone (seq : ℕ) (unread : List ℕ) (old new : LinkState) : Type 0 where
   pub during : Transcript
   pub grows : Grows old.transcript during new.transcript

@@ -10,7 +10,7 @@ use Rattle.stk_host.specs.declared.fault.StepFault.TheVariants.{NoAnswer, LinkEn
 use Rattle.stk_host.specs.Tape.{Reading, Answered, Silent, Ended, Babbled}
 use Rattle.stk_host.specs.Dialog.{Dialog, Done, Ask, ◌>>=◌}
 
--- What follows from an answer: its data, a fault after which the commands are sent again, or a fault that ends the
+-- What follows from a reply: its data, a fault after which the commands are sent again, or a fault that ends the
 -- step.
 pub data Reply : Type 0 where
   Data : List ℕ → Reply
@@ -38,8 +38,8 @@ with_data go_on (Data bytes) = go_on bytes
 with_data go_on (Again fault) = Done (Again fault)
 with_data go_on (Stop fault) = Done (Stop fault)
 
--- Sends the commands in order, up to the first whose answer brings no data. The result is all data joined, or what
--- that answer led to.
+-- Sends the commands in order, up to the first whose reply brings no data. The result is all data joined, or what
+-- that reply led to.
 unfoldable pub attempt : List Command → List ℕ → Dialog ⊥ Reply
 attempt [] data_before = Done (Data data_before)
 attempt (command ∷ commands) data_before =

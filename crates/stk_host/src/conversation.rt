@@ -1,4 +1,4 @@
-//! Commands and their answers, attempts, and steps.
+//! Commands and their replies, attempts, and steps.
 ghost use Rattle.std.specs.Prelude.{◌≡◌, ◌<◌, ◌≤◌, ◌++◌, ◌∷◌, [], length, IsOkAnd, OnOk, IfSome, ◌+◌, vec_capacity};
 ghost use Rattle.stk_frame.specs.Frame.{frame};
 ghost use Rattle.stk_frame.specs.Commands.{body, judge, shape, SizedBy};
@@ -18,7 +18,7 @@ use stk_frame::{Answer, Command, FrameFault, FrameReader};
 
 const ATTEMPTS: u8 = 4;
 
-/// What follows from the answer to a command.
+/// What follows from the reply to a command.
 #[derive(Clone, Copy, Drop)]
 pub(crate) enum Reply {
     Data,
@@ -138,7 +138,7 @@ impl Conversation {
         Ok(reply_to(&self.reader, reading, command))
     }
 
-    /// Sends the commands in order, up to the first whose answer brings no data.
+    /// Sends the commands in order, up to the first whose reply brings no data.
     fn attempt<L: Link>(
         &mut self,
         link: &mut L,
@@ -160,7 +160,7 @@ impl Conversation {
         }
     }
 
-    /// Runs a step: at most four attempts at the commands. Only the last command's answer brings data, which
+    /// Runs a step: at most four attempts at the commands. Only the last command's reply brings data, which
     /// `data_read` then lends.
     pub(crate) fn step<L: Link>(
         &mut self,

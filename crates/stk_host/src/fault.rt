@@ -11,15 +11,15 @@ use thiserror::Error;
 /// definitions that other crates' contracts cite use it.
 #[derive(Clone, Copy, Debug, Drop, PartialEq, Eq)]
 pub enum StepFault {
-    /// The last attempt got no answer.
+    /// The last attempt got no reply.
     NoAnswer,
     /// The link has ended.
     LinkEnded,
-    /// The last attempt got 4,096 bytes without an answer.
+    /// The last attempt got 4,096 bytes without a reply.
     Babble,
     /// The programmer refused this command with this status.
     Refused { command: u8, status: u8 },
-    /// The reply to this command is no answer to it.
+    /// The reply to this command doesn't fit it.
     BadAnswer(u8),
 }
 
@@ -47,7 +47,7 @@ impl StepFault {
 pub enum Broken {
     /// Send a whole frame.
     Send,
-    /// Receive the answer to one.
+    /// Receive the reply to one.
     Recv,
 }
 
@@ -63,14 +63,14 @@ pub(crate) enum Stop {
 /// ```text
 /// let fault = HostFault::Differs { mem: Mem::Eeprom, addr: 0x10, want: 0x55, found: 0xFF };
 /// assert_eq!(rt; (fault.number(), fault.command_name()), (8, None));
-/// // a line on which nobody answers
+/// // a line on which nobody replies
 /// let part = Parts::none().find("m328p")?;
 /// let mut silent = TapeLink::new(alloc, vec![in alloc; Item::Silence; 8]?, 281);
 /// assert_eq!(rt; Host::new(&part).open(&mut silent, false), Err(HostFault::NoAnswer));
 /// ```
 #[derive(Clone, Copy, Drop, PartialEq, Eq, Error)]
 pub enum HostFault {
-    /// The last of four attempts got no answer.
+    /// The last of four attempts got no reply.
     #[error("no answer")]
     NoAnswer,
     /// The link has ended.
@@ -80,7 +80,7 @@ pub enum HostFault {
     /// have been sent whole if the send that failed took its end.
     #[error("link cannot be written")]
     SendFailed,
-    /// The last of four attempts got 4,096 bytes without an answer.
+    /// The last of four attempts got 4,096 bytes without a reply.
     #[error("no answer in 4096 bytes")]
     Babble,
     /// The programmer refused this command with this status (AVR068, "Status constants").
@@ -89,7 +89,7 @@ pub enum HostFault {
         command: u8,
         status: u8,
     },
-    /// The reply to this command is no answer to it.
+    /// The reply to this command doesn't fit it.
     #[error("command {0:02X}: bad answer")]
     BadAnswer(u8),
     /// The signature read from the part, which isn't the wanted one.

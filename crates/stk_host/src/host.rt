@@ -204,8 +204,8 @@ impl Host {
     ///
     /// ```text
     /// let part = Parts::none().find("m328p")?;
-    /// let answers = b"\x1B\x01\x00\x02\x0E\x12\x00\x04";
-    /// let mut link = StreamLink::new(answers.as_slice(), Vec::new(alloc));
+    /// let replies = b"\x1B\x01\x00\x02\x0E\x12\x00\x04";
+    /// let mut link = StreamLink::new(replies.as_slice(), Vec::new(alloc));
     /// Host::new(&part).erase(&mut link)?;
     /// ```
     pub fn erase<L: Link>(&mut self, link: &mut L) -> Result<(), HostFault>
@@ -236,8 +236,8 @@ impl Host {
     /// ```text
     /// let part = Parts::none().find("m328p")?;
     /// let image = parse_immediate(alloc, "0xE2", part.size_of(Mem::Lfuse))?;
-    /// let answers = b"\x1B\x01\x00\x03\x0E\x17\x00\x00\x00";
-    /// let mut link = StreamLink::new(answers.as_slice(), Vec::new(alloc));
+    /// let replies = b"\x1B\x01\x00\x03\x0E\x17\x00\x00\x00";
+    /// let mut link = StreamLink::new(replies.as_slice(), Vec::new(alloc));
     /// Host::new(&part).write(&mut link, Mem::Lfuse, &image)?;
     /// ```
     pub fn write<L: Link>(&mut self, link: &mut L, mem: Mem, image: &Image) -> Result<(), HostFault>
@@ -267,8 +267,8 @@ impl Host {
     ///
     /// ```text
     /// let part = Parts::none().find("m328p")?;
-    /// let answers = b"\x1B\x01\x00\x04\x0E\x18\x00\x62\x00\x6A";
-    /// let mut link = StreamLink::new(answers.as_slice(), Vec::new(alloc));
+    /// let replies = b"\x1B\x01\x00\x04\x0E\x18\x00\x62\x00\x6A";
+    /// let mut link = StreamLink::new(replies.as_slice(), Vec::new(alloc));
     /// let mut bytes = Vec::new(alloc);
     /// Host::new(&part).read(&mut link, Mem::Lfuse, &mut bytes)?;
     /// assert!(rt; bytes.as_slice() == [0x62].as_slice());
@@ -312,8 +312,8 @@ impl Host {
     /// ```text
     /// let part = Parts::none().find("m328p")?;
     /// let image = parse_immediate(alloc, "0xE2", part.size_of(Mem::Lfuse))?;
-    /// let answers = b"\x1B\x01\x00\x04\x0E\x18\x00\x62\x00\x6A";
-    /// let mut link = StreamLink::new(answers.as_slice(), Vec::new(alloc));
+    /// let replies = b"\x1B\x01\x00\x04\x0E\x18\x00\x62\x00\x6A";
+    /// let mut link = StreamLink::new(replies.as_slice(), Vec::new(alloc));
     /// let verified = Host::new(&part).verify(alloc, &mut link, Mem::Lfuse, &image);
     /// let differs = HostFault::Differs { mem: Mem::Lfuse, addr: 0, want: 0xE2, found: 0x62 };
     /// assert!(rt; verified == Err(differs));
@@ -352,8 +352,8 @@ impl Host {
     ///
     /// ```text
     /// let part = Parts::none().find("m328p")?;
-    /// let answers = b"\x1B\x01\x00\x02\x0E\x11\x00\x07";
-    /// let mut link = StreamLink::new(answers.as_slice(), Vec::new(alloc));
+    /// let replies = b"\x1B\x01\x00\x02\x0E\x11\x00\x07";
+    /// let mut link = StreamLink::new(replies.as_slice(), Vec::new(alloc));
     /// Host::new(&part).close(&mut link)?;
     /// ```
     pub fn close<L: Link>(&mut self, link: &mut L) -> Result<(), HostFault>

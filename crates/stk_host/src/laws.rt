@@ -16,7 +16,7 @@ use crate::tape_link::TapeLink;
 use std::io::{Read, Write};
 
 /// States that a call of a [`crate::Host`] sends at most four frames for each command of its steps. This holds for
-/// every programmer, for every way its answers arrive, and if the link fails.
+/// every programmer, for every way its replies arrive, and if the link fails.
 pub fn a_call_sends_at_most_four_times_its_commands()
     ensures plays { (steps : List (List Command)) (before : List ℕ) → IsBoundedBy steps (play steps before) }
     ensures opens { (signature : List ℕ) (force : Bool) → IsBoundedBy opening_steps (opening signature force) }

@@ -1,6 +1,6 @@
 //! The host's side of the STK500 protocol, version 2 (Atmel AVR068), as AVRDUDE speaks it with `-c stk500v2`.
 //!
-//! An operation is a dialog: commands, and what follows from their answers. A call of [`Host`] runs its dialog over
+//! An operation is a dialog: commands, and what follows from their replies. A call of [`Host`] runs its dialog over
 //! the tape of all items received. It sends exactly the dialog's frames, however the link cuts the bytes.
 //!
 //! ```text
@@ -24,7 +24,7 @@ mod log;
 mod stream_link;
 mod tape_link;
 mod watched_link;
-// waiting for an answer
+// waiting for a reply
 mod listen;
 // commands, attempts and steps
 mod conversation;

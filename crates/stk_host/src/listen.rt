@@ -1,4 +1,4 @@
-//! Waits for an answer, and keeps the bytes received and not yet read.
+//! Waits for a reply, and keeps the bytes received and not yet read.
 ghost use Rattle.std.specs.Prelude.{◌≡◌, ◌<◌, ◌≤◌, ◌↔◌, IsTrue, ℕ, length, take, drop, [], ◌∷◌, ◌++◌, OnOk, List, true, false, None};
 ghost use Rattle.ghosts.specs.Stays.{Stays};
 ghost use Rattle.stk_host.specs.Calls.{HearsNext, HearsAnswer};
@@ -88,12 +88,12 @@ impl Unread {
     }
 }
 
-/// The most bytes read for one answer. The message of [`crate::HostFault::Babble`] names this number.
+/// The most bytes read for one reply. The message of [`crate::HostFault::Babble`] names this number.
 const MOST_BYTES_PER_ANSWER: usize = 4096;
 
 #[derive(Clone, Copy)]
 pub(crate) enum Reading {
-    /// The reader holds the answer.
+    /// The reader holds the reply.
     Answered,
     Silent,
     Ended,
@@ -116,7 +116,7 @@ fn read_on(reader: &mut FrameReader, unread: &mut Unread, most: usize) -> (usize
     (used, event)
 }
 
-/// Returns whether the reader holds the answer to the frame numbered `seq`.
+/// Returns whether the reader holds the reply to the frame numbered `seq`.
 fn is_answer(reader: &FrameReader, event: Event, seq: u8) -> bool
     requires { TellsEvent event reader.now }
     ensures yes { result ≡ true → (event ≡ Event.Frame) × HoldsFrame reader.now × (is_answer seq reader.now ≡ true) }
@@ -128,7 +128,7 @@ fn is_answer(reader: &FrameReader, event: Event, seq: u8) -> bool
     }
 }
 
-/// Waits for the answer to the frame numbered `seq`, and drops any part of a frame the reader holds. It reads at most
+/// Waits for the reply to the frame numbered `seq`, and drops any part of a frame the reader holds. It reads at most
 /// 4,096 bytes, the unread ones included.
 pub(crate) fn listen<L: Link>(
     reader: &mut FrameReader,
