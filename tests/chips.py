@@ -493,6 +493,33 @@ def reads_into(prepare, name, shim, how):
         see("another name of the old chip has what was read", room.read(name) == old[EEPROM:LFUSE])
 
 
+def links_that_are_not_text():
+    """Reads through a link whose text isn't UTF-8: into another file, which may be absent, or into the chip's own file. If
+    the chip's place can't be told from another one, the read is refused."""
+    words = [*EMULATED, "-U", "eeprom:r:odd.bin:r"]
+    for there in [True, False]:
+        fresh_room()
+        room.put("caf\udce9.bin", OLD) if there else None
+        (room.folder / "odd.bin").symlink_to("caf\udce9.bin")
+        is_good("a read through such a link", room.run(words))
+        see("what was read", room.read("caf\udce9.bin") == OLD[EEPROM:LFUSE])
+        see("the chip is as it was", room.read("chip.bin") == OLD)
+    odd_names(room.clear)
+    found = room.run(words)
+    same("no chip yet", (found[0], found[2]), (1, lines(SIGNATURE, "error: odd.bin: cannot be created")))
+    see("the chip is whole", room.read("chip.bin") == FRESH)
+    if shutil.which("cc"):
+        reads_into(lambda: odd_names(fresh_room), "odd.bin", a_shim(), {})
+    room.clear()
+
+
+def odd_names(start):
+    """Gives the chip's folder a name that isn't UTF-8, and the chip a link by that name."""
+    start()
+    (room.folder / "caf\udce9").symlink_to(".")
+    (room.folder / "odd.bin").symlink_to("caf\udce9/chip.bin")
+
+
 def long_names():
     """A chip's name may have 244 bytes; a longer one is refused before any frame is sent, and no file is created."""
     room.clear()
@@ -705,6 +732,7 @@ def stormy():
 CASES = named(
     *(ended_anywhere, at_once, held_by_a_run, held_by_a_session, refused_by_then, told_before, what_stays, whose_it_stays),
     *(left_behind, taken_away, linked_first, what_is_not_ours, read_into_the_lock_file, read_into_the_chip),
+    links_that_are_not_text,
     *(long_names, on_the_disk, no_regular_file, a_full_disk, the_window, nobody_else_opens_it, mounted, stormy),
 )
 
