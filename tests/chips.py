@@ -558,6 +558,41 @@ def on_the_disk():
         room.given.discard(sub)
 
 
+def reads_on_the_disk():
+    """A file that a read makes is synced before its line is printed, and a failed sync is a failed write. A file system
+    that syncs no files, a pipe and a device are no failure."""
+    if not shutil.which("strace"):
+        return leave_out("what is on the disk", "strace is not installed")
+    words = [*EMULATED, "-U", "eeprom:r:out.bin:r"]
+    failed = lines(SIGNATURE, "error: out.bin: cannot be written")
+    good = lines(SIGNATURE, "eeprom: 1024 bytes read", "done")
+    for error, wanted in [("EIO", (1, failed)), ("EDQUOT", (1, failed)), ("EINVAL", (0, good)), ("EROFS", (0, good)), ("EINTR", (0, good))]:
+        fresh_room()
+        synced, messages = traced_syncs(words, f"inject=fsync:error={error}:when=1")
+        same(f"{error}: the run", (synced[0], messages), wanted)
+        see(f"{error}: what was read is there", room.read("out.bin") == OLD[EEPROM:LFUSE])
+        see(f"{error}: the file is synced first", len(synced) > 1 and synced[1].endswith("/out.bin"), synced)
+    fresh_room()
+    os.mkfifo(room.folder / "pipe")
+    back = os.open(room.folder / "pipe", os.O_RDONLY | os.O_NONBLOCK)
+    for name in ["pipe", "/dev/null", "-"]:
+        synced, messages = traced_syncs([*EMULATED, "-U", f"lfuse:r:{name}:h"], "trace=fsync")
+        same(f"{name}: the run", (synced[0], messages), (0, lines(SIGNATURE, "lfuse: 1 bytes read", "done")))
+        see(f"{name}: only the chip and its folder are synced", len(synced) == 3, synced)
+    with open(back, "rb") as it:
+        same("what the pipe is given", it.read(), b"0xe2\n")
+    room.clear()
+
+
+def traced_syncs(words, how):
+    """Returns the status of a run and the files that it syncs, and its messages."""
+    traced = ["strace", "-y", "-o", "calls", "-e", "trace=fsync", "-e", how]
+    started = room.start(words, front=traced, env=os.environ | {"ASAN_OPTIONS": "detect_leaks=0"})
+    messages = started.communicate(timeout=PATIENCE)[1]
+    files = re.findall(r"fsync\(\d+<([^>]*)>\)", (room.read("calls") or b"").decode())
+    return [started.returncode, *files], messages
+
+
 def no_regular_file():
     """A pipe is read and written as it is."""
     room.clear()
@@ -733,7 +768,7 @@ CASES = named(
     *(ended_anywhere, at_once, held_by_a_run, held_by_a_session, refused_by_then, told_before, what_stays, whose_it_stays),
     *(left_behind, taken_away, linked_first, what_is_not_ours, read_into_the_lock_file, read_into_the_chip),
     links_that_are_not_text,
-    *(long_names, on_the_disk, no_regular_file, a_full_disk, the_window, nobody_else_opens_it, mounted, stormy),
+    *(long_names, on_the_disk, reads_on_the_disk, no_regular_file, a_full_disk, the_window, nobody_else_opens_it, mounted, stormy),
 )
 
 
