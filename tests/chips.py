@@ -493,6 +493,33 @@ def reads_into(prepare, name, shim, how):
         see("another name of the old chip has what was read", room.read(name) == old[EEPROM:LFUSE])
 
 
+def links_that_are_not_text():
+    """Reads through a link whose text isn't UTF-8: into another file, which may be absent, or into the chip's own file. If
+    the chip's place can't be told from another one, the read is refused."""
+    words = [*EMULATED, "-U", "eeprom:r:odd.bin:r"]
+    for there in [True, False]:
+        fresh_room()
+        room.put("caf\udce9.bin", OLD) if there else None
+        (room.folder / "odd.bin").symlink_to("caf\udce9.bin")
+        is_good("a read through such a link", room.run(words))
+        see("what was read", room.read("caf\udce9.bin") == OLD[EEPROM:LFUSE])
+        see("the chip is as it was", room.read("chip.bin") == OLD)
+    odd_names(room.clear)
+    found = room.run(words)
+    same("no chip yet", (found[0], found[2]), (1, lines(SIGNATURE, "error: odd.bin: cannot be created")))
+    see("the chip is whole", room.read("chip.bin") == FRESH)
+    if shutil.which("cc"):
+        reads_into(lambda: odd_names(fresh_room), "odd.bin", a_shim(), {})
+    room.clear()
+
+
+def odd_names(start):
+    """Gives the chip's folder a name that isn't UTF-8, and the chip a link by that name."""
+    start()
+    (room.folder / "caf\udce9").symlink_to(".")
+    (room.folder / "odd.bin").symlink_to("caf\udce9/chip.bin")
+
+
 def long_names():
     """A chip's name may have 244 bytes; a longer one is refused before any frame is sent, and no file is created."""
     room.clear()
@@ -529,6 +556,41 @@ def on_the_disk():
             wanted = [rf"fsync\(\d+<{folder}/{os.path.basename(name)}.avrstk-[0-9A-F]{{3}}>\)", how, rf"fsync\(\d+<{folder}>\)"]
             see(f"{name}: the calls", len(calls) == 3 and all(map(re.match, wanted, calls)), calls)
         room.given.discard(sub)
+
+
+def reads_on_the_disk():
+    """A file that a read makes is synced before its line is printed, and a failed sync is a failed write. A file system
+    that syncs no files, a pipe and a device are no failure."""
+    if not shutil.which("strace"):
+        return leave_out("what is on the disk", "strace is not installed")
+    words = [*EMULATED, "-U", "eeprom:r:out.bin:r"]
+    failed = lines(SIGNATURE, "error: out.bin: cannot be written")
+    good = lines(SIGNATURE, "eeprom: 1024 bytes read", "done")
+    for error, wanted in [("EIO", (1, failed)), ("EDQUOT", (1, failed)), ("EINVAL", (0, good)), ("EROFS", (0, good)), ("EINTR", (0, good))]:
+        fresh_room()
+        synced, messages = traced_syncs(words, f"inject=fsync:error={error}:when=1")
+        same(f"{error}: the run", (synced[0], messages), wanted)
+        see(f"{error}: what was read is there", room.read("out.bin") == OLD[EEPROM:LFUSE])
+        see(f"{error}: the file is synced first", len(synced) > 1 and synced[1].endswith("/out.bin"), synced)
+    fresh_room()
+    os.mkfifo(room.folder / "pipe")
+    back = os.open(room.folder / "pipe", os.O_RDONLY | os.O_NONBLOCK)
+    for name in ["pipe", "/dev/null", "-"]:
+        synced, messages = traced_syncs([*EMULATED, "-U", f"lfuse:r:{name}:h"], "trace=fsync")
+        same(f"{name}: the run", (synced[0], messages), (0, lines(SIGNATURE, "lfuse: 1 bytes read", "done")))
+        see(f"{name}: only the chip and its folder are synced", len(synced) == 3, synced)
+    with open(back, "rb") as it:
+        same("what the pipe is given", it.read(), b"0xe2\n")
+    room.clear()
+
+
+def traced_syncs(words, how):
+    """Returns the status of a run and the files that it syncs, and its messages."""
+    traced = ["strace", "-y", "-o", "calls", "-e", "trace=fsync", "-e", how]
+    started = room.start(words, front=traced, env=os.environ | {"ASAN_OPTIONS": "detect_leaks=0"})
+    messages = started.communicate(timeout=PATIENCE)[1]
+    files = re.findall(r"fsync\(\d+<([^>]*)>\)", (room.read("calls") or b"").decode())
+    return [started.returncode, *files], messages
 
 
 def no_regular_file():
@@ -705,7 +767,8 @@ def stormy():
 CASES = named(
     *(ended_anywhere, at_once, held_by_a_run, held_by_a_session, refused_by_then, told_before, what_stays, whose_it_stays),
     *(left_behind, taken_away, linked_first, what_is_not_ours, read_into_the_lock_file, read_into_the_chip),
-    *(long_names, on_the_disk, no_regular_file, a_full_disk, the_window, nobody_else_opens_it, mounted, stormy),
+    links_that_are_not_text,
+    *(long_names, on_the_disk, reads_on_the_disk, no_regular_file, a_full_disk, the_window, nobody_else_opens_it, mounted, stormy),
 )
 
 

@@ -12,8 +12,8 @@ use std::{fs, io};
 const LENGTH_OF_FILES: i32 = 1;
 
 /// A writer that fails with `FileTooLarge` if its next byte would exceed the system's limit on the length of files.
-/// The system would end the program by SIGXFSZ; it shortens a write that only ends past the limit. Contracts see the
-/// inner writer.
+/// The system would end the program by SIGXFSZ; it shortens a write that only ends past the limit. An empty write waits
+/// until the file is on the disk. Contracts see the inner writer.
 #[derive(Drop)]
 pub struct Bounded<W> {
     writer: W,
@@ -33,6 +33,14 @@ pub(crate) fn longest_file() -> u64 {
     };
     libc::getrlimit(LENGTH_OF_FILES, &mut limit);
     limit.rlim_cur
+}
+
+/// Returns whether a sync that fails so means that there is nothing to wait for.
+fn is_unable_to_sync(kind: ErrorKind) -> bool {
+    matches!(
+        kind,
+        ErrorKind::InvalidInput | ErrorKind::ReadOnlyFilesystem
+    )
 }
 
 /// Creates or empties a file.
@@ -71,12 +79,25 @@ impl<W: AsRawFd> Bounded<W> {
         let end = u64::try_from(position).unwrap_or(0).max(there.len());
         longest_file() <= end
     }
+
+    /// Waits until the file is on the disk, if it is regular and its file system syncs files.
+    fn sync(&self) -> io::Result<()> {
+        match self.file.as_ref().map(|file| file.sync_all()) {
+            Some(Err(error)) if !is_unable_to_sync(error.kind()) => Err(error),
+            _ => Ok(()),
+        }
+    }
 }
 
 impl<W: Write + AsRawFd> Write for Bounded<W> {
     ghost contents = { W.contents };
 
+    #[tactic(auto, using(crate::proofs::Desks::Writers::appends_none))]
     fn write(&mut self, bytes: &[u8]) -> io::Result<usize> {
+        if bytes.is_empty() {
+            self.sync()?;
+            return Ok(0);
+        }
         if self.is_full() {
             return Err(io::Error::from(ErrorKind::FileTooLarge));
         }

@@ -374,18 +374,29 @@ impl Held {
         Ok(new.file)
     }
 
-    /// Returns where bytes go that are written by this name, and the path that it leads to.
+    /// Returns where bytes go that are written by this name, and the path that it leads to. If the text of a link can't
+    /// be read, what is there decides alone.
     fn writes_by<R: Files<File = File> + Alloc<A = Global>>(
         &self,
         rt: &R,
         name: &str,
     ) -> io::Result<(Writes, String)> {
-        let path = target_of(rt, name)?;
-        let is_place = is_one_place(rt, path.as_str(), self.target.as_str())?;
         let there = unless_absent(fs::metadata(rt, name))?;
-        let (is_held, names) = match (self.old()?, there) {
+        let old = self.old()?;
+        let is_known = old.is_some() || there.is_some();
+        let (is_held, names) = match (old, there) {
             (Some(old), Some(there)) => (is_same(&old, &there), there.nlink()),
             _ => (false, 0),
+        };
+        let (path, is_place) = match target_of(rt, name) {
+            Err(error) if is_known && error.kind() == ErrorKind::InvalidFilename => {
+                (String::from_str(rt.alloc(), name)?, is_held)
+            }
+            found => {
+                let path = found?;
+                let is_place = is_one_place(rt, path.as_str(), self.target.as_str())?;
+                (path, is_place)
+            }
         };
         Ok((writes_after(is_place, is_held, names), path))
     }

@@ -1,7 +1,9 @@
 //! Saves what was read of a memory.
-ghost use Rattle.std.specs.Prelude.{◌≡◌, ◌∷◌, ◌≤◌, ◌<◌, ◌^◌, [], length};
-ghost use Rattle.avr_desk.specs.Fault.{Follows};
+ghost use Rattle.std.specs.Prelude.{◌≡◌, ◌∷◌, ◌≤◌, ◌<◌, ◌^◌, [], length, IfErr, OnOk, OnErr};
+ghost use Rattle.avr_desk.specs.Fault.{Counts, Follows};
+ghost use Rattle.avr_desk.specs.Record.{Passes};
 ghost use Rattle.avr_desk.specs.Said.{Creates, Writes};
+ghost use Rattle.avr_desk.specs.Stream.{SendsPart, after_sent};
 ghost use Rattle.avr_session.specs.FileText.{file_text};
 ghost use Rattle.avr_session.specs.Reporting.{Reports, DeskStops, ReadStops};
 ghost use Rattle.avr_session.specs.Saving.{IsForData, SaveStops, WritesAll};
@@ -24,6 +26,39 @@ pub(crate) struct Target<'a> {
     pub(crate) format: Format,
 }
 
+/// Waits until the file just written is on the disk, by an empty write. It does nothing for standard output.
+fn finish<D: Desk>(desk: &mut D, stream: Stream) -> Result<(), DeskFault>
+    ensures none { Passes (after_sent stream []) (D.view desk.old) (D.view desk.new) }
+    ensures counts { Counts stream (D.view desk.old) (D.view desk.new) result }
+    ensures fault { IfErr result (λ e. e ≡ DeskFault.Failed) }
+    ensures stays { Stays D.comes_of desk.old desk.new }
+{
+    if let Stream::File = stream {
+        desk.write(&[])?;
+    }
+    Ok(())
+}
+
+/// Writes these bytes as text in a format, and waits until a file is on the disk. After a fault a prefix of the text was
+/// written, maybe all of it.
+fn write_whole<D: Desk>(
+    desk: &mut D,
+    stream: Stream,
+    format: Format,
+    bytes: &[u8],
+) -> Result<(), DeskFault>
+    requires { length bytes.now ≤ 2 ^ 32 }
+    ensures all { OnOk result
+        (Passes (after_sent stream (file_text format bytes.now)) (D.view desk.old) (D.view desk.new)) }
+    ensures part { OnErr result (SendsPart stream (D.view desk.old) (D.view desk.new) (file_text format bytes.now)) }
+    ensures counts { Counts stream (D.view desk.old) (D.view desk.new) result }
+    ensures fault { IfErr result (λ e. e ≡ DeskFault.Failed) }
+    ensures stays { Stays D.comes_of desk.old desk.new }
+{
+    write_text(desk, stream, format, bytes)?;
+    finish(desk, stream)
+}
+
 /// Writes these bytes in the target's format to the file just created, or to standard output.
 fn write_file<D: Desk>(
     desk: &mut D,
@@ -38,7 +73,7 @@ fn write_file<D: Desk>(
     ensures follows { Follows (D.view desk.old) (D.view desk.new) }
     ensures stays { Stays D.comes_of desk.old desk.new }
 {
-    match write_text(desk, stream, target.format, bytes) {
+    match write_whole(desk, stream, target.format, bytes) {
         Ok(()) => Ok(()),
         Err(fault) => {
             refuse(desk, &not_written_message(target.file));

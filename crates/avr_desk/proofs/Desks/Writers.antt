@@ -1,5 +1,5 @@
 -- What a writer with known bytes has taken.
-use Rattle.std.proofs.Common.{◌≡◌, ◌∙◌, refl, ap, ℕ, ◌++◌, append-nil, take, drop, take-append-drop, Option, None, Some}
+use Rattle.std.proofs.Common.{◌≡◌, ◌∙◌, refl, ap, sym, ℕ, [], ◌++◌, append-nil, take, drop, take-append-drop, Option, None, Some}
 use Rattle.std.specs.Io.KnownBytes.{Keeps, Appends}
 use Rattle.avr_desk.specs.Record.{Bytes}
 use Rattle.avr_desk.specs.Shown.{AppendsPrefix}
@@ -12,6 +12,10 @@ took_prefix a b n bytes took = (take n bytes, (drop n bytes, take-append-drop n 
 pub keeps : (a : Option Bytes) → Keeps a a
 keeps None = tt
 keeps (Some x) = refl
+
+pub appends_none : (a : Option Bytes) → Appends a a []
+appends_none None = tt
+appends_none (Some x) = sym (append-nil x)
 
 pub kept_nothing : (a b c : Option Bytes) (n : ℕ) (bytes : Bytes) → Keeps a b → n ≡ 0 → Appends b c (take n bytes)
     → Keeps a c

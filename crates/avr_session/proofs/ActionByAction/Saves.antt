@@ -1,14 +1,16 @@
 -- Files that are created and written.
-use Rattle.std.proofs.Common.{◌≡◌, ℕ, true, List, [], ◌∷◌, map, bytes_eq, codes, Result, Ok, Err, ◌∙◌, refl, rules}
+use Rattle.std.proofs.Common.{◌≡◌, ℕ, true, List, [], ◌∷◌, map, bytes_eq, codes, Result, Ok, Err, OnOk, OnErr, ◌∙◌, ap, sym, subst, refl, rules, arith, length, append-nil}
+use Rattle.std.proofs.Math.Seq.{take-length}
 use Rattle.std.proofs.lemmas.Slice.Eq.{bytes_eq-Decides}
-use Rattle.avr_desk.specs.Record.{DeskState, Passes, after_create}
+use Rattle.avr_desk.specs.Record.{DeskState, Record, Passes, after_create, showing}
 use Rattle.avr_desk.specs.Fault.{Counts, Follows, HasFailedAt, HasSameCounts}
-use Rattle.avr_desk.specs.Stream.{SendsPart}
+use Rattle.avr_desk.specs.Stream.{SendsPart, after_sent}
 use Rattle.avr_desk.specs.declared.stream.Stream.{Stream}
 use Rattle.avr_desk.specs.declared.stream.Stream.TheVariants.{File, Messages, Output}
 use Rattle.avr_desk.specs.declared.desk.DeskFault.{DeskFault}
 use Rattle.stk_host.specs.Dialog.{Said}
 use Rattle.avr_desk.specs.Said.{OutputEvent, Creates, Writes, Outs, Tells, after_all}
+use Rattle.avr_desk.proofs.Lines.SentBytes.{sent_next}
 use Rattle.avr_desk.proofs.Stages.Outputs.{kept_none}
 use Rattle.avr_desk.proofs.Lines.Told.{follows_on}
 use Rattle.avr_session.specs.Runs.{Cause, OfFile, NotCreated, NotWritten, cause_line}
@@ -38,6 +40,34 @@ pub save_is_desk : (file : List ℕ) (before now : DeskState) (cause : Cause) (t
 save_is_desk file before now (OfFile named NotCreated) told stops = stops.1
 save_is_desk file before now (OfFile named NotWritten) told stops = stops.1
 save_is_desk file before now cause told stops = absurd stops
+
+-- a whole text was sent, and then nothing
+sent_on_to_disk : (s : Stream) (old now new : Record) (text : List ℕ) → now ≡ after_sent s text old
+    → new ≡ after_sent s [] now → new ≡ after_sent s text old
+sent_on_to_disk s old now new text first then =
+    sent_next s old now new text [] first then ∙ ap (λ (xs : List ℕ). after_sent s xs old) (append-nil text)
+
+pub sent_whole : (s : Stream) (old now new : Record) (text : List ℕ) (r : Result (Unit {0}) DeskFault)
+    → now ≡ after_sent s text old → new ≡ after_sent s [] now → OnOk r (new ≡ after_sent s text old)
+sent_whole s old now new text (Ok done) first then = sent_on_to_disk s old now new text first then
+sent_whole s old now new text (Err fault) first then = tt
+
+pub sent_whole_part : (s : Stream) (old now new : DeskState) (text : List ℕ) (r : Result (Unit {0}) DeskFault)
+    → Passes (after_sent s text) old now → Passes (after_sent s []) now new → OnErr r (SendsPart s old new text)
+sent_whole_part s old now new text (Ok done) first then = tt
+sent_whole_part s old now new text (Err fault) first then = (
+  length text,
+  omega (arith),
+  sent_on_to_disk s old.kept now.kept new.kept text first then
+      ∙ ap (λ (xs : List ℕ). after_sent s xs old.kept) (sym (take-length text)),
+)
+
+-- calls before that failed not
+pub counted_on : (s : Stream) (old now new : DeskState) (r : Result (Unit {0}) DeskFault) → HasSameCounts old now
+    → Counts s now new r → Counts s old new r
+counted_on s old now new r same counts =
+    subst (λ n. Counts s (showing old.kept old.failures n) new r) same.1
+    (subst (λ n. Counts s (showing old.kept n now.unsaid) new r) same.0 counts)
 
 -- a file was created, and its bytes were written, or a prefix of them
 text_then : (old mid new : DeskState) (file text : List ℕ) (result : Result (Unit {0}) DeskFault)
