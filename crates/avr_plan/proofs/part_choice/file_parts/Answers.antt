@@ -11,9 +11,9 @@ use Rattle.avr_plan.proofs.part_choice.file_parts.Goals as goal
 
 pub returns-in-Err-clause-goes : goal.returns-in-Err-clause-goes
 returns-in-Err-clause-goes g c =
-    goes_file_fault (AtStart false) _ LARGEST_PART_FILE (judged_parts _) _ _ _ _ _ (breaks_as _ _ _ _
-    c.in-Err.ensures.kept) c.in-Err.ensures.counts.0 (counted_as _ _ _ _ _ c.in-Err.ensures.counts) refl (rw
-    c.file_message.ensures at c.refuse.ensures.told)
+    goes_file_fault (AtStart false) _ LARGEST_PART_FILE (judged_parts _) _ _ _ _ _
+    (breaks_as _ _ _ _ c.in-Err.ensures.kept) c.in-Err.ensures.counts.0 (counted_as _ _ _ _ _ c.in-Err.ensures.counts)
+    refl (rw c.file_message.ensures at c.refuse.ensures.told)
 
 pub returns-then-not-contents-clause-goes : goal.returns-then-not-contents-clause-goes
 returns-then-not-contents-clause-goes g c =

@@ -10,5 +10,5 @@ use Rattle.avr_plan.proofs.planning.verify_task.Goals as goal
 pub returns-in-Err-clause-goes : goal.returns-in-Err-clause-goes
 returns-in-Err-clause-goes g c =
     let u = c.args.update.now in
-    goes_no_further (AtStart (has_values u.format)) (update_image c.args.switches _ u) (λ image. verdict_stage (Ok
-    (Verify u.memory image))) _ _ 1 c.in-Err.ensures.goes
+    goes_no_further (AtStart (has_values u.format)) (update_image c.args.switches _ u)
+    (λ image. verdict_stage (Ok (Verify u.memory image))) _ _ 1 c.in-Err.ensures.goes

@@ -22,8 +22,8 @@ returns-in-Err-warn_of_ending-clause-goes g c =
 
 pub returns-then-is_err-clause-goes : goal.returns-then-is_err-clause-goes
 returns-then-is_err-clause-goes g c =
-    goes_without_room c.args.switches _ _ c.args.size _ _ _ _ _ _ c.in-Ok.ensures.read c.in-Ok.ensures.sound refl (rw
-    c.memory_message.ensures at c.refuse.ensures.told)
+    goes_without_room c.args.switches _ _ c.args.size _ _ _ _ _ _ c.in-Ok.ensures.read c.in-Ok.ensures.sound refl
+    (rw c.memory_message.ensures at c.refuse.ensures.told)
 
 pub returns-in-Err-clause-goes : goal.returns-in-Err-clause-goes
 returns-in-Err-clause-goes g c =
