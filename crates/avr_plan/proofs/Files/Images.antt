@@ -28,9 +28,6 @@ read_end old now new a buf n first then zero some =
 
 -- ---- the rest of a file
 
-pub going_begins : (d : DeskState) (intake : Intake) (room : ℕ) → Going d d intake intake room room
-going_begins d intake room = search (rules, append-nil)
-
 within : (limit : ℕ) (found : Found) (bytes : Bytes) (size : ℕ) → length bytes ≤ limit
     → whole_file found bytes size ≡ file_within limit found bytes size
 within limit found bytes size len = search rules

@@ -1,12 +1,9 @@
 -- The last report about a refused plan, from an earlier desk on.
-use Rattle.avr_cli.specs.declared.settings.Settings.{Settings}
 use Rattle.avr_cli.specs.declared.update.Update.{Update}
 use Rattle.avr_desk.specs.Fault.{HasSameCounts}
 use Rattle.avr_desk.specs.Record.{DeskState, Bytes}
 use Rattle.avr_desk.proofs.Lines.Told.{follows_on, follows_same, unsaid_since}
-use Rattle.avr_plan.specs.PlanFaults.{LastTold, TellsPlanFault, TellsTaskFault, TellsTasksFault}
-use Rattle.avr_plan.specs.declared.plan_fault.PlanFault.{PlanFault}
-use Rattle.avr_plan.specs.declared.plan_fault.PlanFault.TheVariants.{PartFile, NoPart, Update as OfUpdate}
+use Rattle.avr_plan.specs.PlanFaults.{LastTold, TellsTaskFault}
 use Rattle.avr_plan.specs.declared.plan_fault.TaskFault.{TaskFault}
 use Rattle.avr_plan.specs.declared.plan_fault.TaskFault.TheVariants.{ReadOnly, Values, File, Memory, Unwarned}
 
@@ -20,10 +17,3 @@ fault_since u (Values fault) a b c same told = last_since _ a b c same told
 fault_since u (File fault) a b c same told = last_since _ a b c same told
 fault_since u Memory a b c same told = last_since _ a b c same told
 fault_since u Unwarned a b c same told = unsaid_since a b c same told
-
-pub plan_told : (s : Settings) (fault : PlanFault) (a b c : DeskState) → HasSameCounts a b
-    → TellsTasksFault s.updates b c fault → TellsPlanFault s a c fault
-plan_told s (PartFile fault) a b c same told = absurd told
-plan_told s NoPart a b c same told = absurd told
-plan_told s (OfUpdate index fault) a b c same told =
-    (told.0, (told.1.0, fault_since told.0 fault a b c same told.1.1))

@@ -6,11 +6,9 @@ use Rattle.avr_desk.proofs.Stages.Played.{went_settled, goes_unsettled}
 use Rattle.avr_plan.proofs.part_choice.chosen_part.Goals as goal
 
 pub returns-in-Ok-clause-goes : goal.returns-in-Ok-clause-goes
-returns-in-Ok-clause-goes g c = went_settled _ c.in-Ok.part _
-    (ap (part_or_line c.args.id.now) (sym c.in-Ok.ensures.value))
+returns-in-Ok-clause-goes g c = went_settled _ _ _ (ap (part_or_line _) (sym c.in-Ok.ensures.value))
 
 pub returns-in-Err-clause-goes : goal.returns-in-Err-clause-goes
 returns-in-Err-clause-goes g c =
-    goes_unsettled (AtStart false) _ (no_part_line c.args.id.now) _ _ _
-    (ap (part_or_line c.args.id.now) (sym c.in-Err.ensures.value))
+    goes_unsettled (AtStart false) _ (no_part_line _) _ _ _ (ap (part_or_line _) (sym c.in-Err.ensures.value))
     c.refuse.ensures.status (rw c.no_part_message.ensures at c.refuse.ensures.told)

@@ -11,36 +11,26 @@ use Rattle.avr_plan.proofs.part_choice.file_parts.Goals as goal
 
 pub returns-in-Err-clause-goes : goal.returns-in-Err-clause-goes
 returns-in-Err-clause-goes g c =
-    goes_file_fault (AtStart false) c.args.file.now LARGEST_PART_FILE (judged_parts c.args.file.now) c.in-Err.fault _ _
-    _ _
-    (breaks_as _ _ _ c.in-Err.fault c.in-Err.ensures.kept)
-    c.in-Err.ensures.counts.0 (counted_as _ _ _ _ c.in-Err.fault c.in-Err.ensures.counts) refl
-    (rw c.file_message.ensures at c.refuse.ensures.told)
+    goes_file_fault (AtStart false) _ LARGEST_PART_FILE (judged_parts _) _ _ _ _ _
+    (breaks_as _ _ _ _ c.in-Err.ensures.kept) c.in-Err.ensures.counts.0 (counted_as _ _ _ _ _ c.in-Err.ensures.counts)
+    refl (rw c.file_message.ensures at c.refuse.ensures.told)
 
 pub returns-then-not-contents-clause-goes : goal.returns-then-not-contents-clause-goes
 returns-then-not-contents-clause-goes g c =
-    goes_long_parts c.args.file.now c.in-Ok.contents.bytes c.in-Ok.contents.ended _ _ _ _ c.in-Ok.ensures.kept
-    c.in-Ok.ensures.whole
-    c.if-not-contents.true
-    c.in-Ok.ensures.counts.1 refl
-    (rw c.too_long_message.ensures at c.refuse-then-not-contents.ensures.told)
+    goes_long_parts _ _ _ _ _ _ _ c.in-Ok.ensures.kept c.in-Ok.ensures.whole c.if-not-contents.true
+    c.in-Ok.ensures.counts.1 refl (rw c.too_long_message.ensures at c.refuse-then-not-contents.ensures.told)
 
 pub returns-in-Ok-parse_part_file-clause-goes : goal.returns-in-Ok-parse_part_file-clause-goes
 returns-in-Ok-parse_part_file-clause-goes g c =
     let gives = subst (λ (b : Bytes). ReadsOrMemory (parts_of b) (unplaced c.parse_part_file.result)) c.as_slice.ensures
     c.parse_part_file.ensures.reads in
-    went_parts c.args.file.now c.in-Ok.contents.bytes c.in-Ok.contents.ended _ _ c.in-Ok-parse_part_file.parts
-    c.in-Ok.ensures.kept
-    c.in-Ok.ensures.whole c.if-not-contents.false c.in-Ok.ensures.counts.1
+    went_parts _ _ _ _ _ _ c.in-Ok.ensures.kept c.in-Ok.ensures.whole c.if-not-contents.false c.in-Ok.ensures.counts.1
     (rw c.in-Ok-parse_part_file.is at gives)
 
 pub returns-clause-goes : goal.returns-clause-goes
 returns-clause-goes g c =
     let gives = subst (λ (b : Bytes). ReadsOrMemory (parts_of b) (unplaced c.parse_part_file.result)) c.as_slice.ensures
     c.parse_part_file.ensures.reads in
-    goes_bad_parts c.args.file.now c.in-Ok.contents.bytes c.in-Ok.contents.ended _ _ _ _
-    c.in-Err-parse_part_file.refused.why c.in-Ok.ensures.kept
-    c.in-Ok.ensures.whole
-    c.if-not-contents.false c.in-Ok.ensures.counts.1 (rw c.in-Err-parse_part_file.is at gives)
-    refl
-    (rw (c.part_file_message.ensures, c.fault-fault.ensures) at c.refuse-in-Err-parse_part_file.ensures.told)
+    goes_bad_parts _ _ _ _ _ _ _ c.in-Err-parse_part_file.refused.why c.in-Ok.ensures.kept c.in-Ok.ensures.whole
+    c.if-not-contents.false c.in-Ok.ensures.counts.1 (rw c.in-Err-parse_part_file.is at gives) refl (rw
+    (c.part_file_message.ensures, c.fault-fault.ensures) at c.refuse-in-Err-parse_part_file.ensures.told)

@@ -1,7 +1,5 @@
-use Rattle.std.proofs.Common.{sym, ap, ◌∙◌, refl, true, Ok}
+use Rattle.std.proofs.Common.{sym, ap, ◌∙◌, Ok, rules}
 use Rattle.avr_cli.specs.declared.update.Op.TheVariants as op
-use Rattle.avr_desk.specs.Playing.{AtStart}
-use Rattle.avr_plan.specs.Planning.{op_stage}
 use Rattle.avr_desk.specs.Record.{Bytes}
 use Rattle.avr_plan.specs.declared.planned.Task.TheVariants.{Read}
 use Rattle.avr_desk.proofs.Stages.Played.{went_settled, goes_without_memory}
@@ -14,11 +12,7 @@ returns-in-Ok-clause-goes g c = λ switches part.
     (sym (c.in-Ok.ensures ∙ c.as_str.ensures)))
 
 pub returns-in-Err-clause-goes : goal.returns-in-Err-clause-goes
-returns-in-Err-clause-goes g c = λ switches part.
-    goes_without_memory (AtStart true) (op_stage switches part c.args.update.now op.Read) _ _ _ (refl, refl, refl)
-    refl (rw c.memory_message-in-Err.ensures at c.refuse-in-Err.ensures.told)
+returns-in-Err-clause-goes g c = search (rules, goes_without_memory)
 
 pub returns-then-is_err-clause-goes : goal.returns-then-is_err-clause-goes
-returns-then-is_err-clause-goes g c = λ switches part.
-    goes_without_memory (AtStart true) (op_stage switches part c.args.update.now op.Read) _ _ _ (refl, refl, refl)
-    refl (rw c.memory_message.ensures at c.refuse.ensures.told)
+returns-then-is_err-clause-goes g c = search (rules, goes_without_memory)

@@ -1,4 +1,4 @@
-use Rattle.std.proofs.Common.{◌≡◌, ◌∙◌, sym, ap, subst, arith, [], ◌∷◌, ◌++◌, ◌+◌, List, drop, length, length-append, Some, Ok, Err, All, slice_get}
+use Rattle.std.proofs.Common.{◌∙◌, sym, ap, subst, arith, [], ◌∷◌, ◌++◌, ◌+◌, List, drop, length, length-append, Ok, Err, All, slice_get, rules}
 use Rattle.avr_desk.proofs.Lines.Told.{same_on}
 use Rattle.avr_plan.proofs.Stages.Told.{fault_since}
 use Rattle.std.proofs.lemmas.List.{drop_more, drop_all}
@@ -54,21 +54,7 @@ returns-in-Err-clause-goes g c =
     (goes_without_next c.args.switches c.args.part.now c.loop-update.tasks.items us i u _ _ 1 cut c.in-Err.ensures.goes)
 
 pub returns-in-Err-clause-told : goal.returns-in-Err-clause-told
-returns-in-Err-clause-told g c =
-    let us = c.args.updates.now in
-    let i = c.loop-update.update-index in
-    let u = c.update-item.result in
-    let placed : length c.as_slice.result.now ≡ i =
-    ap length (c.as_slice.ensures.value ∙ c.in-Err.ensures.same) ∙ c.loop-update.invariant.placed in
-    let found : slice_get us (length c.as_slice.result.now) ≡ Some u =
-    ap (slice_get us) placed ∙ slice_get-get_or us i u c.loop-update-test.true ∙ ap Some (sym c.update-item.is) in (
-      u,
-      (
-        found,
-        fault_since u c.in-Err.fault (g.D.Desk.view c.args.desk.now) (g.D.Desk.view c.loop-update.desk)
-            (g.D.Desk.view c.update_task.new.desk) c.loop-update.invariant.counts c.in-Err.ensures.told,
-      ),
-    )
+returns-in-Err-clause-told g c = search (rules, slice_get, slice_get-get_or, fault_since)
 
 pub returns-clause-goes : goal.returns-clause-goes
 returns-clause-goes g c =

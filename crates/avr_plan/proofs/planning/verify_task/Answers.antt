@@ -1,5 +1,5 @@
 use Rattle.std.proofs.Common.{Ok}
-use Rattle.avr_desk.proofs.Stages.Played.{went_into, goes_no_further}
+use Rattle.avr_desk.proofs.Stages.Played.{goes_no_further}
 use Rattle.avr_plan.specs.Planning.{update_image}
 use Rattle.avr_plan.specs.Taking.{has_values}
 use Rattle.avr_desk.specs.Playing.{AtStart}
@@ -7,14 +7,8 @@ use Rattle.avr_desk.specs.Stage.{verdict_stage}
 use Rattle.avr_plan.specs.declared.planned.Task.TheVariants.{Verify}
 use Rattle.avr_plan.proofs.planning.verify_task.Goals as goal
 
-pub returns-in-Ok-clause-goes : goal.returns-in-Ok-clause-goes
-returns-in-Ok-clause-goes g c =
-    let u = c.args.update.now in
-    went_into (update_image c.args.switches c.args.part.now u) (Verify u.memory) _ _ c.in-Ok.image c.in-Ok.ensures.goes
-
 pub returns-in-Err-clause-goes : goal.returns-in-Err-clause-goes
 returns-in-Err-clause-goes g c =
     let u = c.args.update.now in
-    goes_no_further (AtStart (has_values u.format)) (update_image c.args.switches c.args.part.now u)
-    (λ image. verdict_stage (Ok (Verify u.memory image))) _ _ 1
-    c.in-Err.ensures.goes
+    goes_no_further (AtStart (has_values u.format)) (update_image c.args.switches _ u)
+    (λ image. verdict_stage (Ok (Verify u.memory image))) _ _ 1 c.in-Err.ensures.goes

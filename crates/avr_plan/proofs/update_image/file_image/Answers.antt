@@ -7,8 +7,7 @@ use Rattle.avr_plan.proofs.update_image.file_image.Goals as goal
 
 pub returns-in-Ok-warn_of_ending-clause-goes : goal.returns-in-Ok-warn_of_ending-clause-goes
 returns-in-Ok-warn_of_ending-clause-goes g c =
-    went_image c.args.switches c.args.file.now c.args.format c.args.size _ _ _ c.in-Ok.image c.in-Ok.ending
-    c.in-Ok.ensures.read c.in-Ok.ensures.sound
+    went_image c.args.switches _ _ c.args.size _ _ _ _ _ c.in-Ok.ensures.read c.in-Ok.ensures.sound
     c.in-Ok-warn_of_ending.ensures.goes
 
 pub returns-in-Ok-warn_of_ending-clause-sized : goal.returns-in-Ok-warn_of_ending-clause-sized
@@ -18,27 +17,20 @@ returns-in-Ok-warn_of_ending-clause-sized g c =
 
 pub returns-in-Err-warn_of_ending-clause-goes : goal.returns-in-Err-warn_of_ending-clause-goes
 returns-in-Err-warn_of_ending-clause-goes g c =
-    goes_unwarned c.args.switches c.args.file.now c.args.format c.args.size _ _ _ c.in-Ok.image c.in-Ok.ending _
-    c.in-Ok.ensures.read
-    c.in-Ok.ensures.sound
+    goes_unwarned c.args.switches _ _ c.args.size _ _ _ _ _ _ c.in-Ok.ensures.read c.in-Ok.ensures.sound
     c.in-Err-warn_of_ending.ensures.goes
 
 pub returns-then-is_err-clause-goes : goal.returns-then-is_err-clause-goes
 returns-then-is_err-clause-goes g c =
-    goes_without_room c.args.switches c.args.file.now c.args.format c.args.size _ _ _ c.in-Ok.image c.in-Ok.ending _
-    c.in-Ok.ensures.read c.in-Ok.ensures.sound refl
+    goes_without_room c.args.switches _ _ c.args.size _ _ _ _ _ _ c.in-Ok.ensures.read c.in-Ok.ensures.sound refl
     (rw c.memory_message.ensures at c.refuse.ensures.told)
 
 pub returns-in-Err-clause-goes : goal.returns-in-Err-clause-goes
 returns-in-Err-clause-goes g c =
-    goes_without_image c.args.switches c.args.file.now c.args.format c.args.size _ _ _ c.in-Err.fault _
-    c.in-Err.ensures.read
-    c.in-Err.ensures.follows
-    c.in-Err.ensures.counted refl
-    (rw c.image_message.ensures at c.refuse-in-Err.ensures.told)
+    goes_without_image c.args.switches _ _ c.args.size _ _ _ _ _ c.in-Err.ensures.read c.in-Err.ensures.follows
+    c.in-Err.ensures.counted refl (rw c.image_message.ensures at c.refuse-in-Err.ensures.told)
 
 pub returns-in-Err-warn_of_ending-clause-told : goal.returns-in-Err-warn_of_ending-clause-told
-returns-in-Err-warn_of_ending-clause-told g c = λ update named.
-    fault_since update c.in-Err-warn_of_ending.fault (g.D.Desk.view c.args.desk.now)
-    (g.D.Desk.view c.read_image.new.desk) (g.D.Desk.view c.warn_of_ending.new.desk) c.in-Ok.ensures.sound
-    (c.in-Err-warn_of_ending.ensures.told update)
+returns-in-Err-warn_of_ending-clause-told g c =
+    λ update named. fault_since update _ (g.D.Desk.view c.args.desk.now) (g.D.Desk.view c.read_image.new.desk) _
+    c.in-Ok.ensures.sound (c.in-Err-warn_of_ending.ensures.told update)

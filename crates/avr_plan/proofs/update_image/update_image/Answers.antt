@@ -1,21 +1,15 @@
-use Rattle.std.proofs.Common.{refl, sym}
+use Rattle.std.proofs.Common.{refl, sym, rules}
 use Rattle.avr_plan.specs.PlanFaults.{with_status}
 use Rattle.avr_plan.proofs.Stages.Tasks.{goes_of_values, goes_of_file}
 use Rattle.avr_plan.proofs.update_image.update_image.Goals as goal
 
 pub returns-in-Immediate-clause-goes : goal.returns-in-Immediate-clause-goes
 returns-in-Immediate-clause-goes g c =
-    goes_of_values c.args.switches c.args.update.now.memory _ _ _ _ c.args.update.now.format _ _
-    (with_status c.values_image.result)
-    c.size_of-size.ensures.value
+    goes_of_values c.args.switches c.args.update.now.memory _ _ _ _ _ _ _ (with_status _) c.size_of-size.ensures.value
     c.as_str-text.ensures c.in-Immediate.is (c.values_image.ensures.goes c.args.switches)
 
 pub returns-in_default-clause-goes : goal.returns-in_default-clause-goes
-returns-in_default-clause-goes g c =
-    goes_of_file c.args.switches c.args.update.now.memory _ _ _ _ c.args.update.now.format _ _
-    (with_status c.file_image.result)
-    c.size_of-size.ensures.value
-    c.as_str-text.ensures c.in_default.not-Immediate c.file_image.ensures.goes
+returns-in_default-clause-goes g c = search (rules, goes_of_file)
 
 pub returns-in-Immediate-clause-told : goal.returns-in-Immediate-clause-told
 returns-in-Immediate-clause-told g c = c.values_image.ensures.told c.args.update.now refl

@@ -7,9 +7,8 @@ returns-in-Ok-clause-goes g c = λ switches. went_values switches c.args.memory 
     c.in-Ok.image c.in-Ok.ensures.value
 
 pub returns-in-Err-clause-goes : goal.returns-in-Err-clause-goes
-returns-in-Err-clause-goes g c = λ switches.
-    goes_bad_values switches c.args.memory c.args.size c.args.text.now _ _ _ c.in-Err.fault c.in-Err.ensures.value
-    refl
+returns-in-Err-clause-goes g c =
+    λ switches. goes_bad_values switches c.args.memory _ c.args.text.now _ _ _ _ c.in-Err.ensures.value refl
     (rw c.values_message.ensures at c.refuse-in-Err.ensures.told)
 
 pub returns-then-is_err-clause-goes : goal.returns-then-is_err-clause-goes

@@ -1,6 +1,5 @@
+use Rattle.std.proofs.Common.{rules}
 use Rattle.avr_desk.proofs.Stages.Played.{went_silent, went_output, goes_output_part}
-use Rattle.std.proofs.Common.{false}
-use Rattle.avr_desk.specs.Playing.{AtStart}
 use Rattle.avr_plan.specs.Lines.{no_end_line}
 use Rattle.avr_plan.proofs.update_image.warn_of_ending.Goals as goal
 
@@ -12,6 +11,4 @@ returns-in-Ok-clause-goes g c = rw (← c.if-not-warns.ensures)
     (went_output _ _ (no_end_line c.args.file.now) c.in-Ok.ensures.printed c.in-Ok.ensures.counts.1)
 
 pub returns-in-Err-clause-goes : goal.returns-in-Err-clause-goes
-returns-in-Err-clause-goes g c = rw (← c.if-not-warns.ensures)
-    (goes_output_part (AtStart false) _ _ (no_end_line c.args.file.now) c.in-Err.field-0 c.in-Err.ensures.printed
-    c.in-Err.ensures.fault c.in-Err.ensures.counts)
+returns-in-Err-clause-goes g c = search (rules, goes_output_part)

@@ -1,3 +1,4 @@
+use Rattle.std.proofs.lemmas.Grind.{common_steps}
 use Rattle.std.proofs.lemmas.Bool.Decides.{nat_tests}
 use Rattle.std.proofs.Common.{◌≡◌, ◌∙◌, sym, arith, ◌*◌, ◌/◌, inl, inr}
 use Rattle.std.proofs.lemmas.Bool.{cases_lt}
@@ -7,9 +8,7 @@ use Rattle.avr_records_c.proofs.Maps.{gap_before, gap_behind}
 use Rattle.avr_records_c.proofs.bitmap.put_octets.Goals as goal
 
 pub returns-in-None-clause-put : goal.returns-in-None-clause-put
-returns-in-None-clause-put c = λ i after before.
-    c.requires.zeros i after
-    ∙ sym (gap_behind c.args.image.now c.args.from (sym c.first_from.ensures ∙ c.in-None.is) i after)
+returns-in-None-clause-put c = grind (arith, gap_behind)
 
 pub returns-then-first-present-clause-put : goal.returns-then-first-present-clause-put
 returns-then-first-present-clause-put c =
@@ -53,9 +52,7 @@ returns-then-first-end-clause-zeros c =
     grind (arith, nat_tests)
 
 pub returns-clause-after : goal.returns-clause-after
-returns-clause-after c =
-    let next = next_held c.args.image.now (c.args.from * 8) c.in-Some.addr (sym c.first_from.ensures ∙ c.in-Some.is) in
-    omega (arith, next.after)
+returns-clause-after c = grind (arith, common_steps, next_held)
 
 pub returns-clause-below : goal.returns-clause-below
 returns-clause-below c =

@@ -1,7 +1,6 @@
-use Rattle.std.proofs.Common.{arith}
+use Rattle.std.proofs.Common.{rules}
 use Rattle.avr_records_c.proofs.Walks.{length-image}
 use Rattle.avr_records_c.proofs.memory.Memory.new.Goals as goal
 
 pub returns-clause-short : goal.returns-clause-short
-returns-clause-short c =
-    omega (arith, length-image 0 c.args.present.now c.args.bytes.now, c.requires.below)
+returns-clause-short c = search (rules, length-image)
