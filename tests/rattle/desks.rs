@@ -1,10 +1,11 @@
 //! Calls that succeed, and the desk of a program over real files.
 use avr_desk::{
-    Bytes, ChipDesk, Desk, DeskCall, DeskFault, FailingDesk, FileFault, MemDesk, Stream,
+    Bounded, Bytes, ChipDesk, Desk, DeskCall, DeskFault, FailingDesk, FileFault, MemDesk, Stream,
     SystemDesk, WatchDesk, WatchedDesk, read_file, write_all,
 };
 use std::alloc::{AllocError, Global};
 use std::io::{self, ErrorKind, Write};
+use std::os::fd::{AsRawFd, RawFd};
 use std::test::Fail;
 use std::{env, fs, process};
 
@@ -188,6 +189,24 @@ fn a_file_of_the_system_is_replaced(rt: HostRuntime) -> Result<(), Fail> {
     Ok(())
 }
 
+#[test]
+fn another_file_than_the_held_one_is_replaced(rt: HostRuntime) -> Result<(), Fail> {
+    let alloc = rt.alloc();
+    let folder = env::temp_dir(&rt)?;
+    let id = process::id(rt.process());
+    let name = format!(in alloc; "{}/avr_desk_one_{id}.bin", folder.display())?;
+    let other = format!(in alloc; "{}/avr_desk_other_{id}.bin", folder.display())?;
+    let mut desk = SystemDesk::new(&rt, rt.stdout(), rt.stderr());
+    assert!(rt; desk.replace(name.as_str(), b"old") == Ok(()));
+    assert!(rt; desk.hold(name.as_str()) == Ok(true));
+    assert!(rt; desk.replace(other.as_str(), b"new") == Ok(()));
+    assert!(rt; holds(alloc, &mut desk, name.as_str(), 3, b"old"));
+    assert!(rt; holds(alloc, &mut desk, other.as_str(), 3, b"new"));
+    fs::remove_file(&rt, name.as_str())?;
+    fs::remove_file(&rt, other.as_str())?;
+    Ok(())
+}
+
 /// Prints at a desk over these two writers.
 fn print_both<'a>(
     rt: &'a HostRuntime,
@@ -237,15 +256,28 @@ impl Write for Stubborn {
     }
 }
 
+impl AsRawFd for Stubborn {
+    fn as_raw_fd(&self) -> RawFd {
+        1
+    }
+}
+
+const STUBBORN: Stubborn = Stubborn {
+    calls: 0,
+    flushes: 0,
+};
+
+/// Returns whether the second of these writes fails, because its flush does, and nothing else.
+fn is_flushed<W: Write + Drop>(rt: &HostRuntime, output: W) -> bool {
+    let mut desk = SystemDesk::new(rt, output, rt.stderr());
+    put(&mut desk, Stream::Output, b"a") == Ok(())
+        && put(&mut desk, Stream::Output, b"b") == Err(DeskFault::Failed)
+        && desk.create("-") == Ok(())
+        && put(&mut desk, Stream::File, b"cd") == Ok(())
+}
+
 #[test]
 fn a_writer_is_flushed(rt: HostRuntime) {
-    let output = Stubborn {
-        calls: 0,
-        flushes: 0,
-    };
-    let mut desk = SystemDesk::new(&rt, output, rt.stderr());
-    assert!(rt; put(&mut desk, Stream::Output, b"a") == Ok(()));
-    assert!(rt; put(&mut desk, Stream::Output, b"b") == Err(DeskFault::Failed));
-    assert!(rt; desk.create("-") == Ok(()));
-    assert!(rt; put(&mut desk, Stream::File, b"cd") == Ok(()));
+    assert!(rt; is_flushed(&rt, STUBBORN));
+    assert!(rt; is_flushed(&rt, Bounded::new(STUBBORN, None)));
 }

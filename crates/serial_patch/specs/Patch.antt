@@ -1,5 +1,5 @@
 -- A serial number put into an image.
-use Rattle.std.specs.Prelude.{◌≡◌, ◌⊎◌, ◌<◌, ◌≤◌, ◌+◌, ◌^◌, ℕ, ⊤, List, length, max, false, Option, Some, None, Ok, Err, slice_index_or}
+use Rattle.std.specs.Prelude.{◌≡◌, ◌⊎◌, ◌<◌, ◌≤◌, ◌+◌, ◌^◌, ℕ, List, length, max, false, true, Option, Some, None, Ok, Err, slice_index_or}
 use Rattle.avr_image.specs.Image.{byte_at, fits}
 use Rattle.avr_image.specs.declared.fault.ImageFault.TheVariants.{OutOfRange}
 use Rattle.avr_records.specs.Detect.{kind_of_file, record_kind}
@@ -37,14 +37,17 @@ HasReadingFault kind text size fault =
     (length text < 2 ^ 32 → (image_in_text kind text size ≡ Err fault) ⊎ (fault ≡ RecordFault.Memory))
     × (2 ^ 32 ≤ length text → fault ≡ TooLong)
 
--- A file that was not patched has this fault, or the serial number doesn't fit. Allocation may always fail.
+-- A file that was not patched has this fault, or the serial number doesn't fit. Allocation of the new file fails only if
+-- all is well up to there.
 abbrev pub HasPatchFault : ℕ → List ℕ → ℕ → List ℕ → PatchFault → Type 0
 HasPatchFault size text at serial NoRecords = record_kind (kind_of_file text) ≡ None
 HasPatchFault size text at serial (Records fault) =
     (kind : Kind) × (record_kind (kind_of_file text) ≡ Some kind) × HasReadingFault kind text size fault
 HasPatchFault size text at serial (Outside fault) =
     (fits at serial size ≡ false) × (fault ≡ OutOfRange (max at size))
-HasPatchFault size text at serial Memory = ⊤
+HasPatchFault size text at serial Memory =
+    (kind : Kind) × (read : List (Option ℕ) × Ending) × (record_kind (kind_of_file text) ≡ Some kind)
+    × (image_in_text kind text size ≡ Ok read) × (fits at serial size ≡ true)
 
 abbrev pub patch_fault_number : PatchFault → ℕ
 patch_fault_number NoRecords = 1

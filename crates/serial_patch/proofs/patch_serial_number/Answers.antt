@@ -12,3 +12,6 @@ returns-in-Ok-clause-patched c = record {
   reads_back = search rules;
   is_patched = search rules;
 }
+
+pub returns-clause-fault : goal.returns-clause-fault
+returns-clause-fault c = (c.in_ok-kind.kind, (c.in_ok-image.image, c.in_ok-image.field-0-1), search rules, search rules, search rules)
