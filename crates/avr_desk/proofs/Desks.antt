@@ -3,3 +3,4 @@ pub mod Writers
 pub mod InMemory
 pub mod TwoWriters
 pub mod Held
+pub mod OneName

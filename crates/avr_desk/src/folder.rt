@@ -74,14 +74,13 @@ pub(crate) trait Folder {
 
     /// Gives the name `target` to the file that has the new one's name.
     fn place(&mut self, new: &Self::New, target: &str, step: Step) -> io::Result<()>
-        ensures placed { OnOk result ((bytes : Bytes) → is_there self.old new.now → keeps new.now bytes
-            → finds self.new target.now bytes) }
         ensures whole { (bytes : Bytes) → is_there self.old new.now → keeps new.now bytes
             → Stays (Whole locks left_since target.now bytes) self.old self.new };
 
     /// Returns whether the new file has the name `target`.
     fn is_placed(&mut self, new: &Self::New, target: &str) -> io::Result<bool>
-        ensures finds { (name bytes : Bytes) → finds self.old name bytes → finds self.new name bytes }
+        ensures placed { IfOk result (λ answer. answer ≡ true → (bytes : Bytes) → keeps new.now bytes
+            → finds self.new target.now bytes) }
         ensures stays { (name bytes : Bytes) → Stays (Whole locks left_since name bytes) self.old self.new };
 
     /// Gives the new file these permissions, without the mark. It does nothing if that fails.

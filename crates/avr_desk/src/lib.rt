@@ -29,6 +29,7 @@ mod folder;
 mod journal;
 mod kept;
 mod mem_desk;
+mod mem_folder;
 mod placing;
 mod replacing;
 mod system;
