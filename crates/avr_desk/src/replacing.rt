@@ -6,7 +6,7 @@
 //! The bytes are written to a new file beside the old one, which this program alone has made, opened and locked. Once
 //! it is on the disk, it is renamed. No other file is put in place, and one that no program here can have made is left
 //! alone.
-ghost use Rattle.std.specs.Prelude.{◌≡◌, ◌++◌, ⊤, IfOk, Option, OnErr, OnOk, codes, string_bytes};
+ghost use Rattle.std.specs.Prelude.{◌≡◌, ◌++◌, ⊤, IfOk, Option, OnErr, OnOk, bytes_eq, codes, string_bytes};
 ghost use Rattle.avr_desk.specs.Handles.{IsHeldBy};
 ghost use Rattle.avr_desk.specs.Journal.{Does, making};
 ghost use Rattle.avr_desk.specs.Record.{Bytes};
@@ -586,7 +586,9 @@ impl Replacement {
         Err(io::Error::from(ErrorKind::WouldBlock))
     }
 
-    pub(crate) fn is_of(&self, name: &str) -> bool {
+    pub(crate) fn is_of(&self, name: &str) -> bool
+        ensures { result ≡ bytes_eq (string_bytes self.now.name) name.now }
+    {
         self.name.as_str() == name
     }
 
