@@ -1,11 +1,10 @@
-use Rattle.std.proofs.Common.{◌∙◌, ap, sym, subst, refl, arith, ◌≡◌, ◌<◌, ℕ, List, [], ◌∷◌, ◌++◌, length, append_assoc, append-nil, Result, Ok, Err, IsOk, OnOk, OnErr, IsTrue, Bool, true, false}
+use Rattle.std.proofs.Common.{◌∙◌, ap, sym, subst, refl, arith, ◌≡◌, ◌<◌, ℕ, List, [], ◌∷◌, ◌++◌, length, append_assoc, append-nil, Result, Ok, Err, IsOk, OnOk, OnErr, IsTrue, Bool, true, false, rules}
 use Rattle.std.proofs.lemmas.Result.{err_from_is_err_and}
-use Rattle.avr_desk.specs.Fault.{Counts}
 use Rattle.avr_desk.specs.Record.{Record, showing}
 use Rattle.avr_desk.specs.Stream.{after_sent, SendsPart}
 use Rattle.avr_desk.specs.declared.desk.DeskFault.{DeskFault}
 use Rattle.avr_desk.specs.declared.stream.Stream.{Stream}
-use Rattle.avr_desk.proofs.Lines.SentBytes.{sent_next, sent_next_part, sent_none}
+use Rattle.avr_desk.proofs.Lines.SentBytes.{sent_next, sent_next_part}
 use Rattle.avr_session.proofs.file_text.write_pieces.Goals as goal
 
 none_left : (xs : List ℕ) (more : Bool) → more ≡ false → (0 < length xs → IsTrue more) → xs ≡ []
@@ -40,17 +39,6 @@ part_sent s old now new done waiting text (Err fault) is before part =
     (sym (is ∙ ap (λ (xs : List ℕ). done ++ xs) (sym (append-nil waiting))))
     (sent_next_part s old now new done waiting [] before part)
 
-pub pieces-init : goal.pieces-init
-pieces-init g c = record {
-  sent = (
-    [],
-    ap (λ (xs : List ℕ). xs ++ g.P.Pieces.rest c.args.text) (sym c.new-waiting.ensures),
-    sent_none c.args.stream (g.D.Desk.view c.args.desk.now).kept,
-  );
-  counted = (refl, refl);
-  stays = λ start of. of;
-}
-
 pub pieces-preserved : goal.pieces-preserved
 pieces-preserved g c =
     let i = c.pieces.invariant.sent in
@@ -83,14 +71,7 @@ returns-in_err-make_room-clause-part g c =
     c.in_err-make_room.ensures.part))
 
 pub returns-clause-all : goal.returns-clause-all
-returns-clause-all g c =
-    let i = c.pieces.invariant.sent in
-    let none = none_left (g.P.Pieces.rest c.pieces.text) c.next_piece.result c.pieces-test.false
-    c.next_piece.ensures.ends.1 in
-    let waits = c.pieces.waiting.items in
-    all_sent c.args.stream _ _ _ i.0 waits _ c.write_all.result
-    (i.1 ∙ ap (λ (xs : List ℕ). i.0 ++ xs) (ap (λ (xs : List ℕ). waits ++ xs) none ∙ append-nil waits)) i.2
-    (rw (← c.as_slice-rest.ensures.value) c.write_all.ensures.all)
+returns-clause-all g c = search (rules, none_left, all_sent, append-nil)
 
 pub returns-clause-part : goal.returns-clause-part
 returns-clause-part g c =
@@ -101,12 +82,3 @@ returns-clause-part g c =
     part_sent c.args.stream _ _ _ i.0 waits _ c.write_all.result
     (i.1 ∙ ap (λ (xs : List ℕ). i.0 ++ xs) (ap (λ (xs : List ℕ). waits ++ xs) none ∙ append-nil waits)) i.2
     (rw (← c.as_slice-rest.ensures.value) c.write_all.ensures.part)
-
-pub returns-clause-counts : goal.returns-clause-counts
-returns-clause-counts g c =
-    let first = g.D.Desk.view c.args.desk.now in
-    let last = g.D.Desk.view c.write_all.new.desk in
-    let same = c.pieces.invariant.counted in
-    subst (λ n. Counts c.args.stream (showing first.kept first.failures n) last c.write_all.result) same.1
-    (subst (λ n. Counts c.args.stream (showing first.kept n (g.D.Desk.view c.pieces.desk).unsaid) last
-    c.write_all.result) same.0 c.write_all.ensures.counts)

@@ -1,8 +1,4 @@
 use Rattle.std.proofs.Common.{inl, inr, refl}
-use Rattle.avr_desk.proofs.Stages.Played.{goes_follows}
-use Rattle.avr_desk.proofs.Lines.Told.{follows_on}
-use Rattle.avr_plan.specs.Planning.{planned}
-use Rattle.avr_plan.specs.Taking.{AtUpdate}
 use Rattle.avr_session.proofs.session.run.Goals as goal
 
 pub returns-in-Ok-clause-runs : goal.returns-in-Ok-clause-runs
@@ -21,14 +17,3 @@ returns-in-Err-clause-runs g c = record {
     refl,
   );
 }
-
-pub returns-in-Ok-clause-follows : goal.returns-in-Ok-clause-follows
-returns-in-Ok-clause-follows g c =
-    follows_on (g.D.Desk.view c.args.desk.now) (g.D.Desk.view c.plan.new.desk) (g.D.Desk.view c.drive.new.desk)
-    (goes_follows (AtUpdate c.args.settings.now) (planned c.args.settings.now) (g.D.Desk.view c.args.desk.now)
-    (g.D.Desk.view c.plan.new.desk) c.plan.result c.plan.ensures.goes) c.drive.ensures.follows
-
-pub returns-in-Err-clause-follows : goal.returns-in-Err-clause-follows
-returns-in-Err-clause-follows g c =
-    goes_follows (AtUpdate c.args.settings.now) (planned c.args.settings.now) (g.D.Desk.view c.args.desk.now)
-    (g.D.Desk.view c.plan.new.desk) c.plan.result c.plan.ensures.goes

@@ -1,10 +1,8 @@
-use Rattle.std.proofs.Common.{false, [], refl}
+use Rattle.std.proofs.Common.{false, refl}
 use Rattle.stk_host.specs.Operations.{closing}
-use Rattle.avr_session.specs.Lines.{fault_line}
 use Rattle.avr_session.specs.Session.{closed_says}
 use Rattle.avr_session.proofs.ActionByAction.Operations.{call_ended, closing_lacks_none, told_of}
 use Rattle.avr_session.proofs.ActionByAction.Sequences.{operation_performs, print_stops_report}
-use Rattle.avr_session.proofs.Runs.Outcomes.{last_line, told_by}
 use Rattle.avr_session.proofs.performing.Session.close.Goals as goal
 
 pub returns-clause-performs : goal.returns-clause-performs
@@ -15,9 +13,3 @@ returns-clause-performs g c =
     operation_performs closing says reports false (print_stops_report _ _ reports)
     (told_of part says (λ stop. refl) reports) c.requires c.close-closed.ensures.calls
     (call_ended closing _ _ _ _ _ closing_lacks_none) c.conclude.ensures
-
-pub returns-clause-told : goal.returns-clause-told
-returns-clause-told g c =
-    let part = c.args.self.now.plan.now.part in
-    told_by part (closed_says c.args.self.now.plan.now.switches.quiet part)
-    (λ fault r. last_line [] (fault_line part fault) r) c.report_closing-reported.ensures.reports c.conclude.ensures

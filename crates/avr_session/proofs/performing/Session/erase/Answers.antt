@@ -1,11 +1,9 @@
-use Rattle.std.proofs.Common.{false, [], refl}
+use Rattle.std.proofs.Common.{false, refl}
 use Rattle.stk_host.specs.Operations.{erasing}
 use Rattle.avr_session.specs.Actions.{EraseChip}
-use Rattle.avr_session.specs.Lines.{fault_line}
 use Rattle.avr_session.specs.Session.{erased_says}
 use Rattle.avr_session.proofs.ActionByAction.Operations.{call_ended, erasing_lacks_none, told_of}
 use Rattle.avr_session.proofs.ActionByAction.Sequences.{does_one, operation_performs, print_stops_report}
-use Rattle.avr_session.proofs.Runs.Outcomes.{last_line, told_by}
 use Rattle.avr_session.proofs.performing.Session.erase.Goals as goal
 
 pub returns-clause-performs : goal.returns-clause-performs
@@ -16,9 +14,3 @@ returns-clause-performs g c =
     does_one c.args.self.now.plan.now EraseChip (operation_performs erasing says reports false
     (print_stops_report _ _ reports) (told_of part says (λ stop. refl) reports) c.requires.sound
     c.erase-erased.ensures.calls (call_ended erasing _ _ _ _ _ erasing_lacks_none) c.conclude.ensures)
-
-pub returns-clause-told : goal.returns-clause-told
-returns-clause-told g c =
-    let part = c.args.self.now.plan.now.part in
-    told_by part (erased_says c.args.self.now.plan.now.switches.quiet part)
-    (λ fault r. last_line [] (fault_line part fault) r) c.report_erased-reported.ensures.reports c.conclude.ensures

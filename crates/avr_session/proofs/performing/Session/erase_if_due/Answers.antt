@@ -1,8 +1,6 @@
-use Rattle.std.proofs.Common.{◌≡◌, [], ◌∷◌, refl, false}
+use Rattle.std.proofs.Common.{◌≡◌, [], ◌∷◌, refl, false, rules}
 use Rattle.avr_session.specs.Actions.{TheErase, LeaveOut, erase_actions}
-use Rattle.avr_session.specs.Session.{left_out_says}
 use Rattle.avr_session.proofs.ActionByAction.Sequences.{does_nothing, does_one, does_same, left_out_performs}
-use Rattle.avr_session.proofs.Runs.Outcomes.{left_out_told}
 use Rattle.avr_session.proofs.performing.Session.erase_if_due.Goals as goal
 
 pub returns-then-switches-2-clause-performs : goal.returns-then-switches-2-clause-performs
@@ -12,9 +10,7 @@ returns-then-switches-2-clause-performs g c =
     let leaves = rw c.switches-switches.ensures at c.leave_out_erase.ensures.leaves_out in
     let due : LeaveOut TheErase ∷ [] ≡ erase_actions c.args.self.now.plan.now.switches c.args.self.now.plan.now.tasks =
     rw (is_dry, is_asked) refl in
-    does_same c.args.self.now.plan.now _ _ due (does_one c.args.self.now.plan.now (LeaveOut TheErase)
-    (left_out_performs false (left_out_says c.args.self.now.plan.now.switches.quiet TheErase) c.leave_out_erase.result
-    c.requires.sound leaves))
+    search (rules, does_same, does_one, left_out_performs)
 
 pub returns-then-switches-clause-performs : goal.returns-then-switches-clause-performs
 returns-then-switches-clause-performs g c =
@@ -32,8 +28,3 @@ returns-clause-performs g c =
     let none : [] ≡ erase_actions c.args.self.now.plan.now.switches c.args.self.now.plan.now.tasks =
     rw (is_not_dry, is_not_due) refl in
     does_same c.args.self.now.plan.now _ _ none (does_nothing c.args.self.now.plan.now _ _ c.requires.sound)
-
-pub returns-then-switches-2-clause-told : goal.returns-then-switches-2-clause-told
-returns-then-switches-2-clause-told g c =
-    left_out_told c.args.self.now.plan.now.part (g.D.Desk.view c.leave_out_erase.new.desk) c.leave_out_erase.result
-    c.leave_out_erase.ensures.leaves_out

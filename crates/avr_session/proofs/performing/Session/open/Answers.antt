@@ -4,7 +4,6 @@ use Rattle.avr_session.specs.Actions.{OpenSession}
 use Rattle.avr_session.specs.Session.{opening_says}
 use Rattle.avr_session.proofs.ActionByAction.Operations.{call_ended, opening_lacks_none, opening_line, told_of}
 use Rattle.avr_session.proofs.ActionByAction.Sequences.{does_one, operation_performs, print_stops_report}
-use Rattle.avr_session.proofs.Runs.Outcomes.{opening_last, told_by}
 use Rattle.avr_session.proofs.performing.Session.open.Goals as goal
 
 pub returns-clause-performs : goal.returns-clause-performs
@@ -19,10 +18,3 @@ returns-clause-performs g c =
     c.requires.sound c.open-opened.ensures.calls
     (λ ends. call_ended operation _ _ _ _ _ (opening_lacks_none part.signature s.force)
     (rw (c.requires.part, c.switches-switches.ensures) at ends)) c.conclude.ensures)
-
-pub returns-clause-told : goal.returns-clause-told
-returns-clause-told g c =
-    let part = c.args.self.now.plan.now.part in
-    let quiet = c.args.self.now.plan.now.switches.quiet in
-    told_by part (opening_says quiet part) (opening_last quiet part) c.report_opening-reported.ensures.reports
-    c.conclude.ensures

@@ -1,4 +1,4 @@
-use Rattle.std.proofs.Common.{sym, ◌∙◌, true, []}
+use Rattle.std.proofs.Common.{sym, ◌∙◌, true}
 use Rattle.stk_host.specs.Operations.{reading}
 use Rattle.stk_host.specs.Calls.{given_or_fault}
 use Rattle.avr_session.specs.Actions.{SaveMemory}
@@ -6,8 +6,6 @@ use Rattle.avr_session.specs.Session.{fault_or, read_says}
 use Rattle.avr_session.proofs.ActionByAction.FaultsTold.{read_none}
 use Rattle.avr_session.proofs.ActionByAction.Operations.{lack_ended}
 use Rattle.avr_session.proofs.ActionByAction.Sequences.{does_one, operation_performs, given_concluded, given_told, read_stops_report}
-use Rattle.avr_session.specs.Lines.{fault_line}
-use Rattle.avr_session.proofs.Runs.Outcomes.{last_line, told_by}
 use Rattle.avr_session.proofs.performing.Session.read.Goals as goal
 
 pub report_read-reported-requires : goal.report_read-reported-requires
@@ -30,13 +28,3 @@ returns-clause-performs g c =
     (given_told items good part c.read-outcome.result reports) c.requires.sound c.read-outcome.ensures.calls
     (λ ends. lack_ended operation _ _ _ outcome _ (rw c.requires.part at ends))
     (c.conclude.ensures ∙ sym (given_concluded items c.read-outcome.result c.report_read-reported.result)))
-
-pub returns-clause-told : goal.returns-clause-told
-returns-clause-told g c =
-    let part = c.args.self.now.plan.now.part in
-    let s = c.args.self.now.plan.now.switches in
-    let items = c.read-outcome.new.out.items in
-    let good = read_says s c.args.mem c.args.target.format c.args.target.file.now in
-    let reports = rw c.as_slice.ensures.value at c.report_read-reported.ensures.reports in
-    told_by part (λ outcome. fault_or part good (given_or_fault items outcome))
-    (λ fault r. last_line [] (fault_line part fault) r) reports c.conclude.ensures

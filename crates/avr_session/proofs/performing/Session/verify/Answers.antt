@@ -1,11 +1,9 @@
-use Rattle.std.proofs.Common.{true, [], refl}
+use Rattle.std.proofs.Common.{true, refl}
 use Rattle.stk_host.specs.Operations.{verifying}
 use Rattle.avr_session.specs.Actions.{CompareImage}
-use Rattle.avr_session.specs.Lines.{fault_line}
 use Rattle.avr_session.specs.Session.{verified_says}
 use Rattle.avr_session.proofs.ActionByAction.Operations.{lack_ended, told_of}
 use Rattle.avr_session.proofs.ActionByAction.Sequences.{does_one, operation_performs, print_stops_report}
-use Rattle.avr_session.proofs.Runs.Outcomes.{last_line, told_by}
 use Rattle.avr_session.proofs.performing.Session.verify.Goals as goal
 
 pub returns-clause-performs : goal.returns-clause-performs
@@ -18,9 +16,3 @@ returns-clause-performs g c =
     (operation_performs operation says reports true (print_stops_report _ _ reports)
     (told_of part says (λ stop. refl) reports) c.requires.sound c.verify-verified.ensures.calls
     (λ ends. lack_ended operation _ _ _ _ _ (rw c.requires.part at ends)) c.conclude.ensures)
-
-pub returns-clause-told : goal.returns-clause-told
-returns-clause-told g c =
-    let part = c.args.self.now.plan.now.part in
-    told_by part (verified_says c.args.self.now.plan.now.switches.quiet part c.args.mem c.args.image.now)
-    (λ fault r. last_line [] (fault_line part fault) r) c.report_image-reported.ensures.reports c.conclude.ensures

@@ -1,11 +1,9 @@
-use Rattle.std.proofs.Common.{false, [], refl}
+use Rattle.std.proofs.Common.{false, refl}
 use Rattle.stk_host.specs.Operations.{writing}
 use Rattle.avr_session.specs.Actions.{WriteImage}
-use Rattle.avr_session.specs.Lines.{fault_line}
 use Rattle.avr_session.specs.Session.{written_says}
 use Rattle.avr_session.proofs.ActionByAction.Operations.{call_ended, told_of, writing_lacks_none}
 use Rattle.avr_session.proofs.ActionByAction.Sequences.{does_one, operation_performs, print_stops_report}
-use Rattle.avr_session.proofs.Runs.Outcomes.{last_line, told_by}
 use Rattle.avr_session.proofs.performing.Session.write.Goals as goal
 
 pub returns-clause-performs : goal.returns-clause-performs
@@ -19,9 +17,3 @@ returns-clause-performs g c =
     (told_of part says (λ stop. refl) reports) c.requires.sound c.write-written.ensures.calls
     (λ ends. call_ended operation _ _ _ _ _ (writing_lacks_none part c.args.mem c.args.image.now)
     (rw c.requires.part at ends)) c.conclude.ensures)
-
-pub returns-clause-told : goal.returns-clause-told
-returns-clause-told g c =
-    let part = c.args.self.now.plan.now.part in
-    told_by part (written_says c.args.self.now.plan.now.switches.quiet part c.args.mem c.args.image.now)
-    (λ fault r. last_line [] (fault_line part fault) r) c.report_image-reported.ensures.reports c.conclude.ensures

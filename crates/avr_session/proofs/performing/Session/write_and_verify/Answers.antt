@@ -1,9 +1,7 @@
-use Rattle.std.proofs.Common.{◌≡◌, ◌++◌, refl, false, [], ◌∷◌}
+use Rattle.std.proofs.Common.{◌≡◌, ◌++◌, refl, false, [], ◌∷◌, rules}
 use Rattle.std.proofs.lemmas.Result.{err_from_is_err_and}
 use Rattle.avr_session.specs.Actions.{TheWrite, WriteImage, LeaveOut, read_back_actions, write_actions}
-use Rattle.avr_session.specs.Session.{left_out_says}
 use Rattle.avr_session.proofs.ActionByAction.Sequences.{left_out_performs, does_one, does_same, does_then, does_last}
-use Rattle.avr_session.proofs.Runs.Outcomes.{left_out_told}
 use Rattle.avr_session.proofs.performing.Session.write_and_verify.Goals as goal
 
 pub returns-then-switches-clause-performs : goal.returns-then-switches-clause-performs
@@ -12,9 +10,7 @@ returns-then-switches-clause-performs g c =
     let what = TheWrite c.args.mem c.args.image.now in
     let is_dry = rw c.switches.ensures at c.if-switches.true in
     let due : LeaveOut what ∷ [] ≡ write_actions s c.args.mem c.args.image.now = rw is_dry refl in
-    does_same c.args.self.now.plan.now _ _ due (does_one c.args.self.now.plan.now (LeaveOut what)
-    (left_out_performs false (left_out_says s.quiet what) c.leave_out_write.result
-    c.requires.sound c.leave_out_write.ensures.leaves_out))
+    search (rules, does_same, does_one, left_out_performs)
 
 pub returns-in_err-write-clause-performs : goal.returns-in_err-write-clause-performs
 returns-in_err-write-clause-performs g c =
@@ -37,8 +33,3 @@ returns-clause-performs g c =
     does_same c.args.self.now.plan.now _ _ due (does_then c.args.self.now.plan.now write more _
     c.in_ok-write.ensures.performs
     (rw c.in_ok-write.ensures.keeps.plan at c.read_back.ensures.performs))
-
-pub returns-then-switches-clause-told : goal.returns-then-switches-clause-told
-returns-then-switches-clause-told g c = left_out_told
-    c.args.self.now.plan.now.part (g.D.Desk.view c.leave_out_write.new.desk) c.leave_out_write.result
-    c.leave_out_write.ensures.leaves_out
