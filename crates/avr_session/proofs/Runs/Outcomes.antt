@@ -31,13 +31,6 @@ pub last_line : (outputs : List OutputEvent) (line : Bytes) (r : Record)
 last_line [] line r = (r.messages, refl)
 last_line (output ∷ outputs) line r = last_line outputs line (after output r)
 
--- so does the line of a fault, whatever else is printed for the opening
-pub opening_last : (quiet : ℕ) (part : Part) (fault : HostFault) (r : Record)
-    → EndWith (fault_line part fault) (after_all (opening_says quiet part (Err fault)) r).messages
-opening_last quiet part (WrongSignature found) r =
-    last_line (signature_says quiet found) (fault_line part (WrongSignature found)) r
-opening_last quiet part fault r = last_line [] (fault_line part fault) r
-
 -- a fault that doesn't stop the run was reported last
 after_fault : (A : Type 0) (part : Part) (fault : HostFault) (view : DeskState)
     → EndWith (fault_line part fault) view.kept.messages → EndsTold part view (after_outcome {A = A} (Err fault))
@@ -76,10 +69,6 @@ said_told : (part : Part) (view : DeskState) (said : Result (Unit {0}) DeskFault
     → EndsTold part view (conclusion {A = Unit {0}} (Ok tt) said)
 said_told part view (Ok done) = tt
 said_told part view (Err _) = tt
-
-pub left_out_told : (part : Part) (view : DeskState) {outputs : List OutputEvent} {old new : DeskState}
-    (result : Result (Unit {0}) End) → LeavesOut outputs old new result → EndsTold part view result
-left_out_told part view result leaves = rw leaves.result_is (said_told part view leaves.told)
 
 -- ---- a whole session
 
