@@ -1,11 +1,11 @@
 -- The outcome of a session: the line of its fault is the last one that was reported.
-use Rattle.std.proofs.Common.{◌≡◌, ◌++◌, ℕ, List, [], ◌∷◌, Result, Ok, Err, inl, inr, refl}
+use Rattle.std.proofs.Common.{◌≡◌, ◌++◌, List, [], ◌∷◌, Result, Ok, Err, inl, inr, refl}
 use Rattle.avr_desk.specs.Record.{Bytes, DeskState, Record}
 use Rattle.avr_desk.specs.Said.{OutputEvent, Line, after, after_all}
 use Rattle.avr_part.specs.Part.{Part}
 use Rattle.avr_plan.specs.Plan.{Plan}
 use Rattle.stk_host.specs.declared.fault.HostFault.{HostFault}
-use Rattle.stk_host.specs.declared.fault.HostFault.TheVariants.{SendFailed, WrongSignature, Memory, RecvFailed}
+use Rattle.stk_host.specs.declared.fault.HostFault.TheVariants.{SendFailed, Memory, RecvFailed}
 use Rattle.stk_host.specs.State.{HostState}
 use Rattle.avr_session.specs.Standing.{Fine, Faulty, Over}
 use Rattle.avr_session.specs.declared.ending.End.{End}
@@ -17,11 +17,11 @@ use Rattle.avr_session.specs.Actions.{actions, takes_memory}
 use Rattle.avr_session.specs.Concluding.{after_outcome, conclusion, stands}
 use Rattle.avr_session.specs.Lines.{fault_line}
 use Rattle.avr_session.specs.Outcomes.{outcome_status, EndWith, ComesTo, EndsTold, outcome_of}
-use Rattle.avr_session.specs.Performing.{PerformsBehind, LeavesOut}
+use Rattle.avr_session.specs.Performing.{PerformsBehind}
 use Rattle.avr_session.specs.Run.{RunsSession}
 use Rattle.avr_session.specs.Runs.{Cause, Devices, start, untold}
 use Rattle.avr_session.specs.Reporting.{Reports}
-use Rattle.avr_session.specs.Session.{playing, opening_says, signature_says}
+use Rattle.avr_session.specs.Session.{playing}
 use Rattle.avr_session.specs.Taking.{AtTaking}
 use Rattle.avr_session.proofs.ActionByAction.Sequences.{session_played, session_stopped}
 
@@ -63,12 +63,6 @@ module _ {A : Type 0} (part : Part) (tells : Result A HostFault → List OutputE
       → Reports By old new (tells outcome) reported → result ≡ conclusion outcome reported → EndsTold part new result
   told_by {By = By} {old = old} {new = new} {outcome = outcome} {reported = reported} last reports is =
       rw is (concluded By old new outcome reported last reports)
-
--- if an action was left out, no fault was reported
-said_told : (part : Part) (view : DeskState) (said : Result (Unit {0}) DeskFault)
-    → EndsTold part view (conclusion {A = Unit {0}} (Ok tt) said)
-said_told part view (Ok done) = tt
-said_told part view (Err _) = tt
 
 -- ---- a whole session
 

@@ -1,4 +1,3 @@
-use Rattle.std.proofs.lemmas.Result.{err_from_is_err_and}
 use Rattle.avr_session.specs.FileText.{file_text}
 use Rattle.avr_session.proofs.ActionByAction.Saves.{counted_on, sent_whole, sent_whole_part}
 use Rattle.avr_session.proofs.saving.write_whole.Goals as goal

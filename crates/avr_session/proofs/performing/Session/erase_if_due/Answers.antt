@@ -1,4 +1,4 @@
-use Rattle.std.proofs.Common.{◌≡◌, [], ◌∷◌, refl, false, rules}
+use Rattle.std.proofs.Common.{◌≡◌, [], ◌∷◌, refl, rules}
 use Rattle.avr_session.specs.Actions.{TheErase, LeaveOut, erase_actions}
 use Rattle.avr_session.proofs.ActionByAction.Sequences.{does_nothing, does_one, does_same, left_out_performs}
 use Rattle.avr_session.proofs.performing.Session.erase_if_due.Goals as goal

@@ -1,4 +1,4 @@
-use Rattle.std.proofs.Common.{◌≡◌, ◌++◌, refl, false, [], ◌∷◌, rules}
+use Rattle.std.proofs.Common.{◌≡◌, ◌++◌, refl, [], ◌∷◌, rules}
 use Rattle.std.proofs.lemmas.Result.{err_from_is_err_and}
 use Rattle.avr_session.specs.Actions.{TheWrite, WriteImage, LeaveOut, read_back_actions, write_actions}
 use Rattle.avr_session.proofs.ActionByAction.Sequences.{left_out_performs, does_one, does_same, does_then, does_last}
