@@ -3,6 +3,7 @@
 use arrayvec::ArrayVec;
 use avr_image::{Base, Image, ImageFault, ListWriter, Pieces, RawReader, parse_immediate};
 use std::collections::BTreeMap;
+use std::io::{self, ErrorKind, Write};
 use std::test::Fail;
 
 #[test]
@@ -221,4 +222,32 @@ fn lists_are_written_in_every_base(rt: HostRuntime) -> Result<(), Fail> {
     let long = joined(&rt, Base::Bin, &[255; 100])?;
     assert_eq!(rt; long.len(), 1100);
     Ok(())
+}
+
+/// A writer that counts its calls. Its second call fails.
+#[derive(Drop)]
+struct FailsOnce {
+    calls: u32,
+}
+
+impl Write for FailsOnce {
+    fn write(&mut self, bytes: &[u8]) -> io::Result<usize> {
+        self.calls = self.calls.saturating_add(1);
+        if self.calls == 2 {
+            return Err(io::Error::from(ErrorKind::BrokenPipe));
+        }
+        Ok(bytes.len())
+    }
+
+    fn flush(&mut self) -> io::Result<()> {
+        Ok(())
+    }
+}
+
+#[test]
+fn nothing_is_written_after_a_failure(rt: HostRuntime) {
+    let mut out = FailsOnce { calls: 0 };
+    let written = ListWriter::new(Base::Dec, &[255; 100]).write_to(&mut out);
+    assert!(rt; written.is_err_and(|error| error.kind() == ErrorKind::BrokenPipe));
+    assert_eq!(rt; out.calls, 2);
 }
